@@ -1,0 +1,6 @@
+pub mod Moments
+pub mod Names
+pub mod Services
+pub mod Responses
+pub mod Reply
+pub mod Decision

@@ -1,0 +1,43 @@
+//! Replies.
+
+ghost use Rattle.std.specs.Prelude.{◌≡◌, IfOk, OnOk, OnErr};
+ghost use Rattle.acq_core.specs.Reply.{reply_text, reply, echo, is_among};
+ghost use Rattle.iso_codec.specs.Message.{with_content};
+ghost use Rattle.iso_codec.specs.Setting.{set_fault};
+
+use crate::message_text::MessageText;
+use crate::response_code::ResponseCode;
+use crate::service::Service;
+use iso_codec::{Message, encode};
+use std::alloc::{AllocError, Global};
+
+/// Sets an element to a content that it may have, so that only memory can be wanting.
+fn put(message: &mut Message, alloc: Global, number: u8, content: &[u8]) -> Result<(), AllocError>
+    requires { set_fault number content.now ≡ None }
+    ensures { OnOk result (message.new ≡ record { kind = message.old.kind; elements = with_content message.old.elements number content.now }) }
+{
+    message.set(alloc, number, content).map_err(|_| AllocError)
+}
+
+/// The bytes of the reply to a request with a code.
+pub fn reply_with(
+    alloc: Global,
+    service: Service,
+    request: &Message,
+    code: ResponseCode,
+) -> Result<MessageText, AllocError>
+    ensures { IfOk result (λ text. text ≡ reply_text service request.now code) }
+{
+    let Some(mut message) = Message::new(alloc, service.reply_kind()) else {
+        unreachable!();
+    };
+    for number in service.echoed() {
+        if let Some(content) = request.get(*number) {
+            put(&mut message, alloc, *number, content)?;
+        }
+    }
+    put(&mut message, alloc, 39, &code.text())?;
+    let mut text = Vec::new(alloc);
+    encode(alloc, &message, &mut text)?;
+    Ok(MessageText::from_vec(text))
+}

@@ -1,0 +1,14 @@
+pub mod Bitmap
+pub mod Named
+pub mod Contents
+pub mod Faults
+pub mod Sound
+pub mod Unique
+pub mod Exclusive
+pub mod Marking
+pub mod Placing
+pub mod Written
+pub mod Once
+pub mod Computing
+pub mod Exact
+pub mod Spelling

@@ -1,0 +1,5 @@
+use Rattle.iso_codec.proofs.Unique.{read_once}
+use Rattle.iso_codec.proofs.laws.reads_one.Goals as goal
+
+pub returns : goal.returns
+returns c = λ text m n a b. read_once text m n a b

@@ -1,0 +1,8 @@
+pub mod Table
+pub mod Content
+pub mod Message
+pub mod Faults
+pub mod FaultNumbers
+pub mod Setting
+pub mod Reading
+pub mod Examples

@@ -1,0 +1,123 @@
+//! Reading a message.
+
+ghost use Rattle.std.specs.Prelude.{◌≡◌, ◌⊎◌, ◌+◌, ◌<◌, ◌≤◌, ℕ, List, true, length, take, drop, IfOk, IfErr, IfSome, IfNone, OnOk, MatchResult};
+ghost use Rattle.std.specs.List.{list_all};
+ghost use Rattle.iso_codec.specs.declared.decode_fault.DecodeFault.TheVariants.{Memory};
+ghost use Rattle.iso_codec.specs.Message.{IsoMessage, Reads, IsMessage, IsBitmap, named, pairs_of};
+ghost use Rattle.iso_codec.specs.Reading.{reading_of};
+ghost use Rattle.iso_codec.specs.Faults.{FirstFault, HasHeader, ElementsFault, IsBody, BitmapFault, BeginsWithBitmap, IsFirstUnknown, is_known};
+
+use crate::bitmaps::{Bitmaps, bit};
+use crate::content::{all_digits, content_at};
+use crate::decode_fault::DecodeFault;
+use crate::element::Element;
+use crate::message::Message;
+use crate::rule::rule_at;
+use hex::FromHex;
+use std::alloc::Global;
+
+/// A bitmap, and what stands after it.
+fn bitmap_at(rest: &[u8]) -> Result<(u64, &[u8]), DecodeFault>
+    ensures found { IfOk result (λ x. BeginsWithBitmap rest.now x.0 x.1.now) }
+    ensures fault { IfErr result (λ f. BitmapFault rest.now f) }
+{
+    if rest.len() < 16 {
+        return Err(DecodeFault::Truncated(0));
+    }
+    let (digits, after) = rest.split_at(16);
+    match <[u8; 8] as FromHex>::from_hex(digits) {
+        Ok(bytes) => Ok((u64::from_be_bytes(bytes), after)),
+        Err(_) => Err(DecodeFault::BadBitmap),
+    }
+}
+
+/// The type and the bitmaps, and what stands after them.
+fn header_at(text: &[u8]) -> Result<([u8; 4], Bitmaps, &[u8]), DecodeFault>
+    ensures found { IfOk result (λ x. HasHeader text.now x.0 x.1 x.2.now) }
+    ensures fault { IfErr result (λ f. FirstFault text.now f) }
+{
+    let [a, b, c, d, rest @ ..] = text else {
+        return Err(DecodeFault::Truncated(0));
+    };
+    let kind = [*a, *b, *c, *d];
+    if !all_digits(&kind) {
+        return Err(DecodeFault::BadType);
+    }
+    let (primary, after) = bitmap_at(rest)?;
+    if bit(primary, 1) {
+        let (secondary, body) = bitmap_at(after)?;
+        Ok((kind, Bitmaps { primary, secondary }, body))
+    } else {
+        let secondary = 0;
+        Ok((kind, Bitmaps { primary, secondary }, after))
+    }
+}
+
+/// The first element that bitmaps name and the table doesn't have.
+fn first_unknown(bitmaps: &Bitmaps) -> Option<u8>
+    ensures none { IfNone result (list_all is_known (named bitmaps.now) ≡ true) }
+    ensures some { IfSome result (λ n. IsFirstUnknown bitmaps.now n) }
+{
+    for number in 2..129 {
+        if bitmaps.names(number) && rule_at(number).is_none() {
+            return Some(number);
+        }
+    }
+    None
+}
+
+/// The elements that bitmaps name, which are all of the bytes.
+fn elements_at(alloc: Global, bitmaps: &Bitmaps, body: &[u8]) -> Result<Vec<Element>, DecodeFault>
+    requires { list_all is_known (named bitmaps.now) ≡ true }
+    ensures found { IfOk result (λ es. IsBody bitmaps.now body.now (pairs_of es.items)) }
+    ensures fault { IfErr result (λ f. ElementsFault bitmaps.now body.now f) }
+{
+    let mut elements = Vec::new(alloc);
+    let mut rest = body;
+    for number in 2..129 {
+        if bitmaps.names(number) {
+            let Some(rule) = rule_at(number) else {
+                unreachable!();
+            };
+            let (content, after) = content_at(number, rule, rest)?;
+            let owned = Vec::from_slice(alloc, content)?;
+            elements.push(Element {
+                number,
+                content: owned,
+            })?;
+            rest = after;
+        }
+    }
+    if !rest.is_empty() {
+        return Err(DecodeFault::Trailing);
+    }
+    Ok(elements)
+}
+
+fn read(alloc: Global, text: &[u8]) -> Result<Message, DecodeFault>
+    ensures found { IfOk result (λ m. Reads text.now m) }
+    ensures fault { IfErr result (λ f. (f ≡ Memory) ⊎ FirstFault text.now f) }
+{
+    let (kind, bitmaps, body) = header_at(text)?;
+    if let Some(number) = first_unknown(&bitmaps) {
+        return Err(DecodeFault::UnknownElement(number));
+    }
+    let elements = elements_at(alloc, &bitmaps, body)?;
+    Ok(Message::with_elements(kind, elements))
+}
+
+/// The message that a text spells, or the first of its faults in the profile's order.
+pub fn decode(alloc: Global, text: &[u8]) -> Result<Message, DecodeFault>
+    // What is read is spelled so.
+    ensures found { IfOk result (λ m. Reads text.now m) }
+    // A fault is the first.
+    ensures fault { IfErr result (λ f. (f ≡ Memory) ⊎ FirstFault text.now f) }
+    // With a fault no message is spelled.
+    ensures none { IfErr result (λ f. (f ≡ Memory) ⊎ ((m : IsoMessage) → Reads text.now m → ⊥)) }
+    // What is spelled is read, unless memory runs out.
+    ensures only { (m : IsoMessage) → Reads text.now m → MatchResult result (λ found. found ≡ m) (λ f. f ≡ Memory) }
+    // It is what the text reads as, unless memory runs out.
+    ensures exact { MatchResult result (λ m. reading_of text.now ≡ Ok m) (λ f. (f ≡ Memory) ⊎ (reading_of text.now ≡ Err f)) }
+{
+    read(alloc, text)
+}

@@ -1,0 +1,8 @@
+//! One element of a message.
+
+/// An element of the table, and its content without a length prefix.
+#[derive(Debug, Drop)]
+pub struct Element {
+    pub number: u8,
+    pub content: Vec<u8>,
+}

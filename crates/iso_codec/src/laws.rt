@@ -1,0 +1,49 @@
+//! Laws of the spelling.
+
+ghost use Rattle.std.specs.Prelude.{◌≡◌, ◌↔◌, ℕ, List, [], ◌++◌};
+ghost use Rattle.iso_codec.specs.Message.{IsoMessage, IsMessage, Reads, Writes};
+ghost use Rattle.iso_codec.specs.Faults.{FirstFault};
+ghost use Rattle.iso_codec.specs.Reading.{reading_of, spelling};
+ghost use Rattle.iso_codec.specs.declared.decode_fault.DecodeFault.{DecodeFault};
+
+/// At most one message is read from a text.
+pub fn reads_one()
+    ensures { (text : List ℕ) (m n : IsoMessage) → Reads text m → Reads text n → m ≡ n }
+{}
+
+/// What is written is read.
+pub fn written_is_read()
+    ensures { (text : List ℕ) (m : IsoMessage) → Writes text m → Reads text m }
+{}
+
+/// No spelling of a message begins another.
+pub fn no_spelling_begins_another()
+    ensures { (text more : List ℕ) (m n : IsoMessage) → Reads text m → Reads (text ++ more) n → more ≡ [] }
+{}
+
+/// A text with a fault spells no message.
+pub fn faults_spell_nothing()
+    ensures { (text : List ℕ) (fault : DecodeFault) (m : IsoMessage) → FirstFault text fault → Reads text m → ⊥ }
+{}
+
+/// At most one fault is the first.
+pub fn one_first_fault()
+    ensures { (text : List ℕ) (fault other : DecodeFault) → FirstFault text fault → FirstFault text other → fault ≡ other }
+{}
+
+/// What a text reads as, computed, is the message that it spells, or else its first fault.
+pub fn reading_computes()
+    ensures read { (text : List ℕ) (m : IsoMessage) → (reading_of text ≡ Ok m) ↔ Reads text m }
+    ensures fault { (text : List ℕ) (fault : DecodeFault) → (reading_of text ≡ Err fault) ↔ FirstFault text fault }
+{}
+
+/// The spelling of a message, computed, is the one that is written.
+pub fn spelling_computes()
+    ensures written { (m : IsoMessage) → IsMessage m → Writes (spelling m) m }
+    ensures only { (text : List ℕ) (m : IsoMessage) → Writes text m → text ≡ spelling m }
+{}
+
+/// The spelling of a message reads as that message.
+pub fn spelling_is_read()
+    ensures { (m : IsoMessage) → IsMessage m → reading_of (spelling m) ≡ Ok m }
+{}

@@ -1,0 +1,29 @@
+//! Messages of ISO 8583:1987, in the profile of this host: read by [`decode`], written by [`encode`].
+//!
+//! A [`Message`] is four digits of type and the contents of its elements. What a text of bytes
+//! reads as is a relation in `specs/Message.antt`, and each fault a rule in `specs/Faults.antt`;
+//! [`laws`] says that every text reads as exactly one message or one first fault.
+#![tactic(auto)]
+
+mod bitmaps;
+mod class;
+mod content;
+mod decode_fault;
+mod decoding;
+mod element;
+mod encoding;
+pub mod examples;
+mod form;
+pub mod laws;
+mod message;
+mod rule;
+mod set_fault;
+
+pub use class::Class;
+pub use decode_fault::DecodeFault;
+pub use decoding::decode;
+pub use encoding::encode;
+pub use form::Form;
+pub use message::Message;
+pub use rule::{Rule, rule_at};
+pub use set_fault::SetFault;
