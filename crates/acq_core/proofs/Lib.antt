@@ -1,2 +1,3 @@
 pub mod Echo
 pub mod Fits
+pub mod Short

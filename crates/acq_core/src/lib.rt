@@ -7,6 +7,7 @@
 mod decision;
 mod event;
 pub mod examples;
+pub mod laws;
 mod lookup;
 mod merchant_id;
 mod message_text;

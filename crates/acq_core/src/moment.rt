@@ -37,6 +37,15 @@ impl Moment {
         }
     }
 
+    /// The first moment that there is, 2000-01-01 00:00:00.
+    pub fn first() -> Moment
+        ensures { result ≡ 946684800 }
+    {
+        Moment {
+            seconds: 946_684_800,
+        }
+    }
+
     /// The seconds since 1970-01-01 00:00:00.
     pub fn seconds(&self) -> u64
         ensures value { result ≡ self.now }

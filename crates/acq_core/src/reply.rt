@@ -11,6 +11,9 @@ use crate::service::Service;
 use iso_codec::{Message, encode};
 use std::alloc::{AllocError, Global};
 
+/// Room for most replies.
+const USUAL_LENGTH: usize = 256;
+
 /// Sets an element to a content that it may have, so that only memory can be wanting.
 fn put(message: &mut Message, alloc: Global, number: u8, content: &[u8]) -> Result<(), AllocError>
     requires { set_fault number content.now ≡ None }
@@ -37,7 +40,7 @@ pub fn reply_with(
         }
     }
     put(&mut message, alloc, 39, &code.text())?;
-    let mut text = Vec::new(alloc);
+    let mut text = Vec::with_capacity(alloc, USUAL_LENGTH)?;
     encode(alloc, &message, &mut text)?;
     Ok(MessageText::from_vec(text))
 }

@@ -146,7 +146,7 @@ past_at es i e n h lt is other =
 
 -- ---- the whole message
 
-fits_by : (o : Option Rule) (n : ℕ) (text : List ℕ) → set_fault_by o n text ≡ None → allows o text ≡ true
+pub fits_by : (o : Option Rule) (n : ℕ) (text : List ℕ) → set_fault_by o n text ≡ None → allows o text ≡ true
 fits_by None n text h = absurd cc
 fits_by (Some r) n text h =
     elim (cases_Bool (has_length r.form (length text))) [

@@ -27,3 +27,6 @@ pub use form::Form;
 pub use message::Message;
 pub use rule::{Rule, rule_at};
 pub use set_fault::SetFault;
+
+#[cfg(test)]
+mod tests;

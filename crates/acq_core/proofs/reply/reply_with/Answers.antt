@@ -27,4 +27,4 @@ loop-number-init c = at_first c.args.service c.args.request.now c.in-Some.messag
 pub returns : goal.returns
 returns c =
     let whole = at_last c.args.service c.args.request.now c.loop-number.message c.echoed-number-items.result.now c.text.result c.loop-number.number-index c.echoed-number-items.ensures (omega arith) c.loop-number.invariant in
-    c.from_vec.ensures ∙ c.in_ok-encode.ensures.exact ∙ rw (c.new-text.ensures.items) (ap spelling (c.in_ok-put-2.ensures ∙ whole ∙ rw c.text.ensures refl))
+    c.from_vec.ensures ∙ c.in_ok-encode.ensures.exact ∙ rw (c.in_ok-text.ensures.items) (ap spelling (c.in_ok-put-2.ensures ∙ whole ∙ rw c.text.ensures refl))

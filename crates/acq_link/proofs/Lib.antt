@@ -1,0 +1,4 @@
+pub mod FrameLemmas
+pub mod OneReading
+pub mod Transfers
+pub mod Walks

@@ -1,0 +1,15 @@
+use std::error::Error;
+use std::fmt;
+
+/// A read or a write that failed. An interrupted one is such, and so is a write that takes none of
+/// some bytes.
+#[derive(Clone, Copy, Debug, PartialEq, Eq, Drop)]
+pub struct Failed;
+
+impl fmt::Display for Failed {
+    fn fmt<W: fmt::Write>(&self, f: &mut fmt::Formatter<W>) -> fmt::Result {
+        write!(f, "a read or a write failed")
+    }
+}
+
+impl Error for Failed {}

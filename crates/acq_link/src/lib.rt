@@ -1,0 +1,30 @@
+//! Where bytes come from and where they go: sources and sinks, and frames on a link.
+#![tactic(auto)]
+
+mod call;
+mod failed;
+mod input_fault;
+pub mod laws;
+mod memory_sink;
+mod read_source;
+mod sink;
+mod slice_source;
+mod source;
+mod transcript;
+mod transfer;
+mod write_sink;
+
+pub use call::Call;
+pub use failed::Failed;
+pub use input_fault::InputFault;
+pub use memory_sink::MemorySink;
+pub use read_source::ReadSource;
+pub use sink::Sink;
+pub use slice_source::SliceSource;
+pub use source::Source;
+pub use transcript::Transcript;
+pub use transfer::{read_to_end, write_out};
+pub use write_sink::WriteSink;
+
+#[cfg(test)]
+mod tests;

@@ -1,0 +1,111 @@
+-- What is answered to frames, one after another.
+use Rattle.std.proofs.Common.{◌≡◌, ℕ, ◌+◌, ◌<◌, ◌≤◌, Bool, true, false, ◌&&◌, List, [], ◌∷◌, ◌++◌, length, take, Option, Some, None, Result, Ok, Err, refl, sym, ap, subst, ◌∙◌, arith, append_assoc, append-nil}
+use Rattle.std.specs.Prelude.{is_ok}
+use Rattle.std.specs.List.{list_all, flat_map}
+use Rattle.std.proofs.lemmas.Bool.{and_parts, and_from, le-leb, lt-ltb}
+use Rattle.acq_link.specs.Frames.{frame, framed, fits_frame, fit_frames, Frames, FramesThen}
+use Rattle.acq_link.proofs.FrameLemmas.{framed-append, framed-push}
+use Rattle.iso_codec.specs.declared.decode_fault.DecodeFault.{DecodeFault}
+use Rattle.iso_codec.specs.Message.{IsoMessage}
+use Rattle.iso_codec.specs.Reading.{reading_of}
+use Rattle.acq_core.specs.declared.service.Service.{Service}
+use Rattle.acq_core.specs.declared.output.Output.{Output}
+use Rattle.acq_core.specs.declared.output.Output.TheVariants.{Reply, Undecodable, UnservedType}
+use Rattle.acq_core.specs.Services.{service_of}
+use Rattle.acq_core.specs.Decision.{output_of_frame, output_of_reading, output_of_request}
+use Rattle.acq_core.proofs.Short.{fits_a_frame}
+use Rattle.acqd.specs.declared.fault.Fault as fault
+use Rattle.acq_link.specs.declared.input_fault.InputFault as input
+use Rattle.acqd.specs.Faults.{of_input}
+use Rattle.acqd.specs.Once.{replies_in, replies_to, replies, is_read, Answers, Next, Breaks, StopsAt, ServesAll, Serves, AnswersOne, WritesOne, FrameFault}
+
+-- ---- one frame
+
+-- a reply fits a frame
+pub reply_fits : (item text : List ℕ) (party : Option (List ℕ)) → output_of_frame item ≡ Reply party text → fits_frame text ≡ true
+reply_fits item text party is =
+    let size = fits_a_frame item text party is in
+    and_from _ _ (lt-ltb 0 (length text) (omega arith)) (le-leb (length text) 4096 size.1)
+
+-- what an output says of the reading of its frame
+read_by_request : (o : Option Service) (m : IsoMessage) (f : DecodeFault) → output_of_request m o ≡ Undecodable f → ⊥
+read_by_request None m f h = cc
+read_by_request (Some service) m f h = cc
+
+read_by : (r : Result IsoMessage DecodeFault) → ((f : DecodeFault) → output_of_reading r ≡ Undecodable f → ⊥) → is_ok r ≡ true
+read_by (Ok m) h = refl
+read_by (Err f) h = absurd (h f refl)
+
+fault_by : (r : Result IsoMessage DecodeFault) (f : DecodeFault) → output_of_reading r ≡ Undecodable f → r ≡ Err f
+fault_by (Ok m) f h = absurd (read_by_request (service_of m.kind) m f h)
+fault_by (Err e) f h = let same : e ≡ f = cc in ap (λ (x : DecodeFault). Err x) same
+
+pub replied_is_read : (item text : List ℕ) (party : Option (List ℕ)) → output_of_frame item ≡ Reply party text → is_read item ≡ true
+replied_is_read item text party is = read_by (reading_of item) (λ f h. let bad : Reply party text ≡ Undecodable f = sym is ∙ h in cc)
+
+pub unserved_is_read : (item kind : List ℕ) → output_of_frame item ≡ UnservedType kind → is_read item ≡ true
+unserved_is_read item kind is = read_by (reading_of item) (λ f h. let bad : UnservedType kind ≡ Undecodable f = sym is ∙ h in cc)
+
+pub undecodable_is : (item : List ℕ) (f : DecodeFault) → output_of_frame item ≡ Undecodable f → reading_of item ≡ Err f
+undecodable_is item f is = fault_by (reading_of item) f is
+
+fit_in : (output : Output) → ((party : Option (List ℕ)) (text : List ℕ) → output ≡ Reply party text → fits_frame text ≡ true) → fit_frames (replies_in output) ≡ true
+fit_in (Reply party text) h = and_from (fits_frame text) true (h party text refl) refl
+fit_in (Undecodable f) h = refl
+fit_in (UnservedType kind) h = refl
+
+-- the replies to a frame fit frames
+pub replies_fit : (item : List ℕ) → fit_frames (replies_to item) ≡ true
+replies_fit item = fit_in (output_of_frame item) (λ party text is. reply_fits item text party is)
+
+-- ---- frames in order
+
+all_append : {X : Type 0} (p : X → Bool) (xs ys : List X) → list_all p xs ≡ true → list_all p ys ≡ true → list_all p (xs ++ ys) ≡ true
+all_append p [] ys h k = k
+all_append p (x ∷ xs) ys h k =
+    let parts = and_parts (p x) (list_all p xs) h in
+    and_from (p x) (list_all p (xs ++ ys)) parts.0 (all_append p xs ys parts.1 k)
+
+replies_append : (items more : List (List ℕ)) → replies (items ++ more) ≡ replies items ++ replies more
+replies_append [] more = refl
+replies_append (item ∷ items) more = ap (λ (x : List (List ℕ)). replies_to item ++ x) (replies_append items more) ∙ sym (append_assoc (replies_to item) (replies items) (replies more))
+
+replies_push : (items : List (List ℕ)) (item : List ℕ) → replies (items ++ item ∷ []) ≡ replies items ++ replies_to item
+replies_push items item = replies_append items (item ∷ []) ∙ ap (λ (x : List (List ℕ)). replies items ++ x) (append-nil (replies_to item))
+
+pub answers_none : (bytes : List ℕ) → Answers bytes [] [] bytes
+answers_none bytes = record {
+  taken = record { each = refl; whole = refl };
+  read = refl;
+  given = record { each = refl; whole = refl };
+}
+
+-- one frame more
+pub answers_more : (bytes out rest item later : List ℕ) (items : List (List ℕ)) → Answers bytes out items rest → rest ≡ frame item ++ later → fits_frame item ≡ true → is_read item ≡ true → Answers bytes (out ++ framed (replies_to item)) (items ++ item ∷ []) later
+answers_more bytes out rest item later items a front fits read = record {
+  taken = record {
+    each = all_append fits_frame items (item ∷ []) a.taken.each (and_from (fits_frame item) true fits refl);
+    whole = a.taken.whole ∙ ap (λ (x : List ℕ). framed items ++ x) front ∙ sym (append_assoc (framed items) (frame item) later) ∙ ap (λ (x : List ℕ). x ++ later) (sym (framed-push items item));
+  };
+  read = all_append is_read items (item ∷ []) a.read (and_from (is_read item) true read refl);
+  given = record {
+    each = subst (λ (x : List (List ℕ)). fit_frames x ≡ true) (sym (replies_push items item)) (all_append fits_frame (replies items) (replies_to item) a.given.each (replies_fit item));
+    whole = ap (λ (x : List ℕ). x ++ framed (replies_to item)) a.given.whole ∙ sym (framed-append (replies items) (replies_to item)) ∙ ap framed (sym (replies_push items item));
+  };
+}
+
+-- all frames
+pub answers_all : (bytes out rest : List ℕ) (items : List (List ℕ)) → Answers bytes out items rest → rest ≡ [] → ServesAll bytes out
+answers_all bytes out rest items a empty = record {
+  items = items;
+  taken = record { each = a.taken.each; whole = a.taken.whole ∙ ap (λ (x : List ℕ). framed items ++ x) empty ∙ append-nil (framed items) };
+  read = a.read;
+  given = a.given;
+}
+
+-- ---- faults
+
+-- the input could not be read, so nothing was answered
+pub input_stops : (e : input.InputFault) (bytes : List ℕ) → Serves bytes [] (Err (of_input e))
+input_stops input.TheVariants.Memory bytes = ([], bytes, answers_none bytes)
+input_stops input.TheVariants.Read bytes = refl

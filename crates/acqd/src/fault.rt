@@ -1,0 +1,101 @@
+//! Why a command stopped.
+
+ghost use Rattle.std.specs.Prelude.{◌≡◌};
+
+use acq_link::InputFault;
+use iso_codec::DecodeFault;
+use std::alloc::AllocError;
+use std::error::Error;
+use std::fmt;
+
+/// Why a command stopped. Its text is its number, its name and its values, as printed lines have them.
+#[derive(Clone, Copy, Debug, PartialEq, Eq)]
+pub enum Fault {
+    /// 1: memory ran out.
+    Memory,
+    /// 50: a frame's length is 0 or above 4,096.
+    BadLength,
+    /// 51: the input ended inside a frame.
+    Ended,
+    /// 52: a frame spells no message, for this reason.
+    Undecodable(DecodeFault),
+    /// 53: a read failed.
+    Read,
+    /// 54: a write failed, and so many bytes of the piece in hand had gone out.
+    Write(u64),
+}
+
+impl Fault {
+    ghost use Rattle.acqd.specs.Faults.{number_of, status_of};
+
+    /// The fault's number.
+    pub fn number(&self) -> u8
+        ensures { result ≡ number_of self.now }
+    {
+        match self {
+            Fault::Memory => 1,
+            Fault::BadLength => 50,
+            Fault::Ended => 51,
+            Fault::Undecodable(_) => 52,
+            Fault::Read => 53,
+            Fault::Write(_) => 54,
+        }
+    }
+
+    /// The status that the program ends with.
+    pub fn status(&self) -> u8
+        ensures { result ≡ status_of self.now }
+    {
+        match self {
+            Fault::Memory => 3,
+            _ => 1,
+        }
+    }
+
+    fn name(&self) -> &'static str {
+        match self {
+            Fault::Memory => "Memory",
+            Fault::BadLength => "BadLength",
+            Fault::Ended => "Ended",
+            Fault::Undecodable(_) => "Undecodable",
+            Fault::Read => "Read",
+            Fault::Write(_) => "Write",
+        }
+    }
+}
+
+impl fmt::Display for Fault {
+    fn fmt<W: fmt::Write>(&self, f: &mut fmt::Formatter<W>) -> fmt::Result {
+        write!(f, "{} {}", self.number(), self.name())?;
+        match self {
+            Fault::Undecodable(fault) => write!(f, " {} {}", fault.number(), fault.element()),
+            Fault::Write(bytes) => write!(f, " {bytes}"),
+            _ => Ok(()),
+        }
+    }
+}
+
+impl Error for Fault {}
+
+impl From<AllocError> for Fault {
+    ghost use Rattle.acqd.specs.declared.fault.Fault.TheVariants.{Memory};
+
+    ghost from_gives = { λ _ f. f ≡ Memory };
+
+    fn from(_e: AllocError) -> Fault {
+        Fault::Memory
+    }
+}
+
+impl From<InputFault> for Fault {
+    ghost use Rattle.acqd.specs.Faults.{of_input};
+
+    ghost from_gives = { λ e f. f ≡ of_input e };
+
+    fn from(e: InputFault) -> Fault {
+        match e {
+            InputFault::Memory => Fault::Memory,
+            InputFault::Read => Fault::Read,
+        }
+    }
+}
