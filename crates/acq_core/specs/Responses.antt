@@ -8,6 +8,7 @@ use Rattle.acq_core.specs.declared.service.Service.TheVariants.{NetworkManagemen
 use Rattle.acq_core.specs.declared.response_code.ResponseCode.{ResponseCode}
 use Rattle.acq_core.specs.declared.response_code.ResponseCode.TheVariants.{Approved, InvalidTransaction, FormatError}
 use Rattle.acq_core.specs.Services.{needed}
+use Rattle.acq_core.specs.Cards.{has_bad_track, has_two_cards}
 
 abbrev pub code_text : ResponseCode → List ℕ
 code_text Approved = codes "00"
@@ -22,9 +23,9 @@ has m n = is_some (content_of m.elements n)
 abbrev pub unverifiable : List ℕ
 unverifiable = 52 ∷ 64 ∷ 128 ∷ []
 
--- the first check: a needed element is missing, or one is there that can't be checked
+-- the first check: a needed element is missing, one is there that can't be checked, or the card can't be told
 abbrev pub is_malformed : Service → IsoMessage → Bool
-is_malformed service m = not (list_all (has m) (needed service)) || list_any (has m) unverifiable
+is_malformed service m = not (list_all (has m) (needed service)) || list_any (has m) unverifiable || has_bad_track m || has_two_cards m
 
 -- sign-on, sign-off and the echo test, in element 70
 abbrev pub network_codes : List (List ℕ)

@@ -6,6 +6,7 @@ ghost use Rattle.acq_core.specs.Responses.{response, is_malformed, network_respo
 ghost use Rattle.acq_core.specs.Services.{needed};
 ghost use Rattle.acq_core.specs.Decision.{output_of, output_of_frame, party_of};
 
+use crate::card::{has_bad_track, has_two_cards};
 use crate::event::Event;
 use crate::lookup::{Looked, Wanted};
 use crate::merchant_id::MerchantId;
@@ -71,7 +72,10 @@ fn response(service: Service, message: &Message) -> ResponseCode
 fn is_malformed(service: Service, message: &Message) -> bool
     ensures { result ≡ is_malformed service message.now }
 {
-    !is_complete(service, message) || has_unverifiable(message)
+    !is_complete(service, message)
+        || has_unverifiable(message)
+        || has_bad_track(message)
+        || has_two_cards(message)
 }
 
 /// Whether all elements that a request needs are there.

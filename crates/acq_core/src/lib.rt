@@ -4,6 +4,7 @@
 //! stands in `specs/Decision.antt`, from the bytes of a frame to the bytes of its reply.
 #![tactic(auto)]
 
+mod card;
 mod decision;
 mod event;
 pub mod examples;
@@ -17,6 +18,7 @@ mod reply;
 mod response_code;
 mod service;
 
+pub use card::{card_of, expiry_of};
 pub use decision::{decide, wanted};
 pub use event::Event;
 pub use lookup::{Looked, Wanted};

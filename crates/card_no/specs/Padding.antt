@@ -1,0 +1,20 @@
+-- How a card number is kept: its digits, and a `0` for each place behind them.
+use Rattle.std.specs.Prelude.{◌≡◌, ℕ, ◌-◌, ◌+◌, ◌≤◌, List, ◌++◌, length, take, replicate}
+use Rattle.std.proofs.Common.{arith, sym, ap, ◌∙◌, length-append}
+use Rattle.std.proofs.lemmas.List.{length-take, length-replicate}
+
+abbrev pub zeros : ℕ → List ℕ
+zeros n = replicate n 48
+
+-- as many digits as the greatest number has
+abbrev pub padded : List ℕ → List ℕ
+padded digits = digits ++ zeros (19 - length digits)
+
+-- as many digits as were put there
+pub length-taken : (digits : List ℕ) (n : ℕ) → n ≤ 19 → padded (take n digits) ≡ digits → length (take n digits) ≡ n
+length-taken digits n le h =
+    let front = length-take n digits in
+    let whole : length (take n digits) + (19 - length (take n digits)) ≡ length digits =
+    ap (λ (k : ℕ). length (take n digits) + k) (sym (length-replicate {A = ℕ} (19 - length (take n digits)) 48))
+    ∙ sym (length-append (take n digits) (replicate (19 - length (take n digits)) 48)) ∙ ap length h in
+    omega (arith, front, whole)

@@ -1,0 +1,26 @@
+//! Decimal digits, as bytes from 0x30 to 0x39.
+
+ghost use Rattle.std.specs.Prelude.{◌≡◌, ◌<◌, ◌≤◌, ◌^◌, length, true};
+ghost use Rattle.std.specs.List.{list_all};
+ghost use Rattle.std.specs.Char.{is_ascii_digit};
+ghost use Rattle.card_no.specs.CardNumbers.{number_of};
+
+pub(crate) fn all_digits(text: &[u8]) -> bool
+    ensures { result ≡ list_all is_ascii_digit text.now }
+{
+    text.iter().all(|b| b.is_ascii_digit())
+}
+
+/// The number that six digits or fewer spell.
+pub(crate) fn number(digits: &[u8]) -> u32
+    requires each { list_all is_ascii_digit digits.now ≡ true }
+    requires size { length digits.now ≤ 6 }
+    ensures value { result ≡ number_of digits.now }
+    ensures bound { result < 10 ^ length digits.now }
+{
+    let mut number = 0;
+    for b in digits {
+        number = number * 10 + u32::from(*b - b'0');
+    }
+    number
+}

@@ -1,0 +1,63 @@
+//! Issuers' ids.
+
+ghost use Rattle.std.specs.Prelude.{◌≡◌, IfOk};
+
+use std::alloc::{AllocError, Global};
+use std::marker::Model;
+
+/// An issuer's id as it is written, leading zeros too. A list of ranges takes it where it is 1 to 11 digits.
+#[derive(Clone, Debug, Drop)]
+pub struct IssuerId {
+    text: Vec<u8>,
+}
+
+impl Model for IssuerId {
+    ghost use Rattle.std.specs.Prelude.{ℕ, List};
+
+    ghost Value = { List ℕ };
+
+    ghost view = { λ i. i.text.items };
+}
+
+impl PartialEq for IssuerId {
+    ghost use Rattle.std.specs.Prelude.{nat_eq};
+    ghost use Rattle.std.specs.Cmp.{partial_equiv_from_equiv};
+    ghost use Rattle.std.specs.Cmp.Lexicographic.{pointwise, nat_list_eq_equiv};
+
+    ghost eq = { pointwise nat_eq };
+
+    ghost laws = { partial_equiv_from_equiv nat_list_eq_equiv };
+
+    fn eq(&self, other: &IssuerId) -> bool {
+        self.as_bytes() == other.as_bytes()
+    }
+}
+
+impl Eq for IssuerId {
+    ghost use Rattle.std.specs.Cmp.Lexicographic.{nat_list_eq_equiv};
+
+    ghost laws = { nat_list_eq_equiv };
+}
+
+impl IssuerId {
+    pub fn new(text: Vec<u8>) -> IssuerId
+        ensures { result ≡ text.items }
+    {
+        IssuerId { text }
+    }
+
+    /// An id with a copy of this text.
+    pub fn from_slice(alloc: Global, text: &[u8]) -> Result<IssuerId, AllocError>
+        ensures { IfOk result (λ issuer. issuer ≡ text.now) }
+    {
+        Ok(IssuerId {
+            text: Vec::from_slice(alloc, text)?,
+        })
+    }
+
+    pub fn as_bytes(&self) -> &[u8]
+        ensures { result.now ≡ self.now }
+    {
+        self.text.as_slice()
+    }
+}

@@ -1,0 +1,120 @@
+//! Lists of ranges.
+
+ghost use Rattle.std.specs.Prelude.{◌≡◌, ◌≤◌, ◌⊎◌, ◌↔◌, true, false, [], length, insert, position, find, Some, None, IsOk, IfErr, OnOk, OnErr};
+ghost use Rattle.std.specs.Option.{option_copied};
+ghost use Rattle.card_no.specs.Ranges.{are_ranges, holds_prefix, has_ends, range_of_prefix, IsRangeOf, overlaps, overlapped_by, with_range, has_range, without_range};
+ghost use Rattle.card_no.specs.RangeChanges.{add_fault, remove_fault};
+ghost use Rattle.card_no.specs.declared.range_fault.RangeFault.TheVariants.{Memory};
+
+use crate::range::Range;
+use crate::range_fault::RangeFault;
+use std::alloc::Global;
+use std::marker::Model;
+
+/// Ranges in order of `low`, no two of which overlap.
+#[derive(Debug, Drop)]
+pub struct RangeList {
+    ranges: Vec<Range>,
+}
+
+impl Model for RangeList {
+    ghost use Rattle.std.specs.Prelude.{◌≡◌, List, true};
+    ghost use Rattle.card_no.specs.declared.range.Range.{Range};
+    ghost use Rattle.card_no.specs.Ranges.{are_ranges};
+
+    ghost Value = { List Range };
+
+    ghost view = { λ l. l.ranges.items };
+
+    ghost invariant = { λ l. are_ranges l.ranges.items ≡ true };
+}
+
+impl RangeList {
+    /// A list with no range. It takes no memory.
+    pub fn new(alloc: Global) -> RangeList
+        ensures { result ≡ [] }
+    {
+        RangeList {
+            ranges: Vec::new(alloc),
+        }
+    }
+
+    /// The ranges, in order of `low`.
+    pub fn as_slice(&self) -> &[Range]
+        ensures value { result.now ≡ self.now }
+        ensures apart { are_ranges result.now ≡ true }
+    {
+        &self.ranges
+    }
+
+    /// The one range that holds a prefix, if there is one. It takes no memory.
+    pub fn find(&self, prefix: u32) -> Option<&Range>
+        ensures value { option_copied result ≡ range_of_prefix self.now prefix }
+        ensures only { IsRangeOf self.now prefix (option_copied result) }
+    {
+        first_holding(self.ranges.as_slice(), prefix)
+    }
+
+    /// Adds a range at its place. A range with a bad value is told before one that overlaps. An `Err` changes nothing.
+    pub fn add(&mut self, range: Range) -> Result<(), RangeFault>
+        ensures ok { OnOk result (self.new ≡ with_range self.old range) }
+        ensures fits { OnOk result (add_fault self.old range ≡ None) }
+        ensures err { OnErr result (self.new ≡ self.old) }
+        ensures fault { IfErr result (λ fault. (fault ≡ Memory) ⊎ (add_fault self.old range ≡ Some fault)) }
+    {
+        if !range.is_valid() {
+            return Err(RangeFault::BadRange);
+        }
+        if let Some(other) = first_overlapping(self.ranges.as_slice(), &range) {
+            return Err(RangeFault::Overlap(other.clone()?));
+        }
+        let place = place(self.ranges.as_slice(), &range);
+        self.ranges.insert(place, range)?;
+        Ok(())
+    }
+
+    /// Removes the range with just these ends. An `Err` changes nothing. It takes no memory.
+    pub fn remove(&mut self, low: u32, high: u32) -> Result<(), RangeFault>
+        ensures ok { OnOk result (self.new ≡ without_range self.old low high) }
+        ensures there { IsOk result ↔ (remove_fault self.old low high ≡ None) }
+        ensures err { OnErr result (self.new ≡ self.old) }
+        ensures fault { IfErr result (λ fault. remove_fault self.old low high ≡ Some fault) }
+    {
+        let Some(place) = place_with_ends(self.ranges.as_slice(), low, high) else {
+            return Err(RangeFault::NoSuchRange);
+        };
+        self.ranges.remove(place);
+        Ok(())
+    }
+}
+
+fn first_holding(ranges: &[Range], prefix: u32) -> Option<&Range>
+    ensures { option_copied result ≡ range_of_prefix ranges.now prefix }
+{
+    ranges.iter().find(|range| range.holds(prefix))
+}
+
+fn first_overlapping<'a>(ranges: &'a [Range], range: &Range) -> Option<&'a Range>
+    ensures { option_copied result ≡ overlapped_by range.now ranges.now }
+{
+    ranges.iter().find(|other| range.overlaps(other))
+}
+
+/// Where a range goes, in order of `low`.
+fn place(ranges: &[Range], range: &Range) -> usize
+    ensures within { result ≤ length ranges.now }
+    ensures put { insert ranges.now result range.now ≡ with_range ranges.now range.now }
+{
+    for (i, other) in ranges.iter().enumerate() {
+        if other.low >= range.low {
+            return i;
+        }
+    }
+    ranges.len()
+}
+
+fn place_with_ends(ranges: &[Range], low: u32, high: u32) -> Option<usize>
+    ensures { result ≡ position (has_ends low high) ranges.now }
+{
+    ranges.iter().position(|range| range.has_ends(low, high))
+}

@@ -1,0 +1,5 @@
+pub mod CalendarLemmas
+pub mod DigitsLemmas
+pub mod OnLiterals
+pub mod RangeLemmas
+pub mod TotalsLemmas

@@ -1,0 +1,5 @@
+use Rattle.day_totals.proofs.CalendarLemmas.{dates_of_days}
+use Rattle.day_totals.proofs.laws.dates_are_the_calendars.Goals as goal
+
+pub returns : goal.returns
+returns c = dates_of_days

@@ -1,0 +1,8 @@
+use Rattle.day_totals.proofs.TotalsLemmas.{FitsDay-within, IsWithinLimits-short}
+use Rattle.day_totals.proofs.laws.totals_fit_sixteen_digits.Goals as goal
+
+pub returns-clause-within : goal.returns-clause-within
+returns-clause-within c = FitsDay-within
+
+pub returns-clause-sums : goal.returns-clause-sums
+returns-clause-sums c = IsWithinLimits-short

@@ -1,0 +1,4 @@
+pub mod Day
+pub mod Digits
+pub mod Totals
+pub mod TotalsView

@@ -1,0 +1,18 @@
+//! Business days, and the totals of a merchant's day.
+#![tactic(auto)]
+
+mod claimed;
+mod day;
+mod digits;
+pub mod known;
+pub mod laws;
+mod leg;
+mod leg_total;
+#[cfg(test)]
+mod tests;
+mod totals;
+
+pub use claimed::Claimed;
+pub use day::Day;
+pub use leg::Leg;
+pub use totals::Totals;
