@@ -15,8 +15,8 @@ use Rattle.iso_codec.proofs.Named.{below, below_none, below_in, below_out}
 use Rattle.iso_codec.specs.Faults.{IsContent}
 
 -- what a length that may stand shows
-pub said_some : (greatest : ℕ) (digits : List ℕ) (n : ℕ) → stated greatest digits ≡ Some n → (list_all is_digit digits ≡ true) × (number_of digits ≡ n) × (n ≤ greatest)
-said_some greatest digits n h =
+pub stated_some : (greatest : ℕ) (digits : List ℕ) (n : ℕ) → stated greatest digits ≡ Some n → (list_all is_digit digits ≡ true) × (number_of digits ≡ n) × (n ≤ greatest)
+stated_some greatest digits n h =
     elim (cases_Bool (list_all is_digit digits && leb (number_of digits) greatest)) [
       | inl good ↦
           let parts = and_parts (list_all is_digit digits) (leb (number_of digits) greatest) good in
@@ -73,10 +73,10 @@ digits_back (Fixed k) digits n l h =
     let e : k ≡ n = cc in
     (sym (nil_from_length digits l), eq-eqb n k (sym e))
 digits_back (Llvar greatest) digits n l h =
-    let s = said_some greatest digits n h in
+    let s = stated_some greatest digits n h in
     (two digits n l s.0 s.1, le-leb n greatest s.2)
 digits_back (Lllvar greatest) digits n l h =
-    let s = said_some greatest digits n h in
+    let s = stated_some greatest digits n h in
     (three digits n l s.0 s.1, le-leb n greatest s.2)
 
 -- content that was read is an element, and spelled as it stood

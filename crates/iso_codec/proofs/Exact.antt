@@ -18,7 +18,7 @@ use Rattle.iso_codec.specs.Reading.{◌>>=◌, taken, or_fault, kind_at, bits_of
 use Rattle.iso_codec.proofs.Bitmap.{not_hex, sized_is}
 use Rattle.iso_codec.proofs.Named.{below_all}
 use Rattle.iso_codec.proofs.Contents.{Goes, content_is, body_push, all_push, all_of_mid}
-use Rattle.iso_codec.proofs.Faults.{bitmap_fault, content_fault, opens_one, opens_two, awaits_first, awaits_second, reads_whole, trailing_fault, none_is}
+use Rattle.iso_codec.proofs.Faults.{bitmap_fault, content_fault, header_one, header_two, awaits_first, awaits_second, reads_whole, trailing_fault, none_is}
 use Rattle.iso_codec.proofs.Unique.{read_once}
 use Rattle.iso_codec.proofs.Exclusive.{not_read}
 use Rattle.iso_codec.proofs.Once.{fault_once}
@@ -86,9 +86,9 @@ second_is : (text kind rest after : List ℕ) (primary : ℕ) → IsKind kind �
     → MatchResult (second_at b after >>= λ second. Ok (record { primary = primary; secondary = second.0 }, second.1)) (opened text kind) (FirstFault text)
 second_is text kind rest after primary k h first true set =
     bound (λ x. BeginsWithBitmap after x.0 x.1) (BitmapFault after) (opened text kind) (FirstFault text) (bitmap_at after) _ (bitmap_is after)
-    (λ second b. opens_two text kind rest after second.1 primary second.0 k h first set b)
+    (λ second b. header_two text kind rest after second.1 primary second.0 k h first set b)
     (λ e f. bitmap_fault text after e (awaits_second text kind rest after primary k h first set) f)
-second_is text kind rest after primary k h first false unset = opens_one text kind rest after primary k h first unset
+second_is text kind rest after primary k h first false unset = header_one text kind rest after primary k h first unset
 
 bitmaps_is : (text kind rest : List ℕ) → IsKind kind → text ≡ kind ++ rest → MatchResult (bitmaps_at rest) (opened text kind) (FirstFault text)
 unfolding bitmaps_at

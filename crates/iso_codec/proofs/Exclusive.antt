@@ -13,7 +13,7 @@ use Rattle.iso_codec.specs.Content.{is_digit, prefix_size, length_of, digits_of,
 use Rattle.iso_codec.specs.Message.{IsoMessage, IsKind, IsBitmap, bit, named, numbers, is_element, body, Reads}
 use Rattle.iso_codec.specs.Faults.{HasHeader, AwaitsBitmap, AwaitsElement, IsFirstUnknown, is_known, IsCut, HasBadLength, HasBadContent, FirstFault}
 use Rattle.iso_codec.proofs.Contents.{all_of_mid}
-use Rattle.iso_codec.proofs.Unique.{same_front, Stands, stands, element_rule, body_after, bitmap_once, bitmap_hex, opens_once, reads_opens, opens_at, one_spelling, read_once}
+use Rattle.iso_codec.proofs.Unique.{same_front, Stands, stands, element_rule, body_after, bitmap_once, bitmap_hex, header_once, reads_header, header_at, one_spelling, read_once}
 
 nothing : (xs : List ℕ) → xs ++ [] ≡ xs
 nothing xs = append-nil xs
@@ -30,10 +30,10 @@ pub room : (r : Rule) (rest text more : List ℕ) → Stands r rest text more �
 room r rest text more s =
     let digits : List ℕ = digits_of r.form (length text) in
     let size : length rest ≡ length digits + (length text + length more) = ap length s.parts ∙ length-append digits (text ++ more) ∙ ap (λ (n : ℕ). length digits + n) (length-append text more) in
-    let front : take (prefix_size r.form) rest ≡ digits = ap (take (prefix_size r.form)) s.parts ∙ take_at digits (text ++ more) (prefix_size r.form) s.lead_is in
-    let back : drop (prefix_size r.form) rest ≡ text ++ more = ap (drop (prefix_size r.form)) s.parts ∙ drop_at digits (text ++ more) (prefix_size r.form) s.lead_is in
+    let front : take (prefix_size r.form) rest ≡ digits = ap (take (prefix_size r.form)) s.parts ∙ take_at digits (text ++ more) (prefix_size r.form) s.prefix_is in
+    let back : drop (prefix_size r.form) rest ≡ text ++ more = ap (drop (prefix_size r.form)) s.parts ∙ drop_at digits (text ++ more) (prefix_size r.form) s.prefix_is in
     record {
-      long = omega (arith, s.lead_is, size);
+      long = omega (arith, s.prefix_is, size);
       digits_are = front;
       content_is = ap (take (length text)) back ∙ take_at text more (length text) refl;
     }
@@ -45,27 +45,27 @@ pub not_cut : (r : Rule) (rest text more : List ℕ) → Stands r rest text more
 not_cut r rest text more s (inl short) = let m = room r rest text more s in omega (arith, m.long, short)
 not_cut r rest text more s (inr h) =
     let m = room r rest text more s in
-    let len = same_some (h.1) (length text) (length_of r.form (digits_of r.form (length text))) (ap (length_of r.form) (sym m.digits_are) ∙ h.2) s.said_is in
+    let len = same_some (h.1) (length text) (length_of r.form (digits_of r.form (length text))) (ap (length_of r.form) (sym m.digits_are) ∙ h.2) s.stated_is in
     omega (arith, m.long, h.3, len)
 
 pub not_bad_length : (r : Rule) (rest text more : List ℕ) → Stands r rest text more → HasBadLength r rest → ⊥
 not_bad_length r rest text more s h =
     let m = room r rest text more s in
-    let e : None ≡ Some (length text) = sym h.1 ∙ ap (length_of r.form) m.digits_are ∙ s.said_is in
+    let e : None ≡ Some (length text) = sym h.1 ∙ ap (length_of r.form) m.digits_are ∙ s.stated_is in
     cc
 
 pub not_bad_content : (r : Rule) (rest text more : List ℕ) → Stands r rest text more → HasBadContent r rest → ⊥
 not_bad_content r rest text more s h =
     let m = room r rest text more s in
-    let len = same_some h.0 (length text) (length_of r.form (digits_of r.form (length text))) (ap (length_of r.form) (sym m.digits_are) ∙ h.2) s.said_is in
+    let len = same_some h.0 (length text) (length_of r.form (digits_of r.form (length text))) (ap (length_of r.form) (sym m.digits_are) ∙ h.2) s.stated_is in
     let content : take h.0 (drop (prefix_size r.form) rest) ≡ text = ap (λ (n : ℕ). take n (drop (prefix_size r.form) rest)) len ∙ m.content_is in
     true≢false (sym s.class_fits ∙ ap (has_class r.class) (sym content) ∙ h.3)
 
 -- where element n has to come, its spelling stands
 element_comes : (text : List ℕ) (n : ℕ) (r : Rule) (rest : List ℕ) (m : IsoMessage) → AwaitsElement text n r rest → Reads text m → (content more : List ℕ) × Stands r rest content more
 element_comes text n r rest m a b =
-    let o = opens_at (text ++ []) text m.kind (body m.elements ++ []) b.bitmaps (nothing text) (reads_opens text [] m b) in
-    let heads = opens_once text a.kind m.kind (body a.elements ++ rest) (body m.elements ++ []) a.bitmaps b.bitmaps a.header o in
+    let o = header_at (text ++ []) text m.kind (body m.elements ++ []) b.bitmaps (nothing text) (reads_header text [] m b) in
+    let heads = header_once text a.kind m.kind (body a.elements ++ rest) (body m.elements ++ []) a.bitmaps b.bitmaps a.header o in
     let ns : numbers m.elements ≡ numbers a.elements ++ n ∷ a.later = b.names_all ∙ ap named (sym heads.bitmaps) ∙ a.numbers_are in
     let next = body_after a.elements m.elements n a.later rest ns a.each b.is_message.each (heads.rests ∙ nothing (body m.elements)) in
     (next.0, next.1, subst (λ (x : List ℕ). Stands r x next.0 next.1) (sym next.3) (stands n r next.0 next.1 a.rule next.2))
@@ -81,8 +81,8 @@ known_numbers (e ∷ es) h =
 
 not_unknown : (text kind rest : List ℕ) (bitmaps : Bitmaps) (n : ℕ) (m : IsoMessage) → HasHeader text kind bitmaps rest → IsFirstUnknown bitmaps n → Reads text m → ⊥
 not_unknown text kind rest bitmaps n m a u b =
-    let o = opens_at (text ++ []) text m.kind (body m.elements ++ []) b.bitmaps (nothing text) (reads_opens text [] m b) in
-    let heads = opens_once text kind m.kind rest (body m.elements ++ []) bitmaps b.bitmaps a o in
+    let o = header_at (text ++ []) text m.kind (body m.elements ++ []) b.bitmaps (nothing text) (reads_header text [] m b) in
+    let heads = header_once text kind m.kind rest (body m.elements ++ []) bitmaps b.bitmaps a o in
     let ns : numbers m.elements ≡ u.earlier ++ n ∷ u.later = b.names_all ∙ ap named (sym heads.bitmaps) ∙ u.numbers_are in
     let all : list_all is_known (u.earlier ++ n ∷ u.later) ≡ true = subst (λ (x : List ℕ). list_all is_known x ≡ true) ns (known_numbers m.elements b.is_message.each) in
     let here : is_known n ≡ true = all_of_mid is_known u.earlier u.later n all in

@@ -46,9 +46,9 @@ four (a ∷ b ∷ d ∷ e ∷ rest) h = refl
 pub behind : (kind rest after : List ℕ) (bits : ℕ) (text : List ℕ) → text ≡ kind ++ rest → BeginsWithBitmap rest bits after → text ≡ kind ++ (take 16 rest ++ after)
 behind kind rest after bits text h b = h ∙ ap (λ (x : List ℕ). kind ++ x) (sym (take-append-drop 16 rest) ∙ ap (λ (x : List ℕ). take 16 rest ++ x) (sym b.after_is))
 
-pub opens_one : (text kind rest after : List ℕ) (primary : ℕ) → IsKind kind → text ≡ kind ++ rest → BeginsWithBitmap rest primary after → bit primary 1 ≡ false
+pub header_one : (text kind rest after : List ℕ) (primary : ℕ) → IsKind kind → text ≡ kind ++ rest → BeginsWithBitmap rest primary after → bit primary 1 ≡ false
     → HasHeader text kind (record { primary = primary; secondary = 0 }) after
-opens_one text kind rest after primary k h b unset = record {
+header_one text kind rest after primary k h b unset = record {
   digits = take 16 rest;
   kind_fits = k;
   digits_fit = record {
@@ -61,9 +61,9 @@ opens_one text kind rest after primary k h b unset = record {
   parts = behind kind rest after primary text h b;
 }
 
-pub opens_two : (text kind rest after end : List ℕ) (primary secondary : ℕ) → IsKind kind → text ≡ kind ++ rest → BeginsWithBitmap rest primary after → bit primary 1 ≡ true → BeginsWithBitmap after secondary end
+pub header_two : (text kind rest after end : List ℕ) (primary secondary : ℕ) → IsKind kind → text ≡ kind ++ rest → BeginsWithBitmap rest primary after → bit primary 1 ≡ true → BeginsWithBitmap after secondary end
     → HasHeader text kind (record { primary = primary; secondary = secondary }) end
-opens_two text kind rest after end primary secondary k h b set d = record {
+header_two text kind rest after end primary secondary k h b set d = record {
   digits = take 16 rest ++ take 16 after;
   kind_fits = k;
   digits_fit = record {

@@ -15,7 +15,7 @@ use Rattle.iso_codec.specs.Content.{is_digit, prefix_size, length_of}
 use Rattle.iso_codec.specs.Message.{IsoMessage, IsKind, IsBitmap, bit, named, numbers, is_element, spelled, body, Reads}
 use Rattle.iso_codec.specs.Faults.{HasHeader, AwaitsBitmap, AwaitsElement, IsFirstUnknown, is_known, IsCut, HasBadLength, HasBadContent, ContentFault, BitmapFault, FirstFault}
 use Rattle.iso_codec.proofs.Contents.{all_of_mid}
-use Rattle.iso_codec.proofs.Unique.{same_front, Stands, stands, spelled_once, bodies_once, bitmap_once, bitmap_hex, opens_once, reads_opens, opens_at}
+use Rattle.iso_codec.proofs.Unique.{same_front, Stands, stands, spelled_once, bodies_once, bitmap_once, bitmap_hex, header_once, reads_header, header_at}
 use Rattle.iso_codec.proofs.Exclusive.{not_cut, not_bad_length, not_bad_content, bitmap_long, known_numbers}
 
 -- ---- where a fault comes
@@ -58,8 +58,8 @@ awaits_kind : (text rest : List ℕ) → AwaitsBitmap text rest → HasKind text
 awaits_kind text rest (inl a) = (a.0, rest, a.1, a.2)
 awaits_kind text rest (inr a) = (a.0, a.1 ++ rest, a.3, a.6)
 
-opens_kind : (text kind rest : List ℕ) (bitmaps : Bitmaps) → HasHeader text kind bitmaps rest → HasKind text
-opens_kind text kind rest bitmaps o = (kind, o.digits ++ rest, o.kind_fits, o.parts)
+header_kind : (text kind rest : List ℕ) (bitmaps : Bitmaps) → HasHeader text kind bitmaps rest → HasKind text
+header_kind text kind rest bitmaps o = (kind, o.digits ++ rest, o.kind_fits, o.parts)
 
 -- ---- bitmaps
 
@@ -229,8 +229,8 @@ compare_at (a ∷ ns) (b ∷ ms) n m x y e =
     let tails : ns ++ n ∷ x ≡ ms ++ m ∷ y = cc in
     longer a b ns ms n m heads (compare_at ns ms n m x y tails)
 
-same_maps : (text kind1 kind2 rest1 rest2 : List ℕ) (maps1 maps2 : Bitmaps) → HasHeader text kind1 maps1 rest1 → HasHeader text kind2 maps2 rest2 → (named maps1 ≡ named maps2) × (rest1 ≡ rest2)
-same_maps text kind1 kind2 rest1 rest2 maps1 maps2 a b = let h = opens_once text kind1 kind2 rest1 rest2 maps1 maps2 a b in (ap named h.bitmaps, h.rests)
+same_bitmaps : (text kind1 kind2 rest1 rest2 : List ℕ) (bitmaps1 bitmaps2 : Bitmaps) → HasHeader text kind1 bitmaps1 rest1 → HasHeader text kind2 bitmaps2 rest2 → (named bitmaps1 ≡ named bitmaps2) × (rest1 ≡ rest2)
+same_bitmaps text kind1 kind2 rest1 rest2 bitmaps1 bitmaps2 a b = let h = header_once text kind1 kind2 rest1 rest2 bitmaps1 bitmaps2 a b in (ap named h.bitmaps, h.rests)
 
 -- a fault at n, and n is among the elements of fs
 not_inside : (n : ℕ) (r : Rule) (rest tail later : List ℕ) (es fs : List (ℕ × List ℕ)) (f : DecodeFault) → numbers fs ≡ numbers es ++ n ∷ later → list_all is_element es ≡ true → list_all is_element fs ≡ true → body es ++ rest ≡ body fs ++ tail → rule_of n ≡ Some r → ContentFault n r rest f → ⊥
@@ -252,17 +252,17 @@ places_agree text n m r q x y f g a b h k e s (After later p) = absurd (not_insi
 
 two_elements : (text : List ℕ) (n m : ℕ) (r q : Rule) (x y : List ℕ) (f g : DecodeFault) → AwaitsElement text n r x → AwaitsElement text m q y → ContentFault n r x f → ContentFault m q y g → f ≡ g
 two_elements text n m r q x y f g a b h k =
-    let s = same_maps text a.kind b.kind (body a.elements ++ x) (body b.elements ++ y) a.bitmaps b.bitmaps a.header b.header in
+    let s = same_bitmaps text a.kind b.kind (body a.elements ++ x) (body b.elements ++ y) a.bitmaps b.bitmaps a.header b.header in
     places_agree text n m r q x y f g a b h k s.1 s.0 (compare_at (numbers a.elements) (numbers b.elements) n m a.later b.later (sym a.numbers_are ∙ s.0 ∙ b.numbers_are))
 
 -- ---- unknown elements
 
-unknown_once : (ns : List ℕ) (maps1 maps2 : Bitmaps) (n m : ℕ) → named maps1 ≡ named maps2 → (a : IsFirstUnknown maps1 n) → (b : IsFirstUnknown maps2 m) → Compare a.earlier b.earlier n m → n ≡ m
-unknown_once ns maps1 maps2 n m e a b (Same p q) = q
-unknown_once ns maps1 maps2 n m e a b (Before later p) =
+unknown_once : (ns : List ℕ) (bitmaps1 bitmaps2 : Bitmaps) (n m : ℕ) → named bitmaps1 ≡ named bitmaps2 → (a : IsFirstUnknown bitmaps1 n) → (b : IsFirstUnknown bitmaps2 m) → Compare a.earlier b.earlier n m → n ≡ m
+unknown_once ns bitmaps1 bitmaps2 n m e a b (Same p q) = q
+unknown_once ns bitmaps1 bitmaps2 n m e a b (Before later p) =
     let here : is_known n ≡ true = all_of_mid is_known a.earlier later n (subst (λ (x : List ℕ). list_all is_known x ≡ true) p b.known) in
     absurd (true≢false (sym here ∙ ap is_some a.unknown))
-unknown_once ns maps1 maps2 n m e a b (After later p) =
+unknown_once ns bitmaps1 bitmaps2 n m e a b (After later p) =
     let here : is_known m ≡ true = all_of_mid is_known b.earlier later m (subst (λ (x : List ℕ). list_all is_known x ≡ true) p a.known) in
     absurd (true≢false (sym here ∙ ap is_some b.unknown))
 
@@ -274,7 +274,7 @@ not_all_known bitmaps n ns u e h =
 -- ---- all
 
 more_opens : (text front rest : List ℕ) (m : IsoMessage) → text ≡ front ++ rest → (r : Reads front m) → HasHeader text m.kind r.bitmaps (body m.elements ++ rest)
-more_opens text front rest m e r = opens_at (front ++ rest) text m.kind (body m.elements ++ rest) r.bitmaps (sym e) (reads_opens front rest m r)
+more_opens text front rest m e r = header_at (front ++ rest) text m.kind (body m.elements ++ rest) r.bitmaps (sym e) (reads_header front rest m r)
 
 not_bitmap_there : (text rest kind after : List ℕ) (bitmaps : Bitmaps) (f : DecodeFault) → AwaitsBitmap text rest → BitmapFault rest f → HasHeader text kind bitmaps after → ⊥
 not_bitmap_there text rest kind after bitmaps f a h o = let c = opened text rest kind after bitmaps a o in no_bitmap rest c.0 c.1 c.2 f c.3 c.4 h
@@ -288,54 +288,54 @@ kindless_not text h k = true≢false (sym (kind_digits text k) ∙ h)
 
 unknown_not_element : (text kind rest : List ℕ) (bitmaps : Bitmaps) (n : ℕ) (m : ℕ) (r : Rule) (y : List ℕ) → HasHeader text kind bitmaps rest → IsFirstUnknown bitmaps n → AwaitsElement text m r y → ⊥
 unknown_not_element text kind rest bitmaps n m r y o u a =
-    let s = same_maps text a.kind kind (body a.elements ++ y) rest a.bitmaps bitmaps a.header o in
+    let s = same_bitmaps text a.kind kind (body a.elements ++ y) rest a.bitmaps bitmaps a.header o in
     not_all_known bitmaps n (named a.bitmaps) u s.0 a.known
 
 unknown_not_more : (text kind rest : List ℕ) (bitmaps : Bitmaps) (n : ℕ) (front tail : List ℕ) (m : IsoMessage) → HasHeader text kind bitmaps rest → IsFirstUnknown bitmaps n → Reads front m → text ≡ front ++ tail → ⊥
 unknown_not_more text kind rest bitmaps n front tail m o u r e =
-    let s = same_maps text m.kind kind (body m.elements ++ tail) rest r.bitmaps bitmaps (more_opens text front tail m e r) o in
+    let s = same_bitmaps text m.kind kind (body m.elements ++ tail) rest r.bitmaps bitmaps (more_opens text front tail m e r) o in
     not_all_known bitmaps n (numbers m.elements) u (r.names_all ∙ s.0) (known_numbers m.elements r.is_message.each)
 
 element_not_more : (text : List ℕ) (n : ℕ) (q : Rule) (y : List ℕ) (f : DecodeFault) (front tail : List ℕ) (m : IsoMessage) → AwaitsElement text n q y → ContentFault n q y f → Reads front m → text ≡ front ++ tail → ⊥
 element_not_more text n q y f front tail m a h r e =
-    let s = same_maps text a.kind m.kind (body a.elements ++ y) (body m.elements ++ tail) a.bitmaps r.bitmaps a.header (more_opens text front tail m e r) in
+    let s = same_bitmaps text a.kind m.kind (body a.elements ++ y) (body m.elements ++ tail) a.bitmaps r.bitmaps a.header (more_opens text front tail m e r) in
     not_inside n q y tail a.later a.elements m.elements f (r.names_all ∙ sym s.0 ∙ a.numbers_are) a.each r.is_message.each s.1 a.rule h
 
 first_once : (text : List ℕ) (f g : DecodeFault) → Comes text f → Comes text g → f ≡ g
 first_once text f g (Short h e) (Short k d) = e ∙ sym d
 first_once text f g (Short h e) (NoKind k l d) = absurd (omega arith)
 first_once text f g (Short h e) (NoBitmap rest a k) = absurd (short_not text h (awaits_kind text rest a))
-first_once text f g (Short h e) (Unknown kind rest bitmaps n o u d) = absurd (short_not text h (opens_kind text kind rest bitmaps o))
-first_once text f g (Short h e) (NoElement n r rest a k) = absurd (short_not text h (opens_kind text a.kind (body a.elements ++ rest) a.bitmaps a.header))
-first_once text f g (Short h e) (More front rest m r p d) = absurd (short_not text h (opens_kind text m.kind (body m.elements ++ rest) r.bitmaps (more_opens text front rest m p r)))
+first_once text f g (Short h e) (Unknown kind rest bitmaps n o u d) = absurd (short_not text h (header_kind text kind rest bitmaps o))
+first_once text f g (Short h e) (NoElement n r rest a k) = absurd (short_not text h (header_kind text a.kind (body a.elements ++ rest) a.bitmaps a.header))
+first_once text f g (Short h e) (More front rest m r p d) = absurd (short_not text h (header_kind text m.kind (body m.elements ++ rest) r.bitmaps (more_opens text front rest m p r)))
 first_once text f g (NoKind h l e) (Short k d) = absurd (omega arith)
 first_once text f g (NoKind h l e) (NoKind k j d) = e ∙ sym d
 first_once text f g (NoKind h l e) (NoBitmap rest a k) = absurd (kindless_not text l (awaits_kind text rest a))
-first_once text f g (NoKind h l e) (Unknown kind rest bitmaps n o u d) = absurd (kindless_not text l (opens_kind text kind rest bitmaps o))
-first_once text f g (NoKind h l e) (NoElement n r rest a k) = absurd (kindless_not text l (opens_kind text a.kind (body a.elements ++ rest) a.bitmaps a.header))
-first_once text f g (NoKind h l e) (More front rest m r p d) = absurd (kindless_not text l (opens_kind text m.kind (body m.elements ++ rest) r.bitmaps (more_opens text front rest m p r)))
+first_once text f g (NoKind h l e) (Unknown kind rest bitmaps n o u d) = absurd (kindless_not text l (header_kind text kind rest bitmaps o))
+first_once text f g (NoKind h l e) (NoElement n r rest a k) = absurd (kindless_not text l (header_kind text a.kind (body a.elements ++ rest) a.bitmaps a.header))
+first_once text f g (NoKind h l e) (More front rest m r p d) = absurd (kindless_not text l (header_kind text m.kind (body m.elements ++ rest) r.bitmaps (more_opens text front rest m p r)))
 first_once text f g (NoBitmap rest a h) (Short k d) = absurd (short_not text k (awaits_kind text rest a))
 first_once text f g (NoBitmap rest a h) (NoKind k l d) = absurd (kindless_not text l (awaits_kind text rest a))
 first_once text f g (NoBitmap rest a h) (NoBitmap rest2 b k) = two_bitmaps text rest rest2 f g a b h k
 first_once text f g (NoBitmap rest a h) (Unknown kind rest2 bitmaps n o u d) = absurd (not_bitmap_there text rest kind rest2 bitmaps f a h o)
 first_once text f g (NoBitmap rest a h) (NoElement n r rest2 b k) = absurd (not_bitmap_there text rest b.kind (body b.elements ++ rest2) b.bitmaps f a h b.header)
 first_once text f g (NoBitmap rest a h) (More front rest2 m r p d) = absurd (not_bitmap_there text rest m.kind (body m.elements ++ rest2) r.bitmaps f a h (more_opens text front rest2 m p r))
-first_once text f g (Unknown kind rest bitmaps n o u e) (Short k d) = absurd (short_not text k (opens_kind text kind rest bitmaps o))
-first_once text f g (Unknown kind rest bitmaps n o u e) (NoKind k l d) = absurd (kindless_not text l (opens_kind text kind rest bitmaps o))
+first_once text f g (Unknown kind rest bitmaps n o u e) (Short k d) = absurd (short_not text k (header_kind text kind rest bitmaps o))
+first_once text f g (Unknown kind rest bitmaps n o u e) (NoKind k l d) = absurd (kindless_not text l (header_kind text kind rest bitmaps o))
 first_once text f g (Unknown kind rest bitmaps n o u e) (NoBitmap rest2 b k) = absurd (not_bitmap_there text rest2 kind rest bitmaps g b k o)
-first_once text f g (Unknown kind rest bitmaps n o u e) (Unknown kind2 rest2 maps2 m p v d) =
-    let s = same_maps text kind kind2 rest rest2 bitmaps maps2 o p in
-    e ∙ ap (λ (x : ℕ). UnknownElement x) (unknown_once [] bitmaps maps2 n m s.0 u v (compare_at u.earlier v.earlier n m u.later v.later (sym u.numbers_are ∙ s.0 ∙ v.numbers_are))) ∙ sym d
+first_once text f g (Unknown kind rest bitmaps n o u e) (Unknown kind2 rest2 bitmaps2 m p v d) =
+    let s = same_bitmaps text kind kind2 rest rest2 bitmaps bitmaps2 o p in
+    e ∙ ap (λ (x : ℕ). UnknownElement x) (unknown_once [] bitmaps bitmaps2 n m s.0 u v (compare_at u.earlier v.earlier n m u.later v.later (sym u.numbers_are ∙ s.0 ∙ v.numbers_are))) ∙ sym d
 first_once text f g (Unknown kind rest bitmaps n o u e) (NoElement m r y a k) = absurd (unknown_not_element text kind rest bitmaps n m r y o u a)
 first_once text f g (Unknown kind rest bitmaps n o u e) (More front tail m r p d) = absurd (unknown_not_more text kind rest bitmaps n front tail m o u r p)
-first_once text f g (NoElement n q y a h) (Short k d) = absurd (short_not text k (opens_kind text a.kind (body a.elements ++ y) a.bitmaps a.header))
-first_once text f g (NoElement n q y a h) (NoKind k l d) = absurd (kindless_not text l (opens_kind text a.kind (body a.elements ++ y) a.bitmaps a.header))
+first_once text f g (NoElement n q y a h) (Short k d) = absurd (short_not text k (header_kind text a.kind (body a.elements ++ y) a.bitmaps a.header))
+first_once text f g (NoElement n q y a h) (NoKind k l d) = absurd (kindless_not text l (header_kind text a.kind (body a.elements ++ y) a.bitmaps a.header))
 first_once text f g (NoElement n q y a h) (NoBitmap rest b k) = absurd (not_bitmap_there text rest a.kind (body a.elements ++ y) a.bitmaps g b k a.header)
 first_once text f g (NoElement n q y a h) (Unknown kind rest bitmaps m o u d) = absurd (unknown_not_element text kind rest bitmaps m n q y o u a)
 first_once text f g (NoElement n q y a h) (NoElement m r z b k) = two_elements text n m q r y z f g a b h k
 first_once text f g (NoElement n q y a h) (More front tail m r p d) = absurd (element_not_more text n q y f front tail m a h r p)
-first_once text f g (More front tail m r p e) (Short k d) = absurd (short_not text k (opens_kind text m.kind (body m.elements ++ tail) r.bitmaps (more_opens text front tail m p r)))
-first_once text f g (More front tail m r p e) (NoKind k l d) = absurd (kindless_not text l (opens_kind text m.kind (body m.elements ++ tail) r.bitmaps (more_opens text front tail m p r)))
+first_once text f g (More front tail m r p e) (Short k d) = absurd (short_not text k (header_kind text m.kind (body m.elements ++ tail) r.bitmaps (more_opens text front tail m p r)))
+first_once text f g (More front tail m r p e) (NoKind k l d) = absurd (kindless_not text l (header_kind text m.kind (body m.elements ++ tail) r.bitmaps (more_opens text front tail m p r)))
 first_once text f g (More front tail m r p e) (NoBitmap rest b k) = absurd (not_bitmap_there text rest m.kind (body m.elements ++ tail) r.bitmaps g b k (more_opens text front tail m p r))
 first_once text f g (More front tail m r p e) (Unknown kind rest bitmaps n o u d) = absurd (unknown_not_more text kind rest bitmaps n front tail m o u r p)
 first_once text f g (More front tail m r p e) (NoElement n q y a k) = absurd (element_not_more text n q y g front tail m a k r p)

@@ -94,9 +94,9 @@ small_fold (n ∷ ns) bitmaps h all =
     let here = and_parts (leb 2 n) (leb n 128) parts.0 in
     small_fold ns (naming bitmaps n) (small_step bitmaps n (leb-true 2 n here.0) h) parts.1
 
-pub maps_small : (es : List (ℕ × List ℕ)) → list_all is_element es ≡ true → Small (bitmaps_of (numbers es))
+pub bitmaps_small : (es : List (ℕ × List ℕ)) → list_all is_element es ≡ true → Small (bitmaps_of (numbers es))
 unfolding bitmaps_of
-maps_small es h = small_fold (numbers es) (record { primary = 0; secondary = 0 }) (omega arith, omega arith) (numbers_in_range es h)
+bitmaps_small es h = small_fold (numbers es) (record { primary = 0; secondary = 0 }) (omega arith, omega arith) (numbers_in_range es h)
 
 -- ---- their digits
 
@@ -124,7 +124,7 @@ unfolding spelling
 spelling_writes m l =
     let bitmaps : Bitmaps = bitmaps_of (numbers m.elements) in
     let k = marked m.elements l.each in
-    let d = digits_spell (numbers m.elements) bitmaps (maps_small m.elements l.each) k in
+    let d = digits_spell (numbers m.elements) bitmaps (bitmaps_small m.elements l.each) k in
     written m bitmaps (digits_of_bitmaps bitmaps) l k d.0 d.1
 
 -- ---- one spelling: the same numbers are named by the same bitmaps

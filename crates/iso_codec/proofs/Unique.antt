@@ -61,8 +61,8 @@ length_again (Lllvar greatest) n s h =
 -- the content that stands at the front of a spelling
 pub record Stands (r : Rule) (rest text more : List ℕ) : Type 0 where
   pub parts : rest ≡ digits_of r.form (length text) ++ (text ++ more)
-  pub lead_is : length (digits_of r.form (length text)) ≡ prefix_size r.form
-  pub said_is : length_of r.form (digits_of r.form (length text)) ≡ Some (length text)
+  pub prefix_is : length (digits_of r.form (length text)) ≡ prefix_size r.form
+  pub stated_is : length_of r.form (digits_of r.form (length text)) ≡ Some (length text)
   pub class_fits : has_class r.class text ≡ true
 
 pub stands : (n : ℕ) (r : Rule) (text more : List ℕ) → rule_of n ≡ Some r → is_element (n, text) ≡ true → Stands r (spelled (n, text) ++ more) text more
@@ -71,7 +71,7 @@ stands n r text more rule h =
     let parts = and_parts (has_length r.form (length text)) (has_class r.class text) good in
     let again = length_again r.form (length text) (rule_sound n r rule).0 parts.0 in
     let whole : spelled_by (rule_of n) text ++ more ≡ digits_of r.form (length text) ++ (text ++ more) = rw rule (append_assoc (digits_of r.form (length text)) text more) in
-    record { parts = whole; lead_is = again.0; said_is = again.1; class_fits = parts.1 }
+    record { parts = whole; prefix_is = again.0; stated_is = again.1; class_fits = parts.1 }
 
 rule_there : (o : Option Rule) (text : List ℕ) → allows o text ≡ true → (r : Rule) × (o ≡ Some r)
 rule_there (Some r) text h = (r, refl)
@@ -86,8 +86,8 @@ spelled_once n s t x y hs ht e =
     let r = rule.0 in
     let a = stands n r s x rule.1 hs in
     let b = stands n r t y rule.1 ht in
-    let front = same_front (digits_of r.form (length s)) (digits_of r.form (length t)) (s ++ x) (t ++ y) (a.lead_is ∙ sym b.lead_is) (sym a.parts ∙ e ∙ b.parts) in
-    let same : Some (length s) ≡ Some (length t) = sym a.said_is ∙ ap (length_of r.form) front.0 ∙ b.said_is in
+    let front = same_front (digits_of r.form (length s)) (digits_of r.form (length t)) (s ++ x) (t ++ y) (a.prefix_is ∙ sym b.prefix_is) (sym a.parts ∙ e ∙ b.parts) in
+    let same : Some (length s) ≡ Some (length t) = sym a.stated_is ∙ ap (length_of r.form) front.0 ∙ b.stated_is in
     let size : length s ≡ length t = cc in
     same_front s t x y size front.1
 
@@ -148,45 +148,45 @@ seconds_once true s t x y v w a b e =
     (bitmap_once s t v w f.0 a b, f.1)
 seconds_once false s t x y v w a b e = (a.1 ∙ sym b.1, rw (a.0, b.0) at e)
 
-pub record SameHead (kind1 kind2 : List ℕ) (maps1 maps2 : Bitmaps) (rest1 rest2 : List ℕ) : Type 0 where
+pub record SameHead (kind1 kind2 : List ℕ) (bitmaps1 bitmaps2 : Bitmaps) (rest1 rest2 : List ℕ) : Type 0 where
   pub kinds : kind1 ≡ kind2
-  pub bitmaps : maps1 ≡ maps2
+  pub bitmaps : bitmaps1 ≡ bitmaps2
   pub rests : rest1 ≡ rest2
 
-pub opens_once : (text kind1 kind2 rest1 rest2 : List ℕ) (maps1 maps2 : Bitmaps) → HasHeader text kind1 maps1 rest1 → HasHeader text kind2 maps2 rest2 → SameHead kind1 kind2 maps1 maps2 rest1 rest2
-opens_once text kind1 kind2 rest1 rest2 maps1 maps2 a b =
+pub header_once : (text kind1 kind2 rest1 rest2 : List ℕ) (bitmaps1 bitmaps2 : Bitmaps) → HasHeader text kind1 bitmaps1 rest1 → HasHeader text kind2 bitmaps2 rest2 → SameHead kind1 kind2 bitmaps1 bitmaps2 rest1 rest2
+header_once text kind1 kind2 rest1 rest2 bitmaps1 bitmaps2 a b =
     let kinds = same_front kind1 kind2 (a.digits ++ rest1) (b.digits ++ rest2) (a.kind_fits.size ∙ sym b.kind_fits.size) (sym a.parts ∙ b.parts) in
     let one : a.digits ++ rest1 ≡ a.digits_fit.first ++ (a.digits_fit.second ++ rest1) = ap (λ (d : List ℕ). d ++ rest1) a.digits_fit.parts ∙ append_assoc a.digits_fit.first a.digits_fit.second rest1 in
     let two : b.digits ++ rest2 ≡ b.digits_fit.first ++ (b.digits_fit.second ++ rest2) = ap (λ (d : List ℕ). d ++ rest2) b.digits_fit.parts ∙ append_assoc b.digits_fit.first b.digits_fit.second rest2 in
     let firsts = same_front a.digits_fit.first b.digits_fit.first (a.digits_fit.second ++ rest1) (b.digits_fit.second ++ rest2) (a.digits_fit.primary.size ∙ sym b.digits_fit.primary.size) (sym one ∙ kinds.1 ∙ two) in
-    let primaries = bitmap_once a.digits_fit.first b.digits_fit.first maps1.primary maps2.primary firsts.0 a.digits_fit.primary b.digits_fit.primary in
-    let second1 : MatchBool (bit maps2.primary 1) (IsBitmap a.digits_fit.second maps1.secondary) ((a.digits_fit.second ≡ []) × (maps1.secondary ≡ 0)) =
-    subst (λ (p : ℕ). MatchBool (bit p 1) (IsBitmap a.digits_fit.second maps1.secondary) ((a.digits_fit.second ≡ []) × (maps1.secondary ≡ 0))) primaries a.digits_fit.secondary in
-    let seconds = seconds_once (bit maps2.primary 1) a.digits_fit.second b.digits_fit.second rest1 rest2 maps1.secondary maps2.secondary second1 b.digits_fit.secondary firsts.1 in
+    let primaries = bitmap_once a.digits_fit.first b.digits_fit.first bitmaps1.primary bitmaps2.primary firsts.0 a.digits_fit.primary b.digits_fit.primary in
+    let second1 : MatchBool (bit bitmaps2.primary 1) (IsBitmap a.digits_fit.second bitmaps1.secondary) ((a.digits_fit.second ≡ []) × (bitmaps1.secondary ≡ 0)) =
+    subst (λ (p : ℕ). MatchBool (bit p 1) (IsBitmap a.digits_fit.second bitmaps1.secondary) ((a.digits_fit.second ≡ []) × (bitmaps1.secondary ≡ 0))) primaries a.digits_fit.secondary in
+    let seconds = seconds_once (bit bitmaps2.primary 1) a.digits_fit.second b.digits_fit.second rest1 rest2 bitmaps1.secondary bitmaps2.secondary second1 b.digits_fit.secondary firsts.1 in
     let made : Bitmaps → ℕ → ℕ → Bitmaps = λ m p s. record { primary = p; secondary = s } in
     record {
       kinds = kinds.0;
-      bitmaps = ap (λ (p : ℕ). made maps1 p maps1.secondary) primaries ∙ ap (λ (s : ℕ). made maps1 maps2.primary s) seconds.0;
+      bitmaps = ap (λ (p : ℕ). made bitmaps1 p bitmaps1.secondary) primaries ∙ ap (λ (s : ℕ). made bitmaps1 bitmaps2.primary s) seconds.0;
       rests = seconds.1;
     }
 
 -- ---- messages
 
-pub reads_opens : (text more : List ℕ) (m : IsoMessage) (r : Reads text m) → HasHeader (text ++ more) m.kind r.bitmaps (body m.elements ++ more)
-reads_opens text more m r = record {
+pub reads_header : (text more : List ℕ) (m : IsoMessage) (r : Reads text m) → HasHeader (text ++ more) m.kind r.bitmaps (body m.elements ++ more)
+reads_header text more m r = record {
   digits = r.digits;
   kind_fits = r.is_message.kind_fits;
   digits_fit = r.digits_fit;
   parts = ap (λ (t : List ℕ). t ++ more) r.parts ∙ simp append_assoc;
 }
 
-pub opens_at : (s t kind rest : List ℕ) (bitmaps : Bitmaps) → s ≡ t → HasHeader s kind bitmaps rest → HasHeader t kind bitmaps rest
-opens_at s t kind rest bitmaps e o = subst (λ (x : List ℕ). HasHeader x kind bitmaps rest) e o
+pub header_at : (s t kind rest : List ℕ) (bitmaps : Bitmaps) → s ≡ t → HasHeader s kind bitmaps rest → HasHeader t kind bitmaps rest
+header_at s t kind rest bitmaps e o = subst (λ (x : List ℕ). HasHeader x kind bitmaps rest) e o
 
 -- no spelling of a message begins another, and each spells one message
 pub one_spelling : (s t x y : List ℕ) (m n : IsoMessage) → Reads s m → Reads t n → s ++ x ≡ t ++ y → (m ≡ n) × (x ≡ y)
 one_spelling s t x y m n a b e =
-    let heads = opens_once (t ++ y) m.kind n.kind (body m.elements ++ x) (body n.elements ++ y) a.bitmaps b.bitmaps (opens_at (s ++ x) (t ++ y) m.kind (body m.elements ++ x) a.bitmaps e (reads_opens s x m a)) (reads_opens t y n b) in
+    let heads = header_once (t ++ y) m.kind n.kind (body m.elements ++ x) (body n.elements ++ y) a.bitmaps b.bitmaps (header_at (s ++ x) (t ++ y) m.kind (body m.elements ++ x) a.bitmaps e (reads_header s x m a)) (reads_header t y n b) in
     let same : numbers m.elements ≡ numbers n.elements = a.names_all ∙ ap named heads.bitmaps ∙ sym b.names_all in
     let bodies = bodies_once m.elements n.elements x y same a.is_message.each b.is_message.each heads.rests in
     let made : List ℕ → List (ℕ × List ℕ) → IsoMessage = λ k es. record { kind = k; elements = es } in

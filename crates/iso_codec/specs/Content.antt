@@ -1,4 +1,5 @@
--- How an element is spelled: digits of its length where its form has them, then its bytes.
+-- How an element is spelled: digits of its length where its form has them, then its bytes (ISO 8583:1987, attributes of data elements; the
+-- classes of tracks, hexadecimal digits and any bytes: own profile).
 use Rattle.std.specs.Prelude.{ℕ, ◌+◌, ◌-◌, ◌*◌, ◌/◌, ◌%◌, ◌==◌, nat_le, Bool, true, false, ◌&&◌, ◌||◌, List, [], ◌∷◌, ◌++◌, length, Option, Some, None, if◌then◌else◌, fold}
 use Rattle.std.specs.List.{list_all}
 use Rattle.iso_codec.specs.declared.form.Form.{Form}
@@ -48,13 +49,13 @@ has_class Any text = true
 abbrev pub number_of : List ℕ → ℕ
 number_of digits = fold (λ n b. n * 10 + (b - 48)) 0 digits
 
--- how many digits of length a form has
+-- how many digits of length stand before a content of this form
 abbrev pub prefix_size : Form → ℕ
 prefix_size (Fixed k) = 0
 prefix_size (Llvar greatest) = 2
 prefix_size (Lllvar greatest) = 3
 
--- the length that these digits spell, where it may stand
+-- the length that these digits state, if it is no greater than may be
 abbrev pub stated : ℕ → List ℕ → Option ℕ
 stated greatest digits =
     if list_all is_digit digits && nat_le (number_of digits) greatest then Some (number_of digits) else None

@@ -1,4 +1,4 @@
--- The faults of a text, each with its rule.
+-- The faults of a text, each with its rule on the whole text (own profile): what stands before the place where it shows, and what doesn't follow.
 use Rattle.std.specs.Prelude.{◌≡◌, ℕ, ◌+◌, ◌<◌, ◌≤◌, Bool, true, false, List, ◌∷◌, ◌++◌, length, take, drop, Some, None, is_some, ◌⊎◌}
 use Rattle.std.specs.List.{list_all}
 use Rattle.hex.specs.Hex.{is_hex_digit}
@@ -16,13 +16,14 @@ AwaitsBitmap text rest =
     ((kind : List ℕ) × IsKind kind × (text ≡ kind ++ rest))
     ⊎ ((kind first : List ℕ) × (primary : ℕ) × IsKind kind × IsBitmap first primary × (bit primary 1 ≡ true) × (text ≡ kind ++ (first ++ rest)))
 
--- Kind and bitmaps stand before rest.
+-- The type and the bitmaps stand before rest.
 pub record HasHeader (text kind : List ℕ) (bitmaps : Bitmaps) (rest : List ℕ) : Type 0 where
   pub digits : List ℕ
   pub kind_fits : IsKind kind
   pub digits_fit : AreBitmaps digits bitmaps
   pub parts : text ≡ kind ++ (digits ++ rest)
 
+-- whether the table has an element
 abbrev pub is_known : ℕ → Bool
 is_known n = is_some (rule_of n)
 
@@ -40,15 +41,17 @@ pub record AwaitsElement (text : List ℕ) (n : ℕ) (r : Rule) (rest : List ℕ
 
 -- ---- faults of one element, at whose place rest stands
 
--- how many bytes the element's length, and its content, want of rest
+-- rest ends within the digits of the length, or within the content
 abbrev pub IsCut : Rule → List ℕ → Type 0
 IsCut r rest =
     (length rest < prefix_size r.form)
     ⊎ ((prefix_size r.form ≤ length rest) × (len : ℕ) × (length_of r.form (take (prefix_size r.form) rest) ≡ Some len) × (length rest < prefix_size r.form + len))
 
+-- the digits of the length are none, or state more than may be
 abbrev pub HasBadLength : Rule → List ℕ → Type 0
 HasBadLength r rest = (prefix_size r.form ≤ length rest) × (length_of r.form (take (prefix_size r.form) rest) ≡ None)
 
+-- a byte of the content is outside the class
 abbrev pub HasBadContent : Rule → List ℕ → Type 0
 HasBadContent r rest =
     (len : ℕ) × (prefix_size r.form + len ≤ length rest) × (length_of r.form (take (prefix_size r.form) rest) ≡ Some len)

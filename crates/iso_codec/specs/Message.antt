@@ -1,4 +1,4 @@
--- What a message is, and its spelling.
+-- What a message is, and its spelling (ISO 8583:1987: message type identifier, bit maps, data elements).
 use Rattle.std.specs.Prelude.{◌≡◌, ℕ, ◌-◌, ◌<◌, ◌==◌, nat_le, nat_lt, ◌||◌, Bool, true, List, [], ◌∷◌, ◌++◌, length, map, filter, Option, Some, None, Ok, if◌then◌else◌, MatchBool}
 use Rattle.std.specs.List.{list_all, list_any, flat_map, range_with_len}
 use Rattle.std.specs.Int.{bit_at, w64, from_be_bytes}
@@ -8,11 +8,12 @@ use Rattle.iso_codec.specs.declared.element.Element.{Element}
 use Rattle.iso_codec.specs.Table.{rule_of}
 use Rattle.iso_codec.specs.Content.{is_digit, lies, allows, spelled_by}
 
--- A message: its kind, and the text of each element, in order of the elements' numbers.
+-- A message: its type, and the content of each element, in order of the elements' numbers.
 pub record IsoMessage : Type 0 where
   pub kind : List ℕ
   pub elements : List (ℕ × List ℕ)
 
+-- the program's elements, as pairs of number and content
 abbrev pub pair_of : Element → ℕ × List ℕ
 pair_of e = (e.number, e.content.items)
 
@@ -22,7 +23,7 @@ pairs_of es = map pair_of es
 abbrev pub numbers : List (ℕ × List ℕ) → List ℕ
 numbers es = map (λ e. e.0) es
 
--- four digits
+-- four digits: a message type identifier
 pub record IsKind (kind : List ℕ) : Type 0 where
   pub size : length kind ≡ 4
   pub digits : list_all is_digit kind ≡ true
@@ -32,21 +33,22 @@ abbrev pub Ascends : ℕ → List ℕ → Type 0
 Ascends low [] = Unit {0}
 Ascends low (n ∷ ns) = (low < n) × Ascends n ns
 
--- an element of the table, with its length and class
+-- whether an element is in the table and has its length and class
 abbrev pub is_element : ℕ × List ℕ → Bool
 is_element e = allows (rule_of e.0) e.1
 
+-- A message's type is four digits, and its elements are the table's, in ascending order.
 pub record IsMessage (m : IsoMessage) : Type 0 where
   pub kind_fits : IsKind m.kind
   pub each : list_all is_element m.elements ≡ true
   pub ascends : Ascends 1 (numbers m.elements)
 
--- the text at a number
+-- the content of element n, if it is there
 abbrev pub content_of : List (ℕ × List ℕ) → ℕ → Option (List ℕ)
 content_of [] n = None
 content_of (e ∷ es) n = if n == e.0 then Some e.1 else content_of es n
 
--- the elements with this text at n, whatever was there
+-- the elements with this content at n, whatever was there
 abbrev pub with_content : List (ℕ × List ℕ) → ℕ → List ℕ → List (ℕ × List ℕ)
 with_content [] n text = (n, text) ∷ []
 with_content (e ∷ es) n text =
@@ -55,7 +57,7 @@ with_content (e ∷ es) n text =
 
 -- ---- bitmaps
 
--- Sixteen hexadecimal digits spell a bitmap.
+-- Sixteen hexadecimal digits, of either case, spell a bitmap.
 pub record IsBitmap (digits : List ℕ) (bits : ℕ) : Type 0 where
   pub bytes : List ℕ
   pub size : length digits ≡ 16
@@ -84,13 +86,15 @@ pub record AreBitmaps (digits : List ℕ) (bitmaps : Bitmaps) : Type 0 where
 
 -- ---- the whole
 
+-- an element's spelling: its length where its form has one, and its content
 abbrev pub spelled : ℕ × List ℕ → List ℕ
 spelled e = spelled_by (rule_of e.0) e.1
 
+-- the spellings of elements, one after the other
 abbrev pub body : List (ℕ × List ℕ) → List ℕ
 body es = flat_map spelled es
 
--- The text spells the message.
+-- The text spells the message: its type, its bitmaps, and the elements that they name, in ascending order.
 pub record Reads (text : List ℕ) (m : IsoMessage) : Type 0 where
   pub digits : List ℕ
   pub bitmaps : Bitmaps

@@ -11,13 +11,14 @@ use Rattle.iso_codec.specs.Table.{rule_of}
 use Rattle.iso_codec.specs.Content.{has_length, has_class}
 use Rattle.iso_codec.specs.Message.{bit, names}
 
+-- an element outside the table; then a length, and then a class, that its rule doesn't allow
 abbrev pub set_fault_by : Option Rule → ℕ → List ℕ → Option SetFault
 set_fault_by None n text = Some (UnknownElement n)
 set_fault_by (Some r) n text =
     if has_length r.form (length text) then (if has_class r.class text then None else Some (BadContent n))
     else Some (BadLength n)
 
--- why element n can't have this text
+-- why element n can't have this content
 abbrev pub set_fault : ℕ → List ℕ → Option SetFault
 set_fault n text = set_fault_by (rule_of n) n text
 
@@ -34,6 +35,7 @@ pub record IsPlace (es : List (ℕ × List ℕ)) (n at : ℕ) : Type 0 where
   pub before : list_all (is_below n) (take at es) ≡ true
   pub after : StartsFrom n (drop at es)
 
+-- whether a number is among these
 abbrev pub is_in : List ℕ → ℕ → Bool
 is_in ns n = list_any (λ m. n == m) ns
 
