@@ -46,8 +46,7 @@ pub fn range_of_a_prefix_after_add()
 pub fn range_of_a_prefix_after_remove()
     ensures { (ranges : List Range) (low high prefix : ℕ) → are_ranges ranges ≡ true
         → range_of_prefix (without_range ranges low high) prefix ≡ unless_ends low high (range_of_prefix ranges prefix) }
-{
-}
+{}
 
 /// Card numbers, computed.
 pub fn worked_cards()
