@@ -16,7 +16,8 @@ const GREATEST_LEN: usize = 19;
 
 const PREFIX_LEN: usize = 6;
 
-/// A valid card number: 10 to 19 digits that pass the check of ISO/IEC 7812-1. It is shown masked.
+/// A valid card number: 10 to 19 digits that pass the check of ISO/IEC 7812-1; the lower bound is this profile's own.
+/// It is shown masked.
 #[derive(Clone, Copy, PartialEq, Eq)]
 pub struct CardNumber {
     // The digits, and a `0` for each place behind them.
@@ -59,7 +60,7 @@ impl CardNumber {
         })
     }
 
-    /// The digits, as bytes from 0x30 to 0x39.
+    /// The digits, as bytes from 0x30 to 0x39. It takes no memory.
     pub fn digits(&self) -> &[u8]
         ensures value { result.now ≡ self.now }
         ensures valid { is_valid_card result.now ≡ true }
@@ -67,7 +68,7 @@ impl CardNumber {
         &self.digits[..self.len]
     }
 
-    /// The number of the first six digits.
+    /// The number of the first six digits (own profile). It takes no memory.
     pub fn prefix(&self) -> u32
         ensures value { result ≡ prefix_of self.now }
         ensures bound { result ≤ 999999 }

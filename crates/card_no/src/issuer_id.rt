@@ -5,7 +5,8 @@ ghost use Rattle.std.specs.Prelude.{◌≡◌, IfOk};
 use std::alloc::{AllocError, Global};
 use std::marker::Model;
 
-/// An issuer's id as it is written, leading zeros too. A list of ranges takes it where it is 1 to 11 digits.
+/// An issuer's id as it is written, leading zeros too. A list of ranges takes it where it is 1 to 11 digits (own
+/// profile).
 #[derive(Clone, Debug, Drop)]
 pub struct IssuerId {
     text: Vec<u8>,
@@ -40,6 +41,7 @@ impl Eq for IssuerId {
 }
 
 impl IssuerId {
+    /// An id with this text, whatever it is.
     pub fn new(text: Vec<u8>) -> IssuerId
         ensures { result ≡ text.items }
     {
@@ -55,6 +57,7 @@ impl IssuerId {
         })
     }
 
+    /// The text.
     pub fn as_bytes(&self) -> &[u8]
         ensures { result.now ≡ self.now }
     {

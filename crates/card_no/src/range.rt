@@ -12,7 +12,7 @@ const GREATEST_HOLD_DAYS: u8 = 31;
 
 const ISSUER_LEN: usize = 11;
 
-/// The cards of one issuer: those whose prefix, the number of the first six digits, lies from `low` to `high`, both
+/// The cards of one issuer (own profile): those whose prefix, the number of the first six digits, lies from `low` to `high`, both
 /// included. A hold on such a card is open for `hold_days` days.
 #[derive(Clone, Debug, Drop, PartialEq, Eq)]
 pub struct Range {

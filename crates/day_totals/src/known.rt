@@ -33,13 +33,28 @@ pub fn known_resolutions()
 
 /// Totals and nets of short lists of postings, and how elements show them.
 pub fn known_totals()
-    ensures sale { net_text_of (net_of (totals_of ((Debit, 1000) ∷ []))) ≡ codes "D0000000000001000" }
-    ensures reversed_alone { net_text_of (net_of (totals_of ((DebitReversal, 1000) ∷ []))) ≡ codes "C0000000000001000" }
+    ensures sale { net_text_of (net_of (totals_of ((Debit, 1000) ∷ [])))
+        ≡ codes "D0000000000001000" }
+    ensures reversed_alone { net_text_of (net_of (totals_of ((DebitReversal, 1000) ∷ [])))
+        ≡ codes "C0000000000001000" }
     ensures nothing { net_text_of (net_of (totals_of [])) ≡ codes "C0000000000000000" }
-    ensures counts { counts_of (totals_of ((Debit, 1000) ∷ (Credit, 250) ∷ (Debit, 7) ∷ (CreditReversal, 250) ∷ [])) ≡ 1 ∷ 1 ∷ 2 ∷ 0 ∷ [] }
-    ensures amounts { amounts_of (totals_of ((Debit, 1000) ∷ (Credit, 250) ∷ (Debit, 7) ∷ (CreditReversal, 250) ∷ [])) ≡ 250 ∷ 250 ∷ 1007 ∷ 0 ∷ [] }
+    ensures counts { counts_of (totals_of ((Debit, 1000) ∷ (Credit, 250) ∷ (Debit, 7)
+        ∷ (CreditReversal, 250) ∷ [])) ≡ 1 ∷ 1 ∷ 2 ∷ 0 ∷ [] }
+    ensures amounts { amounts_of (totals_of ((Debit, 1000) ∷ (Credit, 250) ∷ (Debit, 7)
+        ∷ (CreditReversal, 250) ∷ [])) ≡ 250 ∷ 250 ∷ 1007 ∷ 0 ∷ [] }
     ensures greatest { zero_padded 16 9_999_989_999_000_001 ≡ codes "9999989999000001" }
     ensures one { zero_padded 10 1 ≡ codes "0000000001" }
-    ensures balanced { agrees_with (record { counts = 0 ∷ 0 ∷ 0 ∷ 0 ∷ []; amounts = 0 ∷ 0 ∷ 0 ∷ 0 ∷ []; net = pos 0 }) (totals_of []) ≡ true }
-    ensures differs { agrees_with (record { counts = 0 ∷ 0 ∷ 1 ∷ 0 ∷ []; amounts = 0 ∷ 0 ∷ 1001 ∷ 0 ∷ []; net = negsuc 1000 }) (totals_of ((Debit, 1000) ∷ [])) ≡ false }
+
+    // A terminal that claims nothing, and one that claims a debit of 1001 for one of 1000.
+    ensures balanced { agrees_with (record {
+      counts = 0 ∷ 0 ∷ 0 ∷ 0 ∷ [];
+      amounts = 0 ∷ 0 ∷ 0 ∷ 0 ∷ [];
+      net = pos 0;
+    }) (totals_of []) ≡ true }
+    ensures differs { agrees_with (record {
+      counts = 0 ∷ 0 ∷ 1 ∷ 0 ∷ [];
+      amounts = 0 ∷ 0 ∷ 1001 ∷ 0 ∷ [];
+      net = negsuc 1000;
+    }) (totals_of ((Debit, 1000) ∷ []))
+        ≡ false }
 {}
