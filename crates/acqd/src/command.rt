@@ -12,6 +12,7 @@ use clap::error::ErrorKind;
 use std::alloc::Global;
 use std::convert::AsStr;
 use std::fmt::Write;
+use std::io;
 
 /// The status of wrong usage.
 const USAGE: u8 = 2;
@@ -46,6 +47,19 @@ pub fn command<W: AsStr, S: Source, K: Sink, F: Sink>(
             Ok(()) => 0,
             Err(_) => finish(Err(Fault::Write(0)), faults),
         },
+    }
+}
+
+/// Tells why there are no words: memory ran out, or one isn't UTF-8, which is wrong usage. Answers
+/// the status.
+pub(crate) fn no_words<F: Sink>(error: io::Error, faults: &mut F) -> u8
+    ensures { 2 ≤ result }
+{
+    if error.kind() == io::ErrorKind::OutOfMemory {
+        finish(Err(Fault::Memory), faults)
+    } else {
+        let _ = writeln!(TextSink::new(faults), "error: a word is not UTF-8");
+        USAGE
     }
 }
 

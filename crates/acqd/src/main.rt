@@ -16,20 +16,26 @@ pub use once::once;
 use std::process::ExitCode;
 use std::{env, io};
 
-fn main(rt: HostRuntime) -> io::Result<ExitCode> {
-    let alloc = rt.alloc();
-    let words: Vec<String> = env::args(&rt)?.collect(alloc)?;
+fn main(rt: HostRuntime) -> ExitCode {
     let mut input = ReadSource::new(rt.stdin());
     let mut output = WriteSink::new(rt.stdout());
     let mut faults = WriteSink::new(rt.stderr());
-    let status = command(
-        alloc,
-        words.as_slice(),
-        &mut input,
-        &mut output,
-        &mut faults,
-    );
-    Ok(ExitCode::from(status))
+    let status = match words(&rt) {
+        Ok(words) => command(
+            rt.alloc(),
+            words.as_slice(),
+            &mut input,
+            &mut output,
+            &mut faults,
+        ),
+        Err(error) => command::no_words(error, &mut faults),
+    };
+    ExitCode::from(status)
+}
+
+/// The program's own name and the words after it.
+fn words<R: env::Env + AllocGlobal>(rt: &R) -> io::Result<Vec<String>> {
+    Ok(env::args(rt)?.collect(rt.alloc())?)
 }
 
 #[cfg(test)]
