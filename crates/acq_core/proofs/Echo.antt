@@ -6,9 +6,10 @@ use Rattle.std.proofs.lemmas.List.Folds.{list_any-append}
 use Rattle.std.proofs.lemmas.List.{take_more, take_all}
 use Rattle.iso_codec.specs.Message.{IsoMessage, IsMessage, numbers, Ascends, content_of, with_content}
 use Rattle.acq_core.specs.declared.service.Service.{Service}
-use Rattle.acq_core.specs.declared.service.Service.TheVariants.{NetworkManagement}
+use Rattle.acq_core.specs.declared.service.Service.TheVariants.{Authorization, Financial, Completion, Reversal, ReversalAdvice, Reconciliation, NetworkManagement}
 use Rattle.acq_core.specs.Services.{reply_kind, echoed}
-use Rattle.acq_core.specs.Reply.{is_among, echo}
+use Rattle.acq_core.specs.Elements.{is_among}
+use Rattle.acq_core.specs.Reply.{echo}
 
 -- each of these numbers is below n
 abbrev pub all_below : ℕ → List ℕ → Bool
@@ -110,6 +111,12 @@ at_below low (n ∷ ns) (suc i) up lt =
     and_from (ltb n (get_or ns i 0)) (all_below (get_or ns i 0) (take i ns)) (lt-ltb n (get_or ns i 0) (at_above n ns i up.1 (omega arith))) (at_below n ns i up.1 (omega arith))
 
 ascending : (service : Service) → Ascends 1 (echoed service)
+ascending Authorization = (lit< tt, (lit< tt, (lit< tt, (lit< tt, (lit< tt, (lit< tt, (lit< tt, (lit< tt, (lit< tt, (lit< tt, tt))))))))))
+ascending Financial = (lit< tt, (lit< tt, (lit< tt, (lit< tt, (lit< tt, (lit< tt, (lit< tt, (lit< tt, (lit< tt, (lit< tt, tt))))))))))
+ascending Completion = (lit< tt, (lit< tt, (lit< tt, (lit< tt, (lit< tt, (lit< tt, (lit< tt, (lit< tt, (lit< tt, (lit< tt, (lit< tt, tt)))))))))))
+ascending Reversal = (lit< tt, (lit< tt, (lit< tt, (lit< tt, (lit< tt, (lit< tt, (lit< tt, (lit< tt, (lit< tt, (lit< tt, tt))))))))))
+ascending ReversalAdvice = (lit< tt, (lit< tt, (lit< tt, (lit< tt, (lit< tt, (lit< tt, (lit< tt, (lit< tt, (lit< tt, (lit< tt, tt))))))))))
+ascending Reconciliation = (lit< tt, (lit< tt, (lit< tt, (lit< tt, (lit< tt, (lit< tt, (lit< tt, (lit< tt, (lit< tt, (lit< tt, tt))))))))))
 ascending NetworkManagement = (lit< tt, (lit< tt, (lit< tt, (lit< tt, (lit< tt, (lit< tt, (lit< tt, (lit< tt, (lit< tt, (lit< tt, (lit< tt, tt)))))))))))
 
 -- the reply so far, after the first i numbers

@@ -6,10 +6,14 @@ use Rattle.iso_codec.specs.declared.set_fault.SetFault.{SetFault}
 use Rattle.iso_codec.specs.Content.{has_class, is_printable}
 use Rattle.iso_codec.specs.Table.{rule_of}
 use Rattle.iso_codec.specs.Setting.{set_fault}
-use Rattle.acq_core.specs.declared.response_code.ResponseCode.{ResponseCode}
+use Rattle.iso_codec.specs.Message.{IsoMessage, content_of}
 use Rattle.acq_core.specs.declared.response_code.ResponseCode.TheVariants.{Approved, InvalidTransaction, FormatError}
 use Rattle.acq_core.specs.Names.{is_merchant, merchant_of}
+use Rattle.acq_core.specs.declared.service.Service.TheVariants.{NetworkManagement}
 use Rattle.acq_core.specs.Responses.{code_text}
+use Rattle.acq_core.specs.FirstCheck.{is_malformed}
+use Rattle.acq_core.specs.Decision.{is_network_code}
+use Rattle.acq_core.specs.NetworkAlone.{response}
 
 passes_both : (long good : Bool) (x y : SetFault) → (if long then (if good then None else Some x) else Some y) ≡ None → (long && good) ≡ true
 passes_both true true x y h = refl
@@ -24,9 +28,12 @@ names_merchant text h = passes_both (eqb (length text) 15) (list_all is_printabl
 pub merchant_is : (text : List ℕ) → set_fault 42 text ≡ None → merchant_of text ≡ Some text
 merchant_is text h = rw (names_merchant text h) refl
 
--- each code is a content of element 39
-pub code_fits : (code : ResponseCode) → set_fault 39 (code_text code) ≡ None
+-- the codes of network management are contents of element 39
+pub response_fits : (m : IsoMessage) → set_fault 39 (code_text (response m)) ≡ None
 unfolding rule_of has_class
-code_fits Approved = refl
-code_fits InvalidTransaction = refl
-code_fits FormatError = refl
+response_fits m = either (is_malformed NetworkManagement m) (is_network_code (content_of m.elements 70))
+  where
+    either : (b c : Bool) → set_fault 39 (code_text (if b then FormatError else (if c then Approved else InvalidTransaction))) ≡ None
+    either true c = refl
+    either false true = refl
+    either false false = refl

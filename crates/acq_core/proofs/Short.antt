@@ -11,20 +11,22 @@ use Rattle.iso_codec.specs.Content.{has_length, has_class, allows, digits_of, sp
 use Rattle.iso_codec.specs.Table.{rule_of}
 use Rattle.iso_codec.specs.Message.{IsoMessage, IsMessage, IsKind, IsBitmap, AreBitmaps, numbers, Ascends, is_element, spelled, body, with_content}
 use Rattle.iso_codec.specs.Reading.{reading_of, spelling}
+use Rattle.iso_codec.specs.Setting.{set_fault}
 use Rattle.iso_codec.proofs.Sound.{rule_sound}
 use Rattle.iso_codec.proofs.Unique.{element_rule}
 use Rattle.iso_codec.proofs.Exact.{read_as}
 use Rattle.iso_codec.proofs.Placing.{message_with, fits_by}
 use Rattle.iso_codec.proofs.Spelling.{spelling_writes}
 use Rattle.acq_core.specs.declared.service.Service.{Service}
-use Rattle.acq_core.specs.declared.service.Service.TheVariants.{NetworkManagement}
+use Rattle.acq_core.specs.declared.service.Service.TheVariants.{Authorization, Financial, Completion, Reversal, ReversalAdvice, Reconciliation, NetworkManagement}
 use Rattle.acq_core.specs.declared.response_code.ResponseCode.{ResponseCode}
 use Rattle.acq_core.specs.declared.output.Output.TheVariants.{Reply, Undecodable, UnservedType}
 use Rattle.acq_core.specs.Services.{service_of, reply_kind, echoed}
-use Rattle.acq_core.specs.Responses.{code_text, response}
-use Rattle.acq_core.specs.Reply.{is_among, echo, reply, reply_text}
-use Rattle.acq_core.specs.Decision.{output_of_frame, output_of_reading, output_of_request}
-use Rattle.acq_core.proofs.Fits.{code_fits}
+use Rattle.acq_core.specs.Responses.{code_text}
+use Rattle.acq_core.specs.Elements.{is_among}
+use Rattle.acq_core.specs.Reply.{echo, reply, reply_text, code_element}
+use Rattle.acq_core.specs.NetworkAlone.{response, output_of_frame, output_of_reading, output_of_request}
+use Rattle.acq_core.proofs.Fits.{response_fits}
 
 -- ---- the length of one element
 
@@ -63,6 +65,12 @@ short_element e fits short =
 
 echoed_short : (service : Service) → list_all is_short (echoed service) ≡ true
 unfolding rule_of
+echoed_short Authorization = refl
+echoed_short Financial = refl
+echoed_short Completion = refl
+echoed_short Reversal = refl
+echoed_short ReversalAdvice = refl
+echoed_short Reconciliation = refl
 echoed_short NetworkManagement = refl
 
 code_short : (code : ResponseCode) → is_short 39 ≡ true
@@ -153,30 +161,42 @@ second_small true second bits h = let size = h.size in omega arith
 second_small false second bits h = rw h.0 (omega arith)
 
 kind_four : (service : Service) → length (reply_kind service) ≡ 4
+kind_four Authorization = refl
+kind_four Financial = refl
+kind_four Completion = refl
+kind_four Reversal = refl
+kind_four ReversalAdvice = refl
+kind_four Reconciliation = refl
 kind_four NetworkManagement = refl
 
 -- ---- the reply
 
-reply_is_message : (service : Service) (request : IsoMessage) (code : ResponseCode) → IsMessage request → IsMessage (reply service request code)
-reply_is_message service request code whole =
+reply_is_message : (service : Service) (request : IsoMessage) (code : ResponseCode) → set_fault 39 (code_text code) ≡ None → IsMessage request → IsMessage (reply service request (code_element code))
+reply_is_message service request code fits whole =
     message_with (reply_kind service) (echo service request) 39 (code_text code) (record {
       kind_fits = kind service;
       each = kept_elements (is_among (echoed service)) request.elements whole.each;
       ascends = kept_ascends (is_among (echoed service)) 1 request.elements whole.ascends;
-    }) (code_fits code)
+    }) fits
   where
     kind : (s : Service) → IsKind (reply_kind s)
+    kind Authorization = record { size = refl; digits = refl }
+    kind Financial = record { size = refl; digits = refl }
+    kind Completion = record { size = refl; digits = refl }
+    kind Reversal = record { size = refl; digits = refl }
+    kind ReversalAdvice = record { size = refl; digits = refl }
+    kind Reconciliation = record { size = refl; digits = refl }
     kind NetworkManagement = record { size = refl; digits = refl }
 
-reply_short : (service : Service) (request : IsoMessage) (code : ResponseCode) → IsMessage request → (1 ≤ length (reply_text service request code)) × (length (reply_text service request code) ≤ 4096)
-reply_short service request code whole =
-    let m = reply service request code in
-    let is_whole = reply_is_message service request code whole in
+reply_short : (service : Service) (request : IsoMessage) (code : ResponseCode) → set_fault 39 (code_text code) ≡ None → IsMessage request → (1 ≤ length (reply_text service request (code_element code))) × (length (reply_text service request (code_element code)) ≤ 4096)
+reply_short service request code fits whole =
+    let m = reply service request (code_element code) in
+    let is_whole = reply_is_message service request code fits whole in
     let w = spelling_writes m is_whole in
     let short : list_all is_short_element m.elements ≡ true =
     all_with is_short_element (echo service request) 39 (code_text code)
     (kept_short (echoed service) request.elements (echoed_short service) whole.each)
-    (short_element (39, code_text code) (fits_by (rule_of 39) 39 (code_text code) (code_fits code)) (code_short code)) in
+    (short_element (39, code_text code) (fits_by (rule_of 39) 39 (code_text code) fits) (code_short code)) in
     let size = body_short m.elements short in
     let count = few 1 m.elements (omega arith) is_whole.ascends is_whole.each in
     let four = kind_four service in
@@ -192,9 +212,15 @@ IsFrameSize text = (1 ≤ length text) × (length text ≤ 4096)
 
 by_service : (o : Option Service) (m : IsoMessage) (party : Option (List ℕ)) (text : List ℕ) → IsMessage m → output_of_request m o ≡ Reply party text → IsFrameSize text
 by_service None m party text whole is = absurd cc
-by_service (Some service) m party text whole is =
-    let same : reply_text service m (response service m) ≡ text = cc in
-    subst IsFrameSize same (reply_short service m (response service m) whole)
+by_service (Some NetworkManagement) m party text whole is =
+    let same : reply_text NetworkManagement m (code_element (response m)) ≡ text = cc in
+    subst IsFrameSize same (reply_short NetworkManagement m (response m) (response_fits m) whole)
+by_service (Some Authorization) m party text whole is = absurd cc
+by_service (Some Financial) m party text whole is = absurd cc
+by_service (Some Completion) m party text whole is = absurd cc
+by_service (Some Reversal) m party text whole is = absurd cc
+by_service (Some ReversalAdvice) m party text whole is = absurd cc
+by_service (Some Reconciliation) m party text whole is = absurd cc
 
 by_reading : (r : Result IsoMessage DecodeFault) (party : Option (List ℕ)) (text : List ℕ) → ((m : IsoMessage) → r ≡ Ok m → IsMessage m) → output_of_reading r ≡ Reply party text → IsFrameSize text
 by_reading (Err fault) party text whole is = absurd cc

@@ -1,33 +1,244 @@
--- What an event comes to.
-use Rattle.std.specs.Prelude.{ℕ, List, Option, Some, None, Result, Ok, Err}
-use Rattle.iso_codec.specs.declared.decode_fault.DecodeFault.{DecodeFault}
+-- The order of the checks, once: what is to be done about what came, over what is known (own profile).
+use Rattle.std.specs.Prelude.{ℕ, ◌+◌, ◌*◌, ◌==◌, nat_le, nat_lt, ℤ, pos, negsuc, zero, suc, Bool, true, false, not, ◌&&◌, ◌||◌, List, [], ◌∷◌, ◌++◌, take, drop, replicate, length, ◌-◌, Option, Some, None, if◌then◌else◌, codes}
+use Rattle.std.specs.List.{list_all, list_any}
+use Rattle.std.specs.Str.{bytes_eq}
+use Rattle.iso_codec.specs.Content.{is_digit}
 use Rattle.iso_codec.specs.Message.{IsoMessage, content_of}
-use Rattle.iso_codec.specs.Reading.{reading_of}
+use Rattle.card_no.specs.declared.range.Range.{Range}
+use Rattle.card_no.specs.CardNumbers.{is_valid_card}
+use Rattle.card_no.specs.Ranges.{is_valid_range, has_ends}
+use Rattle.day_totals.specs.Day.{CivilDate, date_of}
+use Rattle.day_totals.specs.Digits.{decimal_value}
 use Rattle.acq_core.specs.declared.service.Service.{Service}
-use Rattle.acq_core.specs.declared.event.Event.{Event}
-use Rattle.acq_core.specs.declared.event.Event.TheVariants.{Frame}
+use Rattle.acq_core.specs.declared.service.Service.TheVariants.{Authorization, Financial, Completion, Reversal, ReversalAdvice, Reconciliation, NetworkManagement}
+use Rattle.acq_core.specs.declared.verdict.Verdict.{Verdict}
+use Rattle.acq_core.specs.declared.merchant.Merchant.{Merchant}
+use Rattle.acq_core.specs.declared.terminal.Terminal.{Terminal}
 use Rattle.acq_core.specs.declared.output.Output.{Output}
-use Rattle.acq_core.specs.declared.output.Output.TheVariants.{Reply, Undecodable, UnservedType}
-use Rattle.acq_core.specs.Services.{service_of}
-use Rattle.acq_core.specs.Responses.{response}
-use Rattle.acq_core.specs.Reply.{reply_text}
+use Rattle.acq_core.specs.declared.output.Output.TheVariants as output
+use Rattle.acq_core.specs.declared.response_code.ResponseCode.{ResponseCode}
+use Rattle.acq_core.specs.declared.response_code.ResponseCode.TheVariants as code
+use Rattle.acq_core.specs.Numbers.{is_amount}
+use Rattle.acq_core.specs.Elements.{text_at, or_empty, amount_in, transaction_in, essence_of, original_acquirer}
+use Rattle.acq_core.specs.Cards.{card_of, expiry_of}
+use Rattle.acq_core.specs.Arrivals.{RequestMessage, Arrival}
+use Rattle.acq_core.specs.Arrivals as arrival
+use Rattle.acq_core.specs.Known.{Standing, Prior, Known, reconciled_day}
+use Rattle.acq_core.specs.Known as known
 
--- the merchant that a message belongs to, if it names one
-abbrev pub party_of : IsoMessage → Option (List ℕ)
-party_of m = content_of m.elements 42
+-- what is to be done
+pub data Decision : Type 0 where
+  -- nothing changes: this is told, or this code is replied, or the reply that was kept is given again
+  Tells : (output : Output) → Decision
+  Replies : (request : RequestMessage) (code : ResponseCode) → Decision
+  Repeats : (reply : List ℕ) → Decision
+  -- a request is recorded: it is refused, admitted in a range under a reference, completes a hold, reverses an original, or reconciles a day
+  Refuses : (request : RequestMessage) (code : ResponseCode) → Decision
+  Admits : (request : RequestMessage) (range : Range) (reference : ℕ) → Decision
+  Completes : (request : RequestMessage) (hold : Prior) → Decision
+  Reverses : (request : RequestMessage) (original : Prior) → Decision
+  Reconciles : (request : RequestMessage) (day : ℕ) → Decision
+  -- a pending request is answered
+  Settles : (moment : ℕ) (verdict : Verdict) (request : Prior) → Decision
+  -- what all share, or a merchant's enrolment, is changed
+  CutsOver : Decision
+  AddsRange : (range : Range) → Decision
+  DropsRange : (low high : ℕ) → Decision
+  Enrols : (merchant : Merchant) → Decision
+  AddsTerminal : (terminal : Terminal) → Decision
 
-abbrev pub output_of_request : IsoMessage → Option Service → Output
-output_of_request m None = UnservedType m.kind
-output_of_request m (Some service) = Reply (party_of m) (reply_text service m (response service m))
+-- the first refusal that applies, else what is accepted
+abbrev pub first_of : RequestMessage → List (Bool × ResponseCode) → Decision → Decision
+first_of r [] accepted = accepted
+first_of r (refusal ∷ later) accepted = if refusal.0 then Refuses r refusal.1 else first_of r later accepted
 
-abbrev pub output_of_reading : Result IsoMessage DecodeFault → Output
-output_of_reading (Err fault) = Undecodable fault
-output_of_reading (Ok m) = output_of_request m (service_of m.kind)
+-- ---- what the checks test
 
--- what a frame of these bytes comes to
-abbrev pub output_of_frame : List ℕ → Output
-output_of_frame text = output_of_reading (reading_of text)
+-- the merchant's day admits no more
+abbrev pub is_full : Known → Bool
+is_full k = not (nat_lt k.used k.limit)
 
--- what an event comes to
-abbrev pub output_of : Event → Output
-output_of (Frame moment text) = output_of_frame text
+-- purchases are authorized and completed, sold or returned
+abbrev pub transactions : Service → List (List ℕ)
+transactions Financial = codes "00" ∷ codes "20" ∷ []
+transactions service = codes "00" ∷ []
+
+-- element 3 asks for another transaction, or element 49 is another currency than the merchant's
+abbrev pub is_other_transaction : Merchant → RequestMessage → Bool
+is_other_transaction merchant r =
+    not (list_any (bytes_eq (transaction_in r.message)) (transactions r.service)) || not (bytes_eq (text_at r.message 49) merchant.currency)
+
+abbrev pub month_number : ℕ → ℕ → ℕ
+month_number year month = year * 12 + month
+
+-- the month of an expiry, YYMM, isn't 01 to 12, or lies before the month of a date
+abbrev pub is_past : CivilDate → ℕ → ℕ → Bool
+is_past date year month =
+    not (nat_le 1 month && nat_le month 12) || nat_lt (month_number (2000 + year) month) (month_number date.year date.month)
+
+-- whether an expiry that is known has passed on a day
+abbrev pub is_expired : ℕ → Option (List ℕ) → Bool
+is_expired today None = false
+is_expired today (Some expiry) = is_past (date_of today) (decimal_value (take 2 expiry)) (decimal_value (drop 2 expiry))
+
+-- a hold that is open at a moment
+abbrev pub is_open_until : ℕ → Option ℕ → Bool
+is_open_until moment None = false
+is_open_until moment (Some until) = nat_le moment until
+
+abbrev pub open_hold : ℕ → Option Prior → Option Prior
+open_hold moment None = None
+open_hold moment (Some p) = if is_open_until moment p.open_until then Some p else None
+
+-- element 90's acquirer is zeros or the original's element 32, right-justified with zeros; where the original had none, it is free
+abbrev pub fits_acquirer : List ℕ → Option (List ℕ) → Bool
+fits_acquirer text None = true
+fits_acquirer text (Some acquirer) =
+    bytes_eq text (replicate 11 48) || bytes_eq text (replicate (11 - length acquirer) 48 ++ acquirer)
+
+abbrev pub original_of : IsoMessage → Option Prior → Option Prior
+original_of m None = None
+original_of m (Some p) = if fits_acquirer (original_acquirer m) p.acquirer then Some p else None
+
+-- ---- the checks of each service, in their order
+
+-- a sale, a return or an authorization whose card is of this range
+abbrev pub admission_in : Known → Merchant → RequestMessage → Option Range → Decision
+admission_in k merchant r None = Refuses r code.NoSuchIssuer
+admission_in k merchant r (Some range) =
+    first_of r ((is_full k, code.LimitExceeded) ∷ []) (Admits r range (merchant.first_reference + k.admitted))
+
+abbrev pub admission : Known → Merchant → RequestMessage → Decision
+admission k merchant r =
+    first_of r (
+      (is_other_transaction merchant r, code.InvalidTransaction)
+      ∷ (not (is_amount (amount_in r.message)), code.InvalidAmount)
+      ∷ (not (is_valid_card (or_empty (card_of r.message))), code.InvalidCard)
+      ∷ (is_expired k.today (expiry_of r.message), code.ExpiredCard)
+      ∷ []
+    ) (admission_in k merchant r k.range)
+
+-- a completion of this hold
+abbrev pub completion_of : Known → RequestMessage → Option Prior → Decision
+completion_of k r None = Refuses r code.RecordNotFound
+completion_of k r (Some hold) =
+    first_of r ((nat_lt hold.amount (amount_in r.message), code.InvalidAmount) ∷ (is_full k, code.LimitExceeded) ∷ []) (Completes r hold)
+
+abbrev pub completion : Known → Merchant → RequestMessage → Decision
+completion k merchant r =
+    first_of r (
+      (is_other_transaction merchant r, code.InvalidTransaction)
+      ∷ (not (is_amount (amount_in r.message)), code.InvalidAmount)
+      ∷ []
+    ) (completion_of k r (open_hold r.moment k.referred))
+
+-- a reversal of this original
+abbrev pub reversal_of : Known → RequestMessage → Option Prior → Decision
+reversal_of k r None = Refuses r code.RecordNotFound
+reversal_of k r (Some p) =
+    first_of r (
+      (p.final, code.NoActionTaken)
+      ∷ (not (amount_in r.message == p.amount), code.InvalidAmount)
+      ∷ (is_full k, code.LimitExceeded)
+      ∷ []
+    ) (Reverses r p)
+
+-- a reconciliation of this day
+abbrev pub reconciliation_of : RequestMessage → Option ℕ → Decision
+reconciliation_of r None = Refuses r code.ReconcileError
+reconciliation_of r (Some day) = Reconciles r day
+
+-- sign-on, sign-off and the echo test, in element 70 (ISO 8583:1987, network management information code)
+abbrev pub network_codes : List (List ℕ)
+network_codes = codes "001" ∷ codes "002" ∷ codes "301" ∷ []
+
+abbrev pub is_network_code : Option (List ℕ) → Bool
+is_network_code None = false
+is_network_code (Some text) = list_any (bytes_eq text) network_codes
+
+abbrev pub network_response : IsoMessage → ResponseCode
+network_response m = if is_network_code (content_of m.elements 70) then code.Approved else code.InvalidTransaction
+
+-- what a service decides of a request whose key is new
+abbrev pub decision_by : Service → Known → Merchant → RequestMessage → Decision
+decision_by Authorization k merchant r = admission k merchant r
+decision_by Financial k merchant r = admission k merchant r
+decision_by Completion k merchant r = completion k merchant r
+decision_by Reversal k merchant r = reversal_of k r (original_of r.message k.original)
+decision_by ReversalAdvice k merchant r = reversal_of k r (original_of r.message k.original)
+decision_by Reconciliation k merchant r = reconciliation_of r (reconciled_day k.today (content_of r.message.elements 15))
+decision_by NetworkManagement k merchant r = Replies r (network_response r.message)
+
+-- ---- the checks before them
+
+-- what a repeat gets
+abbrev pub repeat_of : Standing → Decision
+repeat_of (known.Kept reply) = Repeats reply
+repeat_of (known.Awaited draft) = Tells output.Waiting
+repeat_of known.Withdrawn = Tells output.Late
+
+-- a key that is recorded gets no new decision: a repeat must be alike in its essence
+abbrev pub decision_of_key : RequestMessage → Option Prior → Decision → Decision
+decision_of_key r None fresh = fresh
+decision_of_key r (Some p) fresh =
+    if bytes_eq (essence_of r.service r.message) p.essence then repeat_of p.standing else Replies r code.DuplicateTransmission
+
+-- only enrolled merchants' terminals are served
+abbrev pub decision_of_merchant : Known → RequestMessage → Option Merchant → Decision
+decision_of_merchant k r None = Replies r code.InvalidMerchant
+decision_of_merchant k r (Some merchant) =
+    if k.has_terminal then decision_of_key r k.recorded (decision_by r.service k merchant r) else Replies r code.InvalidMerchant
+
+-- network management needs no merchant and is never recorded
+abbrev pub decision_of_request : Service → Known → RequestMessage → Decision
+decision_of_request NetworkManagement k r = Replies r (network_response r.message)
+decision_of_request service k r = decision_of_merchant k r k.merchant
+
+-- ---- answers, ranges, enrolments
+
+-- an answer counts only while its request is pending
+abbrev pub settling : ℕ → Verdict → Prior → Standing → Decision
+settling moment verdict p (known.Kept reply) = Tells output.AlreadyAnswered
+settling moment verdict p (known.Awaited draft) = Settles moment verdict p
+settling moment verdict p known.Withdrawn = Tells output.Late
+
+abbrev pub decision_of_prior : ℕ → Verdict → Option Prior → Decision
+decision_of_prior moment verdict None = Tells output.UnknownReference
+decision_of_prior moment verdict (Some p) = settling moment verdict p p.standing
+
+abbrev pub decision_of_answer : Known → ℕ → Verdict → Option Merchant → Decision
+decision_of_answer k moment verdict None = Tells output.NoSuchMerchant
+decision_of_answer k moment verdict (Some merchant) = decision_of_prior moment verdict k.referred
+
+abbrev pub decision_of_new_range : Range → Option Range → Decision
+decision_of_new_range range None = AddsRange range
+decision_of_new_range range (Some other) = Tells (output.Overlap other)
+
+abbrev pub decision_of_old_range : ℕ → ℕ → Option Range → Decision
+decision_of_old_range low high None = Tells output.NoSuchRange
+decision_of_old_range low high (Some range) = if has_ends low high range then DropsRange low high else Tells output.NoSuchRange
+
+abbrev pub decision_of_enrolment : Merchant → Option Merchant → Decision
+decision_of_enrolment merchant None = Enrols merchant
+decision_of_enrolment merchant (Some enrolled) = Tells output.AlreadyEnrolled
+
+abbrev pub decision_of_terminal : Terminal → Bool → Option Merchant → Decision
+decision_of_terminal terminal there None = Tells output.NoSuchMerchant
+decision_of_terminal terminal there (Some merchant) = if there then Tells output.Done else AddsTerminal terminal
+
+-- 2099-12-31
+abbrev pub last_day : ℕ
+last_day = 36524
+
+-- ---- what is to be done about what came
+abbrev pub decision : Known → Arrival → Decision
+decision k (arrival.Undecoded fault) = Tells (output.Undecodable fault)
+decision k (arrival.Unserved m) = Tells (output.UnservedType m.kind)
+decision k (arrival.Malformed r) = Replies r code.FormatError
+decision k (arrival.Requested r) = decision_of_request r.service k r
+decision k (arrival.Answered moment merchant reference verdict) = decision_of_answer k moment verdict k.merchant
+decision k arrival.CutOver = if nat_lt k.today last_day then CutsOver else Tells output.LastDay
+decision k (arrival.RangeAdded range) = if is_valid_range range then decision_of_new_range range k.overlapped else Tells output.BadRange
+decision k (arrival.RangeDropped low high) = decision_of_old_range low high k.overlapped
+decision k (arrival.Enrolled merchant) = decision_of_enrolment merchant k.merchant
+decision k (arrival.TerminalAdded terminal) = decision_of_terminal terminal k.has_terminal k.merchant

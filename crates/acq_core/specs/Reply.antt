@@ -1,28 +1,102 @@
--- What a reply holds, and its bytes.
-use Rattle.std.specs.Prelude.{ℕ, ◌==◌, Bool, List, filter}
-use Rattle.std.specs.List.{list_any}
+-- What replies hold, and their bytes (elements: ISO 8583:1987; which of them a reply has: own profile).
+use Rattle.std.specs.Prelude.{ℕ, ℤ, Bool, true, false, List, [], ◌∷◌, ◌++◌, filter, Option, Some, None, Result, Ok, Err, if◌then◌else◌, codes}
+use Rattle.iso_codec.specs.declared.decode_fault.DecodeFault.{DecodeFault}
 use Rattle.iso_codec.specs.Message.{IsoMessage, with_content}
-use Rattle.iso_codec.specs.Reading.{spelling}
+use Rattle.iso_codec.specs.Reading.{reading_of, spelling}
+use Rattle.day_totals.specs.Day.{mmdd_of}
+use Rattle.day_totals.specs.Digits.{zero_padded}
+use Rattle.day_totals.specs.Totals.{DayTotals, net_of, net_text_of}
 use Rattle.acq_core.specs.declared.service.Service.{Service}
+use Rattle.acq_core.specs.declared.service.Service.TheVariants.{NetworkManagement}
 use Rattle.acq_core.specs.declared.response_code.ResponseCode.{ResponseCode}
+use Rattle.acq_core.specs.declared.response_code.ResponseCode.TheVariants as code
+use Rattle.acq_core.specs.declared.verdict.Verdict.{Verdict}
+use Rattle.acq_core.specs.declared.verdict.Verdict.TheVariants as verdict
 use Rattle.acq_core.specs.Services.{reply_kind, echoed}
 use Rattle.acq_core.specs.Responses.{code_text}
-
--- whether an element's number is among these
-abbrev pub is_among : List ℕ → ℕ × List ℕ → Bool
-is_among numbers element = list_any (λ n. n == element.0) numbers
+use Rattle.acq_core.specs.Elements.{is_among, element_if}
+use Rattle.acq_core.specs.Arrivals.{RequestMessage}
 
 -- those of a request's elements that its reply echoes
 abbrev pub echo : Service → IsoMessage → List (ℕ × List ℕ)
 echo service request = filter (is_among (echoed service)) request.elements
 
--- the reply to a request: what it echoes, and the code
-abbrev pub reply : Service → IsoMessage → ResponseCode → IsoMessage
-reply service request code = record {
-  kind = reply_kind service;
-  elements = with_content (echo service request) 39 (code_text code);
-}
+-- the elements with these set, one after the other
+abbrev pub with_contents : List (ℕ × List ℕ) → List (ℕ × List ℕ) → List (ℕ × List ℕ)
+with_contents elements [] = elements
+with_contents elements (e ∷ es) = with_contents (with_content elements e.0 e.1) es
+
+-- the reply to a request: what it echoes, and these elements
+abbrev pub reply : Service → IsoMessage → List (ℕ × List ℕ) → IsoMessage
+reply service request added = record { kind = reply_kind service; elements = with_contents (echo service request) added }
 
 -- its bytes
-abbrev pub reply_text : Service → IsoMessage → ResponseCode → List ℕ
-reply_text service request code = spelling (reply service request code)
+abbrev pub reply_text : Service → IsoMessage → List (ℕ × List ℕ) → List ℕ
+reply_text service request added = spelling (reply service request added)
+
+-- ---- the elements that the host adds
+
+-- element 15: the business day, in all replies but those of network management
+abbrev pub day_element : Service → ℕ → List (ℕ × List ℕ)
+day_element NetworkManagement day = []
+day_element service day = (15, mmdd_of day) ∷ []
+
+-- element 37: a reference in twelve digits
+abbrev pub reference_element : Option ℕ → List (ℕ × List ℕ)
+reference_element None = []
+reference_element (Some reference) = (37, zero_padded 12 reference) ∷ []
+
+-- element 39: the code
+abbrev pub code_element : ResponseCode → List (ℕ × List ℕ)
+code_element code = (39, code_text code) ∷ []
+
+-- elements 66, 74 to 77, 86 to 89 and 97: whether the totals are in balance, and the host's totals
+abbrev pub totals_elements : Bool → DayTotals → List (ℕ × List ℕ)
+totals_elements in_balance t =
+    (66, if in_balance then codes "1" else codes "2")
+    ∷ (74, zero_padded 10 t.credits.count) ∷ (75, zero_padded 10 t.credit_reversals.count)
+    ∷ (76, zero_padded 10 t.debits.count) ∷ (77, zero_padded 10 t.debit_reversals.count)
+    ∷ (86, zero_padded 16 t.credits.amount) ∷ (87, zero_padded 16 t.credit_reversals.amount)
+    ∷ (88, zero_padded 16 t.debits.amount) ∷ (89, zero_padded 16 t.debit_reversals.amount)
+    ∷ (97, net_text_of (net_of t)) ∷ []
+
+-- ---- the replies
+
+-- a code and the business day
+abbrev pub coded_reply : ℕ → RequestMessage → ResponseCode → List ℕ
+coded_reply day r code = reply_text r.service r.message (day_element r.service day ++ code_element code)
+
+-- the same with a reference
+abbrev pub referring_reply : ℕ → RequestMessage → Option ℕ → ResponseCode → List ℕ
+referring_reply day r reference code =
+    reply_text r.service r.message (day_element r.service day ++ reference_element reference ++ code_element code)
+
+-- what stands fixed of the reply to an admitted request: all but the issuer's part
+abbrev pub draft_reply : ℕ → RequestMessage → ℕ → List ℕ
+draft_reply day r reference = reply_text r.service r.message (day_element r.service day ++ reference_element (Some reference))
+
+-- the reply to a reconciliation of a day
+abbrev pub totals_reply : ℕ → RequestMessage → ResponseCode → Bool → DayTotals → List ℕ
+totals_reply day r code in_balance totals =
+    reply_text r.service r.message (day_element r.service day ++ code_element code ++ totals_elements in_balance totals)
+
+-- the code of what an issuer says
+abbrev pub verdict_code : Verdict → ResponseCode
+verdict_code (verdict.Approved id) = code.Approved
+verdict_code (verdict.Declined text) = code.Declined text
+verdict_code verdict.NoAnswer = code.IssuerInoperative
+
+-- element 38: the authorization id of an approval
+abbrev pub authorization_element : Verdict → List (ℕ × List ℕ)
+authorization_element (verdict.Approved id) = (38, id) ∷ []
+authorization_element (verdict.Declined text) = []
+authorization_element verdict.NoAnswer = []
+
+-- a message with these elements set besides, where it reads as one
+abbrev pub completed_text : Result IsoMessage DecodeFault → List (ℕ × List ℕ) → List ℕ
+completed_text (Ok m) added = spelling (record { kind = m.kind; elements = with_contents m.elements added })
+completed_text (Err fault) added = []
+
+-- the reply to a request that its issuer answered: what stood fixed of it, and the issuer's part
+abbrev pub answered_reply : List ℕ → Verdict → List ℕ
+answered_reply draft v = completed_text (reading_of draft) (authorization_element v ++ code_element (verdict_code v))

@@ -2,10 +2,9 @@
 
 ghost use Rattle.std.specs.Prelude.{◌≡◌, option_map};
 ghost use Rattle.std.specs.Option.{option_copied};
-ghost use Rattle.std.specs.List.{list_all};
-ghost use Rattle.iso_codec.specs.Content.{is_digit};
 ghost use Rattle.acq_core.specs.Cards.{track_of, card_of, expiry_of, expiry_at, has_bad_track, has_two_cards};
 
+use crate::text::all_digits;
 use card_no::split_track2;
 use iso_codec::Message;
 
@@ -49,12 +48,6 @@ fn expiry_at(after: &[u8]) -> Option<&[u8]>
     } else {
         None
     }
-}
-
-fn all_digits(text: &[u8]) -> bool
-    ensures { result ≡ list_all is_digit text.now }
-{
-    text.iter().all(|b| matches!(*b, b'0'..=b'9'))
 }
 
 /// The card number in element 35, and what stands after it.

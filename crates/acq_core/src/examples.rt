@@ -2,7 +2,7 @@
 
 ghost use Rattle.std.specs.Prelude.{◌≡◌, ◌++◌, ◌∷◌, [], codes};
 ghost use Rattle.acq_core.specs.Cards.{card_of, expiry_of};
-ghost use Rattle.acq_core.specs.Decision.{output_of_frame};
+ghost use Rattle.acq_core.specs.NetworkAlone.{output_of_frame};
 ghost use Rattle.acq_core.specs.declared.output.Output.TheVariants.{Reply, Undecodable, UnservedType};
 ghost use Rattle.iso_codec.specs.declared.decode_fault.DecodeFault.TheVariants.{Trailing, UnknownElement};
 

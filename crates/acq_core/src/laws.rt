@@ -2,7 +2,7 @@
 
 ghost use Rattle.std.specs.Prelude.{◌≡◌, ◌≤◌, List, ℕ, length, Option};
 ghost use Rattle.acq_core.specs.declared.output.Output.TheVariants.{Reply};
-ghost use Rattle.acq_core.specs.Decision.{output_of_frame};
+ghost use Rattle.acq_core.specs.NetworkAlone.{output_of_frame};
 
 /// Every reply fits a frame of the link.
 pub fn replies_fit_a_frame()

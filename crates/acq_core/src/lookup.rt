@@ -1,9 +1,56 @@
 //! What is looked up for an event.
 
-/// The keys to look up for an event. No message that is served so far needs any.
-#[derive(Clone, Copy, Debug, PartialEq, Eq)]
-pub struct Wanted {}
+use crate::limit::Limit;
+use crate::merchant::Merchant;
+use crate::merchant_id::MerchantId;
+use crate::request::Request;
+use crate::request_key::RequestKey;
+use crate::terminal_id::TerminalId;
+use card_no::Range;
+use day_totals::{Day, Totals};
 
-/// What the look-ups of a [`Wanted`] gave. No message that is served so far needs any.
+/// The keys to look up for an event, each where it is needed. All but the prefix and the bounds are
+/// looked up for the merchant.
 #[derive(Clone, Copy, Debug, PartialEq, Eq)]
-pub struct Looked {}
+pub struct Wanted {
+    pub merchant: Option<MerchantId>,
+    pub terminal: Option<TerminalId>,
+    /// The request's own key.
+    pub key: Option<RequestKey>,
+    /// The key of the request that a reversal names as its original.
+    pub original: Option<RequestKey>,
+    /// The reference of the hold that is completed, or of the request that was answered.
+    pub reference: Option<u64>,
+    /// The prefix of the card.
+    pub prefix: Option<u32>,
+    /// The ends of a range, `low` and `high`.
+    pub bounds: Option<(u32, u32)>,
+    /// The day whose totals are compared.
+    pub totals_day: Option<Day>,
+}
+
+/// What the look-ups of a [`Wanted`] gave.
+#[derive(Debug, Drop)]
+pub struct Looked {
+    /// The business day.
+    pub today: Day,
+    pub limit: Limit,
+    pub merchant: Option<Merchant>,
+    pub has_terminal: bool,
+    /// The recorded request with the key.
+    pub recorded: Option<Request>,
+    /// The recorded request with the original's key.
+    pub original: Option<Request>,
+    /// The admitted request with the reference.
+    pub referred: Option<Request>,
+    /// The range that holds the prefix.
+    pub range: Option<Range>,
+    /// Of the ranges that overlap the bounds, the one of least low.
+    pub overlapped: Option<Range>,
+    /// How many references the merchant has given.
+    pub admitted: u64,
+    /// How many of the merchant's messages count against the limit of today.
+    pub used: u64,
+    /// The merchant's totals of the day that is wanted.
+    pub totals: Totals,
+}

@@ -1,10 +1,9 @@
 //! Names of merchants.
 
 ghost use Rattle.std.specs.Prelude.{◌≡◌, true};
-ghost use Rattle.std.specs.List.{list_all};
-ghost use Rattle.iso_codec.specs.Content.{is_printable};
 ghost use Rattle.acq_core.specs.Names.{is_merchant, merchant_of};
 
+use crate::text::all_printable;
 use std::marker::Model;
 
 /// A merchant's name, as element 42 has it: fifteen bytes from 0x20 to 0x7E. Contracts see it as
@@ -50,10 +49,4 @@ impl MerchantId {
     {
         self.bytes
     }
-}
-
-fn all_printable(text: &[u8]) -> bool
-    ensures { result ≡ list_all is_printable text.now }
-{
-    text.iter().all(|b| matches!(*b, b' '..=b'~'))
 }

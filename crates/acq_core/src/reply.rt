@@ -1,7 +1,8 @@
 //! Replies.
 
 ghost use Rattle.std.specs.Prelude.{◌≡◌, IfOk, OnOk, OnErr};
-ghost use Rattle.acq_core.specs.Reply.{reply_text, reply, echo, is_among};
+ghost use Rattle.acq_core.specs.Reply.{reply_text, code_element};
+ghost use Rattle.acq_core.specs.Responses.{code_text};
 ghost use Rattle.iso_codec.specs.Message.{with_content};
 ghost use Rattle.iso_codec.specs.Setting.{set_fault};
 
@@ -22,14 +23,15 @@ fn put(message: &mut Message, alloc: Global, number: u8, content: &[u8]) -> Resu
     message.set(alloc, number, content).map_err(|_| AllocError)
 }
 
-/// The bytes of the reply to a request with a code.
+/// The bytes of the reply to a request that adds a code to what it echoes.
 pub fn reply_with(
     alloc: Global,
     service: Service,
     request: &Message,
     code: ResponseCode,
 ) -> Result<MessageText, AllocError>
-    ensures { IfOk result (λ text. text ≡ reply_text service request.now code) }
+    requires { set_fault 39 (code_text code) ≡ None }
+    ensures { IfOk result (λ text. text ≡ reply_text service request.now (code_element code)) }
 {
     let Some(mut message) = Message::new(alloc, service.reply_kind()) else {
         unreachable!();

@@ -9,10 +9,11 @@ use Rattle.iso_codec.specs.declared.decode_fault.DecodeFault.{DecodeFault}
 use Rattle.iso_codec.specs.Message.{IsoMessage}
 use Rattle.iso_codec.specs.Reading.{reading_of}
 use Rattle.acq_core.specs.declared.service.Service.{Service}
+use Rattle.acq_core.specs.declared.service.Service.TheVariants.{NetworkManagement}
 use Rattle.acq_core.specs.declared.output.Output.{Output}
 use Rattle.acq_core.specs.declared.output.Output.TheVariants.{Reply, Undecodable, UnservedType}
 use Rattle.acq_core.specs.Services.{service_of}
-use Rattle.acq_core.specs.Decision.{output_of_frame, output_of_reading, output_of_request}
+use Rattle.acq_core.specs.NetworkAlone.{output_of_frame, output_of_reading, output_of_request}
 use Rattle.acq_core.proofs.Short.{fits_a_frame}
 use Rattle.acqd.specs.declared.fault.Fault as fault
 use Rattle.acq_link.specs.declared.input_fault.InputFault as input
@@ -30,7 +31,8 @@ reply_fits item text party is =
 -- what an output says of the reading of its frame
 read_by_request : (o : Option Service) (m : IsoMessage) (f : DecodeFault) → output_of_request m o ≡ Undecodable f → ⊥
 read_by_request None m f h = cc
-read_by_request (Some service) m f h = cc
+read_by_request (Some NetworkManagement) m f h = cc
+read_by_request (Some other) m f h = cc
 
 read_by : (r : Result IsoMessage DecodeFault) → ((f : DecodeFault) → output_of_reading r ≡ Undecodable f → ⊥) → is_ok r ≡ true
 read_by (Ok m) h = refl
@@ -51,8 +53,7 @@ undecodable_is item f is = fault_by (reading_of item) f is
 
 fit_in : (output : Output) → ((party : Option (List ℕ)) (text : List ℕ) → output ≡ Reply party text → fits_frame text ≡ true) → fit_frames (replies_in output) ≡ true
 fit_in (Reply party text) h = and_from (fits_frame text) true (h party text refl) refl
-fit_in (Undecodable f) h = refl
-fit_in (UnservedType kind) h = refl
+fit_in other h = refl
 
 -- the replies to a frame fit frames
 pub replies_fit : (item : List ℕ) → fit_frames (replies_to item) ≡ true

@@ -4,15 +4,14 @@ use Rattle.std.specs.List.{list_all, flat_map}
 use Rattle.acq_link.specs.Frames.{frame, framed, Frames, FramesThen, fits_frame, is_partial, has_bad_length}
 use Rattle.iso_codec.specs.Reading.{reading_of}
 use Rattle.acq_core.specs.declared.output.Output.{Output}
-use Rattle.acq_core.specs.declared.output.Output.TheVariants.{Reply, Undecodable, UnservedType}
-use Rattle.acq_core.specs.Decision.{output_of_frame}
+use Rattle.acq_core.specs.declared.output.Output.TheVariants.{Reply}
+use Rattle.acq_core.specs.NetworkAlone.{output_of_frame}
 use Rattle.acqd.specs.declared.fault.Fault as fault
 
 -- the reply that an output is, if it is one
 abbrev pub replies_in : Output → List (List ℕ)
 replies_in (Reply party text) = text ∷ []
-replies_in (Undecodable fault) = []
-replies_in (UnservedType kind) = []
+replies_in other = []
 
 -- the replies to a frame: one, or none
 abbrev pub replies_to : List ℕ → List (List ℕ)

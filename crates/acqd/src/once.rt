@@ -5,7 +5,7 @@ ghost use Rattle.acqd.specs.Once.{AnswersOne, Serves, TakesAll, failed_reads, fa
 
 use crate::fault::Fault;
 use crate::frames::{frame_at, write_frame};
-use acq_core::{Event, Looked, MessageText, Moment, Output, decide};
+use acq_core::{MessageText, Output, answer_network};
 use acq_link::{Sink, Source, read_to_end};
 use std::alloc::Global;
 
@@ -44,10 +44,9 @@ fn answer<K: Sink>(alloc: Global, item: &[u8], output: &mut K) -> Result<(), Fau
     ensures writes { K.failures output.new ≡ K.failures output.old + failed_writes result }
 {
     let text = MessageText::from_slice(alloc, item)?;
-    let event = Event::Frame(Moment::first(), text);
-    match decide(alloc, &Looked {}, &event)? {
+    match answer_network(alloc, &text)? {
         Output::Reply(_, reply) => write_frame(alloc, reply.as_slice(), output),
         Output::Undecodable(fault) => Err(Fault::Undecodable(fault)),
-        Output::UnservedType(_) => Ok(()),
+        _ => Ok(()),
     }
 }

@@ -1,7 +1,6 @@
 use Rattle.std.proofs.Common.{sym, ◌∙◌, refl, arith, ap}
 use Rattle.iso_codec.specs.Reading.{spelling}
 use Rattle.acq_core.proofs.Echo.{next_there, next_missing, at_first, at_last}
-use Rattle.acq_core.proofs.Fits.{code_fits}
 use Rattle.acq_core.proofs.reply.reply_with.Goals as goal
 use Rattle.acq_core.proofs.reply.reply_with.Goals.{in-Some-get+in_ok-put, in_default-get}
 
@@ -19,7 +18,7 @@ loop-number-preserved c =
     ]
 
 pub put-requires-2 : goal.put-requires-2
-put-requires-2 c = rw c.text.ensures (code_fits c.args.code)
+put-requires-2 c = rw c.text.ensures c.requires
 
 pub loop-number-init : goal.loop-number-init
 loop-number-init c = at_first c.args.service c.args.request.now c.in-Some.message c.reply_kind.result c.echoed-number-items.result.now c.in-Some.ensures.value c.reply_kind.ensures

@@ -1,6 +1,6 @@
 use Rattle.std.proofs.Common.{◌≡◌, take}
 use Rattle.std.specs.List.{filter}
-use Rattle.acq_core.specs.Reply.{is_among}
+use Rattle.acq_core.specs.Elements.{is_among}
 use Rattle.acq_core.specs.Services.{reply_kind}
 use Rattle.acq_core.proofs.reply.reply_with.Given as goal
 

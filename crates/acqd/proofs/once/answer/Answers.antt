@@ -1,6 +1,6 @@
 use Rattle.std.proofs.Common.{◌≡◌, true, List, ℕ, ap, sym, subst, ◌∙◌}
 use Rattle.acq_link.specs.Frames.{fits_frame}
-use Rattle.acq_core.specs.Decision.{output_of_frame}
+use Rattle.acq_core.specs.NetworkAlone.{output_of_frame}
 use Rattle.acqd.proofs.Replying.{reply_fits}
 use Rattle.acqd.proofs.once.answer.Goals as goal
 

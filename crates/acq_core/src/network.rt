@@ -1,14 +1,15 @@
-//! The decision on one event.
+//! What a frame comes to, as long as network management alone is served.
 
 ghost use Rattle.std.specs.Prelude.{◌≡◌, IfOk};
 ghost use Rattle.std.specs.List.{list_all, list_any};
-ghost use Rattle.acq_core.specs.Responses.{response, is_malformed, network_response, has, unverifiable};
-ghost use Rattle.acq_core.specs.Services.{needed};
-ghost use Rattle.acq_core.specs.Decision.{output_of, output_of_frame, party_of};
+ghost use Rattle.acq_core.specs.Services.{needed, needed_card};
+ghost use Rattle.acq_core.specs.Elements.{has};
+ghost use Rattle.acq_core.specs.FirstCheck.{is_malformed, has_one_of, unverifiable};
+ghost use Rattle.acq_core.specs.Decision.{network_response};
+ghost use Rattle.acq_core.specs.Arrivals.{merchant_in};
+ghost use Rattle.acq_core.specs.NetworkAlone.{response, output_of_frame};
 
 use crate::card::{has_bad_track, has_two_cards};
-use crate::event::Event;
-use crate::lookup::{Looked, Wanted};
 use crate::merchant_id::MerchantId;
 use crate::message_text::MessageText;
 use crate::output::Output;
@@ -18,23 +19,9 @@ use crate::service::Service;
 use iso_codec::{DecodeFault, Message, decode};
 use std::alloc::{AllocError, Global};
 
-/// What has to be looked up before an event is decided.
-pub fn wanted(_event: &Event) -> Wanted
-    ensures { result ≡ record {} }
-{
-    Wanted {}
-}
-
-/// What an event comes to, over what was looked up for it.
-pub fn decide(alloc: Global, _looked: &Looked, event: &Event) -> Result<Output, AllocError>
-    ensures { IfOk result (λ output. output ≡ output_of event.now) }
-{
-    match event {
-        Event::Frame(_, text) => decide_frame(alloc, text),
-    }
-}
-
-fn decide_frame(alloc: Global, text: &MessageText) -> Result<Output, AllocError>
+/// What a frame comes to, as long as network management alone is served: every other type is told
+/// as not served.
+pub fn answer_network(alloc: Global, text: &MessageText) -> Result<Output, AllocError>
     ensures { IfOk result (λ output. output ≡ output_of_frame text.now) }
 {
     let message = match decode(alloc, text.as_slice()) {
@@ -42,29 +29,28 @@ fn decide_frame(alloc: Global, text: &MessageText) -> Result<Output, AllocError>
         Err(DecodeFault::Memory) => return Err(AllocError),
         Err(fault) => return Ok(Output::Undecodable(fault)),
     };
-    let Some(service) = Service::of(message.kind()) else {
+    let Some(Service::NetworkManagement) = Service::of(message.kind()) else {
         return Ok(Output::UnservedType(message.kind()));
     };
-    let reply = reply_with(alloc, service, &message, response(service, &message))?;
-    Ok(Output::Reply(party(&message), reply))
+    let reply = reply_with(alloc, Service::NetworkManagement, &message, response(&message))?;
+    Ok(Output::Reply(merchant_in(&message), reply))
 }
 
 /// The merchant that a message names.
-fn party(message: &Message) -> Option<MerchantId>
-    ensures { result ≡ party_of message.now }
+fn merchant_in(message: &Message) -> Option<MerchantId>
+    ensures { result ≡ merchant_in message.now }
 {
     MerchantId::read(message.get(42)?)
 }
 
-/// The code that a request gets.
-fn response(service: Service, message: &Message) -> ResponseCode
-    ensures { result ≡ response service message.now }
+/// The code that a request of network management gets.
+fn response(message: &Message) -> ResponseCode
+    ensures { result ≡ response message.now }
 {
-    if is_malformed(service, message) {
-        return ResponseCode::FormatError;
-    }
-    match service {
-        Service::NetworkManagement => network_response(message),
+    if is_malformed(Service::NetworkManagement, message) {
+        ResponseCode::FormatError
+    } else {
+        network_response(message)
     }
 }
 
@@ -73,6 +59,7 @@ fn is_malformed(service: Service, message: &Message) -> bool
     ensures { result ≡ is_malformed service message.now }
 {
     !is_complete(service, message)
+        || !has_needed_card(service, message)
         || has_unverifiable(message)
         || has_bad_track(message)
         || has_two_cards(message)
@@ -83,6 +70,16 @@ fn is_complete(service: Service, message: &Message) -> bool
     ensures { result ≡ list_all (has message.now) (needed service) }
 {
     service.needed().iter().all(|number| has(message, *number))
+}
+
+/// Whether a card is there, where a request needs one.
+fn has_needed_card(service: Service, message: &Message) -> bool
+    ensures { result ≡ has_one_of message.now (needed_card service) }
+{
+    match service {
+        Service::Authorization | Service::Financial => has(message, 2) || has(message, 35),
+        _ => true,
+    }
 }
 
 /// Whether an element is there that the host can't check.

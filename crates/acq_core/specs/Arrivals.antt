@@ -1,0 +1,89 @@
+-- An event as the host sees it: a frame by what it holds. And whose event it is.
+use Rattle.std.specs.Prelude.{ℕ, Bool, true, false, List, Option, Some, None, Result, Ok, Err, if◌then◌else◌}
+use Rattle.iso_codec.specs.declared.decode_fault.DecodeFault.{DecodeFault}
+use Rattle.iso_codec.specs.Message.{IsoMessage, content_of}
+use Rattle.iso_codec.specs.Reading.{reading_of}
+use Rattle.card_no.specs.declared.range.Range.{Range}
+use Rattle.acq_core.specs.declared.service.Service.{Service}
+use Rattle.acq_core.specs.declared.verdict.Verdict.{Verdict}
+use Rattle.acq_core.specs.declared.merchant.Merchant.{Merchant}
+use Rattle.acq_core.specs.declared.terminal.Terminal.{Terminal}
+use Rattle.acq_core.specs.declared.event.Event.{Event}
+use Rattle.acq_core.specs.declared.event.Event.TheVariants as event
+use Rattle.acq_core.specs.Services.{service_of}
+use Rattle.acq_core.specs.FirstCheck.{is_malformed}
+
+-- a message of a served type, and when it came
+pub record RequestMessage : Type 0 where
+  pub moment : ℕ
+  pub service : Service
+  pub message : IsoMessage
+
+-- what came
+pub data Arrival : Type 0 where
+  -- a frame that spells no message
+  Undecoded : (fault : DecodeFault) → Arrival
+  -- a message of a type that isn't served
+  Unserved : (message : IsoMessage) → Arrival
+  -- a request that the first check refuses
+  Malformed : (request : RequestMessage) → Arrival
+  -- a request that the first check passes
+  Requested : (request : RequestMessage) → Arrival
+  -- what an issuer says to a merchant's request
+  Answered : (moment : ℕ) (merchant : List ℕ) (reference : ℕ) (verdict : Verdict) → Arrival
+  CutOver : Arrival
+  RangeAdded : (range : Range) → Arrival
+  RangeDropped : (low high : ℕ) → Arrival
+  Enrolled : (merchant : Merchant) → Arrival
+  TerminalAdded : (terminal : Terminal) → Arrival
+
+abbrev pub checked : RequestMessage → Arrival
+checked r = if is_malformed r.service r.message then Malformed r else Requested r
+
+abbrev pub arrival_of_message : ℕ → IsoMessage → Option Service → Arrival
+arrival_of_message moment m None = Unserved m
+arrival_of_message moment m (Some service) = checked (record { moment = moment; service = service; message = m })
+
+abbrev pub arrival_of_reading : ℕ → Result IsoMessage DecodeFault → Arrival
+arrival_of_reading moment (Err fault) = Undecoded fault
+arrival_of_reading moment (Ok m) = arrival_of_message moment m (service_of m.kind)
+
+-- an event as the host sees it
+abbrev pub arrival_of : Event → Arrival
+arrival_of (event.Frame moment text) = arrival_of_reading moment (reading_of text)
+arrival_of (event.Answer moment merchant reference verdict) = Answered moment merchant reference verdict
+arrival_of (event.Cutover moment) = CutOver
+arrival_of (event.AddRange range) = RangeAdded range
+arrival_of (event.DropRange low high) = RangeDropped low high
+arrival_of (event.Enrol merchant currency first) = Enrolled (record { id = merchant; currency = currency; first_reference = first })
+arrival_of (event.AddTerminal merchant terminal) = TerminalAdded (record { merchant = merchant; id = terminal })
+
+-- the merchant that a message names in element 42
+abbrev pub merchant_in : IsoMessage → Option (List ℕ)
+merchant_in m = content_of m.elements 42
+
+-- the merchant that an arrival names, if it names one
+abbrev pub merchant_named : Arrival → Option (List ℕ)
+merchant_named (Undecoded fault) = None
+merchant_named (Unserved m) = merchant_in m
+merchant_named (Malformed r) = merchant_in r.message
+merchant_named (Requested r) = merchant_in r.message
+merchant_named (Answered moment merchant reference verdict) = Some merchant
+merchant_named CutOver = None
+merchant_named (RangeAdded range) = None
+merchant_named (RangeDropped low high) = None
+merchant_named (Enrolled merchant) = Some merchant.id
+merchant_named (TerminalAdded terminal) = Some terminal.merchant
+
+-- cutovers and changes of ranges belong to all
+abbrev pub is_shared : Arrival → Bool
+is_shared (Undecoded fault) = false
+is_shared (Unserved m) = false
+is_shared (Malformed r) = false
+is_shared (Requested r) = false
+is_shared (Answered moment merchant reference verdict) = false
+is_shared CutOver = true
+is_shared (RangeAdded range) = true
+is_shared (RangeDropped low high) = true
+is_shared (Enrolled merchant) = false
+is_shared (TerminalAdded terminal) = false

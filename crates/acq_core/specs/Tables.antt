@@ -1,0 +1,230 @@
+-- The tables, what their rows say of a merchant, what a change makes of them, and whole runs over them.
+use Rattle.std.specs.Prelude.{ℕ, ◌+◌, ◌==◌, Bool, true, false, not, ◌&&◌, List, [], ◌∷◌, ◌++◌, map, filter, find, Option, Some, None, option_map, is_some, if◌then◌else◌}
+use Rattle.std.specs.List.{list_any}
+use Rattle.std.specs.Str.{bytes_eq}
+use Rattle.card_no.specs.declared.range.Range.{Range}
+use Rattle.card_no.specs.Ranges.{range_of_prefix, overlapped_by, with_range, without_range}
+use Rattle.day_totals.specs.Totals.{DayTotals, totals_of}
+use Rattle.day_totals.specs.declared.leg.Leg.{Leg}
+use Rattle.acq_core.specs.declared.service.Service.{Service}
+use Rattle.acq_core.specs.declared.service.Service.TheVariants.{Authorization, Financial, Completion}
+use Rattle.acq_core.specs.declared.request_key.RequestKey.{RequestKey}
+use Rattle.acq_core.specs.declared.merchant.Merchant.{Merchant}
+use Rattle.acq_core.specs.declared.terminal.Terminal.{Terminal}
+use Rattle.acq_core.specs.declared.request.Request.{Request}
+use Rattle.acq_core.specs.declared.status.Status.{Status}
+use Rattle.acq_core.specs.declared.status.Status.TheVariants.{Refused, Pending, Declined, Approved, Completed, Reversed, ReversedPending, Reconciled}
+use Rattle.acq_core.specs.declared.posting.Posting.{Posting}
+use Rattle.acq_core.specs.declared.reconciliation.Reconciliation.{Reconciliation}
+use Rattle.acq_core.specs.declared.change.Change.{Change}
+use Rattle.acq_core.specs.declared.change.Change.TheVariants as change
+use Rattle.acq_core.specs.declared.event.Event.{Event}
+use Rattle.acq_core.specs.declared.output.Output.{Output}
+use Rattle.acq_core.specs.Elements.{same_key, or_empty}
+use Rattle.acq_core.specs.Arrivals.{Arrival, arrival_of, merchant_named}
+use Rattle.acq_core.specs.Known.{Standing, Kept, Awaited, Withdrawn, Prior, Notions, Known, wanted_by, known_for}
+use Rattle.acq_core.specs.Outcome.{outcome, output_of}
+use Rattle.acq_core.specs.Changes.{change_for}
+
+-- The tables: the limit and the business day, and six lists in the order in which rows came; ranges are in order of low.
+pub record Tables : Type 0 where
+  pub limit : ℕ
+  pub day : ℕ
+  pub merchants : List Merchant
+  pub terminals : List Terminal
+  pub ranges : List Range
+  pub requests : List Request
+  -- each with its number of the merchant and day
+  pub postings : List (ℕ × Posting)
+  pub reconciliations : List (ℕ × Reconciliation)
+
+-- the tables of a new book
+abbrev pub new_tables : ℕ → ℕ → Tables
+new_tables limit day =
+    record { limit = limit; day = day; merchants = []; terminals = []; ranges = []; requests = []; postings = []; reconciliations = [] }
+
+-- how many pass. (std's count is a fold from the left, which doesn't compute at a ∷)
+abbrev pub count : {X : Type 0} → (X → Bool) → List X → ℕ
+count p [] = 0
+count p (x ∷ xs) = if p x then 1 + count p xs else count p xs
+
+-- ---- what a row says of its request
+
+-- what a repeat of it gets
+abbrev pub standing_of : Status → List ℕ → Standing
+standing_of Pending reply = Awaited reply
+standing_of ReversedPending reply = Withdrawn
+standing_of Refused reply = Kept reply
+standing_of Declined reply = Kept reply
+standing_of Approved reply = Kept reply
+standing_of Completed reply = Kept reply
+standing_of Reversed reply = Kept reply
+standing_of Reconciled reply = Kept reply
+
+-- it can't be reversed, or not any more
+abbrev pub is_final : Status → Bool
+is_final Pending = false
+is_final Approved = false
+is_final Refused = true
+is_final Declined = true
+is_final Completed = true
+is_final Reversed = true
+is_final ReversedPending = true
+is_final Reconciled = true
+
+abbrev pub is_approved : Status → Bool
+is_approved Approved = true
+is_approved status = false
+
+-- its own reference, or that of the hold it completes
+abbrev pub reference_by : Service → Request → Option ℕ
+reference_by Completion row = row.follows
+reference_by service row = row.reference
+
+-- the leg of a sale, a return or a completion
+abbrev pub leg_by : Service → Request → Option Leg
+leg_by Financial row = option_map (λ reference. row.leg) row.reference
+leg_by Completion row = option_map (λ reference. row.leg) row.follows
+leg_by service row = None
+
+-- the end of a hold that is approved
+abbrev pub open_by : Service → Request → Option ℕ
+open_by Authorization row = if is_approved row.status then row.until else None
+open_by service row = None
+
+-- what a row says of its request
+abbrev pub prior_of : Request → Prior
+prior_of row =
+    record {
+      key = row.key;
+      essence = row.essence;
+      day = row.day;
+      amount = row.amount;
+      leg = leg_by row.key.service row;
+      card = row.card;
+      acquirer = row.acquirer;
+      reference = reference_by row.key.service row;
+      hold_days = row.hold_days;
+      standing = standing_of row.status row.reply;
+      final = is_final row.status;
+      open_until = open_by row.key.service row;
+    }
+
+-- ---- what the tables say of a merchant
+
+-- the merchant's requests
+abbrev pub requests_of : List ℕ → List Request → List Request
+requests_of m rows = filter (λ row. bytes_eq row.key.merchant m) rows
+
+-- the merchant's postings
+abbrev pub postings_of : List ℕ → List (ℕ × Posting) → List (ℕ × Posting)
+postings_of m rows = filter (λ row. bytes_eq row.1.merchant m) rows
+
+-- the one with this key
+abbrev pub recorded_in : List Request → RequestKey → Option Prior
+recorded_in rows key = option_map prior_of (find (λ row. same_key row.key key) rows)
+
+abbrev pub is_number : ℕ → Option ℕ → Bool
+is_number n None = false
+is_number n (Some m) = m == n
+
+-- the one with this reference
+abbrev pub referred_in : List Request → ℕ → Option Prior
+referred_in rows reference = option_map prior_of (find (λ row. is_number reference row.reference) rows)
+
+-- how many have a reference
+abbrev pub admitted_in : List Request → ℕ
+admitted_in rows = count (λ row. is_some row.reference) rows
+
+-- how many of a day count against its limit
+abbrev pub used_in : List Request → ℕ → ℕ
+used_in rows day = count (λ row. row.admitted && (row.day == day)) rows
+
+-- the totals of these postings on a day
+abbrev pub totals_on : List (ℕ × Posting) → ℕ → DayTotals
+totals_on rows day = totals_of (map (λ row. (row.1.leg, row.1.amount)) (filter (λ row. row.1.day == day) rows))
+
+-- a range with these ends
+abbrev pub between : ℕ → ℕ → Range
+between low high = record { low = low; high = high; issuer = []; hold_days = 0 }
+
+-- what the tables say of a merchant, and of what all share
+abbrev pub notions_in : Tables → List ℕ → Notions
+notions_in t m =
+    record {
+      today = t.day;
+      limit = t.limit;
+      merchant = find (λ row. bytes_eq row.id m) t.merchants;
+      has_terminal = λ id. list_any (λ row. bytes_eq row.merchant m && bytes_eq row.id id) t.terminals;
+      recorded = recorded_in (requests_of m t.requests);
+      referred = referred_in (requests_of m t.requests);
+      admitted = admitted_in (requests_of m t.requests);
+      used = used_in (requests_of m t.requests);
+      totals = totals_on (postings_of m t.postings);
+      range = range_of_prefix t.ranges;
+      overlapped = λ low high. overlapped_by (between low high) t.ranges;
+    }
+
+-- what the tables let an event know
+abbrev pub known_in : Tables → Arrival → Known
+known_in t a = known_for (wanted_by t.day a) (notions_in t (or_empty (merchant_named a)))
+
+-- ---- what a change makes of the tables
+
+-- a posting gets the next number of its merchant and day
+abbrev pub with_posting : List (ℕ × Posting) → Option Posting → List (ℕ × Posting)
+with_posting rows None = rows
+with_posting rows (Some p) = rows ++ (count (λ row. bytes_eq row.1.merchant p.merchant && (row.1.day == p.day)) rows + 1, p) ∷ []
+
+-- so does a reconciliation
+abbrev pub with_reconciliation : List (ℕ × Reconciliation) → Reconciliation → List (ℕ × Reconciliation)
+with_reconciliation rows p = rows ++ (count (λ row. bytes_eq row.1.merchant p.merchant && (row.1.day == p.day)) rows + 1, p) ∷ []
+
+-- the requests, with the one that has a key changed so
+abbrev pub with_changed : RequestKey → (Request → Request) → List Request → List Request
+with_changed key changed rows = map (λ row. if same_key row.key key then changed row else row) rows
+
+-- the tables after a change
+abbrev pub after : Tables → Change → Tables
+after t (change.AddMerchant merchant) = record t { merchants = t.merchants ++ merchant ∷ [] }
+after t (change.AddTerminal terminal) = record t { terminals = t.terminals ++ terminal ∷ [] }
+after t (change.AddRange range) = record t { ranges = with_range t.ranges range }
+after t (change.DropRange low high) = record t { ranges = without_range t.ranges low high }
+after t (change.SetDay day) = record t { day = day }
+after t (change.AddRequest row) = record t { requests = t.requests ++ row ∷ [] }
+after t (change.Answered key status reply until posting) =
+    record t {
+      requests = with_changed key (λ row. record row { status = status; reply = reply; until = until }) t.requests;
+      postings = with_posting t.postings posting;
+    }
+after t (change.Follow row original status posting) =
+    record t {
+      requests = with_changed original (λ old. record old { status = status }) t.requests ++ row ∷ [];
+      postings = with_posting t.postings posting;
+    }
+after t (change.Reconciled row reconciliation) =
+    record t { requests = t.requests ++ row ∷ []; reconciliations = with_reconciliation t.reconciliations reconciliation }
+
+abbrev pub after_any : Tables → Option Change → Tables
+after_any t None = t
+after_any t (Some change) = after t change
+
+-- ---- steps and runs
+
+-- what the host says to what came
+abbrev pub step_output : Tables → Arrival → Output
+step_output t a = output_of (merchant_named a) (outcome (known_in t a) a)
+
+-- the tables after what came
+abbrev pub step_tables : Tables → Arrival → Tables
+step_tables t a = after_any t (change_for (known_in t a) a)
+
+-- what the host says to events, one after the other
+abbrev pub outputs : Tables → List Event → List Output
+outputs t [] = []
+outputs t (e ∷ es) = step_output t (arrival_of e) ∷ outputs (step_tables t (arrival_of e)) es
+
+-- the tables after events
+abbrev pub tables_after : Tables → List Event → Tables
+tables_after t [] = t
+tables_after t (e ∷ es) = tables_after (step_tables t (arrival_of e)) es

@@ -1,0 +1,51 @@
+//! What an event changes.
+
+use crate::merchant::Merchant;
+use crate::message_text::MessageText;
+use crate::posting::Posting;
+use crate::reconciliation::Reconciliation;
+use crate::request::Request;
+use crate::request_key::RequestKey;
+use crate::status::Status;
+use crate::terminal::Terminal;
+use card_no::Range;
+use day_totals::Day;
+
+/// A change of the tables. It is made whole or not at all.
+#[derive(Debug, Drop)]
+pub enum Change {
+    /// A merchant is enrolled.
+    AddMerchant(Merchant),
+    /// A terminal is added.
+    AddTerminal(Terminal),
+    /// A range is added, in its place by `low`.
+    AddRange(Range),
+    /// The range with these ends is dropped.
+    DropRange { low: u32, high: u32 },
+    /// Another business day begins.
+    SetDay(Day),
+    /// A request is recorded.
+    AddRequest(Request),
+    /// The pending request with this key was answered.
+    Answered {
+        key: RequestKey,
+        status: Status,
+        reply: MessageText,
+        /// The last second of a hold that opens.
+        until: Option<u64>,
+        posting: Option<Posting>,
+    },
+    /// A request is recorded that completes or reverses the earlier one with this key, which gets
+    /// this status.
+    Follow {
+        request: Request,
+        original: RequestKey,
+        status: Status,
+        posting: Option<Posting>,
+    },
+    /// A request is recorded that reconciles a day.
+    Reconciled {
+        request: Request,
+        reconciliation: Reconciliation,
+    },
+}

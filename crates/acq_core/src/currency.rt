@@ -1,0 +1,52 @@
+//! Currencies.
+
+ghost use Rattle.std.specs.Prelude.{◌≡◌, true};
+ghost use Rattle.acq_core.specs.Names.{is_currency, currency_of};
+
+use crate::text::all_alphanumeric;
+use std::marker::Model;
+
+/// A merchant's one currency, as element 49 has it: three bytes of class an, such as `978`.
+/// Contracts see it as the list of these bytes. Source: ISO 8583:1987, currency code, transaction.
+#[derive(Clone, Copy, Debug, PartialEq, Eq)]
+pub struct Currency {
+    bytes: [u8; 3],
+}
+
+impl Model for Currency {
+    ghost use Rattle.std.specs.Prelude.{ℕ, List, ◌≡◌, true};
+    ghost use Rattle.acq_core.specs.Names.{is_currency};
+
+    ghost Value = { List ℕ };
+
+    ghost view = { λ c. c.bytes };
+
+    ghost invariant = { λ c. is_currency c.bytes ≡ true };
+
+    ghost inverse = { λ b. record { bytes = b } };
+}
+
+impl Currency {
+    /// The currency of these bytes, or `None` where they aren't three of class an. It takes no
+    /// memory.
+    pub fn read(text: &[u8]) -> Option<Currency>
+        ensures { result ≡ currency_of text.now }
+    {
+        let Ok(bytes) = <[u8; 3]>::try_from(text) else {
+            return None;
+        };
+        if all_alphanumeric(&bytes) {
+            Some(Currency { bytes })
+        } else {
+            None
+        }
+    }
+
+    /// The three bytes.
+    pub fn bytes(&self) -> [u8; 3]
+        ensures value { result ≡ self.now }
+        ensures alphanumeric { is_currency self.now ≡ true }
+    {
+        self.bytes
+    }
+}

@@ -1,0 +1,47 @@
+//! First references.
+
+ghost use Rattle.std.specs.Prelude.{◌≡◌, true};
+ghost use Rattle.acq_core.specs.Numbers.{is_first_reference, first_reference_of};
+
+use std::marker::Model;
+
+/// The reference that a merchant's first admitted request gets, from 1 to 900,000,000,000, so that
+/// twelve digits hold all that follow (own profile). Contracts see it as a number.
+#[derive(Clone, Copy, Debug, PartialEq, Eq)]
+pub struct FirstReference {
+    number: u64,
+}
+
+impl Model for FirstReference {
+    ghost use Rattle.std.specs.Prelude.{ℕ, ◌≡◌, true};
+    ghost use Rattle.acq_core.specs.Numbers.{is_first_reference};
+
+    ghost Value = { ℕ };
+
+    ghost view = { λ f. f.number };
+
+    ghost invariant = { λ f. is_first_reference f.number ≡ true };
+
+    ghost inverse = { λ n. record { number = n } };
+}
+
+impl FirstReference {
+    /// The first reference with that number, or `None` outside the range. It takes no memory.
+    pub fn from_number(number: u64) -> Option<FirstReference>
+        ensures { result ≡ first_reference_of number }
+    {
+        if (1..=900_000_000_000).contains(&number) {
+            Some(FirstReference { number })
+        } else {
+            None
+        }
+    }
+
+    /// The number.
+    pub fn number(&self) -> u64
+        ensures value { result ≡ self.now }
+        ensures range { is_first_reference self.now ≡ true }
+    {
+        self.number
+    }
+}

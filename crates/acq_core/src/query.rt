@@ -1,0 +1,22 @@
+//! What issuers are asked.
+
+use crate::merchant_id::MerchantId;
+use crate::service::Service;
+use card_no::{CardNumber, IssuerId};
+use day_totals::Leg;
+
+/// A request as its card's issuer is asked about it. The issuer answers by merchant and reference.
+#[derive(Debug, Drop)]
+pub struct Query {
+    pub merchant: MerchantId,
+    /// The merchant's reference for the request.
+    pub reference: u64,
+    /// An authorization, or a financial request.
+    pub service: Service,
+    /// Credit for a return, else debit.
+    pub leg: Leg,
+    pub card: CardNumber,
+    /// In minor units.
+    pub amount: u64,
+    pub issuer: IssuerId,
+}

@@ -1,0 +1,53 @@
+//! Names of terminals.
+
+ghost use Rattle.std.specs.Prelude.{◌≡◌, true};
+ghost use Rattle.acq_core.specs.Names.{is_terminal, terminal_of};
+
+use crate::text::all_printable;
+use std::marker::Model;
+
+/// A terminal's name, as element 41 has it: eight bytes from 0x20 to 0x7E. The same name at two
+/// merchants is two terminals. Contracts see it as the list of these bytes. Source: ISO 8583:1987,
+/// card acceptor terminal identification.
+#[derive(Clone, Copy, Debug, PartialEq, Eq)]
+pub struct TerminalId {
+    bytes: [u8; 8],
+}
+
+impl Model for TerminalId {
+    ghost use Rattle.std.specs.Prelude.{ℕ, List, ◌≡◌, true};
+    ghost use Rattle.acq_core.specs.Names.{is_terminal};
+
+    ghost Value = { List ℕ };
+
+    ghost view = { λ t. t.bytes };
+
+    ghost invariant = { λ t. is_terminal t.bytes ≡ true };
+
+    ghost inverse = { λ b. record { bytes = b } };
+}
+
+impl TerminalId {
+    /// The terminal that these bytes name, or `None` where they aren't eight printable ones. It
+    /// takes no memory.
+    pub fn read(text: &[u8]) -> Option<TerminalId>
+        ensures { result ≡ terminal_of text.now }
+    {
+        let Ok(bytes) = <[u8; 8]>::try_from(text) else {
+            return None;
+        };
+        if all_printable(&bytes) {
+            Some(TerminalId { bytes })
+        } else {
+            None
+        }
+    }
+
+    /// The eight bytes.
+    pub fn bytes(&self) -> [u8; 8]
+        ensures value { result ≡ self.now }
+        ensures printable { is_terminal self.now ≡ true }
+    {
+        self.bytes
+    }
+}

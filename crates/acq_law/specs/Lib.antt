@@ -1,0 +1,4 @@
+pub mod Entries
+pub mod History
+pub mod Solo
+pub mod Scripts

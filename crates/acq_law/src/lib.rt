@@ -1,0 +1,4 @@
+//! The history of each party, and the laws over the definitions of `acq_core`.
+#![tactic(auto)]
+
+pub mod examples;
