@@ -1,4 +1,5 @@
 pub mod Entries
 pub mod History
 pub mod Solo
+pub mod Statements
 pub mod Scripts
