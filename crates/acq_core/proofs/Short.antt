@@ -1,5 +1,5 @@
 -- A reply fits a frame: it has at most 127 elements of at most 21 bytes.
-use Rattle.std.proofs.Common.{◌≡◌, ℕ, ◌+◌, ◌*◌, ◌<◌, ◌≤◌, Bool, true, false, ◌&&◌, eqb, leb, List, [], ◌∷◌, ◌++◌, length, Option, Some, None, Result, Ok, Err, refl, sym, ap, subst, ◌∙◌, arith, inl, inr, length-append}
+use Rattle.std.proofs.Common.{◌≡◌, ℕ, ◌+◌, ◌*◌, ◌≤◌, Bool, true, false, eqb, leb, List, [], ◌∷◌, ◌++◌, length, Option, Some, None, Result, Ok, Err, refl, ap, subst, ◌∙◌, arith, inl, inr, length-append}
 use Rattle.std.specs.Prelude.{MatchBool}
 use Rattle.std.specs.List.{list_all, filter}
 use Rattle.std.proofs.lemmas.Bool.{and_parts, and_from, leb-true, le-leb, eqb-true, cases_Bool, or_cases}
@@ -9,7 +9,7 @@ use Rattle.iso_codec.specs.declared.rule.Rule.{Rule}
 use Rattle.iso_codec.specs.declared.decode_fault.DecodeFault.{DecodeFault}
 use Rattle.iso_codec.specs.Content.{has_length, has_class, allows, digits_of, spelled_by}
 use Rattle.iso_codec.specs.Table.{rule_of}
-use Rattle.iso_codec.specs.Message.{IsoMessage, IsMessage, IsKind, IsBitmap, AreBitmaps, numbers, Ascends, is_element, spelled, body, with_content}
+use Rattle.iso_codec.specs.Message.{IsoMessage, IsMessage, IsKind, IsBitmap, numbers, Ascends, is_element, spelled, body, with_content}
 use Rattle.iso_codec.specs.Reading.{reading_of, spelling}
 use Rattle.iso_codec.specs.Setting.{set_fault}
 use Rattle.iso_codec.proofs.Sound.{rule_sound}
@@ -20,7 +20,7 @@ use Rattle.iso_codec.proofs.Spelling.{spelling_writes}
 use Rattle.acq_core.specs.declared.service.Service.{Service}
 use Rattle.acq_core.specs.declared.service.Service.TheVariants.{Authorization, Financial, Completion, Reversal, ReversalAdvice, Reconciliation, NetworkManagement}
 use Rattle.acq_core.specs.declared.response_code.ResponseCode.{ResponseCode}
-use Rattle.acq_core.specs.declared.output.Output.TheVariants.{Reply, Undecodable, UnservedType}
+use Rattle.acq_core.specs.declared.output.Output.TheVariants.{Reply}
 use Rattle.acq_core.specs.Services.{service_of, reply_kind, echoed}
 use Rattle.acq_core.specs.Responses.{code_text}
 use Rattle.acq_core.specs.Elements.{is_among}

@@ -37,13 +37,16 @@ pub data Arrival : Type 0 where
   Enrolled : (merchant : Merchant) → Arrival
   TerminalAdded : (terminal : Terminal) → Arrival
 
+-- a request, by the first check
 abbrev pub checked : RequestMessage → Arrival
 checked r = if is_malformed r.service r.message then Malformed r else Requested r
 
+-- a message, by the service of its type
 abbrev pub arrival_of_message : ℕ → IsoMessage → Option Service → Arrival
 arrival_of_message moment m None = Unserved m
 arrival_of_message moment m (Some service) = checked (record { moment = moment; service = service; message = m })
 
+-- a frame, by what it reads as
 abbrev pub arrival_of_reading : ℕ → Result IsoMessage DecodeFault → Arrival
 arrival_of_reading moment (Err fault) = Undecoded fault
 arrival_of_reading moment (Ok m) = arrival_of_message moment m (service_of m.kind)

@@ -1,11 +1,12 @@
 -- The card of a message (ISO 8583:1987, primary account number, date, expiration, and track 2 data; which of them counts: own profile).
-use Rattle.std.specs.Prelude.{ℕ, nat_le, Bool, true, false, not, ◌&&◌, List, length, take, Option, Some, None, is_some, is_none, option_map, if◌then◌else◌}
+use Rattle.std.specs.Prelude.{ℕ, nat_le, Bool, false, not, ◌&&◌, List, length, take, Option, Some, None, is_some, is_none, option_map, if◌then◌else◌}
 use Rattle.std.specs.List.{list_all}
 use Rattle.std.specs.Str.{bytes_eq}
 use Rattle.card_no.specs.Track2.{track2_of}
 use Rattle.iso_codec.specs.Content.{is_digit}
 use Rattle.iso_codec.specs.Message.{IsoMessage, content_of}
 
+-- the card number in track 2 and what stands after it, where there is a track with one
 abbrev pub track_in : Option (List ℕ) → Option (List ℕ × List ℕ)
 track_in None = None
 track_in (Some content) = track2_of content
@@ -14,6 +15,7 @@ track_in (Some content) = track2_of content
 abbrev pub track_of : IsoMessage → Option (List ℕ × List ℕ)
 track_of m = track_in (content_of m.elements 35)
 
+-- the first of two texts that is there
 abbrev pub first_of : Option (List ℕ) → Option (List ℕ) → Option (List ℕ)
 first_of (Some text) other = Some text
 first_of None other = other
@@ -26,6 +28,7 @@ card_of m = first_of (content_of m.elements 2) (option_map (λ track. track.0) (
 abbrev pub expiry_at : List ℕ → Option (List ℕ)
 expiry_at after = if nat_le 4 (length after) && list_all is_digit (take 4 after) then Some (take 4 after) else None
 
+-- the expiry behind a card number in track 2
 abbrev pub expiry_in : Option (List ℕ × List ℕ) → Option (List ℕ)
 expiry_in None = None
 expiry_in (Some track) = expiry_at track.1
@@ -38,6 +41,7 @@ expiry_of m = first_of (content_of m.elements 14) (expiry_in (track_of m))
 abbrev pub has_bad_track : IsoMessage → Bool
 has_bad_track m = is_some (content_of m.elements 35) && is_none (track_of m)
 
+-- a card number is not that of track 2
 abbrev pub differ : Option (List ℕ) → Option (List ℕ × List ℕ) → Bool
 differ None track = false
 differ (Some number) None = false

@@ -1,5 +1,5 @@
 -- What an event changes: the rows that it records, and what becomes of earlier ones.
-use Rattle.std.specs.Prelude.{ℕ, ◌+◌, ◌*◌, Bool, true, false, List, [], Option, Some, None, option_map, if◌then◌else◌}
+use Rattle.std.specs.Prelude.{ℕ, ◌+◌, ◌*◌, true, false, [], Option, Some, None, option_map}
 use Rattle.iso_codec.specs.Message.{content_of}
 use Rattle.card_no.specs.declared.range.Range.{Range}
 use Rattle.day_totals.specs.declared.leg.Leg.{Leg}
@@ -23,11 +23,12 @@ use Rattle.acq_core.specs.Known.{Known, Prior, Standing}
 use Rattle.acq_core.specs.Known as known
 use Rattle.acq_core.specs.Decision.{Decision, decision}
 use Rattle.acq_core.specs.Decision as decided
-use Rattle.acq_core.specs.Reply.{coded_reply, referring_reply, draft_reply, totals_reply, answered_reply, verdict_code}
+use Rattle.acq_core.specs.Reply.{coded_reply, referring_reply, draft_reply, totals_reply, answered_reply}
 use Rattle.acq_core.specs.Outcome.{sale_leg, is_in_balance, balance_code, draft_of}
 
 -- ---- postings
 
+-- a number, 0 where there is none
 abbrev pub or_zero : Option ℕ → ℕ
 or_zero (Some n) = n
 or_zero None = 0
@@ -44,8 +45,14 @@ abbrev pub approval_posting : Prior → Option Leg → Option Posting
 approval_posting p None = None
 approval_posting p (Some leg) =
     Some (record {
-      merchant = p.key.merchant; day = p.day; leg = leg; amount = p.amount; reference = or_zero p.reference;
-      card = or_empty p.card; terminal = p.key.terminal; trace = p.key.trace;
+      merchant = p.key.merchant;
+      day = p.day;
+      leg = leg;
+      amount = p.amount;
+      reference = or_zero p.reference;
+      card = or_empty p.card;
+      terminal = p.key.terminal;
+      trace = p.key.trace;
     })
 
 -- only an approval posts
@@ -58,8 +65,14 @@ answer_posting verdict.NoAnswer p = None
 abbrev pub posting_today : ℕ → RequestMessage → Leg → ℕ → Prior → Posting
 posting_today today r leg amount p =
     record {
-      merchant = text_at r.message 42; day = today; leg = leg; amount = amount; reference = or_zero p.reference;
-      card = or_empty p.card; terminal = text_at r.message 41; trace = text_at r.message 11;
+      merchant = text_at r.message 42;
+      day = today;
+      leg = leg;
+      amount = amount;
+      reference = or_zero p.reference;
+      card = or_empty p.card;
+      terminal = text_at r.message 41;
+      trace = text_at r.message 11;
     }
 
 -- a completion debits its own amount
@@ -98,6 +111,7 @@ base_row today r =
       reply = [];
     }
 
+-- a request that a check refused
 abbrev pub refused_row : ℕ → RequestMessage → ResponseCode → Request
 refused_row today r code = record (base_row today r) { reply = coded_reply today r code }
 
@@ -106,6 +120,7 @@ abbrev pub admitted_leg : Service → Leg → Leg
 admitted_leg Financial leg = leg
 admitted_leg service leg = Credit
 
+-- a request whose issuer is asked
 abbrev pub admitted_row : ℕ → RequestMessage → Range → ℕ → Request
 admitted_row today r range reference =
     record (base_row today r) {
@@ -117,6 +132,7 @@ admitted_row today r range reference =
       reply = draft_reply today r reference;
     }
 
+-- an accepted completion: the card is the hold's
 abbrev pub completion_row : ℕ → RequestMessage → Prior → Request
 completion_row today r hold =
     record (base_row today r) {
@@ -133,6 +149,7 @@ abbrev pub reversing_leg : Option Leg → Leg
 reversing_leg (Some leg) = reversal_leg leg
 reversing_leg None = Credit
 
+-- an accepted reversal
 abbrev pub reversal_row : ℕ → RequestMessage → Prior → Request
 reversal_row today r p =
     record (base_row today r) {
@@ -143,6 +160,7 @@ reversal_row today r p =
       reply = referring_reply today r p.reference code.Approved;
     }
 
+-- a reconciliation with totals
 abbrev pub reconciliation_row : Known → RequestMessage → ℕ → Request
 reconciliation_row k r day =
     record (base_row k.today r) {
@@ -152,11 +170,13 @@ reconciliation_row k r day =
 
 -- ---- what becomes of earlier requests
 
+-- the status of a request that was answered so
 abbrev pub answered_status : Verdict → Status
 answered_status (verdict.Approved id) = status.Approved
 answered_status (verdict.Declined text) = status.Declined
 answered_status verdict.NoAnswer = status.Declined
 
+-- the status of an original that is reversed
 abbrev pub reversed_status : Standing → Status
 reversed_status (known.Kept reply) = status.Reversed
 reversed_status (known.Awaited draft) = status.ReversedPending

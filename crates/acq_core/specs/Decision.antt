@@ -1,8 +1,7 @@
 -- The order of the checks, once: what is to be done about what came, over what is known (own profile).
-use Rattle.std.specs.Prelude.{ℕ, ◌+◌, ◌*◌, ◌==◌, nat_le, nat_lt, ℤ, pos, negsuc, zero, suc, Bool, true, false, not, ◌&&◌, ◌||◌, List, [], ◌∷◌, ◌++◌, take, drop, replicate, length, ◌-◌, Option, Some, None, if◌then◌else◌, codes}
-use Rattle.std.specs.List.{list_all, list_any}
+use Rattle.std.specs.Prelude.{ℕ, ◌+◌, ◌*◌, ◌==◌, nat_le, nat_lt, Bool, true, false, not, ◌&&◌, ◌||◌, List, [], ◌∷◌, ◌++◌, take, drop, replicate, length, ◌-◌, Option, Some, None, if◌then◌else◌, codes}
+use Rattle.std.specs.List.{list_any}
 use Rattle.std.specs.Str.{bytes_eq}
-use Rattle.iso_codec.specs.Content.{is_digit}
 use Rattle.iso_codec.specs.Message.{IsoMessage, content_of}
 use Rattle.card_no.specs.declared.range.Range.{Range}
 use Rattle.card_no.specs.CardNumbers.{is_valid_card}
@@ -68,6 +67,7 @@ abbrev pub is_other_transaction : Merchant → RequestMessage → Bool
 is_other_transaction merchant r =
     not (list_any (bytes_eq (transaction_in r.message)) (transactions r.service)) || not (bytes_eq (text_at r.message 49) merchant.currency)
 
+-- months counted through the years
 abbrev pub month_number : ℕ → ℕ → ℕ
 month_number year month = year * 12 + month
 
@@ -86,6 +86,7 @@ abbrev pub is_open_until : ℕ → Option ℕ → Bool
 is_open_until moment None = false
 is_open_until moment (Some until) = nat_le moment until
 
+-- the hold, if it is open at a moment
 abbrev pub open_hold : ℕ → Option Prior → Option Prior
 open_hold moment None = None
 open_hold moment (Some p) = if is_open_until moment p.open_until then Some p else None
@@ -96,6 +97,7 @@ fits_acquirer text None = true
 fits_acquirer text (Some acquirer) =
     bytes_eq text (replicate 11 48) || bytes_eq text (replicate (11 - length acquirer) 48 ++ acquirer)
 
+-- the original, if its acquirer fits
 abbrev pub original_of : IsoMessage → Option Prior → Option Prior
 original_of m None = None
 original_of m (Some p) = if fits_acquirer (original_acquirer m) p.acquirer then Some p else None
@@ -108,14 +110,15 @@ admission_in k merchant r None = Refuses r code.NoSuchIssuer
 admission_in k merchant r (Some range) =
     first_of r ((is_full k, code.LimitExceeded) ∷ []) (Admits r range (merchant.first_reference + k.admitted))
 
+-- a sale, a return or an authorization
 abbrev pub admission : Known → Merchant → RequestMessage → Decision
 admission k merchant r =
     first_of r (
-      (is_other_transaction merchant r, code.InvalidTransaction)
-      ∷ (not (is_amount (amount_in r.message)), code.InvalidAmount)
-      ∷ (not (is_valid_card (or_empty (card_of r.message))), code.InvalidCard)
-      ∷ (is_expired k.today (expiry_of r.message), code.ExpiredCard)
-      ∷ []
+    (is_other_transaction merchant r, code.InvalidTransaction)
+    ∷ (not (is_amount (amount_in r.message)), code.InvalidAmount)
+    ∷ (not (is_valid_card (or_empty (card_of r.message))), code.InvalidCard)
+    ∷ (is_expired k.today (expiry_of r.message), code.ExpiredCard)
+    ∷ []
     ) (admission_in k merchant r k.range)
 
 -- a completion of this hold
@@ -124,12 +127,13 @@ completion_of k r None = Refuses r code.RecordNotFound
 completion_of k r (Some hold) =
     first_of r ((nat_lt hold.amount (amount_in r.message), code.InvalidAmount) ∷ (is_full k, code.LimitExceeded) ∷ []) (Completes r hold)
 
+-- a completion
 abbrev pub completion : Known → Merchant → RequestMessage → Decision
 completion k merchant r =
     first_of r (
-      (is_other_transaction merchant r, code.InvalidTransaction)
-      ∷ (not (is_amount (amount_in r.message)), code.InvalidAmount)
-      ∷ []
+    (is_other_transaction merchant r, code.InvalidTransaction)
+    ∷ (not (is_amount (amount_in r.message)), code.InvalidAmount)
+    ∷ []
     ) (completion_of k r (open_hold r.moment k.referred))
 
 -- a reversal of this original
@@ -137,10 +141,10 @@ abbrev pub reversal_of : Known → RequestMessage → Option Prior → Decision
 reversal_of k r None = Refuses r code.RecordNotFound
 reversal_of k r (Some p) =
     first_of r (
-      (p.final, code.NoActionTaken)
-      ∷ (not (amount_in r.message == p.amount), code.InvalidAmount)
-      ∷ (is_full k, code.LimitExceeded)
-      ∷ []
+    (p.final, code.NoActionTaken)
+    ∷ (not (amount_in r.message == p.amount), code.InvalidAmount)
+    ∷ (is_full k, code.LimitExceeded)
+    ∷ []
     ) (Reverses r p)
 
 -- a reconciliation of this day
@@ -152,10 +156,12 @@ reconciliation_of r (Some day) = Reconciles r day
 abbrev pub network_codes : List (List ℕ)
 network_codes = codes "001" ∷ codes "002" ∷ codes "301" ∷ []
 
+-- element 70 has one of these
 abbrev pub is_network_code : Option (List ℕ) → Bool
 is_network_code None = false
 is_network_code (Some text) = list_any (bytes_eq text) network_codes
 
+-- the code that network management gets
 abbrev pub network_response : IsoMessage → ResponseCode
 network_response m = if is_network_code (content_of m.elements 70) then code.Approved else code.InvalidTransaction
 
@@ -202,26 +208,32 @@ settling moment verdict p (known.Kept reply) = Tells output.AlreadyAnswered
 settling moment verdict p (known.Awaited draft) = Settles moment verdict p
 settling moment verdict p known.Withdrawn = Tells output.Late
 
+-- an answer, by the request with its reference
 abbrev pub decision_of_prior : ℕ → Verdict → Option Prior → Decision
 decision_of_prior moment verdict None = Tells output.UnknownReference
 decision_of_prior moment verdict (Some p) = settling moment verdict p p.standing
 
+-- an answer, by its merchant
 abbrev pub decision_of_answer : Known → ℕ → Verdict → Option Merchant → Decision
 decision_of_answer k moment verdict None = Tells output.NoSuchMerchant
 decision_of_answer k moment verdict (Some merchant) = decision_of_prior moment verdict k.referred
 
+-- a valid range that is added, by the one that it overlaps
 abbrev pub decision_of_new_range : Range → Option Range → Decision
 decision_of_new_range range None = AddsRange range
 decision_of_new_range range (Some other) = Tells (output.Overlap other)
 
+-- a range that is dropped: what overlaps its ends must be just it
 abbrev pub decision_of_old_range : ℕ → ℕ → Option Range → Decision
 decision_of_old_range low high None = Tells output.NoSuchRange
 decision_of_old_range low high (Some range) = if has_ends low high range then DropsRange low high else Tells output.NoSuchRange
 
+-- a merchant that is enrolled
 abbrev pub decision_of_enrolment : Merchant → Option Merchant → Decision
 decision_of_enrolment merchant None = Enrols merchant
 decision_of_enrolment merchant (Some enrolled) = Tells output.AlreadyEnrolled
 
+-- a terminal that is added
 abbrev pub decision_of_terminal : Terminal → Bool → Option Merchant → Decision
 decision_of_terminal terminal there None = Tells output.NoSuchMerchant
 decision_of_terminal terminal there (Some merchant) = if there then Tells output.Done else AddsTerminal terminal

@@ -1,5 +1,5 @@
 -- What a request says: its elements, its key, and its essence (elements: ISO 8583:1987; key and essence: own profile).
-use Rattle.std.specs.Prelude.{ℕ, ◌==◌, ◌/◌, Bool, true, false, ◌&&◌, List, [], ◌∷◌, ◌++◌, take, drop, filter, Option, Some, None, option_map, is_some, if◌then◌else◌, codes}
+use Rattle.std.specs.Prelude.{ℕ, ◌==◌, Bool, ◌&&◌, List, [], ◌∷◌, ◌++◌, take, drop, filter, Option, Some, None, option_map, is_some, if◌then◌else◌, codes}
 use Rattle.std.specs.List.{list_all, list_any}
 use Rattle.std.specs.Str.{bytes_eq}
 use Rattle.iso_codec.specs.Content.{is_digit}
@@ -48,6 +48,7 @@ abbrev pub key_of : Service → IsoMessage → RequestKey
 key_of service m =
     record { merchant = text_at m 42; terminal = text_at m 41; service = service; trace = text_at m 11; transmission = text_at m 7 }
 
+-- all five parts are the same
 abbrev pub same_key : RequestKey → RequestKey → Bool
 same_key a b =
     bytes_eq a.merchant b.merchant && bytes_eq a.terminal b.terminal && same_service a.service b.service
@@ -83,6 +84,7 @@ original_service digits =
     else if bytes_eq digits (digits_of Completion) then Some Completion
     else None
 
+-- the key that element 90 spells, with a service
 abbrev pub original_key_with : IsoMessage → Service → RequestKey
 original_key_with m service =
     record {

@@ -8,6 +8,7 @@ use Rattle.iso_codec.specs.Content.{is_alphanumeric}
 abbrev pub is_authorization_id : List ℕ → Bool
 is_authorization_id text = length text == 6 && list_all is_alphanumeric text
 
+-- the id that a text is
 abbrev pub authorization_id_of : List ℕ → Option (List ℕ)
 authorization_id_of text = if is_authorization_id text then Some text else None
 
@@ -15,5 +16,6 @@ authorization_id_of text = if is_authorization_id text then Some text else None
 abbrev pub is_decline_code : List ℕ → Bool
 is_decline_code text = length text == 2 && list_all is_alphanumeric text && not (bytes_eq text (codes "00"))
 
+-- the code that a text is
 abbrev pub decline_code_of : List ℕ → Option (List ℕ)
 decline_code_of text = if is_decline_code text then Some text else None

@@ -1,5 +1,5 @@
 -- What has to be known to decide on an event, wherever it is read from.
-use Rattle.std.specs.Prelude.{ℕ, ◌+◌, ◌*◌, nat_le, Bool, true, false, List, [], Option, Some, None, option_map, option_and_then, if◌then◌else◌}
+use Rattle.std.specs.Prelude.{ℕ, Bool, false, List, Option, Some, None, option_and_then, if◌then◌else◌}
 use Rattle.card_no.specs.declared.range.Range.{Range}
 use Rattle.card_no.specs.CardNumbers.{is_valid_card, prefix_of}
 use Rattle.day_totals.specs.Day.{resolved}
@@ -77,6 +77,7 @@ pub record Known : Type 0 where
 
 -- ---- what to look up
 
+-- nothing is looked up
 abbrev pub nothing : Wanted
 nothing =
     record { merchant = None; terminal = None; key = None; original = None; reference = None; prefix = None; bounds = None; totals_day = None }
@@ -94,6 +95,7 @@ reconciled_day today (Some mmdd) = resolved mmdd today
 abbrev pub wanted_by_key : Service → IsoMessage → Wanted
 wanted_by_key service m = record nothing { merchant = Some (text_at m 42); terminal = Some (text_at m 41); key = Some (key_of service m) }
 
+-- what a request of each service needs
 abbrev pub wanted_for : ℕ → Service → IsoMessage → Wanted
 wanted_for today Authorization m = record (wanted_by_key Authorization m) { prefix = prefix_in m }
 wanted_for today Financial m = record (wanted_by_key Financial m) { prefix = prefix_in m }

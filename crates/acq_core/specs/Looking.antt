@@ -1,5 +1,5 @@
 -- What was looked up, as what is known.
-use Rattle.std.specs.Prelude.{Option, option_map}
+use Rattle.std.specs.Prelude.{option_map}
 use Rattle.acq_core.specs.declared.lookup.Looked.{Looked}
 use Rattle.acq_core.specs.Known.{Known}
 use Rattle.acq_core.specs.Tables.{prior_of}

@@ -7,6 +7,7 @@ use Rattle.iso_codec.specs.Content.{is_alphanumeric, is_printable}
 abbrev pub is_merchant : List ℕ → Bool
 is_merchant text = length text == 15 && list_all is_printable text
 
+-- the merchant that a text names
 abbrev pub merchant_of : List ℕ → Option (List ℕ)
 merchant_of text = if is_merchant text then Some text else None
 
@@ -14,6 +15,7 @@ merchant_of text = if is_merchant text then Some text else None
 abbrev pub is_terminal : List ℕ → Bool
 is_terminal text = length text == 8 && list_all is_printable text
 
+-- the terminal that a text names
 abbrev pub terminal_of : List ℕ → Option (List ℕ)
 terminal_of text = if is_terminal text then Some text else None
 
@@ -21,5 +23,6 @@ terminal_of text = if is_terminal text then Some text else None
 abbrev pub is_currency : List ℕ → Bool
 is_currency text = length text == 3 && list_all is_alphanumeric text
 
+-- the currency that a text names
 abbrev pub currency_of : List ℕ → Option (List ℕ)
 currency_of text = if is_currency text then Some text else None

@@ -1,5 +1,5 @@
 -- What the program answers as long as it serves network management alone.
-use Rattle.std.specs.Prelude.{ℕ, List, [], ◌∷◌, Option, Some, None, Result, Ok, Err, if◌then◌else◌}
+use Rattle.std.specs.Prelude.{ℕ, List, Option, Some, Result, Ok, Err, if◌then◌else◌}
 use Rattle.iso_codec.specs.declared.decode_fault.DecodeFault.{DecodeFault}
 use Rattle.iso_codec.specs.Message.{IsoMessage}
 use Rattle.iso_codec.specs.Reading.{reading_of}
@@ -19,10 +19,12 @@ use Rattle.acq_core.specs.Reply.{reply_text, code_element}
 abbrev pub response : IsoMessage → ResponseCode
 response m = if is_malformed NetworkManagement m then FormatError else network_response m
 
+-- a message, by its service: only network management is answered
 abbrev pub output_of_request : IsoMessage → Option Service → Output
 output_of_request m (Some NetworkManagement) = Reply (merchant_in m) (reply_text NetworkManagement m (code_element (response m)))
 output_of_request m service = UnservedType m.kind
 
+-- a frame, by what it reads as
 abbrev pub output_of_reading : Result IsoMessage DecodeFault → Output
 output_of_reading (Err fault) = Undecodable fault
 output_of_reading (Ok m) = output_of_request m (service_of m.kind)

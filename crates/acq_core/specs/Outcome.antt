@@ -54,6 +54,7 @@ query_of r range reference =
       issuer = range.issuer;
     }
 
+-- a number below zero, or zero
 abbrev pub negative : ℕ → ℤ
 negative zero = pos 0
 negative (suc n) = negsuc n
@@ -76,6 +77,7 @@ claimed_in m =
 abbrev pub is_in_balance : Known → RequestMessage → Bool
 is_in_balance k r = agrees_with (claimed_in r.message) k.totals
 
+-- the code of a reconciliation with totals
 abbrev pub balance_code : Bool → ResponseCode
 balance_code true = code.Approved
 balance_code false = code.ReconcileError

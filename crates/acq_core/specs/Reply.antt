@@ -1,5 +1,5 @@
 -- What replies hold, and their bytes (elements: ISO 8583:1987; which of them a reply has: own profile).
-use Rattle.std.specs.Prelude.{ℕ, ℤ, Bool, true, false, List, [], ◌∷◌, ◌++◌, filter, Option, Some, None, Result, Ok, Err, if◌then◌else◌, codes}
+use Rattle.std.specs.Prelude.{ℕ, Bool, List, [], ◌∷◌, ◌++◌, filter, Option, Some, None, Result, Ok, Err, if◌then◌else◌, codes}
 use Rattle.iso_codec.specs.declared.decode_fault.DecodeFault.{DecodeFault}
 use Rattle.iso_codec.specs.Message.{IsoMessage, with_content}
 use Rattle.iso_codec.specs.Reading.{reading_of, spelling}
@@ -14,7 +14,7 @@ use Rattle.acq_core.specs.declared.verdict.Verdict.{Verdict}
 use Rattle.acq_core.specs.declared.verdict.Verdict.TheVariants as verdict
 use Rattle.acq_core.specs.Services.{reply_kind, echoed}
 use Rattle.acq_core.specs.Responses.{code_text}
-use Rattle.acq_core.specs.Elements.{is_among, element_if}
+use Rattle.acq_core.specs.Elements.{is_among}
 use Rattle.acq_core.specs.Arrivals.{RequestMessage}
 
 -- those of a request's elements that its reply echoes

@@ -1,5 +1,5 @@
 -- The requests that are served (types: ISO 8583:1987, message type identifier; what is needed and echoed: own profile).
-use Rattle.std.specs.Prelude.{ℕ, Bool, List, [], ◌∷◌, ◌++◌, Option, Some, None, if◌then◌else◌, codes}
+use Rattle.std.specs.Prelude.{ℕ, Bool, List, [], ◌∷◌, Option, Some, None, if◌then◌else◌, codes}
 use Rattle.std.specs.Str.{bytes_eq}
 use Rattle.acq_core.specs.declared.service.Service.{Service}
 use Rattle.acq_core.specs.declared.service.Service.TheVariants.{Authorization, Financial, Completion, Reversal, ReversalAdvice, Reconciliation, NetworkManagement}
@@ -14,6 +14,7 @@ digits_of ReversalAdvice = codes "042"
 digits_of Reconciliation = codes "050"
 digits_of NetworkManagement = codes "080"
 
+-- the same digits of type
 abbrev pub same_service : Service → Service → Bool
 same_service a b = bytes_eq (digits_of a) (digits_of b)
 
@@ -25,6 +26,7 @@ served =
     ∷ (codes "0420", ReversalAdvice) ∷ (codes "0421", ReversalAdvice) ∷ (codes "0500", Reconciliation) ∷ (codes "0501", Reconciliation)
     ∷ (codes "0800", NetworkManagement) ∷ (codes "0801", NetworkManagement) ∷ []
 
+-- the service of a type in a table
 abbrev pub service_in : List (List ℕ × Service) → List ℕ → Option Service
 service_in [] kind = None
 service_in (row ∷ rows) kind = if bytes_eq kind row.0 then Some row.1 else service_in rows kind

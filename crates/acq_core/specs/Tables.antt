@@ -1,5 +1,5 @@
 -- The tables, what their rows say of a merchant, what a change makes of them, and whole runs over them.
-use Rattle.std.specs.Prelude.{ℕ, ◌+◌, ◌==◌, Bool, true, false, not, ◌&&◌, List, [], ◌∷◌, ◌++◌, map, filter, find, Option, Some, None, option_map, is_some, if◌then◌else◌}
+use Rattle.std.specs.Prelude.{ℕ, ◌+◌, ◌==◌, Bool, true, false, ◌&&◌, List, [], ◌∷◌, ◌++◌, map, filter, find, Option, Some, None, option_map, is_some, if◌then◌else◌}
 use Rattle.std.specs.List.{list_any}
 use Rattle.std.specs.Str.{bytes_eq}
 use Rattle.card_no.specs.declared.range.Range.{Range}
@@ -72,6 +72,7 @@ is_final Reversed = true
 is_final ReversedPending = true
 is_final Reconciled = true
 
+-- approved by its issuer, or accepted
 abbrev pub is_approved : Status → Bool
 is_approved Approved = true
 is_approved status = false
@@ -124,6 +125,7 @@ postings_of m rows = filter (λ row. bytes_eq row.1.merchant m) rows
 abbrev pub recorded_in : List Request → RequestKey → Option Prior
 recorded_in rows key = option_map prior_of (find (λ row. same_key row.key key) rows)
 
+-- a number is there, and is this one
 abbrev pub is_number : ℕ → Option ℕ → Bool
 is_number n None = false
 is_number n (Some m) = m == n
@@ -205,6 +207,7 @@ after t (change.Follow row original status posting) =
 after t (change.Reconciled row reconciliation) =
     record t { requests = t.requests ++ row ∷ []; reconciliations = with_reconciliation t.reconciliations reconciliation }
 
+-- the tables after a change, if there is one
 abbrev pub after_any : Tables → Option Change → Tables
 after_any t None = t
 after_any t (Some change) = after t change

@@ -21,7 +21,10 @@ pub enum Change {
     /// A range is added, in its place by `low`.
     AddRange(Range),
     /// The range with these ends is dropped.
-    DropRange { low: u32, high: u32 },
+    DropRange {
+        low: u32,
+        high: u32,
+    },
     /// Another business day begins.
     SetDay(Day),
     /// A request is recorded.

@@ -35,6 +35,8 @@ mod service;
 mod status;
 mod terminal;
 mod terminal_id;
+#[cfg(test)]
+mod tests;
 mod text;
 mod verdict;
 

@@ -32,7 +32,12 @@ pub fn answer_network(alloc: Global, text: &MessageText) -> Result<Output, Alloc
     let Some(Service::NetworkManagement) = Service::of(message.kind()) else {
         return Ok(Output::UnservedType(message.kind()));
     };
-    let reply = reply_with(alloc, Service::NetworkManagement, &message, response(&message))?;
+    let reply = reply_with(
+        alloc,
+        Service::NetworkManagement,
+        &message,
+        response(&message),
+    )?;
     Ok(Output::Reply(merchant_in(&message), reply))
 }
 

@@ -15,8 +15,7 @@ pub fn all_digits(text: &[u8]) -> bool
 pub fn all_alphanumeric(text: &[u8]) -> bool
     ensures { result ≡ list_all is_alphanumeric text.now }
 {
-    text.iter()
-        .all(|b| matches!(*b, b'0'..=b'9' | b'A'..=b'Z' | b'a'..=b'z' | b' '))
+    text.iter().all(|b| matches!(*b, b'0'..=b'9' | b'A'..=b'Z' | b'a'..=b'z' | b' '))
 }
 
 /// Whether a text is of class ans: bytes from the space to the tilde.

@@ -22,6 +22,7 @@ pub record Entry : Type 0 where
 
 -- ---- outcomes
 
+-- the same of the codes that decide what is recorded and accepted
 abbrev pub is_code : ResponseCode → ResponseCode → Bool
 is_code code.Approved code.Approved = true
 is_code code.FormatError code.FormatError = true
@@ -36,6 +37,7 @@ reply_in (Asked query) = None
 reply_in Performed = None
 reply_in (Told output) = None
 
+-- the issuer was asked
 abbrev pub is_asked : Outcome → Bool
 is_asked (Asked query) = true
 is_asked (Replied code reply) = false
@@ -43,6 +45,7 @@ is_asked (Repeated reply) = false
 is_asked Performed = false
 is_asked (Told output) = false
 
+-- what was asked for was done
 abbrev pub is_performed : Outcome → Bool
 is_performed Performed = true
 is_performed (Asked query) = false
@@ -73,6 +76,7 @@ abbrev pub recordable : RequestMessage → Service → Option RequestMessage
 recordable r NetworkManagement = None
 recordable r service = Some r
 
+-- the request that an arrival is, of those that are recorded
 abbrev pub request_of : Arrival → Option RequestMessage
 request_of (Requested r) = recordable r r.service
 request_of (Undecoded fault) = None
@@ -98,11 +102,13 @@ is_acceptable Reversal = true
 is_acceptable ReversalAdvice = true
 is_acceptable service = false
 
+-- either type of reversal
 abbrev pub is_reversal : Service → Bool
 is_reversal Reversal = true
 is_reversal ReversalAdvice = true
 is_reversal service = false
 
+-- a completion of a hold
 abbrev pub is_completion : Service → Bool
 is_completion Completion = true
 is_completion service = false
@@ -118,10 +124,12 @@ accepts fits (Some r) o = fits r.service && is_approved o
 abbrev pub is_acceptance : Entry → Bool
 is_acceptance e = accepts is_acceptable (request_of e.arrival) e.outcome
 
+-- a number is there, and is this one
 abbrev pub is_number : ℕ → Option ℕ → Bool
 is_number n None = false
 is_number n (Some m) = m == n
 
+-- a key is there, and is this one
 abbrev pub is_key : RequestKey → Option RequestKey → Bool
 is_key key None = false
 is_key key (Some other) = same_key other key
@@ -131,6 +139,7 @@ abbrev pub completes : ℕ → Option RequestMessage → Outcome → Bool
 completes n None o = false
 completes n (Some r) o = is_completion r.service && is_approved o && is_number n (reference_in r.message)
 
+-- an entry that completes the hold with this reference
 abbrev pub is_completing : ℕ → Entry → Bool
 is_completing n e = completes n (request_of e.arrival) e.outcome
 
@@ -139,6 +148,7 @@ abbrev pub reverses : RequestKey → Option RequestMessage → Outcome → Bool
 reverses key None o = false
 reverses key (Some r) o = is_reversal r.service && is_approved o && is_key key (original_key r.message)
 
+-- an entry that reverses the original with this key
 abbrev pub is_reversing : RequestKey → Entry → Bool
 is_reversing key e = reverses key (request_of e.arrival) e.outcome
 
@@ -165,6 +175,7 @@ approval_by moment (verdict.Approved id) = Some moment
 approval_by moment (verdict.Declined text) = None
 approval_by moment verdict.NoAnswer = None
 
+-- the moment of the approval that an arrival is
 abbrev pub approval_in : Arrival → Option ℕ
 approval_in (Answered moment merchant reference v) = approval_by moment v
 approval_in (Undecoded fault) = None

@@ -50,6 +50,7 @@ abbrev pub enrolled : List Entry → Option Merchant
 enrolled [] = None
 enrolled (e ∷ h) = option_or (enrolled h) (if is_performed e.outcome then enrolment_in e.arrival else None)
 
+-- a text is there, and is this one
 abbrev pub is_text : List ℕ → Option (List ℕ) → Bool
 is_text id None = false
 is_text id (Some text) = bytes_eq text id
@@ -67,6 +68,7 @@ pub record Found : Type 0 where
   pub before : List Entry
   pub later : List Entry
 
+-- the newest entry: nothing came later
 abbrev pub newest : RequestMessage → Entry → List Entry → Found
 newest r e h = record { request = r; entry = e; before = h; later = [] }
 
@@ -89,6 +91,7 @@ abbrev pub admits : Option RequestMessage → Entry → List Entry → Bool
 admits None e h = false
 admits (Some r) e h = is_admissible r.service && is_asked e.outcome && is_none (recorded (key_of r.service r.message) h)
 
+-- an entry of such a request
 abbrev pub is_admission : Entry → List Entry → Bool
 is_admission e h = admits (request_of e.arrival) e h
 
@@ -97,6 +100,7 @@ abbrev pub admitted : List Entry → ℕ
 admitted [] = 0
 admitted (e ∷ h) = if is_admission e h then 1 + admitted h else admitted h
 
+-- a merchant's first reference
 abbrev pub first_reference : Option Merchant → ℕ
 first_reference None = 0
 first_reference (Some merchant) = merchant.first_reference
@@ -117,9 +121,11 @@ referred n (e ∷ h) = option_or (option_map (aged e) (referred n h)) (referring
 
 -- ---- what became of a recorded request, by the entries after it
 
+-- its issuer was asked, under a new key
 abbrev pub is_admitted : Found → Bool
 is_admitted f = admits (Some f.request) f.entry f.before
 
+-- the host accepted it
 abbrev pub is_accepted : Found → Bool
 is_accepted f = accepts is_acceptable (Some f.request) f.entry.outcome
 
@@ -135,6 +141,7 @@ answer_to f = option_and_then (λ n. find (is_answer n) f.later) (reference_of f
 abbrev pub approval_of : Found → Option ℕ
 approval_of f = option_and_then (λ e. approval_in e.arrival) (answer_to f)
 
+-- one of the entries fits the reference, where there is one
 abbrev pub any_with : (ℕ → Entry → Bool) → Option ℕ → List Entry → Bool
 any_with fits None es = false
 any_with fits (Some n) es = list_any (fits n) es
@@ -156,10 +163,12 @@ is_final f =
 abbrev pub kept_reply : Found → Option (List ℕ)
 kept_reply f = option_or (reply_in f.entry.outcome) (option_and_then (λ e. reply_in e.outcome) (answer_to f))
 
+-- what a request without a reply gets
 abbrev pub standing_without : Bool → List ℕ → Standing
 standing_without true draft = Withdrawn
 standing_without false draft = Awaited draft
 
+-- what a request gets, by the reply that was kept
 abbrev pub standing_with : Option (List ℕ) → Bool → List ℕ → Standing
 standing_with (Some reply) reversed draft = known.Kept reply
 standing_with None reversed draft = standing_without reversed draft
@@ -236,6 +245,7 @@ posting_from (Answered moment merchant reference verdict) e h =
 posting_from (Requested r) e h = if is_acceptance e then posting_by r.service e h r else None
 posting_from arrival e h = None
 
+-- what an entry posts
 abbrev pub posting_of : Entry → List Entry → Option Posting
 posting_of e h = posting_from e.arrival e h
 

@@ -1,40 +1,127 @@
--- Events and texts of the worked rows.
-use Rattle.std.specs.Prelude.{◌≡◌, ℕ, List, [], ◌∷◌, ◌++◌, Option, Some, None, codes}
-use Rattle.card_no.specs.declared.range.Range.{Range}
+-- Events of the worked rows, and what a row says of them.
+use Rattle.std.specs.Prelude.{◌≡◌, ℕ, List, [], ◌∷◌, ◌++◌, Some, None, codes}
+use Prim.Native.String.{String}
+use Rattle.day_totals.specs.declared.leg.Leg.TheVariants.{Debit}
+use Rattle.acq_core.specs.declared.service.Service.TheVariants.{Authorization, Financial}
+use Rattle.acq_core.specs.declared.posting.Posting.{Posting}
 use Rattle.acq_core.specs.declared.event.Event.{Event}
-use Rattle.acq_core.specs.declared.event.Event.TheVariants.{Frame, Answer, Cutover, AddRange, DropRange, Enrol, AddTerminal}
+use Rattle.acq_core.specs.declared.event.Event.TheVariants.{Frame, Answer, Cutover, AddRange, Enrol, AddTerminal}
 use Rattle.acq_core.specs.declared.verdict.Verdict.TheVariants.{Approved, Declined, NoAnswer}
 use Rattle.acq_core.specs.declared.output.Output.{Output}
 use Rattle.acq_core.specs.declared.output.Output.TheVariants.{Reply, Ask, Done}
-use Rattle.acq_core.specs.Tables.{new_tables, outputs}
+use Rattle.acq_core.specs.Arrivals.{merchant_named}
+use Rattle.acq_core.specs.Outcome.{output_of}
+use Rattle.acq_core.specs.Tables.{new_tables, outputs, postings_of}
+use Rattle.acq_law.specs.Entries.{Entry}
+use Rattle.acq_law.specs.History.{postings, day_after}
 use Rattle.acq_law.specs.Solo.{Party, solo, outputs_at}
+use Rattle.acq_law.specs.Statements.{book_after, history_of}
+use Rattle.acq_law.specs.Messages.{merchant_a, merchant_b, terminal}
 
--- two merchants and their one terminal's name
-abbrev pub merchant_a : List ℕ
-merchant_a = codes "MERCHANT0000001"
+-- ---- days and moments
 
-abbrev pub merchant_b : List ℕ
-merchant_b = codes "MERCHANT0000002"
-
-abbrev pub terminal : List ℕ
-terminal = codes "TERM0001"
-
--- 2024-05-01, and 09:30 of it
+-- 2024-05-01
 abbrev pub may_1 : ℕ
 may_1 = 8887
 
+-- 2024-05-02
+abbrev pub may_2 : ℕ
+may_2 = 8888
+
+-- 2099-12-31
+abbrev pub last_day : ℕ
+last_day = 36524
+
+-- 09:30 of 2024-05-01
 abbrev pub morning : ℕ
 morning = 1714555800
+
+-- 09:30 of 2024-05-02
+abbrev pub next_morning : ℕ
+next_morning = 1714642200
+
+-- ---- events
+
+-- the ranges of most rows
+abbrev pub ranges : List Event
+ranges =
+    AddRange (record { low = 400000; high = 499999; issuer = codes "12345"; hold_days = 7 })
+    ∷ AddRange (record { low = 500000; high = 599999; issuer = codes "67890"; hold_days = 1 }) ∷ []
 
 -- the ranges, merchants and terminals of most rows
 abbrev pub setup : List Event
 setup =
-    AddRange (record { low = 400000; high = 499999; issuer = codes "12345"; hold_days = 7 })
-    ∷ AddRange (record { low = 500000; high = 599999; issuer = codes "67890"; hold_days = 1 })
-    ∷ Enrol merchant_a (codes "978") 1 ∷ AddTerminal merchant_a terminal
+    ranges ++ Enrol merchant_a (codes "978") 1 ∷ AddTerminal merchant_a terminal
     ∷ Enrol merchant_b (codes "978") 1 ∷ AddTerminal merchant_b terminal ∷ []
 
--- With a limit, from 2024-05-01 on, after the setup, a party is told this of these events: by the tables, and by its own history.
-pub record Tells (limit : ℕ) (m : List ℕ) (es : List Event) (told : List Output) : Type 0 where
-  pub by_tables : outputs_at (Some m) (setup ++ es) (outputs (new_tables limit may_1) (setup ++ es)) ≡ Done ∷ Done ∷ told
-  pub by_history : solo limit may_1 (Some m) (setup ++ es) ≡ Done ∷ Done ∷ told
+-- a frame comes
+abbrev pub sent : List ℕ → Event
+sent text = Frame morning text
+
+-- the issuer approves the merchant's request that has this reference
+abbrev pub approves : String → List ℕ → ℕ → Event
+approves id merchant reference = Answer morning merchant reference (Approved (codes id))
+
+-- it declines
+abbrev pub declines : String → List ℕ → ℕ → Event
+declines code merchant reference = Answer morning merchant reference (Declined (codes code))
+
+-- it gives no answer
+abbrev pub says_nothing : List ℕ → ℕ → Event
+says_nothing merchant reference = Answer morning merchant reference NoAnswer
+
+-- the business day ends
+abbrev pub cutover : Event
+cutover = Cutover morning
+
+-- ---- what is told
+
+-- the issuer is asked about a sale
+abbrev pub asked : List ℕ → ℕ → ℕ → Output
+asked merchant reference amount =
+    Ask (record { merchant = merchant; reference = reference; service = Financial; leg = Debit; card = codes "4111111111111111"; amount = amount; issuer = codes "12345" })
+
+-- the issuer is asked about an authorization
+abbrev pub asked_to_hold : List ℕ → ℕ → ℕ → Output
+asked_to_hold merchant reference amount =
+    Ask (record { merchant = merchant; reference = reference; service = Authorization; leg = Debit; card = codes "5500005555555559"; amount = amount; issuer = codes "67890" })
+
+-- a merchant's terminal gets a reply
+abbrev pub replied : List ℕ → List ℕ → Output
+replied merchant text = Reply (Some merchant) text
+
+-- ---- what a row says. What is expected stands on the left, where `refl` takes its term from.
+
+-- With a limit and from a first day on, a party is told this of these events: by the tables, and by its own history.
+pub record IsTold (limit first : ℕ) (party : Party) (es : List Event) (told : List Output) : Type 0 where
+  pub by_tables : told ≡ outputs_at party es (outputs (new_tables limit first) es)
+  pub by_history : told ≡ solo limit first party es
+
+-- a merchant, after the setup
+abbrev pub Tells : ℕ → List ℕ → List Event → List Output → Type 0
+Tells limit m es told = IsTold limit may_1 (Some m) (setup ++ es) (Done ∷ Done ∷ told)
+
+-- nobody, after the setup
+abbrev pub TellsNobody : ℕ → List Event → List Output → Type 0
+TellsNobody limit es told = IsTold limit may_1 None (setup ++ es) told
+
+-- After the setup and these events, a merchant has these postings: by the tables, and by its own history.
+pub record Posts (limit : ℕ) (m : List ℕ) (es : List Event) (rows : List (ℕ × Posting)) : Type 0 where
+  pub by_tables : rows ≡ postings_of m (book_after limit may_1 (setup ++ es)).postings
+  pub by_history : rows ≡ postings (history_of limit may_1 (Some m) (setup ++ es))
+
+-- what each entry of a history gave, the oldest first
+abbrev pub all_told : List Entry → List Output
+all_told [] = []
+all_told (e ∷ h) = all_told h ++ output_of (merchant_named e.arrival) e.outcome ∷ []
+
+-- Of these events, which belong to all, this is told from a first day on, and then it is such a day: by the tables, and by the history.
+pub record IsToldToAll (first : ℕ) (es : List Event) (told : List Output) (day : ℕ) : Type 0 where
+  pub by_tables : told ≡ outputs (new_tables 999999 first) es
+  pub by_history : told ≡ all_told (history_of 999999 first None es)
+  pub day_by_tables : day ≡ (book_after 999999 first es).day
+  pub day_by_history : day ≡ day_after first (history_of 999999 first None es)
+
+-- the same after the ranges of most rows
+abbrev pub TellsAll : List Event → List Output → Type 0
+TellsAll es told = IsToldToAll may_1 (ranges ++ es) (Done ∷ Done ∷ told) may_1

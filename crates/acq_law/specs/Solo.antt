@@ -13,6 +13,7 @@ use Rattle.acq_law.specs.History.{day_after, ranges_after, notions_of}
 abbrev pub Party : Type 0
 Party = Option (List ℕ)
 
+-- a merchant is named, and is this one
 abbrev pub names : Option (List ℕ) → List ℕ → Bool
 names None m = false
 names (Some named) m = bytes_eq named m

@@ -115,6 +115,7 @@ RepeatsAreKept m =
     essence_of r.service r.message ≡ (prior f).essence →
     outcome (known_by limit first (history_of limit first (Some m) es) (Requested r)) (Requested r) ≡ repeated (prior f).standing
 
+-- a request's key is recorded
 abbrev pub has_recorded : Option RequestMessage → List Entry → Bool
 has_recorded None h = false
 has_recorded (Some r) h = is_some (recorded (key_of r.service r.message) h)
@@ -150,6 +151,7 @@ RepeatsAreQuiet m =
 
 -- ---- conservation
 
+-- the legs that reverse others
 abbrev pub is_reversal_leg : Leg → Bool
 is_reversal_leg Credit = false
 is_reversal_leg Debit = false
@@ -195,6 +197,7 @@ SumsAreTotals =
 
 -- ---- finality
 
+-- admitted and not answered
 abbrev pub is_pending : Status → Bool
 is_pending Pending = true
 is_pending status = false
