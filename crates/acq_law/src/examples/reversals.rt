@@ -7,7 +7,7 @@ ghost use Rattle.day_totals.specs.declared.leg.Leg.TheVariants.{Credit, CreditRe
 ghost use Rattle.acq_law.specs.Messages.{merchant_a, merchant_b, terminal, other_terminal, sale, card_return, sale_approved, sale_declined, sale_refused, card_request, card_refused, hold, hold_approved, completion, completion_reply, original, original_through, reversal, reversal_as, reversal_accepted, reversal_refused};
 ghost use Rattle.acq_law.specs.Scripts.{Tells, Posts, may_1, morning, next_morning, sent, approves, declines, says_nothing, cutover, asked, asked_to_hold, replied};
 
-/// An approved sale or return is undone by a posting of the reversal leg. Another merchant's sale of the same trace stays.
+/// An approved sale or return is reversed by a posting of the reversal leg. Another merchant's sale of the same trace stays.
 #[tactic(auto, unfolding(crate::proofs::Computing::on_literals))]
 pub fn of_sales()
     ensures approved { Tells 999999 merchant_a
@@ -76,7 +76,7 @@ pub fn of_pending_requests()
         ∷ replied merchant_a (reversal_refused "000004" "000000001000" "0501" "21" merchant_a) ∷ []) }
 {}
 
-/// An approved hold is undone without a posting, also after its last second, and can't be completed any more.
+/// An approved hold is reversed without a posting, also after its last second, and can't be completed any more.
 #[tactic(auto, unfolding(crate::proofs::Computing::on_literals))]
 pub fn of_holds()
     ensures open_hold { Tells 999999 merchant_a
@@ -140,9 +140,9 @@ pub fn of_completions()
         ∷ (2, record { merchant = merchant_a; day = may_1; leg = DebitReversal; amount = 5000; reference = 1; card = codes "5500005555555559"; terminal = terminal; trace = codes "000022" }) ∷ []) }
 {}
 
-/// What was refused or declined, also by no answer, can't be reversed, nor what is undone.
+/// What was refused or declined, also by no answer, can't be reversed, nor what was reversed before.
 #[tactic(auto, unfolding(crate::proofs::Computing::on_literals))]
-pub fn of_nothing_to_undo()
+pub fn of_nothing_to_reverse()
     ensures declined { Tells 999999 merchant_a
         (sent (sale "000001" "000000001000" merchant_a) ∷ declines "51" merchant_a 1
         ∷ Frame morning (codes "0400" ++ codes "9220000000C00000" ++ codes "0000004000000000" ++ codes "000000001000" ++ codes "0501093100" ++ codes "000003" ++ terminal ++ merchant_a ++ codes "0200" ++ codes "000001" ++ codes "0501093000" ++ codes "00000000000" ++ codes "00000000000") ∷ [])
@@ -188,7 +188,7 @@ pub fn of_nothing_to_undo()
         ∷ sent (reversal "000022" "000000005000" (original "0220" "000021" "0502093000") merchant_a) ∷ [])
         (replied merchant_a (completion_reply "000021" "000000005000" "0501" "000000000001" "25" merchant_a)
         ∷ replied merchant_a (reversal_refused "000022" "000000005000" "0501" "21" merchant_a) ∷ []) }
-    ensures undone { Tells 999999 merchant_a
+    ensures reversed_before { Tells 999999 merchant_a
         (sent (sale "000001" "000000001000" merchant_a) ∷ approves "A1B2C3" merchant_a 1
         ∷ sent (reversal "000003" "000000001000" (original "0200" "000001" "0501093000") merchant_a)
         ∷ sent (reversal "000004" "000000001000" (original "0200" "000001" "0501093000") merchant_a)
