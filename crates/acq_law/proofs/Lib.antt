@@ -1,1 +1,11 @@
+pub mod Balanced
+pub mod Booked
+pub mod Closed
 pub mod Computing
+pub mod Conserved
+pub mod Decided
+pub mod Grounds
+pub mod Kept
+pub mod Members
+pub mod Repeated
+pub mod Replaced

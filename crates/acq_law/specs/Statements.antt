@@ -16,7 +16,8 @@ use Rattle.acq_core.specs.declared.status.Status.TheVariants.{Pending}
 use Rattle.acq_core.specs.declared.posting.Posting.{Posting}
 use Rattle.acq_core.specs.Elements.{key_of, essence_of}
 use Rattle.acq_core.specs.Arrivals.{Arrival, RequestMessage, arrival_of, merchant_named, is_shared, Requested}
-use Rattle.acq_core.specs.Known.{Standing, Kept, Awaited, Withdrawn, Prior, Known}
+use Rattle.iso_codec.specs.Message.{content_of}
+use Rattle.acq_core.specs.Known.{Standing, Kept, Awaited, Withdrawn, Prior, reconciled_day}
 use Rattle.acq_core.specs.Decision.{decision, is_open_until, Reconciles}
 use Rattle.acq_core.specs.Outcome.{Outcome, Replied, Repeated, Told, outcome, output_of, claimed_in, balance_code}
 use Rattle.acq_core.specs.Reply.{totals_reply}
@@ -83,9 +84,10 @@ HoldsAlone m =
 abbrev pub balance_reply : ℕ → RequestMessage → Bool → DayTotals → Outcome
 balance_reply day r in_balance totals = Replied (balance_code in_balance) (totals_reply day r (balance_code in_balance) in_balance totals)
 
--- What a reconciliation of a day comes to on a history: in balance exactly where the claimed counts and sums are those over the postings of that
--- day, and the claimed net is theirs as a number.
+-- What a reconciliation of a day comes to on a history: the day is the one that it names, else today, and it is in balance exactly where the
+-- claimed counts and sums are those over the postings of that day, and the claimed net is theirs as a number.
 pub record IsBalanced (limit first : ℕ) (h : List Entry) (r : RequestMessage) (day : ℕ) : Type 0 where
+  pub resolved : reconciled_day (day_after first h) (content_of r.message.elements 15) ≡ Some day
   pub in_balance : Bool
   pub replied : outcome (known_by limit first h (Requested r)) (Requested r) ≡ balance_reply day r in_balance (totals_on (postings h) day)
   pub exactly : (in_balance ≡ true) ↔ Agrees (claimed_in r.message) (totals_on (postings h) day)
