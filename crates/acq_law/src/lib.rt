@@ -3,3 +3,4 @@
 
 pub mod bookkeeping;
 pub mod examples;
+pub mod isolation;
