@@ -1,5 +1,5 @@
 -- The entries of a merchant's history, and what each says by itself.
-use Rattle.std.specs.Prelude.{ℕ, ◌==◌, Bool, true, false, not, ◌&&◌, ◌||◌, List, [], ◌∷◌, Option, Some, None, is_some, if◌then◌else◌}
+use Rattle.std.specs.Prelude.{ℕ, ◌==◌, Bool, true, false, not, ◌&&◌, ◌||◌, List, Option, Some, None, is_some}
 use Rattle.card_no.specs.declared.range.Range.{Range}
 use Rattle.acq_core.specs.declared.service.Service.{Service}
 use Rattle.acq_core.specs.declared.service.Service.TheVariants.{Authorization, Financial, Completion, Reversal, ReversalAdvice, NetworkManagement}
@@ -9,7 +9,7 @@ use Rattle.acq_core.specs.declared.verdict.Verdict.{Verdict}
 use Rattle.acq_core.specs.declared.verdict.Verdict.TheVariants as verdict
 use Rattle.acq_core.specs.declared.response_code.ResponseCode.{ResponseCode}
 use Rattle.acq_core.specs.declared.response_code.ResponseCode.TheVariants as code
-use Rattle.acq_core.specs.Elements.{reference_in, key_of, same_key, original_key}
+use Rattle.acq_core.specs.Elements.{reference_in, same_key, original_key}
 use Rattle.acq_core.specs.Arrivals.{Arrival, RequestMessage, Undecoded, Unserved, Malformed, Requested, Answered, CutOver, RangeAdded, RangeDropped, Enrolled, TerminalAdded}
 use Rattle.acq_core.specs.Outcome.{Outcome, Replied, Repeated, Asked, Performed, Told}
 

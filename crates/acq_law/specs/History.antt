@@ -16,14 +16,14 @@ use Rattle.acq_core.specs.declared.merchant.Merchant.{Merchant}
 use Rattle.acq_core.specs.declared.posting.Posting.{Posting}
 use Rattle.acq_core.specs.Elements.{or_empty, amount_in, reference_in, key_of, same_key, essence_of, original_key}
 use Rattle.acq_core.specs.Cards.{card_of}
-use Rattle.acq_core.specs.Arrivals.{Arrival, RequestMessage, Undecoded, Unserved, Malformed, Requested, Answered, CutOver, RangeAdded, RangeDropped, Enrolled, TerminalAdded}
+use Rattle.acq_core.specs.Arrivals.{Arrival, RequestMessage, Requested, Answered, RangeAdded, RangeDropped}
 use Rattle.acq_core.specs.Known.{Standing, Awaited, Withdrawn, Prior, Notions}
 use Rattle.acq_core.specs.Known as known
-use Rattle.acq_core.specs.Outcome.{Outcome, sale_leg}
+use Rattle.acq_core.specs.Outcome.{sale_leg}
 use Rattle.acq_core.specs.Reply.{draft_reply}
 use Rattle.acq_core.specs.Changes.{hold_end, answer_posting, completion_posting, reversal_posting}
 use Rattle.acq_core.specs.Tables.{between, with_posting, totals_on}
-use Rattle.acq_law.specs.Entries.{Entry, reply_in, is_asked, is_performed, is_past_merchant, request_of, is_admissible, accepts, is_acceptable, is_acceptance, is_completion, is_reversal, is_completing, is_reversing, is_answer, approval_in, is_cutover, enrolment_in, terminal_in}
+use Rattle.acq_law.specs.Entries.{Entry, reply_in, is_asked, is_performed, is_past_merchant, request_of, is_admissible, accepts, is_acceptable, is_acceptance, is_completing, is_reversing, is_answer, approval_in, is_cutover, enrolment_in, terminal_in}
 
 -- ---- what all share
 

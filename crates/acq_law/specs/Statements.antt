@@ -1,12 +1,10 @@
 -- What is promised of the host, as statements over its definitions.
-use Rattle.std.specs.Prelude.{◌≡◌, ◌↔◌, ℕ, ◌+◌, ◌<◌, ◌≤◌, ◌==◌, Bool, true, false, not, ◌&&◌, ◌||◌, ◌⊎◌, List, [], ◌∷◌, ◌++◌, map, filter, Option, Some, None, is_some, if◌then◌else◌, Contains}
+use Rattle.std.specs.Prelude.{◌≡◌, ◌↔◌, ℕ, ◌<◌, ◌≤◌, ◌==◌, Bool, true, false, not, ◌&&◌, ◌||◌, ◌⊎◌, List, [], ◌∷◌, ◌++◌, map, filter, Option, Some, None, is_some, if◌then◌else◌, Contains}
 use Rattle.std.specs.List.{list_any}
 use Rattle.std.specs.Str.{bytes_eq}
 use Rattle.day_totals.specs.Totals.{DayTotals, Agrees, totals_of}
 use Rattle.day_totals.specs.declared.leg.Leg.{Leg}
 use Rattle.day_totals.specs.declared.leg.Leg.TheVariants.{Credit, CreditReversal, Debit, DebitReversal}
-use Rattle.acq_core.specs.declared.service.Service.{Service}
-use Rattle.acq_core.specs.declared.service.Service.TheVariants.{NetworkManagement}
 use Rattle.acq_core.specs.declared.event.Event.{Event}
 use Rattle.acq_core.specs.declared.output.Output.{Output}
 use Rattle.acq_core.specs.declared.output.Output.TheVariants as output
@@ -19,12 +17,12 @@ use Rattle.acq_core.specs.Arrivals.{Arrival, RequestMessage, arrival_of, merchan
 use Rattle.iso_codec.specs.Message.{content_of}
 use Rattle.acq_core.specs.Known.{Standing, Kept, Awaited, Withdrawn, Prior, reconciled_day}
 use Rattle.acq_core.specs.Decision.{decision, is_open_until, Reconciles}
-use Rattle.acq_core.specs.Outcome.{Outcome, Replied, Repeated, Told, outcome, output_of, claimed_in, balance_code}
+use Rattle.acq_core.specs.Outcome.{Outcome, Replied, Repeated, Told, outcome, claimed_in, balance_code}
 use Rattle.acq_core.specs.Reply.{totals_reply}
 use Rattle.acq_core.specs.Changes.{reversal_leg}
 use Rattle.acq_core.specs.Tables.{Tables, new_tables, tables_after, outputs, prior_of, requests_of, postings_of, totals_on, count}
 use Rattle.acq_law.specs.Entries.{Entry, request_of, is_past_merchant}
-use Rattle.acq_law.specs.History.{Found, recorded, recording, newest, aged, prior, postings, day_after}
+use Rattle.acq_law.specs.History.{Found, recorded, newest, aged, prior, postings, day_after}
 use Rattle.acq_law.specs.Solo.{Party, own, known_by, entry_for, history_after, told_by, told, outputs_at}
 
 -- the tables of a new book after events
