@@ -1,3 +1,4 @@
 pub mod Echo
 pub mod Fits
 pub mod Short
+pub mod NetworkToo
