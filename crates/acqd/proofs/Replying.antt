@@ -1,9 +1,9 @@
 -- What is answered to frames, one after another.
-use Rattle.std.proofs.Common.{◌≡◌, ℕ, ◌+◌, ◌<◌, ◌≤◌, Bool, true, false, ◌&&◌, List, [], ◌∷◌, ◌++◌, length, take, Option, Some, None, Result, Ok, Err, refl, sym, ap, subst, ◌∙◌, arith, append_assoc, append-nil}
+use Rattle.std.proofs.Common.{◌≡◌, ℕ, Bool, true, List, [], ◌∷◌, ◌++◌, length, Option, Some, None, Result, Ok, Err, refl, sym, ap, subst, ◌∙◌, arith, append_assoc, append-nil}
 use Rattle.std.specs.Prelude.{is_ok}
-use Rattle.std.specs.List.{list_all, flat_map}
+use Rattle.std.specs.List.{list_all}
 use Rattle.std.proofs.lemmas.Bool.{and_parts, and_from, le-leb, lt-ltb}
-use Rattle.acq_link.specs.Frames.{frame, framed, fits_frame, fit_frames, Frames, FramesThen}
+use Rattle.acq_link.specs.Frames.{frame, framed, fits_frame, fit_frames}
 use Rattle.acq_link.proofs.FrameLemmas.{framed-append, framed-push}
 use Rattle.iso_codec.specs.declared.decode_fault.DecodeFault.{DecodeFault}
 use Rattle.iso_codec.specs.Message.{IsoMessage}
@@ -15,10 +15,9 @@ use Rattle.acq_core.specs.declared.output.Output.TheVariants.{Reply, Undecodable
 use Rattle.acq_core.specs.Services.{service_of}
 use Rattle.acq_core.specs.NetworkAlone.{output_of_frame, output_of_reading, output_of_request}
 use Rattle.acq_core.proofs.Short.{fits_a_frame}
-use Rattle.acqd.specs.declared.fault.Fault as fault
 use Rattle.acq_link.specs.declared.input_fault.InputFault as input
 use Rattle.acqd.specs.Faults.{of_input}
-use Rattle.acqd.specs.Once.{replies_in, replies_to, replies, is_read, Answers, Next, Breaks, StopsAt, ServesAll, Serves, AnswersOne, WritesOne, FrameFault}
+use Rattle.acqd.specs.Once.{replies_in, replies_to, replies, is_read, Answers, ServesAll, Serves}
 
 -- ---- one frame
 

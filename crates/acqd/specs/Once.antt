@@ -1,5 +1,5 @@
 -- Frames in, reply frames out.
-use Rattle.std.specs.Prelude.{◌≡◌, ◌+◌, ◌<◌, ℕ, Bool, true, List, [], ◌∷◌, ◌++◌, length, take, Option, Some, None, Result, Ok, Err, is_ok}
+use Rattle.std.specs.Prelude.{◌≡◌, ◌<◌, ℕ, Bool, true, List, [], ◌∷◌, ◌++◌, length, take, Option, Some, None, Result, Ok, Err, is_ok}
 use Rattle.std.specs.List.{list_all, flat_map}
 use Rattle.acq_link.specs.Frames.{frame, framed, Frames, FramesThen, fits_frame, is_partial, has_bad_length}
 use Rattle.iso_codec.specs.Reading.{reading_of}

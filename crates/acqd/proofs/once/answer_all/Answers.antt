@@ -1,4 +1,4 @@
-use Rattle.std.proofs.Common.{◌++◌, ◌∷◌, [], List, ℕ, ap, sym, ◌∙◌, append_assoc, arith}
+use Rattle.std.proofs.Common.{◌++◌, ◌∷◌, [], List, ℕ, ap, ◌∙◌, append_assoc, arith}
 use Rattle.acq_link.specs.Frames.{framed}
 use Rattle.acqd.specs.Once.{replies_to}
 use Rattle.acqd.proofs.Replying.{answers_more}
