@@ -206,7 +206,7 @@ change_of k (decided.Reverses r p) =
     Some (change.Follow (reversal_row k.today r p) p.key (reversed_status p.standing) (reversal_posting k.today r p))
 change_of k (decided.Reconciles r day) =
     Some (change.Reconciled (reconciliation_row k r day) (record { merchant = text_at r.message 42; day = day; in_balance = is_in_balance k r }))
-change_of k (decided.Settles moment verdict p) =
+change_of k (decided.Answers moment verdict p) =
     Some (change.Answered p.key (answered_status verdict) (answered_reply (draft_of p.standing) verdict)
     (answered_until p.key.service moment verdict p.hold_days) (answer_posting verdict p))
 change_of k decided.CutsOver = Some (change.SetDay (k.today + 1))

@@ -38,7 +38,7 @@ pub data Decision : Type 0 where
   Reverses : (request : RequestMessage) (original : Prior) → Decision
   Reconciles : (request : RequestMessage) (day : ℕ) → Decision
   -- a pending request is answered
-  Settles : (moment : ℕ) (verdict : Verdict) (request : Prior) → Decision
+  Answers : (moment : ℕ) (verdict : Verdict) (request : Prior) → Decision
   -- what all share, or a merchant's enrolment, is changed
   CutsOver : Decision
   AddsRange : (range : Range) → Decision
@@ -203,15 +203,15 @@ decision_of_request service k r = decision_of_merchant k r k.merchant
 -- ---- answers, ranges, enrolments
 
 -- an answer counts only while its request is pending
-abbrev pub settling : ℕ → Verdict → Prior → Standing → Decision
-settling moment verdict p (known.Kept reply) = Tells output.AlreadyAnswered
-settling moment verdict p (known.Awaited draft) = Settles moment verdict p
-settling moment verdict p known.Withdrawn = Tells output.Late
+abbrev pub decision_of_standing : ℕ → Verdict → Prior → Standing → Decision
+decision_of_standing moment verdict p (known.Kept reply) = Tells output.AlreadyAnswered
+decision_of_standing moment verdict p (known.Awaited draft) = Answers moment verdict p
+decision_of_standing moment verdict p known.Withdrawn = Tells output.Late
 
 -- an answer, by the request with its reference
 abbrev pub decision_of_prior : ℕ → Verdict → Option Prior → Decision
 decision_of_prior moment verdict None = Tells output.UnknownReference
-decision_of_prior moment verdict (Some p) = settling moment verdict p p.standing
+decision_of_prior moment verdict (Some p) = decision_of_standing moment verdict p p.standing
 
 -- an answer, by its merchant
 abbrev pub decision_of_answer : Known → ℕ → Verdict → Option Merchant → Decision

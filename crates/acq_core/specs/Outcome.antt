@@ -99,7 +99,7 @@ outcome_of k (decided.Completes r hold) = Replied code.Approved (coded_reply k.t
 outcome_of k (decided.Reverses r p) = Replied code.Approved (referring_reply k.today r p.reference code.Approved)
 outcome_of k (decided.Reconciles r day) =
     Replied (balance_code (is_in_balance k r)) (totals_reply day r (balance_code (is_in_balance k r)) (is_in_balance k r) k.totals)
-outcome_of k (decided.Settles moment verdict p) = Replied (verdict_code verdict) (answered_reply (draft_of p.standing) verdict)
+outcome_of k (decided.Answers moment verdict p) = Replied (verdict_code verdict) (answered_reply (draft_of p.standing) verdict)
 outcome_of k decided.CutsOver = Performed
 outcome_of k (decided.AddsRange range) = Performed
 outcome_of k (decided.DropsRange low high) = Performed

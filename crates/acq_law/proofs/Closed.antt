@@ -13,7 +13,7 @@ use Rattle.acq_core.specs.declared.verdict.Verdict.{Verdict}
 use Rattle.acq_core.specs.declared.verdict.Verdict.TheVariants as verdict
 use Rattle.acq_core.specs.Arrivals.{RequestMessage, arrival_of}
 use Rattle.acq_core.specs.Known.{Standing, Kept, Awaited, Withdrawn, Prior, Known}
-use Rattle.acq_core.specs.Decision.{Decision, Tells, Replies, Repeats, Refuses, Admits, Completes, Reverses, Reconciles, Settles, CutsOver, AddsRange, DropsRange, Enrols, AddsTerminal, decision}
+use Rattle.acq_core.specs.Decision.{Decision, Tells, Replies, Repeats, Refuses, Admits, Completes, Reverses, Reconciles, Answers, CutsOver, AddsRange, DropsRange, Enrols, AddsTerminal, decision}
 use Rattle.acq_core.specs.Changes.{change_of, answered_status, reversed_status, answer_posting, approval_posting, reversal_posting, completion_posting, posted_leg, posting_today, reversal_leg}
 use Rattle.acq_core.specs.Tables.{Tables, standing_of, known_in, with_changed, with_posting, after_any, step_tables, tables_after}
 use Rattle.acq_law.specs.Statements.{postings_on, has_pending, is_pending}
@@ -125,7 +125,7 @@ stays day t k (Reconciles r when) e g c = record {
   closed = record { past = c.past; none = NonePending-push day t.requests _ c.none (λ s on. absurd (cc)) };
   same = refl;
 }
-stays day t k (Settles moment v p) e g c = record {
+stays day t k (Answers moment v p) e g c = record {
   closed = record { past = c.past; none = NonePending-changed day p.key _ t.requests c.none (λ row s. answered_not_pending v s) };
   same = posted_elsewhere day t.postings (answer_posting v p) (λ q posted on. settled q posted on);
 }

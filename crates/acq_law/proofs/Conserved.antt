@@ -19,7 +19,7 @@ use Rattle.acq_core.specs.declared.verdict.Verdict.TheVariants as verdict
 use Rattle.acq_core.specs.Elements.{text_at, transaction_in, key_of, or_empty}
 use Rattle.acq_core.specs.Arrivals.{RequestMessage, arrival_of}
 use Rattle.acq_core.specs.Known.{Known}
-use Rattle.acq_core.specs.Decision.{Decision, Tells, Replies, Repeats, Refuses, Admits, Completes, Reverses, Reconciles, Settles, CutsOver, AddsRange, DropsRange, Enrols, AddsTerminal, decision, is_open_until}
+use Rattle.acq_core.specs.Decision.{Decision, Tells, Replies, Repeats, Refuses, Admits, Completes, Reverses, Reconciles, Answers, CutsOver, AddsRange, DropsRange, Enrols, AddsTerminal, decision, is_open_until}
 use Rattle.acq_core.specs.Outcome.{sale_leg}
 use Rattle.acq_core.specs.Changes.{change_of, admitted_leg, admitted_row, completion_row, reversal_row, completion_posting, posting_today, approval_posting, answer_posting, reversal_posting, reversal_leg, posted_leg, reversed_status, answered_status, or_zero}
 use Rattle.acq_core.specs.Tables.{Tables, new_tables, prior_of, standing_of, is_final, leg_by, reference_by, known_in, with_changed, with_posting, after_any, step_tables, tables_after}
@@ -376,10 +376,10 @@ sound_step t k (Reverses r p) e g s =
     subst (λ x. IsSoundBook (after_any t (change_of k (Reverses r x)))) g.found.says
     (reversed t k.today r g.found.row e g.new g.service g.found.member g.merchant (ap (λ x. x.final) g.found.says ∙ g.final) s)
 sound_step t k (Reconciles r day) e g s = plain t.day t.merchants t.requests t.postings _ g.new refl refl refl refl (omega arith) s
-sound_step t k (Settles moment v p) e g s =
+sound_step t k (Answers moment v p) e g s =
     let found = g.referred.found in
     let pending = awaited_pending found.row.status found.row.reply g.draft (ap (λ x. x.standing) found.says ∙ g.awaited) in
-    subst (λ x. IsSoundBook (after_any t (change_of k (Settles moment v x)))) found.says
+    subst (λ x. IsSoundBook (after_any t (change_of k (Answers moment v x)))) found.says
     (answered t v found.row g.referred.number _ _ found.member pending g.referred.reference s)
 sound_step t k CutsOver e g s = record { kept = later_kept t.day (k.today + 1) t.merchants t.requests (omega arith) s.kept; booked = s.booked }
 sound_step t k (AddsRange range) e g s = record { kept = s.kept; booked = s.booked }

@@ -14,7 +14,7 @@ use Rattle.acq_core.specs.Cards.{card_of, expiry_of}
 use Rattle.acq_core.specs.Elements.{essence_of, amount_in, or_empty, original_acquirer}
 use Rattle.acq_core.specs.Arrivals.{RequestMessage}
 use Rattle.acq_core.specs.Known.{Standing, Kept, Awaited, Withdrawn, Prior, Known}
-use Rattle.acq_core.specs.Decision.{Decision, Tells, Replies, Repeats, Refuses, Admits, Completes, Reverses, Reconciles, Settles, first_of, admission, admission_in, completion, completion_of, open_hold, is_open_until, reversal_of, original_of, fits_acquirer, reconciliation_of, is_full, is_other_transaction, is_expired, repeat_of, decision_by, decision_of_key, decision_of_merchant, decision_of_request, decision_of_prior, decision_of_answer, settling}
+use Rattle.acq_core.specs.Decision.{Decision, Tells, Replies, Repeats, Refuses, Admits, Completes, Reverses, Reconciles, Answers, first_of, admission, admission_in, completion, completion_of, open_hold, is_open_until, reversal_of, original_of, fits_acquirer, reconciliation_of, is_full, is_other_transaction, is_expired, repeat_of, decision_by, decision_of_key, decision_of_merchant, decision_of_request, decision_of_prior, decision_of_answer, decision_of_standing}
 use Rattle.std.specs.Str.{bytes_eq}
 
 -- it holds of what changes nothing
@@ -130,15 +130,15 @@ of_request Q quiet k r fresh =
     ]
 
 -- an answer
-of_settling : (Q : Decision → Type 0) → OfQuiet Q → (moment : ℕ) (v : Verdict) (p : Prior) (s : Standing) → ((draft : List ℕ) → s ≡ Awaited draft → Q (Settles moment v p)) → Q (settling moment v p s)
-of_settling Q quiet moment v p (Kept reply) accept = quiet.tells _
-of_settling Q quiet moment v p (Awaited draft) accept = accept draft refl
-of_settling Q quiet moment v p Withdrawn accept = quiet.tells _
+of_pending : (Q : Decision → Type 0) → OfQuiet Q → (moment : ℕ) (v : Verdict) (p : Prior) (s : Standing) → ((draft : List ℕ) → s ≡ Awaited draft → Q (Answers moment v p)) → Q (decision_of_standing moment v p s)
+of_pending Q quiet moment v p (Kept reply) accept = quiet.tells _
+of_pending Q quiet moment v p (Awaited draft) accept = accept draft refl
+of_pending Q quiet moment v p Withdrawn accept = quiet.tells _
 
-of_prior : (Q : Decision → Type 0) → OfQuiet Q → (moment : ℕ) (v : Verdict) (o : Option Prior) → ((p : Prior) (draft : List ℕ) → o ≡ Some p → p.standing ≡ Awaited draft → Q (Settles moment v p)) → Q (decision_of_prior moment v o)
+of_prior : (Q : Decision → Type 0) → OfQuiet Q → (moment : ℕ) (v : Verdict) (o : Option Prior) → ((p : Prior) (draft : List ℕ) → o ≡ Some p → p.standing ≡ Awaited draft → Q (Answers moment v p)) → Q (decision_of_prior moment v o)
 of_prior Q quiet moment v None accept = quiet.tells _
-of_prior Q quiet moment v (Some p) accept = of_settling Q quiet moment v p p.standing (λ draft e. accept p draft refl e)
+of_prior Q quiet moment v (Some p) accept = of_pending Q quiet moment v p p.standing (λ draft e. accept p draft refl e)
 
-pub of_answer : (Q : Decision → Type 0) → OfQuiet Q → (k : Known) (moment : ℕ) (v : Verdict) (o : Option Merchant) → ((p : Prior) (draft : List ℕ) → k.referred ≡ Some p → p.standing ≡ Awaited draft → Q (Settles moment v p)) → Q (decision_of_answer k moment v o)
+pub of_answer : (Q : Decision → Type 0) → OfQuiet Q → (k : Known) (moment : ℕ) (v : Verdict) (o : Option Merchant) → ((p : Prior) (draft : List ℕ) → k.referred ≡ Some p → p.standing ≡ Awaited draft → Q (Answers moment v p)) → Q (decision_of_answer k moment v o)
 of_answer Q quiet k moment v None accept = quiet.tells _
 of_answer Q quiet k moment v (Some merchant) accept = of_prior Q quiet moment v k.referred accept

@@ -16,7 +16,7 @@ use Rattle.acq_core.specs.Elements.{text_at, key_of, same_key, reference_in, ori
 use Rattle.acq_core.specs.Services.{same_service}
 use Rattle.acq_core.specs.Arrivals.{Arrival, RequestMessage, Undecoded, Unserved, Malformed, Requested, Answered, CutOver, RangeAdded, RangeDropped, Enrolled, TerminalAdded}
 use Rattle.acq_core.specs.Known.{Awaited, Prior, Known, wanted_for, known_for, reconciled_day}
-use Rattle.acq_core.specs.Decision.{Decision, Tells, Replies, Repeats, Refuses, Admits, Completes, Reverses, Reconciles, Settles, CutsOver, AddsRange, DropsRange, Enrols, AddsTerminal, decision, decision_by, decision_of_new_range, decision_of_old_range, decision_of_enrolment, decision_of_terminal, is_open_until, last_day, admission, completion, reversal_of, original_of}
+use Rattle.acq_core.specs.Decision.{Decision, Tells, Replies, Repeats, Refuses, Admits, Completes, Reverses, Reconciles, Answers, CutsOver, AddsRange, DropsRange, Enrols, AddsTerminal, decision, decision_by, decision_of_new_range, decision_of_old_range, decision_of_enrolment, decision_of_terminal, is_open_until, last_day, admission, completion, reversal_of, original_of}
 use Rattle.acq_core.specs.Tables.{Tables, prior_of, notions_in, requests_of, recorded_in, referred_in, admitted_in, is_number, known_in, with_changed}
 use Rattle.acq_law.specs.Entries.{is_admissible, is_reversal}
 use Rattle.acq_law.proofs.Members.{In, In-find, In-find_none, In-filter, In-filtered, In-mapped, same_bytes, bytes_same, and_five}
@@ -128,7 +128,7 @@ Grounds t (Admits r range reference) = IsAdmission t r reference
 Grounds t (Completes r hold) = IsCompletion t r hold
 Grounds t (Reverses r p) = IsReversal t r p
 Grounds t (Reconciles r day) = IsReconciling t r
-Grounds t (Settles moment v p) = IsSettling t p
+Grounds t (Answers moment v p) = IsSettling t p
 Grounds t CutsOver = Unit {0}
 Grounds t (AddsRange range) = Unit {0}
 Grounds t (DropsRange low high) = Unit {0}

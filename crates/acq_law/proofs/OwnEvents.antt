@@ -16,7 +16,7 @@ use Rattle.acq_core.specs.declared.output.Output.TheVariants as output
 use Rattle.acq_core.specs.declared.verdict.Verdict.{Verdict}
 use Rattle.acq_core.specs.Arrivals.{Arrival, RequestMessage, merchant_named, is_shared, Undecoded, Unserved, Malformed, Requested, Answered, CutOver, RangeAdded, RangeDropped, Enrolled, TerminalAdded}
 use Rattle.acq_core.specs.Known.{Known, Prior, Awaited}
-use Rattle.acq_core.specs.Decision.{Tells, Completes, Settles, CutsOver, DropsRange, decision, decision_of_new_range, decision_of_old_range, decision_of_enrolment, decision_of_terminal, last_day}
+use Rattle.acq_core.specs.Decision.{Tells, Completes, Answers, CutsOver, DropsRange, decision, decision_of_new_range, decision_of_old_range, decision_of_enrolment, decision_of_terminal, last_day}
 use Rattle.acq_core.specs.Outcome.{Outcome, Replied, Performed, Told, outcome_of, draft_of}
 use Rattle.acq_core.specs.Reply.{answered_reply, verdict_code}
 use Rattle.acq_core.specs.Changes.{answered_status, answered_until, change_for, answer_posting}
@@ -92,7 +92,7 @@ module _ (limit first : ℕ) (m : List ℕ) (t : Tables) (h : List Entry) (g : A
   -- ---- answers
 
   settled_step : (moment : ℕ) (merchant : List ℕ) (n : ℕ) (v : Verdict) (p : Prior) (draft : List ℕ) → (known (Answered moment merchant n v)).referred ≡ Some p → p.standing ≡ Awaited draft →
-      Keeps limit first m t h g (Answered moment merchant n v) (Settles moment v p)
+      Keeps limit first m t h g (Answered moment merchant n v) (Answers moment v p)
   settled_step moment merchant n v p draft there pending =
       let reply = answered_reply (draft_of p.standing) v in
       let o = Replied (verdict_code v) reply in

@@ -18,7 +18,7 @@ use Rattle.acq_core.specs.Elements.{amount_in, or_empty, essence_of, original_ac
 use Rattle.acq_core.specs.Cards.{card_of, expiry_of}
 use Rattle.acq_core.specs.Arrivals.{RequestMessage, Requested}
 use Rattle.acq_core.specs.Known.{Known, Prior, Standing, Kept, Awaited, Withdrawn, reconciled_day}
-use Rattle.acq_core.specs.Decision.{Decision, Tells, Replies, Repeats, Refuses, Admits, Completes, Reverses, Reconciles, Settles, first_of, is_full, is_other_transaction, is_expired, is_open_until, open_hold, fits_acquirer, original_of, admission_in, admission, completion_of, completion, reversal_of, reconciliation_of, network_response, decision_by, repeat_of, decision_of_key, decision_of_merchant, decision_of_request, settling, decision_of_prior, decision_of_answer}
+use Rattle.acq_core.specs.Decision.{Decision, Tells, Replies, Repeats, Refuses, Admits, Completes, Reverses, Reconciles, Answers, first_of, is_full, is_other_transaction, is_expired, is_open_until, open_hold, fits_acquirer, original_of, admission_in, admission, completion_of, completion, reversal_of, reconciliation_of, network_response, decision_by, repeat_of, decision_of_key, decision_of_merchant, decision_of_request, decision_of_standing, decision_of_prior, decision_of_answer}
 use Rattle.acq_core.specs.Outcome.{Outcome, Repeated, Told, outcome_of}
 use Rattle.acq_core.specs.Changes.{change_of}
 use Rattle.acq_law.specs.Entries.{is_code, is_asked, is_performed, is_approved, is_past_merchant, request_of, accepts, is_acceptable, is_admissible, is_reversal}
@@ -174,17 +174,17 @@ by_decision k r P handles = by_service k r.moment r.service r.message P handles
 
 -- by what is decided on an answer
 settles : (k : Known) (moment : ℕ) (v : Verdict) (P : Decision → Type 0) → ((o : Output) → P (Tells o)) → (p : Prior) →
-    ((draft : List ℕ) → p.standing ≡ Awaited draft → P (Settles moment v p)) → (s : Standing) → p.standing ≡ s → P (settling moment v p s)
+    ((draft : List ℕ) → p.standing ≡ Awaited draft → P (Answers moment v p)) → (s : Standing) → p.standing ≡ s → P (decision_of_standing moment v p s)
 settles k moment v P tells p settle (Kept reply) is = tells output.AlreadyAnswered
 settles k moment v P tells p settle (Awaited draft) is = settle draft is
 settles k moment v P tells p settle Withdrawn is = tells output.Late
 
 of_prior : (k : Known) (moment : ℕ) (v : Verdict) (P : Decision → Type 0) → ((o : Output) → P (Tells o)) →
-    ((p : Prior) (draft : List ℕ) → k.referred ≡ Some p → p.standing ≡ Awaited draft → P (Settles moment v p)) → (o : Option Prior) → k.referred ≡ o → P (decision_of_prior moment v o)
+    ((p : Prior) (draft : List ℕ) → k.referred ≡ Some p → p.standing ≡ Awaited draft → P (Answers moment v p)) → (o : Option Prior) → k.referred ≡ o → P (decision_of_prior moment v o)
 of_prior k moment v P tells settle None is = tells output.UnknownReference
 of_prior k moment v P tells settle (Some p) is = settles k moment v P tells p (λ draft pending. settle p draft is pending) p.standing refl
 
 pub by_answer : (k : Known) (moment : ℕ) (v : Verdict) (P : Decision → Type 0) → ((o : Output) → P (Tells o)) →
-    ((p : Prior) (draft : List ℕ) → k.referred ≡ Some p → p.standing ≡ Awaited draft → P (Settles moment v p)) → (o : Option Merchant) → P (decision_of_answer k moment v o)
+    ((p : Prior) (draft : List ℕ) → k.referred ≡ Some p → p.standing ≡ Awaited draft → P (Answers moment v p)) → (o : Option Merchant) → P (decision_of_answer k moment v o)
 by_answer k moment v P tells settle None = tells output.NoSuchMerchant
 by_answer k moment v P tells settle (Some merchant) = of_prior k moment v P tells settle k.referred refl
