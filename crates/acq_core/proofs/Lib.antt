@@ -1,4 +1,2 @@
-pub mod Echo
-pub mod Fits
-pub mod Short
-pub mod NetworkToo
+pub mod NetworkIsTheHosts
+pub mod NetworkRepliesFit

@@ -1,41 +1,21 @@
--- An event as the host sees it: a frame by what it holds. And whose event it is.
-use Rattle.std.specs.Prelude.{ℕ, Bool, true, false, List, Option, Some, None, Result, Ok, Err, if◌then◌else◌}
+-- An event as the host sees it: a frame by what it spells. And whose event it is.
+use Rattle.std.specs.Prelude.{ℕ, Bool, true, false, List, Option, Some, None, Result, Ok, Err}
+use Rattle.std.specs.Prelude.{if◌then◌else◌}
 use Rattle.iso_codec.specs.declared.decode_fault.DecodeFault.{DecodeFault}
-use Rattle.iso_codec.specs.Message.{IsoMessage, content_of}
+use Rattle.iso_codec.specs.Message.{IsoMessage}
 use Rattle.iso_codec.specs.Reading.{reading_of}
-use Rattle.card_no.specs.declared.range.Range.{Range}
-use Rattle.acq_core.specs.declared.service.Service.{Service}
-use Rattle.acq_core.specs.declared.verdict.Verdict.{Verdict}
-use Rattle.acq_core.specs.declared.merchant.Merchant.{Merchant}
-use Rattle.acq_core.specs.declared.terminal.Terminal.{Terminal}
+use Rattle.acq_message.specs.declared.service.Service.{Service}
+use Rattle.acq_message.specs.declared.request_message.RequestMessage.{RequestMessage}
+use Rattle.acq_message.specs.Services.{service_of}
+use Rattle.acq_message.specs.Elements.{merchant_in}
+use Rattle.acq_message.specs.FirstCheck.{is_malformed}
 use Rattle.acq_core.specs.declared.event.Event.{Event}
 use Rattle.acq_core.specs.declared.event.Event.TheVariants as event
-use Rattle.acq_core.specs.Services.{service_of}
-use Rattle.acq_core.specs.FirstCheck.{is_malformed}
-
--- a message of a served type, and when it came
-pub record RequestMessage : Type 0 where
-  pub moment : ℕ
-  pub service : Service
-  pub message : IsoMessage
-
--- what came
-pub data Arrival : Type 0 where
-  -- a frame that spells no message
-  Undecoded : (fault : DecodeFault) → Arrival
-  -- a message of a type that isn't served
-  Unserved : (message : IsoMessage) → Arrival
-  -- a request that the first check refuses
-  Malformed : (request : RequestMessage) → Arrival
-  -- a request that the first check passes
-  Requested : (request : RequestMessage) → Arrival
-  -- what an issuer says to a merchant's request
-  Answered : (moment : ℕ) (merchant : List ℕ) (reference : ℕ) (verdict : Verdict) → Arrival
-  CutOver : Arrival
-  RangeAdded : (range : Range) → Arrival
-  RangeDropped : (low high : ℕ) → Arrival
-  Enrolled : (merchant : Merchant) → Arrival
-  TerminalAdded : (terminal : Terminal) → Arrival
+use Rattle.acq_core.specs.declared.arrival.Arrival.{Arrival}
+use Rattle.acq_core.specs.declared.arrival.Arrival.TheVariants.{Undecoded, Unserved, Malformed}
+use Rattle.acq_core.specs.declared.arrival.Arrival.TheVariants.{Requested, Answered, CutOver}
+use Rattle.acq_core.specs.declared.arrival.Arrival.TheVariants.{RangeAdded, RangeDropped}
+use Rattle.acq_core.specs.declared.arrival.Arrival.TheVariants.{Enrolled, TerminalAdded}
 
 -- a request, by the first check
 abbrev pub checked : RequestMessage → Arrival
@@ -44,7 +24,8 @@ checked r = if is_malformed r.service r.message then Malformed r else Requested 
 -- a message, by the service of its type
 abbrev pub arrival_of_message : ℕ → IsoMessage → Option Service → Arrival
 arrival_of_message moment m None = Unserved m
-arrival_of_message moment m (Some service) = checked (record { moment = moment; service = service; message = m })
+arrival_of_message moment m (Some service) =
+    checked (record { moment = moment; service = service; message = m })
 
 -- a frame, by what it reads as
 abbrev pub arrival_of_reading : ℕ → Result IsoMessage DecodeFault → Arrival
@@ -54,16 +35,15 @@ arrival_of_reading moment (Ok m) = arrival_of_message moment m (service_of m.kin
 -- an event as the host sees it
 abbrev pub arrival_of : Event → Arrival
 arrival_of (event.Frame moment text) = arrival_of_reading moment (reading_of text)
-arrival_of (event.Answer moment merchant reference verdict) = Answered moment merchant reference verdict
+arrival_of (event.Answer moment merchant reference verdict) =
+    Answered moment merchant reference verdict
 arrival_of (event.Cutover moment) = CutOver
 arrival_of (event.AddRange range) = RangeAdded range
 arrival_of (event.DropRange low high) = RangeDropped low high
-arrival_of (event.Enrol merchant currency first) = Enrolled (record { id = merchant; currency = currency; first_reference = first })
-arrival_of (event.AddTerminal merchant terminal) = TerminalAdded (record { merchant = merchant; id = terminal })
-
--- the merchant that a message names in element 42
-abbrev pub merchant_in : IsoMessage → Option (List ℕ)
-merchant_in m = content_of m.elements 42
+arrival_of (event.Enrol merchant currency first) =
+    Enrolled (record { id = merchant; currency = currency; first_reference = first })
+arrival_of (event.AddTerminal merchant terminal) =
+    TerminalAdded (record { merchant = merchant; id = terminal })
 
 -- the merchant that an arrival names, if it names one
 abbrev pub merchant_named : Arrival → Option (List ℕ)

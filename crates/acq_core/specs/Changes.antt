@@ -1,30 +1,34 @@
 -- What an event changes: the rows that it records, and what becomes of earlier ones.
-use Rattle.std.specs.Prelude.{ℕ, ◌+◌, ◌*◌, true, false, [], Option, Some, None, option_map}
+use Rattle.std.specs.Prelude.{ℕ, ◌+◌, ◌*◌, true, false, Option, Some, None, option_map}
 use Rattle.iso_codec.specs.Message.{content_of}
 use Rattle.card_no.specs.declared.range.Range.{Range}
 use Rattle.day_totals.specs.declared.leg.Leg.{Leg}
-use Rattle.day_totals.specs.declared.leg.Leg.TheVariants.{Credit, CreditReversal, Debit, DebitReversal}
-use Rattle.acq_core.specs.declared.service.Service.{Service}
-use Rattle.acq_core.specs.declared.service.Service.TheVariants.{Authorization, Financial}
+use Rattle.day_totals.specs.declared.leg.Leg.TheVariants.{Credit, CreditReversal}
+use Rattle.day_totals.specs.declared.leg.Leg.TheVariants.{Debit, DebitReversal}
+use Rattle.acq_message.specs.declared.service.Service.{Service}
+use Rattle.acq_message.specs.declared.service.Service.TheVariants.{Authorization, Financial}
+use Rattle.acq_message.specs.declared.verdict.Verdict.{Verdict}
+use Rattle.acq_message.specs.declared.verdict.Verdict.TheVariants as verdict
+use Rattle.acq_message.specs.declared.request_message.RequestMessage.{RequestMessage}
+use Rattle.acq_message.specs.declared.response_code.ResponseCode.{ResponseCode}
+use Rattle.acq_message.specs.declared.response_code.ResponseCode.TheVariants as code
+use Rattle.acq_message.specs.Elements.{text_at, amount_in, key_of, essence_of, or_empty, sale_leg}
+use Rattle.acq_message.specs.Cards.{card_of}
+use Rattle.acq_message.specs.Reply.{coded_reply, referring_reply, draft_reply, totals_reply}
+use Rattle.acq_message.specs.Reply.{answered_reply}
 use Rattle.acq_core.specs.declared.request.Request.{Request}
 use Rattle.acq_core.specs.declared.status.Status.{Status}
 use Rattle.acq_core.specs.declared.status.Status.TheVariants as status
 use Rattle.acq_core.specs.declared.posting.Posting.{Posting}
 use Rattle.acq_core.specs.declared.change.Change.{Change}
 use Rattle.acq_core.specs.declared.change.Change.TheVariants as change
-use Rattle.acq_core.specs.declared.verdict.Verdict.{Verdict}
-use Rattle.acq_core.specs.declared.verdict.Verdict.TheVariants as verdict
-use Rattle.acq_core.specs.declared.response_code.ResponseCode.{ResponseCode}
-use Rattle.acq_core.specs.declared.response_code.ResponseCode.TheVariants as code
-use Rattle.acq_core.specs.Elements.{text_at, amount_in, key_of, essence_of, or_empty}
-use Rattle.acq_core.specs.Cards.{card_of}
-use Rattle.acq_core.specs.Arrivals.{RequestMessage, Arrival}
-use Rattle.acq_core.specs.Known.{Known, Prior, Standing}
-use Rattle.acq_core.specs.Known as known
+use Rattle.acq_core.specs.declared.arrival.Arrival.{Arrival}
+use Rattle.acq_core.specs.declared.reply_state.ReplyState.{ReplyState}
+use Rattle.acq_core.specs.declared.reply_state.ReplyState.TheVariants.{Kept, Awaited, Late}
+use Rattle.acq_core.specs.Known.{Known, Prior}
 use Rattle.acq_core.specs.Decision.{Decision, decision}
 use Rattle.acq_core.specs.Decision as decided
-use Rattle.acq_core.specs.Reply.{coded_reply, referring_reply, draft_reply, totals_reply, answered_reply}
-use Rattle.acq_core.specs.Outcome.{sale_leg, is_in_balance, balance_code, draft_of}
+use Rattle.acq_core.specs.Outcome.{is_in_balance, balance_code}
 
 -- ---- postings
 
@@ -80,20 +84,23 @@ abbrev pub completion_posting : ℕ → RequestMessage → Prior → Posting
 completion_posting today r hold = posting_today today r Debit (amount_in r.message) hold
 
 -- the leg that a request was posted under: none while it is pending
-abbrev pub posted_leg : Standing → Option Leg → Option Leg
-posted_leg (known.Kept reply) leg = leg
-posted_leg (known.Awaited draft) leg = None
-posted_leg known.Withdrawn leg = None
+abbrev pub posted_leg : ReplyState → Option Leg → Option Leg
+posted_leg (Kept reply) leg = leg
+posted_leg (Awaited draft) leg = None
+posted_leg Late leg = None
 
--- a reversal posts the original's amount under the leg that reverses it, where the original was posted
+-- a reversal posts the original's amount under the leg that reverses it, where the original was
+-- posted
 abbrev pub reversal_posting : ℕ → RequestMessage → Prior → Option Posting
-reversal_posting today r p = option_map (λ leg. posting_today today r (reversal_leg leg) p.amount p) (posted_leg p.standing p.leg)
+reversal_posting today r p =
+    option_map (λ leg. posting_today today r (reversal_leg leg) p.amount p)
+    (posted_leg p.reply_state p.leg)
 
 -- ---- rows of requests
 
--- a request as it is recorded, before anything was decided
-abbrev pub base_row : ℕ → RequestMessage → Request
-base_row today r =
+-- a request as it is recorded where a check refused it: its reply has this code
+abbrev pub refused_row : ℕ → RequestMessage → ResponseCode → Request
+refused_row today r code =
     record {
       key = key_of r.service r.message;
       essence = essence_of r.service r.message;
@@ -107,13 +114,14 @@ base_row today r =
       card = card_of r.message;
       acquirer = content_of r.message.elements 32;
       hold_days = None;
-      until = None;
-      reply = [];
+      hold_end = None;
+      reply = coded_reply today r code;
     }
 
--- a request that a check refused
-abbrev pub refused_row : ℕ → RequestMessage → ResponseCode → Request
-refused_row today r code = record (base_row today r) { reply = coded_reply today r code }
+-- one that the host accepted
+abbrev pub accepted_row : ℕ → RequestMessage → Request
+accepted_row today r =
+    record (refused_row today r code.Approved) { status = status.Approved; admitted = true }
 
 -- a hold has no leg until it is completed
 abbrev pub admitted_leg : Service → Leg → Leg
@@ -123,9 +131,8 @@ admitted_leg service leg = Credit
 -- a request whose issuer is asked
 abbrev pub admitted_row : ℕ → RequestMessage → Range → ℕ → Request
 admitted_row today r range reference =
-    record (base_row today r) {
+    record (accepted_row today r) {
       status = status.Pending;
-      admitted = true;
       reference = Some reference;
       leg = admitted_leg r.service (sale_leg r.message);
       hold_days = Some range.hold_days;
@@ -135,13 +142,10 @@ admitted_row today r range reference =
 -- an accepted completion: the card is the hold's
 abbrev pub completion_row : ℕ → RequestMessage → Prior → Request
 completion_row today r hold =
-    record (base_row today r) {
-      status = status.Approved;
-      admitted = true;
+    record (accepted_row today r) {
       follows = hold.reference;
       leg = Debit;
       card = hold.card;
-      reply = coded_reply today r code.Approved;
     }
 
 -- the leg that a reversal posts, else credit
@@ -152,20 +156,19 @@ reversing_leg None = Credit
 -- an accepted reversal
 abbrev pub reversal_row : ℕ → RequestMessage → Prior → Request
 reversal_row today r p =
-    record (base_row today r) {
-      status = status.Approved;
-      admitted = true;
+    record (accepted_row today r) {
       follows = p.reference;
-      leg = reversing_leg (posted_leg p.standing p.leg);
+      leg = reversing_leg (posted_leg p.reply_state p.leg);
       reply = referring_reply today r p.reference code.Approved;
     }
 
 -- a reconciliation with totals
 abbrev pub reconciliation_row : Known → RequestMessage → ℕ → Request
 reconciliation_row k r day =
-    record (base_row k.today r) {
+    let in_balance = is_in_balance k r in
+    record (refused_row k.today r (balance_code in_balance)) {
       status = status.Reconciled;
-      reply = totals_reply day r (balance_code (is_in_balance k r)) (is_in_balance k r) k.totals;
+      reply = totals_reply day r (balance_code in_balance) in_balance k.totals;
     }
 
 -- ---- what becomes of earlier requests
@@ -177,38 +180,43 @@ answered_status (verdict.Declined text) = status.Declined
 answered_status verdict.NoAnswer = status.Declined
 
 -- the status of an original that is reversed
-abbrev pub reversed_status : Standing → Status
-reversed_status (known.Kept reply) = status.Reversed
-reversed_status (known.Awaited draft) = status.ReversedPending
-reversed_status known.Withdrawn = status.ReversedPending
+abbrev pub reversed_status : ReplyState → Status
+reversed_status (Kept reply) = status.Reversed
+reversed_status (Awaited draft) = status.ReversedPending
+reversed_status Late = status.ReversedPending
 
 -- the last second of a hold of so many days that is approved at a moment
-abbrev pub hold_end : ℕ → ℕ → ℕ
-hold_end moment days = moment + days * 86400
+abbrev pub end_of_hold : ℕ → ℕ → ℕ
+end_of_hold moment days = moment + days * 86400
 
 -- an approved hold is open for its hold days
-abbrev pub answered_until : Service → ℕ → Verdict → Option ℕ → Option ℕ
-answered_until Authorization moment (verdict.Approved id) hold_days = option_map (hold_end moment) hold_days
-answered_until service moment v hold_days = None
+abbrev pub answered_hold_end : Service → ℕ → Verdict → Option ℕ → Option ℕ
+answered_hold_end Authorization moment (verdict.Approved id) hold_days =
+    option_map (end_of_hold moment) hold_days
+answered_hold_end service moment v hold_days = None
 
 -- ---- the change
 
 -- what a decision changes
 abbrev pub change_of : Known → Decision → Option Change
-change_of k (decided.Tells o) = None
+change_of k (decided.Reports o) = None
 change_of k (decided.Replies r code) = None
 change_of k (decided.Repeats reply) = None
 change_of k (decided.Refuses r code) = Some (change.AddRequest (refused_row k.today r code))
-change_of k (decided.Admits r range reference) = Some (change.AddRequest (admitted_row k.today r range reference))
+change_of k (decided.Admits r range reference) =
+    Some (change.AddRequest (admitted_row k.today r range reference))
 change_of k (decided.Completes r hold) =
-    Some (change.Follow (completion_row k.today r hold) hold.key status.Completed (Some (completion_posting k.today r hold)))
+    Some (change.Follow (completion_row k.today r hold) hold.key status.Completed
+    (Some (completion_posting k.today r hold)))
 change_of k (decided.Reverses r p) =
-    Some (change.Follow (reversal_row k.today r p) p.key (reversed_status p.standing) (reversal_posting k.today r p))
+    Some (change.Follow (reversal_row k.today r p) p.key (reversed_status p.reply_state)
+    (reversal_posting k.today r p))
 change_of k (decided.Reconciles r day) =
-    Some (change.Reconciled (reconciliation_row k r day) (record { merchant = text_at r.message 42; day = day; in_balance = is_in_balance k r }))
-change_of k (decided.Answers moment verdict p) =
-    Some (change.Answered p.key (answered_status verdict) (answered_reply (draft_of p.standing) verdict)
-    (answered_until p.key.service moment verdict p.hold_days) (answer_posting verdict p))
+    Some (change.Reconciled (reconciliation_row k r day)
+    (record { merchant = text_at r.message 42; day = day; in_balance = is_in_balance k r }))
+change_of k (decided.Answers moment verdict p draft) =
+    Some (change.Answered p.key (answered_status verdict) (answered_reply draft verdict)
+    (answered_hold_end p.key.service moment verdict p.hold_days) (answer_posting verdict p))
 change_of k decided.CutsOver = Some (change.SetDay (k.today + 1))
 change_of k (decided.AddsRange range) = Some (change.AddRange range)
 change_of k (decided.DropsRange low high) = Some (change.DropRange low high)

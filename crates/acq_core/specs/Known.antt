@@ -1,28 +1,25 @@
 -- What has to be known to decide on an event, wherever it is read from.
-use Rattle.std.specs.Prelude.{ℕ, Bool, false, List, Option, Some, None, option_and_then, if◌then◌else◌}
+use Rattle.std.specs.Prelude.{ℕ, Bool, false, List, Option, Some, None, option_and_then}
+use Rattle.std.specs.Prelude.{if◌then◌else◌}
 use Rattle.card_no.specs.declared.range.Range.{Range}
 use Rattle.card_no.specs.CardNumbers.{is_valid_card, prefix_of}
 use Rattle.day_totals.specs.Day.{resolved}
 use Rattle.day_totals.specs.Totals.{DayTotals, zero_totals}
 use Rattle.day_totals.specs.declared.leg.Leg.{Leg}
 use Rattle.iso_codec.specs.Message.{IsoMessage, content_of}
-use Rattle.acq_core.specs.declared.service.Service.{Service}
-use Rattle.acq_core.specs.declared.service.Service.TheVariants.{Authorization, Financial, Completion, Reversal, ReversalAdvice, Reconciliation, NetworkManagement}
-use Rattle.acq_core.specs.declared.request_key.RequestKey.{RequestKey}
+use Rattle.acq_message.specs.declared.service.Service.{Service}
+use Rattle.acq_message.specs.declared.service.Service.TheVariants.{Authorization, Financial}
+use Rattle.acq_message.specs.declared.service.Service.TheVariants.{Completion, Reversal}
+use Rattle.acq_message.specs.declared.service.Service.TheVariants.{ReversalAdvice, Reconciliation}
+use Rattle.acq_message.specs.declared.service.Service.TheVariants.{NetworkManagement}
+use Rattle.acq_message.specs.declared.request_key.RequestKey.{RequestKey}
+use Rattle.acq_message.specs.Elements.{text_at, key_of, original_key, reference_in, or_empty}
+use Rattle.acq_message.specs.Cards.{card_of}
 use Rattle.acq_core.specs.declared.merchant.Merchant.{Merchant}
 use Rattle.acq_core.specs.declared.lookup.Wanted.{Wanted}
-use Rattle.acq_core.specs.Elements.{text_at, key_of, original_key, reference_in, or_empty}
-use Rattle.acq_core.specs.Cards.{card_of}
-use Rattle.acq_core.specs.Arrivals as arrival
-
--- what a repeat of a recorded request gets
-pub data Standing : Type 0 where
-  -- the reply that was kept
-  Kept : (reply : List ℕ) → Standing
-  -- nothing yet: its issuer hasn't answered; so much of its reply stands fixed
-  Awaited : (draft : List ℕ) → Standing
-  -- nothing any more: it was reversed before its issuer answered
-  Withdrawn : Standing
+use Rattle.acq_core.specs.declared.reply_state.ReplyState.{ReplyState}
+use Rattle.acq_core.specs.declared.arrival.Arrival.{Arrival}
+use Rattle.acq_core.specs.declared.arrival.Arrival.TheVariants as arrival
 
 -- what is known of a recorded request
 pub record Prior : Type 0 where
@@ -37,14 +34,14 @@ pub record Prior : Type 0 where
   -- that of an admitted request, or of the hold that an accepted completion completes
   pub reference : Option ℕ
   pub hold_days : Option ℕ
-  pub standing : Standing
-  -- it can't be reversed, or not any more
-  pub final : Bool
+  pub reply_state : ReplyState
+  -- a reversal of it can be accepted
+  pub is_reversible : Bool
   -- the last second of a hold that was approved and neither completed nor reversed
-  pub open_until : Option ℕ
+  pub hold_end : Option ℕ
 
 -- what is known of one merchant and of what all share
-pub record Notions : Type 0 where
+pub record Facts : Type 0 where
   pub today : ℕ
   pub limit : ℕ
   pub merchant : Option Merchant
@@ -80,11 +77,21 @@ pub record Known : Type 0 where
 -- nothing is looked up
 abbrev pub nothing : Wanted
 nothing =
-    record { merchant = None; terminal = None; key = None; original = None; reference = None; prefix = None; bounds = None; totals_day = None }
+    record {
+      merchant = None;
+      terminal = None;
+      key = None;
+      original = None;
+      reference = None;
+      prefix = None;
+      bounds = None;
+      totals_day = None;
+    }
 
 -- the prefix of a valid card
 abbrev pub prefix_in : IsoMessage → Option ℕ
-prefix_in m = if is_valid_card (or_empty (card_of m)) then Some (prefix_of (or_empty (card_of m))) else None
+prefix_in m =
+    if is_valid_card (or_empty (card_of m)) then Some (prefix_of (or_empty (card_of m))) else None
 
 -- the day that a reconciliation is of: today, or the latest day with the month and day of element 15
 abbrev pub reconciled_day : ℕ → Option (List ℕ) → Option ℕ
@@ -93,30 +100,43 @@ reconciled_day today (Some mmdd) = resolved mmdd today
 
 -- what every recorded request needs
 abbrev pub wanted_by_key : Service → IsoMessage → Wanted
-wanted_by_key service m = record nothing { merchant = Some (text_at m 42); terminal = Some (text_at m 41); key = Some (key_of service m) }
+wanted_by_key service m =
+    record nothing {
+      merchant = Some (text_at m 42);
+      terminal = Some (text_at m 41);
+      key = Some (key_of service m);
+    }
 
 -- what a request of each service needs
 abbrev pub wanted_for : ℕ → Service → IsoMessage → Wanted
 wanted_for today Authorization m = record (wanted_by_key Authorization m) { prefix = prefix_in m }
 wanted_for today Financial m = record (wanted_by_key Financial m) { prefix = prefix_in m }
-wanted_for today Completion m = record (wanted_by_key Completion m) { reference = reference_in m }
+wanted_for today Completion m =
+    record (wanted_by_key Completion m) { reference = reference_in m }
 wanted_for today Reversal m = record (wanted_by_key Reversal m) { original = original_key m }
-wanted_for today ReversalAdvice m = record (wanted_by_key ReversalAdvice m) { original = original_key m }
-wanted_for today Reconciliation m = record (wanted_by_key Reconciliation m) { totals_day = reconciled_day today (content_of m.elements 15) }
+wanted_for today ReversalAdvice m =
+    record (wanted_by_key ReversalAdvice m) { original = original_key m }
+wanted_for today Reconciliation m =
+    record (wanted_by_key Reconciliation m) {
+      totals_day = reconciled_day today (content_of m.elements 15);
+    }
 wanted_for today NetworkManagement m = nothing
 
 -- what to look up on a day for what came
-abbrev pub wanted_by : ℕ → arrival.Arrival → Wanted
+abbrev pub wanted_by : ℕ → Arrival → Wanted
 wanted_by today (arrival.Undecoded fault) = nothing
 wanted_by today (arrival.Unserved m) = nothing
 wanted_by today (arrival.Malformed r) = nothing
 wanted_by today (arrival.Requested r) = wanted_for today r.service r.message
-wanted_by today (arrival.Answered moment merchant reference verdict) = record nothing { merchant = Some merchant; reference = Some reference }
+wanted_by today (arrival.Answered moment merchant reference verdict) =
+    record nothing { merchant = Some merchant; reference = Some reference }
 wanted_by today arrival.CutOver = nothing
-wanted_by today (arrival.RangeAdded range) = record nothing { bounds = Some (range.low, range.high) }
+wanted_by today (arrival.RangeAdded range) =
+    record nothing { bounds = Some (range.low, range.high) }
 wanted_by today (arrival.RangeDropped low high) = record nothing { bounds = Some (low, high) }
 wanted_by today (arrival.Enrolled merchant) = record nothing { merchant = Some merchant.id }
-wanted_by today (arrival.TerminalAdded terminal) = record nothing { merchant = Some terminal.merchant; terminal = Some terminal.id }
+wanted_by today (arrival.TerminalAdded terminal) =
+    record nothing { merchant = Some terminal.merchant; terminal = Some terminal.id }
 
 -- whether a terminal that is wanted is there
 abbrev pub holds_if : (List ℕ → Bool) → Option (List ℕ) → Bool
@@ -134,19 +154,19 @@ totals_if totals None = zero_totals
 totals_if totals (Some day) = totals day
 
 -- what the look-ups give
-abbrev pub known_for : Wanted → Notions → Known
-known_for wanted n =
+abbrev pub known_for : Wanted → Facts → Known
+known_for wanted facts =
     record {
-      today = n.today;
-      limit = n.limit;
-      merchant = option_and_then (λ id. n.merchant) wanted.merchant;
-      has_terminal = holds_if n.has_terminal wanted.terminal;
-      recorded = option_and_then n.recorded wanted.key;
-      original = option_and_then n.recorded wanted.original;
-      referred = option_and_then n.referred wanted.reference;
-      range = option_and_then n.range wanted.prefix;
-      overlapped = option_and_then (λ ends. n.overlapped ends.0 ends.1) wanted.bounds;
-      admitted = number_if n.admitted wanted.merchant;
-      used = number_if (n.used n.today) wanted.merchant;
-      totals = totals_if n.totals wanted.totals_day;
+      today = facts.today;
+      limit = facts.limit;
+      merchant = option_and_then (λ id. facts.merchant) wanted.merchant;
+      has_terminal = holds_if facts.has_terminal wanted.terminal;
+      recorded = option_and_then facts.recorded wanted.key;
+      original = option_and_then facts.recorded wanted.original;
+      referred = option_and_then facts.referred wanted.reference;
+      range = option_and_then facts.range wanted.prefix;
+      overlapped = option_and_then (λ ends. facts.overlapped ends.0 ends.1) wanted.bounds;
+      admitted = number_if facts.admitted wanted.merchant;
+      used = number_if (facts.used facts.today) wanted.merchant;
+      totals = totals_if facts.totals wanted.totals_day;
     }

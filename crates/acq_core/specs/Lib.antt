@@ -1,15 +1,7 @@
-pub mod Moments
-pub mod Names
+pub mod Days
 pub mod Numbers
-pub mod IssuerTexts
-pub mod Verdicts
-pub mod Services
-pub mod Responses
-pub mod Cards
-pub mod Elements
-pub mod FirstCheck
 pub mod Arrivals
-pub mod Reply
+pub mod Outputs
 pub mod Known
 pub mod Decision
 pub mod Outcome

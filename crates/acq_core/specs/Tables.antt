@@ -1,32 +1,44 @@
--- The tables, what their rows say of a merchant, what a change makes of them, and whole runs over them.
-use Rattle.std.specs.Prelude.{ℕ, ◌+◌, ◌==◌, Bool, true, false, ◌&&◌, List, [], ◌∷◌, ◌++◌, map, filter, find, Option, Some, None, option_map, is_some, if◌then◌else◌}
+-- The tables, what their rows say of a merchant, what a change makes of them, and whole runs over
+-- them.
+use Rattle.std.specs.Prelude.{ℕ, ◌+◌, ◌==◌, Bool, true, false, ◌&&◌, List, [], ◌∷◌, ◌++◌, map}
+use Rattle.std.specs.Prelude.{filter, find, Option, Some, None, option_map, is_some}
+use Rattle.std.specs.Prelude.{if◌then◌else◌}
 use Rattle.std.specs.List.{list_any}
 use Rattle.std.specs.Str.{bytes_eq}
 use Rattle.card_no.specs.declared.range.Range.{Range}
 use Rattle.card_no.specs.Ranges.{range_of_prefix, overlapped_by, with_range, without_range}
 use Rattle.day_totals.specs.Totals.{DayTotals, totals_of}
 use Rattle.day_totals.specs.declared.leg.Leg.{Leg}
-use Rattle.acq_core.specs.declared.service.Service.{Service}
-use Rattle.acq_core.specs.declared.service.Service.TheVariants.{Authorization, Financial, Completion}
-use Rattle.acq_core.specs.declared.request_key.RequestKey.{RequestKey}
+use Rattle.iso_codec.specs.Message.{IsoMessage}
+use Rattle.acq_message.specs.declared.service.Service.{Service}
+use Rattle.acq_message.specs.declared.service.Service.TheVariants.{Authorization, Financial}
+use Rattle.acq_message.specs.declared.service.Service.TheVariants.{Completion}
+use Rattle.acq_message.specs.declared.request_key.RequestKey.{RequestKey}
+use Rattle.acq_message.specs.Numbers.{is_number}
+use Rattle.acq_message.specs.Elements.{same_key, or_empty}
 use Rattle.acq_core.specs.declared.merchant.Merchant.{Merchant}
 use Rattle.acq_core.specs.declared.terminal.Terminal.{Terminal}
 use Rattle.acq_core.specs.declared.request.Request.{Request}
 use Rattle.acq_core.specs.declared.status.Status.{Status}
-use Rattle.acq_core.specs.declared.status.Status.TheVariants.{Refused, Pending, Declined, Approved, Completed, Reversed, ReversedPending, Reconciled}
+use Rattle.acq_core.specs.declared.status.Status.TheVariants.{Refused, Pending, Declined, Approved}
+use Rattle.acq_core.specs.declared.status.Status.TheVariants.{Completed, Reversed}
+use Rattle.acq_core.specs.declared.status.Status.TheVariants.{ReversedPending, Reconciled}
+use Rattle.acq_core.specs.declared.reply_state.ReplyState.{ReplyState}
+use Rattle.acq_core.specs.declared.reply_state.ReplyState.TheVariants.{Kept, Awaited, Late}
 use Rattle.acq_core.specs.declared.posting.Posting.{Posting}
 use Rattle.acq_core.specs.declared.reconciliation.Reconciliation.{Reconciliation}
 use Rattle.acq_core.specs.declared.change.Change.{Change}
 use Rattle.acq_core.specs.declared.change.Change.TheVariants as change
 use Rattle.acq_core.specs.declared.event.Event.{Event}
 use Rattle.acq_core.specs.declared.output.Output.{Output}
-use Rattle.acq_core.specs.Elements.{same_key, or_empty}
-use Rattle.acq_core.specs.Arrivals.{Arrival, arrival_of, merchant_named}
-use Rattle.acq_core.specs.Known.{Standing, Kept, Awaited, Withdrawn, Prior, Notions, Known, wanted_by, known_for}
+use Rattle.acq_core.specs.declared.arrival.Arrival.{Arrival}
+use Rattle.acq_core.specs.Arrivals.{arrival_of, merchant_named}
+use Rattle.acq_core.specs.Known.{Prior, Facts, Known, wanted_by, known_for}
 use Rattle.acq_core.specs.Outcome.{outcome, output_of}
 use Rattle.acq_core.specs.Changes.{change_for}
 
--- The tables: the limit and the business day, and six lists in the order in which rows came; ranges are in order of low.
+-- The tables: the limit and the business day, and six lists in the order in which rows came; ranges
+-- are in order of low.
 pub record Tables : Type 0 where
   pub limit : ℕ
   pub day : ℕ
@@ -38,12 +50,26 @@ pub record Tables : Type 0 where
   pub postings : List (ℕ × Posting)
   pub reconciliations : List (ℕ × Reconciliation)
 
--- the tables of a new book
-abbrev pub new_tables : ℕ → ℕ → Tables
-new_tables limit day =
-    record { limit = limit; day = day; merchants = []; terminals = []; ranges = []; requests = []; postings = []; reconciliations = [] }
+-- what a book begins with: how many messages of a merchant a day admits, and the first business day
+pub record Opening : Type 0 where
+  pub limit : ℕ
+  pub first_day : ℕ
 
--- how many pass. (std's count is a fold from the left, which doesn't compute at a ∷)
+-- the tables of a new book
+abbrev pub new_tables : Opening → Tables
+new_tables opening =
+    record {
+      limit = opening.limit;
+      day = opening.first_day;
+      merchants = [];
+      terminals = [];
+      ranges = [];
+      requests = [];
+      postings = [];
+      reconciliations = [];
+    }
+
+-- how many pass (std's count is a fold from the left, which doesn't compute at a ∷)
 abbrev pub count : {X : Type 0} → (X → Bool) → List X → ℕ
 count p [] = 0
 count p (x ∷ xs) = if p x then 1 + count p xs else count p xs
@@ -51,26 +77,26 @@ count p (x ∷ xs) = if p x then 1 + count p xs else count p xs
 -- ---- what a row says of its request
 
 -- what a repeat of it gets
-abbrev pub standing_of : Status → List ℕ → Standing
-standing_of Pending reply = Awaited reply
-standing_of ReversedPending reply = Withdrawn
-standing_of Refused reply = Kept reply
-standing_of Declined reply = Kept reply
-standing_of Approved reply = Kept reply
-standing_of Completed reply = Kept reply
-standing_of Reversed reply = Kept reply
-standing_of Reconciled reply = Kept reply
+abbrev pub reply_state_of : Status → IsoMessage → ReplyState
+reply_state_of Pending reply = Awaited reply
+reply_state_of ReversedPending reply = Late
+reply_state_of Refused reply = Kept reply
+reply_state_of Declined reply = Kept reply
+reply_state_of Approved reply = Kept reply
+reply_state_of Completed reply = Kept reply
+reply_state_of Reversed reply = Kept reply
+reply_state_of Reconciled reply = Kept reply
 
--- it can't be reversed, or not any more
-abbrev pub is_final : Status → Bool
-is_final Pending = false
-is_final Approved = false
-is_final Refused = true
-is_final Declined = true
-is_final Completed = true
-is_final Reversed = true
-is_final ReversedPending = true
-is_final Reconciled = true
+-- a reversal of it can be accepted
+abbrev pub is_reversible : Status → Bool
+is_reversible Pending = true
+is_reversible Approved = true
+is_reversible Refused = false
+is_reversible Declined = false
+is_reversible Completed = false
+is_reversible Reversed = false
+is_reversible ReversedPending = false
+is_reversible Reconciled = false
 
 -- approved by its issuer, or accepted
 abbrev pub is_approved : Status → Bool
@@ -89,9 +115,9 @@ leg_by Completion row = option_map (λ reference. row.leg) row.follows
 leg_by service row = None
 
 -- the end of a hold that is approved
-abbrev pub open_by : Service → Request → Option ℕ
-open_by Authorization row = if is_approved row.status then row.until else None
-open_by service row = None
+abbrev pub hold_end_by : Service → Request → Option ℕ
+hold_end_by Authorization row = if is_approved row.status then row.hold_end else None
+hold_end_by service row = None
 
 -- what a row says of its request
 abbrev pub prior_of : Request → Prior
@@ -106,9 +132,9 @@ prior_of row =
       acquirer = row.acquirer;
       reference = reference_by row.key.service row;
       hold_days = row.hold_days;
-      standing = standing_of row.status row.reply;
-      final = is_final row.status;
-      open_until = open_by row.key.service row;
+      reply_state = reply_state_of row.status row.reply;
+      is_reversible = is_reversible row.status;
+      hold_end = hold_end_by row.key.service row;
     }
 
 -- ---- what the tables say of a merchant
@@ -125,11 +151,6 @@ postings_of m rows = filter (λ row. bytes_eq row.1.merchant m) rows
 abbrev pub recorded_in : List Request → RequestKey → Option Prior
 recorded_in rows key = option_map prior_of (find (λ row. same_key row.key key) rows)
 
--- a number is there, and is this one
-abbrev pub is_number : ℕ → Option ℕ → Bool
-is_number n None = false
-is_number n (Some m) = m == n
-
 -- the one with this reference
 abbrev pub referred_in : List Request → ℕ → Option Prior
 referred_in rows reference = option_map prior_of (find (λ row. is_number reference row.reference) rows)
@@ -144,20 +165,22 @@ used_in rows day = count (λ row. row.admitted && (row.day == day)) rows
 
 -- the totals of these postings on a day
 abbrev pub totals_on : List (ℕ × Posting) → ℕ → DayTotals
-totals_on rows day = totals_of (map (λ row. (row.1.leg, row.1.amount)) (filter (λ row. row.1.day == day) rows))
+totals_on rows day =
+    totals_of (map (λ row. (row.1.leg, row.1.amount)) (filter (λ row. row.1.day == day) rows))
 
 -- a range with these ends
 abbrev pub between : ℕ → ℕ → Range
 between low high = record { low = low; high = high; issuer = []; hold_days = 0 }
 
 -- what the tables say of a merchant, and of what all share
-abbrev pub notions_in : Tables → List ℕ → Notions
-notions_in t m =
+abbrev pub facts_in : Tables → List ℕ → Facts
+facts_in t m =
     record {
       today = t.day;
       limit = t.limit;
       merchant = find (λ row. bytes_eq row.id m) t.merchants;
-      has_terminal = λ id. list_any (λ row. bytes_eq row.merchant m && bytes_eq row.id id) t.terminals;
+      has_terminal =
+          λ id. list_any (λ row. bytes_eq row.merchant m && bytes_eq row.id id) t.terminals;
       recorded = recorded_in (requests_of m t.requests);
       referred = referred_in (requests_of m t.requests);
       admitted = admitted_in (requests_of m t.requests);
@@ -169,22 +192,43 @@ notions_in t m =
 
 -- what the tables let an event know
 abbrev pub known_in : Tables → Arrival → Known
-known_in t a = known_for (wanted_by t.day a) (notions_in t (or_empty (merchant_named a)))
+known_in t a = known_for (wanted_by t.day a) (facts_in t (or_empty (merchant_named a)))
 
 -- ---- what a change makes of the tables
 
+-- how many postings a merchant has on a day
+abbrev pub postings_before : List (ℕ × Posting) → Posting → ℕ
+postings_before rows p =
+    count (λ row. bytes_eq row.1.merchant p.merchant && (row.1.day == p.day)) rows
+
 -- a posting gets the next number of its merchant and day
-abbrev pub with_posting : List (ℕ × Posting) → Option Posting → List (ℕ × Posting)
-with_posting rows None = rows
-with_posting rows (Some p) = rows ++ (count (λ row. bytes_eq row.1.merchant p.merchant && (row.1.day == p.day)) rows + 1, p) ∷ []
+abbrev pub with_next_posting : List (ℕ × Posting) → Option Posting → List (ℕ × Posting)
+with_next_posting rows None = rows
+with_next_posting rows (Some p) = rows ++ (postings_before rows p + 1, p) ∷ []
+
+-- how many reconciliations a merchant has of a day
+abbrev pub reconciliations_before : List (ℕ × Reconciliation) → Reconciliation → ℕ
+reconciliations_before rows p =
+    count (λ row. bytes_eq row.1.merchant p.merchant && (row.1.day == p.day)) rows
 
 -- so does a reconciliation
-abbrev pub with_reconciliation : List (ℕ × Reconciliation) → Reconciliation → List (ℕ × Reconciliation)
-with_reconciliation rows p = rows ++ (count (λ row. bytes_eq row.1.merchant p.merchant && (row.1.day == p.day)) rows + 1, p) ∷ []
+abbrev pub with_next_reconciliation :
+    List (ℕ × Reconciliation) → Reconciliation → List (ℕ × Reconciliation)
+with_next_reconciliation rows p = rows ++ (reconciliations_before rows p + 1, p) ∷ []
 
 -- the requests, with the one that has a key changed so
 abbrev pub with_changed : RequestKey → (Request → Request) → List Request → List Request
-with_changed key changed rows = map (λ row. if same_key row.key key then changed row else row) rows
+with_changed key changed rows =
+    map (λ row. if same_key row.key key then changed row else row) rows
+
+-- a request that was answered so
+abbrev pub answered_row : Status → IsoMessage → Option ℕ → Request → Request
+answered_row status reply hold_end row =
+    record row { status = status; reply = reply; hold_end = hold_end }
+
+-- what a completion or a reversal leaves of the request that it follows
+abbrev pub followed_row : Status → Request → Request
+followed_row status row = record row { status = status }
 
 -- the tables after a change
 abbrev pub after : Tables → Change → Tables
@@ -194,18 +238,21 @@ after t (change.AddRange range) = record t { ranges = with_range t.ranges range 
 after t (change.DropRange low high) = record t { ranges = without_range t.ranges low high }
 after t (change.SetDay day) = record t { day = day }
 after t (change.AddRequest row) = record t { requests = t.requests ++ row ∷ [] }
-after t (change.Answered key status reply until posting) =
+after t (change.Answered key status reply hold_end posting) =
     record t {
-      requests = with_changed key (λ row. record row { status = status; reply = reply; until = until }) t.requests;
-      postings = with_posting t.postings posting;
+      requests = with_changed key (answered_row status reply hold_end) t.requests;
+      postings = with_next_posting t.postings posting;
     }
 after t (change.Follow row original status posting) =
     record t {
-      requests = with_changed original (λ old. record old { status = status }) t.requests ++ row ∷ [];
-      postings = with_posting t.postings posting;
+      requests = with_changed original (followed_row status) t.requests ++ row ∷ [];
+      postings = with_next_posting t.postings posting;
     }
 after t (change.Reconciled row reconciliation) =
-    record t { requests = t.requests ++ row ∷ []; reconciliations = with_reconciliation t.reconciliations reconciliation }
+    record t {
+      requests = t.requests ++ row ∷ [];
+      reconciliations = with_next_reconciliation t.reconciliations reconciliation;
+    }
 
 -- the tables after a change, if there is one
 abbrev pub after_any : Tables → Option Change → Tables

@@ -1,15 +1,15 @@
 //! What an event changes.
 
 use crate::merchant::Merchant;
-use crate::message_text::MessageText;
 use crate::posting::Posting;
 use crate::reconciliation::Reconciliation;
 use crate::request::Request;
-use crate::request_key::RequestKey;
 use crate::status::Status;
 use crate::terminal::Terminal;
+use acq_message::RequestKey;
 use card_no::Range;
 use day_totals::Day;
+use iso_codec::Message;
 
 /// A change of the tables. It is made whole or not at all.
 #[derive(Debug, Drop)]
@@ -33,9 +33,9 @@ pub enum Change {
     Answered {
         key: RequestKey,
         status: Status,
-        reply: MessageText,
+        reply: Message,
         /// The last second of a hold that opens.
-        until: Option<u64>,
+        hold_end: Option<u64>,
         posting: Option<Posting>,
     },
     /// A request is recorded that completes or reverses the earlier one with this key, which gets

@@ -1,21 +1,16 @@
 //! What reaches the host.
 
-use crate::currency::Currency;
 use crate::first_reference::FirstReference;
-use crate::merchant_id::MerchantId;
-use crate::message_text::MessageText;
-use crate::moment::Moment;
-use crate::terminal_id::TerminalId;
-use crate::verdict::Verdict;
+use acq_message::{Currency, MerchantId, MessageText, Moment, Reference, TerminalId, Verdict};
 use card_no::Range;
 
 /// One event. The host takes each whole before the next.
 #[derive(Debug, Drop)]
 pub enum Event {
-    /// A frame came at a moment. Its bytes may be any, and any number of them.
+    /// A frame came at a moment. Its bytes, without their length, may be any and any number.
     Frame(Moment, MessageText),
     /// An issuer answered the request of a merchant with a reference.
-    Answer(Moment, MerchantId, u64, Verdict),
+    Answer(Moment, MerchantId, Reference, Verdict),
     /// The business day ends, and the next begins.
     Cutover(Moment),
     /// An issuer's range of card prefixes is added.

@@ -1,7 +1,7 @@
 //! Worked examples of the definitions, computed by the checker from a frame's bytes to its reply's.
 
 ghost use Rattle.std.specs.Prelude.{◌≡◌, ◌++◌, ◌∷◌, [], codes};
-ghost use Rattle.acq_core.specs.Cards.{card_of, expiry_of};
+ghost use Rattle.acq_message.specs.Cards.{card_of, expiry_of};
 ghost use Rattle.acq_core.specs.NetworkAlone.{output_of_frame};
 ghost use Rattle.acq_core.specs.declared.output.Output.TheVariants.{Reply, Undecodable, UnservedType};
 ghost use Rattle.iso_codec.specs.declared.decode_fault.DecodeFault.TheVariants.{Trailing, UnknownElement};

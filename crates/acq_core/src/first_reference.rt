@@ -1,7 +1,7 @@
 //! First references.
 
-ghost use Rattle.std.specs.Prelude.{◌≡◌, true};
-ghost use Rattle.acq_core.specs.Numbers.{is_first_reference, first_reference_of};
+ghost use Rattle.std.specs.Prelude.{◌≡◌, true, SomeIff};
+ghost use Rattle.acq_core.specs.Numbers.{is_first_reference};
 
 use std::marker::Model;
 
@@ -18,9 +18,9 @@ impl Model for FirstReference {
 
     ghost Value = { ℕ };
 
-    ghost view = { λ f. f.number };
+    ghost view = { λ x. x.number };
 
-    ghost invariant = { λ f. is_first_reference f.number ≡ true };
+    ghost invariant = { λ x. is_first_reference x.number ≡ true };
 
     ghost inverse = { λ n. record { number = n } };
 }
@@ -28,7 +28,7 @@ impl Model for FirstReference {
 impl FirstReference {
     /// The first reference with that number, or `None` outside the range. It takes no memory.
     pub fn from_number(number: u64) -> Option<FirstReference>
-        ensures { result ≡ first_reference_of number }
+        ensures { SomeIff result (is_first_reference number ≡ true) number }
     {
         if (1..=900_000_000_000).contains(&number) {
             Some(FirstReference { number })

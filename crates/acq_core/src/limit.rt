@@ -1,7 +1,7 @@
 //! Limits of a day.
 
-ghost use Rattle.std.specs.Prelude.{◌≡◌, true};
-ghost use Rattle.acq_core.specs.Numbers.{is_limit, limit_of};
+ghost use Rattle.std.specs.Prelude.{◌≡◌, true, SomeIff};
+ghost use Rattle.acq_core.specs.Numbers.{is_limit};
 
 use std::marker::Model;
 
@@ -18,9 +18,9 @@ impl Model for Limit {
 
     ghost Value = { ℕ };
 
-    ghost view = { λ l. l.number };
+    ghost view = { λ x. x.number };
 
-    ghost invariant = { λ l. is_limit l.number ≡ true };
+    ghost invariant = { λ x. is_limit x.number ≡ true };
 
     ghost inverse = { λ n. record { number = n } };
 }
@@ -28,7 +28,7 @@ impl Model for Limit {
 impl Limit {
     /// The limit of that many messages, or `None` outside the range. It takes no memory.
     pub fn from_number(number: u32) -> Option<Limit>
-        ensures { result ≡ limit_of number }
+        ensures { SomeIff result (is_limit number ≡ true) number }
     {
         if (1..=999_999).contains(&number) {
             Some(Limit { number })

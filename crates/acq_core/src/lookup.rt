@@ -1,11 +1,11 @@
 //! What is looked up for an event.
 
+use crate::admitted_count::AdmittedCount;
 use crate::limit::Limit;
 use crate::merchant::Merchant;
-use crate::merchant_id::MerchantId;
 use crate::request::Request;
-use crate::request_key::RequestKey;
-use crate::terminal_id::TerminalId;
+use crate::used_count::UsedCount;
+use acq_message::{MerchantId, Reference, RequestKey, TerminalId};
 use card_no::Range;
 use day_totals::{Day, Totals};
 
@@ -13,14 +13,16 @@ use day_totals::{Day, Totals};
 /// looked up for the merchant.
 #[derive(Clone, Copy, Debug, PartialEq, Eq)]
 pub struct Wanted {
+    /// The merchant that the event names.
     pub merchant: Option<MerchantId>,
+    /// The terminal that it names.
     pub terminal: Option<TerminalId>,
     /// The request's own key.
     pub key: Option<RequestKey>,
     /// The key of the request that a reversal names as its original.
     pub original: Option<RequestKey>,
     /// The reference of the hold that is completed, or of the request that was answered.
-    pub reference: Option<u64>,
+    pub reference: Option<Reference>,
     /// The prefix of the card.
     pub prefix: Option<u32>,
     /// The ends of a range, `low` and `high`.
@@ -34,8 +36,11 @@ pub struct Wanted {
 pub struct Looked {
     /// The business day.
     pub today: Day,
+    /// How many messages of a merchant a day admits.
     pub limit: Limit,
+    /// The merchant as it was enrolled.
     pub merchant: Option<Merchant>,
+    /// Whether the merchant has the terminal.
     pub has_terminal: bool,
     /// The recorded request with the key.
     pub recorded: Option<Request>,
@@ -47,10 +52,10 @@ pub struct Looked {
     pub range: Option<Range>,
     /// Of the ranges that overlap the bounds, the one of least low.
     pub overlapped: Option<Range>,
-    /// How many references the merchant has given.
-    pub admitted: u64,
+    /// How many of the merchant's requests were admitted: so many references it has given.
+    pub admitted: AdmittedCount,
     /// How many of the merchant's messages count against the limit of today.
-    pub used: u64,
+    pub used: UsedCount,
     /// The merchant's totals of the day that is wanted.
     pub totals: Totals,
 }

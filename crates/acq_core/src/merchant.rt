@@ -1,8 +1,7 @@
 //! Enrolled merchants.
 
-use crate::currency::Currency;
 use crate::first_reference::FirstReference;
-use crate::merchant_id::MerchantId;
+use acq_message::{Currency, MerchantId};
 
 /// A row of the merchants.
 #[derive(Clone, Copy, Debug, PartialEq, Eq)]

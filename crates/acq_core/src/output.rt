@@ -1,11 +1,10 @@
-//! What an event comes to.
+//! What the host says to an event.
 
 ghost use Rattle.std.specs.Prelude.{◌≡◌};
-ghost use Rattle.acq_core.specs.Outcome.{output_number};
+ghost use Rattle.acq_core.specs.Outputs.{output_number};
 
-use crate::merchant_id::MerchantId;
-use crate::message_text::MessageText;
 use crate::query::Query;
+use acq_message::{MerchantId, MessageText};
 use card_no::Range;
 use iso_codec::DecodeFault;
 
@@ -13,7 +12,8 @@ use iso_codec::DecodeFault;
 /// have a number, and say that nothing was changed.
 #[derive(Debug, Drop)]
 pub enum Output {
-    /// A reply, and the merchant that the frame names in element 42.
+    /// A reply's bytes, for the merchant that the event names: in element 42 of a frame, or in an
+    /// answer.
     Reply(Option<MerchantId>, MessageText),
     /// The request was admitted: its card's issuer is to be asked.
     Ask(Query),

@@ -1,8 +1,6 @@
 //! Postings.
 
-use crate::element_content::ElementContent;
-use crate::merchant_id::MerchantId;
-use crate::terminal_id::TerminalId;
+use acq_message::{Amount, ElementContent, MerchantId, Reference, TerminalId, Trace};
 use day_totals::{Day, Leg};
 
 /// A row of the postings, but for its number, which the book gives it: 1 plus the number of that
@@ -12,13 +10,13 @@ pub struct Posting {
     pub merchant: MerchantId,
     pub day: Day,
     pub leg: Leg,
-    /// In minor units.
-    pub amount: u64,
+    pub amount: Amount,
     /// The reference of the request, or of the one that it follows.
-    pub reference: u64,
+    pub reference: Reference,
+    /// The card number of the request; of a completion its hold's, of a reversal its original's.
     pub card: ElementContent,
     /// The terminal of the message that posted.
     pub terminal: TerminalId,
-    /// Element 11 of the message that posted.
-    pub trace: [u8; 6],
+    /// The trace of the message that posted.
+    pub trace: Trace,
 }

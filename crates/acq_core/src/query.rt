@@ -1,7 +1,6 @@
 //! What issuers are asked.
 
-use crate::merchant_id::MerchantId;
-use crate::service::Service;
+use acq_message::{Amount, MerchantId, Reference, Service};
 use card_no::{CardNumber, IssuerId};
 use day_totals::Leg;
 
@@ -10,13 +9,12 @@ use day_totals::Leg;
 pub struct Query {
     pub merchant: MerchantId,
     /// The merchant's reference for the request.
-    pub reference: u64,
+    pub reference: Reference,
     /// An authorization, or a financial request.
     pub service: Service,
     /// Credit for a return, else debit.
     pub leg: Leg,
     pub card: CardNumber,
-    /// In minor units.
-    pub amount: u64,
+    pub amount: Amount,
     pub issuer: IssuerId,
 }

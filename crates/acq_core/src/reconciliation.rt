@@ -1,6 +1,6 @@
 //! Reconciliations.
 
-use crate::merchant_id::MerchantId;
+use acq_message::MerchantId;
 use day_totals::Day;
 
 /// A row of the reconciliations, but for its number, which the book gives it: 1 plus the number of

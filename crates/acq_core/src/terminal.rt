@@ -1,7 +1,6 @@
 //! Terminals at merchants.
 
-use crate::merchant_id::MerchantId;
-use crate::terminal_id::TerminalId;
+use acq_message::{MerchantId, TerminalId};
 
 /// A row of the terminals.
 #[derive(Clone, Copy, Debug, PartialEq, Eq)]

@@ -17,13 +17,13 @@ pub fn all_digits(text: &[u8]) -> bool
     text.iter().all(|b| matches!(*b, b'0'..=b'9'))
 }
 
-fn all_alphanumeric(text: &[u8]) -> bool
+pub fn all_alphanumeric(text: &[u8]) -> bool
     ensures { result ≡ list_all is_alphanumeric text.now }
 {
     text.iter().all(|b| matches!(*b, b'0'..=b'9' | b'A'..=b'Z' | b'a'..=b'z' | b' '))
 }
 
-fn all_printable(text: &[u8]) -> bool
+pub fn all_printable(text: &[u8]) -> bool
     ensures { result ≡ list_all is_printable text.now }
 {
     text.iter().all(|b| matches!(*b, b' '..=b'~'))

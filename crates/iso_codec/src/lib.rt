@@ -20,6 +20,7 @@ mod rule;
 mod set_fault;
 
 pub use class::Class;
+pub use content::{all_alphanumeric, all_digits, all_printable};
 pub use decode_fault::DecodeFault;
 pub use decoding::decode;
 pub use encoding::encode;

@@ -1,4 +1,4 @@
-use Rattle.acq_core.proofs.NetworkToo.{replied, undecodable}
+use Rattle.acq_core.proofs.NetworkIsTheHosts.{replied, undecodable}
 use Rattle.acq_core.proofs.laws.network_management_is_the_hosts.Goals as goal
 
 pub returns : goal.returns

@@ -1,4 +1,4 @@
-use Rattle.acq_core.proofs.Short.{fits_a_frame}
+use Rattle.acq_core.proofs.NetworkRepliesFit.{fits_a_frame}
 use Rattle.acq_core.proofs.laws.replies_fit_a_frame.Goals as goal
 
 pub returns : goal.returns

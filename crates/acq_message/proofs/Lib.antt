@@ -1,0 +1,3 @@
+pub mod EchoedElements
+pub mod ElementsFit
+pub mod ReplyLength

@@ -1,0 +1,23 @@
+-- The first check of every request (own profile).
+use Rattle.std.specs.Prelude.{ℕ, Bool, true, not, ◌||◌, List, [], ◌∷◌}
+use Rattle.std.specs.List.{list_all, list_any}
+use Rattle.iso_codec.specs.Message.{IsoMessage}
+use Rattle.acq_message.specs.declared.service.Service.{Service}
+use Rattle.acq_message.specs.Services.{needed, needed_card}
+use Rattle.acq_message.specs.Elements.{has}
+use Rattle.acq_message.specs.Cards.{has_bad_track, has_two_cards}
+
+-- one of these is there, or none is needed
+abbrev pub has_one_of : IsoMessage → List ℕ → Bool
+has_one_of m [] = true
+has_one_of m (n ∷ ns) = list_any (has m) (n ∷ ns)
+
+-- a PIN block and authentication codes, which the host can't check
+abbrev pub unverifiable : List ℕ
+unverifiable = 52 ∷ 64 ∷ 128 ∷ []
+
+-- a needed element is missing, one is there that can't be checked, or the card can't be told
+abbrev pub is_malformed : Service → IsoMessage → Bool
+is_malformed service m =
+    not (list_all (has m) (needed service)) || not (has_one_of m (needed_card service))
+    || list_any (has m) unverifiable || has_bad_track m || has_two_cards m

@@ -1,0 +1,11 @@
+pub mod Moments
+pub mod Names
+pub mod Numbers
+pub mod IssuerTexts
+pub mod Services
+pub mod Responses
+pub mod Cards
+pub mod Elements
+pub mod Claims
+pub mod FirstCheck
+pub mod Reply

@@ -1,0 +1,52 @@
+//! What a request says, and what its reply holds: the messages of this host over those of
+//! `iso_codec`.
+//!
+//! A [`RequestMessage`] is a message of a [`Service`] that is served. Its elements are read in
+//! `specs/Elements.antt` and `specs/Cards.antt`, the first check of each stands in
+//! `specs/FirstCheck.antt`, and the elements of each reply in `specs/Reply.antt`. No table has a
+//! part in any of it.
+#![tactic(auto)]
+
+mod amount;
+mod authorization_id;
+mod card;
+mod currency;
+mod decline_code;
+mod element_content;
+mod first_check;
+mod merchant_id;
+mod message_text;
+mod moment;
+mod reference;
+mod reply;
+mod request_key;
+mod request_message;
+mod response_code;
+mod service;
+mod terminal_id;
+#[cfg(test)]
+mod tests;
+mod trace;
+mod transmission;
+mod verdict;
+
+pub use amount::Amount;
+pub use authorization_id::AuthorizationId;
+pub use card::{card_of, expiry_of};
+pub use currency::Currency;
+pub use decline_code::DeclineCode;
+pub use element_content::ElementContent;
+pub use first_check::is_malformed;
+pub use merchant_id::MerchantId;
+pub use message_text::MessageText;
+pub use moment::Moment;
+pub use reference::Reference;
+pub use reply::{merchant_in, reply_with_code, spelled};
+pub use request_key::RequestKey;
+pub use request_message::RequestMessage;
+pub use response_code::ResponseCode;
+pub use service::Service;
+pub use terminal_id::TerminalId;
+pub use trace::Trace;
+pub use transmission::Transmission;
+pub use verdict::Verdict;

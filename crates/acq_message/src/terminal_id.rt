@@ -1,0 +1,51 @@
+//! Names of terminals.
+
+ghost use Rattle.std.specs.Prelude.{◌≡◌, true, SomeIff};
+ghost use Rattle.acq_message.specs.Names.{is_terminal};
+
+use iso_codec::all_printable;
+use std::marker::Model;
+
+/// A terminal's name, as element 41 has it: eight bytes from 0x20 to 0x7E. The same name at two
+/// merchants is two terminals. Contracts see it as the list of these bytes. Source: ISO 8583:1987,
+/// card acceptor terminal identification.
+#[derive(Clone, Copy, Debug, PartialEq, Eq)]
+pub struct TerminalId {
+    bytes: [u8; 8],
+}
+
+impl Model for TerminalId {
+    ghost use Rattle.std.specs.Prelude.{ℕ, List, ◌≡◌, true};
+    ghost use Rattle.acq_message.specs.Names.{is_terminal};
+
+    ghost Value = { List ℕ };
+
+    ghost view = { λ x. x.bytes };
+
+    ghost invariant = { λ x. is_terminal x.bytes ≡ true };
+
+    ghost inverse = { λ b. record { bytes = b } };
+}
+
+impl TerminalId {
+    /// The terminal that these bytes name, or `None` where they aren't eight printable ones. It
+    /// takes no memory.
+    pub fn read(text: &[u8]) -> Option<TerminalId>
+        ensures { SomeIff result (is_terminal text.now ≡ true) text.now }
+    {
+        let bytes = <[u8; 8]>::try_from(text).ok()?;
+        if all_printable(&bytes) {
+            Some(TerminalId { bytes })
+        } else {
+            None
+        }
+    }
+
+    /// The eight bytes.
+    pub fn to_bytes(&self) -> [u8; 8]
+        ensures value { result ≡ self.now }
+        ensures valid { is_terminal self.now ≡ true }
+    {
+        self.bytes
+    }
+}

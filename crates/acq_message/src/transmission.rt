@@ -1,0 +1,50 @@
+//! Transmission dates and times.
+
+ghost use Rattle.std.specs.Prelude.{◌≡◌, true, SomeIff};
+ghost use Rattle.acq_message.specs.Names.{is_transmission};
+
+use iso_codec::all_digits;
+use std::marker::Model;
+
+/// When a terminal sent a message by its own clock, as element 7 has it: ten digits, MMDDhhmmss. It
+/// serves as a part of a request's key, so any ten digits are taken (own profile). Contracts see it
+/// as the list of their bytes. Source: ISO 8583:1987, transmission date and time.
+#[derive(Clone, Copy, Debug, PartialEq, Eq)]
+pub struct Transmission {
+    bytes: [u8; 10],
+}
+
+impl Model for Transmission {
+    ghost use Rattle.std.specs.Prelude.{ℕ, List, ◌≡◌, true};
+    ghost use Rattle.acq_message.specs.Names.{is_transmission};
+
+    ghost Value = { List ℕ };
+
+    ghost view = { λ x. x.bytes };
+
+    ghost invariant = { λ x. is_transmission x.bytes ≡ true };
+
+    ghost inverse = { λ b. record { bytes = b } };
+}
+
+impl Transmission {
+    /// The date and time of these bytes, or `None` where they aren't ten digits. It takes no memory.
+    pub fn read(text: &[u8]) -> Option<Transmission>
+        ensures { SomeIff result (is_transmission text.now ≡ true) text.now }
+    {
+        let bytes = <[u8; 10]>::try_from(text).ok()?;
+        if all_digits(&bytes) {
+            Some(Transmission { bytes })
+        } else {
+            None
+        }
+    }
+
+    /// The ten digits.
+    pub fn to_bytes(&self) -> [u8; 10]
+        ensures value { result ≡ self.now }
+        ensures valid { is_transmission self.now ≡ true }
+    {
+        self.bytes
+    }
+}

@@ -1,0 +1,38 @@
+//! What issuers say.
+
+ghost use Rattle.std.specs.Prelude.{◌≡◌, true, SomeIff};
+ghost use Rattle.acq_message.specs.IssuerTexts.{is_authorization_id, is_decline_code};
+
+use crate::authorization_id::AuthorizationId;
+use crate::decline_code::DeclineCode;
+
+/// What an issuer says to a request that it was asked about.
+#[derive(Clone, Copy, Debug, PartialEq, Eq)]
+pub enum Verdict {
+    /// It approves, under this id.
+    Approved(AuthorizationId),
+    /// It declines, with this code.
+    Declined(DeclineCode),
+    /// It said nothing in time.
+    NoAnswer,
+}
+
+impl Verdict {
+    /// An approval under an authorization id, or `None` where the text isn't six bytes of class an.
+    /// It takes no memory.
+    pub fn approved(id: &[u8]) -> Option<Verdict>
+        ensures { SomeIff result (is_authorization_id id.now ≡ true) (Verdict.Approved id.now) }
+    {
+        let id = AuthorizationId::read(id)?;
+        Some(Verdict::Approved(id))
+    }
+
+    /// A decline with a code, or `None` where the text isn't two bytes of class an, or is `00`. It
+    /// takes no memory.
+    pub fn declined(code: &[u8]) -> Option<Verdict>
+        ensures { SomeIff result (is_decline_code code.now ≡ true) (Verdict.Declined code.now) }
+    {
+        let code = DeclineCode::read(code)?;
+        Some(Verdict::Declined(code))
+    }
+}
