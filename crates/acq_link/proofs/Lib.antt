@@ -1,4 +1,4 @@
-pub mod FrameLemmas
-pub mod OneReading
-pub mod Transfers
-pub mod Walks
+pub mod EmptyStruct
+pub mod FramesReadOnce
+pub mod WholeTransfers
+pub mod WrittenFrames

@@ -1,5 +1,8 @@
 pub mod Call
+pub mod FaultTexts
 pub mod Frames
+pub mod FramesAt
+pub mod Fronts
 pub mod MemorySink
 pub mod Moves
 pub mod ReadSource

@@ -1,5 +1,6 @@
 -- What a source over bytes in memory shows.
-use Rattle.std.specs.Prelude.{◌≡◌, ◌-◌, ◌^◌, ℕ, List, [], Option, Some, None, Bool, false, ◌||◌, ◌==◌, if◌then◌else◌}
+use Rattle.std.specs.Prelude.{◌≡◌, ◌-◌, ◌^◌, ◌==◌, ◌||◌, ℕ, Bool, false, List, [], Option, Some}
+use Rattle.std.specs.Prelude.{None, if◌then◌else◌}
 use Rattle.acq_link.specs.declared.slice_source.SliceSource.{SliceSource}
 
 abbrev pub received_of : SliceSource → List ℕ

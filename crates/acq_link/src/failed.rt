@@ -1,3 +1,5 @@
+//! A call that failed.
+
 use std::error::Error;
 use std::fmt;
 
@@ -7,6 +9,11 @@ use std::fmt;
 pub struct Failed;
 
 impl fmt::Display for Failed {
+    ghost use Rattle.std.specs.Prelude.{Some};
+    ghost use Rattle.acq_link.specs.FaultTexts.{text_of_failed};
+
+    ghost output = { λ _. Some text_of_failed };
+
     fn fmt<W: fmt::Write>(&self, f: &mut fmt::Formatter<W>) -> fmt::Result {
         write!(f, "a read or a write failed")
     }

@@ -1,3 +1,5 @@
+//! Why an input was not read to its end.
+
 ghost use Rattle.std.specs.Prelude.{◌≡◌};
 ghost use Rattle.acq_link.specs.declared.input_fault.InputFault.TheVariants.{Memory, Read};
 
@@ -16,6 +18,11 @@ pub enum InputFault {
 }
 
 impl fmt::Display for InputFault {
+    ghost use Rattle.std.specs.Prelude.{Some};
+    ghost use Rattle.acq_link.specs.FaultTexts.{text_of_input_fault};
+
+    ghost output = { λ f. Some (text_of_input_fault f) };
+
     fn fmt<W: fmt::Write>(&self, f: &mut fmt::Formatter<W>) -> fmt::Result {
         match self {
             InputFault::Memory => write!(f, "out of memory"),

@@ -3,6 +3,8 @@
 
 mod call;
 mod failed;
+mod frames;
+mod front;
 mod input_fault;
 pub mod laws;
 mod memory_sink;
@@ -12,10 +14,13 @@ mod slice_source;
 mod source;
 mod transcript;
 mod transfer;
+mod write_fault;
 mod write_sink;
 
 pub use call::Call;
 pub use failed::Failed;
+pub use frames::{frame_at, write_frame};
+pub use front::Front;
 pub use input_fault::InputFault;
 pub use memory_sink::MemorySink;
 pub use read_source::ReadSource;
@@ -24,6 +29,7 @@ pub use slice_source::SliceSource;
 pub use source::Source;
 pub use transcript::Transcript;
 pub use transfer::{read_to_end, write_out};
+pub use write_fault::WriteFault;
 pub use write_sink::WriteSink;
 
 #[cfg(test)]

@@ -1,3 +1,5 @@
+//! Sinks over memory.
+
 ghost use Rattle.std.specs.Prelude.{◌≡◌, ◌+◌, ◌<◌, length, min, IfOk, OnErr};
 ghost use Rattle.std.specs.Io.{WritesAtMost};
 ghost use Rattle.acq_link.specs.Moves.{Sends, CountsFailure};
@@ -8,8 +10,8 @@ use crate::sink::Sink;
 use crate::transcript::Transcript;
 use std::alloc::Global;
 
-/// A sink over memory. For tests it can take the bytes in pieces, and only some of them. A write also
-/// fails where a growth is refused.
+/// A sink over memory. For tests it can take the bytes in pieces, and only some of them. A write
+/// also fails where a growth is refused.
 #[derive(Drop)]
 pub struct MemorySink {
     bytes: Vec<u8>,
@@ -43,7 +45,7 @@ impl MemorySink {
     }
 
     /// The bytes that went out so far.
-    pub fn as_slice(&self) -> &[u8]
+    pub fn as_bytes(&self) -> &[u8]
         ensures { result.now ≡ sent_of self.now }
     {
         self.bytes.as_slice()
@@ -84,7 +86,8 @@ impl Sink for MemorySink {
         ensures failures { CountsFailure (failures_of self.old) (failures_of self.new) result }
 
         // It takes as much as a piece and the room allow.
-        ensures takes { IfOk result (λ n. n ≡ min (length bytes.now) (min (piece_of self.old) (room_of self.old))) }
+        ensures takes { IfOk result (λ n.
+            n ≡ min (length bytes.now) (min (piece_of self.old) (room_of self.old))) }
         ensures room { IfOk result (λ n. room_of self.new + n ≡ room_of self.old) }
         ensures kept { OnErr result (room_of self.new ≡ room_of self.old) }
         ensures piece { piece_of self.new ≡ piece_of self.old }

@@ -1,3 +1,5 @@
+//! Sources over readers.
+
 ghost use Rattle.std.specs.Prelude.{◌≡◌, ◌-◌, ◌^◌, []};
 
 use crate::call::Call;
@@ -17,6 +19,7 @@ pub struct ReadSource<R> {
 impl<R> ReadSource<R> {
     ghost use Rattle.acq_link.specs.ReadSource.{reader_of, received_of, failures_of, reads_left_of};
 
+    /// A source of what the reader gives from now on.
     pub fn new(reader: R) -> ReadSource<R>
         ensures reader { reader_of result ≡ reader }
         ensures received { received_of result ≡ [] }
@@ -30,6 +33,7 @@ impl<R> ReadSource<R> {
         }
     }
 
+    /// The reader, which may have more to give.
     pub fn into_inner(self) -> R
         ensures { result ≡ reader_of self }
     {

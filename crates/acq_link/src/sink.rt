@@ -1,3 +1,5 @@
+//! Where bytes go.
+
 ghost use Rattle.std.specs.Prelude.{◌<◌, ℕ, List, length, IfOk};
 ghost use Rattle.std.specs.Io.{WritesAtMost};
 ghost use Rattle.acq_link.specs.Moves.{Sends, CountsFailure};
@@ -12,7 +14,7 @@ pub trait Sink {
     // How many writes failed so far.
     ghost failures: { Self → ℕ };
 
-    /// Takes some bytes from the front, and answers how many. A write that takes none of some bytes
+    /// Takes some bytes from the front, and returns how many. A write that takes none of some bytes
     /// fails, and where one fails nothing of it went out.
     fn write(&mut self, bytes: &[u8]) -> Result<usize, Failed>
         ensures bound { WritesAtMost result bytes.now }

@@ -1,4 +1,7 @@
-ghost use Rattle.std.specs.Prelude.{◌≡◌, ◌≢◌, ◌-◌, ◌<◌, ℕ, length, min, Some, None, Ok, IsErr, true, false};
+//! Sources over bytes in memory.
+
+ghost use Rattle.std.specs.Prelude.{◌≡◌, ◌-◌, ◌<◌, length, min, Some, None, Ok, IsErr};
+ghost use Rattle.std.specs.Prelude.{true, false};
 ghost use Rattle.std.specs.Io.{ReadsAtMost};
 ghost use Rattle.std.specs.Io.KnownBytes.{ReadConsumes};
 ghost use Rattle.acq_link.specs.Moves.{Receives, CountsFailure};
@@ -20,7 +23,9 @@ pub struct SliceSource<'a> {
 }
 
 impl<'a> SliceSource<'a> {
-    ghost use Rattle.acq_link.specs.SliceSource.{IsFresh, received_of, rest_of, piece_of, before_failure, failures_of, reads_left_of, fails_next, before_after};
+    ghost use Rattle.acq_link.specs.SliceSource.{IsFresh, received_of, rest_of, piece_of};
+    ghost use Rattle.acq_link.specs.SliceSource.{before_failure, failures_of, reads_left_of};
+    ghost use Rattle.acq_link.specs.SliceSource.{fails_next, before_after};
 
     /// A read gives as many bytes as there are and the buffer has room for.
     pub fn new(bytes: &'a [u8]) -> SliceSource<'a>
@@ -87,7 +92,9 @@ impl<'a> SliceSource<'a> {
 }
 
 impl Source for SliceSource<'_> {
-    ghost use Rattle.acq_link.specs.SliceSource.{received_of, rest_of, piece_of, before_failure, failures_of, reads_left_of, fails_next, before_after};
+    ghost use Rattle.acq_link.specs.SliceSource.{received_of, rest_of, piece_of};
+    ghost use Rattle.acq_link.specs.SliceSource.{before_failure, failures_of, reads_left_of};
+    ghost use Rattle.acq_link.specs.SliceSource.{fails_next, before_after};
 
     ghost received = { received_of };
 
@@ -103,16 +110,18 @@ impl Source for SliceSource<'_> {
 
     fn read(&mut self, buffer: &mut [u8]) -> Result<usize, Failed>
         ensures bound { ReadsAtMost result buffer.new }
-        ensures received { Receives (received_of self.old) (received_of self.new) result buffer.new }
-        ensures remaining { ReadConsumes (Some (rest_of self.old)) (Some (rest_of self.new)) result buffer.new }
+        ensures received { Receives (received_of self.old) (received_of self.new) result
+            buffer.new }
+        ensures remaining { ReadConsumes (Some (rest_of self.old)) (Some (rest_of self.new)) result
+            buffer.new }
         ensures failures { CountsFailure (failures_of self.old) (failures_of self.new) result }
         ensures reads_left { reads_left_of self.new ≡ reads_left_of self.old - 1 }
         ensures spent { reads_left_of self.old ≡ 0 → IsErr result }
 
         // It fails at this read alone, and at those past the last.
         ensures fails { fails_next self.old ≡ true → IsErr result }
-        ensures gives { fails_next self.old ≡ false
-            → result ≡ Ok (min (length buffer.old) (min (piece_of self.old) (length (rest_of self.old)))) }
+        ensures gives { fails_next self.old ≡ false → result
+            ≡ Ok (min (length buffer.old) (min (piece_of self.old) (length (rest_of self.old)))) }
         ensures piece { piece_of self.new ≡ piece_of self.old }
         ensures before { before_failure self.new ≡ before_after self.old }
     {

@@ -1,6 +1,6 @@
 use crate::{
-    Failed, InputFault, MemorySink, ReadSource, Sink, SliceSource, Source, WriteSink, read_to_end,
-    write_out,
+    Failed, Front, InputFault, MemorySink, ReadSource, Sink, SliceSource, Source, WriteFault,
+    WriteSink, frame_at, read_to_end, write_frame, write_out,
 };
 use std::io;
 use std::io::{ErrorKind, Read, Write};
@@ -57,18 +57,18 @@ fn sinks_take_all_or_the_first_bytes(rt: HostRuntime) -> Result<(), Fail> {
     let mut whole = MemorySink::new(rt.alloc());
     assert_eq!(rt; write_out(&mut whole, TEXT), Ok(()));
     assert_eq!(rt; write_out(&mut whole, b""), Ok(()));
-    assert_eq!(rt; whole.as_slice(), TEXT);
+    assert_eq!(rt; whole.as_bytes(), TEXT);
 
     let mut bytewise = MemorySink::in_pieces(rt.alloc(), 1);
     assert_eq!(rt; bytewise.write(TEXT), Ok(1));
     assert_eq!(rt; write_out(&mut bytewise, TEXT), Ok(()));
-    assert_eq!(rt; bytewise.as_slice().len(), 56);
+    assert_eq!(rt; bytewise.as_bytes().len(), 56);
 
     for (piece, room, gone) in [(3, 10, 10), (100, 10, 10), (1, 0, 0), (0, 10, 0)] {
         let mut short = MemorySink::failing_after(rt.alloc(), piece, room);
         assert_eq!(rt; write_out(&mut short, TEXT), Err(gone), "{piece} {room}");
         assert_eq!(rt; short.write(TEXT), Err(Failed), "{piece} {room}");
-        assert_eq!(rt; short.as_slice().len() as u64, gone, "{piece} {room}");
+        assert_eq!(rt; short.as_bytes().len() as u64, gone, "{piece} {room}");
     }
     Ok(())
 }
@@ -146,5 +146,30 @@ fn faults_have_texts(rt: HostRuntime) -> Result<(), Fail> {
     assert_eq!(rt; failed.as_str(), "a read or a write failed");
     let faults = format!(in rt.alloc(); "{}, {}", InputFault::Memory, InputFault::Read)?;
     assert_eq!(rt; faults.as_str(), "out of memory, a read failed");
+    Ok(())
+}
+
+/// Frames, and what stands at their front; a message as a frame, whole and cut.
+#[test]
+fn frames_are_found_and_written(rt: HostRuntime) -> Result<(), Fail> {
+    let bytes: &[u8] = b"\x00\x02ab\x00\x01c";
+    let Front::Frame { message, rest } = frame_at(bytes) else {
+        return Err(Fail::from("no frame"));
+    };
+    assert_eq!(rt; message, b"ab".as_slice());
+    assert_eq!(rt; rest, b"\x00\x01c".as_slice());
+    for part in [b"".as_slice(), b"\x00", b"\x00\x02", b"\x00\x02a"] {
+        assert!(rt; matches!(frame_at(part), Front::Partial), "{part:?}");
+    }
+    for bad in [b"\x00\x00".as_slice(), b"\x10\x01abc"] {
+        assert!(rt; matches!(frame_at(bad), Front::BadLength), "{bad:?}");
+    }
+    let mut sink = MemorySink::new(rt.alloc());
+    write_frame(rt.alloc(), b"ab", &mut sink)?;
+    assert_eq!(rt; sink.as_bytes(), b"\x00\x02ab".as_slice());
+    let mut short = MemorySink::failing_after(rt.alloc(), 1, 3);
+    let fault = write_frame(rt.alloc(), b"ab", &mut short);
+    assert_eq!(rt; fault, Err(WriteFault::Write(3)));
+    assert_eq!(rt; short.as_bytes(), b"\x00\x02a".as_slice());
     Ok(())
 }

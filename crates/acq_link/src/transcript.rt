@@ -1,5 +1,6 @@
-//! What went over a link so far. Only proofs read it: it takes no memory, and its methods do nothing
-//! at run time.
+//! What went over a link so far. Only proofs read it: it takes no memory, and its methods do
+//! nothing at run time.
+
 ghost use Rattle.std.specs.Prelude.{ℕ, List};
 ghost use Rattle.std.specs.Borrow.{ftrue};
 

@@ -1,5 +1,7 @@
 //! All of some bytes into a sink, and all of a source's bytes into memory.
-ghost use Rattle.std.specs.Prelude.{◌≡◌, ℕ, List, ◌+◌, ◌<◌, ◌++◌, take, length, IfOk, IfErr, OnOk, OnErr, IfSome, IsErrOf};
+
+ghost use Rattle.std.specs.Prelude.{◌≡◌, ℕ, List, ◌+◌, ◌<◌, ◌++◌, take, length, IfOk, IfErr};
+ghost use Rattle.std.specs.Prelude.{OnOk, OnErr, IsErrOf};
 ghost use Rattle.std.specs.Io.KnownBytes.{Consumes, IsAtEnd};
 
 use crate::failed::Failed;
@@ -11,7 +13,8 @@ use std::alloc::Global;
 /// How many bytes one read asks for.
 const PIECE: usize = 64 * 1024;
 
-/// Writes all of the bytes, in as many writes as the sink needs. At an `Err` so many bytes went out.
+/// Writes all of the bytes, in as many writes as the sink needs. At an `Err` so many bytes were
+/// written.
 pub fn write_out<K: Sink>(sink: &mut K, bytes: &[u8]) -> Result<(), u64>
     ensures ok { OnOk result (K.sent sink.new ≡ K.sent sink.old ++ bytes.now) }
     ensures err { IfErr result (λ n. K.sent sink.new ≡ K.sent sink.old ++ take n bytes.now) }
@@ -19,11 +22,11 @@ pub fn write_out<K: Sink>(sink: &mut K, bytes: &[u8]) -> Result<(), u64>
     ensures well { OnOk result (K.failures sink.new ≡ K.failures sink.old) }
     ensures failed { OnErr result (K.failures sink.new ≡ K.failures sink.old + 1) }
 {
-    let mut gone = 0;
-    while gone < bytes.len() {
-        match sink.write(&bytes[gone..]) {
-            Ok(n) => gone += n,
-            Err(Failed) => return Err(gone as u64),
+    let mut written = 0;
+    while written < bytes.len() {
+        match sink.write(&bytes[written..]) {
+            Ok(n) => written += n,
+            Err(Failed) => return Err(written as u64),
         }
     }
     Ok(())
@@ -32,13 +35,18 @@ pub fn write_out<K: Sink>(sink: &mut K, bytes: &[u8]) -> Result<(), u64>
 /// Reads the input to its end.
 pub fn read_to_end<S: Source>(alloc: Global, source: &mut S) -> Result<Vec<u8>, InputFault>
     // Whatever comes, the source only gave more bytes.
-    ensures grows { (more : List ℕ) × (S.received source.new ≡ S.received source.old ++ more) }
-    ensures received { IfOk result (λ all. S.received source.new ≡ S.received source.old ++ all.items) }
-    ensures known { IfOk result (λ all. Consumes (S.remaining source.old) (S.remaining source.new) all.items) }
+    ensures grows { (more : List ℕ)
+        × (S.received source.new ≡ S.received source.old ++ more) }
+    ensures received { IfOk result (λ all.
+        S.received source.new ≡ S.received source.old ++ all.items) }
+    ensures known { IfOk result (λ all.
+        Consumes (S.remaining source.old) (S.remaining source.new) all.items) }
     ensures end { OnOk result (IsAtEnd (S.remaining source.new)) }
     ensures well { OnOk result (S.failures source.new ≡ S.failures source.old) }
-    ensures read { IsErrOf result InputFault.Read → S.failures source.new ≡ S.failures source.old + 1 }
-    ensures memory { IsErrOf result InputFault.Memory → S.failures source.new ≡ S.failures source.old }
+    ensures read { IsErrOf result InputFault.Read
+        → S.failures source.new ≡ S.failures source.old + 1 }
+    ensures memory { IsErrOf result InputFault.Memory
+        → S.failures source.new ≡ S.failures source.old }
 {
     let mut all = Vec::new(alloc);
     let mut buffer = [0; PIECE];

@@ -1,3 +1,5 @@
+//! Sinks over writers.
+
 ghost use Rattle.std.specs.Prelude.{◌≡◌, ◌<◌, [], length, IfOk};
 ghost use Rattle.std.specs.Io.{WritesAtMost};
 ghost use Rattle.std.specs.Io.KnownBytes.{WriteAppends};
@@ -9,7 +11,8 @@ use crate::sink::Sink;
 use crate::transcript::Transcript;
 use std::io::Write;
 
-/// A sink over any writer. An interrupted write fails, and so does one that takes none of some bytes.
+/// A sink over any writer. An interrupted write fails, and so does one that takes none of some
+/// bytes.
 #[derive(Drop)]
 pub struct WriteSink<W> {
     writer: W,
@@ -19,6 +22,7 @@ pub struct WriteSink<W> {
 impl<W> WriteSink<W> {
     ghost use Rattle.acq_link.specs.WriteSink.{writer_of, sent_of, failures_of};
 
+    /// A sink into this writer.
     pub fn new(writer: W) -> WriteSink<W>
         ensures writer { writer_of result ≡ writer }
         ensures sent { sent_of result ≡ [] }
@@ -30,6 +34,7 @@ impl<W> WriteSink<W> {
         }
     }
 
+    /// The writer, with what it took.
     pub fn into_inner(self) -> W
         ensures { result ≡ writer_of self }
     {
@@ -51,7 +56,8 @@ impl<W: Write> Sink for WriteSink<W> {
         ensures failures { CountsFailure (failures_of self.old) (failures_of self.new) result }
 
         // What the writer holds grows by these bytes, where it is known.
-        ensures contents { WriteAppends (W.contents (writer_of self.old)) (W.contents (writer_of self.new)) result bytes.now }
+        ensures contents { WriteAppends (W.contents (writer_of self.old))
+            (W.contents (writer_of self.new)) result bytes.now }
     {
         match self.writer.write(bytes) {
             Ok(n) if n > 0 || bytes.is_empty() => {

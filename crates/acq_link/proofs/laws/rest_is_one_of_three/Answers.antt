@@ -1,4 +1,4 @@
-use Rattle.acq_link.proofs.OneReading.{rest_is, partial_is, bad_length_is}
+use Rattle.acq_link.proofs.FramesReadOnce.{rest_is, partial_is, bad_length_is}
 use Rattle.acq_link.proofs.laws.rest_is_one_of_three.Goals as goal
 
 pub returns-clause-some : goal.returns-clause-some

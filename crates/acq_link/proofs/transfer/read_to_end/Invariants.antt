@@ -1,5 +1,5 @@
 use Rattle.std.proofs.Common.{◌≡◌, ◌+◌}
-use Rattle.acq_link.proofs.Transfers.{ReadAll}
+use Rattle.acq_link.proofs.WholeTransfers.{ReadAll}
 use Rattle.acq_link.proofs.transfer.read_to_end.Given as goal
 
 abbrev pub invariant-loop : goal.invariant-loop

@@ -15,7 +15,7 @@ use denote.Signature.{plain, types_at, named_lft}
 use denote.Steps.{nothing}
 use denote.Triple.Entry.{alive}
 use denote.Triple.Walked.{says, Stays, stay_dropped, walk_of, ends_at, Goes-dropped}
-use Rattle.acq_link.proofs.Walks.{empty_value, owns_empty}
+use Rattle.acq_link.proofs.EmptyStruct.{empty_value, owns_empty}
 use Rattle.acq_link.specs.Call.{moved_bytes, failed_calls}
 use Rattle.acq_link.specs.contracts.call.Call as Call
 use Rattle.acq_link.specs.contracts.transcript.Transcript as Transcript

@@ -8,7 +8,7 @@ use types.ByLocal.{alloc_all, pass_all, free_all, look_at, sets}
 use denote.Steps.{nothing}
 use denote.Triple.Entry.{on_entry}
 use denote.Triple.Walked.{says, Stays, walk_of, ends_at}
-use Rattle.acq_link.proofs.Walks.{empty_value, owns_empty}
+use Rattle.acq_link.proofs.EmptyStruct.{empty_value, owns_empty}
 use Rattle.acq_link.specs.contracts.transcript.Transcript as Transcript
 use Rattle.acq_link.specs.contracts.transcript.Transcript.new as f
 use Rattle.acq_link.proofs.transcript.Transcript.new.Statement.{statement}
