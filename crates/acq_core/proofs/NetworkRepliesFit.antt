@@ -5,9 +5,9 @@ use Rattle.iso_codec.specs.declared.decode_fault.DecodeFault.{DecodeFault}
 use Rattle.iso_codec.specs.Message.{IsoMessage, IsMessage, content_of}
 use Rattle.iso_codec.specs.Reading.{reading_of, spelling}
 use Rattle.iso_codec.specs.Content.{has_class}
-use Rattle.iso_codec.specs.Table.{rule_of}
+use Rattle.iso_codec.specs.Table.{format_of}
 use Rattle.iso_codec.specs.Setting.{set_fault}
-use Rattle.iso_codec.proofs.Exact.{read_as}
+use Rattle.iso_codec.proofs.ReadingComputes.{read_as}
 use Rattle.acq_message.specs.declared.service.Service.{Service}
 use Rattle.acq_message.specs.declared.service.Service.TheVariants.{Authorization, Financial, Completion, Reversal, ReversalAdvice, Reconciliation, NetworkManagement}
 use Rattle.acq_message.specs.declared.response_code.ResponseCode.TheVariants.{Approved, InvalidTransaction, FormatError}
@@ -21,7 +21,7 @@ use Rattle.acq_core.specs.NetworkAlone.{response, network_reply, output_of_frame
 
 -- the codes of network management are contents of element 39
 set_fault-response : (m : IsoMessage) → set_fault 39 (code_text (response m)) ≡ None
-unfolding rule_of has_class
+unfolding format_of has_class
 set_fault-response m = either (is_malformed NetworkManagement m) (is_network_code (content_of m.elements 70))
   where
     either : (b c : Bool)

@@ -5,7 +5,7 @@ use Rattle.std.specs.List.{list_all}
 use Rattle.std.proofs.lemmas.Bool.{and_parts}
 use Rattle.iso_codec.specs.declared.set_fault.SetFault.{SetFault}
 use Rattle.iso_codec.specs.Content.{has_class, is_printable, is_alphanumeric}
-use Rattle.iso_codec.specs.Table.{rule_of}
+use Rattle.iso_codec.specs.Table.{format_of}
 use Rattle.iso_codec.specs.Setting.{set_fault}
 use Rattle.acq_message.specs.Names.{is_merchant}
 use Rattle.acq_message.specs.IssuerTexts.{is_decline_code}
@@ -18,7 +18,7 @@ passes_both false good x y h = absurd cc
 
 -- a content of element 42 names a merchant
 pub names_merchant : (text : List ℕ) → set_fault 42 text ≡ None → is_merchant text ≡ true
-unfolding rule_of has_class
+unfolding format_of has_class
 names_merchant text h = passes_both (eqb (length text) 15) (list_all is_printable text) _ _ h
 
 -- what is read exactly where a text passes is there where it does
@@ -34,7 +34,7 @@ fits_both false good x y h = absurd cc
 
 -- what an issuer declines with is a content of element 39
 pub set_fault-decline_code : (text : List ℕ) → is_decline_code text ≡ true → set_fault 39 text ≡ None
-unfolding rule_of has_class
+unfolding format_of has_class
 set_fault-decline_code text h =
     let parts = and_parts (eqb (length text) 2 && list_all is_alphanumeric text) _ h in
     fits_both (eqb (length text) 2) (list_all is_alphanumeric text) _ _ parts.0

@@ -5,18 +5,18 @@ use Rattle.std.specs.List.{list_all, filter}
 use Rattle.std.proofs.lemmas.Bool.{and_parts, and_from, leb-true, le-leb, eqb-true, cases_Bool, or_cases}
 use Rattle.iso_codec.specs.declared.form.Form.{Form}
 use Rattle.iso_codec.specs.declared.form.Form.TheVariants.{Fixed, Llvar, Lllvar}
-use Rattle.iso_codec.specs.declared.rule.Rule.{Rule}
+use Rattle.iso_codec.specs.declared.element_format.ElementFormat.{ElementFormat}
 use Rattle.iso_codec.specs.declared.decode_fault.DecodeFault.{DecodeFault}
 use Rattle.iso_codec.specs.Content.{has_length, has_class, allows, digits_of, spelled_by}
-use Rattle.iso_codec.specs.Table.{rule_of}
+use Rattle.iso_codec.specs.Table.{format_of}
 use Rattle.iso_codec.specs.Message.{IsoMessage, IsMessage, IsKind, IsBitmap, numbers, Ascends, is_element, spelled, body, with_content}
 use Rattle.iso_codec.specs.Reading.{reading_of, spelling}
 use Rattle.iso_codec.specs.Setting.{set_fault}
-use Rattle.iso_codec.proofs.Sound.{rule_sound}
-use Rattle.iso_codec.proofs.Unique.{element_rule}
-use Rattle.iso_codec.proofs.Exact.{read_as}
-use Rattle.iso_codec.proofs.Placing.{message_with, fits_by}
-use Rattle.iso_codec.proofs.Spelling.{spelling_writes}
+use Rattle.iso_codec.proofs.TableBounds.{format_in_bounds}
+use Rattle.iso_codec.proofs.OneMessage.{format_of_element}
+use Rattle.iso_codec.proofs.ReadingComputes.{read_as}
+use Rattle.iso_codec.proofs.ElementPlaces.{message_with, fits_by}
+use Rattle.iso_codec.proofs.SpellingComputes.{spelling_writes}
 use Rattle.acq_message.specs.declared.service.Service.{Service}
 use Rattle.acq_message.specs.declared.service.Service.TheVariants.{Authorization, Financial, Completion, Reversal, ReversalAdvice, Reconciliation, NetworkManagement}
 use Rattle.acq_message.specs.declared.response_code.ResponseCode.{ResponseCode}
@@ -33,7 +33,7 @@ most_by (Llvar greatest) = 2 + greatest
 most_by (Lllvar greatest) = 3 + greatest
 
 -- the most bytes that an element takes
-abbrev pub most_of : Option Rule → ℕ
+abbrev pub most_of : Option ElementFormat → ℕ
 most_of None = 0
 most_of (Some r) = most_by r.form
 
@@ -42,26 +42,26 @@ form_most (Fixed k) text h = let is = eqb-true (length text) k h in omega arith
 form_most (Llvar greatest) text h = let le = leb-true (length text) greatest h in omega arith
 form_most (Lllvar greatest) text h = let le = leb-true (length text) greatest h in omega arith
 
-spelled_most : (o : Option Rule) (text : List ℕ) → allows o text ≡ true → length (spelled_by o text) ≤ most_of o
+spelled_most : (o : Option ElementFormat) (text : List ℕ) → allows o text ≡ true → length (spelled_by o text) ≤ most_of o
 spelled_most None text h = absurd cc
 spelled_most (Some r) text h =
     let parts = and_parts (has_length r.form (length text)) (has_class r.class text) h in
     form_most r.form text parts.0
 
 abbrev pub is_short : ℕ → Bool
-is_short n = leb (most_of (rule_of n)) 21
+is_short n = leb (most_of (format_of n)) 21
 
 abbrev pub is_short_element : ℕ × List ℕ → Bool
 is_short_element e = leb (length (spelled e)) 21
 
 short_element : (e : ℕ × List ℕ) → is_element e ≡ true → is_short e.0 ≡ true → is_short_element e ≡ true
 short_element e fits short =
-    let most = spelled_most (rule_of e.0) e.1 fits in
-    let le = leb-true (most_of (rule_of e.0)) 21 short in
+    let most = spelled_most (format_of e.0) e.1 fits in
+    let le = leb-true (most_of (format_of e.0)) 21 short in
     le-leb (length (spelled e)) 21 (omega arith)
 
 echoed_short : (service : Service) → list_all is_short (echoed service) ≡ true
-unfolding rule_of
+unfolding format_of
 echoed_short Authorization = refl
 echoed_short Financial = refl
 echoed_short Completion = refl
@@ -71,7 +71,7 @@ echoed_short Reconciliation = refl
 echoed_short NetworkManagement = refl
 
 code_short : (code : ResponseCode) → is_short 39 ≡ true
-unfolding rule_of
+unfolding format_of
 code_short code = refl
 
 -- ---- the elements of a reply
@@ -146,8 +146,8 @@ few : (low : ℕ) (es : List (ℕ × List ℕ)) → low ≤ 128 → Ascends low 
 few low [] le up k = omega arith
 few low (e ∷ es) le up k =
     let parts = and_parts (is_element e) (list_all is_element es) k in
-    let rule = element_rule e.0 e.1 parts.0 in
-    let sound = rule_sound e.0 rule.0 rule.1 in
+    let rule = format_of_element e.0 e.1 parts.0 in
+    let sound = format_in_bounds e.0 rule.0 rule.1 in
     let high = sound.2 in
     let above = up.0 in
     let rest = few e.0 es high up.1 parts.1 in
@@ -200,7 +200,7 @@ reply_short service request code fits whole =
     let short : list_all is_short_element m.elements ≡ true =
     all_with is_short_element (echo service request) 39 (code_text code)
     (kept_short (echoed service) request.elements (echoed_short service) whole.each)
-    (short_element (39, code_text code) (fits_by (rule_of 39) 39 (code_text code) fits) (code_short code)) in
+    (short_element (39, code_text code) (fits_by (format_of 39) 39 (code_text code) fits) (code_short code)) in
     let size = body_short m.elements short in
     let count = few 1 m.elements (omega arith) is_whole.ascends is_whole.each in
     let four = kind_four service in

@@ -6,7 +6,7 @@ use Rattle.std.specs.Option.{option_or}
 use Rattle.std.specs.List.{list_all}
 use Rattle.std.specs.Str.{bytes_eq}
 use Rattle.card_no.specs.Track2.{track2_of}
-use Rattle.iso_codec.specs.Content.{is_digit}
+use Rattle.std.specs.Char.{is_ascii_digit}
 use Rattle.iso_codec.specs.Message.{IsoMessage, content_of}
 
 -- the card number in track 2 and what stands after it, where there is a track with one
@@ -25,7 +25,7 @@ card_of m = option_or (content_of m.elements 2) (option_map (λ track. track.0) 
 -- the four digits at the front
 abbrev pub expiry_at : List ℕ → Option (List ℕ)
 expiry_at after =
-    if nat_le 4 (length after) && list_all is_digit (take 4 after) then Some (take 4 after)
+    if nat_le 4 (length after) && list_all is_ascii_digit (take 4 after) then Some (take 4 after)
     else None
 
 -- the expiry behind a card number in track 2

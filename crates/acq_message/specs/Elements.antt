@@ -4,7 +4,7 @@ use Rattle.std.specs.Prelude.{ℕ, ◌==◌, Bool, ◌&&◌, List, [], ◌∷◌
 use Rattle.std.specs.Prelude.{Option, Some, None, option_map, is_some, if◌then◌else◌}
 use Rattle.std.specs.List.{list_all, list_any}
 use Rattle.std.specs.Str.{bytes_eq}
-use Rattle.iso_codec.specs.Content.{is_digit}
+use Rattle.std.specs.Char.{is_ascii_digit}
 use Rattle.iso_codec.specs.Message.{IsoMessage, content_of}
 use Rattle.iso_codec.specs.Reading.{spelling}
 use Rattle.day_totals.specs.Digits.{decimal_value}
@@ -48,7 +48,7 @@ sale_leg m = if bytes_eq (transaction_in m) (codes "20") then Credit else Debit
 
 -- element 37, where it is a number
 abbrev pub reference_in : IsoMessage → Option ℕ
-reference_in m = if list_all is_digit (text_at m 37) then Some (number_at m 37) else None
+reference_in m = if list_all is_ascii_digit (text_at m 37) then Some (number_at m 37) else None
 
 -- the merchant that a message names in element 42
 abbrev pub merchant_in : IsoMessage → Option (List ℕ)

@@ -1,7 +1,8 @@
 -- Names of merchants and terminals, currencies, and what tells a terminal's requests apart.
 use Rattle.std.specs.Prelude.{ℕ, ◌==◌, Bool, ◌&&◌, List, length}
 use Rattle.std.specs.List.{list_all}
-use Rattle.iso_codec.specs.Content.{is_digit, is_alphanumeric, is_printable}
+use Rattle.std.specs.Char.{is_ascii_digit}
+use Rattle.iso_codec.specs.Content.{is_alphanumeric, is_printable}
 
 -- fifteen printable bytes (ISO 8583:1987, card acceptor identification code)
 abbrev pub is_merchant : List ℕ → Bool
@@ -17,8 +18,8 @@ is_currency text = length text == 3 && list_all is_alphanumeric text
 
 -- six digits (ISO 8583:1987, systems trace audit number)
 abbrev pub is_trace : List ℕ → Bool
-is_trace text = length text == 6 && list_all is_digit text
+is_trace text = length text == 6 && list_all is_ascii_digit text
 
 -- ten digits (ISO 8583:1987, transmission date and time; which digits: own profile)
 abbrev pub is_transmission : List ℕ → Bool
-is_transmission text = length text == 10 && list_all is_digit text
+is_transmission text = length text == 10 && list_all is_ascii_digit text

@@ -43,7 +43,7 @@ pub enum ResponseCode {
 
 impl ResponseCode {
     /// The two bytes of element 39.
-    #[tactic(auto, unfolding(iso_codec::specs::Table::rule_of, iso_codec::specs::Content::has_class))]
+    #[tactic(auto, unfolding(iso_codec::specs::Table::format_of, iso_codec::specs::Content::has_class))]
     pub fn to_bytes(self) -> [u8; 2]
         ensures value { result ≡ code_text self }
         ensures fits { set_fault 39 result ≡ None }

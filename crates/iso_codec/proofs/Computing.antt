@@ -1,11 +1,11 @@
 -- Computing on literals.
 use Rattle.std.specs.Prelude.{⊤}
 use Rattle.hex.specs.Hex.{decode_pairs, encode_with}
-use Rattle.iso_codec.specs.Table.{rule_of}
+use Rattle.iso_codec.specs.Table.{format_of}
 use Rattle.iso_codec.specs.Content.{has_class}
 use Rattle.iso_codec.specs.Message.{named}
 use Rattle.iso_codec.specs.Reading.{kind_at, bitmap_at, bitmaps_at, known_of, content_by, elements_at, reading_of, bitmaps_of, digits_of_bitmaps, spelling}
 
 unfoldable pub on_literals : ⊤
-unfolding decode_pairs encode_with rule_of has_class named kind_at bitmap_at bitmaps_at known_of content_by elements_at reading_of bitmaps_of digits_of_bitmaps spelling
+unfolding decode_pairs encode_with format_of has_class named kind_at bitmap_at bitmaps_at known_of content_by elements_at reading_of bitmaps_of digits_of_bitmaps spelling
 on_literals = tt

@@ -1,12 +1,14 @@
--- What a message is, and its spelling (ISO 8583:1987: message type identifier, bit maps, data elements).
+-- What a message is, and its spelling (ISO 8583:1987: message type identifier, bit maps, data
+-- elements).
 use Rattle.std.specs.Prelude.{◌≡◌, ℕ, ◌-◌, ◌<◌, ◌==◌, nat_le, nat_lt, ◌||◌, Bool, true, List, [], ◌∷◌, ◌++◌, length, map, filter, Option, Some, None, Ok, if◌then◌else◌, MatchBool}
 use Rattle.std.specs.List.{list_all, list_any, flat_map, range_with_len}
-use Rattle.std.specs.Int.{bit_at, w64, from_be_bytes}
+use Rattle.std.specs.Char.{is_ascii_digit}
+use Rattle.std.specs.Int.{is_in_range, bit_at, w64, from_be_bytes}
 use Rattle.hex.specs.Hex.{decode_of}
 use Rattle.iso_codec.specs.declared.bitmaps.Bitmaps.{Bitmaps}
 use Rattle.iso_codec.specs.declared.element.Element.{Element}
-use Rattle.iso_codec.specs.Table.{rule_of}
-use Rattle.iso_codec.specs.Content.{is_digit, lies, allows, spelled_by}
+use Rattle.iso_codec.specs.Table.{format_of}
+use Rattle.iso_codec.specs.Content.{allows, spelled_by}
 
 -- A message: its type, and the content of each element, in order of the elements' numbers.
 pub record IsoMessage : Type 0 where
@@ -26,7 +28,7 @@ numbers es = map (λ e. e.0) es
 -- four digits: a message type identifier
 pub record IsKind (kind : List ℕ) : Type 0 where
   pub size : length kind ≡ 4
-  pub digits : list_all is_digit kind ≡ true
+  pub digits : list_all is_ascii_digit kind ≡ true
 
 -- each number is greater than the one before it, and the first than low
 abbrev pub Ascends : ℕ → List ℕ → Type 0
@@ -35,7 +37,7 @@ Ascends low (n ∷ ns) = (low < n) × Ascends n ns
 
 -- whether an element is in the table and has its length and class
 abbrev pub is_element : ℕ × List ℕ → Bool
-is_element e = allows (rule_of e.0) e.1
+is_element e = allows (format_of e.0) e.1
 
 -- A message's type is four digits, and its elements are the table's, in ascending order.
 pub record IsMessage (m : IsoMessage) : Type 0 where
@@ -82,19 +84,22 @@ pub record AreBitmaps (digits : List ℕ) (bitmaps : Bitmaps) : Type 0 where
   pub second : List ℕ
   pub parts : digits ≡ first ++ second
   pub primary : IsBitmap first bitmaps.primary
-  pub secondary : MatchBool (bit bitmaps.primary 1) (IsBitmap second bitmaps.secondary) ((second ≡ []) × (bitmaps.secondary ≡ 0))
+  pub secondary :
+      MatchBool (bit bitmaps.primary 1) (IsBitmap second bitmaps.secondary)
+      ((second ≡ []) × (bitmaps.secondary ≡ 0))
 
 -- ---- the whole
 
 -- an element's spelling: its length where its form has one, and its content
 abbrev pub spelled : ℕ × List ℕ → List ℕ
-spelled e = spelled_by (rule_of e.0) e.1
+spelled e = spelled_by (format_of e.0) e.1
 
 -- the spellings of elements, one after the other
 abbrev pub body : List (ℕ × List ℕ) → List ℕ
 body es = flat_map spelled es
 
--- The text spells the message: its type, its bitmaps, and the elements that they name, in ascending order.
+-- The text spells the message: its type, its bitmaps, and the elements that they name, in
+-- ascending order.
 pub record Reads (text : List ℕ) (m : IsoMessage) : Type 0 where
   pub digits : List ℕ
   pub bitmaps : Bitmaps
@@ -105,9 +110,10 @@ pub record Reads (text : List ℕ) (m : IsoMessage) : Type 0 where
 
 -- digits and capital letters up to `F`
 abbrev pub is_upper_hex : ℕ → Bool
-is_upper_hex b = is_digit b || lies 65 70 b
+is_upper_hex b = is_ascii_digit b || is_in_range 65 70 b
 
--- The text spells the message with bitmaps in capitals, and a secondary one only where an element above 64 is there.
+-- The text spells the message with bitmaps in capitals, and a secondary one only where an element
+-- above 64 is there.
 pub record Writes (text : List ℕ) (m : IsoMessage) : Type 0 where
   pub digits : List ℕ
   pub bitmaps : Bitmaps

@@ -1,20 +1,23 @@
--- What a text reads as, and how a message is spelled, as functions that compute.
+-- What a text reads as, and how a message is spelled, as functions that compute. `laws` ties them
+-- to the relations of `Message` and `Faults`.
 use Rattle.std.specs.Prelude.{◌≡◌, ℕ, ◌-◌, ◌^◌, nat_le, nat_lt, Bool, true, false, List, [], ◌∷◌, ◌++◌, length, take, drop, Option, Some, None, Result, Ok, Err, if◌then◌else◌, fold, bit_or}
 use Rattle.std.specs.List.{list_all}
+use Rattle.std.specs.Char.{is_ascii_digit}
 use Rattle.std.specs.Int.{w64, from_be_bytes, to_be_bytes}
 use Rattle.hex.specs.Hex.{decode_of, encode_upper}
 use Rattle.hex.specs.declared.error.FromHexError.{FromHexError}
 use Rattle.iso_codec.specs.declared.bitmaps.Bitmaps.{Bitmaps}
-use Rattle.iso_codec.specs.declared.rule.Rule.{Rule}
+use Rattle.iso_codec.specs.declared.element_format.ElementFormat.{ElementFormat}
 use Rattle.iso_codec.specs.declared.decode_fault.DecodeFault.{DecodeFault}
 use Rattle.iso_codec.specs.declared.decode_fault.DecodeFault.TheVariants.{BadType, BadBitmap, UnknownElement, Truncated, BadLength, BadContent, Trailing}
-use Rattle.iso_codec.specs.Table.{rule_of}
-use Rattle.iso_codec.specs.Content.{is_digit, prefix_size, length_of, has_class}
+use Rattle.iso_codec.specs.Table.{format_of}
+use Rattle.iso_codec.specs.Content.{prefix_size, length_of, has_class}
 use Rattle.iso_codec.specs.Message.{IsoMessage, bit, named, numbers, body}
 use Rattle.iso_codec.specs.Faults.{is_known}
 
 infixl 10 ◌>>=◌
-abbrev pub ◌>>=◌ : {A B : Type 0} → Result A DecodeFault → (A → Result B DecodeFault) → Result B DecodeFault
+abbrev pub ◌>>=◌ :
+    {A B : Type 0} → Result A DecodeFault → (A → Result B DecodeFault) → Result B DecodeFault
 (Ok x) >>= f = f x
 (Err e) >>= f = Err e
 
@@ -25,13 +28,15 @@ or_fault fault (Some n) = Ok n
 
 -- so many bytes, and what stands after them; n has to come
 abbrev pub taken : ℕ → ℕ → List ℕ → Result (List ℕ × List ℕ) DecodeFault
-taken n count rest = if nat_lt (length rest) count then Err (Truncated n) else Ok (take count rest, drop count rest)
+taken n count rest =
+    if nat_lt (length rest) count then Err (Truncated n)
+    else Ok (take count rest, drop count rest)
 
 -- the four digits, and what stands after them
 unfoldable pub kind_at : List ℕ → Result (List ℕ × List ℕ) DecodeFault
 kind_at text = do
   kind ← taken 0 4 text
-  if list_all is_digit kind.0 then Ok kind else Err BadType
+  if list_all is_ascii_digit kind.0 then Ok kind else Err BadType
 
 abbrev pub bits_of : Result (List ℕ) FromHexError → Result ℕ DecodeFault
 bits_of (Ok bytes) = Ok (from_be_bytes w64 bytes)
@@ -63,21 +68,21 @@ known_of (n ∷ ns) =
     if is_known n then known_of ns >>= (λ others. Ok (n ∷ others))
     else Err (UnknownElement n)
 
--- the content of an element with this rule, and what stands after it
-unfoldable pub content_by : ℕ → Option Rule → List ℕ → Result (List ℕ × List ℕ) DecodeFault
+-- the content of an element of this format, and what stands after it
+unfoldable pub content_by : ℕ → Option ElementFormat → List ℕ → Result (List ℕ × List ℕ) DecodeFault
 content_by n None rest = Err (UnknownElement n)
-content_by n (Some r) rest = do
-  digits ← taken n (prefix_size r.form) rest
-  count ← or_fault (BadLength n) (length_of r.form digits.0)
+content_by n (Some format) rest = do
+  digits ← taken n (prefix_size format.form) rest
+  count ← or_fault (BadLength n) (length_of format.form digits.0)
   content ← taken n count digits.1
-  if has_class r.class content.0 then Ok content else Err (BadContent n)
+  if has_class format.class content.0 then Ok content else Err (BadContent n)
 
 -- the elements with these numbers, which are all of the bytes
 unfoldable pub elements_at : List ℕ → List ℕ → Result (List (ℕ × List ℕ)) DecodeFault
 elements_at [] [] = Ok []
 elements_at [] (b ∷ rest) = Err Trailing
 elements_at (n ∷ ns) rest = do
-  content ← content_by n (rule_of n) rest
+  content ← content_by n (format_of n) rest
   others ← elements_at ns content.1
   Ok ((n, content.0) ∷ others)
 
@@ -99,8 +104,12 @@ with_bit bits n = bit_or bits (2 ^ (64 - n))
 -- the bitmaps that name one more element
 abbrev pub naming : Bitmaps → ℕ → Bitmaps
 naming bitmaps n =
-    if nat_le n 64 then record { primary = with_bit bitmaps.primary n; secondary = bitmaps.secondary }
-    else record { primary = with_bit bitmaps.primary 1; secondary = with_bit bitmaps.secondary (n - 64) }
+    if nat_le n 64
+    then record { primary = with_bit bitmaps.primary n; secondary = bitmaps.secondary }
+    else record {
+      primary = with_bit bitmaps.primary 1;
+      secondary = with_bit bitmaps.secondary (n - 64);
+    }
 
 -- the bitmaps that name these elements
 unfoldable pub bitmaps_of : List ℕ → Bitmaps
@@ -111,9 +120,12 @@ upper_case bits = encode_upper (to_be_bytes w64 bits)
 
 -- the digits of bitmaps, the second only where bit 1 of the first is set
 unfoldable pub digits_of_bitmaps : Bitmaps → List ℕ
-digits_of_bitmaps bitmaps = if bit bitmaps.primary 1 then upper_case bitmaps.primary ++ upper_case bitmaps.secondary else upper_case bitmaps.primary
+digits_of_bitmaps bitmaps =
+    if bit bitmaps.primary 1 then upper_case bitmaps.primary ++ upper_case bitmaps.secondary
+    else upper_case bitmaps.primary
 
--- The one spelling of a message: bitmaps in capitals, a second one only where an element above 64 is there.
+-- The one spelling of a message: bitmaps in capitals, a second one only where an element above 64
+-- is there.
 unfoldable pub spelling : IsoMessage → List ℕ
 spelling m = m.kind ++ (digits_of_bitmaps (bitmaps_of (numbers m.elements)) ++ body m.elements)
 

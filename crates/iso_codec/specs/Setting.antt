@@ -1,26 +1,27 @@
--- Setting and marking elements.
+-- Which contents an element may be set to, where it goes, and the bits that elements mark.
 use Rattle.std.specs.Prelude.{◌≡◌, ℕ, ◌≤◌, ◌==◌, nat_lt, nat_le, Bool, true, false, List, [], ◌∷◌, length, take, drop, Option, Some, None, if◌then◌else◌}
 use Rattle.std.specs.List.{list_all, list_any}
 use Rattle.iso_codec.specs.declared.bitmaps.Bitmaps.{Bitmaps}
 use Rattle.iso_codec.specs.declared.form.Form.{Form}
 use Rattle.iso_codec.specs.declared.form.Form.TheVariants.{Fixed, Llvar, Lllvar}
-use Rattle.iso_codec.specs.declared.rule.Rule.{Rule}
+use Rattle.iso_codec.specs.declared.element_format.ElementFormat.{ElementFormat}
 use Rattle.iso_codec.specs.declared.set_fault.SetFault.{SetFault}
 use Rattle.iso_codec.specs.declared.set_fault.SetFault.TheVariants.{UnknownElement, BadLength, BadContent}
-use Rattle.iso_codec.specs.Table.{rule_of}
+use Rattle.iso_codec.specs.Table.{format_of}
 use Rattle.iso_codec.specs.Content.{has_length, has_class}
 use Rattle.iso_codec.specs.Message.{bit, names}
 
--- an element outside the table; then a length, and then a class, that its rule doesn't allow
-abbrev pub set_fault_by : Option Rule → ℕ → List ℕ → Option SetFault
+-- an element outside the table; then a length, and then a class, that its format doesn't allow
+abbrev pub set_fault_by : Option ElementFormat → ℕ → List ℕ → Option SetFault
 set_fault_by None n text = Some (UnknownElement n)
-set_fault_by (Some r) n text =
-    if has_length r.form (length text) then (if has_class r.class text then None else Some (BadContent n))
+set_fault_by (Some format) n text =
+    if has_length format.form (length text)
+    then (if has_class format.class text then None else Some (BadContent n))
     else Some (BadLength n)
 
 -- why element n can't have this content
 abbrev pub set_fault : ℕ → List ℕ → Option SetFault
-set_fault n text = set_fault_by (rule_of n) n text
+set_fault n text = set_fault_by (format_of n) n text
 
 abbrev pub is_below : ℕ → ℕ × List ℕ → Bool
 is_below n e = nat_lt e.0 n

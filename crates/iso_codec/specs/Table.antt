@@ -4,12 +4,12 @@ use Rattle.iso_codec.specs.declared.form.Form.{Form}
 use Rattle.iso_codec.specs.declared.form.Form.TheVariants.{Fixed, Llvar, Lllvar}
 use Rattle.iso_codec.specs.declared.class.Class.{Class}
 use Rattle.iso_codec.specs.declared.class.Class.TheVariants.{Numeric, Alphanumeric, Printable, Track, Hex, SignedNumeric, Any}
-use Rattle.iso_codec.specs.declared.rule.Rule.{Rule}
+use Rattle.iso_codec.specs.declared.element_format.ElementFormat.{ElementFormat}
 
-abbrev pub row : ℕ → Form → Class → ℕ × Rule
+abbrev pub row : ℕ → Form → Class → ℕ × ElementFormat
 row n form class = (n, record { form = form; class = class })
 
-abbrev pub rows : List (ℕ × Rule)
+abbrev pub rows : List (ℕ × ElementFormat)
 rows = row 2 (Llvar 19) Numeric
     ∷ row 3 (Fixed 6) Numeric
     ∷ row 4 (Fixed 12) Numeric
@@ -68,10 +68,10 @@ rows = row 2 (Llvar 19) Numeric
     ∷ row 128 (Fixed 16) Hex
     ∷ []
 
-abbrev pub row_of : List (ℕ × Rule) → ℕ → Option Rule
+abbrev pub row_of : List (ℕ × ElementFormat) → ℕ → Option ElementFormat
 row_of [] n = None
 row_of (r ∷ rs) n = if n == r.0 then Some r.1 else row_of rs n
 
 -- what the table says of element n
-unfoldable pub rule_of : ℕ → Option Rule
-rule_of n = row_of rows n
+unfoldable pub format_of : ℕ → Option ElementFormat
+format_of n = row_of rows n

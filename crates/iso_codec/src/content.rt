@@ -1,71 +1,15 @@
 //! The content of one element.
 
-ghost use Rattle.std.specs.Prelude.{◌≡◌, ◌⊎◌, ◌+◌, ◌-◌, ◌<◌, ◌≤◌, length, take, drop, IfOk, IfErr};
-ghost use Rattle.std.specs.List.{list_all};
-ghost use Rattle.iso_codec.specs.Content.{is_digit, is_alphanumeric, is_printable, is_track, is_hex, is_signed, has_class, prefix_size, length_of, stated, number_of, has_length};
+ghost use Rattle.std.specs.Prelude.{◌≡◌, ◌⊎◌, ◌≤◌, length, IfOk, IfErr};
+ghost use Rattle.std.specs.Char.{digit_value};
+ghost use Rattle.std.specs.Int.{IsInRange};
+ghost use Rattle.iso_codec.specs.Content.{prefix_size, length_of, stated};
 ghost use Rattle.iso_codec.specs.Faults.{ContentFault, IsContent};
 
-use crate::class::Class;
+use crate::classes::{all_digits, fits_class};
 use crate::decode_fault::DecodeFault;
+use crate::element_format::ElementFormat;
 use crate::form::Form;
-use crate::rule::Rule;
-
-/// Whether all are digits.
-pub fn all_digits(text: &[u8]) -> bool
-    ensures { result ≡ list_all is_digit text.now }
-{
-    text.iter().all(|b| matches!(*b, b'0'..=b'9'))
-}
-
-pub fn all_alphanumeric(text: &[u8]) -> bool
-    ensures { result ≡ list_all is_alphanumeric text.now }
-{
-    text.iter().all(|b| matches!(*b, b'0'..=b'9' | b'A'..=b'Z' | b'a'..=b'z' | b' '))
-}
-
-pub fn all_printable(text: &[u8]) -> bool
-    ensures { result ≡ list_all is_printable text.now }
-{
-    text.iter().all(|b| matches!(*b, b' '..=b'~'))
-}
-
-fn all_track(text: &[u8]) -> bool
-    ensures { result ≡ list_all is_track text.now }
-{
-    text.iter().all(|b| matches!(*b, 0x30..=0x3f | b'D'))
-}
-
-fn all_hex(text: &[u8]) -> bool
-    ensures { result ≡ list_all is_hex text.now }
-{
-    text.iter()
-        .all(|b| matches!(*b, b'0'..=b'9' | b'A'..=b'F' | b'a'..=b'f'))
-}
-
-fn all_signed(text: &[u8]) -> bool
-    ensures { result ≡ is_signed text.now }
-{
-    match text {
-        [b'C' | b'D', digits @ ..] => all_digits(digits),
-        _ => false,
-    }
-}
-
-/// Whether a text has a class.
-#[tactic(auto, unfolding(crate::specs::Content::has_class))]
-pub fn fits_class(class: Class, text: &[u8]) -> bool
-    ensures { result ≡ has_class class text.now }
-{
-    match class {
-        Class::Numeric => all_digits(text),
-        Class::Alphanumeric => all_alphanumeric(text),
-        Class::Printable => all_printable(text),
-        Class::Track => all_track(text),
-        Class::Hex => all_hex(text),
-        Class::SignedNumeric => all_signed(text),
-        Class::Any => true,
-    }
-}
 
 /// How many digits of length a form has.
 pub fn prefix_size_of(form: Form) -> usize
@@ -98,8 +42,9 @@ fn stated_length(greatest: usize, digits: &[u8]) -> Option<usize>
     }
 }
 
+/// The value of a digit.
 fn value(digit: u8) -> usize
-    ensures value { result ≡ digit - 48 }
+    ensures value { IsInRange 48 57 digit → result ≡ digit_value digit }
     ensures bound { result ≤ 255 }
 {
     digit.saturating_sub(b'0') as usize
@@ -118,23 +63,27 @@ pub fn content_length(form: Form, digits: &[u8]) -> Option<usize>
 }
 
 /// The content of an element at the front, and what stands after it.
-pub fn content_at(number: u8, rule: Rule, rest: &[u8]) -> Result<(&[u8], &[u8]), DecodeFault>
-    ensures found { IfOk result (λ x. IsContent rule rest.now x.0.now x.1.now) }
-    ensures fault { IfErr result (λ f. ContentFault number rule rest.now f) }
+pub fn content_at(
+    number: u8,
+    format: ElementFormat,
+    rest: &[u8],
+) -> Result<(&[u8], &[u8]), DecodeFault>
+    ensures found { IfOk result (λ x. IsContent format rest.now x.0.now x.1.now) }
+    ensures fault { IfErr result (λ f. ContentFault number format rest.now f) }
 {
-    let prefix = prefix_size_of(rule.form);
+    let prefix = prefix_size_of(format.form);
     if rest.len() < prefix {
         return Err(DecodeFault::Truncated(number));
     }
     let (digits, rest) = rest.split_at(prefix);
-    let Some(len) = content_length(rule.form, digits) else {
+    let Some(len) = content_length(format.form, digits) else {
         return Err(DecodeFault::BadLength(number));
     };
     if rest.len() < len {
         return Err(DecodeFault::Truncated(number));
     }
     let (content, after) = rest.split_at(len);
-    if !fits_class(rule.class, content) {
+    if !fits_class(format.class, content) {
         return Err(DecodeFault::BadContent(number));
     }
     Ok((content, after))

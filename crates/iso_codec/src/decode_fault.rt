@@ -3,32 +3,34 @@
 ghost use Rattle.std.specs.Prelude.{◌≡◌};
 
 use std::alloc::{AllocError, AllocFailed};
-use thiserror::Error;
+use std::error::Error;
+use std::fmt;
 
 /// The first fault of a text that spells no message, in the profile's order, or that memory ran
-/// out. Where an element is at fault, its number is told; 0 stands for the type and the bitmaps.
-#[derive(Clone, Copy, Debug, PartialEq, Eq, Error)]
+/// out. Where an element is at fault, its number stands with it; 0 stands for the type and the
+/// bitmaps.
+#[derive(Clone, Copy, Debug, PartialEq, Eq)]
 pub enum DecodeFault {
-    #[error("no memory")]
+    /// Memory ran out.
     Memory,
-    #[error("the type is not four digits")]
+    /// The type is not four digits.
     BadType,
-    #[error("a bitmap is not hexadecimal")]
+    /// A bitmap is not hexadecimal.
     BadBitmap,
-    #[error("element {0} is not in the profile")]
+    /// An element is not in the profile.
     UnknownElement(u8),
-    #[error("the text ends in element {0}")]
+    /// The text ends in an element, or in the type or a bitmap.
     Truncated(u8),
-    #[error("element {0} has a bad length")]
+    /// An element's length is not of digits, or above the element's greatest.
     BadLength(u8),
-    #[error("element {0} has a bad content")]
+    /// A byte of an element is not of its class.
     BadContent(u8),
-    #[error("bytes stand after the last element")]
+    /// Bytes stand after the last element.
     Trailing,
 }
 
 impl DecodeFault {
-    ghost use Rattle.iso_codec.specs.FaultNumbers.{number_of_fault, element_of_fault};
+    ghost use Rattle.iso_codec.specs.FaultTexts.{number_of_fault, element_of_fault};
 
     /// The fault's number, 1 to 8, as printed lines give it.
     pub fn number(&self) -> u8
@@ -62,6 +64,30 @@ impl DecodeFault {
         }
     }
 }
+
+impl fmt::Display for DecodeFault {
+    ghost use Rattle.std.specs.Prelude.{Some};
+    ghost use Rattle.iso_codec.specs.FaultTexts.{text_of_fault};
+
+    ghost output = { λ f. Some (text_of_fault f) };
+
+    fn fmt<W: fmt::Write>(&self, f: &mut fmt::Formatter<W>) -> fmt::Result {
+        match self {
+            DecodeFault::Memory => write!(f, "no memory"),
+            DecodeFault::BadType => write!(f, "the type is not four digits"),
+            DecodeFault::BadBitmap => write!(f, "a bitmap is not hexadecimal"),
+            DecodeFault::UnknownElement(number) => {
+                write!(f, "element {number} is not in the profile")
+            }
+            DecodeFault::Truncated(number) => write!(f, "the text ends in element {number}"),
+            DecodeFault::BadLength(number) => write!(f, "element {number} has a bad length"),
+            DecodeFault::BadContent(number) => write!(f, "element {number} has a bad content"),
+            DecodeFault::Trailing => write!(f, "bytes stand after the last element"),
+        }
+    }
+}
+
+impl Error for DecodeFault {}
 
 impl From<AllocError> for DecodeFault {
     ghost use Rattle.iso_codec.specs.declared.decode_fault.DecodeFault.TheVariants.{Memory};

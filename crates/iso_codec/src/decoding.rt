@@ -5,14 +5,15 @@ ghost use Rattle.std.specs.List.{list_all};
 ghost use Rattle.iso_codec.specs.declared.decode_fault.DecodeFault.TheVariants.{Memory};
 ghost use Rattle.iso_codec.specs.Message.{IsoMessage, Reads, IsMessage, IsBitmap, named, pairs_of};
 ghost use Rattle.iso_codec.specs.Reading.{reading_of};
-ghost use Rattle.iso_codec.specs.Faults.{FirstFault, HasHeader, ElementsFault, IsBody, BitmapFault, BeginsWithBitmap, IsFirstUnknown, is_known};
+ghost use Rattle.iso_codec.specs.Faults.{FirstFault, HasHeader, NeedsMemory, ElementsFault, IsBody, BitmapFault, BeginsWithBitmap, IsFirstUnknown, is_known};
 
 use crate::bitmaps::{Bitmaps, bit};
-use crate::content::{all_digits, content_at};
+use crate::classes::all_digits;
+use crate::content::content_at;
 use crate::decode_fault::DecodeFault;
 use crate::element::Element;
+use crate::element_format::format_at;
 use crate::message::Message;
-use crate::rule::rule_at;
 use hex::FromHex;
 use std::alloc::Global;
 
@@ -59,7 +60,7 @@ fn first_unknown(bitmaps: &Bitmaps) -> Option<u8>
     ensures some { IfSome result (λ n. IsFirstUnknown bitmaps.now n) }
 {
     for number in 2..129 {
-        if bitmaps.names(number) && rule_at(number).is_none() {
+        if bitmaps.names(number) && format_at(number).is_none() {
             return Some(number);
         }
     }
@@ -76,10 +77,10 @@ fn elements_at(alloc: Global, bitmaps: &Bitmaps, body: &[u8]) -> Result<Vec<Elem
     let mut rest = body;
     for number in 2..129 {
         if bitmaps.names(number) {
-            let Some(rule) = rule_at(number) else {
+            let Some(format) = format_at(number) else {
                 unreachable!();
             };
-            let (content, after) = content_at(number, rule, rest)?;
+            let (content, after) = content_at(number, format, rest)?;
             let owned = Vec::from_slice(alloc, content)?;
             elements.push(Element {
                 number,
@@ -97,6 +98,7 @@ fn elements_at(alloc: Global, bitmaps: &Bitmaps, body: &[u8]) -> Result<Vec<Elem
 fn read(alloc: Global, text: &[u8]) -> Result<Message, DecodeFault>
     ensures found { IfOk result (λ m. Reads text.now m) }
     ensures fault { IfErr result (λ f. (f ≡ Memory) ⊎ FirstFault text.now f) }
+    ensures memory { IfErr result (λ f. f ≡ Memory → NeedsMemory text.now) }
 {
     let (kind, bitmaps, body) = header_at(text)?;
     if let Some(number) = first_unknown(&bitmaps) {
@@ -115,9 +117,13 @@ pub fn decode(alloc: Global, text: &[u8]) -> Result<Message, DecodeFault>
     // With a fault no message is spelled.
     ensures none { IfErr result (λ f. (f ≡ Memory) ⊎ ((m : IsoMessage) → Reads text.now m → ⊥)) }
     // What is spelled is read, unless memory runs out.
-    ensures only { (m : IsoMessage) → Reads text.now m → MatchResult result (λ found. found ≡ m) (λ f. f ≡ Memory) }
+    ensures only { (m : IsoMessage) → Reads text.now m
+        → MatchResult result (λ found. found ≡ m) (λ f. f ≡ Memory) }
     // It is what the text reads as, unless memory runs out.
-    ensures exact { MatchResult result (λ m. reading_of text.now ≡ Ok m) (λ f. (f ≡ Memory) ⊎ (reading_of text.now ≡ Err f)) }
+    ensures exact { MatchResult result (λ m. reading_of text.now ≡ Ok m)
+        (λ f. (f ≡ Memory) ⊎ (reading_of text.now ≡ Err f)) }
+    // Memory is taken only behind a header that stands and names elements of the profile alone.
+    ensures memory { IfErr result (λ f. f ≡ Memory → NeedsMemory text.now) }
 {
     read(alloc, text)
 }

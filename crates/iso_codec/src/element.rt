@@ -1,7 +1,7 @@
 //! One element of a message.
 
 /// An element of the table, and its content without a length prefix.
-#[derive(Debug, Drop)]
+#[derive(Drop)]
 pub struct Element {
     pub number: u8,
     pub content: Vec<u8>,

@@ -9,9 +9,9 @@ ghost use Rattle.iso_codec.specs.Setting.{Marks, is_sound};
 
 use crate::bitmaps::{Bitmaps, bit};
 use crate::element::Element;
+use crate::element_format::format_at;
 use crate::form::Form;
 use crate::message::Message;
-use crate::rule::rule_at;
 use std::alloc::{AllocError, Global};
 
 /// The bits with one more, the leftmost of which is number 1.
@@ -43,7 +43,8 @@ fn bitmaps_of(elements: &[Element]) -> Bitmaps
 }
 
 fn push_bitmap(alloc: Global, out: &mut Vec<u8>, bits: u64) -> Result<(), AllocError>
-    ensures ok { OnOk result ((digits : List ℕ) × IsBitmap digits bits × (list_all is_upper_hex digits ≡ true) × (out.new.items ≡ out.old.items ++ digits)) }
+    ensures ok { OnOk result ((digits : List ℕ) × IsBitmap digits bits
+        × (list_all is_upper_hex digits ≡ true) × (out.new.items ≡ out.old.items ++ digits)) }
     ensures grows { Extends out.old.items out.new.items }
 {
     let digits = hex::encode_upper(alloc, bits.to_be_bytes())?;
@@ -52,7 +53,8 @@ fn push_bitmap(alloc: Global, out: &mut Vec<u8>, bits: u64) -> Result<(), AllocE
 
 fn push_bitmaps(alloc: Global, out: &mut Vec<u8>, bitmaps: Bitmaps) -> Result<(), AllocError>
     requires { bit_of bitmaps.primary 1 ≡ false → bitmaps.secondary ≡ 0 }
-    ensures ok { OnOk result ((digits : List ℕ) × AreBitmaps digits bitmaps × (list_all is_upper_hex digits ≡ true) × (out.new.items ≡ out.old.items ++ digits)) }
+    ensures ok { OnOk result ((digits : List ℕ) × AreBitmaps digits bitmaps
+        × (list_all is_upper_hex digits ≡ true) × (out.new.items ≡ out.old.items ++ digits)) }
     ensures grows { Extends out.old.items out.new.items }
 {
     push_bitmap(alloc, out, bitmaps.primary)?;
@@ -90,10 +92,10 @@ fn push_element(out: &mut Vec<u8>, element: &Element) -> Result<(), AllocError>
     ensures ok { OnOk result (out.new.items ≡ out.old.items ++ spelled (pair_of element.now)) }
     ensures grows { Extends out.old.items out.new.items }
 {
-    let Some(rule) = rule_at(element.number) else {
+    let Some(format) = format_at(element.number) else {
         unreachable!();
     };
-    push_length(out, rule.form, element.content.len())?;
+    push_length(out, format.form, element.content.len())?;
     out.extend_from_slice(element.content.as_slice())
 }
 
@@ -109,7 +111,8 @@ fn push_body(out: &mut Vec<u8>, elements: &[Element]) -> Result<(), AllocError>
 }
 
 fn push_message(alloc: Global, message: &Message, out: &mut Vec<u8>) -> Result<(), AllocError>
-    ensures ok { OnOk result ((text : List ℕ) × Writes text message.now × (out.new.items ≡ out.old.items ++ text)) }
+    ensures ok { OnOk result ((text : List ℕ) × Writes text message.now
+        × (out.new.items ≡ out.old.items ++ text)) }
     ensures grows { Extends out.old.items out.new.items }
 {
     let elements = message.elements();
@@ -121,7 +124,8 @@ fn push_message(alloc: Global, message: &Message, out: &mut Vec<u8>) -> Result<(
 
 /// Writes a message at the end. An `Err` changes nothing.
 pub fn encode(alloc: Global, message: &Message, out: &mut Vec<u8>) -> Result<(), AllocError>
-    ensures written { OnOk result ((text : List ℕ) × Writes text message.now × (out.new.items ≡ out.old.items ++ text)) }
+    ensures written { OnOk result ((text : List ℕ) × Writes text message.now
+        × (out.new.items ≡ out.old.items ++ text)) }
     // What is written is the message's spelling.
     ensures exact { OnOk result (out.new.items ≡ out.old.items ++ spelling message.now) }
     ensures err { OnErr result (out.new.items ≡ out.old.items) }

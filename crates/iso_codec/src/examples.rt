@@ -1,8 +1,9 @@
-//! Worked examples of the definitions, computed by the checker: how texts read and messages are spelled.
+//! Worked examples of the definitions, computed by the checker: how texts read and messages are
+//! spelled.
 
-ghost use Rattle.std.specs.Prelude.{◌≡◌, ◌++◌, ◌∷◌, [], codes, take};
+ghost use Rattle.std.specs.Prelude.{◌≡◌, ◌++◌, [], codes, take};
 ghost use Rattle.iso_codec.specs.Reading.{reading_of, spelling};
-ghost use Rattle.iso_codec.specs.Examples.{echo_request, echo_request_text, echo_reply, echo_reply_text, purchase, purchase_body, purchase_text, purchase_text_lower, reconciliation, reconciliation_text};
+ghost use Rattle.iso_codec.specs.Examples.{echo_request, echo_request_text, echo_reply, echo_reply_text, purchase, purchase_body, purchase_text, purchase_text_lower, reconciliation, reconciliation_text, zeros, zeros_text, zeros_spelling};
 ghost use Rattle.iso_codec.specs.declared.decode_fault.DecodeFault.TheVariants.{BadType, BadBitmap, UnknownElement, Truncated, BadLength, BadContent, Trailing};
 
 /// Texts and the messages that they read as. Lower-case bitmaps are read too.
@@ -27,8 +28,8 @@ pub fn spellings()
 /// A second bitmap of zeros is read, and not written again.
 #[tactic(auto, unfolding(crate::proofs::Computing::on_literals))]
 pub fn second_bitmap_of_zeros()
-    ensures read { reading_of (codes "0800" ++ codes "8220000000000000" ++ codes "0000000000000000" ++ codes "0101120000" ++ codes "000001") ≡ Ok (record { kind = codes "0800"; elements = (7, codes "0101120000") ∷ (11, codes "000001") ∷ [] }) }
-    ensures written { spelling (record { kind = codes "0800"; elements = (7, codes "0101120000") ∷ (11, codes "000001") ∷ [] }) ≡ codes "0800" ++ codes "0220000000000000" ++ codes "0101120000" ++ codes "000001" }
+    ensures read { reading_of zeros_text ≡ Ok zeros }
+    ensures written { spelling zeros ≡ zeros_spelling }
 {}
 
 /// Texts that read as no message, and the first fault of each.
@@ -36,12 +37,24 @@ pub fn second_bitmap_of_zeros()
 pub fn faults()
     ensures empty { reading_of [] ≡ Err (Truncated 0) }
     ensures kind { reading_of (codes "08A0" ++ codes "8220000000000000") ≡ Err BadType }
-    ensures bitmap { reading_of (codes "0800" ++ codes "8220000G00000000" ++ codes "0400000000000000") ≡ Err BadBitmap }
-    ensures no_second_bitmap { reading_of (codes "0800" ++ codes "8220000000000000" ++ codes "04000000000000G") ≡ Err (Truncated 0) }
-    ensures bit_65 { reading_of (codes "0800" ++ codes "8220000000000000" ++ codes "8400000000000000" ++ codes "0101120000" ++ codes "000001" ++ codes "301") ≡ Err (UnknownElement 65) }
-    ensures all_bits { reading_of (codes "0800" ++ codes "FFFFFFFFFFFFFFFF" ++ codes "FFFFFFFFFFFFFFFF") ≡ Err (UnknownElement 5) }
+    ensures bitmap { reading_of (codes "0800" ++ codes "8220000G00000000"
+        ++ codes "0400000000000000")
+        ≡ Err BadBitmap }
+    ensures no_second_bitmap { reading_of (codes "0800" ++ codes "8220000000000000"
+        ++ codes "04000000000000G")
+        ≡ Err (Truncated 0) }
+    ensures bit_65 { reading_of (codes "0800" ++ codes "8220000000000000"
+        ++ codes "8400000000000000" ++ codes "0101120000" ++ codes "000001" ++ codes "301")
+        ≡ Err (UnknownElement 65) }
+    ensures all_bits { reading_of (codes "0800" ++ codes "FFFFFFFFFFFFFFFF"
+        ++ codes "FFFFFFFFFFFFFFFF")
+        ≡ Err (UnknownElement 5) }
     ensures cut { reading_of (take 85 purchase_text) ≡ Err (Truncated 42) }
-    ensures length { reading_of (codes "0200" ++ codes "7220000000C08000" ++ codes "20" ++ codes "41111111111111111111") ≡ Err (BadLength 2) }
-    ensures content { reading_of (codes "0200" ++ codes "7220000000C08000" ++ codes "02" ++ codes "4A") ≡ Err (BadContent 2) }
+    ensures length { reading_of (codes "0200" ++ codes "7220000000C08000" ++ codes "20"
+        ++ codes "41111111111111111111")
+        ≡ Err (BadLength 2) }
+    ensures content { reading_of (codes "0200" ++ codes "7220000000C08000" ++ codes "02"
+        ++ codes "4A")
+        ≡ Err (BadContent 2) }
     ensures trailing { reading_of (echo_request_text ++ codes " ") ≡ Err Trailing }
 {}

@@ -18,23 +18,27 @@ pub fn written_is_read()
 
 /// No spelling of a message begins another.
 pub fn no_spelling_begins_another()
-    ensures { (text more : List ℕ) (m n : IsoMessage) → Reads text m → Reads (text ++ more) n → more ≡ [] }
+    ensures { (text more : List ℕ) (m n : IsoMessage)
+        → Reads text m → Reads (text ++ more) n → more ≡ [] }
 {}
 
 /// A text with a fault spells no message.
 pub fn faults_spell_nothing()
-    ensures { (text : List ℕ) (fault : DecodeFault) (m : IsoMessage) → FirstFault text fault → Reads text m → ⊥ }
+    ensures { (text : List ℕ) (fault : DecodeFault) (m : IsoMessage)
+        → FirstFault text fault → Reads text m → ⊥ }
 {}
 
 /// At most one fault is the first.
 pub fn one_first_fault()
-    ensures { (text : List ℕ) (fault other : DecodeFault) → FirstFault text fault → FirstFault text other → fault ≡ other }
+    ensures { (text : List ℕ) (fault other : DecodeFault)
+        → FirstFault text fault → FirstFault text other → fault ≡ other }
 {}
 
 /// What a text reads as, computed, is the message that it spells, or else its first fault.
 pub fn reading_computes()
     ensures read { (text : List ℕ) (m : IsoMessage) → (reading_of text ≡ Ok m) ↔ Reads text m }
-    ensures fault { (text : List ℕ) (fault : DecodeFault) → (reading_of text ≡ Err fault) ↔ FirstFault text fault }
+    ensures fault { (text : List ℕ) (fault : DecodeFault)
+        → (reading_of text ≡ Err fault) ↔ FirstFault text fault }
 {}
 
 /// The spelling of a message, computed, is the one that is written.

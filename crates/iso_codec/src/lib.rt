@@ -1,4 +1,5 @@
-//! Messages of ISO 8583:1987, in the profile of this host: read by [`decode`], written by [`encode`].
+//! Messages of ISO 8583:1987, in the profile of this host: read by [`decode`], written by
+//! [`encode`].
 //!
 //! A [`Message`] is four digits of type and the contents of its elements. What a text of bytes
 //! reads as is a relation in `specs/Message.antt`, and each fault a rule in `specs/Faults.antt`;
@@ -7,26 +8,24 @@
 
 mod bitmaps;
 mod class;
+mod classes;
 mod content;
 mod decode_fault;
 mod decoding;
 mod element;
+mod element_format;
 mod encoding;
 pub mod examples;
 mod form;
 pub mod laws;
 mod message;
-mod rule;
 mod set_fault;
 
-pub use class::Class;
-pub use content::{all_alphanumeric, all_digits, all_printable};
+pub use classes::{all_alphanumeric, all_digits, all_printable};
 pub use decode_fault::DecodeFault;
 pub use decoding::decode;
 pub use encoding::encode;
-pub use form::Form;
 pub use message::Message;
-pub use rule::{Rule, rule_at};
 pub use set_fault::SetFault;
 
 #[cfg(test)]

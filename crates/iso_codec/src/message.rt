@@ -1,24 +1,27 @@
 //! Messages.
 
-ghost use Rattle.std.specs.Prelude.{◌≡◌, ◌↔◌, ◌<◌, ◌≤◌, ◌⊎◌, true, length, take, [], IfSome, IsSome, OnOk, OnErr, IfErr, slice_index_or};
+ghost use Rattle.std.specs.Prelude.{◌≡◌, ◌↔◌, ◌⊎◌, true, [], Some, None, Err, IfSome, IsSome, OnOk, OnErr, IfErr};
 ghost use Rattle.std.specs.List.{list_all};
 ghost use Rattle.std.specs.Option.{option_copied};
+ghost use Rattle.std.specs.Char.{is_ascii_digit};
+ghost use Rattle.iso_codec.specs.declared.set_fault.SetFault.{SetFault};
 ghost use Rattle.iso_codec.specs.declared.set_fault.SetFault.TheVariants.{Memory};
-ghost use Rattle.iso_codec.specs.Content.{is_digit, has_length};
+ghost use Rattle.iso_codec.specs.Content.{has_length};
 ghost use Rattle.iso_codec.specs.Message.{pairs_of, IsMessage, content_of, with_content, is_element};
-ghost use Rattle.iso_codec.specs.Setting.{set_fault, is_below, IsPlace};
+ghost use Rattle.iso_codec.specs.Setting.{set_fault, IsPlace};
 
-use crate::content::{all_digits, fits_class};
+use crate::classes::{all_digits, fits_class};
 use crate::element::Element;
+use crate::element_format::format_at;
 use crate::form::Form;
-use crate::rule::rule_at;
 use crate::set_fault::SetFault;
 use std::alloc::{AllocError, Global};
+use std::fmt;
 use std::marker::Model;
 
 /// A message: four digits of type, and the contents of its elements. Contracts see it as a record
 /// of the two, the elements as pairs of number and content in ascending order.
-#[derive(Debug, Drop)]
+#[derive(Drop)]
 pub struct Message {
     kind: [u8; 4],
     elements: Vec<Element>,
@@ -31,13 +34,33 @@ impl Model for Message {
 
     ghost view = { λ m. record { kind = m.kind; elements = pairs_of m.elements.items } };
 
-    ghost invariant = { λ m. IsMessage (record { kind = m.kind; elements = pairs_of m.elements.items }) };
+    ghost invariant = { λ m. IsMessage (record {
+      kind = m.kind;
+      elements = pairs_of m.elements.items;
+    }) };
+}
+
+/// The type, and each element's number and length. No content is printed, since it may be a card
+/// number or a track.
+impl fmt::Debug for Message {
+    fn fmt<W: fmt::Write>(&self, f: &mut fmt::Formatter<W>) -> fmt::Result {
+        let [a, b, c, d] = self.kind;
+        write!(
+            f,
+            "Message({}{}{}{}",
+            a as char, b as char, c as char, d as char
+        )?;
+        for element in self.elements.as_slice() {
+            write!(f, ", {}: {} bytes", element.number, element.content.len())?;
+        }
+        write!(f, ")")
+    }
 }
 
 impl Message {
     /// A message without elements, or `None` where the type isn't four digits. It takes no memory.
     pub fn new(alloc: Global, kind: [u8; 4]) -> Option<Message>
-        ensures there { IsSome result ↔ (list_all is_digit kind ≡ true) }
+        ensures there { IsSome result ↔ (list_all is_ascii_digit kind ≡ true) }
         ensures value { IfSome result (λ m. m ≡ record { kind = kind; elements = [] }) }
     {
         if !all_digits(&kind) {
@@ -86,10 +109,15 @@ impl Message {
     /// Sets the content of an element, which is its bytes without a length prefix, in place of what
     /// was there. An `Err` changes nothing.
     pub fn set(&mut self, alloc: Global, number: u8, content: &[u8]) -> Result<(), SetFault>
-        ensures ok { OnOk result (self.new ≡ record { kind = self.old.kind; elements = with_content self.old.elements number content.now }) }
+        ensures ok { OnOk result (self.new ≡ record {
+          kind = self.old.kind;
+          elements = with_content self.old.elements number content.now;
+        }) }
         ensures fits { OnOk result (set_fault number content.now ≡ None) }
         ensures err { OnErr result (self.new ≡ self.old) }
         ensures fault { IfErr result (λ f. (f ≡ Memory) ⊎ (set_fault number content.now ≡ Some f)) }
+        // A content that the element can't have is reported, whatever memory there is.
+        ensures reports { (f : SetFault) → set_fault number content.now ≡ Some f → result ≡ Err f }
     {
         if let Some(fault) = refusal(number, content) {
             return Err(fault);
@@ -125,13 +153,13 @@ fn fits_length(form: Form, len: usize) -> bool
 fn refusal(number: u8, content: &[u8]) -> Option<SetFault>
     ensures { result ≡ set_fault number content.now }
 {
-    let Some(rule) = rule_at(number) else {
+    let Some(format) = format_at(number) else {
         return Some(SetFault::UnknownElement(number));
     };
-    if !fits_length(rule.form, content.len()) {
+    if !fits_length(format.form, content.len()) {
         return Some(SetFault::BadLength(number));
     }
-    if !fits_class(rule.class, content) {
+    if !fits_class(format.class, content) {
         return Some(SetFault::BadContent(number));
     }
     None
@@ -151,7 +179,8 @@ fn place(elements: &[Element], number: u8) -> usize
 
 /// Puts an element at its place, in place of one with its number.
 fn put(elements: &mut Vec<Element>, element: Element) -> Result<(), AllocError>
-    ensures ok { OnOk result (pairs_of elements.new.items ≡ with_content (pairs_of elements.old.items) element.number element.content.items) }
+    ensures ok { OnOk result (pairs_of elements.new.items
+        ≡ with_content (pairs_of elements.old.items) element.number element.content.items) }
     ensures err { OnErr result (pairs_of elements.new.items ≡ pairs_of elements.old.items) }
 {
     let at = place(elements.as_slice(), element.number);

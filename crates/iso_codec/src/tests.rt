@@ -1,9 +1,11 @@
-use crate::{DecodeFault, Message, SetFault, decode, encode};
+use crate::{
+    DecodeFault, Message, SetFault, all_alphanumeric, all_digits, all_printable, decode, encode,
+};
 use std::alloc::Global;
 use std::test::Fail;
 
-const PURCHASE: &[u8] =
-    b"02007220000000C080001641111111111111110000000000000010000501093000000001TERM0001MERCHANT0000001978";
+const PURCHASE: &[u8] = b"02007220000000C08000\
+    1641111111111111110000000000000010000501093000000001TERM0001MERCHANT0000001978";
 
 /// The fault of a text, or `None` where it is read.
 fn fault_of(alloc: Global, text: &[u8]) -> Option<DecodeFault> {
@@ -44,27 +46,55 @@ fn contents_are_set_and_refused(rt: HostRuntime) -> Result<(), Fail> {
     let alloc = rt.alloc();
     let mut message = Message::new(alloc, *b"0800").ok_or("four digits")?;
     let card = [b'1'; 20];
-    assert_eq!(rt;
-        message.set(alloc, 2, &card).err(),
-        Some(SetFault::BadLength(2))
-    );
-    assert_eq!(rt;
-        message.set(alloc, 97, b"E0000000000000000").err(),
-        Some(SetFault::BadContent(97))
-    );
-    assert_eq!(rt;
-        message.set(alloc, 51, b"978").err(),
-        Some(SetFault::UnknownElement(51))
-    );
-    assert_eq!(rt; message.get(97).is_none(), true);
     let additional = [b'x'; 1000];
     let (most, _) = additional.split_at(999);
+    // An element and a content, and the number, the element and the text of the fault.
+    let refused = [
+        (2, card.as_slice(), 6, "element 2 can't have this length"),
+        (
+            3,
+            b"00000".as_slice(),
+            6,
+            "element 3 can't have this length",
+        ),
+        (
+            3,
+            b"00000A".as_slice(),
+            7,
+            "element 3 can't have this content",
+        ),
+        (
+            97,
+            b"E0000000000000000".as_slice(),
+            7,
+            "element 97 can't have this content",
+        ),
+        (51, b"978".as_slice(), 4, "element 51 is not in the profile"),
+        (0, b"".as_slice(), 4, "element 0 is not in the profile"),
+        (255, b"".as_slice(), 4, "element 255 is not in the profile"),
+        (
+            48,
+            additional.as_slice(),
+            6,
+            "element 48 can't have this length",
+        ),
+    ];
     assert_eq!(rt; message.set(alloc, 48, most).err(), None);
-    assert_eq!(rt;
-        message.set(alloc, 48, &additional).err(),
-        Some(SetFault::BadLength(48))
-    );
+    for (element, content, number, text) in refused {
+        let fault = message.set(alloc, element, content).err().ok_or("a fault")?;
+        assert_eq!(rt; (fault.number(), fault.element()), (number, element));
+        assert_eq!(rt; format!(in alloc; "{fault}")?.as_str(), text);
+    }
+    assert_eq!(rt; message.get(97).is_none(), true);
     assert_eq!(rt; message.get(48), Some(most));
+    assert_eq!(rt;
+        (SetFault::Memory.number(), SetFault::Memory.element()),
+        (1, 0)
+    );
+    assert_eq!(rt;
+        format!(in alloc; "{}", SetFault::Memory)?.as_str(),
+        "no memory"
+    );
     assert_eq!(rt; Message::new(alloc, *b"08A0").is_none(), true);
     Ok(())
 }
@@ -93,39 +123,123 @@ fn what_is_set_is_written_and_read(rt: HostRuntime) -> Result<(), Fail> {
 
 #[test]
 fn malformed_texts(rt: HostRuntime) -> Result<(), Fail> {
+    let alloc = rt.alloc();
+    // A text, and the number, the element and the text of its fault.
     let cases = [
+        (
+            b"08A08220000000000000".as_slice(),
+            2,
+            0,
+            "the type is not four digits",
+        ),
         (
             b"0800822000000G00000004000000000000000101120000000001301".as_slice(),
             3,
             0,
+            "a bitmap is not hexadecimal",
         ),
         (
             b"0800822000000000000084000000000000000101120000000001301".as_slice(),
             4,
             65,
+            "element 65 is not in the profile",
+        ),
+        (
+            b"0800FFFFFFFFFFFFFFFFFFFFFFFFFFFFFFFF".as_slice(),
+            4,
+            5,
+            "element 5 is not in the profile",
+        ),
+        (
+            b"080002200000000000000101120000".as_slice(),
+            5,
+            11,
+            "the text ends in element 11",
+        ),
+        (
+            b"0200722000000".as_slice(),
+            5,
+            0,
+            "the text ends in element 0",
+        ),
+        (
+            b"02007220000000C080002041111111111111110000000000000010000501093000000001".as_slice(),
+            6,
+            2,
+            "element 2 has a bad length",
+        ),
+        (
+            b"02004000000000000000024A".as_slice(),
+            7,
+            2,
+            "element 2 has a bad content",
         ),
         (
             b"08008220000000000000040000000000000001011200000000013010".as_slice(),
             8,
             0,
+            "bytes stand after the last element",
         ),
-        (
-            b"02007220000000C080002041111111111111110000000000000010000501093000000001TERM0001MERCHANT0000001978".as_slice(),
-            6,
-            2,
-        ),
-        (b"0800FFFFFFFFFFFFFFFFFFFFFFFFFFFFFFFF".as_slice(), 4, 5),
     ];
-    for (text, number, element) in cases {
-        let fault = fault_of(rt.alloc(), text).ok_or("a fault")?;
+    for (bytes, number, element, text) in cases {
+        let fault = fault_of(alloc, bytes).ok_or("a fault")?;
         assert_eq!(rt; (fault.number(), fault.element()), (number, element));
+        assert_eq!(rt; format!(in alloc; "{fault}")?.as_str(), text);
     }
     assert_eq!(rt;
-        fault_of(
-            rt.alloc(),
-            b"02007220000000c080001641111111111111110000000000000010000501093000000001TERM0001MERCHANT0000001978"
-        ),
-        None
+        (DecodeFault::Memory.number(), DecodeFault::Memory.element()),
+        (1, 0)
     );
+    assert_eq!(rt;
+        format!(in alloc; "{}", DecodeFault::Memory)?.as_str(),
+        "no memory"
+    );
+    let lower = b"02007220000000c08000\
+        1641111111111111110000000000000010000501093000000001TERM0001MERCHANT0000001978";
+    assert_eq!(rt; fault_of(alloc, lower), None);
+    Ok(())
+}
+
+#[test]
+fn no_content_is_printed(rt: HostRuntime) -> Result<(), Fail> {
+    let alloc = rt.alloc();
+    let mut message = decode(alloc, PURCHASE)?;
+    message.set(alloc, 35, b"4111111111111111=30011010000")?;
+    let printed = format!(in alloc; "{message:?}")?;
+    assert_eq!(rt;
+        printed.as_str(),
+        "Message(0200, 2: 16 bytes, 3: 6 bytes, 4: 12 bytes, 7: 10 bytes, 11: 6 bytes, \
+            35: 28 bytes, 41: 8 bytes, 42: 15 bytes, 49: 3 bytes)"
+    );
+    assert_eq!(rt; printed.as_str().contains("4111"), false);
+    assert_eq!(rt; printed.as_str().contains("3001"), false);
+    Ok(())
+}
+
+#[test]
+fn classes_of_bytes(rt: HostRuntime) -> Result<(), Fail> {
+    // A text, and whether it is of class n, an and ans.
+    let rows = [
+        (b"".as_slice(), true, true, true),
+        (b"0123456789".as_slice(), true, true, true),
+        (b"AZaz 09".as_slice(), false, true, true),
+        (b"!~*".as_slice(), false, false, true),
+        (b"@".as_slice(), false, false, true),
+        (b"/".as_slice(), false, false, true),
+        (b":".as_slice(), false, false, true),
+        (b"\x1f".as_slice(), false, false, false),
+        (b"\x7f".as_slice(), false, false, false),
+        (b"00000000000000000000\xb0".as_slice(), false, false, false),
+    ];
+    for (text, n, an, ans) in rows {
+        assert_eq!(rt;
+            (
+                all_digits(text),
+                all_alphanumeric(text),
+                all_printable(text)
+            ),
+            (n, an, ans)
+        );
+    }
     Ok(())
 }

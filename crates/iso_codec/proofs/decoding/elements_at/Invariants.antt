@@ -1,5 +1,5 @@
 use Rattle.iso_codec.specs.Message.{pairs_of}
-use Rattle.iso_codec.proofs.Contents.{Goes}
+use Rattle.iso_codec.proofs.ElementReading.{Goes}
 use Rattle.iso_codec.proofs.decoding.elements_at.Given as goal
 
 abbrev pub invariant-loop-number : goal.invariant-loop-number

@@ -1,7 +1,7 @@
 use Rattle.std.proofs.Common.{◌≡◌, true}
 use Rattle.std.specs.List.{list_all}
 use Rattle.iso_codec.specs.Faults.{is_known}
-use Rattle.iso_codec.proofs.Named.{below}
+use Rattle.iso_codec.proofs.NamedNumbers.{below}
 use Rattle.iso_codec.proofs.decoding.first_unknown.Given as goal
 
 abbrev pub invariant-loop-number : goal.invariant-loop-number

@@ -1,6 +1,6 @@
 use Rattle.std.proofs.Common.{sym, ap, ◌∙◌, List, ℕ, ◌++◌, append_assoc}
 use Rattle.iso_codec.specs.Message.{is_upper_hex}
-use Rattle.iso_codec.proofs.Written.{two_bitmaps, all_append}
+use Rattle.iso_codec.proofs.WrittenIsRead.{two_bitmaps, all_append}
 use Rattle.iso_codec.proofs.encoding.push_bitmaps.Goals as goal
 
 pub returns-in_ok-push_bitmap-2-clause-ok : goal.returns-in_ok-push_bitmap-2-clause-ok

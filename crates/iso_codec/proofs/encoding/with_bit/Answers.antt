@@ -1,4 +1,4 @@
-use Rattle.iso_codec.proofs.Marking.{bit_more}
+use Rattle.iso_codec.proofs.BitmapsOfNumbers.{bit_more}
 use Rattle.iso_codec.proofs.encoding.with_bit.Goals as goal
 
 pub returns : goal.returns

@@ -1,4 +1,4 @@
-use Rattle.iso_codec.proofs.Exclusive.{not_read}
+use Rattle.iso_codec.proofs.FaultsSpellNothing.{not_read}
 use Rattle.iso_codec.proofs.laws.faults_spell_nothing.Goals as goal
 
 pub returns : goal.returns

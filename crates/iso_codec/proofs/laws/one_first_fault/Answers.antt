@@ -1,4 +1,4 @@
-use Rattle.iso_codec.proofs.Once.{fault_once}
+use Rattle.iso_codec.proofs.OneFirstFault.{fault_once}
 use Rattle.iso_codec.proofs.laws.one_first_fault.Goals as goal
 
 pub returns : goal.returns

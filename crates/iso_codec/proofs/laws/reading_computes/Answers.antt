@@ -1,4 +1,4 @@
-use Rattle.iso_codec.proofs.Exact.{read_as, reads_as, fault_of, has_fault}
+use Rattle.iso_codec.proofs.ReadingComputes.{read_as, reads_as, fault_of, has_fault}
 use Rattle.iso_codec.proofs.laws.reading_computes.Goals as goal
 
 pub returns-clause-read : goal.returns-clause-read

@@ -1,4 +1,4 @@
-use Rattle.iso_codec.proofs.Unique.{read_once}
+use Rattle.iso_codec.proofs.OneMessage.{read_once}
 use Rattle.iso_codec.proofs.laws.reads_one.Goals as goal
 
 pub returns : goal.returns

@@ -1,4 +1,4 @@
-use Rattle.iso_codec.proofs.Spelling.{spelling_writes, written_is}
+use Rattle.iso_codec.proofs.SpellingComputes.{spelling_writes, written_is}
 use Rattle.iso_codec.proofs.laws.spelling_computes.Goals as goal
 
 pub returns-clause-written : goal.returns-clause-written

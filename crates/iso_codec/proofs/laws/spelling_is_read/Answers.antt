@@ -1,7 +1,7 @@
 use Rattle.iso_codec.specs.Reading.{spelling}
-use Rattle.iso_codec.proofs.Written.{is_read}
-use Rattle.iso_codec.proofs.Exact.{reads_as}
-use Rattle.iso_codec.proofs.Spelling.{spelling_writes}
+use Rattle.iso_codec.proofs.WrittenIsRead.{is_read}
+use Rattle.iso_codec.proofs.ReadingComputes.{reads_as}
+use Rattle.iso_codec.proofs.SpellingComputes.{spelling_writes}
 use Rattle.iso_codec.proofs.laws.spelling_is_read.Goals as goal
 
 pub returns : goal.returns

@@ -1,4 +1,4 @@
-use Rattle.iso_codec.proofs.Written.{is_read}
+use Rattle.iso_codec.proofs.WrittenIsRead.{is_read}
 use Rattle.iso_codec.proofs.laws.written_is_read.Goals as goal
 
 pub returns : goal.returns

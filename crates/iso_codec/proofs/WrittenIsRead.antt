@@ -6,15 +6,17 @@ use Rattle.std.proofs.lemmas.List.{append-nil}
 use Rattle.iso_codec.specs.declared.bitmaps.Bitmaps.{Bitmaps}
 use Rattle.iso_codec.specs.Message.{IsoMessage, IsMessage, IsBitmap, AreBitmaps, bit, numbers, body, is_upper_hex, Writes, Reads}
 use Rattle.iso_codec.specs.Setting.{Marks}
-use Rattle.iso_codec.proofs.Marking.{names_marked}
+use Rattle.iso_codec.proofs.BitmapsOfNumbers.{names_marked}
 
-pub all_append : {X : Type 0} (p : X → Bool) (xs ys : List X) → list_all p xs ≡ true → list_all p ys ≡ true → list_all p (xs ++ ys) ≡ true
+pub all_append : {X : Type 0} (p : X → Bool) (xs ys : List X) → list_all p xs ≡ true → list_all p ys ≡ true
+    → list_all p (xs ++ ys) ≡ true
 all_append p [] ys h k = k
 all_append p (x ∷ xs) ys h k =
     let parts = and_parts (p x) (list_all p xs) h in
     and_from (p x) (list_all p (xs ++ ys)) parts.0 (all_append p xs ys parts.1 k)
 
-pub one_bitmap : (digits : List ℕ) (bitmaps : Bitmaps) → IsBitmap digits bitmaps.primary → bit bitmaps.primary 1 ≡ false → bitmaps.secondary ≡ 0 → AreBitmaps digits bitmaps
+pub one_bitmap : (digits : List ℕ) (bitmaps : Bitmaps) → IsBitmap digits bitmaps.primary
+    → bit bitmaps.primary 1 ≡ false → bitmaps.secondary ≡ 0 → AreBitmaps digits bitmaps
 one_bitmap digits bitmaps b unset none = record {
   first = digits;
   second = [];
@@ -23,7 +25,8 @@ one_bitmap digits bitmaps b unset none = record {
   secondary = rw unset (refl, none);
 }
 
-pub two_bitmaps : (first second : List ℕ) (bitmaps : Bitmaps) → IsBitmap first bitmaps.primary → bit bitmaps.primary 1 ≡ true → IsBitmap second bitmaps.secondary → AreBitmaps (first ++ second) bitmaps
+pub two_bitmaps : (first second : List ℕ) (bitmaps : Bitmaps) → IsBitmap first bitmaps.primary
+    → bit bitmaps.primary 1 ≡ true → IsBitmap second bitmaps.secondary → AreBitmaps (first ++ second) bitmaps
 two_bitmaps first second bitmaps b set d = record {
   first = first;
   second = second;
@@ -32,7 +35,9 @@ two_bitmaps first second bitmaps b set d = record {
   secondary = rw set d;
 }
 
-pub written : (m : IsoMessage) (bitmaps : Bitmaps) (digits : List ℕ) → IsMessage m → Marks (numbers m.elements) bitmaps → AreBitmaps digits bitmaps → list_all is_upper_hex digits ≡ true → Writes (m.kind ++ (digits ++ body m.elements)) m
+pub written : (m : IsoMessage) (bitmaps : Bitmaps) (digits : List ℕ) → IsMessage m
+    → Marks (numbers m.elements) bitmaps → AreBitmaps digits bitmaps → list_all is_upper_hex digits ≡ true
+    → Writes (m.kind ++ (digits ++ body m.elements)) m
 written m bitmaps digits l k a c = record {
   digits = digits;
   bitmaps = bitmaps;
@@ -45,4 +50,12 @@ written m bitmaps digits l k a c = record {
 }
 
 pub is_read : (text : List ℕ) (m : IsoMessage) → Writes text m → Reads text m
-is_read text m w = record { digits = w.digits; bitmaps = w.bitmaps; is_message = w.is_message; parts = w.parts; digits_fit = w.digits_fit; names_all = w.names_all }
+is_read text m w = record {
+  digits = w.digits;
+  bitmaps = w.bitmaps;
+  is_message = w.is_message;
+  parts =
+      w.parts;
+  digits_fit = w.digits_fit;
+  names_all = w.names_all;
+}

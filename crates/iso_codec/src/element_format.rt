@@ -1,22 +1,22 @@
-//! The element table: the form and the class of each element.
+//! The element table.
 
 ghost use Rattle.std.specs.Prelude.{◌≡◌};
-ghost use Rattle.iso_codec.specs.Table.{rule_of};
+ghost use Rattle.iso_codec.specs.Table.{format_of};
 
 use crate::class::Class;
 use crate::form::Form;
 
-/// What the table says of an element.
+/// How an element is spelled: how long its content is, and of which bytes.
 #[derive(Clone, Copy, Debug, PartialEq, Eq)]
-pub struct Rule {
+pub struct ElementFormat {
     pub form: Form,
     pub class: Class,
 }
 
-/// What the table says of an element, or `None` where the profile doesn't have it.
-#[tactic(auto, unfolding(crate::specs::Table::rule_of))]
-pub fn rule_at(number: u8) -> Option<Rule>
-    ensures { result ≡ rule_of number }
+/// The format of an element, or `None` where the profile doesn't have it.
+#[tactic(auto, unfolding(crate::specs::Table::format_of))]
+pub fn format_at(number: u8) -> Option<ElementFormat>
+    ensures { result ≡ format_of number }
 {
     let (form, class) = match number {
         2 => (Form::Llvar(19), Class::Numeric),
@@ -53,5 +53,5 @@ pub fn rule_at(number: u8) -> Option<Rule>
         128 => (Form::Fixed(16), Class::Hex),
         _ => return None,
     };
-    Some(Rule { form, class })
+    Some(ElementFormat { form, class })
 }

@@ -24,8 +24,10 @@ pub below_none : (bitmaps : Bitmaps) → below bitmaps 2 ≡ []
 unfolding below
 below_none bitmaps = refl
 
-filter_range : (p : ℕ → Bool) (a m n k : ℕ) → k ≡ m + n → filter p (range_with_len a k) ≡ filter p (range_with_len a m) ++ filter p (range_with_len (a + m) n)
-filter_range p a m n k e = rw (e, range-append a m n) (filter-append p (range_with_len a m) (range_with_len (a + m) n))
+filter_range : (p : ℕ → Bool) (a m n k : ℕ) → k ≡ m + n
+    → filter p (range_with_len a k) ≡ filter p (range_with_len a m) ++ filter p (range_with_len (a + m) n)
+filter_range p a m n k e = rw (e, range-append a m n) (filter-append p (range_with_len a m)
+    (range_with_len (a + m) n))
 
 pub named_split : (bitmaps : Bitmaps) (n : ℕ) → 2 ≤ n → n ≤ 129 → named bitmaps ≡ below bitmaps n ++ onward bitmaps n
 unfolding named below onward
@@ -40,32 +42,39 @@ below_all bitmaps n e = let k : n - 2 ≡ 127 = omega arith in rw k refl
 cond_filter : (p : ℕ → Bool) (n : ℕ) → filter p (n ∷ []) ≡ cond (p n) (n ∷ []) []
 cond_filter p n = refl
 
-pub below_more : (bitmaps : Bitmaps) (n : ℕ) → 2 ≤ n → below bitmaps (n + 1) ≡ below bitmaps n ++ cond (names bitmaps n) (n ∷ []) []
+pub below_more : (bitmaps : Bitmaps) (n : ℕ) → 2 ≤ n → below bitmaps (n + 1) ≡ below bitmaps n
+    ++ cond (names bitmaps n) (n ∷ []) []
 unfolding below
 below_more bitmaps n lo =
     let at : 2 + (n - 2) ≡ n = omega arith in
     filter_range (names bitmaps) 2 (n - 2) 1 (n + 1 - 2) (omega arith) ∙ rw at refl
 
-pub below_in : (bitmaps : Bitmaps) (n : ℕ) → 2 ≤ n → names bitmaps n ≡ true → below bitmaps (n + 1) ≡ below bitmaps n ++ n ∷ []
+pub below_in : (bitmaps : Bitmaps) (n : ℕ) → 2 ≤ n → names bitmaps n ≡ true
+    → below bitmaps (n + 1) ≡ below bitmaps n ++ n ∷ []
 below_in bitmaps n lo h = below_more bitmaps n lo ∙ rw h refl
 
-pub below_out : (bitmaps : Bitmaps) (n : ℕ) → 2 ≤ n → names bitmaps n ≡ false → below bitmaps (n + 1) ≡ below bitmaps n
+pub below_out : (bitmaps : Bitmaps) (n : ℕ) → 2 ≤ n → names bitmaps n ≡ false
+    → below bitmaps (n + 1) ≡ below bitmaps n
 below_out bitmaps n lo h = below_more bitmaps n lo ∙ rw h (append-nil (below bitmaps n))
 
-pub onward_in : (bitmaps : Bitmaps) (n : ℕ) → n ≤ 128 → names bitmaps n ≡ true → onward bitmaps n ≡ n ∷ onward bitmaps (n + 1)
+pub onward_in : (bitmaps : Bitmaps) (n : ℕ) → n ≤ 128 → names bitmaps n ≡ true
+    → onward bitmaps n ≡ n ∷ onward bitmaps (n + 1)
 unfolding onward
 onward_in bitmaps n hi h =
     let k : 129 - n ≡ suc (129 - (n + 1)) = omega arith in rw (k, h) refl
 
 -- n is named: those below it, n, and later ones
-pub named_at : (bitmaps : Bitmaps) (n : ℕ) → 2 ≤ n → n ≤ 128 → names bitmaps n ≡ true → named bitmaps ≡ below bitmaps n ++ n ∷ onward bitmaps (n + 1)
-named_at bitmaps n lo hi h = named_split bitmaps n lo (omega arith) ∙ ap (λ (xs : List ℕ). below bitmaps n ++ xs) (onward_in bitmaps n hi h)
+pub named_at : (bitmaps : Bitmaps) (n : ℕ) → 2 ≤ n → n ≤ 128 → names bitmaps n ≡ true
+    → named bitmaps ≡ below bitmaps n ++ n ∷ onward bitmaps (n + 1)
+named_at bitmaps n lo hi h = named_split bitmaps n lo (omega arith)
+    ∙ ap (λ (xs : List ℕ). below bitmaps n ++ xs) (onward_in bitmaps n hi h)
 
 -- what a filter leaves of a range ascends
 pub filter_ascends : (p : ℕ → Bool) (low a k : ℕ) → low < a → Ascends low (filter p (range_with_len a k))
 filter_ascends p low a zero h = tt
 filter_ascends p low a (suc k) h =
-    elim (p a) as (λ b. Ascends low (cond b (a ∷ filter p (range_with_len (a + 1) k)) (filter p (range_with_len (a + 1) k)))) [
+    elim (p a) as (λ b. Ascends low (cond b (a ∷ filter p (range_with_len (a + 1) k))
+    (filter p (range_with_len (a + 1) k)))) [
       | true ↦ (h, filter_ascends p a (a + 1) k (omega arith))
       | false ↦ filter_ascends p low (a + 1) k (omega arith)
     ]

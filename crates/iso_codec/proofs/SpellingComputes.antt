@@ -10,15 +10,16 @@ use Rattle.std.proofs.lemmas.Nat.Bits.{bit_at-lt, same_from_bits_below}
 use Rattle.hex.specs.Hex.{decode_of, encode_upper, encode_with, upper_digits, IsBytes}
 use Rattle.hex.proofs.HexLemmas.{decode_of-encode_upper, decode_of-ok, decode_of-same}
 use Rattle.iso_codec.specs.declared.bitmaps.Bitmaps.{Bitmaps}
-use Rattle.iso_codec.specs.Content.{is_digit, lies}
+use Rattle.std.specs.Char.{is_ascii_digit}
+use Rattle.std.specs.Int.{is_in_range}
 use Rattle.iso_codec.specs.Message.{IsoMessage, IsMessage, IsBitmap, AreBitmaps, bit, names, named, numbers, is_element, body, is_upper_hex, Writes}
 use Rattle.iso_codec.specs.Setting.{Marks, is_in}
 use Rattle.iso_codec.specs.Reading.{with_bit, naming, bitmaps_of, upper_case, digits_of_bitmaps, spelling}
-use Rattle.iso_codec.proofs.Sound.{rule_sound}
-use Rattle.iso_codec.proofs.Unique.{element_rule}
-use Rattle.iso_codec.proofs.Named.{filter_ascends}
-use Rattle.iso_codec.proofs.Marking.{bit_more, marks_none, marks_low, marks_high, not_in, bitmap_written, bytes_small, upper_case as in_capitals}
-use Rattle.iso_codec.proofs.Written.{all_append, one_bitmap, two_bitmaps, written}
+use Rattle.iso_codec.proofs.TableBounds.{format_in_bounds}
+use Rattle.iso_codec.proofs.OneMessage.{format_of_element}
+use Rattle.iso_codec.proofs.NamedNumbers.{filter_ascends}
+use Rattle.iso_codec.proofs.BitmapsOfNumbers.{bit_more, marks_none, marks_low, marks_high, not_in, bitmap_written, bytes_small, upper_case as in_capitals}
+use Rattle.iso_codec.proofs.WrittenIsRead.{all_append, one_bitmap, two_bitmaps, written}
 
 -- ---- the bitmaps that name some numbers
 
@@ -36,33 +37,41 @@ adds_bit bits n k a b d e =
 abbrev pub InRange : ℕ → Bool
 InRange n = leb 2 n && leb n 128
 
-pub marks_step : (ns : List ℕ) (bitmaps : Bitmaps) (n : ℕ) → Marks ns bitmaps → 2 ≤ n → n ≤ 128 → Marks (ns ++ n ∷ []) (naming bitmaps n)
+pub marks_step : (ns : List ℕ) (bitmaps : Bitmaps) (n : ℕ) → Marks ns bitmaps → 2 ≤ n → n ≤ 128
+    → Marks (ns ++ n ∷ []) (naming bitmaps n)
 marks_step ns bitmaps n m lo hi =
     elim (cases_lt 64 n) [
       | inl above ↦
           let far : leb n 64 ≡ false = lt-leb n 64 above in
-          rw far (marks_high ns bitmaps.primary (with_bit bitmaps.primary 1) bitmaps.secondary (with_bit bitmaps.secondary (n - 64)) n m above hi
-          (λ k a b. adds_bit bitmaps.primary 1 k (omega arith) (omega arith) a b) (λ k a b. adds_bit bitmaps.secondary (n - 64) k (omega arith) (omega arith) a b))
+          rw far (marks_high ns bitmaps.primary (with_bit bitmaps.primary 1) bitmaps.secondary
+          (with_bit bitmaps.secondary (n - 64)) n m above hi
+          (λ k a b. adds_bit bitmaps.primary 1 k (omega arith) (omega arith) a b)
+          (λ k a b. adds_bit bitmaps.secondary (n - 64) k (omega arith) (omega arith) a b))
       | inr below ↦
           let near : leb n 64 ≡ true = le-leb n 64 below in
-          rw near (marks_low ns bitmaps.primary (with_bit bitmaps.primary n) bitmaps.secondary n m lo below (λ k a b. adds_bit bitmaps.primary n k (omega arith) below a b))
+          rw near (marks_low ns bitmaps.primary (with_bit bitmaps.primary n) bitmaps.secondary n m lo below
+          (λ k a b. adds_bit bitmaps.primary n k (omega arith) below a b))
     ]
 
-marks_fold : (before ns : List ℕ) (bitmaps : Bitmaps) → Marks before bitmaps → list_all InRange ns ≡ true → Marks (before ++ ns) (fold naming bitmaps ns)
+marks_fold : (before ns : List ℕ) (bitmaps : Bitmaps) → Marks before bitmaps → list_all InRange ns ≡ true
+    → Marks (before ++ ns) (fold naming bitmaps ns)
 marks_fold before [] bitmaps m all = subst (λ (l : List ℕ). Marks l bitmaps) (sym (append-nil before)) m
 marks_fold before (n ∷ ns) bitmaps m all =
     let parts = and_parts (InRange n) (list_all InRange ns) all in
     let here = and_parts (leb 2 n) (leb n 128) parts.0 in
     subst (λ (l : List ℕ). Marks l (fold naming (naming bitmaps n) ns)) (append_assoc before (n ∷ []) ns)
-    (marks_fold (before ++ n ∷ []) ns (naming bitmaps n) (marks_step before bitmaps n m (leb-true 2 n here.0) (leb-true n 128 here.1)) parts.1)
+    (marks_fold (before ++ n ∷ []) ns (naming bitmaps n)
+    (marks_step before bitmaps n m (leb-true 2 n here.0) (leb-true n 128 here.1)) parts.1)
 
 numbers_in_range : (es : List (ℕ × List ℕ)) → list_all is_element es ≡ true → list_all InRange (numbers es) ≡ true
 numbers_in_range [] h = refl
 numbers_in_range (e ∷ es) h =
     let parts = and_parts (is_element e) (list_all is_element es) h in
-    let rule = element_rule e.0 e.1 parts.0 in
-    let sound = rule_sound e.0 rule.0 rule.1 in
-    and_from (InRange e.0) (list_all InRange (numbers es)) (and_from (leb 2 e.0) (leb e.0 128) (le-leb 2 e.0 sound.1) (le-leb e.0 128 sound.2)) (numbers_in_range es parts.1)
+    let format = format_of_element e.0 e.1 parts.0 in
+    let sound = format_in_bounds e.0 format.0 format.1 in
+    and_from (InRange e.0) (list_all InRange (numbers es))
+    (and_from (leb 2 e.0) (leb e.0 128) (le-leb 2 e.0 sound.1) (le-leb e.0 128 sound.2))
+    (numbers_in_range es parts.1)
 
 pub marked : (es : List (ℕ × List ℕ)) → list_all is_element es ≡ true → Marks (numbers es) (bitmaps_of (numbers es))
 unfolding bitmaps_of
@@ -81,13 +90,17 @@ small_step bitmaps n lo h =
     elim (cases_lt 64 n) [
       | inl above ↦
           let far : leb n 64 ≡ false = lt-leb n 64 above in
-          rw far (bit_small bitmaps.primary 1 h.0 (omega arith), bit_small bitmaps.secondary (n - 64) h.1 (omega arith))
+          rw far (
+            bit_small bitmaps.primary 1 h.0 (omega arith),
+            bit_small bitmaps.secondary (n - 64) h.1 (omega arith),
+          )
       | inr below ↦
           let near : leb n 64 ≡ true = le-leb n 64 below in
           rw near (bit_small bitmaps.primary n h.0 (omega arith), h.1)
     ]
 
-small_fold : (ns : List ℕ) (bitmaps : Bitmaps) → Small bitmaps → list_all InRange ns ≡ true → Small (fold naming bitmaps ns)
+small_fold : (ns : List ℕ) (bitmaps : Bitmaps) → Small bitmaps → list_all InRange ns ≡ true
+    → Small (fold naming bitmaps ns)
 small_fold [] bitmaps h all = h
 small_fold (n ∷ ns) bitmaps h all =
     let parts = and_parts (InRange n) (list_all InRange ns) all in
@@ -96,7 +109,8 @@ small_fold (n ∷ ns) bitmaps h all =
 
 pub bitmaps_small : (es : List (ℕ × List ℕ)) → list_all is_element es ≡ true → Small (bitmaps_of (numbers es))
 unfolding bitmaps_of
-bitmaps_small es h = small_fold (numbers es) (record { primary = 0; secondary = 0 }) (omega arith, omega arith) (numbers_in_range es h)
+bitmaps_small es h = small_fold (numbers es) (record { primary = 0; secondary = 0 }) (omega arith, omega arith)
+    (numbers_in_range es h)
 
 -- ---- their digits
 
@@ -106,17 +120,24 @@ capitals_spell bits h = bitmap_written bits h (bytes_small bits)
 capitals_upper : (bits : ℕ) → list_all is_upper_hex (upper_case bits) ≡ true
 capitals_upper bits = in_capitals (to_be_bytes w64 bits) (bytes_small bits)
 
-pub digits_spell : (ns : List ℕ) (bitmaps : Bitmaps) → Small bitmaps → Marks ns bitmaps → AreBitmaps (digits_of_bitmaps bitmaps) bitmaps × (list_all is_upper_hex (digits_of_bitmaps bitmaps) ≡ true)
+pub digits_spell : (ns : List ℕ) (bitmaps : Bitmaps) → Small bitmaps → Marks ns bitmaps
+    → AreBitmaps (digits_of_bitmaps bitmaps) bitmaps × (list_all is_upper_hex (digits_of_bitmaps bitmaps) ≡ true)
 unfolding digits_of_bitmaps
 digits_spell ns bitmaps h m =
     elim (cases_Bool (bit bitmaps.primary 1)) [
       | inl set ↦
           rw set (
-            two_bitmaps (upper_case bitmaps.primary) (upper_case bitmaps.secondary) bitmaps (capitals_spell bitmaps.primary h.0) set (capitals_spell bitmaps.secondary h.1),
-            all_append is_upper_hex (upper_case bitmaps.primary) (upper_case bitmaps.secondary) (capitals_upper bitmaps.primary) (capitals_upper bitmaps.secondary),
+            two_bitmaps (upper_case bitmaps.primary) (upper_case bitmaps.secondary) bitmaps
+                (capitals_spell bitmaps.primary h.0) set (capitals_spell bitmaps.secondary h.1),
+            all_append is_upper_hex (upper_case bitmaps.primary) (upper_case bitmaps.secondary)
+                (capitals_upper bitmaps.primary) (capitals_upper bitmaps.secondary),
           )
       | inr unset ↦
-          rw unset (one_bitmap (upper_case bitmaps.primary) bitmaps (capitals_spell bitmaps.primary h.0) unset (m.none unset), capitals_upper bitmaps.primary)
+          rw unset (
+            one_bitmap (upper_case bitmaps.primary) bitmaps (capitals_spell bitmaps.primary h.0) unset
+                (m.none unset),
+            capitals_upper bitmaps.primary,
+          )
     ]
 
 pub spelling_writes : (m : IsoMessage) → IsMessage m → Writes (spelling m) m
@@ -130,14 +151,17 @@ spelling_writes m l =
 -- ---- one spelling: the same numbers are named by the same bitmaps
 
 -- whether a filter of a range keeps a number
-in_filter : (p : ℕ → Bool) (k start count : ℕ) → start ≤ k → k < start + count → is_in (filter p (range_with_len start count)) k ≡ p k
+in_filter : (p : ℕ → Bool) (k start count : ℕ) → start ≤ k → k < start + count
+    → is_in (filter p (range_with_len start count)) k ≡ p k
 in_filter p k start zero lo hi = absurd (omega arith)
 in_filter p k start (suc count) lo hi =
     let kept : List ℕ = filter p (range_with_len (start + 1) count) in
     elim (cases_eq k start) [
       | inl same ↦ elim (cases_Bool (p start)) [
-        | inl kept_here ↦ rw kept_here (or_left (eqb k start) (is_in kept k) (eq-eqb k start same) ∙ sym kept_here ∙ ap p (sym same))
-        | inr left ↦ rw left (not_in start k kept (filter_ascends p start (start + 1) count (omega arith)) (omega arith) ∙ sym left ∙ ap p (sym same))
+        | inl kept_here ↦ rw kept_here (or_left (eqb k start) (is_in kept k) (eq-eqb k start same) ∙ sym kept_here
+            ∙ ap p (sym same))
+        | inr left ↦ rw left (not_in start k kept (filter_ascends p start (start + 1) count (omega arith))
+            (omega arith) ∙ sym left ∙ ap p (sym same))
       ]
       | inr other ↦
           let rest = in_filter p k (start + 1) count (omega arith) (omega arith) in
@@ -149,7 +173,8 @@ in_filter p k start (suc count) lo hi =
 
 same_names : (a b : Bitmaps) → named a ≡ named b → (k : ℕ) → 2 ≤ k → k ≤ 128 → names a k ≡ names b k
 unfolding named
-same_names a b e k lo hi = sym (in_filter (names a) k 2 127 lo (omega arith)) ∙ ap (λ (l : List ℕ). is_in l k) e ∙ in_filter (names b) k 2 127 lo (omega arith)
+same_names a b e k lo hi = sym (in_filter (names a) k 2 127 lo (omega arith)) ∙ ap (λ (l : List ℕ). is_in l k) e
+    ∙ in_filter (names b) k 2 127 lo (omega arith)
 
 same_bit : (a b : ℕ) → a < 2 → b < 2 → eqb a 1 ≡ eqb b 1 → a ≡ b
 same_bit a b ha hb e =
@@ -168,7 +193,8 @@ same_bits a b ha hb h =
     let f : eqb (bit_at a i) 1 ≡ eqb (bit_at b i) 1 = rw place at e in
     same_bit (bit_at a i) (bit_at b i) (bit_at-lt a i) (bit_at-lt b i) f)
 
-same_primary : (a b : Bitmaps) → named a ≡ named b → bit a.primary 1 ≡ bit b.primary 1 → a.primary < 2 ^ 64 → b.primary < 2 ^ 64 → a.primary ≡ b.primary
+same_primary : (a b : Bitmaps) → named a ≡ named b → bit a.primary 1 ≡ bit b.primary 1 → a.primary < 2 ^ 64
+    → b.primary < 2 ^ 64 → a.primary ≡ b.primary
 same_primary a b e first ha hb =
     same_bits a.primary b.primary ha hb (λ k lo hi. elim (cases_eq k 1) [
       | inl one ↦ rw one first
@@ -177,7 +203,8 @@ same_primary a b e first ha hb =
           rw near at (same_names a b e k (omega arith) (omega arith))
     ])
 
-same_secondary : (a b : Bitmaps) → named a ≡ named b → a.secondary < 2 ^ 64 → b.secondary < 2 ^ 64 → a.secondary ≡ b.secondary
+same_secondary : (a b : Bitmaps) → named a ≡ named b → a.secondary < 2 ^ 64 → b.secondary < 2 ^ 64
+    → a.secondary ≡ b.secondary
 same_secondary a b e ha hb =
     same_bits a.secondary b.secondary ha hb (λ k lo hi.
     let far : leb (k + 64) 64 ≡ false = lt-leb (k + 64) 64 (omega arith) in
@@ -191,21 +218,23 @@ Digit c = (d : ℕ) × (d < 16) × (get_or upper_digits d 0 ≡ c)
 
 digit_of : (c : ℕ) → is_upper_hex c ≡ true → Digit c
 digit_of c h =
-    elim (cases_Bool (is_digit c)) [
+    elim (cases_Bool (is_ascii_digit c)) [
       | inl low ↦
           let p = and_parts (leb 48 c) (leb c 57) low in
           let a = leb-true 48 c p.0 in
           let b = leb-true c 57 p.1 in
-          let e = agree_below_at (λ x. eqb (get_or upper_digits x 0) (48 + x)) (λ _. true) 10 (c - 48) refl (omega arith) in
+          let e = agree_below_at (λ x. eqb (get_or upper_digits x 0) (48 + x)) (λ _. true) 10 (c - 48) refl
+          (omega arith) in
           let f = eqb-true (get_or upper_digits (c - 48) 0) (48 + (c - 48)) e in
           let g : 48 + (c - 48) ≡ c = omega arith in
           (c - 48, omega arith, f ∙ g)
       | inr high ↦
-          let q : lies 65 70 c ≡ true = rw high at h in
+          let q : is_in_range 65 70 c ≡ true = rw high at h in
           let p = and_parts (leb 65 c) (leb c 70) q in
           let a = leb-true 65 c p.0 in
           let b = leb-true c 70 p.1 in
-          let e = agree_below_at (λ x. eqb (get_or upper_digits (10 + x) 0) (65 + x)) (λ _. true) 6 (c - 65) refl (omega arith) in
+          let e = agree_below_at (λ x. eqb (get_or upper_digits (10 + x) 0) (65 + x)) (λ _. true) 6 (c - 65) refl
+          (omega arith) in
           let f = eqb-true (get_or upper_digits (10 + (c - 65)) 0) (65 + (c - 65)) e in
           let g : 65 + (c - 65) ≡ c = omega arith in
           (10 + (c - 65), omega arith, f ∙ g)
@@ -259,15 +288,18 @@ capital_is s v b up =
 
 -- ---- the whole
 
-all_front : (xs ys : List ℕ) → list_all is_upper_hex (xs ++ ys) ≡ true → (list_all is_upper_hex xs ≡ true) × (list_all is_upper_hex ys ≡ true)
+all_front : (xs ys : List ℕ) → list_all is_upper_hex (xs ++ ys) ≡ true
+    → (list_all is_upper_hex xs ≡ true) × (list_all is_upper_hex ys ≡ true)
 all_front [] ys h = (refl, h)
 all_front (x ∷ xs) ys h =
     let p = and_parts (is_upper_hex x) (list_all is_upper_hex (xs ++ ys)) h in
     let q = all_front xs ys p.1 in
     (and_from (is_upper_hex x) (list_all is_upper_hex xs) p.0 q.0, q.1)
 
-same_second : (set : Bool) (a b : Bitmaps) (s t : List ℕ) → named a ≡ named b → list_all is_upper_hex s ≡ true → list_all is_upper_hex t ≡ true
-    → MatchBool set (IsBitmap s a.secondary) ((s ≡ []) × (a.secondary ≡ 0)) → MatchBool set (IsBitmap t b.secondary) ((t ≡ []) × (b.secondary ≡ 0)) → s ≡ t
+same_second : (set : Bool) (a b : Bitmaps) (s t : List ℕ) → named a ≡ named b → list_all is_upper_hex s ≡ true
+    → list_all is_upper_hex t ≡ true
+    → MatchBool set (IsBitmap s a.secondary) ((s ≡ []) × (a.secondary ≡ 0))
+    → MatchBool set (IsBitmap t b.secondary) ((t ≡ []) × (b.secondary ≡ 0)) → s ≡ t
 same_second true a b s t e us ut ha hb =
     let x = capital_is s a.secondary ha us in
     let y = capital_is t b.secondary hb ut in
@@ -278,15 +310,22 @@ pub one_written : (s t : List ℕ) (m : IsoMessage) → Writes s m → Writes t 
 one_written s t m a b =
     let e : named a.bitmaps ≡ named b.bitmaps = sym a.names_all ∙ b.names_all in
     let first : bit a.bitmaps.primary 1 ≡ bit b.bitmaps.primary 1 = a.second_only ∙ sym b.second_only in
-    let ua = all_front a.digits_fit.first a.digits_fit.second (subst (λ (d : List ℕ). list_all is_upper_hex d ≡ true) a.digits_fit.parts a.upper_case) in
-    let ub = all_front b.digits_fit.first b.digits_fit.second (subst (λ (d : List ℕ). list_all is_upper_hex d ≡ true) b.digits_fit.parts b.upper_case) in
+    let ua = all_front a.digits_fit.first a.digits_fit.second
+    (subst (λ (d : List ℕ). list_all is_upper_hex d ≡ true) a.digits_fit.parts a.upper_case) in
+    let ub = all_front b.digits_fit.first b.digits_fit.second
+    (subst (λ (d : List ℕ). list_all is_upper_hex d ≡ true) b.digits_fit.parts b.upper_case) in
     let x = capital_is a.digits_fit.first a.bitmaps.primary a.digits_fit.primary ua.0 in
     let y = capital_is b.digits_fit.first b.bitmaps.primary b.digits_fit.primary ub.0 in
-    let firsts : a.digits_fit.first ≡ b.digits_fit.first = x.text ∙ ap upper_case (same_primary a.bitmaps b.bitmaps e first x.small y.small) ∙ sym y.text in
-    let second : MatchBool (bit b.bitmaps.primary 1) (IsBitmap a.digits_fit.second a.bitmaps.secondary) ((a.digits_fit.second ≡ []) × (a.bitmaps.secondary ≡ 0)) =
-    subst (λ (z : Bool). MatchBool z (IsBitmap a.digits_fit.second a.bitmaps.secondary) ((a.digits_fit.second ≡ []) × (a.bitmaps.secondary ≡ 0))) first a.digits_fit.secondary in
-    let seconds = same_second (bit b.bitmaps.primary 1) a.bitmaps b.bitmaps a.digits_fit.second b.digits_fit.second e ua.1 ub.1 second b.digits_fit.secondary in
-    let digits : a.digits ≡ b.digits = a.digits_fit.parts ∙ ap (λ (d : List ℕ). d ++ a.digits_fit.second) firsts ∙ ap (λ (d : List ℕ). b.digits_fit.first ++ d) seconds ∙ sym b.digits_fit.parts in
+    let firsts : a.digits_fit.first ≡ b.digits_fit.first = x.text
+    ∙ ap upper_case (same_primary a.bitmaps b.bitmaps e first x.small y.small) ∙ sym y.text in
+    let second : MatchBool (bit b.bitmaps.primary 1) (IsBitmap a.digits_fit.second a.bitmaps.secondary)
+    ((a.digits_fit.second ≡ []) × (a.bitmaps.secondary ≡ 0)) =
+    subst (λ (z : Bool). MatchBool z (IsBitmap a.digits_fit.second a.bitmaps.secondary)
+    ((a.digits_fit.second ≡ []) × (a.bitmaps.secondary ≡ 0))) first a.digits_fit.secondary in
+    let seconds = same_second (bit b.bitmaps.primary 1)
+    a.bitmaps b.bitmaps a.digits_fit.second b.digits_fit.second e ua.1 ub.1 second b.digits_fit.secondary in
+    let digits : a.digits ≡ b.digits = a.digits_fit.parts ∙ ap (λ (d : List ℕ). d ++ a.digits_fit.second) firsts
+    ∙ ap (λ (d : List ℕ). b.digits_fit.first ++ d) seconds ∙ sym b.digits_fit.parts in
     a.parts ∙ ap (λ (d : List ℕ). m.kind ++ (d ++ body m.elements)) digits ∙ sym b.parts
 
 pub written_is : (text : List ℕ) (m : IsoMessage) → Writes text m → text ≡ spelling m

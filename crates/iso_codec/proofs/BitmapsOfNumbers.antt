@@ -11,8 +11,8 @@ use Rattle.hex.proofs.HexLemmas.{length-encode_with, decode_of-encode_upper}
 use Rattle.iso_codec.specs.declared.bitmaps.Bitmaps.{Bitmaps}
 use Rattle.iso_codec.specs.Message.{bit, names, named, numbers, Ascends, IsBitmap, is_element, is_upper_hex}
 use Rattle.iso_codec.specs.Setting.{Marks, is_in}
-use Rattle.iso_codec.proofs.Sound.{rule_sound}
-use Rattle.iso_codec.proofs.Unique.{element_rule}
+use Rattle.iso_codec.proofs.TableBounds.{format_in_bounds}
+use Rattle.iso_codec.proofs.OneMessage.{format_of_element}
 
 or_false : (b : Bool) → (b || false) ≡ b
 or_false true = refl
@@ -28,7 +28,8 @@ any_push p (y ∷ ys) x = ap (λ (b : Bool). p y || b) (any_push p ys x) ∙ sym
 
 -- ---- one bit
 
-pub bit_more : (bits n k : ℕ) → 1 ≤ n → n ≤ 64 → 1 ≤ k → k ≤ 64 → bit (bit_or bits (1 * 2 ^ (64 - n) % 2 ^ 64)) k ≡ (bit bits k || eqb k n)
+pub bit_more : (bits n k : ℕ) → 1 ≤ n → n ≤ 64 → 1 ≤ k → k ≤ 64
+    → bit (bit_or bits (1 * 2 ^ (64 - n) % 2 ^ 64)) k ≡ (bit bits k || eqb k n)
 bit_more bits n k a b d e =
     elim (cases_eq k n) [
       | inl same ↦
@@ -51,7 +52,11 @@ no_bit k = rw bit_at-zero refl
 
 pub marks_none : Marks [] (record { primary = 0; secondary = 0 })
 marks_none = record {
-  named_each = λ n lo hi. elim (cases_Bool (leb n 64)) [ inl h ↦ rw (h, no_bit n) refl | inr h ↦ rw (h, no_bit (n - 64)) refl ];
+  named_each = λ n lo hi. elim (cases_Bool (leb n 64)) [
+    | inl h ↦ rw (h, no_bit n) refl
+    | inr h ↦
+        rw (h, no_bit (n - 64)) refl
+  ];
   second = no_bit 1;
   none = λ h. refl;
 }
@@ -62,25 +67,31 @@ Adds old new n = (k : ℕ) → 1 ≤ k → k ≤ 64 → bit new k ≡ (bit old k
 same_or : (a b d : Bool) → a ≡ b → d ≡ false → a ≡ (b || d)
 same_or a b d e f = rw (e, f) (sym (or_false b))
 
-pub marks_low : (ns : List ℕ) (p q s n : ℕ) → Marks ns (record { primary = p; secondary = s }) → 2 ≤ n → n ≤ 64 → Adds p q n → Marks (ns ++ n ∷ []) (record { primary = q; secondary = s })
+pub marks_low : (ns : List ℕ) (p q s n : ℕ) → Marks ns (record { primary = p; secondary = s }) → 2 ≤ n → n ≤ 64
+    → Adds p q n → Marks (ns ++ n ∷ []) (record { primary = q; secondary = s })
 marks_low ns p q s n m lo hi adds =
-    let first : bit q 1 ≡ bit p 1 = adds 1 (omega arith) (omega arith) ∙ ap (λ (b : Bool). bit p 1 || b) (ne_eqb 1 n (omega arith)) ∙ or_false (bit p 1) in
+    let first : bit q 1 ≡ bit p 1 = adds 1 (omega arith) (omega arith)
+    ∙ ap (λ (b : Bool). bit p 1 || b) (ne_eqb 1 n (omega arith)) ∙ or_false (bit p 1) in
     record {
       named_each = λ k a b. elim (cases_lt 64 k) [
         | inl above ↦
             let far : leb k 64 ≡ false = lt-leb k 64 above in
             let old : bit s (k - 64) ≡ is_in ns k = rw far at (m.named_each k a b) in
-            rw far (same_or (bit s (k - 64)) (is_in ns k) (eqb k n) old (ne_eqb k n (omega arith)) ∙ sym (any_push (λ (x : ℕ). eqb k x) ns n))
+            rw far (same_or (bit s (k - 64)) (is_in ns k) (eqb k n) old (ne_eqb k n (omega arith))
+            ∙ sym (any_push (λ (x : ℕ). eqb k x) ns n))
         | inr below ↦
             let near : leb k 64 ≡ true = le-leb k 64 below in
             let old : bit p k ≡ is_in ns k = rw near at (m.named_each k a b) in
-            rw near (adds k (omega arith) below ∙ ap (λ (x : Bool). x || eqb k n) old ∙ sym (any_push (λ (x : ℕ). eqb k x) ns n))
+            rw near (adds k (omega arith) below ∙ ap (λ (x : Bool). x || eqb k n) old
+            ∙ sym (any_push (λ (x : ℕ). eqb k x) ns n))
       ];
-      second = first ∙ same_or (bit p 1) (list_any (λ x. ltb 64 x) ns) (ltb 64 n) m.second (le-ltb 64 n hi) ∙ sym (any_push (λ (x : ℕ). ltb 64 x) ns n);
+      second = first ∙ same_or (bit p 1) (list_any (λ x. ltb 64 x) ns) (ltb 64 n) m.second (le-ltb 64 n hi)
+          ∙ sym (any_push (λ (x : ℕ). ltb 64 x) ns n);
       none = λ h. m.none (sym first ∙ h);
     }
 
-pub marks_high : (ns : List ℕ) (p q s t n : ℕ) → Marks ns (record { primary = p; secondary = s }) → 64 < n → n ≤ 128 → Adds p q 1 → Adds s t (n - 64) → Marks (ns ++ n ∷ []) (record { primary = q; secondary = t })
+pub marks_high : (ns : List ℕ) (p q s t n : ℕ) → Marks ns (record { primary = p; secondary = s }) → 64 < n → n ≤ 128
+    → Adds p q 1 → Adds s t (n - 64) → Marks (ns ++ n ∷ []) (record { primary = q; secondary = t })
 marks_high ns p q s t n m lo hi adds more =
     let first : bit q 1 ≡ true = adds 1 (omega arith) (omega arith) ∙ or_right (bit p 1) true refl in
     record {
@@ -88,15 +99,24 @@ marks_high ns p q s t n m lo hi adds more =
         | inl above ↦
             let far : leb k 64 ≡ false = lt-leb k 64 above in
             let old : bit s (k - 64) ≡ is_in ns k = rw far at (m.named_each k a b) in
-            let shift : eqb (k - 64) (n - 64) ≡ eqb k n = elim (cases_eq k n) [ inl e ↦ eq-eqb (k - 64) (n - 64) (omega arith) ∙ sym (eq-eqb k n e) | inr e ↦ ne_eqb (k - 64) (n - 64) (omega arith) ∙ sym (ne_eqb k n e) ] in
-            rw far (more (k - 64) (omega arith) (omega arith) ∙ ap (λ (x : Bool). x || eqb (k - 64) (n - 64)) old ∙ ap (λ (x : Bool). is_in ns k || x) shift ∙ sym (any_push (λ (x : ℕ). eqb k x) ns n))
+            let shift : eqb (k - 64) (n - 64) ≡ eqb k n =
+            elim (cases_eq k n) [
+              | inl e ↦ eq-eqb (k - 64) (n - 64) (omega arith) ∙ sym (eq-eqb k n e)
+              | inr e ↦
+                  ne_eqb (k - 64) (n - 64) (omega arith) ∙ sym (ne_eqb k n e)
+            ] in
+            rw far (more (k - 64) (omega arith) (omega arith) ∙ ap (λ (x : Bool). x || eqb (k - 64) (n - 64)) old
+            ∙ ap (λ (x : Bool). is_in ns k || x) shift ∙ sym (any_push (λ (x : ℕ). eqb k x) ns n))
         | inr below ↦
             let near : leb k 64 ≡ true = le-leb k 64 below in
             let old : bit p k ≡ is_in ns k = rw near at (m.named_each k a b) in
-            let kept : bit q k ≡ bit p k = adds k (omega arith) below ∙ ap (λ (x : Bool). bit p k || x) (ne_eqb k 1 (omega arith)) ∙ or_false (bit p k) in
-            rw near (kept ∙ same_or (bit p k) (is_in ns k) (eqb k n) old (ne_eqb k n (omega arith)) ∙ sym (any_push (λ (x : ℕ). eqb k x) ns n))
+            let kept : bit q k ≡ bit p k = adds k (omega arith) below
+            ∙ ap (λ (x : Bool). bit p k || x) (ne_eqb k 1 (omega arith)) ∙ or_false (bit p k) in
+            rw near (kept ∙ same_or (bit p k) (is_in ns k) (eqb k n) old (ne_eqb k n (omega arith))
+            ∙ sym (any_push (λ (x : ℕ). eqb k x) ns n))
       ];
-      second = first ∙ sym (or_right (list_any (λ x. ltb 64 x) ns) (ltb 64 n) (lt-ltb 64 n lo)) ∙ sym (any_push (λ (x : ℕ). ltb 64 x) ns n);
+      second = first ∙ sym (or_right (list_any (λ x. ltb 64 x) ns) (ltb 64 n) (lt-ltb 64 n lo))
+          ∙ sym (any_push (λ (x : ℕ). ltb 64 x) ns n);
       none = λ h. absurd (true≢false (sym first ∙ h));
     }
 
@@ -106,7 +126,8 @@ pub not_in : (low n : ℕ) (xs : List ℕ) → Ascends low xs → n ≤ low → 
 not_in low n [] h le = refl
 not_in low n (x ∷ xs) h le = rw (ne_eqb n x (omega arith)) (not_in x n xs h.1 (omega arith))
 
-pub filter_is : (p : ℕ → Bool) (k low start top : ℕ) (xs : List ℕ) → start ≡ low + 1 → top ≡ low + k → Ascends low xs → list_all (λ n. leb n top) xs ≡ true → ((n : ℕ) → low < n → n ≤ top → p n ≡ is_in xs n)
+pub filter_is : (p : ℕ → Bool) (k low start top : ℕ) (xs : List ℕ) → start ≡ low + 1 → top ≡ low + k → Ascends low xs
+    → list_all (λ n. leb n top) xs ≡ true → ((n : ℕ) → low < n → n ≤ top → p n ≡ is_in xs n)
     → filter p (range_with_len start k) ≡ xs
 filter_is p zero low start top [] e f asc all h = refl
 filter_is p zero low start top (x ∷ xs) e f asc all h =
@@ -120,25 +141,33 @@ filter_is p (suc k) low start top (x ∷ xs) e f asc all h =
     let parts = and_parts (leb x top) (list_all (λ n. leb n top) xs) all in
     elim (cases_eq x start) [
       | inl same ↦
-          let here : p start ≡ true = h start (omega arith) (omega arith) ∙ or_left (eqb start x) (is_in xs start) (eq-eqb start x (sym same)) in
+          let here : p start ≡ true = h start (omega arith) (omega arith)
+          ∙ or_left (eqb start x) (is_in xs start) (eq-eqb start x (sym same)) in
           let asc' : Ascends start xs = subst (λ (m : ℕ). Ascends m xs) same asc.1 in
-          let rest = filter_is p k start (start + 1) top xs refl (omega arith) asc' parts.1 (λ n a b. h n (omega arith) b ∙ ap (λ (c : Bool). c || is_in xs n) (ne_eqb n x (omega arith))) in
+          let rest = filter_is p k start (start + 1) top xs refl (omega arith) asc' parts.1
+          (λ n a b. h n (omega arith) b ∙ ap (λ (c : Bool). c || is_in xs n) (ne_eqb n x (omega arith))) in
           rw (here, rest, same) refl
       | inr other ↦
-          let here : p start ≡ false = h start (omega arith) (omega arith) ∙ rw (ne_eqb start x (omega arith)) (not_in x start xs asc.1 (omega arith)) in
-          rw here (filter_is p k start (start + 1) top (x ∷ xs) refl (omega arith) (omega arith, asc.1) all (λ n a b. h n (omega arith) b))
+          let here : p start ≡ false = h start (omega arith) (omega arith)
+          ∙ rw (ne_eqb start x (omega arith)) (not_in x start xs asc.1 (omega arith)) in
+          rw here (filter_is p k start (start + 1) top (x ∷ xs) refl (omega arith) (omega arith, asc.1) all
+          (λ n a b. h n (omega arith) b))
     ]
 
-small_numbers : (es : List (ℕ × List ℕ)) → list_all is_element es ≡ true → list_all (λ n. leb n 128) (numbers es) ≡ true
+small_numbers : (es : List (ℕ × List ℕ)) → list_all is_element es ≡ true
+    → list_all (λ n. leb n 128) (numbers es) ≡ true
 small_numbers [] h = refl
 small_numbers (e ∷ es) h =
     let parts = and_parts (is_element e) (list_all is_element es) h in
-    let rule = element_rule e.0 e.1 parts.0 in
-    and_from (leb e.0 128) (list_all (λ n. leb n 128) (numbers es)) (le-leb e.0 128 (rule_sound e.0 rule.0 rule.1).2) (small_numbers es parts.1)
+    let format = format_of_element e.0 e.1 parts.0 in
+    and_from (leb e.0 128) (list_all (λ n. leb n 128) (numbers es))
+    (le-leb e.0 128 (format_in_bounds e.0 format.0 format.1).2) (small_numbers es parts.1)
 
-pub names_marked : (bitmaps : Bitmaps) (es : List (ℕ × List ℕ)) → Marks (numbers es) bitmaps → Ascends 1 (numbers es) → list_all is_element es ≡ true → numbers es ≡ named bitmaps
+pub names_marked : (bitmaps : Bitmaps) (es : List (ℕ × List ℕ)) → Marks (numbers es) bitmaps → Ascends 1 (numbers es)
+    → list_all is_element es ≡ true → numbers es ≡ named bitmaps
 unfolding named
-names_marked bitmaps es m asc all = sym (filter_is (names bitmaps) 127 1 2 128 (numbers es) refl refl asc (small_numbers es all) (λ n a b. m.named_each n a b))
+names_marked bitmaps es m asc all = sym (filter_is (names bitmaps) 127 1 2 128 (numbers es) refl refl asc
+    (small_numbers es all) (λ n a b. m.named_each n a b))
 
 -- ---- digits in capitals
 
@@ -151,9 +180,11 @@ upper_case [] h = refl
 upper_case (b ∷ bs) h =
     let small : b < 256 = h 0 in
     and_from (is_upper_hex (get_or upper_digits (b / 16) 0)) _ (capital (b / 16) (omega arith))
-    (and_from (is_upper_hex (get_or upper_digits (b % 16) 0)) _ (capital (b % 16) (omega arith)) (upper_case bs (λ i. h (suc i))))
+    (and_from (is_upper_hex (get_or upper_digits (b % 16) 0)) _ (capital (b % 16) (omega arith))
+    (upper_case bs (λ i. h (suc i))))
 
-pub bitmap_written : (bits : ℕ) → bits < 2 ^ 64 → IsBytes (to_be_bytes w64 bits) → IsBitmap (encode_upper (to_be_bytes w64 bits)) bits
+pub bitmap_written : (bits : ℕ) → bits < 2 ^ 64 → IsBytes (to_be_bytes w64 bits)
+    → IsBitmap (encode_upper (to_be_bytes w64 bits)) bits
 bitmap_written bits h small = record {
   bytes = to_be_bytes w64 bits;
   size = length-encode_with upper_digits (to_be_bytes w64 bits);
@@ -172,9 +203,14 @@ bytes_small n (suc (suc (suc (suc (suc (suc zero)))))) = omega arith
 bytes_small n (suc (suc (suc (suc (suc (suc (suc zero))))))) = omega arith
 bytes_small n (suc (suc (suc (suc (suc (suc (suc (suc i)))))))) = omega arith
 
-pub bitmap_pushed : {T E : Type 0} (r : Result T E) (old new bytes digits : List ℕ) (bits : ℕ) → bits < 2 ^ 64 → bytes ≡ to_be_bytes w64 bits → digits ≡ encode_upper bytes → new ≡ cond (is_ok r) (old ++ digits) old
+pub bitmap_pushed : {T E : Type 0} (r : Result T E) (old new bytes digits : List ℕ) (bits : ℕ) → bits < 2 ^ 64
+    → bytes ≡ to_be_bytes w64 bits → digits ≡ encode_upper bytes → new ≡ cond (is_ok r) (old ++ digits) old
     → OnOk r ((x : List ℕ) × IsBitmap x bits × (list_all is_upper_hex x ≡ true) × (new ≡ old ++ x))
 bitmap_pushed (Ok _) old new bytes digits bits lt b d e =
-    let same : digits ≡ encode_upper (to_be_bytes w64 bits) = d ∙ ap encode_upper b in
-    (encode_upper (to_be_bytes w64 bits), bitmap_written bits lt (bytes_small bits), upper_case (to_be_bytes w64 bits) (bytes_small bits), e ∙ ap (λ (x : List ℕ). old ++ x) same)
+    let same : digits ≡ encode_upper (to_be_bytes w64 bits) = d ∙ ap encode_upper b in (
+      encode_upper (to_be_bytes w64 bits),
+      bitmap_written bits lt (bytes_small bits),
+      upper_case (to_be_bytes w64 bits) (bytes_small bits),
+      e ∙ ap (λ (x : List ℕ). old ++ x) same,
+    )
 bitmap_pushed (Err _) old new bytes digits bits lt b d e = tt

@@ -1,0 +1,158 @@
+-- One element: what is read is spelled so.
+use Rattle.std.proofs.Common.{◌≡◌, ℕ, ◌+◌, ◌/◌, ◌%◌, ◌<◌, ◌≤◌, Bool, true, false, ◌&&◌, leb, List, [], ◌∷◌, ◌++◌, length, take, Some, None, refl, sym, ap, ◌∙◌, append_assoc, arith, inl, inr}
+use Rattle.std.specs.List.{list_all}
+use Rattle.std.proofs.lemmas.Bool.{and_parts, and_from, leb-true, eq-eqb, le-leb, cases_Bool}
+use Rattle.std.proofs.lemmas.List.{append-nil, nil_from_length, length-take-le, map_push}
+use Rattle.std.proofs.lemmas.List.Concat.{flat_map-append}
+use Rattle.iso_codec.specs.declared.form.Form.{Form}
+use Rattle.iso_codec.specs.declared.form.Form.TheVariants.{Fixed, Llvar, Lllvar}
+use Rattle.iso_codec.specs.declared.element_format.ElementFormat.{ElementFormat}
+use Rattle.iso_codec.specs.Table.{format_of}
+use Rattle.std.specs.Char.{is_ascii_digit, digit_value}
+use Rattle.std.proofs.lemmas.Str.{digit_value_digit}
+use Rattle.std.specs.Str.Parse.{digits_value}
+use Rattle.iso_codec.specs.Content.{prefix_size, stated, length_of, digits_of, has_length, allows, spelled_by}
+use Rattle.iso_codec.specs.declared.bitmaps.Bitmaps.{Bitmaps}
+use Rattle.iso_codec.specs.Message.{names, numbers, is_element, spelled, body}
+use Rattle.iso_codec.proofs.NamedNumbers.{below, below_none, below_in, below_out}
+use Rattle.iso_codec.specs.Faults.{IsContent}
+
+-- what a length that may stand shows
+pub stated_some : (greatest : ℕ) (digits : List ℕ) (n : ℕ) → stated greatest digits ≡ Some n
+    → (list_all is_ascii_digit digits ≡ true) × (digits_value 10 digits ≡ n) × (n ≤ greatest)
+stated_some greatest digits n h =
+    elim (cases_Bool (list_all is_ascii_digit digits && leb (digits_value 10 digits) greatest)) [
+      | inl good ↦
+          let parts = and_parts (list_all is_ascii_digit digits) (leb (digits_value 10 digits) greatest) good in
+          let e : Some (digits_value 10 digits) ≡ Some n = rw good at h in
+          let same : digits_value 10 digits ≡ n = cc in
+          (parts.0, same, rw (← same) (leb-true _ _ parts.1))
+      | inr bad ↦ let e : None ≡ Some n = rw bad at h in cc
+    ]
+
+digit_value-of_digit : (b : ℕ) → is_ascii_digit b ≡ true → (digit_value b + 48 ≡ b) × (digit_value b < 10)
+digit_value-of_digit b h =
+    let parts = and_parts (leb 48 b) (leb b 57) h in
+    let high : b ≤ 57 = leb-true b 57 parts.1 in
+    let e = digit_value_digit b (leb-true 48 b parts.0, high) in
+    (e, omega arith)
+
+two_back : (a b : ℕ) → is_ascii_digit a ≡ true → is_ascii_digit b ≡ true → (n : ℕ) → digits_value 10 (a ∷ b ∷ []) ≡ n
+    → ((48 + n / 10) ∷ (48 + n % 10) ∷ []) ≡ a ∷ b ∷ []
+two_back a b ha hb n h =
+    let ba = digit_value-of_digit a ha in
+    let bb = digit_value-of_digit b hb in
+    let x : 48 + n / 10 ≡ a = omega arith in
+    let y : 48 + n % 10 ≡ b = omega arith in
+    rw (x, y) refl
+
+three_back : (a b d : ℕ) → is_ascii_digit a ≡ true → is_ascii_digit b ≡ true → is_ascii_digit d ≡ true → (n : ℕ)
+    → digits_value 10 (a ∷ b ∷ d ∷ []) ≡ n → ((48 + n / 100) ∷ (48 + n / 10 % 10) ∷ (48 + n % 10) ∷ [])
+    ≡ a ∷ b ∷ d ∷ []
+three_back a b d ha hb hd n h =
+    let ba = digit_value-of_digit a ha in
+    let bb = digit_value-of_digit b hb in
+    let bd = digit_value-of_digit d hd in
+    let x : 48 + n / 100 ≡ a = omega arith in
+    let y : 48 + n / 10 % 10 ≡ b = omega arith in
+    let z : 48 + n % 10 ≡ d = omega arith in
+    rw (x, y, z) refl
+
+two : (digits : List ℕ) (n : ℕ) → length digits ≡ 2 → list_all is_ascii_digit digits ≡ true
+    → digits_value 10 digits ≡ n → ((48 + n / 10) ∷ (48 + n % 10) ∷ []) ≡ digits
+two [] n l h e = absurd (omega arith)
+two (a ∷ []) n l h e = absurd (omega arith)
+two (a ∷ b ∷ []) n l h e =
+    let p = and_parts (is_ascii_digit a) (is_ascii_digit b && true) h in
+    let q = and_parts (is_ascii_digit b) true p.1 in
+    two_back a b p.0 q.0 n e
+two (a ∷ b ∷ d ∷ rest) n l h e = absurd (omega arith)
+
+three : (digits : List ℕ) (n : ℕ) → length digits ≡ 3 → list_all is_ascii_digit digits ≡ true
+    → digits_value 10 digits ≡ n → ((48 + n / 100) ∷ (48 + n / 10 % 10) ∷ (48 + n % 10) ∷ []) ≡ digits
+three [] n l h e = absurd (omega arith)
+three (a ∷ []) n l h e = absurd (omega arith)
+three (a ∷ b ∷ []) n l h e = absurd (omega arith)
+three (a ∷ b ∷ d ∷ []) n l h e =
+    let p = and_parts (is_ascii_digit a) (is_ascii_digit b && (is_ascii_digit d && true)) h in
+    let q = and_parts (is_ascii_digit b) (is_ascii_digit d && true) p.1 in
+    let r = and_parts (is_ascii_digit d) true q.1 in
+    three_back a b d p.0 q.0 r.0 n e
+three (a ∷ b ∷ d ∷ x ∷ rest) n l h e = absurd (omega arith)
+
+-- the digits that spell a length are those of the length
+pub digits_back : (f : Form) (digits : List ℕ) (n : ℕ) → length digits ≡ prefix_size f → length_of f digits ≡ Some n
+    → (digits_of f n ≡ digits) × (has_length f n ≡ true)
+digits_back (Fixed k) digits n l h =
+    let e : k ≡ n = cc in
+    (sym (nil_from_length digits l), eq-eqb n k (sym e))
+digits_back (Llvar greatest) digits n l h =
+    let s = stated_some greatest digits n h in
+    (two digits n l s.0 s.1, le-leb n greatest s.2)
+digits_back (Lllvar greatest) digits n l h =
+    let s = stated_some greatest digits n h in
+    (three digits n l s.0 s.1, le-leb n greatest s.2)
+
+-- content that was read is an element, and spelled as it stood
+pub content_is : (n : ℕ) (r : ElementFormat) (rest content after : List ℕ) → format_of n ≡ Some r
+    → IsContent r rest content after
+    → (is_element (n, content) ≡ true) × (rest ≡ spelled (n, content) ++ after)
+content_is n r rest content after format h =
+    let digits : List ℕ = take (prefix_size r.form) rest in
+    let back = digits_back r.form digits h.len (length-take-le (prefix_size r.form) rest h.prefix_there) h.stated in
+    let fits : has_length r.form (length content) ≡ true = rw h.size back.1 in
+    let known : allows (Some r) content ≡ true = and_from _ _ fits h.class_fits in
+    let whole : rest ≡ spelled_by (Some r) content ++ after =
+    rw (h.size, back.0) (h.parts ∙ sym (append_assoc digits content after)) in
+    (rw format known, rw format whole)
+
+-- one more element
+pub body_push : (es : List (ℕ × List ℕ)) (e : ℕ × List ℕ) (front rest after : List ℕ) → front ≡ body es ++ rest
+    → rest ≡ spelled e ++ after → front ≡ body (es ++ e ∷ []) ++ after
+body_push es e front rest after h k =
+    let one : body (es ++ e ∷ []) ≡ body es ++ spelled e = flat_map-append spelled es (e ∷ [])
+    ∙ ap (λ (x : List ℕ). body es ++ x) (append-nil (spelled e)) in
+    h ∙ ap (λ (x : List ℕ). body es ++ x) k ∙ sym (append_assoc (body es) (spelled e) after)
+    ∙ ap (λ (x : List ℕ). x ++ after) (sym one)
+
+pub all_push : {X : Type 0} (p : X → Bool) (xs : List X) (x : X) → list_all p xs ≡ true → p x ≡ true
+    → list_all p (xs ++ x ∷ []) ≡ true
+all_push p [] x h k = and_from (p x) true k refl
+all_push p (y ∷ ys) x h k =
+    let parts = and_parts (p y) (list_all p ys) h in
+    and_from (p y) (list_all p (ys ++ x ∷ [])) parts.0 (all_push p ys x parts.1 k)
+
+pub all_of_mid : {X : Type 0} (p : X → Bool) (xs ys : List X) (x : X) → list_all p (xs ++ x ∷ ys) ≡ true → p x ≡ true
+all_of_mid p [] ys x h = (and_parts (p x) (list_all p ys) h).0
+all_of_mid p (z ∷ xs) ys x h = all_of_mid p xs ys x (and_parts (p z) (list_all p (xs ++ x ∷ ys)) h).1
+
+-- where reading the elements has come: those before n are read, and rest is left
+pub record Goes (bitmaps : Bitmaps) (front : List ℕ) (es : List (ℕ × List ℕ)) (rest : List ℕ) (n : ℕ) : Type 0 where
+  pub parts : front ≡ body es ++ rest
+  pub numbers_are : numbers es ≡ below bitmaps n
+  pub each : list_all is_element es ≡ true
+
+pub goes_on : (bitmaps : Bitmaps) (front : List ℕ) (es : List (ℕ × List ℕ)) (rest : List ℕ) (n : ℕ)
+    (r : ElementFormat) (content after : List ℕ) → Goes bitmaps front es rest n → 2 ≤ n → names bitmaps n ≡ true
+    → format_of n ≡ Some r → IsContent r rest content after
+    → Goes bitmaps front (es ++ (n, content) ∷ []) after (n + 1)
+goes_on bitmaps front es rest n r content after g lo h format k =
+    let c = content_is n r rest content after format k in
+    record {
+      parts = body_push es (n, content) front rest after g.parts c.1;
+      numbers_are = map_push (λ (e : ℕ × List ℕ). e.0) es (n, content)
+          ∙ ap (λ (ns : List ℕ). ns ++ n ∷ []) g.numbers_are ∙ sym (below_in bitmaps n lo h);
+      each = all_push is_element es (n, content) g.each c.0;
+    }
+
+pub goes_past : (bitmaps : Bitmaps) (front : List ℕ) (es : List (ℕ × List ℕ)) (rest : List ℕ) (n : ℕ)
+    → Goes bitmaps front es rest n → 2 ≤ n → names bitmaps n ≡ false → Goes bitmaps front es rest (n + 1)
+goes_past bitmaps front es rest n g lo h = record {
+  parts = g.parts;
+  numbers_are = g.numbers_are
+      ∙ sym (below_out bitmaps n lo h);
+  each = g.each;
+}
+
+pub goes_none : (bitmaps : Bitmaps) (front : List ℕ) → Goes bitmaps front [] front 2
+goes_none bitmaps front = record { parts = refl; numbers_are = sym (below_none bitmaps); each = refl }
