@@ -1,8 +1,12 @@
--- The faults' numbers, and the statuses that the program ends with.
-use Rattle.std.specs.Prelude.{ℕ, Result, Ok, Err}
+-- The faults' numbers and texts, and the statuses that the program ends with.
+use Rattle.std.specs.Prelude.{ℕ, List, ◌++◌, [], codes, Result, Ok, Err}
+use Rattle.std.specs.Fmt.{decimal}
+use Rattle.iso_codec.specs.FaultTexts.{number_of_fault, element_of_fault}
 use Rattle.acq_link.specs.declared.input_fault.InputFault as input
+use Rattle.acq_link.specs.declared.write_fault.WriteFault as write
 use Rattle.acqd.specs.declared.fault.Fault.{Fault}
-use Rattle.acqd.specs.declared.fault.Fault.TheVariants.{Memory, BadLength, Ended, Undecodable, Read, Write}
+use Rattle.acqd.specs.declared.fault.Fault.TheVariants.{Memory, BadLength, Ended, Undecodable}
+use Rattle.acqd.specs.declared.fault.Fault.TheVariants.{Read, Write}
 
 abbrev pub number_of : Fault → ℕ
 number_of Memory = 1
@@ -11,6 +15,26 @@ number_of Ended = 51
 number_of (Undecodable fault) = 52
 number_of Read = 53
 number_of (Write n) = 54
+
+-- a fault's name
+abbrev pub name_of : Fault → List ℕ
+name_of Memory = codes "Memory"
+name_of BadLength = codes "BadLength"
+name_of Ended = codes "Ended"
+name_of (Undecodable fault) = codes "Undecodable"
+name_of Read = codes "Read"
+name_of (Write n) = codes "Write"
+
+-- its values, each behind a space
+abbrev pub values_of : Fault → List ℕ
+values_of (Undecodable fault) =
+    codes " " ++ decimal (number_of_fault fault) ++ codes " " ++ decimal (element_of_fault fault)
+values_of (Write n) = codes " " ++ decimal n
+values_of other = []
+
+-- the fault as printed lines have it
+abbrev pub text_of : Fault → List ℕ
+text_of fault = decimal (number_of fault) ++ codes " " ++ name_of fault ++ values_of fault
 
 -- 3 where memory ran out, else 1
 abbrev pub status_of : Fault → ℕ
@@ -25,6 +49,11 @@ status_of (Write n) = 1
 abbrev pub of_input : input.InputFault → Fault
 of_input input.TheVariants.Memory = Memory
 of_input input.TheVariants.Read = Read
+
+-- what a fault of a frame's writing is
+abbrev pub of_write : write.WriteFault → Fault
+of_write write.TheVariants.Memory = Memory
+of_write (write.TheVariants.Write n) = Write n
 
 -- 0 where all is well
 abbrev pub status_after : Result (Unit {0}) Fault → ℕ

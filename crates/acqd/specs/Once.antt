@@ -1,7 +1,9 @@
 -- Frames in, reply frames out.
-use Rattle.std.specs.Prelude.{◌≡◌, ◌<◌, ℕ, Bool, true, List, [], ◌∷◌, ◌++◌, length, take, Option, Some, None, Result, Ok, Err, is_ok}
+use Rattle.std.specs.Prelude.{◌≡◌, ◌<◌, ℕ, Bool, true, List, [], ◌∷◌, ◌++◌, length, take}
+use Rattle.std.specs.Prelude.{Option, Some, None, Result, Ok, Err, is_ok}
 use Rattle.std.specs.List.{list_all, flat_map}
-use Rattle.acq_link.specs.Frames.{frame, framed, Frames, FramesThen, fits_frame, is_partial, has_bad_length}
+use Rattle.acq_link.specs.Frames.{frame, framed, Frames, FramesThen, is_partial, has_bad_length}
+use Rattle.acq_link.specs.FramesAt.{BeginsWithFrame}
 use Rattle.iso_codec.specs.Reading.{reading_of}
 use Rattle.acq_core.specs.declared.output.Output.{Output}
 use Rattle.acq_core.specs.declared.output.Output.TheVariants.{Reply}
@@ -15,55 +17,63 @@ replies_in other = []
 
 -- the replies to a frame: one, or none
 abbrev pub replies_to : List ℕ → List (List ℕ)
-replies_to item = replies_in (output_of_frame item)
+replies_to message = replies_in (output_of_frame message)
 
 -- the replies to frames, in order
 abbrev pub replies : List (List ℕ) → List (List ℕ)
-replies items = flat_map replies_to items
+replies messages = flat_map replies_to messages
 
 -- whether a frame reads as a message
 abbrev pub is_read : List ℕ → Bool
-is_read item = is_ok (reading_of item)
+is_read message = is_ok (reading_of message)
 
--- The input is whole frames of these items, which all read, and then the rest; and what went out is the frames of their replies.
-pub record Answers (input out : List ℕ) (items : List (List ℕ)) (rest : List ℕ) : Type 0 where
-  pub taken : FramesThen input items rest
-  pub read : list_all is_read items ≡ true
-  pub given : Frames out (replies items)
+-- The input is whole frames of these messages, which all read, and then the rest; and what went
+-- out is the frames of their replies.
+pub record Answers (input out : List ℕ) (messages : List (List ℕ)) (rest : List ℕ) : Type 0 where
+  pub taken : FramesThen input messages rest
+  pub read : list_all is_read messages ≡ true
+  pub given : Frames out (replies messages)
 
--- the item stands as a whole frame at the front of the rest
-pub record Next (item rest : List ℕ) : Type 0 where
-  pub later : List ℕ
-  pub fits : fits_frame item ≡ true
-  pub front : rest ≡ frame item ++ later
+-- the message stands as a whole frame at the front of the rest
+abbrev pub IsNext : List ℕ → List ℕ → Type 0
+IsNext message rest = (later : List ℕ) × BeginsWithFrame rest message later
 
--- So many first bytes of a reply's frame went out behind the frames of the earlier replies, and no more.
-pub record Breaks (input out : List ℕ) (items : List (List ℕ)) (item : List ℕ) (n : ℕ) : Type 0 where
+-- So many first bytes of a reply's frame went out behind the frames of the earlier replies, and no
+-- more.
+pub record Breaks (input out : List ℕ) (messages : List (List ℕ)) (message : List ℕ) (n : ℕ)
+    : Type 0 where
   pub rest : List ℕ
   pub reply : List ℕ
   pub before : List ℕ
-  pub answers : Answers input before items rest
-  pub next : Next item rest
-  pub replied : replies_to item ≡ reply ∷ []
+  pub answers : Answers input before messages rest
+  pub next : IsNext message rest
+  pub replied : replies_to message ≡ reply ∷ []
   pub short : n < length (frame reply)
   pub given : out ≡ before ++ take n (frame reply)
 
 -- How the input that was read was served, and what went out, by the fault that stopped it.
 abbrev pub StopsAt : List ℕ → List ℕ → fault.Fault → Type 0
-StopsAt input out fault.TheVariants.Memory = (items : List (List ℕ)) × (rest : List ℕ) × Answers input out items rest
-StopsAt input out fault.TheVariants.BadLength = (items : List (List ℕ)) × (rest : List ℕ) × Answers input out items rest × (has_bad_length rest ≡ true)
-StopsAt input out fault.TheVariants.Ended = (items : List (List ℕ)) × (rest : List ℕ) × Answers input out items rest × (is_partial rest ≡ true)
+StopsAt input out fault.TheVariants.Memory =
+    (messages : List (List ℕ)) × (rest : List ℕ) × Answers input out messages rest
+StopsAt input out fault.TheVariants.BadLength =
+    (messages : List (List ℕ)) × (rest : List ℕ) × Answers input out messages rest
+    × (has_bad_length rest ≡ true)
+StopsAt input out fault.TheVariants.Ended =
+    (messages : List (List ℕ)) × (rest : List ℕ) × Answers input out messages rest
+    × (is_partial rest ≡ true)
 StopsAt input out (fault.TheVariants.Undecodable f) =
-    (items : List (List ℕ)) × (item rest : List ℕ) × Answers input out items rest × Next item rest × (reading_of item ≡ Err f)
+    (messages : List (List ℕ)) × (message rest : List ℕ) × Answers input out messages rest
+    × IsNext message rest × (reading_of message ≡ Err f)
 StopsAt input out fault.TheVariants.Read = out ≡ []
-StopsAt input out (fault.TheVariants.Write n) = (items : List (List ℕ)) × (item : List ℕ) × Breaks input out items item n
+StopsAt input out (fault.TheVariants.Write n) =
+    (messages : List (List ℕ)) × (message : List ℕ) × Breaks input out messages message n
 
 -- All of the input is frames that read, and what went out is the frames of their replies.
 pub record ServesAll (input out : List ℕ) : Type 0 where
-  pub items : List (List ℕ)
-  pub taken : Frames input items
-  pub read : list_all is_read items ≡ true
-  pub given : Frames out (replies items)
+  pub messages : List (List ℕ)
+  pub taken : Frames input messages
+  pub read : list_all is_read messages ≡ true
+  pub given : Frames out (replies messages)
 
 -- how an input was served, and what went out
 abbrev pub Serves : List ℕ → List ℕ → Result (Unit {0}) fault.Fault → Type 0
@@ -77,21 +87,17 @@ TakesAll (Some bytes) old new = new ≡ old ++ bytes
 
 -- ---- what the parts say
 
--- one frame: it went out, or what a fault leaves
-abbrev pub WritesOne : List ℕ → List ℕ → List ℕ → Result (Unit {0}) fault.Fault → Type 0
-WritesOne item old new (Ok u) = new ≡ old ++ frame item
-WritesOne item old new (Err fault.TheVariants.Memory) = new ≡ old
-WritesOne item old new (Err (fault.TheVariants.Write n)) = (n < length (frame item)) × (new ≡ old ++ take n (frame item))
-WritesOne item old new (Err _) = ⊥
-
--- one item: the frames of its replies went out, or what a fault leaves
+-- one message: the frames of its replies went out, or what a fault leaves
 abbrev pub AnswersOne : List ℕ → List ℕ → List ℕ → Result (Unit {0}) fault.Fault → Type 0
-AnswersOne item old new (Ok u) = (is_read item ≡ true) × (new ≡ old ++ framed (replies_to item))
-AnswersOne item old new (Err fault.TheVariants.Memory) = new ≡ old
-AnswersOne item old new (Err (fault.TheVariants.Undecodable f)) = (reading_of item ≡ Err f) × (new ≡ old)
-AnswersOne item old new (Err (fault.TheVariants.Write n)) =
-    (reply : List ℕ) × (replies_to item ≡ reply ∷ []) × (n < length (frame reply)) × (new ≡ old ++ take n (frame reply))
-AnswersOne item old new (Err _) = ⊥
+AnswersOne message old new (Ok u) =
+    (is_read message ≡ true) × (new ≡ old ++ framed (replies_to message))
+AnswersOne message old new (Err fault.TheVariants.Memory) = new ≡ old
+AnswersOne message old new (Err (fault.TheVariants.Undecodable f)) =
+    (reading_of message ≡ Err f) × (new ≡ old)
+AnswersOne message old new (Err (fault.TheVariants.Write n)) =
+    (reply : List ℕ) × (replies_to message ≡ reply ∷ []) × (n < length (frame reply))
+    × (new ≡ old ++ take n (frame reply))
+AnswersOne message old new (Err _) = ⊥
 
 -- why no whole frame stands at the front
 abbrev pub FrameFault : List ℕ → fault.Fault → Type 0

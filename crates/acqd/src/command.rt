@@ -1,7 +1,10 @@
 //! One run of the program.
 
-ghost use Rattle.std.specs.Prelude.{◌≡◌, ◌≤◌, OnOk};
+ghost use Rattle.std.specs.Prelude.{◌≡◌, ◌≤◌, [], map, OnOk};
+ghost use Rattle.clap.specs.Words.{fault_of};
+ghost use Rattle.acqd.specs.Arguments.{program};
 ghost use Rattle.acqd.specs.Faults.{status_after};
+ghost use Rattle.acqd.specs.Runs.{Runs};
 
 use crate::arguments::{Action, action_of};
 use crate::fault::Fault;
@@ -12,29 +15,36 @@ use clap::error::ErrorKind;
 use std::alloc::Global;
 use std::convert::AsStr;
 use std::fmt::Write;
-use std::io;
 
 /// The status of wrong usage.
 const USAGE: u8 = 2;
 
-/// Runs the command that the words name, the program's own name first, and answers the status: 0
+/// Runs the command that the arguments name, the program's own name first, and returns the status: 0
 /// where all is well, 1 for a fault, 2 for wrong usage, 3 where memory ran out. A fault, or what is
-/// wrong with the words, is told on `faults`; help goes to `output`.
+/// wrong with the arguments, is written to `faults`; help goes to `output`.
 pub fn command<W: AsStr, S: Source, K: Sink, F: Sink>(
     alloc: Global,
-    words: &[W],
+    args: &[W],
     input: &mut S,
     output: &mut K,
     faults: &mut F,
 ) -> u8
     ensures status { result ≤ 3 }
-    // Where all is well, no fault is told.
+    // Where nothing is wrong with the arguments, what was read was served, and the status is that of
+    // how it ended.
+    ensures ran { fault_of program (map W.text args.now) ≡ []
+        → Runs (S.received input.old) (S.received input.new)
+            (K.sent output.old) (K.sent output.new) result }
+    // Else nothing was read.
+    ensures unread { ¬ (fault_of program (map W.text args.now) ≡ [])
+        → S.received input.new ≡ S.received input.old }
+    // Where all is well, no fault is written.
     ensures quiet { result ≡ 0 → F.sent faults.new ≡ F.sent faults.old }
     // After wrong usage nothing was read, and nothing written but what is wrong.
-    ensures unread { result ≡ 2 → S.received input.new ≡ S.received input.old }
-    ensures unwritten { result ≡ 2 → K.sent output.new ≡ K.sent output.old }
+    ensures usage_unread { result ≡ 2 → S.received input.new ≡ S.received input.old }
+    ensures usage_unwritten { result ≡ 2 → K.sent output.new ≡ K.sent output.old }
 {
-    match action_of(alloc, words) {
+    match action_of(alloc, args) {
         Ok(Action::Once) => finish(once(alloc, input, output), faults),
         Err(error) if error.kind() == ErrorKind::OutOfMemory => {
             finish(Err(Fault::Memory), faults)
@@ -50,20 +60,23 @@ pub fn command<W: AsStr, S: Source, K: Sink, F: Sink>(
     }
 }
 
-/// Tells why there are no words: memory ran out, or one isn't UTF-8, which is wrong usage. Answers
-/// the status.
-pub(crate) fn no_words<F: Sink>(error: io::Error, faults: &mut F) -> u8
-    ensures { 2 ≤ result }
+/// Writes that there was no memory for the arguments, and returns the status.
+pub(crate) fn memory_fault<F: Sink>(faults: &mut F) -> u8
+    ensures { result ≡ 3 }
 {
-    if error.kind() == io::ErrorKind::OutOfMemory {
-        finish(Err(Fault::Memory), faults)
-    } else {
-        let _ = writeln!(TextSink::new(faults), "error: a word is not UTF-8");
-        USAGE
-    }
+    finish(Err(Fault::Memory), faults)
 }
 
-/// Tells a fault, and answers the status.
+/// Writes that an argument isn't UTF-8, which is wrong usage, and returns the status. Arguments are
+/// counted from 1, behind the program's own name.
+pub(crate) fn usage_fault<F: Sink>(place: usize, faults: &mut F) -> u8
+    ensures { result ≡ 2 }
+{
+    let _ = writeln!(TextSink::new(faults), "error: argument {place} is not UTF-8");
+    USAGE
+}
+
+/// Writes a fault, and returns the status.
 fn finish<F: Sink>(ended: Result<(), Fault>, faults: &mut F) -> u8
     ensures status { result ≡ status_after ended }
     ensures quiet { OnOk ended (F.sent faults.new ≡ F.sent faults.old) }

@@ -2,13 +2,14 @@
 
 ghost use Rattle.std.specs.Prelude.{◌≡◌};
 
-use acq_link::InputFault;
+use acq_link::{InputFault, WriteFault};
 use iso_codec::DecodeFault;
 use std::alloc::AllocError;
 use std::error::Error;
 use std::fmt;
 
-/// Why a command stopped. Its text is its number, its name and its values, as printed lines have them.
+/// Why a command stopped. Its text is its number, its name and its values, as printed lines have
+/// them.
 #[derive(Clone, Copy, Debug, PartialEq, Eq)]
 pub enum Fault {
     /// 1: memory ran out.
@@ -26,7 +27,7 @@ pub enum Fault {
 }
 
 impl Fault {
-    ghost use Rattle.acqd.specs.Faults.{number_of, status_of};
+    ghost use Rattle.acqd.specs.Faults.{number_of, status_of, name_of};
 
     /// The fault's number.
     pub fn number(&self) -> u8
@@ -52,7 +53,9 @@ impl Fault {
         }
     }
 
-    fn name(&self) -> &'static str {
+    fn name(&self) -> &'static str
+        ensures { result.now ≡ name_of self.now }
+    {
         match self {
             Fault::Memory => "Memory",
             Fault::BadLength => "BadLength",
@@ -65,6 +68,11 @@ impl Fault {
 }
 
 impl fmt::Display for Fault {
+    ghost use Rattle.std.specs.Prelude.{Some};
+    ghost use Rattle.acqd.specs.Faults.{text_of};
+
+    ghost output = { λ f. Some (text_of f) };
+
     fn fmt<W: fmt::Write>(&self, f: &mut fmt::Formatter<W>) -> fmt::Result {
         write!(f, "{} {}", self.number(), self.name())?;
         match self {
@@ -96,6 +104,19 @@ impl From<InputFault> for Fault {
         match e {
             InputFault::Memory => Fault::Memory,
             InputFault::Read => Fault::Read,
+        }
+    }
+}
+
+impl From<WriteFault> for Fault {
+    ghost use Rattle.acqd.specs.Faults.{of_write};
+
+    ghost from_gives = { λ e f. f ≡ of_write e };
+
+    fn from(e: WriteFault) -> Fault {
+        match e {
+            WriteFault::Memory => Fault::Memory,
+            WriteFault::Write(bytes) => Fault::Write(bytes),
         }
     }
 }

@@ -1,11 +1,10 @@
-//! `acqd`, the acquirer host: reads its words, runs a command over standard input and output, and
-//! answers with a status.
+//! `acqd`, the acquirer host: reads its arguments, runs a command over standard input and output,
+//! and ends with a status.
 #![tactic(auto)]
 
 mod arguments;
 mod command;
 mod fault;
-mod frames;
 mod once;
 mod text_sink;
 
@@ -13,29 +12,50 @@ use acq_link::{ReadSource, WriteSink};
 pub use command::command;
 pub use fault::Fault;
 pub use once::once;
+use std::env::{Env, FillError};
 use std::process::ExitCode;
-use std::{env, io};
+use std::{env, io, str};
 
 fn main(rt: HostRuntime) -> ExitCode {
     let mut input = ReadSource::new(rt.stdin());
     let mut output = WriteSink::new(rt.stdout());
     let mut faults = WriteSink::new(rt.stderr());
-    let status = match words(&rt) {
-        Ok(words) => command(
+    let status = match args(&rt) {
+        Ok(args) => command(
             rt.alloc(),
-            words.as_slice(),
+            args.as_slice(),
             &mut input,
             &mut output,
             &mut faults,
         ),
-        Err(error) => command::no_words(error, &mut faults),
+        Err(_) => match first_not_text(&rt) {
+            Some(place) => command::usage_fault(place, &mut faults),
+            None => command::memory_fault(&mut faults),
+        },
     };
     ExitCode::from(status)
 }
 
-/// The program's own name and the words after it.
-fn words<R: env::Env + AllocGlobal>(rt: &R) -> io::Result<Vec<String>> {
+/// The program's own name and the arguments behind it.
+fn args<R: Env + AllocGlobal>(rt: &R) -> io::Result<Vec<String>> {
     Ok(env::args(rt)?.collect(rt.alloc())?)
+}
+
+/// The place of the first argument that isn't UTF-8. One too long for a look is passed over.
+fn first_not_text(rt: &impl Env) -> Option<usize> {
+    let mut buffer = [0; 4096];
+    for place in 0..usize::MAX {
+        match rt.arg(place, &mut buffer) {
+            Ok(len) => {
+                if str::from_utf8(&buffer[..len]).is_err() {
+                    return Some(place);
+                }
+            }
+            Err(FillError::TooLong) => {}
+            Err(FillError::NotPresent) => return None,
+        }
+    }
+    None
 }
 
 #[cfg(test)]

@@ -1,6 +1,6 @@
 use Rattle.std.proofs.Common.{[], sym, append-nil}
 use Rattle.std.proofs.lemmas.Result.{err_from_is_err_and}
-use Rattle.acqd.proofs.Replying.{input_stops}
+use Rattle.acqd.proofs.AnsweredFrames.{input_stops}
 use Rattle.acqd.proofs.once.once.Goals as goal
 
 pub returns-in_err-bytes-clause-served : goal.returns-in_err-bytes-clause-served

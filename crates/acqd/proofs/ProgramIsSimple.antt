@@ -1,0 +1,9 @@
+-- clap's rules say of the program which arguments it takes.
+use Rattle.std.proofs.Common.{◌≡◌, true, refl}
+use Rattle.clap.specs.Words.{is_simple_and_free}
+use Rattle.clap.proofs.OnLiterals.{clap_on_literals}
+use Rattle.acqd.specs.Arguments.{program}
+
+pub is_simple_and_free-program : is_simple_and_free program ≡ true
+unfolding clap_on_literals
+is_simple_and_free-program = refl
