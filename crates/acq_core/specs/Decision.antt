@@ -10,7 +10,7 @@ use Rattle.card_no.specs.declared.range.Range.{Range}
 use Rattle.card_no.specs.CardNumbers.{is_valid_card}
 use Rattle.card_no.specs.Ranges.{is_valid_range, has_ends}
 use Rattle.day_totals.specs.Day.{CivilDate, date_of}
-use Rattle.day_totals.specs.Digits.{decimal_value}
+use Rattle.std.specs.Str.Parse.{digits_value}
 use Rattle.acq_message.specs.declared.service.Service.{Service}
 use Rattle.acq_message.specs.declared.service.Service.TheVariants.{Authorization, Financial}
 use Rattle.acq_message.specs.declared.service.Service.TheVariants.{Completion, Reversal}
@@ -32,7 +32,7 @@ use Rattle.acq_core.specs.declared.arrival.Arrival.{Arrival}
 use Rattle.acq_core.specs.declared.arrival.Arrival.TheVariants as arrival
 use Rattle.acq_core.specs.declared.reply_state.ReplyState.{ReplyState}
 use Rattle.acq_core.specs.declared.reply_state.ReplyState.TheVariants.{Kept, Awaited, Late}
-use Rattle.acq_core.specs.Days.{last_day}
+use Rattle.day_totals.specs.Day.{last_day}
 use Rattle.acq_core.specs.Known.{Prior, Known, reconciled_day}
 
 -- what is to be done
@@ -94,7 +94,7 @@ is_past date year month =
 abbrev pub is_expired : ℕ → Option (List ℕ) → Bool
 is_expired today None = false
 is_expired today (Some expiry) =
-    is_past (date_of today) (decimal_value (take 2 expiry)) (decimal_value (drop 2 expiry))
+    is_past (date_of today) (digits_value 10 (take 2 expiry)) (digits_value 10 (drop 2 expiry))
 
 -- a hold with this end, if it has one, is open at a moment
 abbrev pub is_open_at : ℕ → Option ℕ → Bool

@@ -1,4 +1,3 @@
-pub mod Days
 pub mod Numbers
 pub mod Arrivals
 pub mod Outputs

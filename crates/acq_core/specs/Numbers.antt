@@ -1,6 +1,6 @@
 -- Numbers with bounds (own profile).
 use Rattle.std.specs.Prelude.{ℕ, ◌+◌, ◌*◌, nat_le, Bool, ◌&&◌}
-use Rattle.acq_core.specs.Days.{last_day}
+use Rattle.day_totals.specs.Day.{last_day}
 
 -- the most messages of a merchant that a day may admit
 abbrev pub greatest_limit : ℕ

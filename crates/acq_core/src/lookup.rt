@@ -6,7 +6,7 @@ use crate::merchant::Merchant;
 use crate::request::Request;
 use crate::used_count::UsedCount;
 use acq_message::{MerchantId, Reference, RequestKey, TerminalId};
-use card_no::Range;
+use card_no::{Prefix, Range};
 use day_totals::{Day, Totals};
 
 /// The keys to look up for an event, each where it is needed. All but the prefix and the bounds are
@@ -24,7 +24,7 @@ pub struct Wanted {
     /// The reference of the hold that is completed, or of the request that was answered.
     pub reference: Option<Reference>,
     /// The prefix of the card.
-    pub prefix: Option<u32>,
+    pub prefix: Option<Prefix>,
     /// The ends of a range, `low` and `high`.
     pub bounds: Option<(u32, u32)>,
     /// The day whose totals are compared.

@@ -7,7 +7,7 @@ use Rattle.std.specs.Str.{bytes_eq}
 use Rattle.std.specs.Char.{is_ascii_digit}
 use Rattle.iso_codec.specs.Message.{IsoMessage, content_of}
 use Rattle.iso_codec.specs.Reading.{spelling}
-use Rattle.day_totals.specs.Digits.{decimal_value}
+use Rattle.std.specs.Str.Parse.{digits_value}
 use Rattle.day_totals.specs.declared.leg.Leg.{Leg}
 use Rattle.day_totals.specs.declared.leg.Leg.TheVariants.{Credit, Debit}
 use Rattle.acq_message.specs.declared.service.Service.{Service}
@@ -32,7 +32,7 @@ text_at m n = or_empty (content_of m.elements n)
 
 -- the number in an element
 abbrev pub number_at : IsoMessage → ℕ → ℕ
-number_at m n = decimal_value (text_at m n)
+number_at m n = digits_value 10 (text_at m n)
 
 -- element 4, in minor units; 0 where it isn't there
 abbrev pub amount_in : IsoMessage → ℕ

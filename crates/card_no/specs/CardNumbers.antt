@@ -1,10 +1,15 @@
--- Card numbers and their check digit, after ISO/IEC 7812-1. A digit is a byte from 0x30 to 0x39.
-use Rattle.std.specs.Prelude.{ℕ, ◌+◌, ◌-◌, ◌*◌, ◌%◌, ◌==◌, nat_le, nat_lt, Bool, ◌&&◌, List, [], ◌∷◌, ◌++◌, length, take, drop, replicate, Option, Some, None, if◌then◌else◌}
+-- Card numbers: which texts are one, and what is read off them and shown of them.
+-- The check digit is that of ISO/IEC 7812-1. A digit is a byte from 0x30 to 0x39.
+use Rattle.std.specs.Prelude.{ℕ, ◌+◌, ◌-◌, ◌*◌, ◌%◌, ◌==◌, nat_le, nat_lt, Bool, ◌&&◌, List, []}
+use Rattle.std.specs.Prelude.{◌∷◌, ◌++◌, length, take, drop, replicate, codes, if◌then◌else◌}
 use Rattle.std.specs.List.{list_all}
 use Rattle.std.specs.Char.{is_ascii_digit}
+use Rattle.std.specs.Str.Parse.{digits_value}
+use Rattle.card_no.specs.Prefix.{prefix_digits}
 
--- ISO/IEC 7812-1, annex B: what a digit counts for at a place. Places are counted from the right, the last digit's is 0.
--- At an even place it counts as itself, at an odd place doubled, less 9 where that exceeds 9.
+-- ISO/IEC 7812-1, annex B: what a digit counts for at a place. Places are counted from the right,
+-- the last digit's is 0. At an even place it counts as itself, at an odd place doubled, less 9
+-- where that exceeds 9.
 abbrev pub counted_at : ℕ → ℕ → ℕ
 counted_at place digit =
     if place % 2 == 0 then digit
@@ -19,25 +24,29 @@ check_sum (b ∷ after) = counted_at (length after) (b - 48) + check_sum after
 -- 10 to 19 digits (the lower bound is this profile's own) whose sum is divisible by 10
 abbrev pub is_valid_card : List ℕ → Bool
 is_valid_card text =
-    nat_le 10 (length text) && nat_le (length text) 19 && list_all is_ascii_digit text && (check_sum text % 10 == 0)
+    nat_le 10 (length text) && nat_le (length text) 19 && list_all is_ascii_digit text
+    && (check_sum text % 10 == 0)
 
--- the card number that a text is
-abbrev pub card_of : List ℕ → Option (List ℕ)
-card_of text = if is_valid_card text then Some text else None
-
--- a decimal number read from the left, after the number that stands before it
-abbrev pub number_after : ℕ → List ℕ → ℕ
-number_after n [] = n
-number_after n (b ∷ after) = number_after (n * 10 + (b - 48)) after
-
--- the number that decimal digits spell
-abbrev pub number_of : List ℕ → ℕ
-number_of digits = number_after 0 digits
-
--- the number of the first six digits (own profile)
+-- the number of the first digits
 abbrev pub prefix_of : List ℕ → ℕ
-prefix_of digits = number_of (take 6 digits)
+prefix_of digits = digits_value 10 (take prefix_digits digits)
 
--- the first six digits, a `*` for each digit between, and the last four (own profile)
+-- how many digits a mask leaves at the start, which is no prefix's length, and at the end
+abbrev pub shown_first : ℕ
+shown_first = 6
+
+abbrev pub shown_last : ℕ
+shown_last = 4
+
+-- the first digits, a `*` for each digit between, and the last ones (own profile)
 abbrev pub masked_of : List ℕ → List ℕ
-masked_of digits = take 6 digits ++ replicate (length digits - 10) 42 ++ drop (length digits - 4) digits
+masked_of digits =
+    take shown_first digits ++ replicate (length digits - (shown_first + shown_last)) 42
+    ++ drop (length digits - shown_last) digits
+
+-- what `Debug` prints of a card number, and of a masked one
+abbrev pub card_debug_text : List ℕ → List ℕ
+card_debug_text digits = codes "CardNumber(" ++ masked_of digits ++ codes ")"
+
+abbrev pub mask_debug_text : List ℕ → List ℕ
+mask_debug_text mask = codes "MaskedNumber(" ++ mask ++ codes ")"

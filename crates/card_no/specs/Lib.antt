@@ -1,7 +1,9 @@
+pub mod Prefix
 pub mod CardNumbers
 pub mod Track2
 pub mod Ranges
 pub mod RangeChanges
 pub mod RangeFiles
+pub mod FaultTexts
 pub mod Worked
 pub mod Padding

@@ -3,6 +3,7 @@ use Rattle.std.specs.Prelude.{◌≡◌, ℕ, ◌-◌, ◌+◌, ◌≤◌, List,
 use Rattle.std.proofs.Common.{arith, sym, ap, ◌∙◌, length-append}
 use Rattle.std.proofs.lemmas.List.{length-take, length-replicate}
 
+-- a row of `0`
 abbrev pub zeros : ℕ → List ℕ
 zeros n = replicate n 48
 
@@ -11,10 +12,13 @@ abbrev pub padded : List ℕ → List ℕ
 padded digits = digits ++ zeros (19 - length digits)
 
 -- as many digits as were put there
-pub length-taken : (digits : List ℕ) (n : ℕ) → n ≤ 19 → padded (take n digits) ≡ digits → length (take n digits) ≡ n
+pub length-taken : (digits : List ℕ) (n : ℕ)
+    → n ≤ 19 → padded (take n digits) ≡ digits → length (take n digits) ≡ n
 length-taken digits n le h =
     let front = length-take n digits in
-    let whole : length (take n digits) + (19 - length (take n digits)) ≡ length digits =
-    ap (λ (k : ℕ). length (take n digits) + k) (sym (length-replicate {A = ℕ} (19 - length (take n digits)) 48))
-    ∙ sym (length-append (take n digits) (replicate (19 - length (take n digits)) 48)) ∙ ap length h in
+    let taken = take n digits in
+    let room = 19 - length taken in
+    let whole : length taken + room ≡ length digits =
+    ap (λ (k : ℕ). length taken + k) (sym (length-replicate {A = ℕ} room 48))
+    ∙ sym (length-append taken (replicate room 48)) ∙ ap length h in
     omega (arith, front, whole)

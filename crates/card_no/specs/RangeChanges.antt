@@ -1,18 +1,23 @@
--- What a change of a list of ranges answers (own profile).
-use Rattle.std.specs.Prelude.{ℕ, List, Option, Some, None, Result, Ok, Err, if◌then◌else◌, option_map}
+-- What a change of a list of ranges results in, and the number of each fault (own profile).
+use Rattle.std.specs.Prelude.{ℕ, List, Option, Some, None, Result, Ok, Err, if◌then◌else◌}
+use Rattle.std.specs.Prelude.{option_map}
 use Rattle.card_no.specs.declared.range.Range.{Range}
 use Rattle.card_no.specs.declared.range_fault.RangeFault.{RangeFault}
-use Rattle.card_no.specs.declared.range_fault.RangeFault.TheVariants.{Memory, BadRange, Overlap, NoSuchRange, BadLine}
+use Rattle.card_no.specs.declared.range_fault.RangeFault.TheVariants.{Memory, BadRange, Overlap}
+use Rattle.card_no.specs.declared.range_fault.RangeFault.TheVariants.{NoSuchRange, BadLine}
 use Rattle.card_no.specs.Ranges.{is_valid_range, overlapped_by, with_range, has_range}
 
--- Why a range can't be added: first that its values are bad, then that it overlaps the range of least low.
+-- Why a range can't be added: first that its values are bad, then that it overlaps the range of
+-- least low.
 abbrev pub add_fault : List Range → Range → Option RangeFault
-add_fault ranges r = if is_valid_range r then option_map Overlap (overlapped_by r ranges) else Some BadRange
+add_fault ranges r =
+    if is_valid_range r then option_map Overlap (overlapped_by r ranges) else Some BadRange
 
 -- Why a range can't be removed: none has just these ends.
 abbrev pub remove_fault : List Range → ℕ → ℕ → Option RangeFault
 remove_fault ranges low high = if has_range ranges low high then None else Some NoSuchRange
 
+-- the list, unless there is a fault
 abbrev pub unless : Option RangeFault → List Range → Result (List Range) RangeFault
 unless None ranges = Ok ranges
 unless (Some fault) ranges = Err fault

@@ -1,22 +1,29 @@
--- Issuers' ranges of card prefixes (own profile): which values a range may have, which prefixes it holds, and lists of ranges.
--- A range is a plain record: two numbers of six digits at most, the issuer's text, and a number of days.
-use Rattle.std.specs.Prelude.{◌≡◌, ◌≤◌, ℕ, ◌==◌, nat_le, nat_lt, Bool, true, false, ◌&&◌, not, List, [], ◌∷◌, length, filter, find, Option, Some, None, Contains, if◌then◌else◌}
+-- Issuers' ranges of card prefixes (own profile): which values a range may have, which prefixes it
+-- holds, and lists of ranges. A range is a plain record, whose values may be any.
+use Rattle.std.specs.Prelude.{◌≡◌, ◌≤◌, ℕ, ◌==◌, nat_le, nat_lt, Bool, true, false, ◌&&◌, not, List}
+use Rattle.std.specs.Prelude.{[], ◌∷◌, length, filter, find, Option, Some, None, Contains}
+use Rattle.std.specs.Prelude.{if◌then◌else◌}
 use Rattle.std.specs.List.{list_all, list_any}
 use Rattle.std.specs.Char.{is_ascii_digit}
+use Rattle.card_no.specs.Prefix.{greatest_prefix}
 use Rattle.card_no.specs.declared.range.Range.{Range}
 
--- the greatest number of six digits
-abbrev pub greatest_prefix : ℕ
-greatest_prefix = 999999
+-- how many days a hold lasts
+abbrev pub least_hold_days : ℕ
+least_hold_days = 1
+
+abbrev pub greatest_hold_days : ℕ
+greatest_hold_days = 31
 
 -- 1 to 11 digits
 abbrev pub is_issuer : List ℕ → Bool
 is_issuer text = nat_le 1 (length text) && nat_le (length text) 11 && list_all is_ascii_digit text
 
--- low is not above high, high is no more than six digits, the issuer is 1 to 11 digits, a hold lasts 1 to 31 days
+-- low is not above high, high is a prefix, the issuer is 1 to 11 digits, a hold lasts as it may
 abbrev pub is_valid_range : Range → Bool
 is_valid_range r =
-    nat_le r.low r.high && nat_le r.high greatest_prefix && is_issuer r.issuer && nat_le 1 r.hold_days && nat_le r.hold_days 31
+    nat_le r.low r.high && nat_le r.high greatest_prefix && is_issuer r.issuer
+    && nat_le least_hold_days r.hold_days && nat_le r.hold_days greatest_hold_days
 
 -- both ends are included
 abbrev pub holds_prefix : ℕ → Range → Bool
@@ -53,7 +60,8 @@ range_of_prefix ranges prefix = find (holds_prefix prefix) ranges
 abbrev pub IsRangeOf : List Range → ℕ → Option Range → Type 0
 IsRangeOf ranges prefix None = list_any (holds_prefix prefix) ranges ≡ false
 IsRangeOf ranges prefix (Some r) =
-    Contains ranges r × (holds_prefix prefix r ≡ true) × ((s : Range) → Contains ranges s → holds_prefix prefix s ≡ true → s ≡ r)
+    Contains ranges r × (holds_prefix prefix r ≡ true)
+    × ((s : Range) → Contains ranges s → holds_prefix prefix s ≡ true → s ≡ r)
 
 -- the first range, in order of low, that overlaps one
 abbrev pub overlapped_by : Range → List Range → Option Range
@@ -62,7 +70,8 @@ overlapped_by r ranges = find (overlaps r) ranges
 -- The same as a relation: it is in the list and overlaps, and no other that does has a lesser low.
 abbrev pub IsLeastOverlap : List Range → Range → Range → Type 0
 IsLeastOverlap ranges r s =
-    Contains ranges s × (overlaps r s ≡ true) × ((t : Range) → Contains ranges t → overlaps r t ≡ true → s.low ≤ t.low)
+    Contains ranges s × (overlaps r s ≡ true)
+    × ((t : Range) → Contains ranges t → overlaps r t ≡ true → s.low ≤ t.low)
 
 -- the list with one more range, in order of low
 abbrev pub with_range : List Range → Range → List Range

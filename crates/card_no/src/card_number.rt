@@ -1,12 +1,14 @@
-//! Card numbers.
+//! Valid card numbers.
 
-ghost use Rattle.std.specs.Prelude.{◌≡◌, ◌≤◌, length, true};
+ghost use Rattle.std.specs.Prelude.{◌≡◌, ◌≤◌, SomeIff, length, true};
 ghost use Rattle.std.specs.List.{list_all};
 ghost use Rattle.std.specs.Char.{is_ascii_digit};
-ghost use Rattle.card_no.specs.CardNumbers.{counted_at, check_sum, is_valid_card, card_of, prefix_of, masked_of};
+ghost use Rattle.card_no.specs.CardNumbers.{counted_at, check_sum, is_valid_card, prefix_of};
+ghost use Rattle.card_no.specs.CardNumbers.{masked_of};
 
-use crate::digits::{all_digits, number};
+use crate::digits::all_digits;
 use crate::masked_number::MaskedNumber;
+use crate::prefix::Prefix;
 use std::fmt;
 use std::marker::Model;
 
@@ -14,10 +16,8 @@ const LEAST_LEN: usize = 10;
 
 const GREATEST_LEN: usize = 19;
 
-const PREFIX_LEN: usize = 6;
-
-/// A valid card number: 10 to 19 digits that pass the check of ISO/IEC 7812-1; the lower bound is this profile's own.
-/// It is shown masked.
+/// A valid card number: 10 to 19 digits that pass the check of ISO/IEC 7812-1; the lower bound is
+/// this profile's own. It is printed masked, also by `Debug`.
 #[derive(Clone, Copy, PartialEq, Eq)]
 pub struct CardNumber {
     // The digits, and a `0` for each place behind them.
@@ -34,7 +34,8 @@ impl Model for CardNumber {
 
     ghost view = { λ c. take c.len c.digits };
 
-    ghost invariant = { λ c. (c.len ≤ 19) × (is_valid_card (take c.len c.digits) ≡ true) × (padded (take c.len c.digits) ≡ c.digits) };
+    ghost invariant = { λ c. (c.len ≤ 19) × (is_valid_card (take c.len c.digits) ≡ true)
+        × (padded (take c.len c.digits) ≡ c.digits) };
 
     ghost inverse = { λ digits. record { digits = padded digits; len = length digits } };
 
@@ -47,7 +48,7 @@ impl Model for CardNumber {
 impl CardNumber {
     /// The card number that a text is, if it is a valid one. It takes no memory.
     pub fn read(text: &[u8]) -> Option<CardNumber>
-        ensures { result ≡ card_of text.now }
+        ensures { SomeIff result (is_valid_card text.now ≡ true) text.now }
     {
         if !is_valid(text) {
             return None;
@@ -68,17 +69,16 @@ impl CardNumber {
         &self.digits[..self.len]
     }
 
-    /// The number of the first six digits (own profile). It takes no memory.
-    pub fn prefix(&self) -> u32
-        ensures value { result ≡ prefix_of self.now }
-        ensures bound { result ≤ 999999 }
+    /// The number of the first digits, which finds the issuer. It takes no memory.
+    pub fn prefix(&self) -> Prefix
+        ensures { result ≡ prefix_of self.now }
     {
         let digits = self.digits();
-        number(&digits[..PREFIX_LEN])
+        Prefix::of_digits(&digits[..Prefix::DIGITS])
     }
 
-    /// The number as it may be shown: the first six digits, a `*` for each digit between, and the last four. It takes no
-    /// memory.
+    /// The number as it may be shown: the first six digits, a `*` for each digit between, and the
+    /// last four. It takes no memory.
     pub fn masked(&self) -> MaskedNumber
         ensures { result ≡ masked_of self.now }
     {
@@ -87,6 +87,11 @@ impl CardNumber {
 }
 
 impl fmt::Debug for CardNumber {
+    ghost use Rattle.std.specs.Prelude.{Some};
+    ghost use Rattle.card_no.specs.CardNumbers.{card_debug_text};
+
+    ghost debug_output = { λ digits. Some (card_debug_text digits) };
+
     fn fmt<W: fmt::Write>(&self, f: &mut fmt::Formatter<W>) -> fmt::Result {
         write!(f, "CardNumber({})", self.masked())
     }
@@ -117,6 +122,7 @@ fn counted(place: usize, digit: u8) -> u8
     }
 }
 
+/// The sum of what the digits count for at their places.
 fn sum_of_places(digits: &[u8]) -> u32
     requires each { list_all is_ascii_digit digits.now ≡ true }
     requires size { length digits.now ≤ 19 }

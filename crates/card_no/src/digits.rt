@@ -3,7 +3,7 @@
 ghost use Rattle.std.specs.Prelude.{◌≡◌, ◌<◌, ◌≤◌, ◌^◌, length, true};
 ghost use Rattle.std.specs.List.{list_all};
 ghost use Rattle.std.specs.Char.{is_ascii_digit};
-ghost use Rattle.card_no.specs.CardNumbers.{number_of};
+ghost use Rattle.std.specs.Str.Parse.{digits_value};
 
 pub(crate) fn all_digits(text: &[u8]) -> bool
     ensures { result ≡ list_all is_ascii_digit text.now }
@@ -11,11 +11,11 @@ pub(crate) fn all_digits(text: &[u8]) -> bool
     text.iter().all(|b| b.is_ascii_digit())
 }
 
-/// The number that six digits or fewer spell.
+/// The number that nine digits or fewer spell, as many as fit in any case.
 pub(crate) fn number(digits: &[u8]) -> u32
     requires each { list_all is_ascii_digit digits.now ≡ true }
-    requires size { length digits.now ≤ 6 }
-    ensures value { result ≡ number_of digits.now }
+    requires size { length digits.now ≤ 9 }
+    ensures value { result ≡ digits_value 10 digits.now }
     ensures bound { result < 10 ^ length digits.now }
 {
     let mut number = 0;

@@ -1,12 +1,12 @@
-//! Issuers' ids.
+//! The id of a card's issuer.
 
 ghost use Rattle.std.specs.Prelude.{◌≡◌, IfOk};
 
 use std::alloc::{AllocError, Global};
 use std::marker::Model;
 
-/// An issuer's id as it is written, leading zeros too. A list of ranges takes it where it is 1 to 11 digits (own
-/// profile).
+/// An issuer's id as it is written, leading zeros too. A list of ranges takes it where it is 1 to
+/// 11 digits (own profile).
 #[derive(Clone, Debug, Drop)]
 pub struct IssuerId {
     text: Vec<u8>,

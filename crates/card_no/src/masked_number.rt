@@ -1,10 +1,11 @@
-//! Card numbers as they may be shown.
+//! What may be shown of a card number.
 
-ghost use Rattle.std.specs.Prelude.{◌≡◌, ◌≤◌, length};
+ghost use Rattle.std.specs.Prelude.{◌≡◌, ◌≤◌, IsAscii, length, true};
+ghost use Rattle.std.specs.Char.{is_ascii_digit};
+ghost use Rattle.std.specs.List.{list_all};
 ghost use Rattle.card_no.specs.CardNumbers.{masked_of};
 
 use std::fmt;
-use std::fmt::Write;
 use std::marker::Model;
 
 const GREATEST_LEN: usize = 19;
@@ -21,19 +22,21 @@ pub struct MaskedNumber {
 }
 
 impl Model for MaskedNumber {
-    ghost use Rattle.std.specs.Prelude.{◌≤◌, ℕ, List, take};
+    ghost use Rattle.std.specs.Prelude.{◌≤◌, ℕ, IsAscii, List, take};
 
     ghost Value = { List ℕ };
 
     ghost view = { λ m. take m.len m.text };
 
-    ghost invariant = { λ m. m.len ≤ 19 };
+    ghost invariant = { λ m. (m.len ≤ 19) × IsAscii (take m.len m.text) };
 }
 
 impl MaskedNumber {
+    /// The mask of a card number with these digits.
     pub(crate) fn of(digits: &[u8]) -> MaskedNumber
         requires least { 10 ≤ length digits.now }
         requires greatest { length digits.now ≤ 19 }
+        requires each { list_all is_ascii_digit digits.now ≡ true }
         ensures { result ≡ masked_of digits.now }
     {
         let len = digits.len();
@@ -46,17 +49,33 @@ impl MaskedNumber {
 
     /// Its bytes, digits and `*`.
     pub fn as_bytes(&self) -> &[u8]
-        ensures { result.now ≡ self.now }
+        ensures value { result.now ≡ self.now }
+        ensures ascii { IsAscii result.now }
     {
         &self.text[..self.len]
     }
 }
 
 impl fmt::Display for MaskedNumber {
+    ghost use Rattle.std.specs.Prelude.{Some};
+
+    ghost output = { λ mask. Some mask };
+
     fn fmt<W: fmt::Write>(&self, f: &mut fmt::Formatter<W>) -> fmt::Result {
-        for byte in self.as_bytes() {
-            f.write_char(char::from(*byte))?;
-        }
-        Ok(())
+        let Ok(text) = str::from_utf8(self.as_bytes()) else {
+            unreachable!();
+        };
+        f.write_str(text)
+    }
+}
+
+impl fmt::Debug for MaskedNumber {
+    ghost use Rattle.std.specs.Prelude.{Some};
+    ghost use Rattle.card_no.specs.CardNumbers.{mask_debug_text};
+
+    ghost debug_output = { λ mask. Some (mask_debug_text mask) };
+
+    fn fmt<W: fmt::Write>(&self, f: &mut fmt::Formatter<W>) -> fmt::Result {
+        write!(f, "MaskedNumber({self})")
     }
 }

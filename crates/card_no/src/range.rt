@@ -1,19 +1,17 @@
-//! Ranges of card prefixes.
+//! The prefixes of one issuer's cards.
 
 ghost use Rattle.std.specs.Prelude.{◌≡◌};
 ghost use Rattle.card_no.specs.Ranges.{is_issuer, is_valid_range, holds_prefix, overlaps, has_ends};
 
 use crate::digits::all_digits;
 use crate::issuer_id::IssuerId;
-
-const GREATEST_PREFIX: u32 = 999_999;
-
-const GREATEST_HOLD_DAYS: u8 = 31;
+use crate::prefix::Prefix;
 
 const ISSUER_LEN: usize = 11;
 
-/// The cards of one issuer (own profile): those whose prefix, the number of the first six digits, lies from `low` to `high`, both
-/// included. A hold on such a card is open for `hold_days` days.
+/// The cards of one issuer (own profile): those whose prefix lies from `low` to `high`, both
+/// included. A hold on such a card is open for `hold_days` days. Any values make a `Range`:
+/// [`Range::is_valid`] says whether a list may have it.
 #[derive(Clone, Debug, Drop, PartialEq, Eq)]
 pub struct Range {
     pub low: u32,
@@ -23,23 +21,30 @@ pub struct Range {
 }
 
 impl Range {
-    /// Whether a list may have this range: `low` is not above `high`, `high` is 999,999 at most, the issuer is 1 to 11
-    /// digits, and a hold lasts 1 to 31 days.
+    /// The fewest days that a hold lasts.
+    pub const LEAST_HOLD_DAYS: u8 = 1;
+
+    /// The most days that a hold lasts.
+    pub const GREATEST_HOLD_DAYS: u8 = 31;
+
+    /// Whether a list may have this range: `low` is not above `high`, `high` is a prefix, the
+    /// issuer is 1 to 11 digits, and a hold lasts from the fewest to the most days.
     pub fn is_valid(&self) -> bool
         ensures { result ≡ is_valid_range self.now }
     {
         self.low <= self.high
-            && self.high <= GREATEST_PREFIX
+            && self.high <= Prefix::GREATEST
             && is_issuer(self.issuer.as_bytes())
-            && self.hold_days >= 1
-            && self.hold_days <= GREATEST_HOLD_DAYS
+            && self.hold_days >= Range::LEAST_HOLD_DAYS
+            && self.hold_days <= Range::GREATEST_HOLD_DAYS
     }
 
     /// Whether a prefix lies in the range.
-    pub fn holds(&self, prefix: u32) -> bool
+    pub fn holds(&self, prefix: Prefix) -> bool
         ensures { result ≡ holds_prefix prefix self.now }
     {
-        self.low <= prefix && prefix <= self.high
+        let number = prefix.number();
+        self.low <= number && number <= self.high
     }
 
     /// Whether some prefix lies in both ranges.

@@ -1,29 +1,27 @@
-//! Faults of ranges.
+//! Why a change of a list of ranges, or a file of them, is refused.
 
 ghost use Rattle.std.specs.Prelude.{◌≡◌};
 ghost use Rattle.card_no.specs.RangeChanges.{fault_number};
 
+use crate::prefix::Prefix;
 use crate::range::Range;
 use std::alloc::{AllocError, AllocFailed};
-use thiserror::Error;
+use std::error::Error;
+use std::fmt;
 
-/// Why a list of ranges could not be changed or read. The text of a fault is its name and then its values.
-#[derive(Debug, Drop, PartialEq, Eq, Error)]
+/// Why a list of ranges could not be changed or read. The text of a fault is its name and then its
+/// values.
+#[derive(Debug, Drop, PartialEq, Eq)]
 pub enum RangeFault {
     /// Memory ran out.
-    #[error("Memory")]
     Memory,
     /// A range with a value out of its bounds.
-    #[error("BadRange")]
     BadRange,
     /// The range overlaps this one of the list, the one of least `low` that does.
-    #[error("Overlap {:06} {:06}", .0.low, .0.high)]
     Overlap(Range),
     /// No range has just these ends.
-    #[error("NoSuchRange")]
     NoSuchRange,
     /// A record of a file, counted from 1, that is out of its form or could not be read.
-    #[error("BadLine {0}")]
     BadLine(u64),
 }
 
@@ -41,6 +39,29 @@ impl RangeFault {
         }
     }
 }
+
+impl fmt::Display for RangeFault {
+    ghost use Rattle.std.specs.Prelude.{Some};
+    ghost use Rattle.card_no.specs.FaultTexts.{fault_text};
+
+    ghost output = { λ fault. Some (fault_text fault) };
+
+    fn fmt<W: fmt::Write>(&self, f: &mut fmt::Formatter<W>) -> fmt::Result {
+        match self {
+            RangeFault::Memory => f.write_str("Memory"),
+            RangeFault::BadRange => f.write_str("BadRange"),
+            RangeFault::Overlap(other) => {
+                let Range { low, high, .. } = other;
+                let width = Prefix::DIGITS;
+                write!(f, "Overlap {low:0width$} {high:0width$}")
+            }
+            RangeFault::NoSuchRange => f.write_str("NoSuchRange"),
+            RangeFault::BadLine(record) => write!(f, "BadLine {record}"),
+        }
+    }
+}
+
+impl Error for RangeFault {}
 
 impl From<AllocError> for RangeFault {
     ghost use Rattle.card_no.specs.declared.range_fault.RangeFault.TheVariants.{Memory};

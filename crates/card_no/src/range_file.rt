@@ -1,15 +1,19 @@
-//! Range list files.
+//! Lists of ranges in files.
 
 ghost use Rattle.std.specs.Prelude.{◌≡◌, ◌⊎◌, ℕ, List, [], IfOk, IfErr, IfSome, MatchResult, OnOk};
-ghost use Rattle.csv.specs.Reading.{Ready, default_config, reader_config, reader_state, reader_trim, source_of, strip_bom};
+ghost use Rattle.csv.specs.Reading.{Ready, default_config, error_kind, reader_config, reader_state};
+ghost use Rattle.csv.specs.Reading.{reader_trim, source_of, strip_bom};
 ghost use Rattle.csv.specs.declared.parser.State.TheVariants as st;
 ghost use Rattle.csv.specs.declared.reader.Trim.TheVariants as trim;
 ghost use Rattle.csv.specs.Records.{fields_of};
-ghost use Rattle.card_no.specs.RangeFiles.{is_prefix_text, is_days_text, are_range_texts, range_of_fields, with_record, ReadsRanges};
+ghost use Rattle.card_no.specs.RangeFiles.{is_prefix_text, is_days_text, are_range_texts};
+ghost use Rattle.card_no.specs.RangeFiles.{range_of_fields, with_record, read_fault_of};
+ghost use Rattle.card_no.specs.RangeFiles.{ReadsRanges};
 ghost use Rattle.card_no.specs.declared.range_fault.RangeFault.TheVariants.{Memory, BadLine};
 
 use crate::digits::{all_digits, number};
 use crate::issuer_id::IssuerId;
+use crate::prefix::Prefix;
 use crate::range::{Range, is_issuer};
 use crate::range_fault::RangeFault;
 use crate::range_list::RangeList;
@@ -17,12 +21,11 @@ use csv::{ByteRecord, ErrorKind, Reader, ReaderBuilder};
 use std::alloc::{AllocError, Global};
 use std::io::Read;
 
-const PREFIX_LEN: usize = 6;
-
 impl RangeList {
-    /// Reads a range list file: CSV with no header line, a record `low,high,issuer,hold_days` for each range, where `low`
-    /// and `high` are six digits, the issuer 1 to 11 and the hold days one or two. `BadLine` counts records from 1; it also
-    /// tells the record that could not be had because a read failed.
+    /// Reads a range list file: CSV with no header line, a record `low,high,issuer,hold_days` for
+    /// each range, where `low` and `high` have as many digits as a prefix, the issuer has 1 to 11,
+    /// and the hold days have one or two. `BadLine` counts records from 1; it also names the record
+    /// that could not be had because a read failed.
     pub fn read_csv<R: Read + Drop>(alloc: Global, reader: R) -> Result<RangeList, RangeFault>
         ensures { IfSome (R.remaining reader) (λ text. ReadsRanges text result) }
     {
@@ -50,7 +53,9 @@ fn read_records<R: Read>(
     requires start { reader_state records.old ≡ st.StartRecord }
     requires empty { ranges.old ≡ [] }
     ensures { (text : List ℕ) → source_of R.remaining records.old ≡ Some (strip_bom text)
-        → MatchResult result (λ _. ReadsRanges text (Ok ranges.new)) (λ fault. ReadsRanges text (Err fault)) }
+        → MatchResult result
+        (λ _. ReadsRanges text (Ok ranges.new))
+        (λ fault. ReadsRanges text (Err fault)) }
 {
     for number in 1..u64::MAX {
         match records.read_byte_record(fields) {
@@ -65,7 +70,8 @@ fn read_records<R: Read>(
 
 /// Why the record with this number could not be had.
 fn read_fault(error: csv::Error, number: u64) -> RangeFault
-    ensures { (result ≡ Memory) ⊎ (result ≡ BadLine number) }
+    ensures which { result ≡ read_fault_of (error_kind error) number }
+    ensures either { (result ≡ Memory) ⊎ (result ≡ BadLine number) }
 {
     match error.into_kind() {
         ErrorKind::OutOfMemory => RangeFault::Memory,
@@ -80,8 +86,10 @@ fn add_record(
     fields: &ByteRecord,
     number: u64,
 ) -> Result<(), RangeFault>
-    ensures ok { OnOk result (with_record number ranges.old (fields_of fields.now) ≡ Ok ranges.new) }
-    ensures fault { IfErr result (λ fault. (fault ≡ Memory) ⊎ (with_record number ranges.old (fields_of fields.now) ≡ Err fault)) }
+    ensures ok { OnOk result
+        (with_record number ranges.old (fields_of fields.now) ≡ Ok ranges.new) }
+    ensures fault { IfErr result (λ fault. (fault ≡ Memory)
+        ⊎ (with_record number ranges.old (fields_of fields.now) ≡ Err fault)) }
 {
     let Some(range) = range_of(alloc, fields)? else {
         return Err(RangeFault::BadLine(number));
@@ -119,18 +127,21 @@ fn range_of(alloc: Global, fields: &ByteRecord) -> Result<Option<Range>, AllocEr
     }))
 }
 
+/// Whether the four fields of a record are in their form.
 fn are_range_texts(low: &[u8], high: &[u8], issuer: &[u8], days: &[u8]) -> bool
     ensures { result ≡ are_range_texts low.now high.now issuer.now days.now }
 {
     is_prefix_text(low) && is_prefix_text(high) && is_issuer(issuer) && is_days_text(days)
 }
 
+/// Whether a text is as many digits as a prefix has.
 fn is_prefix_text(text: &[u8]) -> bool
     ensures { result ≡ is_prefix_text text.now }
 {
-    text.len() == PREFIX_LEN && all_digits(text)
+    text.len() == Prefix::DIGITS && all_digits(text)
 }
 
+/// Whether a text is one or two digits.
 fn is_days_text(text: &[u8]) -> bool
     ensures { result ≡ is_days_text text.now }
 {

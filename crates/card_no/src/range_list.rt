@@ -1,11 +1,17 @@
-//! Lists of ranges.
+//! The issuers' ranges, each prefix in one at most.
 
-ghost use Rattle.std.specs.Prelude.{◌≡◌, ◌≤◌, ◌⊎◌, ◌↔◌, true, false, [], length, insert, position, find, Some, None, IsOk, IfErr, OnOk, OnErr};
+ghost use Rattle.std.specs.Prelude.{◌≡◌, ◌≤◌, ◌⊎◌, ◌↔◌, true, false, [], length, insert, position};
+ghost use Rattle.std.specs.Prelude.{find, Some, None, Err, IsOk, IfErr, OnOk, OnErr};
 ghost use Rattle.std.specs.Option.{option_copied};
-ghost use Rattle.card_no.specs.Ranges.{are_ranges, holds_prefix, has_ends, range_of_prefix, IsRangeOf, overlaps, overlapped_by, with_range, has_range, without_range};
+ghost use Rattle.card_no.specs.Ranges.{are_ranges, is_valid_range, holds_prefix, has_ends};
+ghost use Rattle.card_no.specs.Ranges.{range_of_prefix, IsRangeOf, overlaps, overlapped_by};
+ghost use Rattle.card_no.specs.Ranges.{with_range, has_range, without_range};
 ghost use Rattle.card_no.specs.RangeChanges.{add_fault, remove_fault};
-ghost use Rattle.card_no.specs.declared.range_fault.RangeFault.TheVariants.{Memory};
+ghost use Rattle.card_no.specs.declared.range.Range as declared_range;
+ghost use Rattle.card_no.specs.declared.range_fault.RangeFault.TheVariants.{Memory, BadRange};
+ghost use Rattle.card_no.specs.declared.range_fault.RangeFault.TheVariants.{Overlap};
 
+use crate::prefix::Prefix;
 use crate::range::Range;
 use crate::range_fault::RangeFault;
 use std::alloc::Global;
@@ -48,19 +54,27 @@ impl RangeList {
     }
 
     /// The one range that holds a prefix, if there is one. It takes no memory.
-    pub fn find(&self, prefix: u32) -> Option<&Range>
+    pub fn find(&self, prefix: Prefix) -> Option<&Range>
         ensures value { option_copied result ≡ range_of_prefix self.now prefix }
         ensures only { IsRangeOf self.now prefix (option_copied result) }
     {
         first_holding(self.ranges.as_slice(), prefix)
     }
 
-    /// Adds a range at its place. A range with a bad value is told before one that overlaps. An `Err` changes nothing.
+    /// Adds a range at its place. A bad value is reported before an overlap. An `Err` changes
+    /// nothing.
     pub fn add(&mut self, range: Range) -> Result<(), RangeFault>
         ensures ok { OnOk result (self.new ≡ with_range self.old range) }
         ensures fits { OnOk result (add_fault self.old range ≡ None) }
         ensures err { OnErr result (self.new ≡ self.old) }
-        ensures fault { IfErr result (λ fault. (fault ≡ Memory) ⊎ (add_fault self.old range ≡ Some fault)) }
+        ensures fault { IfErr result (λ fault.
+            (fault ≡ Memory) ⊎ (add_fault self.old range ≡ Some fault)) }
+        // A bad range is reported as such, and never as want of memory.
+        ensures bad { is_valid_range range ≡ false → result ≡ Err BadRange }
+        // Where it overlaps, it is reported so unless memory ran out.
+        ensures overlap { (other : declared_range.Range)
+            → add_fault self.old range ≡ Some (Overlap other)
+            → (result ≡ Err Memory) ⊎ (result ≡ Err (Overlap other)) }
     {
         if !range.is_valid() {
             return Err(RangeFault::BadRange);
@@ -88,12 +102,14 @@ impl RangeList {
     }
 }
 
-fn first_holding(ranges: &[Range], prefix: u32) -> Option<&Range>
+/// The first range that holds a prefix.
+fn first_holding(ranges: &[Range], prefix: Prefix) -> Option<&Range>
     ensures { option_copied result ≡ range_of_prefix ranges.now prefix }
 {
     ranges.iter().find(|range| range.holds(prefix))
 }
 
+/// The first range that overlaps one.
 fn first_overlapping<'a>(ranges: &'a [Range], range: &Range) -> Option<&'a Range>
     ensures { option_copied result ≡ overlapped_by range.now ranges.now }
 {
@@ -113,6 +129,7 @@ fn place(ranges: &[Range], range: &Range) -> usize
     ranges.len()
 }
 
+/// The place of the range with just these ends.
 fn place_with_ends(ranges: &[Range], low: u32, high: u32) -> Option<usize>
     ensures { result ≡ position (has_ends low high) ranges.now }
 {

@@ -1,4 +1,4 @@
-use crate::{CardNumber, IssuerId, Range, RangeFault, RangeList, split_track2};
+use crate::{CardNumber, IssuerId, Prefix, Range, RangeFault, RangeList, split_track2};
 use std::alloc::{AllocError, Global};
 use std::io;
 use std::io::Read;
@@ -71,12 +71,32 @@ fn shown_numbers(rt: HostRuntime) -> Result<(), Fail> {
     for (text, prefix, shown) in rows {
         let card = CardNumber::read(text).ok_or("a valid number")?;
         assert_eq!(rt; card.digits(), text);
-        assert_eq!(rt; card.prefix(), prefix);
+        assert_eq!(rt; card.prefix().number(), prefix);
         assert_eq!(rt; card.masked().as_bytes(), shown.as_bytes());
         let printed = format!(in rt.alloc(); "{}", card.masked())?;
         assert_eq!(rt; printed.as_str(), shown);
     }
     Ok(())
+}
+
+#[test]
+fn debug_shows_masks(rt: HostRuntime) -> Result<(), Fail> {
+    let card = CardNumber::read(b"4111111111111111").ok_or("a valid number")?;
+    let masked = card.masked();
+    let printed = format!(in rt.alloc(); "{card:?} {masked:?}")?;
+    assert_eq!(rt;
+        printed.as_str(),
+        "CardNumber(411111******1111) MaskedNumber(411111******1111)"
+    );
+    Ok(())
+}
+
+#[test]
+fn prefixes(rt: HostRuntime) {
+    for number in [0, 411_111, 999_999] {
+        assert!(rt; Prefix::from_number(number).is_some_and(|p| p.number() == number));
+    }
+    assert!(rt; Prefix::from_number(1_000_000).is_none());
 }
 
 #[test]
@@ -137,9 +157,9 @@ fn ranges_of_prefixes(rt: HostRuntime) -> Result<(), Fail> {
         (500000, Some(b"67890")),
         (600000, None),
     ];
-    for (prefix, want) in rows {
-        let found = list.find(prefix);
-        assert_eq!(rt; found.is_some(), want.is_some(), "{prefix}");
+    for (number, want) in rows {
+        let found = list.find(Prefix::from_number(number).ok_or("a prefix")?);
+        assert_eq!(rt; found.is_some(), want.is_some(), "{number}");
         if let (Some(range), Some(issuer)) = (found, want) {
             assert_eq!(rt; range.issuer.as_bytes(), issuer);
         }
@@ -210,12 +230,13 @@ fn changes_made(rt: HostRuntime) -> Result<(), Fail> {
         lows.push(range.low)?;
     }
     assert_eq!(rt; lows.as_slice(), [0, 500000, 600000].as_slice());
-    let first = list.find(7).ok_or("a range")?;
+    let seven = Prefix::from_number(7).ok_or("a prefix")?;
+    let first = list.find(seven).ok_or("a range")?;
     assert_eq!(rt; first.issuer.as_bytes(), b"00000000001".as_slice());
     Ok(())
 }
 
-// What a file reads as: how many ranges, or the number of its fault and the record that it tells.
+// What a file reads as: how many ranges, or the number of its fault and the record that it names.
 fn outcome(read: &Result<RangeList, RangeFault>) -> (u8, u64) {
     match read {
         Ok(list) => (0, list.as_slice().len() as u64),

@@ -1,4 +1,4 @@
-//! Track 2.
+//! The card number in track 2.
 
 ghost use Rattle.std.specs.Prelude.{◌≡◌, option_map, position};
 ghost use Rattle.card_no.specs.Track2.{is_separator, may_be_number, track2_of};
@@ -7,9 +7,9 @@ use crate::digits::all_digits;
 
 const GREATEST_LEN: usize = 19;
 
-/// The card number of track 2 and what stands after it: the parts before and after the first `=` or `D`. `None` where
-/// there is no such sign, or something else than 0 to 19 digits before it. The number need not be a valid one. It takes no
-/// memory.
+/// The card number of track 2 and what stands after it: the parts before and after the first `=` or
+/// `D`. `None` where there is no such separator, or something else than 0 to 19 digits before it.
+/// The number need not be a valid one. It takes no memory.
 pub fn split_track2(track: &[u8]) -> Option<(&[u8], &[u8])>
     ensures { option_map (λ p. (p.0.now, p.1.now)) result ≡ track2_of track.now }
 {
@@ -30,6 +30,7 @@ fn may_be_number(text: &[u8]) -> bool
     text.len() <= GREATEST_LEN && all_digits(text)
 }
 
+/// Where the first `=` or `D` stands.
 fn separator_place(track: &[u8]) -> Option<usize>
     ensures { result ≡ position is_separator track.now }
 {

@@ -1,5 +1,9 @@
-pub mod CalendarLemmas
-pub mod DigitsLemmas
+pub mod MonthsAndYears
+pub mod DatesOfDays
+pub mod DateTexts
+pub mod FirstOfRange
+pub mod ZeroPadded
+pub mod TotalsOfPostings
+pub mod WithinLimits
+pub mod EightNumbers
 pub mod OnLiterals
-pub mod RangeLemmas
-pub mod TotalsLemmas

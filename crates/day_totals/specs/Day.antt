@@ -1,13 +1,18 @@
--- Business days: their numbers, and the date of each (the days of own profile; the calendar of ISO 8601).
-use Rattle.std.specs.Prelude.{ℕ, zero, suc, ◌+◌, ◌-◌, ◌*◌, ◌/◌, ◌%◌, ◌≤◌, nat_lt, min, ◌≡◌, ◌≢◌, List, [], ◌∷◌, ◌++◌, map, find, Option, if◌then◌else◌, ℤ, pos, ◌+ℤ◌}
+-- Business days: which numbers are one (own profile), the date of each in the calendar of ISO 8601,
+-- and the day that a month and a day mean.
+use Rattle.std.specs.Prelude.{ℕ, zero, suc, ◌+◌, ◌-◌, ◌*◌, ◌/◌, ◌%◌, ◌≤◌, nat_lt, min, ◌≡◌, ◌≢◌}
+use Rattle.std.specs.Prelude.{List, [], ◌∷◌, ◌++◌, map, find, Option, if◌then◌else◌, ℤ, pos, ◌+ℤ◌}
 use Rattle.std.specs.List.{range_with_len}
 use Rattle.std.specs.Str.{bytes_eq}
 use Rattle.jiff.specs.Types.{Date}
 use Rattle.jiff.specs.Words.{IsYmd, epoch_day, days_in_year, days_in_month}
 
--- day 0 is 2000-01-01, and the last one 2099-12-31
+-- day 0 is 2000-01-01, and this one 2099-12-31
+abbrev pub last_day : ℕ
+last_day = 36_524
+
 abbrev pub IsDayNumber : ℕ → Type 0
-IsDayNumber number = number ≤ 36_524
+IsDayNumber number = number ≤ last_day
 
 -- a date by its year, its month and its day of the month
 pub record CivilDate : Type 0 where
@@ -23,13 +28,16 @@ IsDateOf civil date =
 -- jiff's date lies so many days after 2000-01-01
 abbrev pub IsDaysAfterFirst : ℤ → Date → Type 0
 IsDaysAfterFirst days date =
-    (first : Date) → IsYmd (pos 2000) (pos 1) (pos 1) first → epoch_day date ≡ epoch_day first +ℤ days
+    (first : Date) → IsYmd (pos 2000) (pos 1) (pos 1) first
+    → epoch_day date ≡ epoch_day first +ℤ days
 
--- so many days after the first of a month, in that month or one of so many later months of the year
+-- so many days after the first of a month, in that month or one of so many later months of the
+-- year
 unfoldable pub date_from_month : ℕ → ℕ → ℕ → ℕ → CivilDate
 date_from_month zero year month days = record { year = year; month = month; day = days + 1 }
 date_from_month (suc later) year month days =
-    if nat_lt days (days_in_month (pos year) month) then record { year = year; month = month; day = days + 1 }
+    if nat_lt days (days_in_month (pos year) month)
+    then record { year = year; month = month; day = days + 1 }
     else date_from_month later year (month + 1) (days - days_in_month (pos year) month)
 
 -- a day by its year, and how many days of that year lie before it
@@ -44,6 +52,7 @@ year_day_from (suc later) year days =
     if nat_lt days (days_in_year (pos year)) then record { year = year; before = days }
     else year_day_from later (year + 1) (days - days_in_year (pos year))
 
+-- the date of a day of a year
 abbrev pub civil_date_of : YearDay → CivilDate
 civil_date_of day = date_from_month 11 day.year 1 day.before
 
@@ -79,9 +88,13 @@ IsOnNoDay date = (number : ℕ) → IsDayNumber number → ¬ (IsDateOf (date_of
 abbrev pub IsNoDateText : List ℕ → Type 0
 IsNoDateText text = (number : ℕ) → IsDayNumber number → text ≢ date_text_of number
 
--- a day and those of the 30 days before it that exist, the latest first
+-- how many days before today a month and a day may mean
+abbrev pub days_back : ℕ
+days_back = 30
+
+-- a day and those of the days before it that exist and may be meant, the latest first
 abbrev pub recent_days : ℕ → List ℕ
-recent_days today = map (λ back. today - back) (range_with_len 0 (min today 30 + 1))
+recent_days today = map (λ back. today - back) (range_with_len 0 (min today days_back + 1))
 
 -- the latest of the recent days that has this month and day
 unfoldable pub resolved : List ℕ → ℕ → Option ℕ

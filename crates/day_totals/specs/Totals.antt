@@ -1,16 +1,24 @@
--- A merchant's day in numbers: how many postings there are of each leg, and what they come to (own profile).
-use Rattle.std.specs.Prelude.{◌≡◌, ℕ, suc, ◌+◌, ◌<◌, ◌≤◌, ◌^◌, ◌&&◌, nat_eq, Bool, true, false, List, [], ◌∷◌, length, map, filter, sum, All, ℤ, pos, negsuc, ◌-ℤ◌, unsigned_abs}
+-- A merchant's day in numbers: how many postings there are of each leg, and the sums of their
+-- amounts (own profile).
+use Rattle.std.specs.Prelude.{◌≡◌, ℕ, suc, ◌+◌, ◌<◌, ◌≤◌, ◌^◌, ◌&&◌, nat_eq, Bool, true, false}
+use Rattle.std.specs.Prelude.{List, [], ◌∷◌, length, map, filter, sum, All, ℤ, pos, negsuc, ◌-ℤ◌}
+use Rattle.std.specs.Prelude.{unsigned_abs}
 use Rattle.std.specs.Cmp.Lexicographic.{pointwise}
 use Rattle.std.specs.Ordering.{int_eq}
 use Rattle.day_totals.specs.Digits.{zero_padded}
 use Rattle.day_totals.specs.declared.leg.Leg.{Leg}
-use Rattle.day_totals.specs.declared.leg.Leg.TheVariants.{Credit, CreditReversal, Debit, DebitReversal}
+use Rattle.day_totals.specs.declared.leg.Leg.TheVariants.{Credit, CreditReversal, Debit}
+use Rattle.day_totals.specs.declared.leg.Leg.TheVariants.{DebitReversal}
 use Rattle.day_totals.specs.declared.leg_total.LegTotal.{LegTotal}
 use Rattle.day_totals.specs.declared.claimed.Claimed.{Claimed}
 
 -- a posting, as totals see it: its leg, and its amount in minor units
 abbrev pub Posting : Type 0
 Posting = Leg × ℕ
+
+-- the legs in the order of their elements
+abbrev pub all_legs : List Leg
+all_legs = Credit ∷ CreditReversal ∷ Debit ∷ DebitReversal ∷ []
 
 abbrev pub same_leg : Leg → Leg → Bool
 same_leg Credit Credit = true
@@ -64,35 +72,54 @@ total_for t DebitReversal = t.debit_reversals
 
 -- the four counts, and the four amounts
 abbrev pub counts_of : DayTotals → List ℕ
-counts_of t = t.credits.count ∷ t.credit_reversals.count ∷ t.debits.count ∷ t.debit_reversals.count ∷ []
+counts_of t =
+    t.credits.count ∷ t.credit_reversals.count ∷ t.debits.count ∷ t.debit_reversals.count ∷ []
 
 abbrev pub amounts_of : DayTotals → List ℕ
-amounts_of t = t.credits.amount ∷ t.credit_reversals.amount ∷ t.debits.amount ∷ t.debit_reversals.amount ∷ []
+amounts_of t =
+    t.credits.amount ∷ t.credit_reversals.amount ∷ t.debits.amount ∷ t.debit_reversals.amount ∷ []
 
--- a day's postings: at most 999,999, each of at most 9,999,999,999 minor units
+-- how many postings a day may have
+abbrev pub greatest_count : ℕ
+greatest_count = 999_999
+
+-- how many minor units one posting may have
+abbrev pub greatest_posting : ℕ
+greatest_posting = 9_999_999_999
+
+-- how many minor units such postings may have together
+abbrev pub greatest_amount : ℕ
+greatest_amount = 9_999_989_999_000_001
+
+-- postings that a day may have
 pub record FitsDay (postings : List Posting) : Type 0 where
-  pub few : length postings ≤ 999_999
-  pub small : All (λ p. p.1 ≤ 9_999_999_999) postings
+  pub few : length postings ≤ greatest_count
+  pub small : All (λ p. p.1 ≤ greatest_posting) postings
 
--- what such postings may come to: 999,999 times 9,999,999,999
+-- totals that such postings may have
 abbrev pub IsWithinLimits : DayTotals → Type 0
 IsWithinLimits t =
-    (t.credits.count + t.credit_reversals.count + t.debits.count + t.debit_reversals.count ≤ 999_999)
-    × (t.credits.amount + t.credit_reversals.amount + t.debits.amount + t.debit_reversals.amount ≤ 9_999_989_999_000_001)
+    (t.credits.count + t.credit_reversals.count + t.debits.count + t.debit_reversals.count
+    ≤ greatest_count)
+    × (t.credits.amount + t.credit_reversals.amount + t.debits.amount + t.debit_reversals.amount
+    ≤ greatest_amount)
 
 -- the same of counts and amounts
 abbrev pub AreWithinLimits : List ℕ → List ℕ → Type 0
-AreWithinLimits counts amounts = (sum counts ≤ 999_999) × (sum amounts ≤ 9_999_989_999_000_001)
+AreWithinLimits counts amounts = (sum counts ≤ greatest_count) × (sum amounts ≤ greatest_amount)
 
 -- one posting more of a leg
 abbrev pub with_amount : LegTotal → ℕ → LegTotal
 with_amount total amount = record { count = total.count + 1; amount = total.amount + amount }
 
-abbrev pub with_posting : DayTotals → Leg → ℕ → DayTotals
-with_posting t Credit amount = record t { credits = with_amount t.credits amount }
-with_posting t CreditReversal amount = record t { credit_reversals = with_amount t.credit_reversals amount }
-with_posting t Debit amount = record t { debits = with_amount t.debits amount }
-with_posting t DebitReversal amount = record t { debit_reversals = with_amount t.debit_reversals amount }
+-- the same of the leg's total
+abbrev pub with_leg_amount : DayTotals → Leg → ℕ → DayTotals
+with_leg_amount t Credit amount = record t { credits = with_amount t.credits amount }
+with_leg_amount t CreditReversal amount =
+    record t { credit_reversals = with_amount t.credit_reversals amount }
+with_leg_amount t Debit amount = record t { debits = with_amount t.debits amount }
+with_leg_amount t DebitReversal amount =
+    record t { debit_reversals = with_amount t.debit_reversals amount }
 
 -- credits less debits, each less what was reversed
 abbrev pub net_of : DayTotals → ℤ

@@ -1,4 +1,4 @@
--- The numbers that totals hold.
+-- What contracts see of `Totals`: its four totals, and nothing else.
 use Rattle.day_totals.specs.declared.totals.Totals.TheInside.{Inside}
 use Rattle.day_totals.specs.Totals.{DayTotals}
 

@@ -1,4 +1,4 @@
-//! What a terminal claims.
+//! The totals that a terminal has of its day, against which the host's are held.
 
 /// The totals that a terminal claims for a day.
 #[derive(Clone, Copy, Debug, PartialEq, Eq)]

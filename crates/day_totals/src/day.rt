@@ -1,8 +1,10 @@
-//! Business days.
+//! The days on which a merchant's business is counted.
 
 ghost use Rattle.std.specs.Prelude.{◌≡◌, ◌+◌, ◌<◌, ◌≤◌, pos, SomeIff, IfSome, IfNone};
 ghost use Rattle.jiff.specs.Words.{IsYmd};
-ghost use Rattle.day_totals.specs.Day.{IsDayNumber, IsDateOf, IsOnNoDay, IsDaysAfterFirst, IsNoDateText, date_of, two_digits, mmdd_of, date_text_of, resolved};
+ghost use Rattle.day_totals.specs.Day.{last_day, IsDayNumber, IsDateOf, IsOnNoDay};
+ghost use Rattle.day_totals.specs.Day.{IsDaysAfterFirst, IsNoDateText, date_of, two_digits};
+ghost use Rattle.day_totals.specs.Day.{mmdd_of, date_text_of, resolved};
 
 use jiff::ToSpan;
 use jiff::civil::{Date, date};
@@ -31,7 +33,7 @@ impl Day {
     /// The number of the last day, 2099-12-31.
     pub const LAST_NUMBER: u32 = 36_524;
 
-    /// How many days before today a month and a day may name (own profile).
+    /// How many days before today a month and a day may mean (own profile).
     pub const DAYS_BACK: u32 = 30;
 
     /// The day with that number, where 2000-01-01 is 0.
@@ -55,19 +57,19 @@ impl Day {
 
     /// The next day, which 2099-12-31 doesn't have.
     pub fn next(self) -> Option<Day>
-        ensures { SomeIff result (self < 36_524) (self + 1) }
+        ensures { SomeIff result (self < last_day) (self + 1) }
     {
         Day::from_number(self.number + 1)
     }
 
-    // Its date in the calendar.
+    /// Its date in the calendar.
     fn date(self) -> Date
         ensures { IsDateOf (date_of self) result }
     {
         first_date() + i64::from(self.number).days()
     }
 
-    // The day with this date.
+    /// The day with this date.
     fn of_date(date: Date) -> Option<Day>
         ensures found { IfSome result (λ day. IsDateOf (date_of day) date) }
         ensures none { IfNone result (IsOnNoDay date) }
@@ -120,8 +122,8 @@ impl Day {
         [month[0], month[1], day[0], day[1]]
     }
 
-    /// The latest day with that month and day, MMDD, among today and the 30 days before it.
-    /// None has them where they are no month and day, or too long ago, or still to come
+    /// The latest day with that month and day, MMDD, among today and the [`Day::DAYS_BACK`] days
+    /// before it. None has them where they are no month and day, or too long ago, or still to come
     /// (own profile).
     pub fn resolve(mmdd: [u8; 4], today: Day) -> Option<Day>
         ensures { result ≡ resolved mmdd today }

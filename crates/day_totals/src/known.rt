@@ -1,10 +1,13 @@
-//! Known values, computed on the definitions.
+//! Dates, resolutions and nets that are known from outside, computed on the definitions.
 
-ghost use Rattle.std.specs.Prelude.{◌≡◌, [], ◌∷◌, Some, None, pos, negsuc, true, false, codes};
-ghost use Rattle.day_totals.specs.Day.{mmdd_of, date_text_of, resolved};
+ghost use Rattle.std.specs.Prelude.{◌≡◌, ◌*◌, [], ◌∷◌, Some, None, pos, negsuc, true, false, codes};
+ghost use Rattle.day_totals.specs.Day.{last_day, mmdd_of, date_text_of, resolved};
 ghost use Rattle.day_totals.specs.Digits.{zero_padded};
-ghost use Rattle.day_totals.specs.Totals.{totals_of, counts_of, amounts_of, net_of, net_text_of, agrees_with};
-ghost use Rattle.day_totals.specs.declared.leg.Leg.TheVariants.{Credit, CreditReversal, Debit, DebitReversal};
+ghost use Rattle.day_totals.specs.Totals.{greatest_count, greatest_posting, greatest_amount};
+ghost use Rattle.day_totals.specs.Totals.{totals_of, counts_of, amounts_of, net_of, net_text_of};
+ghost use Rattle.day_totals.specs.Totals.{agrees_with};
+ghost use Rattle.day_totals.specs.declared.leg.Leg.TheVariants.{Credit, CreditReversal, Debit};
+ghost use Rattle.day_totals.specs.declared.leg.Leg.TheVariants.{DebitReversal};
 
 /// Dates at the ends of the range, and around 29 February.
 pub fn known_dates()
@@ -15,7 +18,7 @@ pub fn known_dates()
     ensures no_leap { date_text_of 9190 ≡ codes "2025-02-28" }
     ensures after { date_text_of 9191 ≡ codes "2025-03-01" }
     ensures month_and_day { mmdd_of 8887 ≡ codes "0501" }
-    ensures last { date_text_of 36_524 ≡ codes "2099-12-31" }
+    ensures last { date_text_of last_day ≡ codes "2099-12-31" }
 {}
 
 /// Months and days, resolved from 2024-03-01, 2025-03-01, 2024-01-10, 2000-01-05 and 2024-05-01.
@@ -42,7 +45,8 @@ pub fn known_totals()
         ∷ (CreditReversal, 250) ∷ [])) ≡ 1 ∷ 1 ∷ 2 ∷ 0 ∷ [] }
     ensures amounts { amounts_of (totals_of ((Debit, 1000) ∷ (Credit, 250) ∷ (Debit, 7)
         ∷ (CreditReversal, 250) ∷ [])) ≡ 250 ∷ 250 ∷ 1007 ∷ 0 ∷ [] }
-    ensures greatest { zero_padded 16 9_999_989_999_000_001 ≡ codes "9999989999000001" }
+    ensures greatest { zero_padded 16 greatest_amount ≡ codes "9999989999000001" }
+    ensures product { greatest_amount ≡ greatest_count * greatest_posting }
     ensures one { zero_padded 10 1 ≡ codes "0000000001" }
 
     // A terminal that claims nothing, and one that claims a debit of 1001 for one of 1000.

@@ -1,13 +1,19 @@
-//! Laws of the definitions.
+//! Laws of days and totals, over the definitions alone.
 
-ghost use Rattle.std.specs.Prelude.{◌≡◌, ◌↔◌, ◌∷◌, ◌++◌, ◌<◌, ◌^◌, [], ℕ, true, List, length, pos, IsTrue};
+ghost use Rattle.std.specs.Prelude.{◌≡◌, ◌↔◌, ◌∷◌, ◌++◌, ◌<◌, ◌^◌, [], ℕ, true, List, length, pos};
+ghost use Rattle.std.specs.Prelude.{IsTrue};
 ghost use Rattle.std.specs.List.{list_all};
 ghost use Rattle.std.specs.Char.{is_ascii_digit};
 ghost use Rattle.jiff.specs.Types.{Date};
-ghost use Rattle.day_totals.specs.Day.{IsDayNumber, IsDaysAfterFirst, IsDateOf, date_of, date_text_of};
-ghost use Rattle.day_totals.specs.Digits.{zero_padded, decimal_value};
-ghost use Rattle.day_totals.specs.Totals.{Posting, DayTotals, FitsDay, counts_of, amounts_of, AreWithinLimits, IsWithinLimits, IsShort, Agrees, agrees_with, totals_of, with_posting};
+ghost use Rattle.day_totals.specs.Day.{IsDayNumber, IsDaysAfterFirst, IsDateOf, date_of};
+ghost use Rattle.day_totals.specs.Day.{date_text_of};
+ghost use Rattle.std.specs.Str.Parse.{digits_value};
+ghost use Rattle.day_totals.specs.Digits.{zero_padded};
+ghost use Rattle.day_totals.specs.Totals.{all_legs, Posting, DayTotals, FitsDay, counts_of};
+ghost use Rattle.day_totals.specs.Totals.{amounts_of, AreWithinLimits, IsWithinLimits, IsShort};
+ghost use Rattle.day_totals.specs.Totals.{Agrees, agrees_with, totals_of, with_leg_amount};
 ghost use Rattle.day_totals.specs.declared.leg.Leg.{Leg};
+ghost use Rattle.day_totals.specs.declared.leg.TheConstants.Leg.{ALL};
 ghost use Rattle.day_totals.specs.declared.claimed.Claimed.{Claimed};
 
 /// The date of a day is the one that the calendar of `jiff` has so many days after 2000-01-01.
@@ -16,18 +22,25 @@ pub fn dates_are_the_calendars()
         → IsDaysAfterFirst (pos number) date ↔ IsDateOf (date_of number) date }
 {}
 
+/// The legs stand in the order of their elements: 74 to 77, and 86 to 89.
+pub fn legs_in_order()
+    ensures { ALL ≡ all_legs }
+{}
+
 /// No two days have one date text.
 pub fn date_texts_name_days()
     ensures { (number other : ℕ) → IsDayNumber number → IsDayNumber other
         → date_text_of number ≡ date_text_of other → number ≡ other }
 {}
 
-/// One posting more, wherever it stands, is counted and summed with its leg.
+/// One posting more, first or last, is counted and summed with its leg.
 pub fn totals_grow_by_postings()
     ensures last { (postings : List Posting) (leg : Leg) (amount : ℕ)
-        → totals_of (postings ++ (leg, amount) ∷ []) ≡ with_posting (totals_of postings) leg amount }
+        → totals_of (postings ++ (leg, amount) ∷ [])
+        ≡ with_leg_amount (totals_of postings) leg amount }
     ensures first { (postings : List Posting) (leg : Leg) (amount : ℕ)
-        → totals_of ((leg, amount) ∷ postings) ≡ with_posting (totals_of postings) leg amount }
+        → totals_of ((leg, amount) ∷ postings)
+        ≡ with_leg_amount (totals_of postings) leg amount }
 {}
 
 /// A day's totals are within the limits, and sixteen digits hold each sum and the net.
@@ -57,5 +70,5 @@ pub fn digits_spell_numbers()
     ensures digits { (places number : ℕ)
         → list_all is_ascii_digit (zero_padded places number) ≡ true }
     ensures value { (places number : ℕ) → number < 10 ^ places
-        → decimal_value (zero_padded places number) ≡ number }
+        → digits_value 10 (zero_padded places number) ≡ number }
 {}

@@ -1,4 +1,4 @@
-//! Legs.
+//! The four ways in which a posting counts.
 
 /// What a posting does to the card: a sale or a completion debits it, a return credits it, and a
 /// reversal undoes either (the reconciliation totals of ISO 8583:1987).

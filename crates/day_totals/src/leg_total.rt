@@ -1,4 +1,4 @@
-//! What one leg comes to.
+//! The number and the sum of one leg's postings.
 
 ghost use Rattle.std.specs.Prelude.{◌≡◌, ◌+◌, ◌<◌, ◌≤◌, ◌^◌};
 

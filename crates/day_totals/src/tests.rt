@@ -109,7 +109,7 @@ fn dates_are_read_in_one_form(rt: HostRuntime) {
 }
 
 #[test]
-fn days_come_to_their_nets(rt: HostRuntime) -> Result<(), Fail> {
+fn nets_of_days(rt: HostRuntime) -> Result<(), Fail> {
     let one = [0, 0, 1, 0];
     let sale = [0, 0, 1000, 0];
     let rows = [

@@ -1,8 +1,13 @@
-//! A merchant's day in numbers.
+//! The totals of a merchant's day, and the texts of their elements.
 
-ghost use Rattle.std.specs.Prelude.{◌≡◌, ◌↔◌, ◌+◌, ◌<◌, ◌≤◌, ◌++◌, ◌∷◌, [], ℕ, List, sum, IsTrue, IsSome, IfSome, pos, ◌≤ℤ◌, unsigned_abs};
-ghost use Rattle.day_totals.specs.Digits.{zero_padded, decimal_value};
-ghost use Rattle.day_totals.specs.Totals.{Posting, DayTotals, zero_totals, totals_of, total_for, counts_of, amounts_of, with_posting, AreWithinLimits, IsWithinLimits, net_of, net_text_of, Agrees, agrees_with};
+ghost use Rattle.std.specs.Prelude.{◌≡◌, ◌↔◌, ◌+◌, ◌<◌, ◌≤◌, ◌++◌, ◌∷◌, [], ℕ, List, sum, IsTrue};
+ghost use Rattle.std.specs.Prelude.{IsSome, IfSome, pos, ◌≤ℤ◌, unsigned_abs};
+ghost use Rattle.std.specs.Str.Parse.{digits_value};
+ghost use Rattle.day_totals.specs.Digits.{zero_padded};
+ghost use Rattle.day_totals.specs.Totals.{greatest_count, greatest_amount, Posting, DayTotals};
+ghost use Rattle.day_totals.specs.Totals.{zero_totals, totals_of, total_for, counts_of, amounts_of};
+ghost use Rattle.day_totals.specs.Totals.{with_leg_amount, AreWithinLimits, IsWithinLimits, net_of};
+ghost use Rattle.day_totals.specs.Totals.{net_text_of, Agrees, agrees_with};
 
 use crate::digits::write_digits;
 use crate::leg_total::LegTotal;
@@ -11,8 +16,9 @@ use std::marker::Model;
 
 /// The number and the sum of a merchant's postings of one day, for each leg.
 ///
-/// A day has at most 999,999 postings, each of at most 9,999,999,999 minor units, so ten digits
-/// hold each count, and sixteen each sum and the net (own profile).
+/// A day has at most [`Totals::GREATEST_COUNT`] postings, each of at most
+/// [`Totals::GREATEST_POSTING`] minor units, so ten digits hold each count, and sixteen each sum
+/// and the net (own profile).
 #[derive(Clone, Copy, Debug, PartialEq, Eq)]
 pub struct Totals {
     credits: LegTotal,
@@ -37,11 +43,14 @@ impl Model for Totals {
 }
 
 impl Totals {
-    /// The greatest number of postings of a day.
+    /// How many postings a day may have.
     pub const GREATEST_COUNT: u64 = 999_999;
 
-    /// The greatest sum of a day's postings: 999,999 times 9,999,999,999.
-    pub const GREATEST_AMOUNT: u64 = 9_999_989_999_000_001;
+    /// How many minor units one posting may have.
+    pub const GREATEST_POSTING: u64 = 9_999_999_999;
+
+    /// How many minor units a day's postings may have together.
+    pub const GREATEST_AMOUNT: u64 = Totals::GREATEST_COUNT * Totals::GREATEST_POSTING;
 
     /// The totals of no postings.
     pub fn zero() -> Totals
@@ -90,8 +99,8 @@ impl Totals {
 
     /// Counts one more posting, for which the day has room: [`Totals::from_parts`] is the test.
     pub fn add(&mut self, leg: Leg, amount: u64)
-        requires { IsWithinLimits (with_posting self.old leg amount) }
-        ensures value { self.new ≡ with_posting self.old leg amount }
+        requires { IsWithinLimits (with_leg_amount self.old leg amount) }
+        ensures value { self.new ≡ with_leg_amount self.old leg amount }
         ensures sums { (postings : List Posting) → self.old ≡ totals_of postings
             → self.new ≡ totals_of (postings ++ (leg, amount) ∷ []) }
     {
@@ -103,6 +112,7 @@ impl Totals {
         }
     }
 
+    /// What the totals have for a leg.
     fn total_for(&self, leg: Leg) -> LegTotal
         ensures value { result ≡ total_for self.now leg }
         ensures within { IsWithinLimits self.now }
@@ -118,7 +128,7 @@ impl Totals {
     /// The number of a leg's postings.
     pub fn count(&self, leg: Leg) -> u64
         ensures value { result ≡ (total_for self.now leg).count }
-        ensures bound { result ≤ 999_999 }
+        ensures bound { result ≤ greatest_count }
         ensures within { IsWithinLimits self.now }
     {
         self.total_for(leg).count
@@ -127,7 +137,7 @@ impl Totals {
     /// The sum of a leg's postings, in minor units.
     pub fn amount(&self, leg: Leg) -> u64
         ensures value { result ≡ (total_for self.now leg).amount }
-        ensures bound { result ≤ 9_999_989_999_000_001 }
+        ensures bound { result ≤ greatest_amount }
         ensures within { IsWithinLimits self.now }
     {
         self.total_for(leg).amount
@@ -137,12 +147,13 @@ impl Totals {
     /// reconciliation).
     pub fn net(&self) -> i64
         ensures value { result ≡ net_of self.now }
-        ensures within { unsigned_abs result ≤ 9_999_989_999_000_001 }
+        ensures within { unsigned_abs result ≤ greatest_amount }
     {
         (self.credits.amount as i64 - self.credit_reversals.amount as i64)
             - (self.debits.amount as i64 - self.debit_reversals.amount as i64)
     }
 
+    /// The four counts, in the order of the legs.
     fn counts(&self) -> [u64; 4]
         ensures { result ≡ counts_of self.now }
     {
@@ -154,6 +165,7 @@ impl Totals {
         ]
     }
 
+    /// The four amounts, in the order of the legs.
     fn amounts(&self) -> [u64; 4]
         ensures { result ≡ amounts_of self.now }
     {
@@ -179,7 +191,7 @@ impl Totals {
     /// ISO 8583:1987.
     pub fn count_text(&self, leg: Leg) -> [u8; 10]
         ensures text { result ≡ zero_padded 10 (total_for self.now leg).count }
-        ensures number { decimal_value result ≡ (total_for self.now leg).count }
+        ensures number { digits_value 10 result ≡ (total_for self.now leg).count }
     {
         let mut text = [b'0'; 10];
         write_digits(self.count(leg), &mut text);
@@ -190,7 +202,7 @@ impl Totals {
     /// ISO 8583:1987.
     pub fn amount_text(&self, leg: Leg) -> [u8; 16]
         ensures text { result ≡ zero_padded 16 (total_for self.now leg).amount }
-        ensures number { decimal_value result ≡ (total_for self.now leg).amount }
+        ensures number { digits_value 10 result ≡ (total_for self.now leg).amount }
     {
         let mut text = [b'0'; 16];
         write_digits(self.amount(leg), &mut text);
@@ -209,7 +221,7 @@ impl Totals {
     }
 }
 
-// Whether numbers come to no more than the limit together.
+/// Whether the sum of the numbers is no more than the limit.
 fn is_within(numbers: &[u64; 4], limit: u64) -> bool
     ensures { IsTrue result ↔ (sum numbers.now ≤ limit) }
 {

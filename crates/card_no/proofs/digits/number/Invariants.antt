@@ -1,9 +1,9 @@
-use Rattle.std.proofs.Common.{◌≡◌, ◌<◌, ◌^◌, drop}
-use Rattle.card_no.specs.CardNumbers.{number_after, number_of}
+use Rattle.std.proofs.Common.{◌≡◌, ◌<◌, ◌^◌, take}
+use Rattle.std.specs.Str.Parse.{digits_value}
 use Rattle.card_no.proofs.digits.number.Given as goal
 
 abbrev pub invariant-loop-b : goal.invariant-loop-b
 invariant-loop-b l = record {
-  number_is : number_after l.number (drop l.b-index l.digits) ≡ number_of l.digits;
+  number_is : l.number ≡ digits_value 10 (take l.b-index l.digits);
   bound : l.number < 10 ^ l.b-index;
 }

@@ -1,4 +1,4 @@
-use Rattle.card_no.proofs.LawLemmas.{least-overlap}
+use Rattle.card_no.proofs.LeastOverlap.{least-overlap}
 use Rattle.card_no.proofs.laws.least_overlap.Goals as goal
 
 pub returns : goal.returns

@@ -1,4 +1,4 @@
-use Rattle.card_no.proofs.LawLemmas.{digit-changed}
+use Rattle.card_no.proofs.OneDigitChanged.{digit-changed}
 use Rattle.card_no.proofs.laws.one_digit_changed.Goals as goal
 
 pub returns : goal.returns

@@ -1,6 +1,6 @@
 use Rattle.std.proofs.Common.{refl}
 use Rattle.card_no.specs.Ranges.{range_of_prefix}
-use Rattle.card_no.proofs.RangeLemmas.{range_is_one}
+use Rattle.card_no.proofs.OneRangeOfPrefix.{range_is_one}
 use Rattle.card_no.proofs.laws.one_range_of_a_prefix.Goals as goal
 
 pub returns : goal.returns

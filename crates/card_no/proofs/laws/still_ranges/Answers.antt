@@ -1,5 +1,5 @@
-use Rattle.card_no.proofs.LawLemmas.{added-ranges}
-use Rattle.card_no.proofs.RangeLemmas.{ranges_without}
+use Rattle.card_no.proofs.RangeAfterChange.{added-ranges}
+use Rattle.card_no.proofs.OneRangeLess.{ranges_without}
 use Rattle.card_no.proofs.laws.still_ranges.Goals as goal
 
 pub returns-clause-added : goal.returns-clause-added

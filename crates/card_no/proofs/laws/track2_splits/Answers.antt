@@ -1,4 +1,4 @@
-use Rattle.card_no.proofs.LawLemmas.{splits-from, splits-to}
+use Rattle.card_no.proofs.Track2Splits.{splits-from, splits-to}
 use Rattle.card_no.proofs.laws.track2_splits.Goals as goal
 
 pub returns : goal.returns

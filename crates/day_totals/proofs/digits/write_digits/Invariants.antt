@@ -4,4 +4,5 @@ use Rattle.day_totals.proofs.digits.write_digits.Given as goal
 
 -- the digits that are still to be written come before those that are
 abbrev pub invariant-loop-place : goal.invariant-loop-place
-invariant-loop-place l = zero_padded l.place l.number ++ drop l.place l.text ≡ zero_padded (length l.fn.text) l.fn.number
+invariant-loop-place l = zero_padded l.place l.number ++ drop l.place l.text
+    ≡ zero_padded (length l.fn.text) l.fn.number

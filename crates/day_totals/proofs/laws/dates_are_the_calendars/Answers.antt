@@ -1,4 +1,4 @@
-use Rattle.day_totals.proofs.CalendarLemmas.{dates_of_days}
+use Rattle.day_totals.proofs.DatesOfDays.{dates_of_days}
 use Rattle.day_totals.proofs.laws.dates_are_the_calendars.Goals as goal
 
 pub returns : goal.returns

@@ -1,4 +1,4 @@
-use Rattle.day_totals.proofs.DigitsLemmas.{length-zero_padded, all_digits-zero_padded, decimal_value-zero_padded}
+use Rattle.day_totals.proofs.ZeroPadded.{length-zero_padded, all_digits-zero_padded, digits_value-zero_padded}
 use Rattle.day_totals.proofs.laws.digits_spell_numbers.Goals as goal
 
 pub returns-clause-length : goal.returns-clause-length
@@ -8,4 +8,4 @@ pub returns-clause-digits : goal.returns-clause-digits
 returns-clause-digits c = all_digits-zero_padded
 
 pub returns-clause-value : goal.returns-clause-value
-returns-clause-value c = decimal_value-zero_padded
+returns-clause-value c = digits_value-zero_padded

@@ -1,4 +1,5 @@
-use Rattle.day_totals.proofs.TotalsLemmas.{same_numbers, AreWithinLimits-whole}
+use Rattle.day_totals.proofs.EightNumbers.{same_numbers}
+use Rattle.day_totals.proofs.WithinLimits.{AreWithinLimits-whole}
 use Rattle.day_totals.proofs.laws.totals_are_their_numbers.Goals as goal
 
 pub returns-clause-same : goal.returns-clause-same

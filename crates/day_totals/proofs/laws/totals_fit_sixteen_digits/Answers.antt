@@ -1,4 +1,4 @@
-use Rattle.day_totals.proofs.TotalsLemmas.{FitsDay-within, IsWithinLimits-short}
+use Rattle.day_totals.proofs.WithinLimits.{FitsDay-within, IsWithinLimits-short}
 use Rattle.day_totals.proofs.laws.totals_fit_sixteen_digits.Goals as goal
 
 pub returns-clause-within : goal.returns-clause-within

@@ -1,4 +1,4 @@
-use Rattle.day_totals.proofs.TotalsLemmas.{totals_of-push, totals_of-cons}
+use Rattle.day_totals.proofs.TotalsOfPostings.{totals_of-push, totals_of-cons}
 use Rattle.day_totals.proofs.laws.totals_grow_by_postings.Goals as goal
 
 pub returns-clause-last : goal.returns-clause-last

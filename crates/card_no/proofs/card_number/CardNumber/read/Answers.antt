@@ -1,6 +1,6 @@
 use Rattle.std.proofs.Common.{◌≡◌, ◌∙◌, sym, true}
 use Rattle.card_no.specs.CardNumbers.{is_valid_card}
-use Rattle.card_no.proofs.DigitLemmas.{kept-card, valid_digits}
+use Rattle.card_no.proofs.DigitPlaces.{kept-card, valid_digits}
 use Rattle.card_no.proofs.card_number.CardNumber.read.Goals as goal
 
 pub invariant_of-result : goal.invariant_of-result

@@ -1,4 +1,4 @@
-use Rattle.day_totals.proofs.TotalsLemmas.{total_for-within}
+use Rattle.day_totals.proofs.WithinLimits.{total_for-within}
 use Rattle.day_totals.proofs.totals.Totals.amount.Goals as goal
 
 pub returns-clause-bound : goal.returns-clause-bound

@@ -1,0 +1,68 @@
+//! Prefixes of card numbers.
+
+ghost use Rattle.std.specs.Prelude.{◌≡◌, SomeIff, length, true};
+ghost use Rattle.std.specs.List.{list_all};
+ghost use Rattle.std.specs.Char.{is_ascii_digit};
+ghost use Rattle.std.specs.Str.Parse.{digits_value};
+ghost use Rattle.card_no.specs.Prefix.{prefix_digits, IsPrefix};
+
+use crate::digits::number;
+use std::marker::Model;
+
+/// The number of a card number's first digits, [`Prefix::DIGITS`] of them, which finds the card's
+/// issuer (own profile). Contracts see the number.
+#[derive(Clone, Copy, Debug, PartialEq, Eq, PartialOrd, Ord)]
+pub struct Prefix {
+    number: u32,
+}
+
+impl Model for Prefix {
+    ghost use Rattle.std.specs.Prelude.{ℕ};
+    ghost use Rattle.card_no.specs.Prefix.{IsPrefix};
+
+    ghost Value = { ℕ };
+
+    ghost view = { λ prefix. prefix.number };
+
+    ghost invariant = { λ prefix. IsPrefix prefix.number };
+
+    ghost inverse = { λ number. record { number = number } };
+}
+
+impl Prefix {
+    /// How many digits a prefix has.
+    pub const DIGITS: usize = 6;
+
+    /// The greatest number of so many digits.
+    pub const GREATEST: u32 = 999_999;
+
+    /// The prefix with this number, where it is no greater than [`Prefix::GREATEST`].
+    pub fn from_number(number: u32) -> Option<Prefix>
+        ensures { SomeIff result (IsPrefix number) number }
+    {
+        if number > Prefix::GREATEST {
+            return None;
+        }
+        Some(Prefix { number })
+    }
+
+    /// The prefix that just so many digits spell.
+    pub(crate) fn of_digits(digits: &[u8]) -> Prefix
+        requires each { list_all is_ascii_digit digits.now ≡ true }
+        requires size { length digits.now ≡ prefix_digits }
+        ensures { result ≡ digits_value 10 digits.now }
+    {
+        Prefix {
+            number: number(digits),
+        }
+    }
+
+    /// The number.
+    pub fn number(self) -> u32
+        ensures value { result ≡ self }
+        ensures range { IsPrefix self }
+    {
+        let Prefix { number } = self;
+        number
+    }
+}
