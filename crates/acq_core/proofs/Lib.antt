@@ -1,2 +1,3 @@
+pub mod DecisionCases
 pub mod NetworkIsTheHosts
 pub mod NetworkRepliesFit

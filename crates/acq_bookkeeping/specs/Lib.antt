@@ -1,0 +1,5 @@
+pub mod DaySums
+pub mod Balance
+pub mod KeptRepeats
+pub mod Conservation
+pub mod Finality

@@ -1,0 +1,7 @@
+pub mod Lookups
+pub mod Members
+pub mod Keys
+pub mod RecordableRequests
+pub mod Statuses
+pub mod NextReference
+pub mod DayOfPosting

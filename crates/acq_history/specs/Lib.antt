@@ -1,0 +1,4 @@
+pub mod Entries
+pub mod History
+pub mod PartyHistory
+pub mod HistoryLaws

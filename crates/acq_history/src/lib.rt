@@ -1,0 +1,27 @@
+//! The history of each party: what one party's own events say, with no tables.
+//!
+//! The definitions stand whole, in `specs`: the entries of a history (`Entries.antt`), what a
+//! history says (`History.antt`), and a party's own events with what it gets of them
+//! (`PartyHistory.antt`). The lemmas in `proofs` serve the crates of laws above.
+#![tactic(auto)]
+
+ghost use Rattle.std.specs.Prelude.{◌≡◌, ◌↔◌, true};
+ghost use Rattle.acq_message.specs.declared.request_key.RequestKey.{RequestKey};
+ghost use Rattle.acq_message.specs.Elements.{same_key};
+ghost use Rattle.acq_history.specs.HistoryLaws.{ReferencesCountUp, RequestsPostToday};
+
+/// Two keys are the same exactly where they are one, so a history finds no other request under a
+/// key.
+pub fn same_keys_are_one()
+    ensures { (a b : RequestKey) → (same_key a b ≡ true) ↔ (a ≡ b) }
+{}
+
+/// The references of a merchant count up from its first: one more after each admitted request.
+pub fn references_count_up()
+    ensures { ReferencesCountUp }
+{}
+
+/// What a request posts is of the day on which it came; only an approval posts to an earlier day.
+pub fn requests_post_today()
+    ensures { RequestsPostToday }
+{}

@@ -1,0 +1,14 @@
+pub mod UnrecordedRequests
+pub mod RecordedInHistory
+pub mod RequestsAfterNewEntry
+pub mod NewRows
+pub mod RowsAgreeWithHistory
+pub mod ChangedRows
+pub mod TablesAgreeWithHistory
+pub mod OwnRequests
+pub mod OwnStep
+pub mod OtherPartysStep
+pub mod MerchantsRuns
+pub mod NobodysRuns
+pub mod IsolatedParties
+pub mod RepeatsTakenOut

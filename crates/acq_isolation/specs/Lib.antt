@@ -1,0 +1,3 @@
+pub mod Isolation
+pub mod Splitting
+pub mod QuietRepeats
