@@ -55,7 +55,7 @@ module _ (h : List Entry) (n : ℕ) (g : Found) (p : Prior) (found : referred n 
       clash (same_key a.key p.key) (ap (λ k. same_key a.key k) (sym keys) ∙ same_key_itself a.key) t
 
   -- the row after an answer
-  abbrev pub answering : ℕ → Verdict → List ℕ → Request → Request
+  abbrev pub answering : ℕ → Verdict → IsoMessage → Request → Request
   answering moment v reply row =
       record row {
         status = answered_status v;
@@ -64,7 +64,7 @@ module _ (h : List Entry) (n : ℕ) (g : Found) (p : Prior) (found : referred n 
       }
 
   -- the one row that an answer edits says what the history says of an answered request, all others what they said
-  pub answer_follows : (moment day : ℕ) (merchant : List ℕ) (v : Verdict) (ranges : List Range) (reply draft : List ℕ) →
+  pub answer_follows : (moment day : ℕ) (merchant : List ℕ) (v : Verdict) (ranges : List Range) (reply draft : IsoMessage) →
       p.reply_state ≡ Awaited draft →
       FollowsEntry (at_key p.key (answering moment v reply))
       (record {
@@ -120,7 +120,7 @@ module _ (h : List Entry) (n : ℕ) (g : Found) (p : Prior) (found : referred n 
   completing row = record row { status = status.Completed }
 
   -- so it is with a completion
-  pub completion_follows : (moment day : ℕ) (message : IsoMessage) (ranges : List Range) (reply : List ℕ) →
+  pub completion_follows : (moment day : ℕ) (message : IsoMessage) (ranges : List Range) (reply : IsoMessage) →
       reference_in message ≡ Some n → is_some p.hold_end ≡ true →
       FollowsEntry (at_key p.key completing)
       (record {
@@ -179,12 +179,12 @@ module _ (h : List Entry) (key : RequestKey) (g : Found) (p : Prior) (found : re
   reversing row = record row { status = reversed_status p.reply_state }
 
   -- and with a reversal
-  pub reversal_follows : (r : RequestMessage) (day : ℕ) (ranges : List Range) (reply : List ℕ) →
+  pub reversal_follows : (r : RequestMessage) (day : ℕ) (ranges : List Range) (reply : IsoMessage) →
       request_of (Requested r) ≡ Some r → is_reversal r.service ≡ true → original_key r.message ≡ Some key →
-      p.final ≡ false →
+      p.is_reversible ≡ true →
       FollowsEntry (at_key p.key reversing)
       (record { arrival = Requested r; day = day; ranges = ranges; outcome = Replied code.Approved reply }) h
-  reversal_follows r day ranges reply came fits asks final a f again same =
+  reversal_follows r day ranges reply came fits asks reversible a f again same =
       let e : Entry =
       record { arrival = Requested r; day = day; ranges = ranges; outcome = Replied code.Approved reply } in
       let by : is_reversing (key_in f) e ≡ same_key key (key_in f) =
@@ -204,7 +204,7 @@ module _ (h : List Entry) (key : RequestKey) (g : Found) (p : Prior) (found : re
             let whole : prior_of (reversing a) ≡ prior (aged e f) =
             (λ i. prior_of (record a { status = reversed_status ((as_prior ∙ prior_is f) i).reply_state }))
             ∙ (prior_of_reversed a f (answer_to f) (is_completed f) (is_reversed f) (ap (λ x. x.0) same ∙ prior_is f)
-            (ap (λ x. x.final) (sym (prior_is f) ∙ sym as_prior) ∙ final)
+            (ap (λ x. x.is_reversible) (sym (prior_is f) ∙ sym as_prior) ∙ reversible)
             ∙ sym (prior_aged_reversed e f (λ k is. refl) (λ k is. completions k)
             (by ∙ (ap (λ k. same_key key k) (keys ∙ here) ∙ same_key_itself key)))) in
             λ i. (whole i, (same i).1))

@@ -1,6 +1,6 @@
 -- A row that is recorded says what its entry does.
 use Rattle.std.proofs.Common.{◌≡◌, ℕ, List, [], Option, Some, None, true, false, cond, refl, sym, ap, ◌∙◌}
-use Rattle.std.specs.Prelude.{find, option_map, option_and_then, ◌||◌, not}
+use Rattle.std.specs.Prelude.{find, option_map, option_and_then, ◌&&◌, ◌||◌, not}
 use Rattle.iso_codec.specs.Message.{IsoMessage, content_of}
 use Rattle.card_no.specs.declared.range.Range.{Range}
 use Rattle.card_no.specs.CardNumbers.{prefix_of}
@@ -125,14 +125,14 @@ row_open row off Reconciliation = refl
 row_open row off NetworkManagement = refl
 
 -- a refused request, or a reconciliation
-pub idle_line : (r : RequestMessage) (e : Entry) (h : List Entry) (given : ResponseCode) (reply : List ℕ) (s : Status) →
+pub idle_line : (r : RequestMessage) (e : Entry) (h : List Entry) (given : ResponseCode) (reply : IsoMessage) (s : Status) →
     e.outcome ≡ Replied given reply →
     is_admitted (newest r e h) ≡ false → is_accepted (newest r e h) ≡ false → tables.reply_state_of s reply ≡ Kept reply →
-    tables.is_reversible s ≡ true → tables.is_approved s ≡ false →
-    line (record (refused_row e.day r) { status = s; reply = reply }) ≡ shown (newest r e h)
-idle_line r e h given reply s replied admitted accepted standing final closed =
+    tables.is_reversible s ≡ false → tables.is_approved s ≡ false →
+    line (record (refused_row e.day r given) { status = s; reply = reply }) ≡ shown (newest r e h)
+idle_line r e h given reply s replied admitted accepted state reversible closed =
     let f = newest r e h in
-    let row : Request = record (refused_row e.day r) { status = s; reply = reply } in
+    let row : Request = record (refused_row e.day r given) { status = s; reply = reply } in
     let whole : prior_of row ≡ prior_with None false false f = λ i. record {
       key = key_of r.service r.message;
       essence = essence_of r.service r.message;
@@ -143,10 +143,10 @@ idle_line r e h given reply s replied admitted accepted standing final closed =
       acquirer = content_of r.message.elements 32;
       reference = (row_reference row refl refl r.service ∙ sym (idle_reference_by f admitted accepted r.service)) i;
       hold_days = sym (idle_days f admitted accepted) i;
-      standing =
-          (standing ∙ (λ i. (prior_with None false false (newest r (record e { outcome = sym replied i }) h)).reply_state))
+      reply_state =
+          (state ∙ (λ i. (prior_with None false false (newest r (record e { outcome = sym replied i }) h)).reply_state))
           i;
-      final = (final ∙ (λ i. not (sym admitted i || sym accepted i) || false || false || false)) i;
+      is_reversible = (reversible ∙ (λ i. (sym admitted i || sym accepted i) && true && true && true)) i;
       hold_end = (row_open row closed r.service ∙ sym (idle_open r.service (hold_days_of f))) i;
     } in
     λ i. ((whole ∙ sym (prior_newest r e h)) i, sym (idle_reference f admitted accepted) i)
@@ -173,10 +173,10 @@ admitted_line moment Authorization message range n query e h fits asked adm is i
       acquirer = content_of r.message.elements 32;
       reference = reference i;
       hold_days = cond (sym adm i) (option_map (λ range. range.hold_days) (sym in_range i)) None;
-      standing =
+      reply_state =
           ((λ i. Awaited (draft_reply e.day r (is i)))
           ∙ (λ i. (prior_with None false false (newest r (record e { outcome = sym asked i }) h)).reply_state)) i;
-      final = not (sym adm i || false) || false || false || false;
+      is_reversible = (sym adm i || false) && true && true && true;
       hold_end = None;
     } in
     λ i. ((whole ∙ sym (prior_newest r e h)) i, reference i)
@@ -195,10 +195,10 @@ admitted_line moment Financial message range n query e h fits asked adm is in_ra
       acquirer = content_of r.message.elements 32;
       reference = reference i;
       hold_days = cond (sym adm i) (option_map (λ range. range.hold_days) (sym in_range i)) None;
-      standing =
+      reply_state =
           ((λ i. Awaited (draft_reply e.day r (is i)))
           ∙ (λ i. (prior_with None false false (newest r (record e { outcome = sym asked i }) h)).reply_state)) i;
-      final = not (sym adm i || false) || false || false || false;
+      is_reversible = (sym adm i || false) && true && true && true;
       hold_end = None;
     } in
     λ i. ((whole ∙ sym (prior_newest r e h)) i, reference i)
@@ -265,7 +265,7 @@ completed_line moment message hold n g e h replied asks found numbered is =
       reference = (reference ∙ sym asks) i;
       hold_days = None;
       reply_state = Kept reply;
-      final = false;
+      is_reversible = true;
       hold_end = None;
     } in
     let both : line row ≡ shown (x (Replied code.Approved reply)) =

@@ -2,8 +2,9 @@
 use Rattle.std.proofs.Common.{◌≡◌, ℕ, List, ◌∷◌, Option, Some, None, Bool, true, false, cond, refl, sym, ap, ◌∙◌}
 use Rattle.std.specs.Prelude.{find, option_map, option_and_then, ◌&&◌, ◌||◌, not, is_some, is_none, if◌then◌else◌}
 use Rattle.std.specs.Option.{option_or}
+use Rattle.std.proofs.lemmas.Bool.{and_parts}
 use Rattle.std.specs.List.{list_any}
-use Rattle.iso_codec.specs.Message.{content_of}
+use Rattle.iso_codec.specs.Message.{IsoMessage, content_of}
 use Rattle.acq_message.specs.declared.service.Service.{Service}
 use Rattle.acq_message.specs.declared.service.Service.TheVariants.{Authorization, Financial, Completion, Reversal, ReversalAdvice, Reconciliation, NetworkManagement}
 use Rattle.acq_message.specs.declared.request_key.RequestKey.{RequestKey}
@@ -24,9 +25,9 @@ use Rattle.acq_core.specs.Tables as tables
 use Rattle.acq_message.specs.Reply.{draft_reply}
 use Rattle.acq_message.specs.Numbers.{is_number}
 use Rattle.acq_history.specs.Entries.{Entry, reply_in, accepts, is_acceptable, is_completion, is_reversal, is_approved, is_acceptance, is_answer, is_completing, is_reversing, completes, reverses, is_key, approval_in, approval_by, request_of}
-use Rattle.acq_history.specs.History.{is_declined, Found, aged, next_reference, is_admitted, is_accepted, reference_of, reference_by, leg_by, card_by, hold_days_of, answer_to, is_completed, is_reversed, any_with, reply_state_with, reply_state_without, prior}
+use Rattle.acq_history.specs.History.{Found, aged, next_reference, is_admitted, is_accepted, reference_of, reference_by, leg_by, card_by, hold_days_of, answer_to, is_completed, is_reversed, any_with, reply_state_with, reply_state_without, prior}
 use Rattle.acq_history.specs.History as history
-use Rattle.acq_history.proofs.Lookups.{or_split, or_true, own_none}
+use Rattle.acq_history.proofs.Lookups.{and_false, not_true, own_none}
 use Rattle.acq_isolation.proofs.RecordedInHistory.{key_in}
 use Rattle.acq_history.proofs.Statuses.{reply_state_of-awaited, is_approved_is}
 
@@ -53,13 +54,13 @@ prior_with answer completed reversed f =
       acquirer = content_of f.request.message.elements 32;
       reference = reference_by f.request.service f;
       hold_days = hold_days_of f;
-      standing =
+      reply_state =
           reply_state_with
           (option_or (reply_in f.entry.outcome) (option_and_then (λ e. reply_in e.outcome) answer)) reversed
           (draft_reply f.entry.day f.request (next_reference f.before));
-      final =
-          not (is_admitted f || is_accepted f) || completed || reversed
-          || (is_some answer && is_none (option_and_then (λ e. approval_in e.arrival) answer));
+      is_reversible =
+          (is_admitted f || is_accepted f) && not completed && not reversed
+          && not (is_some answer && is_none (option_and_then (λ e. approval_in e.arrival) answer));
       hold_end = open_with f.request.service (hold_days_of f) answer completed reversed;
     }
 
@@ -103,14 +104,6 @@ open_by_is f ReversalAdvice = refl
 open_by_is f Reconciliation = refl
 open_by_is f NetworkManagement = refl
 
--- what can't be reversed, or not any more
-not_reversible : (a c r d : Bool) → not (a && not c && not r && not d) ≡ (not a || c || r || d)
-not_reversible false c r d = refl
-not_reversible true true r d = refl
-not_reversible true false true d = refl
-not_reversible true false false true = refl
-not_reversible true false false false = refl
-
 -- what is known of it, by what came later
 prior_later : (f : Found) (es : List Entry) → let g : Found = record f { later = es } in
     prior g ≡ prior_with (answer_to g) (is_completed g) (is_reversed g) f
@@ -127,7 +120,7 @@ prior_later f es =
       reference = reference_by_later f es f.request.service i;
       hold_days = hold_days_of f;
       reply_state = history.reply_state_of g;
-      final = not_reversible (is_admitted f || is_accepted f) (is_completed g) (is_reversed g) (is_declined g) i;
+      is_reversible = history.is_reversible g;
       hold_end = open_by_is g f.request.service i;
     }
 
@@ -255,20 +248,20 @@ shown_aged e accepted answers f =
 -- ---- rows
 
 -- where a reply is awaited, none was kept
-standing_with_awaited : (o : Option (List ℕ)) (reversed : Bool) (draft d : List ℕ) →
+reply_state_with-awaited : (o : Option IsoMessage) (reversed : Bool) (draft d : IsoMessage) →
     reply_state_with o reversed draft ≡ Awaited d → o ≡ None
-standing_with_awaited None reversed draft d e = refl
-standing_with_awaited (Some reply) reversed draft d e = absurd (cc)
+reply_state_with-awaited None reversed draft d e = refl
+reply_state_with-awaited (Some reply) reversed draft d e = absurd (cc)
 
 -- where one is kept, it is that
-standing_with_kept : (o : Option (List ℕ)) (reversed : Bool) (draft reply : List ℕ) →
+reply_state_with-kept : (o : Option IsoMessage) (reversed : Bool) (draft reply : IsoMessage) →
     reply_state_with o reversed draft ≡ Kept reply → o ≡ Some reply
-standing_with_kept None true draft reply e = absurd (cc)
-standing_with_kept None false draft reply e = absurd (cc)
-standing_with_kept (Some own) reversed draft reply e = cc
+reply_state_with-kept None true draft reply e = absurd (cc)
+reply_state_with-kept None false draft reply e = absurd (cc)
+reply_state_with-kept (Some own) reversed draft reply e = cc
 
 -- a row keeps these through a change of what stands for its status, its reply and its end
-leg_by_edited : (row : Request) (s : Status) (reply : List ℕ) (until : Option ℕ) (k : Service) →
+leg_by_edited : (row : Request) (s : Status) (reply : IsoMessage) (until : Option ℕ) (k : Service) →
     tables.leg_by k (record row { status = s; reply = reply; hold_end = until }) ≡ tables.leg_by k row
 leg_by_edited row s reply until Authorization = refl
 leg_by_edited row s reply until Financial = refl
@@ -278,7 +271,7 @@ leg_by_edited row s reply until ReversalAdvice = refl
 leg_by_edited row s reply until Reconciliation = refl
 leg_by_edited row s reply until NetworkManagement = refl
 
-reference_by_edited : (row : Request) (s : Status) (reply : List ℕ) (until : Option ℕ) (k : Service) →
+reference_by_edited : (row : Request) (s : Status) (reply : IsoMessage) (until : Option ℕ) (k : Service) →
     tables.reference_by k (record row { status = s; reply = reply; hold_end = until }) ≡ tables.reference_by k row
 reference_by_edited row s reply until Authorization = refl
 reference_by_edited row s reply until Financial = refl
@@ -288,15 +281,15 @@ reference_by_edited row s reply until ReversalAdvice = refl
 reference_by_edited row s reply until Reconciliation = refl
 reference_by_edited row s reply until NetworkManagement = refl
 
--- the row says this again, once its standing, its finality and its end do
-prior_of_edited : (a : Request) (f : Found) (o p : Option Entry) (c d r q : Bool) (s : Status) (reply : List ℕ)
+-- the row says this again, once its reply state, whether it can be reversed and its end do
+prior_of_edited : (a : Request) (f : Found) (o p : Option Entry) (c d r q : Bool) (s : Status) (reply : IsoMessage)
     (until : Option ℕ) →
     prior_of a ≡ prior_with o c r f →
-    tables.reply_state_of s reply ≡ (prior_with p d q f).reply_state → tables.is_reversible s ≡ (prior_with p d q f).final →
+    tables.reply_state_of s reply ≡ (prior_with p d q f).reply_state → tables.is_reversible s ≡ (prior_with p d q f).is_reversible →
     tables.hold_end_by a.key.service (record a { status = s; reply = reply; hold_end = until })
     ≡ (prior_with p d q f).hold_end →
     prior_of (record a { status = s; reply = reply; hold_end = until }) ≡ prior_with p d q f
-prior_of_edited a f o p c d r q s reply until e standing final ends =
+prior_of_edited a f o p c d r q s reply until e state reversible ends =
     λ i. record {
       key = (e i).key;
       essence = (e i).essence;
@@ -307,14 +300,14 @@ prior_of_edited a f o p c d r q s reply until e standing final ends =
       acquirer = (e i).acquirer;
       reference = (reference_by_edited a s reply until a.key.service ∙ ap (λ x. x.reference) e) i;
       hold_days = (e i).hold_days;
-      reply_state = standing i;
-      final = final i;
+      reply_state = state i;
+      is_reversible = reversible i;
       hold_end = ends i;
     }
 
 -- ---- an answer
 
-open_by_answered : (a : Request) (k : Service) (moment : ℕ) (v : Verdict) (reply : List ℕ) (days : Option ℕ)
+open_by_answered : (a : Request) (k : Service) (moment : ℕ) (v : Verdict) (reply : IsoMessage) (days : Option ℕ)
     (e : Entry) →
     approval_in e.arrival ≡ approval_by moment v →
     tables.hold_end_by k (record a { status = answered_status v; reply = reply; hold_end = answered_hold_end k moment v days })
@@ -332,19 +325,20 @@ open_by_answered a ReversalAdvice moment v reply days e is = refl
 open_by_answered a Reconciliation moment v reply days e is = refl
 open_by_answered a NetworkManagement moment v reply days e is = refl
 
-standing_of_answered : (v : Verdict) (reply : List ℕ) → tables.reply_state_of (answered_status v) reply ≡ Kept reply
-standing_of_answered (verdict.Approved id) reply = refl
-standing_of_answered (verdict.Declined text) reply = refl
-standing_of_answered verdict.NoAnswer reply = refl
+reply_state_of-answered : (v : Verdict) (reply : IsoMessage) → tables.reply_state_of (answered_status v) reply ≡ Kept reply
+reply_state_of-answered (verdict.Approved id) reply = refl
+reply_state_of-answered (verdict.Declined text) reply = refl
+reply_state_of-answered verdict.NoAnswer reply = refl
 
-is_final_answered : (moment : ℕ) (v : Verdict) → tables.is_reversible (answered_status v) ≡ is_none (approval_by moment v)
-is_final_answered moment (verdict.Approved id) = refl
-is_final_answered moment (verdict.Declined text) = refl
-is_final_answered moment verdict.NoAnswer = refl
+is_reversible_answered : (moment : ℕ) (v : Verdict) →
+    tables.is_reversible (answered_status v) ≡ not (is_none (approval_by moment v))
+is_reversible_answered moment (verdict.Approved id) = refl
+is_reversible_answered moment (verdict.Declined text) = refl
+is_reversible_answered moment verdict.NoAnswer = refl
 
 -- a pending row that is answered
-pub prior_of_answered : (a : Request) (f : Found) (o : Option Entry) (c r : Bool) (draft : List ℕ) (moment : ℕ)
-    (v : Verdict) (reply : List ℕ) (e : Entry) →
+pub prior_of_answered : (a : Request) (f : Found) (o : Option Entry) (c r : Bool) (draft : IsoMessage) (moment : ℕ)
+    (v : Verdict) (reply : IsoMessage) (e : Entry) →
     prior_of a ≡ prior_with o c r f → (prior_with o c r f).reply_state ≡ Awaited draft →
     approval_in e.arrival ≡ approval_by moment v → reply_in e.outcome ≡ Some reply →
     prior_of (record a {
@@ -355,22 +349,26 @@ pub prior_of_answered : (a : Request) (f : Found) (o : Option Entry) (c r : Bool
 prior_of_answered a f o c r draft moment v reply e is pending approval replied =
     let waits : a.status ≡ status.Pending =
     reply_state_of-awaited a.status a.reply draft (ap (λ x. x.reply_state) is ∙ pending) in
-    let reversible : false ≡ (prior_with o c r f).final = sym (ap tables.is_reversible waits) ∙ ap (λ x. x.final) is in
+    let taken = is_admitted f || is_accepted f in
+    let reversible : true ≡ (prior_with o c r f).is_reversible =
+    sym (ap tables.is_reversible waits) ∙ ap (λ x. x.is_reversible) is in
     let last =
-    or_split (not (is_admitted f || is_accepted f) || c || r)
-    (is_some o && is_none (option_and_then (λ e. approval_in e.arrival) o)) (sym reversible) in
-    let third = or_split (not (is_admitted f || is_accepted f) || c) r last.0 in
-    let second = or_split (not (is_admitted f || is_accepted f)) c third.0 in
+    and_parts (taken && not c && not r)
+    (not (is_some o && is_none (option_and_then (λ e. approval_in e.arrival) o))) (sym reversible) in
+    let third = and_parts (taken && not c) (not r) last.0 in
+    let second = and_parts taken (not c) third.0 in
+    let completed = not_true c second.1 in
+    let reversed = not_true r third.1 in
     let own : reply_in f.entry.outcome ≡ None =
-    own_none (reply_in f.entry.outcome) _ (standing_with_awaited _ r _ draft pending) in
+    own_none (reply_in f.entry.outcome) _ (reply_state_with-awaited _ r _ draft pending) in
     let at : a.key.service ≡ f.request.service = ap (λ x. x.key.service) is in
     prior_of_edited a f o (Some e) c c r r (answered_status v) reply
     (answered_hold_end f.request.service moment v (hold_days_of f)) is
-    (standing_of_answered v reply
+    (reply_state_of-answered v reply
     ∙ (λ i. reply_state_with (option_or (sym own i) (sym replied i)) r
     (draft_reply f.entry.day f.request (next_reference f.before))))
-    (is_final_answered moment v
-    ∙ (λ i. sym second.0 i || sym second.1 i || sym third.1 i || (true && is_none (sym approval i))))
+    (is_reversible_answered moment v
+    ∙ (λ i. sym second.0 i && sym second.1 i && sym third.1 i && not (true && is_none (sym approval i))))
     ((λ i. tables.hold_end_by (at i)
     (record a {
       status = answered_status v;
@@ -378,7 +376,7 @@ prior_of_answered a f o c r draft moment v reply e is pending approval replied =
       hold_end = answered_hold_end f.request.service moment v (hold_days_of f);
     }))
     ∙ (open_by_answered a f.request.service moment v reply (hold_days_of f) e approval
-    ∙ (λ i. open_with f.request.service (hold_days_of f) (Some e) (sym second.1 i) (sym third.1 i))))
+    ∙ (λ i. open_with f.request.service (hold_days_of f) (Some e) (sym completed i) (sym reversed i))))
 
 -- ---- a completion
 
@@ -420,31 +418,31 @@ prior_of_completed a f o c r is ends =
     let at : a.key.service ≡ f.request.service = ap (λ x. x.key.service) is in
     prior_of_edited a f o o c true r r status.Completed a.reply a.hold_end is
     (sym (ap (λ s. tables.reply_state_of s a.reply) approved) ∙ ap (λ x. x.reply_state) is)
-    (sym (ap (λ b. b || r || (is_some o && is_none (option_and_then (λ e. approval_in e.arrival) o)))
-    (or_true (not (is_admitted f || is_accepted f)))))
+    (sym (ap (λ b. b && not r && not (is_some o && is_none (option_and_then (λ e. approval_in e.arrival) o)))
+    (and_false (is_admitted f || is_accepted f))))
     ((λ i. tables.hold_end_by (at i) (record a { status = status.Completed }))
     ∙ open_by_done a f.request.service status.Completed (hold_days_of f) o true r refl refl)
 
 -- ---- a reversal
 
-standing_of_reversed : (s : Status) (reply : List ℕ) (o : Option (List ℕ)) (r : Bool) (draft : List ℕ) →
-    tables.is_reversible s ≡ false → tables.reply_state_of s reply ≡ reply_state_with o r draft →
+reply_state_of-reversed : (s : Status) (reply : IsoMessage) (o : Option IsoMessage) (r : Bool) (draft : IsoMessage) →
+    tables.is_reversible s ≡ true → tables.reply_state_of s reply ≡ reply_state_with o r draft →
     tables.reply_state_of (reversed_status (tables.reply_state_of s reply)) reply ≡ reply_state_with o true draft
-standing_of_reversed status.Pending reply o r draft final is =
-    ap (λ p. reply_state_with p true draft) (sym (standing_with_awaited o r draft reply (sym is)))
-standing_of_reversed status.Approved reply o r draft final is =
-    ap (λ p. reply_state_with p true draft) (sym (standing_with_kept o r draft reply (sym is)))
-standing_of_reversed status.ReversedPending reply o r draft final is = absurd (cc)
-standing_of_reversed status.Refused reply o r draft final is = absurd (cc)
-standing_of_reversed status.Declined reply o r draft final is = absurd (cc)
-standing_of_reversed status.Completed reply o r draft final is = absurd (cc)
-standing_of_reversed status.Reversed reply o r draft final is = absurd (cc)
-standing_of_reversed status.Reconciled reply o r draft final is = absurd (cc)
+reply_state_of-reversed status.Pending reply o r draft reversible is =
+    ap (λ p. reply_state_with p true draft) (sym (reply_state_with-awaited o r draft reply (sym is)))
+reply_state_of-reversed status.Approved reply o r draft reversible is =
+    ap (λ p. reply_state_with p true draft) (sym (reply_state_with-kept o r draft reply (sym is)))
+reply_state_of-reversed status.ReversedPending reply o r draft reversible is = absurd (cc)
+reply_state_of-reversed status.Refused reply o r draft reversible is = absurd (cc)
+reply_state_of-reversed status.Declined reply o r draft reversible is = absurd (cc)
+reply_state_of-reversed status.Completed reply o r draft reversible is = absurd (cc)
+reply_state_of-reversed status.Reversed reply o r draft reversible is = absurd (cc)
+reply_state_of-reversed status.Reconciled reply o r draft reversible is = absurd (cc)
 
-is_final_reversed : (s : ReplyState) → tables.is_reversible (reversed_status s) ≡ true
-is_final_reversed (Kept reply) = refl
-is_final_reversed (Awaited draft) = refl
-is_final_reversed Late = refl
+is_reversible_reversed : (s : ReplyState) → tables.is_reversible (reversed_status s) ≡ false
+is_reversible_reversed (Kept reply) = refl
+is_reversible_reversed (Awaited draft) = refl
+is_reversible_reversed Late = refl
 
 is_approved_reversed : (s : ReplyState) → tables.is_approved (reversed_status s) ≡ false
 is_approved_reversed (Kept reply) = refl
@@ -453,17 +451,17 @@ is_approved_reversed Late = refl
 
 -- a request that can be reversed, and is
 pub prior_of_reversed : (a : Request) (f : Found) (o : Option Entry) (c r : Bool) → prior_of a ≡ prior_with o c r f →
-    (prior_with o c r f).final ≡ false →
+    (prior_with o c r f).is_reversible ≡ true →
     prior_of (record a { status = reversed_status (prior_with o c r f).reply_state }) ≡ prior_with o c true f
-prior_of_reversed a f o c r is final =
+prior_of_reversed a f o c r is reversible =
     let s = reversed_status (prior_with o c r f).reply_state in
     let at : a.key.service ≡ f.request.service = ap (λ x. x.key.service) is in
     prior_of_edited a f o o c c r true s a.reply a.hold_end is
     (ap (λ x. tables.reply_state_of (reversed_status x) a.reply) (sym (ap (λ x. x.reply_state) is))
-    ∙ standing_of_reversed a.status a.reply _ r _ (ap (λ x. x.final) is ∙ final) (ap (λ x. x.reply_state) is))
-    (is_final_reversed (prior_with o c r f).reply_state
-    ∙ sym (ap (λ b. b || (is_some o && is_none (option_and_then (λ e. approval_in e.arrival) o)))
-    (or_true (not (is_admitted f || is_accepted f) || c))))
+    ∙ reply_state_of-reversed a.status a.reply _ r _ (ap (λ x. x.is_reversible) is ∙ reversible) (ap (λ x. x.reply_state) is))
+    (is_reversible_reversed (prior_with o c r f).reply_state
+    ∙ sym (ap (λ b. b && not (is_some o && is_none (option_and_then (λ e. approval_in e.arrival) o)))
+    (and_false ((is_admitted f || is_accepted f) && not c))))
     ((λ i. tables.hold_end_by (at i) (record a { status = s }))
     ∙ open_by_done a f.request.service s (hold_days_of f) o c true (is_approved_reversed (prior_with o c r f).reply_state)
     (or_true c))

@@ -4,6 +4,7 @@ use Rattle.std.specs.Prelude.{map, find, option_map, ◌&&◌, ◌||◌, not, is
 use Rattle.std.specs.Str.{bytes_eq}
 use Rattle.std.proofs.lemmas.List.{append-nil}
 use Rattle.acq_message.specs.declared.request_key.RequestKey.{RequestKey}
+use Rattle.iso_codec.specs.Message.{IsoMessage}
 use Rattle.acq_core.specs.declared.request.Request.{Request}
 use Rattle.acq_core.specs.declared.status.Status.{Status}
 use Rattle.acq_message.specs.Elements.{key_of, same_key}
@@ -86,7 +87,7 @@ pub status_edits : (s : Status) → Edits (λ row. record row { status = s })
 status_edits s = record { key = λ a. refl; admitted = λ a. refl; day = λ a. refl }
 
 -- an edit by an answer
-pub answer_edits : (s : Status) (reply : List ℕ) (until : Option ℕ) →
+pub answer_edits : (s : Status) (reply : IsoMessage) (until : Option ℕ) →
     Edits (λ row. record row { status = s; reply = reply; hold_end = until })
 answer_edits s reply hold_end = record { key = λ a. refl; admitted = λ a. refl; day = λ a. refl }
 
