@@ -51,7 +51,7 @@ knows_totals opening h r =
       refused = λ merchant fresh given is. tt;
       admitted = λ merchant fresh service range in_range. tt;
       completed = λ merchant fresh service hold found opens. tt;
-      reversed = λ merchant fresh service p found final. tt;
+      reversed = λ merchant fresh service p found reversible. tt;
       reconciled = λ merchant fresh service day resolved. (
         ap (λ s. totals_if totals (wanted_for k.today s r.message).totals_day) service
             ∙ ap (totals_if totals) resolved,

@@ -247,11 +247,11 @@ sound_completed t today r hold n e new service i reference merchant kind approve
 -- and a reversal of what can be reversed
 sound_reversed : (t : Tables) (today : ℕ) (r : RequestMessage) (row : Request) → today ≡ t.day →
     IsNew t (key_of r.service r.message) → is_reversal r.service ≡ true → In row t.requests →
-    row.key.merchant ≡ text_at r.message 42 → is_reversible row.status ≡ false → IsSoundBook t →
+    row.key.merchant ≡ text_at r.message 42 → is_reversible row.status ≡ true → IsSoundBook t →
     IsSound t.day t.merchants
     (with_changed row.key (λ old. record old { status = reversed_status (reply_state_of row.status row.reply) }) t.requests
     ++ reversal_row today r (prior_of row) ∷ []) (with_next_posting t.postings (reversal_posting today r (prior_of row)))
-sound_reversed t today r row e new service i merchant final s = record {
+sound_reversed t today r row e new service i merchant can_be s = record {
   well_formed =
       well_formed_with_row t.day t.merchants mid after mid_well_formed
       (fits_plain t.day t.merchants mid after fresh refl (λ k c. not_follower r.service service c.service)
@@ -271,7 +271,7 @@ sound_reversed t today r row e new service i merchant final s = record {
     after = reversal_row today r (prior_of row)
 
     can : IsReversible row.status row.reply
-    can = reversible row.status row.reply final
+    can = reversible row.status row.reply can_be
 
     rep : IsReplaced t.requests
         (with_changed row.key
@@ -332,7 +332,7 @@ sound_reversed t today r row e new service i merchant final s = record {
         (option_map (λ leg. posting_today today r (reversal_leg leg) row.amount (prior_of row)) o))
     step None f = unposted t.requests (mid ++ after ∷ []) t.postings s.match_rows grows from
     step (Some leg) f =
-        let was = posted_leg_approved row.status row.reply (leg_by row.key.service row) leg final f in
+        let was = posted_leg_approved row.status row.reply (leg_by row.key.service row) leg can_be f in
         let of = leg_of row.key.service row leg was.1 in
         let under : posted row ≡ Some of.number = of.under (ap is_posted was.0) in
         let number : or_zero (reference_by row.key.service row) ≡ of.number = ap or_zero of.reference in
@@ -370,7 +370,7 @@ sound_reversed t today r row e new service i merchant final s = record {
 -- ---- an answer
 
 -- one that posts nothing
-sound_answered_unposted : (t : Tables) (row : Request) (st : Status) (reply : List ℕ) (until : Option ℕ) →
+sound_answered_unposted : (t : Tables) (row : Request) (st : Status) (reply : IsoMessage) (until : Option ℕ) →
     In row t.requests → row.status ≡ status.Pending →
     posted (record row { status = st; reply = reply; hold_end = until }) ≡ posted row → IsSoundBook t →
     IsSound t.day t.merchants
@@ -402,7 +402,7 @@ sound_answered_unposted t row st reply until i pending same s = record {
     change = record { key = refl; reference = refl; follows = refl; leg = refl; day = refl; amount = refl; card = refl }
 
 -- an approval of a sale or return
-sound_sold : (t : Tables) (row : Request) (n : ℕ) (leg : Leg) (reply : List ℕ) (until : Option ℕ) → In row t.requests →
+sound_sold : (t : Tables) (row : Request) (n : ℕ) (leg : Leg) (reply : IsoMessage) (until : Option ℕ) → In row t.requests →
     row.status ≡ status.Pending → row.reference ≡ Some n → leg_by row.key.service row ≡ Some leg → IsSoundBook t →
     IsSound t.day t.merchants
     (with_changed row.key (λ old. record old { status = status.Approved; reply = reply; hold_end = until }) t.requests)
@@ -497,7 +497,7 @@ sound_sold t row n leg reply until i pending reference legged s = record {
     ]
 
 -- an approval
-sound_approved : (t : Tables) (row : Request) (n : ℕ) (reply : List ℕ) (until : Option ℕ) → In row t.requests →
+sound_approved : (t : Tables) (row : Request) (n : ℕ) (reply : IsoMessage) (until : Option ℕ) → In row t.requests →
     row.status ≡ status.Pending → row.reference ≡ Some n → IsSoundBook t →
     IsSound t.day t.merchants
     (with_changed row.key (λ old. record old { status = status.Approved; reply = reply; hold_end = until }) t.requests)
@@ -515,7 +515,7 @@ sound_approved t row n reply until i pending reference s = step (leg_by row.key.
     step (Some leg) f = sound_sold t row n leg reply until i pending reference f s
 
 -- any answer to a pending request
-sound_answered : (t : Tables) (v : Verdict) (row : Request) (n : ℕ) (reply : List ℕ) (until : Option ℕ) →
+sound_answered : (t : Tables) (v : Verdict) (row : Request) (n : ℕ) (reply : IsoMessage) (until : Option ℕ) →
     In row t.requests → row.status ≡ status.Pending → row.reference ≡ Some n → IsSoundBook t →
     IsSound t.day t.merchants
     (with_changed row.key (λ old. record old { status = answered_status v; reply = reply; hold_end = until }) t.requests)
@@ -553,14 +553,14 @@ sound_step t k (Completes r hold) e g s =
 sound_step t k (Reverses r p) e g s =
     subst (λ x. IsSoundBook (after_any t (change_of k (Reverses r x)))) g.found.says
     (sound_reversed t k.today r g.found.row e g.new g.service g.found.member g.merchant
-    (ap (λ x. x.final) g.found.says ∙ g.final) s)
+    (ap (λ x. x.is_reversible) g.found.says ∙ g.reversible) s)
 sound_step t k (Reconciles r day) e g s =
     sound_with_row t.day t.merchants t.requests t.postings _ g.new refl refl refl refl (omega arith) s
-sound_step t k (Answers moment v p) e g s =
+sound_step t k (Answers moment v p draft) e g s =
     let found = g.referred.found in
     let pending =
-    reply_state_of-awaited found.row.status found.row.reply g.draft (ap (λ x. x.reply_state) found.says ∙ g.awaited) in
-    subst (λ x. IsSoundBook (after_any t (change_of k (Answers moment v x)))) found.says
+    reply_state_of-awaited found.row.status found.row.reply draft (ap (λ x. x.reply_state) found.says ∙ g.awaited) in
+    subst (λ x. IsSoundBook (after_any t (change_of k (Answers moment v x draft)))) found.says
     (sound_answered t v found.row g.referred.number _ _ found.member pending g.referred.reference s)
 sound_step t k CutsOver e g s =
     record {

@@ -144,7 +144,7 @@ stays day t k (Reconciles r when) e g c = record {
   closed = record { past = c.past; none = NonePending-push day t.requests _ c.none (λ s on. absurd (cc)) };
   same = refl;
 }
-stays day t k (Answers moment v p) e g c = record {
+stays day t k (Answers moment v p draft) e g c = record {
   closed =
       record {
         past = c.past;
@@ -157,7 +157,7 @@ stays day t k (Answers moment v p) e g c = record {
     answered_elsewhere q posted on =
         let found = g.referred.found in
         c.none found.row found.member
-        (reply_state_of-awaited found.row.status found.row.reply g.draft (ap (λ x. x.reply_state) found.says ∙ g.awaited))
+        (reply_state_of-awaited found.row.status found.row.reply draft (ap (λ x. x.reply_state) found.says ∙ g.awaited))
         (ap (λ x. x.day) found.says ∙ (sym (answer_day v p q posted) ∙ on))
 stays day t k CutsOver e g c =
     record { closed = record { past = let past = c.past in omega arith; none = c.none }; same = refl }

@@ -7,6 +7,7 @@ use Rattle.card_no.specs.declared.range.Range.{Range}
 use Rattle.card_no.specs.Ranges.{is_valid_range, has_ends}
 use Rattle.acq_message.specs.declared.service.Service.TheVariants.{Completion, Reconciliation, NetworkManagement}
 use Rattle.acq_message.specs.declared.request_key.RequestKey.{RequestKey}
+use Rattle.iso_codec.specs.Message.{IsoMessage}
 use Rattle.acq_core.specs.declared.request.Request.{Request}
 use Rattle.acq_core.specs.declared.merchant.Merchant.{Merchant}
 use Rattle.acq_core.specs.declared.terminal.Terminal.{Terminal}
@@ -69,12 +70,11 @@ pub record IsReversal (t : Tables) (r : RequestMessage) (p : Prior) : Type 0 whe
   pub service : is_reversal r.service ≡ true
   pub found : IsRow t p
   pub merchant : found.row.key.merchant ≡ text_at r.message 42
-  pub final : p.final ≡ false
+  pub reversible : p.is_reversible ≡ true
 
 -- an answer: its request is pending
-pub record IsAnswering (t : Tables) (p : Prior) : Type 0 where
+pub record IsAnswering (t : Tables) (p : Prior) (draft : IsoMessage) : Type 0 where
   pub referred : IsReferred t p
-  pub draft : List ℕ
   pub awaited : p.reply_state ≡ Awaited draft
 
 -- a reconciliation: its key is new
@@ -92,7 +92,7 @@ Grounds t (Admits r range reference) = IsAdmission t r reference
 Grounds t (Completes r hold) = IsCompletion t r hold
 Grounds t (Reverses r p) = IsReversal t r p
 Grounds t (Reconciles r day) = IsReconciling t r
-Grounds t (Answers moment v p) = IsAnswering t p
+Grounds t (Answers moment v p draft) = IsAnswering t p draft
 Grounds t CutsOver = Unit {0}
 Grounds t (AddsRange range) = Unit {0}
 Grounds t (DropsRange low high) = Unit {0}
@@ -189,11 +189,11 @@ module _ (t : Tables) (r : RequestMessage) where
       record { new = new_key merchant fresh; service = service; referred = found.0; merchant = found.1; opens = opens }
 
   reversal : (merchant : Merchant) → IsFresh known r merchant → is_reversal r.service ≡ true → (p : Prior) →
-      known.original ≡ Some p → p.final ≡ false → IsReversal t r p
-  reversal merchant fresh service p original final =
+      known.original ≡ Some p → p.is_reversible ≡ true → IsReversal t r p
+  reversal merchant fresh service p original reversible =
       let w = wanted_for t.day r.service r.message in
       let found = row_of_key t (text_at r.message 42) w.original p original in
-      record { new = new_key merchant fresh; service = service; found = found.0; merchant = found.1; final = final }
+      record { new = new_key merchant fresh; service = service; found = found.0; merchant = found.1; reversible = reversible }
 
   -- a repeat has no grounds to show
   of_repeat : (s : ReplyState) → Grounds t (repeat_of s)
@@ -213,8 +213,8 @@ module _ (t : Tables) (r : RequestMessage) where
         admitted = λ merchant fresh service range in_range.
             admission merchant fresh (is_admissible_true r.service service);
         completed = λ merchant fresh service hold found opens. completion merchant fresh service hold found opens;
-        reversed = λ merchant fresh service p found final.
-            reversal merchant fresh (is_reversal_true r.service service) p found final;
+        reversed = λ merchant fresh service p found reversible.
+            reversal merchant fresh (is_reversal_true r.service service) p found reversible;
         reconciled = λ merchant fresh service day resolved.
             record { new = new_key merchant fresh; service = service };
       })
@@ -256,7 +256,6 @@ grounds t (Answered moment merchant reference v) =
       taken = λ p draft found awaited.
           record {
             referred = (row_of_reference t merchant (Some reference) p found).0;
-            draft = draft;
             awaited = awaited;
           };
     })

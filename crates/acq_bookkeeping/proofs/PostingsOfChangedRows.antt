@@ -5,6 +5,7 @@ use Rattle.day_totals.specs.declared.leg.Leg.{Leg}
 use Rattle.day_totals.specs.declared.leg.Leg.TheVariants.{Credit, CreditReversal, Debit, DebitReversal}
 use Rattle.acq_message.specs.declared.service.Service.{Service}
 use Rattle.acq_message.specs.declared.service.Service.TheVariants.{Authorization, Financial, Completion, Reversal, ReversalAdvice, Reconciliation, NetworkManagement}
+use Rattle.iso_codec.specs.Message.{IsoMessage}
 use Rattle.acq_core.specs.declared.request.Request.{Request}
 use Rattle.acq_core.specs.declared.merchant.Merchant.{Merchant}
 use Rattle.acq_core.specs.declared.status.Status.{Status}
@@ -168,12 +169,12 @@ is_open_until_row Reconciliation row moment e = absurd (cc)
 is_open_until_row NetworkManagement row moment e = absurd (cc)
 
 -- what can be reversed was not, and a reversal keeps whether it posted
-pub record IsReversible (s : Status) (reply : List ℕ) : Type 0 where
+pub record IsReversible (s : Status) (reply : IsoMessage) : Type 0 where
   pub posts : is_posted (reversed_status (reply_state_of s reply)) ≡ is_posted s
   pub not_reversed : is_reversed s ≡ false
   pub not_completed : s ≡ Completed → ⊥
 
-pub reversible : (s : Status) (reply : List ℕ) → is_reversible s ≡ false → IsReversible s reply
+pub reversible : (s : Status) (reply : IsoMessage) → is_reversible s ≡ true → IsReversible s reply
 reversible Pending reply e = record { posts = refl; not_reversed = refl; not_completed = λ h. absurd (cc) }
 reversible Approved reply e = record { posts = refl; not_reversed = refl; not_completed = λ h. absurd (cc) }
 reversible Refused reply e = absurd (cc)
@@ -184,7 +185,7 @@ reversible ReversedPending reply e = absurd (cc)
 reversible Reconciled reply e = absurd (cc)
 
 -- where the leg of what can be reversed was posted, it was approved
-pub posted_leg_approved : (s : Status) (reply : List ℕ) (o : Option Leg) (leg : Leg) → is_reversible s ≡ false →
+pub posted_leg_approved : (s : Status) (reply : IsoMessage) (o : Option Leg) (leg : Leg) → is_reversible s ≡ true →
     posted_leg (reply_state_of s reply) o ≡ Some leg → (s ≡ Approved) × (o ≡ Some leg)
 posted_leg_approved Approved reply o leg f e = (refl, e)
 posted_leg_approved Pending reply o leg f e = absurd (cc)

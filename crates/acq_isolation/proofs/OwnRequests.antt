@@ -179,7 +179,7 @@ module _ (opening : Opening) (m : List ℕ) (t : Tables) (h : List Entry) (g : A
   own_row r named = ap (λ x. bytes_eq x m) (own_text r named) ∙ bytes_eq_itself m
 
   -- a request that is neither admitted nor accepted
-  idle_rows : (r : RequestMessage) (given : ResponseCode) (reply : List ℕ) (row : Request) →
+  idle_rows : (r : RequestMessage) (given : ResponseCode) (reply : IsoMessage) (row : Request) →
       merchant_named (Requested r) ≡ Some m → request_of (Requested r) ≡ Some r →
       (known_by opening h (Requested r)).recorded ≡ None → is_past_merchant (Replied given reply) ≡ true →
       accepts is_acceptable (Some r) (Replied given reply) ≡ false →
@@ -357,8 +357,8 @@ module _ (opening : Opening) (m : List ℕ) (t : Tables) (h : List Entry) (g : A
   pub reversed_step : (r : RequestMessage) → merchant_named (Requested r) ≡ Some m → (p : Prior) →
       request_of (Requested r) ≡ Some r →
       (known_by opening h (Requested r)).recorded ≡ None → is_reversal r.service ≡ true →
-      (known_by opening h (Requested r)).original ≡ Some p → p.final ≡ false → Keeps (Requested r) (Reverses r p)
-  reversed_step r named p came new fits there final =
+      (known_by opening h (Requested r)).original ≡ Some p → p.is_reversible ≡ true → Keeps (Requested r) (Reverses r p)
+  reversed_step r named p came new fits there reversible =
       let day = day_after opening.first_day h in
       let reply = referring_reply day r p.reference code.Approved in
       let o = Replied code.Approved reply in
@@ -396,7 +396,7 @@ module _ (opening : Opening) (m : List ℕ) (t : Tables) (h : List Entry) (g : A
             })
             (without_newest_edited m t.requests e h p.key (reversing h key f p found.1 found.2)
             (status_edits (reversed_status p.reply_state))
-            (reversal_follows h key f p found.1 found.2 r day (ranges_after h) reply came fits asked.1 final) g.rows);
+            (reversal_follows h key f p found.1 found.2 r day (ranges_after h) reply came fits asked.1 reversible) g.rows);
         posted =
             postings_of_mine m t.postings (reversal_posting day r p)
             (subst (λ n. IsOf n (reversal_posting day r p)) (own_text r named) (reversal_posting_is_of day r p))

@@ -143,11 +143,11 @@ module _ (opening : Opening) (m : List ℕ) (t : Tables) (h : List Entry) (g : A
   -- ---- answers
 
   -- an answer that is taken
-  answered_step : (moment : ℕ) (merchant : List ℕ) (n : ℕ) (v : Verdict) (p : Prior) (draft : List ℕ) →
+  answered_step : (moment : ℕ) (merchant : List ℕ) (n : ℕ) (v : Verdict) (p : Prior) (draft : IsoMessage) →
       (known (Answered moment merchant n v)).referred ≡ Some p → p.reply_state ≡ Awaited draft →
-      Keeps opening m t h g (Answered moment merchant n v) (Answers moment v p)
+      Keeps opening m t h g (Answered moment merchant n v) (Answers moment v p draft)
   answered_step moment merchant n v p draft there pending =
-      let reply = answered_reply (draft_of p.reply_state) v in
+      let reply = answered_reply draft v in
       let o = Replied (verdict_code v) reply in
       let a = Answered moment merchant n v in
       let e = at a o in

@@ -27,7 +27,7 @@ use Rattle.acq_message.specs.Numbers.{is_number}
 use Rattle.acq_history.specs.Entries.{Entry, reply_in, accepts, is_acceptable, is_completion, is_reversal, is_approved, is_acceptance, is_answer, is_completing, is_reversing, completes, reverses, is_key, approval_in, approval_by, request_of}
 use Rattle.acq_history.specs.History.{Found, aged, next_reference, is_admitted, is_accepted, reference_of, reference_by, leg_by, card_by, hold_days_of, answer_to, is_completed, is_reversed, any_with, reply_state_with, reply_state_without, prior}
 use Rattle.acq_history.specs.History as history
-use Rattle.acq_history.proofs.Lookups.{and_false, not_true, own_none}
+use Rattle.acq_history.proofs.Lookups.{and_false, not_true, or_true, own_none}
 use Rattle.acq_isolation.proofs.RecordedInHistory.{key_in}
 use Rattle.acq_history.proofs.Statuses.{reply_state_of-awaited, is_approved_is}
 
