@@ -1,5 +1,9 @@
+//! Rows of the program: statuses, replies and printed lines; each read and each write failing in
+//! turn; and an input longer than a hundred reads.
+
 use crate::command;
-use acq_link::{MemorySink, SliceSource};
+use crate::once;
+use acq_link::{MemorySink, ReadSource, SliceSource, WriteSink};
 use std::alloc::Global;
 use std::process::Abort;
 use std::test::Fail;
@@ -91,8 +95,8 @@ const CASES: [(&str, u8, &str, &str); 17] = [
     ("\x00\x370800", 1, "", "acqd: 51 Ended\n"),
 ];
 
-/// Runs `acqd once` over an input, and compares all that it gives.
-fn once(
+/// Runs `acqd once` over an input, and compares all that it writes.
+fn runs_as(
     rt: &impl Abort,
     alloc: Global,
     input: &[u8],
@@ -111,8 +115,8 @@ fn once(
         &mut faults,
     );
     assert_eq!(rt; found, status, "for {input:?}");
-    assert_eq!(rt; sink.as_slice(), output, "for {input:?}");
-    assert_eq!(rt; faults.as_slice(), line, "for {input:?}");
+    assert_eq!(rt; sink.as_bytes(), output, "for {input:?}");
+    assert_eq!(rt; faults.as_bytes(), line, "for {input:?}");
     Ok(())
 }
 
@@ -129,7 +133,7 @@ fn repeated(alloc: Global, bytes: &[u8], times: usize) -> Result<Vec<u8>, Fail> 
 fn frames_and_their_replies(rt: HostRuntime) -> Result<(), Fail> {
     let alloc = rt.alloc();
     for (input, status, output, line) in CASES {
-        once(
+        runs_as(
             &rt,
             alloc,
             input.as_bytes(),
@@ -142,7 +146,7 @@ fn frames_and_their_replies(rt: HostRuntime) -> Result<(), Fail> {
         later.extend_from_slice(input.as_bytes())?;
         let mut replies = repeated(alloc, ECHO_REPLY.as_bytes(), 1)?;
         replies.extend_from_slice(output.as_bytes())?;
-        once(
+        runs_as(
             &rt,
             alloc,
             later.as_slice(),
@@ -157,7 +161,7 @@ fn frames_and_their_replies(rt: HostRuntime) -> Result<(), Fail> {
     longest.extend_from_slice(echo)?;
     let spaces = repeated(alloc, b" ", 4096 - 55)?;
     longest.extend_from_slice(spaces.as_slice())?;
-    once(
+    runs_as(
         &rt,
         alloc,
         longest.as_slice(),
@@ -167,7 +171,7 @@ fn frames_and_their_replies(rt: HostRuntime) -> Result<(), Fail> {
     )?;
     let many = repeated(alloc, ECHO.as_bytes(), 10_000)?;
     let replies = repeated(alloc, ECHO_REPLY.as_bytes(), 10_000)?;
-    once(&rt, alloc, many.as_slice(), 0, replies.as_slice(), b"")
+    runs_as(&rt, alloc, many.as_slice(), 0, replies.as_slice(), b"")
 }
 
 #[test]
@@ -188,12 +192,12 @@ fn each_read_fails_in_turn(rt: HostRuntime) -> Result<(), Fail> {
         );
         if before < 5 {
             assert_eq!(rt; status, 1);
-            assert_eq!(rt; sink.as_slice(), b"".as_slice());
-            assert_eq!(rt; faults.as_slice(), b"acqd: 53 Read\n".as_slice());
+            assert_eq!(rt; sink.as_bytes(), b"".as_slice());
+            assert_eq!(rt; faults.as_bytes(), b"acqd: 53 Read\n".as_slice());
         } else {
             assert_eq!(rt; status, 0);
             let want = repeated(alloc, ECHO_REPLY.as_bytes(), 3)?;
-            assert_eq!(rt; sink.as_slice(), want.as_slice());
+            assert_eq!(rt; sink.as_bytes(), want.as_slice());
         }
     }
     Ok(())
@@ -216,21 +220,22 @@ fn each_write_fails_in_turn(rt: HostRuntime) -> Result<(), Fail> {
             &mut faults,
         );
         let want = replies.as_slice().get(..room).ok_or("177 bytes")?;
-        assert_eq!(rt; sink.as_slice(), want);
-        let gone = room % 59;
+        assert_eq!(rt; sink.as_bytes(), want);
+        let written = room % 59;
         let line = if room < 177 {
-            format!(in alloc; "acqd: 54 Write {gone}\n")?
+            format!(in alloc; "acqd: 54 Write {written}\n")?
         } else {
             String::new(alloc)
         };
-        assert_eq!(rt; faults.as_slice(), line.as_bytes());
+        assert_eq!(rt; faults.as_bytes(), line.as_bytes());
         assert_eq!(rt; status, u8::from(room < 177));
     }
     Ok(())
 }
 
-/// Words, and the status; whether the text goes to the output; and a part of that text, as clap has it.
-const USAGES: [(&[&str], u8, &str); 8] = [
+/// Arguments, the status, and a part of the text, as clap has it. Text goes to the output where the
+/// status is 0, else to the faults.
+const USAGES: [(&[&str], u8, &str); 11] = [
     (&["acqd"], 2, "Usage: acqd <COMMAND>"),
     (&["acqd", "twice"], 2, "unrecognized subcommand 'twice'"),
     (
@@ -245,27 +250,48 @@ const USAGES: [(&[&str], u8, &str); 8] = [
     ),
     (&["acqd", "--help"], 0, "Usage: acqd <COMMAND>"),
     (&["acqd", "-h"], 0, "Usage: acqd <COMMAND>"),
+    (&["acqd", "--help"], 0, "network management"),
+    (&["acqd", "--version"], 0, "acqd 0.1.0"),
     (&["acqd", "once", "--help"], 0, "Usage: acqd once"),
+    (&["acqd", "once", "--help"], 0, "acqd: 54 Write BYTES"),
     (&["acqd", "help", "once"], 0, "Usage: acqd once"),
 ];
 
 #[test]
 fn usage_and_help(rt: HostRuntime) -> Result<(), Fail> {
     let alloc = rt.alloc();
-    for (words, want, part) in USAGES {
+    for (args, want, part) in USAGES {
         let mut source = SliceSource::new(ECHO.as_bytes());
         let mut output = MemorySink::new(alloc);
         let mut faults = MemorySink::new(alloc);
-        let status = command(alloc, words, &mut source, &mut output, &mut faults);
-        assert_eq!(rt; status, want, "for {words:?}");
-        let (told, quiet) = if want == 0 {
+        let status = command(alloc, args, &mut source, &mut output, &mut faults);
+        assert_eq!(rt; status, want, "for {args:?}");
+        let (text_sink, quiet) = if want == 0 {
             (&output, &faults)
         } else {
             (&faults, &output)
         };
-        let text = std::str::from_utf8(told.as_slice())?;
-        assert!(rt; text.contains(part), "for {words:?}: {text}");
-        assert_eq!(rt; quiet.as_slice(), b"".as_slice(), "for {words:?}");
+        let text = std::str::from_utf8(text_sink.as_bytes())?;
+        assert!(rt; text.contains(part), "for {args:?}: {text}");
+        assert_eq!(rt; quiet.as_bytes(), b"".as_slice(), "for {args:?}");
     }
+    Ok(())
+}
+
+/// An input that takes more than a hundred reads, from a reader into a writer of std: nothing gives
+/// up on the way.
+#[test]
+fn a_long_input_is_answered_whole(rt: HostRuntime) -> Result<(), Fail> {
+    let alloc = rt.alloc();
+    let count = 120_000;
+    let input = repeated(alloc, ECHO.as_bytes(), count)?;
+    assert!(rt; input.len() > 6_553_600);
+    let mut source = ReadSource::new(input.as_slice());
+    let mut sink = WriteSink::new(Vec::new(alloc));
+    once(alloc, &mut source, &mut sink)?;
+    let written = sink.into_inner();
+    let replies = repeated(alloc, ECHO_REPLY.as_bytes(), count)?;
+    assert_eq!(rt; written.len(), replies.len());
+    assert!(rt; written == replies);
     Ok(())
 }
