@@ -1,7 +1,8 @@
 #!/bin/sh
-# Makes 1,000,000 echo frames, has `acqd once` answer them, checks the replies, and prints frames per
-# second and the memory that was used.
+# Makes echo frames, 1,000,000 or as many as its argument says, has `acqd once` answer them, checks the
+# replies, and prints frames per second and the memory that was used.
 set -eu
+unset CDPATH
 top=$(cd "$(dirname "$0")/.." && pwd)
 count=${1:-1000000}
 work=$(mktemp -d)
@@ -19,16 +20,34 @@ with open(work + "/in", "wb") as requests, open(work + "/want", "wb") as replies
 PY
 "$top/acqd" once </dev/null
 python3 - "$top/crates/acqd/out/acqd" "$count" "$work" <<'PY'
-import os, resource, subprocess, sys, time
+import ctypes, os, re, signal, subprocess, sys, time
 program, count, work = sys.argv[1], int(sys.argv[2]), sys.argv[3]
+libc = ctypes.CDLL(None)
+libc.ptrace.argtypes = [ctypes.c_long, ctypes.c_long, ctypes.c_void_p, ctypes.c_void_p]
+TRACEME, CONT, SETOPTIONS, AT_EXIT, EXITS = 0, 7, 0x4200, 0x40, signal.SIGTRAP | 6 << 8
+# The program's own peak is read as it exits: what a child's usage tells begins with its parent's.
 with open(work + "/in", "rb") as requests, open(work + "/out", "wb") as replies:
+    child = subprocess.Popen([program, "once"], stdin=requests, stdout=replies,
+                             preexec_fn=lambda: libc.ptrace(TRACEME, 0, None, None))
+    os.waitpid(child.pid, 0)
+    libc.ptrace(SETOPTIONS, child.pid, None, AT_EXIT)
     start = time.perf_counter()
-    status = subprocess.run([program, "once"], stdin=requests, stdout=replies).returncode
-    seconds = time.perf_counter() - start
-peak = resource.getrusage(resource.RUSAGE_CHILDREN).ru_maxrss * 1024
+    libc.ptrace(CONT, child.pid, None, None)
+    peak = 0
+    while True:
+        _, status = os.waitpid(child.pid, 0)
+        if not os.WIFSTOPPED(status):
+            break
+        if status >> 8 == EXITS:
+            seconds = time.perf_counter() - start
+            with open(f"/proc/{child.pid}/status") as told:
+                peak = int(re.search(r"VmHWM:\s+(\d+) kB", told.read())[1]) * 1024
+        libc.ptrace(CONT, child.pid, None, None)
+status = os.waitstatus_to_exitcode(status)
 size = os.path.getsize(work + "/in")
 same = open(work + "/out", "rb").read() == open(work + "/want", "rb").read()
 print(f"{count} frames, {size} bytes: {seconds:.2f} s, {count / seconds:,.0f} frames a second, "
-      f"memory {peak / size:.2f} times the input, status {status}, replies {'right' if same else 'WRONG'}")
+      f"memory {peak:,} bytes ({peak / size:.2f} times the input), status {status}, "
+      f"replies {'right' if same else 'WRONG'}")
 sys.exit(0 if same and status == 0 else 1)
 PY

@@ -249,8 +249,12 @@ sound_reversed : (t : Tables) (today : ℕ) (r : RequestMessage) (row : Request)
     IsNew t (key_of r.service r.message) → is_reversal r.service ≡ true → In row t.requests →
     row.key.merchant ≡ text_at r.message 42 → is_reversible row.status ≡ true → IsSoundBook t →
     IsSound t.day t.merchants
-    (with_changed row.key (λ old. record old { status = reversed_status (reply_state_of row.status row.reply) }) t.requests
-    ++ reversal_row today r (prior_of row) ∷ []) (with_next_posting t.postings (reversal_posting today r (prior_of row)))
+    (with_changed row.key (λ old. record old {
+      status = reversed_status
+          (reply_state_of row.status row.reply);
+    }) t.requests
+    ++ reversal_row today r (prior_of row) ∷ []) (with_next_posting t.postings (reversal_posting today r
+    (prior_of row)))
 sound_reversed t today r row e new service i merchant can_be s = record {
   well_formed =
       well_formed_with_row t.day t.merchants mid after mid_well_formed
@@ -396,13 +400,15 @@ sound_answered_unposted t row st reply until i pending same s = record {
         (record row { status = st; reply = reply; hold_end = until })
     rep =
         replaced t.day t.merchants t.requests row row.key
-        (λ old. record old { status = st; reply = reply; hold_end = until }) i refl (λ x. refl) (λ x. refl) s.well_formed
+        (λ old. record old { status = st; reply = reply; hold_end = until }) i refl (λ x. refl) (λ x.
+        refl) s.well_formed
 
     change : IsChange row (record row { status = st; reply = reply; hold_end = until })
     change = record { key = refl; reference = refl; follows = refl; leg = refl; day = refl; amount = refl; card = refl }
 
 -- an approval of a sale or return
-sound_sold : (t : Tables) (row : Request) (n : ℕ) (leg : Leg) (reply : IsoMessage) (until : Option ℕ) → In row t.requests →
+sound_sold : (t : Tables) (row : Request) (n : ℕ) (leg : Leg) (reply : IsoMessage) (until : Option ℕ) →
+    In row t.requests →
     row.status ≡ status.Pending → row.reference ≡ Some n → leg_by row.key.service row ≡ Some leg → IsSoundBook t →
     IsSound t.day t.merchants
     (with_changed row.key (λ old. record old { status = status.Approved; reply = reply; hold_end = until }) t.requests)
@@ -425,10 +431,12 @@ sound_sold t row n leg reply until i pending reference legged s = record {
     q = record row { status = status.Approved; reply = reply; hold_end = until }
 
     mid : List Request
-    mid = with_changed row.key (λ old. record old { status = status.Approved; reply = reply; hold_end = until }) t.requests
+    mid = with_changed row.key (λ old. record old { status = status.Approved; reply = reply; hold_end = until })
+        t.requests
 
     rep : IsReplaced t.requests
-        (with_changed row.key (λ old. record old { status = status.Approved; reply = reply; hold_end = until }) t.requests)
+        (with_changed row.key (λ old. record old { status = status.Approved; reply = reply; hold_end = until })
+        t.requests)
         row (record row { status = status.Approved; reply = reply; hold_end = until })
     rep =
         replaced t.day t.merchants t.requests row row.key
@@ -451,7 +459,8 @@ sound_sold t row n leg reply until i pending reference legged s = record {
     unposted_yet = ap (λ k. posted_by k row) kind ∙ ap (λ k. cond (is_posted k) row.reference None) pending
 
     now : posted (record row { status = status.Approved; reply = reply; hold_end = until }) ≡ Some n
-    now = ap (λ k. posted_by k (record row { status = status.Approved; reply = reply; hold_end = until })) kind ∙ reference
+    now = ap (λ k. posted_by k (record row { status = status.Approved; reply = reply; hold_end = until })) kind
+        ∙ reference
 
     number : or_zero (reference_by row.key.service row) ≡ n
     number = ap or_zero (ap (λ k. reference_by k row) kind ∙ reference)
@@ -506,7 +515,8 @@ sound_approved t row n reply until i pending reference s = step (leg_by row.key.
   where
     step : (o : Option Leg) → leg_by row.key.service row ≡ o →
         IsSound t.day t.merchants
-        (with_changed row.key (λ old. record old { status = status.Approved; reply = reply; hold_end = until }) t.requests)
+        (with_changed row.key (λ old. record old { status = status.Approved; reply = reply; hold_end = until })
+        t.requests)
         (with_next_posting t.postings (approval_posting (prior_of row) o))
     step None f =
         sound_answered_unposted t row status.Approved reply until i pending
@@ -518,7 +528,8 @@ sound_approved t row n reply until i pending reference s = step (leg_by row.key.
 sound_answered : (t : Tables) (v : Verdict) (row : Request) (n : ℕ) (reply : IsoMessage) (until : Option ℕ) →
     In row t.requests → row.status ≡ status.Pending → row.reference ≡ Some n → IsSoundBook t →
     IsSound t.day t.merchants
-    (with_changed row.key (λ old. record old { status = answered_status v; reply = reply; hold_end = until }) t.requests)
+    (with_changed row.key (λ old. record old { status = answered_status v; reply = reply; hold_end = until })
+    t.requests)
     (with_next_posting t.postings (answer_posting v (prior_of row)))
 sound_answered t (verdict.Approved id) row n reply until i pending reference s =
     sound_approved t row n reply until i pending reference s

@@ -193,7 +193,14 @@ module _ (t : Tables) (r : RequestMessage) where
   reversal merchant fresh service p original reversible =
       let w = wanted_for t.day r.service r.message in
       let found = row_of_key t (text_at r.message 42) w.original p original in
-      record { new = new_key merchant fresh; service = service; found = found.0; merchant = found.1; reversible = reversible }
+      record {
+        new = new_key merchant fresh;
+        service = service;
+        found = found.0;
+        merchant = found.1;
+        reversible =
+            reversible;
+      }
 
   -- a repeat has no grounds to show
   of_repeat : (s : ReplyState) → Grounds t (repeat_of s)
@@ -261,7 +268,8 @@ grounds t (Answered moment merchant reference v) =
     })
     k.merchant
 grounds t CutOver =
-    elim (nat_lt t.day last_day) as (λ b. Grounds t (cond b CutsOver (Reports output.LastDay))) [ true ↦ tt | false ↦ tt ]
+    elim (nat_lt t.day last_day) as (λ b. Grounds t (cond b CutsOver
+    (Reports output.LastDay))) [ true ↦ tt | false ↦ tt ]
 grounds t (RangeAdded range) =
     elim (is_valid_range range) as (λ b.
     Grounds t (cond b (decision_of_new_range range (known_in t (RangeAdded range)).overlapped)

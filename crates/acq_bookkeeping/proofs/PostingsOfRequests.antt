@@ -211,7 +211,8 @@ numbered_posting ps p = (count (is_beside p) ps + 1, p)
 
 -- numbers of the merchant and day stay below their count
 numbers_push : (rows : List Request) (ps : List (ℕ × Posting)) (p : Posting) → PostingsMatchRows rows ps →
-    (x : ℕ × Posting) → In x (with_next_posting ps (Some p)) → x.0 ≤ count (is_beside x.1) (with_next_posting ps (Some p))
+    (x : ℕ × Posting) → In x (with_next_posting ps (Some p)) →
+    x.0 ≤ count (is_beside x.1) (with_next_posting ps (Some p))
 numbers_push rows ps p b x i = elim (In-push x ps (numbered_posting ps p) i) [
   | inl old ↦
       let low = b.numbers x old in let grows = count-grows (is_beside x.1) ps (numbered_posting ps p) in omega arith

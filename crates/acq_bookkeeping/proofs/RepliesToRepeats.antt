@@ -194,7 +194,8 @@ repeats_on opening h r f all e found same =
 pub repeats_are_kept : (opening : Opening) (es : List Event) (r : RequestMessage) (f : Found) →
     request_of (Requested r) ≡ Some r → recorded (key_of r.service r.message) (history_after opening [] es) ≡ Some f →
     essence_of r.service r.message ≡ (prior f).essence →
-    outcome (known_by opening (history_after opening [] es) (Requested r)) (Requested r) ≡ repeated (prior f).reply_state
+    outcome (known_by opening (history_after opening [] es) (Requested r)) (Requested r)
+    ≡ repeated (prior f).reply_state
 repeats_are_kept opening es r f e found same =
     repeats_on opening (history_after opening [] es) r f
     (serves_all opening [] es (λ key g none. absurd (cc))) e found same

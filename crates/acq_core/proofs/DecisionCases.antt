@@ -55,7 +55,8 @@ pub record RequestCases (k : Known) (r : RequestMessage) (P : Decision → Type 
       P (Admits r range (merchant.first_reference + k.admitted))
   pub completed : (merchant : Merchant) → IsFresh k r merchant → r.service ≡ Completion →
       (hold : Prior) → k.referred ≡ Some hold → is_open_at r.moment hold.hold_end ≡ true → P (Completes r hold)
-  pub reversed : (merchant : Merchant) → IsFresh k r merchant → (r.service ≡ Reversal) ⊎ (r.service ≡ ReversalAdvice) →
+  pub reversed : (merchant : Merchant) → IsFresh k r merchant →
+      (r.service ≡ Reversal) ⊎ (r.service ≡ ReversalAdvice) →
       (p : Prior) → k.original ≡ Some p → p.is_reversible ≡ true → P (Reverses r p)
   pub reconciled : (merchant : Merchant) → IsFresh k r merchant → r.service ≡ Reconciliation →
       (day : ℕ) → reconciled_day k.today (content_of r.message.elements 15) ≡ Some day → P (Reconciles r day)
@@ -80,10 +81,12 @@ module _ (k : Known) (r : RequestMessage) (P : Decision → Type 0) (cases : Req
       (o : Option Range) → k.range ≡ o → P (admission_in k merchant r o)
   by_range merchant fresh service None is = cases.refused merchant fresh code.NoSuchIssuer refl
   by_range merchant fresh service (Some range) is =
-      by_refusals P r ((is_full k, code.LimitExceeded) ∷ []) (Admits r range (merchant.first_reference + k.admitted))
+      by_refusals P r ((is_full k, code.LimitExceeded) ∷ []) (Admits r range
+      (merchant.first_reference + k.admitted))
       (cases.refused merchant fresh) refl (cases.admitted merchant fresh service range is)
 
-  by_admission : (merchant : Merchant) → IsFresh k r merchant → (r.service ≡ Authorization) ⊎ (r.service ≡ Financial) →
+  by_admission : (merchant : Merchant) → IsFresh k r merchant →
+      (r.service ≡ Authorization) ⊎ (r.service ≡ Financial) →
       P (admission k merchant r)
   by_admission merchant fresh service =
       by_refusals P r (
@@ -110,7 +113,8 @@ module _ (k : Known) (r : RequestMessage) (P : Decision → Type 0) (cases : Req
       ] in
       step (is_open_at r.moment hold.hold_end) refl
 
-  by_completion : (merchant : Merchant) → IsFresh k r merchant → r.service ≡ Completion → P (completion k merchant r)
+  by_completion : (merchant : Merchant) → IsFresh k r merchant → r.service ≡ Completion →
+      P (completion k merchant r)
   by_completion merchant fresh service =
       by_refusals P r (
       (is_other_transaction merchant r, code.InvalidTransaction)
@@ -119,7 +123,8 @@ module _ (k : Known) (r : RequestMessage) (P : Decision → Type 0) (cases : Req
       ) (completion_of k r (open_hold r.moment k.referred))
       (cases.refused merchant fresh) refl (by_hold merchant fresh service k.referred refl)
 
-  by_original : (merchant : Merchant) → IsFresh k r merchant → (r.service ≡ Reversal) ⊎ (r.service ≡ ReversalAdvice) →
+  by_original : (merchant : Merchant) → IsFresh k r merchant →
+      (r.service ≡ Reversal) ⊎ (r.service ≡ ReversalAdvice) →
       (o : Option Prior) → k.original ≡ o → P (reversal_of k r (original_of r.message o))
   by_original merchant fresh service None is = cases.refused merchant fresh code.RecordNotFound refl
   by_original merchant fresh service (Some p) is =

@@ -25,12 +25,17 @@ managing moment m = record { moment = moment; service = NetworkManagement; messa
 
 -- the host's answer to it, by the first check
 managed : (t : Tables) (moment : ℕ) (m : IsoMessage) (malformed : Bool)
-    → step_output t (if malformed then Malformed (managing moment m) else Requested (managing moment m)) ≡ Reply (merchant_in m) (spelling (reply NetworkManagement m (code_element (if malformed then FormatError else network_response m))))
+    → step_output t (if malformed then Malformed (managing moment m) else Requested (managing moment m))
+    ≡ Reply (merchant_in m) (spelling (reply NetworkManagement m (code_element
+    (if malformed then FormatError else network_response m))))
 managed t moment m true = refl
 managed t moment m false = refl
 
-replied_to : (t : Tables) (moment : ℕ) (m : IsoMessage) (o : Option Service) (party : Option (List ℕ)) (text : List ℕ) → output_of_request m o ≡ Reply party text → step_output t (arrival_of_message moment m o) ≡ Reply party text
-replied_to t moment m (Some NetworkManagement) party text h = managed t moment m (is_malformed NetworkManagement m) ∙ h
+replied_to : (t : Tables) (moment : ℕ) (m : IsoMessage) (o : Option Service) (party : Option (List ℕ))
+    (text : List ℕ) → output_of_request m o ≡ Reply party text →
+    step_output t (arrival_of_message moment m o) ≡ Reply party text
+replied_to t moment m (Some NetworkManagement) party text h = managed t moment m (is_malformed NetworkManagement m)
+    ∙ h
 replied_to t moment m (Some Authorization) party text h = absurd cc
 replied_to t moment m (Some Financial) party text h = absurd cc
 replied_to t moment m (Some Completion) party text h = absurd cc
@@ -39,14 +44,19 @@ replied_to t moment m (Some ReversalAdvice) party text h = absurd cc
 replied_to t moment m (Some Reconciliation) party text h = absurd cc
 replied_to t moment m None party text h = absurd cc
 
-replied_by : (t : Tables) (moment : ℕ) (r : Result IsoMessage DecodeFault) (party : Option (List ℕ)) (text : List ℕ) → output_of_reading r ≡ Reply party text → step_output t (arrival_of_reading moment r) ≡ Reply party text
+replied_by : (t : Tables) (moment : ℕ) (r : Result IsoMessage DecodeFault) (party : Option (List ℕ))
+    (text : List ℕ) → output_of_reading r ≡ Reply party text →
+    step_output t (arrival_of_reading moment r) ≡ Reply party text
 replied_by t moment (Ok m) party text h = replied_to t moment m (service_of m.kind) party text h
 replied_by t moment (Err f) party text h = absurd cc
 
-pub replied : (t : Tables) (moment : ℕ) (frame text : List ℕ) (party : Option (List ℕ)) → output_of_frame frame ≡ Reply party text → step_output t (arrival_of_reading moment (reading_of frame)) ≡ Reply party text
+pub replied : (t : Tables) (moment : ℕ) (frame text : List ℕ) (party : Option (List ℕ)) →
+    output_of_frame frame ≡ Reply party text → step_output t (arrival_of_reading moment (reading_of frame))
+    ≡ Reply party text
 replied t moment frame text party h = replied_by t moment (reading_of frame) party text h
 
-decoded : (m : IsoMessage) (o : Option Service) (fault : DecodeFault) → output_of_request m o ≡ Undecodable fault → ⊥
+decoded : (m : IsoMessage) (o : Option Service) (fault : DecodeFault) → output_of_request m o ≡ Undecodable fault →
+    ⊥
 decoded m (Some NetworkManagement) fault h = cc
 decoded m (Some Authorization) fault h = cc
 decoded m (Some Financial) fault h = cc
@@ -56,9 +66,12 @@ decoded m (Some ReversalAdvice) fault h = cc
 decoded m (Some Reconciliation) fault h = cc
 decoded m None fault h = cc
 
-undecodable_by : (t : Tables) (moment : ℕ) (r : Result IsoMessage DecodeFault) (fault : DecodeFault) → output_of_reading r ≡ Undecodable fault → step_output t (arrival_of_reading moment r) ≡ Undecodable fault
+undecodable_by : (t : Tables) (moment : ℕ) (r : Result IsoMessage DecodeFault) (fault : DecodeFault) →
+    output_of_reading r ≡ Undecodable fault → step_output t (arrival_of_reading moment r) ≡ Undecodable fault
 undecodable_by t moment (Ok m) fault h = absurd (decoded m (service_of m.kind) fault h)
 undecodable_by t moment (Err f) fault h = h
 
-pub undecodable : (t : Tables) (moment : ℕ) (frame : List ℕ) (fault : DecodeFault) → output_of_frame frame ≡ Undecodable fault → step_output t (arrival_of_reading moment (reading_of frame)) ≡ Undecodable fault
+pub undecodable : (t : Tables) (moment : ℕ) (frame : List ℕ) (fault : DecodeFault) →
+    output_of_frame frame ≡ Undecodable fault → step_output t (arrival_of_reading moment (reading_of frame))
+    ≡ Undecodable fault
 undecodable t moment frame fault h = undecodable_by t moment (reading_of frame) fault h

@@ -61,7 +61,8 @@ pub data Decision : Type 0 where
 -- the first refusal that applies, else what is accepted
 abbrev pub first_of : RequestMessage → List (Bool × ResponseCode) → Decision → Decision
 first_of r [] accepted = accepted
-first_of r (refusal ∷ later) accepted = if refusal.0 then Refuses r refusal.1 else first_of r later accepted
+first_of r (refusal ∷ later) accepted =
+    if refusal.0 then Refuses r refusal.1 else first_of r later accepted
 
 -- ---- what the checks test
 
@@ -174,7 +175,8 @@ abbrev pub reconciliation_of : RequestMessage → Option ℕ → Decision
 reconciliation_of r None = Refuses r code.ReconcileError
 reconciliation_of r (Some day) = Reconciles r day
 
--- sign-on, sign-off and the echo test, in element 70 (ISO 8583:1987, network management information code)
+-- sign-on, sign-off and the echo test, in element 70 (ISO 8583:1987, network management information
+-- code)
 abbrev pub network_codes : List (List ℕ)
 network_codes = codes "001" ∷ codes "002" ∷ codes "301" ∷ []
 

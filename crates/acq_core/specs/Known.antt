@@ -93,7 +93,8 @@ abbrev pub prefix_in : IsoMessage → Option ℕ
 prefix_in m =
     if is_valid_card (or_empty (card_of m)) then Some (prefix_of (or_empty (card_of m))) else None
 
--- the day that a reconciliation is of: today, or the latest day with the month and day of element 15
+-- the day that a reconciliation is of: today, or the latest day with the month and day of element
+-- 15
 abbrev pub reconciled_day : ℕ → Option (List ℕ) → Option ℕ
 reconciled_day today None = Some today
 reconciled_day today (Some mmdd) = resolved mmdd today

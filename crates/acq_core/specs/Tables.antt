@@ -6,7 +6,8 @@ use Rattle.std.specs.Prelude.{if◌then◌else◌}
 use Rattle.std.specs.List.{list_any}
 use Rattle.std.specs.Str.{bytes_eq}
 use Rattle.card_no.specs.declared.range.Range.{Range}
-use Rattle.card_no.specs.Ranges.{range_of_prefix, overlapped_by, with_range, without_range}
+use Rattle.card_no.specs.Ranges.{range_of_prefix, between, overlapped_by}
+use Rattle.card_no.specs.Ranges.{with_range, without_range}
 use Rattle.day_totals.specs.Totals.{DayTotals, totals_of}
 use Rattle.day_totals.specs.declared.leg.Leg.{Leg}
 use Rattle.iso_codec.specs.Message.{IsoMessage}
@@ -153,7 +154,8 @@ recorded_in rows key = option_map prior_of (find (λ row. same_key row.key key) 
 
 -- the one with this reference
 abbrev pub referred_in : List Request → ℕ → Option Prior
-referred_in rows reference = option_map prior_of (find (λ row. is_number reference row.reference) rows)
+referred_in rows reference =
+    option_map prior_of (find (λ row. is_number reference row.reference) rows)
 
 -- how many have a reference
 abbrev pub admitted_in : List Request → ℕ
@@ -167,10 +169,6 @@ used_in rows day = count (λ row. row.admitted && (row.day == day)) rows
 abbrev pub totals_on : List (ℕ × Posting) → ℕ → DayTotals
 totals_on rows day =
     totals_of (map (λ row. (row.1.leg, row.1.amount)) (filter (λ row. row.1.day == day) rows))
-
--- a range with these ends
-abbrev pub between : ℕ → ℕ → Range
-between low high = record { low = low; high = high; issuer = []; hold_days = 0 }
 
 -- what the tables say of a merchant, and of what all share
 abbrev pub facts_in : Tables → List ℕ → Facts

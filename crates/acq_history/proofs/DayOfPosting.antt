@@ -17,7 +17,8 @@ use Rattle.acq_history.proofs.Lookups.{map_some, then_some}
 pub reversal_posting_day : (today : ℕ) (r : RequestMessage) (p : Prior) (q : Posting) →
     reversal_posting today r p ≡ Some q → q.day ≡ today
 reversal_posting_day today r p q e =
-    let leg = map_some (λ leg. posting_today today r (reversal_leg leg) p.amount p) (posted_leg p.reply_state p.leg) q e in
+    let leg = map_some (λ leg. posting_today today r (reversal_leg leg) p.amount p)
+    (posted_leg p.reply_state p.leg) q e in
     sym (ap (λ x. x.day) leg.2)
 
 -- the same of an original that is looked up

@@ -6,7 +6,8 @@ use Rattle.acq_core.specs.declared.status.Status.TheVariants.{Refused, Pending, 
 use Rattle.acq_core.specs.declared.reply_state.ReplyState.TheVariants.{Awaited}
 use Rattle.acq_core.specs.Tables.{reply_state_of, is_approved}
 
-pub reply_state_of-awaited : (s : Status) (reply draft : IsoMessage) → reply_state_of s reply ≡ Awaited draft → s ≡ Pending
+pub reply_state_of-awaited : (s : Status) (reply draft : IsoMessage) → reply_state_of s reply ≡ Awaited draft →
+    s ≡ Pending
 reply_state_of-awaited Pending reply draft e = refl
 reply_state_of-awaited Refused reply draft e = absurd (cc)
 reply_state_of-awaited Declined reply draft e = absurd (cc)

@@ -26,7 +26,8 @@ use Rattle.acq_core.specs.Known.{Prior, Facts}
 use Rattle.acq_message.specs.Elements.{sale_leg}
 use Rattle.acq_message.specs.Reply.{draft_reply}
 use Rattle.acq_core.specs.Changes.{end_of_hold, answer_posting, completion_posting, reversal_posting}
-use Rattle.acq_core.specs.Tables.{Opening, between, with_next_posting, totals_on}
+use Rattle.card_no.specs.Ranges.{between}
+use Rattle.acq_core.specs.Tables.{Opening, with_next_posting, totals_on}
 use Rattle.acq_history.specs.Entries.{Entry, reply_in, is_asked, is_performed, is_past_merchant, request_of, is_admissible, accepts, is_acceptable, is_acceptance, is_completing, is_reversing, is_answer, approval_in, is_cutover, enrolment_in, terminal_in}
 
 -- ---- what all share
@@ -233,7 +234,8 @@ card_by service f = card_of f.request.message
 abbrev pub hold_end_by : Service → Found → Option ℕ
 hold_end_by Authorization f =
     if is_completed f || is_reversed f then None
-    else option_and_then (λ moment. option_map (end_of_hold moment) (hold_days_of f)) (approval_of f)
+    else option_and_then (λ moment. option_map (end_of_hold moment) (hold_days_of f))
+    (approval_of f)
 hold_end_by service f = None
 
 -- what is known of a recorded request

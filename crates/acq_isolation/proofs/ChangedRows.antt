@@ -64,7 +64,8 @@ module _ (h : List Entry) (n : ℕ) (g : Found) (p : Prior) (found : referred n 
       }
 
   -- the one row that an answer edits says what the history says of an answered request, all others what they said
-  pub answer_follows : (moment day : ℕ) (merchant : List ℕ) (v : Verdict) (ranges : List Range) (reply draft : IsoMessage) →
+  pub answer_follows : (moment day : ℕ) (merchant : List ℕ) (v : Verdict) (ranges : List Range)
+      (reply draft : IsoMessage) →
       p.reply_state ≡ Awaited draft →
       FollowsEntry (at_key p.key (answering moment v reply))
       (record {

@@ -125,9 +125,11 @@ row_open row off Reconciliation = refl
 row_open row off NetworkManagement = refl
 
 -- a refused request, or a reconciliation
-pub idle_line : (r : RequestMessage) (e : Entry) (h : List Entry) (given : ResponseCode) (reply : IsoMessage) (s : Status) →
+pub idle_line : (r : RequestMessage) (e : Entry) (h : List Entry) (given : ResponseCode) (reply : IsoMessage)
+    (s : Status) →
     e.outcome ≡ Replied given reply →
-    is_admitted (newest r e h) ≡ false → is_accepted (newest r e h) ≡ false → tables.reply_state_of s reply ≡ Kept reply →
+    is_admitted (newest r e h) ≡ false → is_accepted (newest r e h) ≡ false →
+    tables.reply_state_of s reply ≡ Kept reply →
     tables.is_reversible s ≡ false → tables.is_approved s ≡ false →
     line (record (refused_row e.day r given) { status = s; reply = reply }) ≡ shown (newest r e h)
 idle_line r e h given reply s replied admitted accepted state reversible closed =

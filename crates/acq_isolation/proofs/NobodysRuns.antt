@@ -21,7 +21,8 @@ use Rattle.day_totals.specs.Day.{last_day}
 use Rattle.acq_message.specs.Reply.{coded_reply}
 use Rattle.acq_core.specs.Outcome.{Replied, output_of, outcome_of}
 use Rattle.acq_core.specs.Changes.{change_of, change_for}
-use Rattle.acq_core.specs.Tables.{Opening, Tables, new_tables, facts_in, known_in, between, after_any, step_output, step_tables, outputs, tables_after}
+use Rattle.card_no.specs.Ranges.{between}
+use Rattle.acq_core.specs.Tables.{Opening, Tables, new_tables, facts_in, known_in, after_any, step_output, step_tables, outputs, tables_after}
 use Rattle.acq_history.specs.Entries.{Entry}
 use Rattle.acq_history.specs.History.{day_after, ranges_after}
 use Rattle.acq_history.specs.PartyHistory.{names, is_of, own, known_by, entry_for, history_after, outputs_alone, outputs_at, book_after, history_of}

@@ -300,7 +300,8 @@ module _ (opening : Opening) (m : List ℕ) (t : Tables) (h : List Entry) (g : A
             })
             (without_newest_still m t.requests e h acceptance (λ n. refl) g.rows);
         posted =
-            g.posted ∙ sym (ap (λ b. with_next_posting (postings h) (cond b (posting_by r.service e h r) None)) acceptance);
+            g.posted ∙ sym (ap (λ b. with_next_posting (postings h) (cond b
+            (posting_by r.service e h r) None)) acceptance);
       }
 
   -- ---- requests that change earlier ones
@@ -396,7 +397,8 @@ module _ (opening : Opening) (m : List ℕ) (t : Tables) (h : List Entry) (g : A
             })
             (without_newest_edited m t.requests e h p.key (reversing h key f p found.1 found.2)
             (status_edits (reversed_status p.reply_state))
-            (reversal_follows h key f p found.1 found.2 r day (ranges_after h) reply came fits asked.1 reversible) g.rows);
+            (reversal_follows h key f p found.1 found.2 r day
+            (ranges_after h) reply came fits asked.1 reversible) g.rows);
         posted =
             postings_of_mine m t.postings (reversal_posting day r p)
             (subst (λ n. IsOf n (reversal_posting day r p)) (own_text r named) (reversal_posting_is_of day r p))

@@ -104,7 +104,8 @@ module _ (opening : Opening) (m : List ℕ) (t : Tables) (h : List Entry) (g : A
         unknown = unchanged r (Replies r code.InvalidMerchant) refl (quiet_unknown k r);
         duplicate = λ p is. unchanged r (Replies r code.DuplicateTransmission) refl (quiet_duplicate k r p is);
         repeated = λ p is.
-            unchanged r (repeat_of p.reply_state) (change_of_repeat k p.reply_state) (quiet_repeated k r p is p.reply_state);
+            unchanged r (repeat_of p.reply_state) (change_of_repeat k p.reply_state)
+            (quiet_repeated k r p is p.reply_state);
         refused = λ merchant fresh given is.
             refused_step opening m t h g r named given (came fresh.recordable) fresh.new (refusal_is given is);
         admitted = λ merchant fresh service range in_range.
@@ -169,7 +170,8 @@ module _ (opening : Opening) (m : List ℕ) (t : Tables) (h : List Entry) (g : A
         posted =
             postings_of_mine m t.postings (answer_posting v p)
             (subst (λ k. IsOf k (answer_posting v p)) mine (answer_posting_is_of v p))
-            ∙ ((λ i. with_next_posting (g.posted i) (answer_posting v p)) ∙ sym (ap (with_next_posting (postings h)) posting));
+            ∙ ((λ i. with_next_posting (g.posted i) (answer_posting v p))
+            ∙ sym (ap (with_next_posting (postings h)) posting));
       }
 
   -- each decision on an answer keeps the agreement
@@ -253,7 +255,8 @@ module _ (opening : Opening) (m : List ℕ) (t : Tables) (h : List Entry) (g : A
 
   new_range : (range : Range) (o : Option Range) →
       Keeps opening m t h g (RangeAdded range) (decision_of_new_range range o)
-  new_range range (Some other) = still_step (RangeAdded range) (Reported (output.Overlap other)) refl (λ n. refl) refl refl
+  new_range range (Some other) = still_step (RangeAdded range) (Reported (output.Overlap other)) refl (λ n.
+      refl) refl refl
   new_range range None =
       record {
         common = record {

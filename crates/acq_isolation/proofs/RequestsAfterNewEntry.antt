@@ -285,7 +285,8 @@ reference_by_edited row s reply until NetworkManagement = refl
 prior_of_edited : (a : Request) (f : Found) (o p : Option Entry) (c d r q : Bool) (s : Status) (reply : IsoMessage)
     (until : Option ℕ) →
     prior_of a ≡ prior_with o c r f →
-    tables.reply_state_of s reply ≡ (prior_with p d q f).reply_state → tables.is_reversible s ≡ (prior_with p d q f).is_reversible →
+    tables.reply_state_of s reply ≡ (prior_with p d q f).reply_state →
+    tables.is_reversible s ≡ (prior_with p d q f).is_reversible →
     tables.hold_end_by a.key.service (record a { status = s; reply = reply; hold_end = until })
     ≡ (prior_with p d q f).hold_end →
     prior_of (record a { status = s; reply = reply; hold_end = until }) ≡ prior_with p d q f
@@ -310,7 +311,12 @@ prior_of_edited a f o p c d r q s reply until e state reversible ends =
 open_by_answered : (a : Request) (k : Service) (moment : ℕ) (v : Verdict) (reply : IsoMessage) (days : Option ℕ)
     (e : Entry) →
     approval_in e.arrival ≡ approval_by moment v →
-    tables.hold_end_by k (record a { status = answered_status v; reply = reply; hold_end = answered_hold_end k moment v days })
+    tables.hold_end_by k (record a {
+      status = answered_status v;
+      reply = reply;
+      hold_end = answered_hold_end k moment v
+          days;
+    })
     ≡ open_with k days (Some e) false false
 open_by_answered a Authorization moment (verdict.Approved id) reply days e is =
     sym (ap (option_and_then (λ moment. option_map (end_of_hold moment) days)) is)
@@ -325,7 +331,8 @@ open_by_answered a ReversalAdvice moment v reply days e is = refl
 open_by_answered a Reconciliation moment v reply days e is = refl
 open_by_answered a NetworkManagement moment v reply days e is = refl
 
-reply_state_of-answered : (v : Verdict) (reply : IsoMessage) → tables.reply_state_of (answered_status v) reply ≡ Kept reply
+reply_state_of-answered : (v : Verdict) (reply : IsoMessage) →
+    tables.reply_state_of (answered_status v) reply ≡ Kept reply
 reply_state_of-answered (verdict.Approved id) reply = refl
 reply_state_of-answered (verdict.Declined text) reply = refl
 reply_state_of-answered verdict.NoAnswer reply = refl
@@ -458,10 +465,12 @@ prior_of_reversed a f o c r is reversible =
     let at : a.key.service ≡ f.request.service = ap (λ x. x.key.service) is in
     prior_of_edited a f o o c c r true s a.reply a.hold_end is
     (ap (λ x. tables.reply_state_of (reversed_status x) a.reply) (sym (ap (λ x. x.reply_state) is))
-    ∙ reply_state_of-reversed a.status a.reply _ r _ (ap (λ x. x.is_reversible) is ∙ reversible) (ap (λ x. x.reply_state) is))
+    ∙ reply_state_of-reversed a.status a.reply _ r _ (ap (λ x. x.is_reversible) is
+    ∙ reversible) (ap (λ x. x.reply_state) is))
     (is_reversible_reversed (prior_with o c r f).reply_state
     ∙ sym (ap (λ b. b && not (is_some o && is_none (option_and_then (λ e. approval_in e.arrival) o)))
     (and_false ((is_admitted f || is_accepted f) && not c))))
     ((λ i. tables.hold_end_by (at i) (record a { status = s }))
-    ∙ open_by_done a f.request.service s (hold_days_of f) o c true (is_approved_reversed (prior_with o c r f).reply_state)
+    ∙ open_by_done a f.request.service s (hold_days_of f) o c true (is_approved_reversed
+    (prior_with o c r f).reply_state)
     (or_true c))

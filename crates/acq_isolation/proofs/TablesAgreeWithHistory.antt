@@ -21,7 +21,8 @@ use Rattle.acq_core.specs.declared.arrival.Arrival.TheVariants.{Undecoded, Unser
 use Rattle.acq_core.specs.Known.{Prior, wanted_by, known_for}
 use Rattle.acq_core.specs.Outcome.{Outcome}
 use Rattle.acq_core.specs.Changes.{answer_posting, approval_posting, reversal_posting, posting_today, reversal_leg, posted_leg}
-use Rattle.acq_core.specs.Tables.{Opening, Tables, postings_of, facts_in, known_in, between, totals_on, with_next_posting}
+use Rattle.card_no.specs.Ranges.{between}
+use Rattle.acq_core.specs.Tables.{Opening, Tables, postings_of, facts_in, known_in, totals_on, with_next_posting}
 use Rattle.acq_history.specs.Entries.{Entry, is_cutover, is_performed, enrolment_in, terminal_in}
 use Rattle.acq_history.specs.History.{day_after, ranges_after, ranges_with, enrolled, has_terminal, is_text, postings, notions_of}
 use Rattle.acq_history.specs.PartyHistory.{names, known_by}

@@ -20,4 +20,5 @@ pub owns_empty : {M : Type 1} {𝓤 : Ura M} {𝓛 : Logic 𝓤} {K : Type 0} {�
     → Step K 𝓛 (‵ (empty_struct.own_val tt (empty_value ∷ [])) ∷ Γ) G Γ G
 owns_empty t = step (λ s.
     nothing t $ feq_i t (List Val) (empty_value ∷ []) (empty_value ∷ []) refl $ fjoin t $
-    fpack t (Valss []) (within (record { name = []; args = []; types = []; fields = [] }) tt (empty_value ∷ [])) tt $ s)
+    fpack t (Valss []) (within (record { name = []; args = []; types = []; fields = [] }) tt
+    (empty_value ∷ [])) tt $ s)

@@ -20,7 +20,8 @@ same_length : (m n : ℕ) → m / 256 ≡ n / 256 → m % 256 ≡ n % 256 → m 
 same_length m n high low = omega arith
 
 -- two frames at the front of the same bytes are one
-frame_once : (message other rest after : List ℕ) → frame message ++ rest ≡ frame other ++ after → (message ≡ other) × (rest ≡ after)
+frame_once : (message other rest after : List ℕ) → frame message ++ rest ≡ frame other ++ after →
+    (message ≡ other) × (rest ≡ after)
 frame_once message other rest after e =
     let high : length message / 256 ≡ length other / 256 = cc in
     let low : length message % 256 ≡ length other % 256 = cc in
@@ -41,58 +42,75 @@ has_frame-frame : (message rest : List ℕ) → fits_frame message ≡ true → 
 has_frame-frame message rest fits =
     let P : ℕ → Type 0 = λ n. (fits_length n && nat_le n (length (message ++ rest))) ≡ true in
     let long : length message ≤ length (message ++ rest) = omega (arith, length-append message rest) in
-    subst P (sym (stated (length message))) (both (fits_length (length message)) (nat_le (length message) (length (message ++ rest))) fits (le-leb (length message) (length (message ++ rest)) long))
+    subst P (sym (stated (length message))) (both (fits_length (length message)) (nat_le (length message) (length
+    (message ++ rest))) fits (le-leb (length message) (length (message ++ rest)) long))
 
-first_fits : (message : List ℕ) (messages : List (List ℕ)) → fit_frames (message ∷ messages) ≡ true → (fits_frame message ≡ true) × (fit_frames messages ≡ true)
+first_fits : (message : List ℕ) (messages : List (List ℕ)) → fit_frames (message ∷ messages) ≡ true →
+    (fits_frame message ≡ true) × (fit_frames messages ≡ true)
 first_fits message messages fits = grind arith
 
 -- bytes are whole frames and a rest that begins with none in one way at most
-pub reading_once : (messages others : List (List ℕ)) (rest after : List ℕ) → fit_frames messages ≡ true → fit_frames others ≡ true
-    → has_frame rest ≡ false → has_frame after ≡ false → framed messages ++ rest ≡ framed others ++ after → (messages ≡ others) × (rest ≡ after)
+pub reading_once : (messages others : List (List ℕ)) (rest after : List ℕ) → fit_frames messages ≡ true →
+    fit_frames others ≡ true
+    → has_frame rest ≡ false → has_frame after ≡ false → framed messages ++ rest ≡ framed others ++ after →
+    (messages ≡ others) × (rest ≡ after)
 reading_once [] [] rest after f g h k e = (refl, e)
 reading_once [] (other ∷ others) rest after f g h k e =
     let there = has_frame-frame other (framed others ++ after) (first_fits other others g).0 in
-    let e' : rest ≡ frame other ++ (framed others ++ after) = e ∙ append_assoc (frame other) (framed others) after in
+    let e' : rest ≡ frame other ++ (framed others ++ after) = e
+    ∙ append_assoc (frame other) (framed others) after in
     let no : has_frame (frame other ++ (framed others ++ after)) ≡ false = subst (λ l. has_frame l ≡ false) e' h in
     absurd (true-is-not-false (sym there ∙ no))
 reading_once (message ∷ messages) [] rest after f g h k e =
     let there = has_frame-frame message (framed messages ++ rest) (first_fits message messages f).0 in
-    let e' : after ≡ frame message ++ (framed messages ++ rest) = sym e ∙ append_assoc (frame message) (framed messages) rest in
-    let no : has_frame (frame message ++ (framed messages ++ rest)) ≡ false = subst (λ l. has_frame l ≡ false) e' k in
+    let e' : after ≡ frame message ++ (framed messages ++ rest) = sym e
+    ∙ append_assoc (frame message) (framed messages) rest in
+    let no : has_frame (frame message ++ (framed messages
+    ++ rest)) ≡ false = subst (λ l. has_frame l ≡ false) e' k in
     absurd (true-is-not-false (sym there ∙ no))
 reading_once (message ∷ messages) (other ∷ others) rest after f g h k e =
     let e' : frame message ++ (framed messages ++ rest) ≡ frame other ++ (framed others ++ after) =
-    sym (append_assoc (frame message) (framed messages) rest) ∙ e ∙ append_assoc (frame other) (framed others) after in
+    sym (append_assoc (frame message) (framed messages) rest) ∙ e
+    ∙ append_assoc (frame other) (framed others) after in
     let one = frame_once message other (framed messages ++ rest) (framed others ++ after) e' in
-    let more = reading_once messages others rest after (first_fits message messages f).1 (first_fits other others g).1 h k one.1 in
+    let more = reading_once messages others rest after (first_fits message messages f).1
+    (first_fits other others g).1 h k one.1 in
     (cc (one.0, more.0), more.1)
 
 -- the frames of one list at most
-pub frames_once : (bytes : List ℕ) (messages others : List (List ℕ)) → Frames bytes messages → Frames bytes others → messages ≡ others
+pub frames_once : (bytes : List ℕ) (messages others : List (List ℕ)) → Frames bytes messages →
+    Frames bytes others → messages ≡ others
 frames_once bytes messages others a b =
-    (reading_once messages others [] [] a.each b.each refl refl (append-nil (framed messages) ∙ sym a.whole ∙ b.whole ∙ sym (append-nil (framed others)))).0
+    (reading_once messages others [] [] a.each b.each refl refl (append-nil (framed messages) ∙ sym a.whole
+    ∙ b.whole ∙ sym (append-nil (framed others)))).0
 
-pub frames_then_once : (bytes : List ℕ) (messages others : List (List ℕ)) (rest after : List ℕ) → FramesThen bytes messages rest → FramesThen bytes others after
+pub frames_then_once : (bytes : List ℕ) (messages others : List (List ℕ)) (rest after : List ℕ) →
+    FramesThen bytes messages rest → FramesThen bytes others after
     → has_frame rest ≡ false → has_frame after ≡ false → (messages ≡ others) × (rest ≡ after)
-frames_then_once bytes messages others rest after a b h k = reading_once messages others rest after a.each b.each h k (sym a.whole ∙ b.whole)
+frames_then_once bytes messages others rest after a b h k = reading_once messages others rest after a.each b.each h
+    k (sym a.whole ∙ b.whole)
 
 le_or_lt : (stated len : ℕ) → nat_le stated len ≡ false → nat_lt len stated ≡ true
 le_or_lt stated len h = grind (arith, nat_tests)
 
-part_or_bad : (fits : Bool) (stated len : ℕ) → (fits && nat_le stated len) ≡ false → ((fits && nat_lt len stated) ≡ true) ⊎ (not fits ≡ true)
+part_or_bad : (fits : Bool) (stated len : ℕ) → (fits && nat_le stated len) ≡ false →
+    ((fits && nat_lt len stated) ≡ true) ⊎ (not fits ≡ true)
 part_or_bad false stated len h = inr refl
 part_or_bad true stated len h = inl (le_or_lt stated len h)
 
 -- what does not begin with a whole frame is nothing, a frame begun, or a bad length
-pub rest_is : (rest : List ℕ) → has_frame rest ≡ false → (rest ≡ []) ⊎ ((is_partial rest ≡ true) ⊎ (has_bad_length rest ≡ true))
+pub rest_is : (rest : List ℕ) → has_frame rest ≡ false →
+    (rest ≡ []) ⊎ ((is_partial rest ≡ true) ⊎ (has_bad_length rest ≡ true))
 rest_is [] h = inl refl
 rest_is (high ∷ []) h = inr (inl refl)
-rest_is (high ∷ low ∷ message) h = inr (part_or_bad (fits_length (stated_length high low)) (stated_length high low) (length message) h)
+rest_is (high ∷ low ∷ message) h = inr (part_or_bad (fits_length (stated_length high low)) (stated_length high low)
+    (length message) h)
 
 lt_not_le : (stated len : ℕ) → nat_lt len stated ≡ true → nat_le stated len ≡ false
 lt_not_le stated len h = grind (arith, nat_tests)
 
-partial_at : (fits : Bool) (stated len : ℕ) → (fits && nat_lt len stated) ≡ true → ((fits && nat_le stated len) ≡ false) × (not fits ≡ false)
+partial_at : (fits : Bool) (stated len : ℕ) → (fits && nat_lt len stated) ≡ true →
+    ((fits && nat_le stated len) ≡ false) × (not fits ≡ false)
 partial_at false stated len h = absurd (true-is-not-false (sym h))
 partial_at true stated len h = (lt_not_le stated len h, refl)
 
@@ -100,7 +118,8 @@ partial_at true stated len h = (lt_not_le stated len h, refl)
 pub partial_is : (rest : List ℕ) → is_partial rest ≡ true → (has_frame rest ≡ false) × (has_bad_length rest ≡ false)
 partial_is [] h = absurd (true-is-not-false (sym h))
 partial_is (high ∷ []) h = (refl, refl)
-partial_is (high ∷ low ∷ message) h = partial_at (fits_length (stated_length high low)) (stated_length high low) (length message) h
+partial_is (high ∷ low ∷ message) h = partial_at (fits_length (stated_length high low)) (stated_length high low)
+    (length message) h
 
 bad_at : (fits b : Bool) → not fits ≡ true → (fits && b) ≡ false
 bad_at false b h = refl
@@ -109,4 +128,5 @@ bad_at true b h = absurd (true-is-not-false (sym h))
 pub bad_length_is : (rest : List ℕ) → has_bad_length rest ≡ true → has_frame rest ≡ false
 bad_length_is [] h = refl
 bad_length_is (high ∷ []) h = refl
-bad_length_is (high ∷ low ∷ message) h = bad_at (fits_length (stated_length high low)) (nat_le (stated_length high low) (length message)) h
+bad_length_is (high ∷ low ∷ message) h = bad_at (fits_length (stated_length high low)) (nat_le
+    (stated_length high low) (length message)) h

@@ -64,11 +64,11 @@ fn sinks_take_all_or_the_first_bytes(rt: HostRuntime) -> Result<(), Fail> {
     assert_eq!(rt; write_out(&mut bytewise, TEXT), Ok(()));
     assert_eq!(rt; bytewise.as_bytes().len(), 56);
 
-    for (piece, room, gone) in [(3, 10, 10), (100, 10, 10), (1, 0, 0), (0, 10, 0)] {
+    for (piece, room, written) in [(3, 10, 10), (100, 10, 10), (1, 0, 0), (0, 10, 0)] {
         let mut short = MemorySink::failing_after(rt.alloc(), piece, room);
-        assert_eq!(rt; write_out(&mut short, TEXT), Err(gone), "{piece} {room}");
+        assert_eq!(rt; write_out(&mut short, TEXT), Err(written), "{piece} {room}");
         assert_eq!(rt; short.write(TEXT), Err(Failed), "{piece} {room}");
-        assert_eq!(rt; short.as_bytes().len() as u64, gone, "{piece} {room}");
+        assert_eq!(rt; short.as_bytes().len() as u64, written, "{piece} {room}");
     }
     Ok(())
 }

@@ -24,7 +24,8 @@ not_in (k ∷ ks) n m h le =
     rw (ne_eqb k m (omega arith)) (not_in ks n m parts.1 le)
 
 -- elements from n on are none of these
-none_kept : (ks : List ℕ) (n low : ℕ) (es : List (ℕ × List ℕ)) → all_below n ks ≡ true → n ≤ low + 1 → Ascends low (numbers es) → filter (is_among ks) es ≡ []
+none_kept : (ks : List ℕ) (n low : ℕ) (es : List (ℕ × List ℕ)) → all_below n ks ≡ true → n ≤ low + 1 →
+    Ascends low (numbers es) → filter (is_among ks) es ≡ []
 none_kept ks n low [] h le up = refl
 none_kept ks n low (e ∷ es) h le up =
     let above = up.0 in
@@ -37,7 +38,8 @@ below_more (k ∷ ks) n h =
     let lt = ltb-true k n parts.0 in
     rw (lt-ltb k (n + 1) (omega arith)) (below_more ks n parts.1)
 
-among_more : (ks : List ℕ) (n : ℕ) (e : ℕ × List ℕ) → is_among (ks ++ n ∷ []) e ≡ (is_among ks e || (eqb n e.0 || false))
+among_more : (ks : List ℕ) (n : ℕ) (e : ℕ × List ℕ) →
+    is_among (ks ++ n ∷ []) e ≡ (is_among ks e || (eqb n e.0 || false))
 among_more ks n e = list_any-append (λ k. eqb k e.0) ks (n ∷ [])
 
 or_false : (b : Bool) → (b || false) ≡ b
@@ -45,7 +47,8 @@ or_false true = refl
 or_false false = refl
 
 -- a number that is there is above the bound
-there_above : (low : ℕ) (es : List (ℕ × List ℕ)) (n : ℕ) (text : List ℕ) → Ascends low (numbers es) → content_of es n ≡ Some text → low < n
+there_above : (low : ℕ) (es : List (ℕ × List ℕ)) (n : ℕ) (text : List ℕ) → Ascends low (numbers es) →
+    content_of es n ≡ Some text → low < n
 there_above low [] n text up there = absurd cc
 there_above low (e ∷ es) n text up there =
     let above = up.0 in
@@ -55,7 +58,9 @@ there_above low (e ∷ es) n text up there =
     ]
 
 -- a number above all so far, that is there, is echoed behind the others
-pub echo_there : (ks : List ℕ) (n low : ℕ) (es : List (ℕ × List ℕ)) (text : List ℕ) → all_below n ks ≡ true → Ascends low (numbers es) → content_of es n ≡ Some text → with_content (filter (is_among ks) es) n text ≡ filter (is_among (ks ++ n ∷ [])) es
+pub echo_there : (ks : List ℕ) (n low : ℕ) (es : List (ℕ × List ℕ)) (text : List ℕ) → all_below n ks ≡ true →
+    Ascends low (numbers es) → content_of es n ≡ Some text →
+    with_content (filter (is_among ks) es) n text ≡ filter (is_among (ks ++ n ∷ [])) es
 echo_there ks n low [] text h up there = absurd cc
 echo_there ks n low (e ∷ es) text h up there =
     elim (cases_Bool (eqb n e.0)) [
@@ -66,27 +71,32 @@ echo_there ks n low (e ∷ es) text h up there =
           let out : is_among ks e ≡ false = not_in ks n e.0 h (omega arith) in
           let inside : is_among (ks ++ n ∷ []) e ≡ true = among_more ks n e ∙ rw (out, same) refl in
           let earlier : filter (is_among ks) es ≡ [] = none_kept ks n e.0 es h (omega arith) up.1 in
-          let later : filter (is_among (ks ++ n ∷ [])) es ≡ [] = none_kept (ks ++ n ∷ []) (n + 1) e.0 es (below_more ks n h) (omega arith) up.1 in
+          let later : filter (is_among (ks ++ n ∷ [])) es ≡ [] = none_kept (ks
+          ++ n ∷ []) (n + 1) e.0 es (below_more ks n h) (omega arith) up.1 in
           rw (inside, out, earlier, later, is, ← is_text) refl
       | inr other ↦
           let rest = rw other at there in
           let lt = there_above e.0 es n text up.1 rest in
-          let same : is_among (ks ++ n ∷ []) e ≡ is_among ks e = among_more ks n e ∙ rw other (or_false (is_among ks e)) in
+          let same : is_among (ks ++ n ∷ []) e ≡ is_among ks e = among_more ks n e
+          ∙ rw other (or_false (is_among ks e)) in
           let ih = echo_there ks n e.0 es text h up.1 rest in
           elim (cases_Bool (is_among ks e)) [
-            | inl kept ↦ rw (same ∙ kept, kept, le-leb e.0 n (omega arith), other) (ap (λ (l : List (ℕ × List ℕ)). e ∷ l) ih)
+            | inl kept ↦ rw (same ∙ kept, kept, le-leb e.0 n (omega arith), other) (ap (λ (l : List (ℕ
+                × List ℕ)). e ∷ l) ih)
             | inr dropped ↦ rw (same ∙ dropped, dropped) ih
           ]
     ]
 
 -- one that isn't there is not echoed
-pub echo_missing : (ks : List ℕ) (n : ℕ) (es : List (ℕ × List ℕ)) → content_of es n ≡ None → filter (is_among (ks ++ n ∷ [])) es ≡ filter (is_among ks) es
+pub echo_missing : (ks : List ℕ) (n : ℕ) (es : List (ℕ × List ℕ)) → content_of es n ≡ None →
+    filter (is_among (ks ++ n ∷ [])) es ≡ filter (is_among ks) es
 echo_missing ks n [] none = refl
 echo_missing ks n (e ∷ es) none =
     elim (cases_Bool (eqb n e.0)) [
       | inl same ↦ let bad : Some e.1 ≡ None = rw same at none in absurd cc
       | inr other ↦
-          let same : is_among (ks ++ n ∷ []) e ≡ is_among ks e = among_more ks n e ∙ rw other (or_false (is_among ks e)) in
+          let same : is_among (ks ++ n ∷ []) e ≡ is_among ks e = among_more ks n e
+          ∙ rw other (or_false (is_among ks e)) in
           let rest = echo_missing ks n es (rw other at none) in
           elim (cases_Bool (is_among ks e)) [
             | inl kept ↦ rw (same ∙ kept, kept, rest) refl
@@ -104,33 +114,224 @@ at_above low (n ∷ ns) (suc i) up lt =
     let next = at_above n ns i up.1 (omega arith) in
     omega arith
 
-at_below : (low : ℕ) (ns : List ℕ) (i : ℕ) → Ascends low ns → i < length ns → all_below (get_or ns i 0) (take i ns) ≡ true
+at_below : (low : ℕ) (ns : List ℕ) (i : ℕ) → Ascends low ns → i < length ns →
+    all_below (get_or ns i 0) (take i ns) ≡ true
 at_below low [] i up lt = absurd (omega arith)
 at_below low (n ∷ ns) zero up lt = refl
 at_below low (n ∷ ns) (suc i) up lt =
-    and_from (ltb n (get_or ns i 0)) (all_below (get_or ns i 0) (take i ns)) (lt-ltb n (get_or ns i 0) (at_above n ns i up.1 (omega arith))) (at_below n ns i up.1 (omega arith))
+    and_from (ltb n (get_or ns i 0)) (all_below (get_or ns i 0) (take i ns)) (lt-ltb n (get_or ns i 0)
+    (at_above n ns i up.1 (omega arith))) (at_below n ns i up.1 (omega arith))
 
 ascending : (service : Service) → Ascends 1 (echoed service)
-ascending Authorization = (lit< tt, (lit< tt, (lit< tt, (lit< tt, (lit< tt, (lit< tt, (lit< tt, (lit< tt, (lit< tt, (lit< tt, tt))))))))))
-ascending Financial = (lit< tt, (lit< tt, (lit< tt, (lit< tt, (lit< tt, (lit< tt, (lit< tt, (lit< tt, (lit< tt, (lit< tt, tt))))))))))
-ascending Completion = (lit< tt, (lit< tt, (lit< tt, (lit< tt, (lit< tt, (lit< tt, (lit< tt, (lit< tt, (lit< tt, (lit< tt, (lit< tt, tt)))))))))))
-ascending Reversal = (lit< tt, (lit< tt, (lit< tt, (lit< tt, (lit< tt, (lit< tt, (lit< tt, (lit< tt, (lit< tt, (lit< tt, tt))))))))))
-ascending ReversalAdvice = (lit< tt, (lit< tt, (lit< tt, (lit< tt, (lit< tt, (lit< tt, (lit< tt, (lit< tt, (lit< tt, (lit< tt, tt))))))))))
-ascending Reconciliation = (lit< tt, (lit< tt, (lit< tt, (lit< tt, (lit< tt, (lit< tt, (lit< tt, (lit< tt, (lit< tt, (lit< tt, tt))))))))))
-ascending NetworkManagement = (lit< tt, (lit< tt, (lit< tt, (lit< tt, (lit< tt, (lit< tt, (lit< tt, (lit< tt, (lit< tt, (lit< tt, (lit< tt, tt)))))))))))
+ascending Authorization = (
+  lit< tt,
+  (
+    lit< tt,
+    (
+      lit< tt,
+      (
+        lit< tt,
+        (
+          lit< tt,
+          (
+            lit< tt,
+            (
+              lit< tt,
+              (
+                lit< tt,
+                (
+                  lit< tt,
+                  (lit< tt, tt),
+                ),
+              ),
+            ),
+          ),
+        ),
+      ),
+    ),
+  ),
+)
+ascending Financial = (
+  lit< tt,
+  (
+    lit< tt,
+    (
+      lit< tt,
+      (
+        lit< tt,
+        (
+          lit< tt,
+          (
+            lit< tt,
+            (
+              lit< tt,
+              (
+                lit< tt,
+                (
+                  lit< tt,
+                  (lit< tt, tt),
+                ),
+              ),
+            ),
+          ),
+        ),
+      ),
+    ),
+  ),
+)
+ascending Completion = (
+  lit< tt,
+  (
+    lit< tt,
+    (
+      lit< tt,
+      (
+        lit< tt,
+        (
+          lit< tt,
+          (
+            lit< tt,
+            (
+              lit< tt,
+              (
+                lit< tt,
+                (
+                  lit< tt,
+                  (lit< tt, (lit< tt, tt)),
+                ),
+              ),
+            ),
+          ),
+        ),
+      ),
+    ),
+  ),
+)
+ascending Reversal = (
+  lit< tt,
+  (
+    lit< tt,
+    (
+      lit< tt,
+      (
+        lit< tt,
+        (
+          lit< tt,
+          (
+            lit< tt,
+            (
+              lit< tt,
+              (
+                lit< tt,
+                (
+                  lit< tt,
+                  (lit< tt, tt),
+                ),
+              ),
+            ),
+          ),
+        ),
+      ),
+    ),
+  ),
+)
+ascending ReversalAdvice = (
+  lit< tt,
+  (
+    lit< tt,
+    (
+      lit< tt,
+      (
+        lit< tt,
+        (
+          lit< tt,
+          (
+            lit< tt,
+            (
+              lit< tt,
+              (
+                lit< tt,
+                (lit< tt, (lit< tt, tt)),
+              ),
+            ),
+          ),
+        ),
+      ),
+    ),
+  ),
+)
+ascending Reconciliation = (
+  lit< tt,
+  (
+    lit< tt,
+    (
+      lit< tt,
+      (
+        lit< tt,
+        (
+          lit< tt,
+          (
+            lit< tt,
+            (
+              lit< tt,
+              (
+                lit< tt,
+                (lit< tt, (lit< tt, tt)),
+              ),
+            ),
+          ),
+        ),
+      ),
+    ),
+  ),
+)
+ascending NetworkManagement = (
+  lit< tt,
+  (
+    lit< tt,
+    (
+      lit< tt,
+      (
+        lit< tt,
+        (
+          lit< tt,
+          (
+            lit< tt,
+            (
+              lit< tt,
+              (
+                lit< tt,
+                (lit< tt, (lit< tt, (lit< tt, tt))),
+              ),
+            ),
+          ),
+        ),
+      ),
+    ),
+  ),
+)
 
 -- the reply so far, after the first i numbers
 abbrev pub so_far : Service → IsoMessage → List ℕ → ℕ → IsoMessage
-so_far service request ns i = record { kind = reply_kind service; elements = filter (is_among (take i ns)) request.elements }
+so_far service request ns i = record {
+  kind = reply_kind service;
+  elements = filter (is_among
+      (take i ns)) request.elements;
+}
 
-pub next_there : (service : Service) (request m : IsoMessage) (ns : List ℕ) (i : ℕ) (text : List ℕ) → ns ≡ echoed service → i < length ns → IsMessage request → m ≡ so_far service request ns i → content_of request.elements (get_or ns i 0) ≡ Some text
-    → record { kind = m.kind; elements = with_content m.elements (get_or ns i 0) text } ≡ so_far service request ns (i + 1)
+pub next_there : (service : Service) (request m : IsoMessage) (ns : List ℕ) (i : ℕ) (text : List ℕ) →
+    ns ≡ echoed service → i < length ns → IsMessage request → m ≡ so_far service request ns i →
+    content_of request.elements (get_or ns i 0) ≡ Some text
+    → record { kind = m.kind; elements = with_content m.elements (get_or ns i 0) text }
+    ≡ so_far service request ns (i + 1)
 next_there service request m ns i text is lt whole so there =
     let below = at_below 1 ns i (subst (λ (x : List ℕ). Ascends 1 x) (sym is) (ascending service)) lt in
     let more = echo_there (take i ns) (get_or ns i 0) 1 request.elements text below whole.ascends there in
     rw (so, take_more ns i 0 lt, more) refl
 
-pub next_missing : (service : Service) (request m : IsoMessage) (ns : List ℕ) (i : ℕ) → i < length ns → m ≡ so_far service request ns i → content_of request.elements (get_or ns i 0) ≡ None → m ≡ so_far service request ns (i + 1)
+pub next_missing : (service : Service) (request m : IsoMessage) (ns : List ℕ) (i : ℕ) → i < length ns →
+    m ≡ so_far service request ns i → content_of request.elements (get_or ns i 0) ≡ None →
+    m ≡ so_far service request ns (i + 1)
 next_missing service request m ns i lt so none =
     rw (so, take_more ns i 0 lt, echo_missing (take i ns) (get_or ns i 0) request.elements none) refl
 
@@ -138,14 +339,21 @@ none_yet : (es : List (ℕ × List ℕ)) → filter (is_among []) es ≡ []
 none_yet [] = refl
 none_yet (e ∷ es) = none_yet es
 
-pub at_first : (service : Service) (request m : IsoMessage) (kind ns : List ℕ) → m ≡ record { kind = kind; elements = [] } → kind ≡ reply_kind service → m ≡ so_far service request ns 0
+pub at_first : (service : Service) (request m : IsoMessage) (kind ns : List ℕ) →
+    m ≡ record { kind = kind; elements = [] } → kind ≡ reply_kind service → m ≡ so_far service request ns 0
 at_first service request m kind ns new is = rw (new, is, none_yet request.elements) refl
 
 -- what was echoed, and the code
 abbrev pub whole_reply : Service → IsoMessage → List ℕ → IsoMessage
-whole_reply service request code = record { kind = reply_kind service; elements = with_content (echo service request) 39 code }
+whole_reply service request code = record {
+  kind = reply_kind service;
+  elements = with_content
+      (echo service request) 39 code;
+}
 
-pub at_last : (service : Service) (request m : IsoMessage) (ns code : List ℕ) (i : ℕ) → ns ≡ echoed service → length ns ≤ i → m ≡ so_far service request ns i → record { kind = m.kind; elements = with_content m.elements 39 code } ≡ whole_reply service request code
+pub at_last : (service : Service) (request m : IsoMessage) (ns code : List ℕ) (i : ℕ) → ns ≡ echoed service →
+    length ns ≤ i → m ≡ so_far service request ns i →
+    record { kind = m.kind; elements = with_content m.elements 39 code } ≡ whole_reply service request code
 at_last service request m ns code i is le so =
     let whole : take i ns ≡ echoed service = take_all i ns le ∙ is in
     rw (so, whole) refl

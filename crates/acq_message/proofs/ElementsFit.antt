@@ -22,7 +22,8 @@ unfolding format_of has_class
 names_merchant text h = passes_both (eqb (length text) 15) (list_all is_printable text) _ _ h
 
 -- what is read exactly where a text passes is there where it does
-pub some_where : (found : Option (List ℕ)) (P : Type 0) (text : List ℕ) → SomeIff found P text → P → found ≡ Some text
+pub some_where : (found : Option (List ℕ)) (P : Type 0) (text : List ℕ) → SomeIff found P text → P →
+    found ≡ Some text
 some_where None P text h passes = absurd (h passes)
 some_where (Some x) P text h passes = ap Some h.1
 

@@ -37,12 +37,14 @@ abbrev pub most_of : Option ElementFormat → ℕ
 most_of None = 0
 most_of (Some r) = most_by r.form
 
-form_most : (f : Form) (text : List ℕ) → has_length f (length text) ≡ true → length (digits_of f (length text) ++ text) ≤ most_by f
+form_most : (f : Form) (text : List ℕ) → has_length f (length text) ≡ true →
+    length (digits_of f (length text) ++ text) ≤ most_by f
 form_most (Fixed k) text h = let is = eqb-true (length text) k h in omega arith
 form_most (Llvar greatest) text h = let le = leb-true (length text) greatest h in omega arith
 form_most (Lllvar greatest) text h = let le = leb-true (length text) greatest h in omega arith
 
-spelled_most : (o : Option ElementFormat) (text : List ℕ) → allows o text ≡ true → length (spelled_by o text) ≤ most_of o
+spelled_most : (o : Option ElementFormat) (text : List ℕ) → allows o text ≡ true →
+    length (spelled_by o text) ≤ most_of o
 spelled_most None text h = absurd cc
 spelled_most (Some r) text h =
     let parts = and_parts (has_length r.form (length text)) (has_class r.class text) h in
@@ -76,7 +78,8 @@ code_short code = refl
 
 -- ---- the elements of a reply
 
-short_among : (ks : List ℕ) (e : ℕ × List ℕ) → list_all is_short ks ≡ true → is_among ks e ≡ true → is_short e.0 ≡ true
+short_among : (ks : List ℕ) (e : ℕ × List ℕ) → list_all is_short ks ≡ true → is_among ks e ≡ true →
+    is_short e.0 ≡ true
 short_among [] e h k = absurd cc
 short_among (n ∷ ks) e h k =
     let parts = and_parts (is_short n) (list_all is_short ks) h in
@@ -85,17 +88,20 @@ short_among (n ∷ ks) e h k =
       | inr later ↦ short_among ks e parts.1 later
     ]
 
-kept_short : (ks : List ℕ) (es : List (ℕ × List ℕ)) → list_all is_short ks ≡ true → list_all is_element es ≡ true → list_all is_short_element (filter (is_among ks) es) ≡ true
+kept_short : (ks : List ℕ) (es : List (ℕ × List ℕ)) → list_all is_short ks ≡ true → list_all is_element es ≡ true →
+    list_all is_short_element (filter (is_among ks) es) ≡ true
 kept_short ks [] h k = refl
 kept_short ks (e ∷ es) h k =
     let parts = and_parts (is_element e) (list_all is_element es) k in
     let rest = kept_short ks es h parts.1 in
     elim (cases_Bool (is_among ks e)) [
-      | inl kept ↦ rw kept (and_from (is_short_element e) _ (short_element e parts.0 (short_among ks e h kept)) rest)
+      | inl kept ↦ rw kept (and_from (is_short_element e) _ (short_element e parts.0
+          (short_among ks e h kept)) rest)
       | inr dropped ↦ rw dropped rest
     ]
 
-kept_elements : (p : ℕ × List ℕ → Bool) (es : List (ℕ × List ℕ)) → list_all is_element es ≡ true → list_all is_element (filter p es) ≡ true
+kept_elements : (p : ℕ × List ℕ → Bool) (es : List (ℕ × List ℕ)) → list_all is_element es ≡ true →
+    list_all is_element (filter p es) ≡ true
 kept_elements p [] k = refl
 kept_elements p (e ∷ es) k =
     let parts = and_parts (is_element e) (list_all is_element es) k in
@@ -109,7 +115,8 @@ ascends_lower : (low m : ℕ) (ns : List ℕ) → low ≤ m → Ascends m ns →
 ascends_lower low m [] le up = tt
 ascends_lower low m (n ∷ ns) le up = let above = up.0 in (omega arith, up.1)
 
-kept_ascends : (p : ℕ × List ℕ → Bool) (low : ℕ) (es : List (ℕ × List ℕ)) → Ascends low (numbers es) → Ascends low (numbers (filter p es))
+kept_ascends : (p : ℕ × List ℕ → Bool) (low : ℕ) (es : List (ℕ × List ℕ)) → Ascends low (numbers es) →
+    Ascends low (numbers (filter p es))
 kept_ascends p low [] up = tt
 kept_ascends p low (e ∷ es) up =
     let above = up.0 in
@@ -119,14 +126,16 @@ kept_ascends p low (e ∷ es) up =
       | inr dropped ↦ rw dropped (ascends_lower low e.0 (numbers (filter p es)) (omega arith) rest)
     ]
 
-all_with : (p : ℕ × List ℕ → Bool) (es : List (ℕ × List ℕ)) (n : ℕ) (text : List ℕ) → list_all p es ≡ true → p (n, text) ≡ true → list_all p (with_content es n text) ≡ true
+all_with : (p : ℕ × List ℕ → Bool) (es : List (ℕ × List ℕ)) (n : ℕ) (text : List ℕ) → list_all p es ≡ true →
+    p (n, text) ≡ true → list_all p (with_content es n text) ≡ true
 all_with p [] n text h k = and_from (p (n, text)) true k refl
 all_with p (e ∷ es) n text h k =
     let parts = and_parts (p e) (list_all p es) h in
     elim (cases_Bool (leb e.0 n)) [
       | inl low ↦ elim (cases_Bool (eqb n e.0)) [
         | inl same ↦ rw (low, same) (and_from (p (n, text)) (list_all p es) k parts.1)
-        | inr other ↦ rw (low, other) (and_from (p e) (list_all p (with_content es n text)) parts.0 (all_with p es n text parts.1 k))
+        | inr other ↦ rw (low, other) (and_from (p e) (list_all p (with_content es n text)) parts.0
+            (all_with p es n text parts.1 k))
       ]
       | inr high ↦ rw high (and_from (p (n, text)) (list_all p (e ∷ es)) k h)
     ]
@@ -142,7 +151,8 @@ body_short (e ∷ es) h =
     let sum = length-append (spelled e) (body es) in
     omega arith
 
-few : (low : ℕ) (es : List (ℕ × List ℕ)) → low ≤ 128 → Ascends low (numbers es) → list_all is_element es ≡ true → length es + low ≤ 128
+few : (low : ℕ) (es : List (ℕ × List ℕ)) → low ≤ 128 → Ascends low (numbers es) → list_all is_element es ≡ true →
+    length es + low ≤ 128
 few low [] le up k = omega arith
 few low (e ∷ es) le up k =
     let parts = and_parts (is_element e) (list_all is_element es) k in
@@ -153,7 +163,8 @@ few low (e ∷ es) le up k =
     let rest = few e.0 es high up.1 parts.1 in
     omega arith
 
-second_small : (b : Bool) (second : List ℕ) (bits : ℕ) → MatchBool b (IsBitmap second bits) ((second ≡ []) × (bits ≡ 0)) → length second ≤ 16
+second_small : (b : Bool) (second : List ℕ) (bits : ℕ) →
+    MatchBool b (IsBitmap second bits) ((second ≡ []) × (bits ≡ 0)) → length second ≤ 16
 second_small true second bits h = let size = h.size in omega arith
 second_small false second bits h = rw h.0 (omega arith)
 
@@ -168,7 +179,8 @@ kind_four NetworkManagement = refl
 
 -- ---- the reply
 
-reply_is_message : (service : Service) (request : IsoMessage) (code : ResponseCode) → set_fault 39 (code_text code) ≡ None → IsMessage request → IsMessage (reply service request (code_element code))
+reply_is_message : (service : Service) (request : IsoMessage) (code : ResponseCode) →
+    set_fault 39 (code_text code) ≡ None → IsMessage request → IsMessage (reply service request (code_element code))
 reply_is_message service request code fits whole =
     message_with (reply_kind service) (echo service request) 39 (code_text code) (record {
       kind_fits = kind service;
@@ -207,6 +219,8 @@ reply_short service request code fits whole =
     let first = w.digits_fit.primary.size in
     let second = second_small _ w.digits_fit.second w.bitmaps.secondary w.digits_fit.secondary in
     let parts : length (spelling m) ≡ length m.kind + (length w.digits + length (body m.elements)) =
-    ap length w.parts ∙ length-append m.kind (w.digits ++ body m.elements) ∙ ap (λ (n : ℕ). length m.kind + n) (length-append w.digits (body m.elements)) in
-    let digits : length w.digits ≡ length w.digits_fit.first + length w.digits_fit.second = ap length w.digits_fit.parts ∙ length-append w.digits_fit.first w.digits_fit.second in
+    ap length w.parts ∙ length-append m.kind (w.digits ++ body m.elements)
+    ∙ ap (λ (n : ℕ). length m.kind + n) (length-append w.digits (body m.elements)) in
+    let digits : length w.digits ≡ length w.digits_fit.first + length w.digits_fit.second = ap length
+    w.digits_fit.parts ∙ length-append w.digits_fit.first w.digits_fit.second in
     (omega arith, omega arith)

@@ -16,7 +16,7 @@ has_one_of m (n ∷ ns) = list_any (has m) (n ∷ ns)
 abbrev pub unverifiable : List ℕ
 unverifiable = 52 ∷ 64 ∷ 128 ∷ []
 
--- a needed element is missing, one is there that can't be checked, or the card can't be told
+-- a needed element is missing, one is there that can't be checked, or its card isn't clear
 abbrev pub is_malformed : Service → IsoMessage → Bool
 is_malformed service m =
     not (list_all (has m) (needed service)) || not (has_one_of m (needed_card service))

@@ -9,3 +9,4 @@ pub mod Elements
 pub mod Claims
 pub mod FirstCheck
 pub mod Reply
+pub mod Shown

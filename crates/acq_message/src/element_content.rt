@@ -39,6 +39,11 @@ impl ElementContent {
 }
 
 impl fmt::Debug for ElementContent {
+    ghost use Rattle.std.specs.Prelude.{Some};
+    ghost use Rattle.acq_message.specs.Shown.{shown_content};
+
+    ghost debug_output = { λ bytes. Some (shown_content bytes) };
+
     fn fmt<W: fmt::Write>(&self, f: &mut fmt::Formatter<W>) -> fmt::Result {
         write!(f, "ElementContent({} bytes)", self.bytes.len())
     }

@@ -46,6 +46,11 @@ impl MessageText {
 }
 
 impl fmt::Debug for MessageText {
+    ghost use Rattle.std.specs.Prelude.{Some};
+    ghost use Rattle.acq_message.specs.Shown.{shown_message_text};
+
+    ghost debug_output = { λ bytes. Some (shown_message_text bytes) };
+
     fn fmt<W: fmt::Write>(&self, f: &mut fmt::Formatter<W>) -> fmt::Result {
         write!(f, "MessageText({} bytes)", self.bytes.len())
     }

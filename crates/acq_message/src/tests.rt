@@ -27,9 +27,17 @@ fn numbers_have_their_bounds(rt: HostRuntime) {
             "at {seconds}"
         );
     }
-    for (number, taken) in [(0, true), (999_999_999_999, true), (1_000_000_000_000, false)] {
+    for (number, taken) in [
+        (0, true),
+        (999_999_999_999, true),
+        (1_000_000_000_000, false),
+    ] {
         assert_eq!(rt; Amount::from_number(number).is_some(), taken, "at {number}");
-        assert_eq!(rt; Reference::from_number(number).is_some(), taken, "at {number}");
+        assert_eq!(rt;
+            Reference::from_number(number).is_some(),
+            taken,
+            "at {number}"
+        );
     }
 }
 
@@ -40,19 +48,43 @@ fn texts_have_their_length_and_class(rt: HostRuntime) {
         ("MERCHANT000001", false),
         ("MERCHANT000001\x7F", false),
     ] {
-        assert_eq!(rt; MerchantId::read(text.as_bytes()).is_some(), taken, "for {text}");
+        assert_eq!(rt;
+            MerchantId::read(text.as_bytes()).is_some(),
+            taken,
+            "for {text}"
+        );
     }
-    for (text, taken) in [("TERM 001", true), ("TERM00001", false), ("TERM\t001", false)] {
-        assert_eq!(rt; TerminalId::read(text.as_bytes()).is_some(), taken, "for {text}");
+    for (text, taken) in [
+        ("TERM 001", true),
+        ("TERM00001", false),
+        ("TERM\t001", false),
+    ] {
+        assert_eq!(rt;
+            TerminalId::read(text.as_bytes()).is_some(),
+            taken,
+            "for {text}"
+        );
     }
     for (text, taken) in [("978", true), ("EUR", true), ("97", false), ("9-8", false)] {
-        assert_eq!(rt; Currency::read(text.as_bytes()).is_some(), taken, "for {text}");
+        assert_eq!(rt;
+            Currency::read(text.as_bytes()).is_some(),
+            taken,
+            "for {text}"
+        );
     }
     for (text, taken) in [("000001", true), ("00001", false), ("00000A", false)] {
         assert_eq!(rt; Trace::read(text.as_bytes()).is_some(), taken, "for {text}");
     }
-    for (text, taken) in [("0501093000", true), ("050109300", false), ("0501 93000", false)] {
-        assert_eq!(rt; Transmission::read(text.as_bytes()).is_some(), taken, "for {text}");
+    for (text, taken) in [
+        ("0501093000", true),
+        ("050109300", false),
+        ("0501 93000", false),
+    ] {
+        assert_eq!(rt;
+            Transmission::read(text.as_bytes()).is_some(),
+            taken,
+            "for {text}"
+        );
     }
 }
 
@@ -96,7 +128,10 @@ fn types_have_their_replies(rt: HostRuntime) -> Result<(), Fail> {
 #[test]
 fn requests_are_read_and_answered(rt: HostRuntime) -> Result<(), Fail> {
     let sale = decode(rt.alloc(), SALE)?;
-    assert_eq!(rt; card_of(&sale).ok_or("no card")?, b"4111111111111111".as_slice());
+    assert_eq!(rt;
+        card_of(&sale).ok_or("no card")?,
+        b"4111111111111111".as_slice()
+    );
     assert_eq!(rt; expiry_of(&sale).ok_or("no expiry")?, b"2912".as_slice());
     assert!(rt; !is_malformed(Service::Financial, &sale));
     assert!(rt; is_malformed(Service::Completion, &sale));

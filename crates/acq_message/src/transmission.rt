@@ -28,7 +28,8 @@ impl Model for Transmission {
 }
 
 impl Transmission {
-    /// The date and time of these bytes, or `None` where they aren't ten digits. It takes no memory.
+    /// The date and time of these bytes, or `None` where they aren't ten digits. It takes no
+    /// memory.
     pub fn read(text: &[u8]) -> Option<Transmission>
         ensures { SomeIff result (is_transmission text.now ≡ true) text.now }
     {

@@ -17,17 +17,18 @@ pub enum Action {
 
 const ABOUT: &str = "An acquirer host for cards: ISO 8583:1987 frames in, reply frames out.
 
-Today it serves network management: echo tests, sign-ons and sign-offs (0800 and 0801). Every other
-type is read and gets no reply.";
+Today it serves network management: echo tests, sign-ons and sign-offs (0800 and 0801). Every
+other type is read and gets no reply.";
 
-const ABOUT_ONCE: &str = "Answers the frames on standard input with reply frames on standard output";
+const ABOUT_ONCE: &str =
+    "Answers the frames on standard input with reply frames on standard output";
 
 const MORE_OF_ONCE: &str = "\
-A frame is two bytes of length, high byte first, and then so many bytes of a message, 1 to 4,096. The
-input is read to its end, and then each frame is answered before the next is looked at.
+A frame is two bytes of length, high byte first, and then so many bytes of a message, 1 to 4,096.
+The input is read to its end, and then each frame is answered before the next is looked at.
 
-The status is 0 where all is well, 1 for a fault, 2 for wrong usage, 3 where memory ran out. A fault is
-one line on standard error, and what was written before it stands:
+The status is 0 where all is well, 1 for a fault, 2 for wrong usage, 3 where memory ran out. A
+fault is one line on standard error, and what was written before it stands:
   acqd: 1 Memory
   acqd: 50 BadLength               a frame's length is 0 or above 4,096
   acqd: 51 Ended                   the input ends inside a frame
@@ -39,8 +40,8 @@ Example: an echo test
   printf '\\000\\067%s' 0800822000000000000004000000000000000101120000000001301 |
       acqd once | od -c";
 
-/// What the arguments ask for, the program's own name first, or what is to be written of them: help,
-/// the version, or what is wrong.
+/// What the arguments ask for, the program's own name first, or what is to be written of them:
+/// help, the version, or what is wrong.
 pub fn action_of<W: AsStr>(alloc: Global, args: &[W]) -> Result<Action, Error>
     // An error is one of those that clap's rules give for these arguments, or want of memory.
     ensures { FailsBy (fault_of program (map W.text args.now)) result }

@@ -19,7 +19,8 @@ use std::fmt::Write;
 /// The status of wrong usage.
 const USAGE: u8 = 2;
 
-/// Runs the command that the arguments name, the program's own name first, and returns the status: 0
+/// Runs the command that the arguments name, the program's own name first, and returns the status:
+/// 0
 /// where all is well, 1 for a fault, 2 for wrong usage, 3 where memory ran out. A fault, or what is
 /// wrong with the arguments, is written to `faults`; help goes to `output`.
 pub fn command<W: AsStr, S: Source, K: Sink, F: Sink>(
@@ -30,11 +31,12 @@ pub fn command<W: AsStr, S: Source, K: Sink, F: Sink>(
     faults: &mut F,
 ) -> u8
     ensures status { result ≤ 3 }
-    // Where nothing is wrong with the arguments, what was read was served, and the status is that of
+    // Where nothing is wrong with the arguments, what was read was served, and the status is that
+    // of
     // how it ended.
     ensures ran { fault_of program (map W.text args.now) ≡ []
         → Runs (S.received input.old) (S.received input.new)
-            (K.sent output.old) (K.sent output.new) result }
+        (K.sent output.old) (K.sent output.new) result }
     // Else nothing was read.
     ensures unread { ¬ (fault_of program (map W.text args.now) ≡ [])
         → S.received input.new ≡ S.received input.old }
@@ -72,7 +74,10 @@ pub(crate) fn memory_fault<F: Sink>(faults: &mut F) -> u8
 pub(crate) fn usage_fault<F: Sink>(place: usize, faults: &mut F) -> u8
     ensures { result ≡ 2 }
 {
-    let _ = writeln!(TextSink::new(faults), "error: argument {place} is not UTF-8");
+    let _ = writeln!(
+        TextSink::new(faults),
+        "error: argument {place} is not UTF-8"
+    );
     USAGE
 }
 

@@ -22,7 +22,7 @@ pub enum Fault {
     Undecodable(DecodeFault),
     /// 53: a read failed.
     Read,
-    /// 54: a write failed, and so many bytes of the piece in hand had gone out.
+    /// 54: a write failed, and so many bytes of the piece in hand had been written.
     Write(u64),
 }
 

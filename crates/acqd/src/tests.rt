@@ -1,8 +1,7 @@
 //! Rows of the program: statuses, replies and printed lines; each read and each write failing in
 //! turn; and an input longer than a hundred reads.
 
-use crate::command;
-use crate::once;
+use crate::{command, once};
 use acq_link::{MemorySink, ReadSource, SliceSource, WriteSink};
 use std::alloc::Global;
 use std::process::Abort;

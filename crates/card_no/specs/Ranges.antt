@@ -63,6 +63,10 @@ IsRangeOf ranges prefix (Some r) =
     Contains ranges r × (holds_prefix prefix r ≡ true)
     × ((s : Range) → Contains ranges s → holds_prefix prefix s ≡ true → s ≡ r)
 
+-- a range with these ends, of which nothing else is asked
+abbrev pub between : ℕ → ℕ → Range
+between low high = record { low = low; high = high; issuer = []; hold_days = 0 }
+
 -- the first range, in order of low, that overlaps one
 abbrev pub overlapped_by : Range → List Range → Option Range
 overlapped_by r ranges = find (overlaps r) ranges

@@ -14,8 +14,9 @@ loop-rest-preserved g c =
         so.0 ++ message ∷ [],
         so.1 ++ more,
         answers_more c.args.bytes.now so.1 c.loop-rest.rest.now message c.in_ok-message.after.now
-        so.0 so.2 front.whole front.fits c.in_ok-answer.ensures.sent.0,
-        c.in_ok-answer.ensures.sent.1 ∙ ap (λ (x : List ℕ). x ++ more) so.3 ∙ append_assoc (g.K.Sink.sent c.args.output.now) so.1 more,
+            so.0 so.2 front.whole front.fits c.in_ok-answer.ensures.sent.0,
+        c.in_ok-answer.ensures.sent.1 ∙ ap (λ (x : List ℕ). x ++ more) so.3
+            ∙ append_assoc (g.K.Sink.sent c.args.output.now) so.1 more,
       ),
       omega (arith, c.in_ok-answer.ensures.writes, c.loop-rest.invariant.1),
     )

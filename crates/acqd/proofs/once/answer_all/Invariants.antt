@@ -5,7 +5,8 @@ use Rattle.acqd.proofs.once.answer_all.Given as goal
 -- the frames so far were answered
 abbrev pub invariant-loop-rest : goal.invariant-loop-rest
 invariant-loop-rest g l =
-    ((messages : List (List ℕ)) × (out : List ℕ) × Answers l.bytes out messages l.rest × (g.K.Sink.sent l.output ≡ g.K.Sink.sent l.fn.output ++ out))
+    ((messages : List (List ℕ)) × (out : List ℕ) × Answers l.bytes out messages l.rest
+    × (g.K.Sink.sent l.output ≡ g.K.Sink.sent l.fn.output ++ out))
     × (g.K.Sink.failures l.output ≡ g.K.Sink.failures l.fn.output)
 
 abbrev pub decreases-loop-rest : goal.decreases-loop-rest

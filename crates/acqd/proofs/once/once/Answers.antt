@@ -6,5 +6,11 @@ use Rattle.acqd.proofs.once.once.Goals as goal
 pub returns-in_err-bytes-clause-served : goal.returns-in_err-bytes-clause-served
 returns-in_err-bytes-clause-served g c =
     let p = err_from_is_err_and c.from_residual.result c.from_residual.ensures.1 in
-    let more = c.in_err-bytes.ensures.grows in
-    (more.0, [], more.1, sym (append-nil (g.K.Sink.sent c.args.output.now)), rw (p.1, p.2) (input_stops c.in_err-bytes.field-0.0 more.0))
+    let more = c.in_err-bytes.ensures.grows in (
+      more.0,
+      [],
+      more.1,
+      sym (append-nil (g.K.Sink.sent c.args.output.now)),
+      rw (p.1, p.2)
+          (input_stops c.in_err-bytes.field-0.0 more.0),
+    )

@@ -30,5 +30,6 @@ new_spec 𝓤 𝓛 𝓜 𝓡 wired =
     sets ! (agg ! (no_more !)) refl (tt, tt) $
     nothing ! $ owns_empty ! $ fjoin ! $
     returns ! (look_at ! 0 refl) $ free_all ! refl $
-    suffices ! _ (ends_at 𝓛 f.ended stayed c y empty_value made tt tt) $ says ! (record { bytes = refl; failures = refl }) $
+    suffices ! _ (ends_at 𝓛 f.ended stayed c y empty_value made tt tt) $ says !
+    (record { bytes = refl; failures = refl }) $
     nothing ! $ nothing ! $ done !))
