@@ -1,17 +1,17 @@
 -- Digits at their places.
 use Rattle.std.proofs.Common.{◌≡◌, ℕ, zero, suc, ◌+◌, ◌-◌, ◌*◌, ◌^◌, ◌<◌, ◌≤◌, true, List, [], ◌∷◌, length, take, drop}
-use Rattle.std.proofs.Common.{get_or, refl, ap, ◌∙◌, arith, leb}
+use Rattle.std.proofs.Common.{get_or, refl, ◌∙◌, arith, leb}
 use Rattle.std.specs.Prelude.{Bool, ◌&&◌, ◌++◌}
 use Rattle.std.specs.List.{list_all}
 use Rattle.std.specs.Char.{is_ascii_digit}
 use Rattle.std.proofs.lemmas.Bool.{and_parts, and_from, leb-true}
-use Rattle.std.proofs.lemmas.List.{drop_more, drop-replicate, length-drop, take_at}
+use Rattle.std.proofs.lemmas.List.{drop-replicate, take_at}
 use Rattle.card_no.specs.Padding.{padded, zeros}
 use Rattle.std.proofs.Math.Nat.{pow-le-pow_right}
 use Rattle.std.specs.Str.Parse.{digits_value}
 use Rattle.std.proofs.lemmas.Str.{digit_value_digit}
 use Rattle.std.proofs.lemmas.Int.Digits.{digits_value_more}
-use Rattle.card_no.specs.CardNumbers.{counted_at, check_sum, is_valid_card}
+use Rattle.card_no.specs.CardNumbers.{is_valid_card}
 
 -- a digit is a byte from 0x30 to 0x39
 pub digit_bounds : (b : ℕ) → is_ascii_digit b ≡ true → (48 ≤ b) × (b ≤ 57)
@@ -23,14 +23,6 @@ digit_at [] i d h lt = absurd (omega arith)
 digit_at (x ∷ xs) zero d h lt = digit_bounds x (and_parts (is_ascii_digit x) (list_all is_ascii_digit xs) h).0
 digit_at (x ∷ xs) (suc i) d h lt = digit_at xs i d (and_parts (is_ascii_digit x) (list_all is_ascii_digit xs) h).1
     (omega arith)
-
--- the sum from a place on
-pub check_sum-drop : (xs : List ℕ) (i d : ℕ) → i < length xs
-    → check_sum (drop i xs) ≡ counted_at (length xs - 1 - i) (get_or xs i d - 48) + check_sum (drop (i + 1) xs)
-check_sum-drop xs i d lt =
-    let size : length (drop (i + 1) xs) ≡ length xs - 1 - i = length-drop (i + 1) xs ∙ omega arith in
-    ap check_sum (drop_more xs i d lt) ∙ ap (λ (n : ℕ). counted_at n (get_or xs i d - 48) + check_sum (drop (i + 1) xs))
-    size
 
 -- the number that one digit more spells
 pub digits_value-take : (xs : List ℕ) (i : ℕ) → list_all is_ascii_digit xs ≡ true → i < length xs

@@ -31,9 +31,6 @@ find-passes {X} p (y ∷ xs) x h =
       | inr past ↦ find-passes p xs x (rw past at h)
     ]
 
-pub contains-first : {X : Type 0} (x : X) (xs : List X) → Contains (x ∷ xs) x
-contains-first x xs = (zero, omega arith, refl)
-
 pub contains-later : {X : Type 0} (y : X) (xs : List X) (x : X) → Contains xs x → Contains (y ∷ xs) x
 contains-later y xs x (k, lt, e) = (suc k, omega arith, e)
 

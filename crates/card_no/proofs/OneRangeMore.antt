@@ -1,57 +1,17 @@
 -- A list with one more range at its place is a list of ranges.
-use Rattle.std.proofs.Common.{◌≡◌, ℕ, ◌+◌, ◌<◌, ◌≤◌, true, false, Bool, ltb, leb, List, [], ◌∷◌, ◌++◌}
-use Rattle.std.proofs.Common.{length, take, drop, get_or, None, refl, sym, ap, ◌∙◌, arith, inl}
-use Rattle.std.proofs.Common.{inr, append_assoc}
+use Rattle.std.proofs.Common.{◌≡◌, ◌<◌, ◌≤◌, true, false, Bool, ltb, leb, List, [], ◌∷◌}
+use Rattle.std.proofs.Common.{None, refl, arith, inl}
+use Rattle.std.proofs.Common.{inr}
 use Rattle.std.specs.Prelude.{not}
-use Rattle.std.specs.List.{list_all, find, insert}
-use Rattle.std.proofs.lemmas.Bool.{and_parts, and_from, cases_Bool, ltb-true, ltb-false, lt-ltb, le-ltb}
+use Rattle.std.specs.List.{list_all, find}
+use Rattle.std.proofs.lemmas.Bool.{and_parts, and_from, cases_Bool, ltb-true, ltb-false, lt-ltb}
 use Rattle.std.proofs.lemmas.Bool.{leb-false, not-true, and_cases}
-use Rattle.std.proofs.lemmas.List.{drop_more, drop_all, take_all, take_more}
 use Rattle.card_no.specs.declared.range.Range.{Range}
 use Rattle.card_no.proofs.RangeEnds.{ends_in_order, before_lt}
 use Rattle.card_no.specs.Ranges.{is_valid_range, overlaps, is_before, are_apart}
 use Rattle.card_no.specs.Ranges.{are_ranges, with_range}
 use Rattle.card_no.proofs.ElementsThatPass.{all-weaker}
 use Rattle.card_no.proofs.FirstThatPasses.{find-none, none-all}
-
-pub with_at : (rs : List Range) (r e : Range) (i : ℕ) → with_range rs r ≡ take i rs ++ with_range (drop i rs) r
-    → i < length rs
-    → e ≡ get_or rs i e → r.low ≤ e.low → insert rs i r ≡ with_range rs r
-with_at rs r e i h lt is le =
-    let there : drop i rs ≡ e ∷ drop (i + 1) rs = drop_more rs i e lt
-    ∙ ap (λ (x : Range). x ∷ drop (i + 1) rs) (sym is) in
-    let here : with_range (drop i rs) r ≡ r ∷ drop i rs =
-    ap (λ (l : List Range). with_range l r) there ∙ rw (le-ltb e.low r.low le) refl
-    ∙ ap (λ (l : List Range). r ∷ l) (sym there) in
-    sym (h ∙ ap (λ (l : List Range). take i rs ++ l) here)
-
-pub with_past : (rs : List Range) (r e : Range) (i : ℕ) → with_range rs r ≡ take i rs ++ with_range (drop i rs) r
-    → i < length rs
-    → e ≡ get_or rs i e → e.low < r.low → with_range rs r ≡ take (i + 1) rs ++ with_range (drop (i + 1) rs) r
-with_past rs r e i h lt is below =
-    let there : drop i rs ≡ e ∷ drop (i + 1) rs = drop_more rs i e lt
-    ∙ ap (λ (x : Range). x ∷ drop (i + 1) rs) (sym is) in
-    let here : with_range (drop i rs) r ≡ e ∷ with_range (drop (i + 1) rs) r =
-    ap (λ (l : List Range). with_range l r) there ∙ rw (lt-ltb e.low r.low below) refl in
-    let more : take (i + 1) rs ≡ take i rs ++ e ∷ [] = take_more rs i e lt
-    ∙ ap (λ (x : Range). take i rs ++ x ∷ []) (sym is) in
-    h ∙ ap (λ (l : List Range). take i rs ++ l) here ∙ sym
-    (append_assoc (take i rs) (e ∷ []) (with_range (drop (i + 1) rs) r))
-    ∙ ap (λ (l : List Range). l ++ with_range (drop (i + 1) rs) r) (sym more)
-
-pub with_end : (rs : List Range) (r : Range) (i : ℕ) → with_range rs r ≡ take i rs ++ with_range (drop i rs) r
-    → length rs ≤ i
-    → insert rs (length rs) r ≡ with_range rs r
-with_end rs r i h le =
-    let none : drop i rs ≡ [] = drop_all i rs le in
-    let end : drop (length rs) rs ≡ [] = drop_all (length rs) rs (omega arith) in
-    let all : take i rs ≡ rs = take_all i rs le in
-    let whole : take (length rs) rs ≡ rs = take_all (length rs) rs (omega arith) in
-    let left : insert rs (length rs) r ≡ rs ++ r ∷ [] = ap (λ (l : List Range). take (length rs) rs ++ r ∷ l) end
-    ∙ ap (λ (l : List Range). l ++ r ∷ []) whole in
-    let right : with_range rs r ≡ rs ++ r ∷ [] = h ∙ ap (λ (l : List Range). take i rs ++ with_range l r) none
-    ∙ ap (λ (l : List Range). l ++ r ∷ []) all in
-    left ∙ sym right
 
 -- two ranges that do not overlap, the first of which does not begin behind the other
 apart_by : (a b : Range) → overlaps a b ≡ false → a.low ≤ a.high → b.low ≤ b.high → (a.low ≤ b.low → a.high < b.low)

@@ -21,11 +21,18 @@ abbrev pub check_sum : List ℕ → ℕ
 check_sum [] = 0
 check_sum (b ∷ after) = counted_at (length after) (b - 48) + check_sum after
 
--- 10 to 19 digits (the lower bound is this profile's own) whose sum is divisible by 10
+-- how many digits a card number has; the lower bound is this profile's own
+abbrev pub least_digits : ℕ
+least_digits = 10
+
+abbrev pub greatest_digits : ℕ
+greatest_digits = 19
+
+-- so many digits, whose sum is divisible by 10
 abbrev pub is_valid_card : List ℕ → Bool
 is_valid_card text =
-    nat_le 10 (length text) && nat_le (length text) 19 && list_all is_ascii_digit text
-    && (check_sum text % 10 == 0)
+    nat_le least_digits (length text) && nat_le (length text) greatest_digits
+    && list_all is_ascii_digit text && (check_sum text % 10 == 0)
 
 -- the number of the first digits
 abbrev pub prefix_of : List ℕ → ℕ

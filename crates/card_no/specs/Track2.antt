@@ -5,6 +5,7 @@ use Rattle.std.specs.Prelude.{◌≡◌, ◌++◌, true, ℕ, ◌==◌, nat_le, 
 use Rattle.std.specs.Prelude.{length, Option, Some, None, if◌then◌else◌, option_map}
 use Rattle.std.specs.List.{list_all}
 use Rattle.std.specs.Char.{is_ascii_digit}
+use Rattle.card_no.specs.CardNumbers.{greatest_digits}
 
 -- `=` or `D`
 abbrev pub is_separator : ℕ → Bool
@@ -16,11 +17,11 @@ parts_of [] = None
 parts_of (b ∷ after) =
     if is_separator b then Some ([], after) else option_map (λ p. (b ∷ p.0, p.1)) (parts_of after)
 
--- 0 to 19 digits
+-- no more digits than a card number has
 abbrev pub may_be_number : List ℕ → Bool
-may_be_number text = nat_le (length text) 19 && list_all is_ascii_digit text
+may_be_number text = nat_le (length text) greatest_digits && list_all is_ascii_digit text
 
--- the parts, where the first is 0 to 19 digits
+-- the parts, where the first is no more digits than a card number has
 abbrev pub if_number : Option (List ℕ × List ℕ) → Option (List ℕ × List ℕ)
 if_number None = None
 if_number (Some p) = if may_be_number p.0 then Some p else None

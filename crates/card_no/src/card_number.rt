@@ -3,18 +3,17 @@
 ghost use Rattle.std.specs.Prelude.{◌≡◌, ◌≤◌, SomeIff, length, true};
 ghost use Rattle.std.specs.List.{list_all};
 ghost use Rattle.std.specs.Char.{is_ascii_digit};
-ghost use Rattle.card_no.specs.CardNumbers.{counted_at, check_sum, is_valid_card, prefix_of};
+ghost use Rattle.card_no.specs.CardNumbers.{greatest_digits, counted_at, check_sum, is_valid_card};
+ghost use Rattle.card_no.specs.CardNumbers.{prefix_of};
 ghost use Rattle.card_no.specs.CardNumbers.{masked_of};
 
-use crate::digits::all_digits;
+use crate::digits::{GREATEST_LEN, all_digits};
 use crate::masked_number::MaskedNumber;
 use crate::prefix::Prefix;
 use std::fmt;
 use std::marker::Model;
 
 const LEAST_LEN: usize = 10;
-
-const GREATEST_LEN: usize = 19;
 
 /// A valid card number: 10 to 19 digits that pass the check of ISO/IEC 7812-1; the lower bound is
 /// this profile's own. It is printed masked, also by `Debug`.
@@ -27,14 +26,15 @@ pub struct CardNumber {
 
 impl Model for CardNumber {
     ghost use Rattle.std.specs.Prelude.{◌≡◌, ◌≤◌, ℕ, List, length, take, true};
-    ghost use Rattle.card_no.specs.CardNumbers.{is_valid_card};
+    ghost use Rattle.card_no.specs.CardNumbers.{greatest_digits, is_valid_card};
     ghost use Rattle.card_no.specs.Padding.{padded, length-taken};
 
     ghost Value = { List ℕ };
 
     ghost view = { λ c. take c.len c.digits };
 
-    ghost invariant = { λ c. (c.len ≤ 19) × (is_valid_card (take c.len c.digits) ≡ true)
+    ghost invariant = { λ c. (c.len ≤ greatest_digits)
+        × (is_valid_card (take c.len c.digits) ≡ true)
         × (padded (take c.len c.digits) ≡ c.digits) };
 
     ghost inverse = { λ digits. record { digits = padded digits; len = length digits } };
@@ -125,7 +125,7 @@ fn counted(place: usize, digit: u8) -> u8
 /// The sum of what the digits count for at their places.
 fn sum_of_places(digits: &[u8]) -> u32
     requires each { list_all is_ascii_digit digits.now ≡ true }
-    requires size { length digits.now ≤ 19 }
+    requires size { length digits.now ≤ greatest_digits }
     ensures { result ≡ check_sum digits.now }
 {
     let mut sum = 0;

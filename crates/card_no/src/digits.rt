@@ -5,6 +5,10 @@ ghost use Rattle.std.specs.List.{list_all};
 ghost use Rattle.std.specs.Char.{is_ascii_digit};
 ghost use Rattle.std.specs.Str.Parse.{digits_value};
 
+/// The most digits that a card number has.
+pub(crate) const GREATEST_LEN: usize = 19;
+
+/// Whether a text is digits alone.
 pub(crate) fn all_digits(text: &[u8]) -> bool
     ensures { result ≡ list_all is_ascii_digit text.now }
 {

@@ -3,12 +3,11 @@
 ghost use Rattle.std.specs.Prelude.{◌≡◌, ◌≤◌, IsAscii, length, true};
 ghost use Rattle.std.specs.Char.{is_ascii_digit};
 ghost use Rattle.std.specs.List.{list_all};
-ghost use Rattle.card_no.specs.CardNumbers.{masked_of};
+ghost use Rattle.card_no.specs.CardNumbers.{least_digits, greatest_digits, masked_of};
 
+use crate::digits::GREATEST_LEN;
 use std::fmt;
 use std::marker::Model;
-
-const GREATEST_LEN: usize = 19;
 
 const SHOWN_FIRST: usize = 6;
 
@@ -23,19 +22,20 @@ pub struct MaskedNumber {
 
 impl Model for MaskedNumber {
     ghost use Rattle.std.specs.Prelude.{◌≤◌, ℕ, IsAscii, List, take};
+    ghost use Rattle.card_no.specs.CardNumbers.{greatest_digits};
 
     ghost Value = { List ℕ };
 
     ghost view = { λ m. take m.len m.text };
 
-    ghost invariant = { λ m. (m.len ≤ 19) × IsAscii (take m.len m.text) };
+    ghost invariant = { λ m. (m.len ≤ greatest_digits) × IsAscii (take m.len m.text) };
 }
 
 impl MaskedNumber {
     /// The mask of a card number with these digits.
     pub(crate) fn of(digits: &[u8]) -> MaskedNumber
-        requires least { 10 ≤ length digits.now }
-        requires greatest { length digits.now ≤ 19 }
+        requires least { least_digits ≤ length digits.now }
+        requires greatest { length digits.now ≤ greatest_digits }
         requires each { list_all is_ascii_digit digits.now ≡ true }
         ensures { result ≡ masked_of digits.now }
     {

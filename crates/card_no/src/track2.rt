@@ -3,9 +3,7 @@
 ghost use Rattle.std.specs.Prelude.{◌≡◌, option_map, position};
 ghost use Rattle.card_no.specs.Track2.{is_separator, may_be_number, track2_of};
 
-use crate::digits::all_digits;
-
-const GREATEST_LEN: usize = 19;
+use crate::digits::{GREATEST_LEN, all_digits};
 
 /// The card number of track 2 and what stands after it: the parts before and after the first `=` or
 /// `D`. `None` where there is no such separator, or something else than 0 to 19 digits before it.
@@ -23,7 +21,7 @@ pub fn split_track2(track: &[u8]) -> Option<(&[u8], &[u8])>
     Some((number, &track[place + 1..]))
 }
 
-/// Whether a text is 0 to 19 digits.
+/// Whether a text is digits, and no more than a card number has.
 fn may_be_number(text: &[u8]) -> bool
     ensures { result ≡ may_be_number text.now }
 {
