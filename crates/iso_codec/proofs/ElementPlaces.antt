@@ -1,12 +1,11 @@
--- An element at its place.
-use Rattle.std.proofs.Common.{◌≡◌, ◌≢◌, ℕ, zero, suc, ◌+◌, ◌<◌, ◌≤◌, true, cond, eqb, leb, List, [], ◌∷◌, ◌++◌, length, take, drop, set, get_or, Option, Some, None, refl, sym, ap, subst, ◌∙◌, arith, add-one, inl, inr, Bor}
-use Rattle.std.specs.Prelude.{IfSome}
+-- Setting an element's content: at its place, in a message that stays one, and looked up again.
+use Rattle.std.proofs.Common.{◌≡◌, ◌≢◌, ℕ, zero, suc, ◌+◌, ◌<◌, ◌≤◌, true, cond, eqb, leb, List, [], ◌∷◌, ◌++◌, length, take, drop, get_or, Option, Some, None, refl, sym, ap, subst, ◌∙◌, arith, add-one, inl, inr, Bor}
+use Rattle.std.specs.Prelude.{IfSome, slice_set}
 use Rattle.std.specs.Option.{option_copied}
 use Rattle.std.specs.List.{list_all, insert}
 use Rattle.std.proofs.lemmas.Bool.{and_parts, and_from, le-leb, lt-leb, ne_eqb, eq-eqb, ltb-true, cases_eq, cases_lt, cases_order, cases_Bool, true≢false}
-use Rattle.std.proofs.lemmas.List.{take-append-drop, take-map, drop-map, drop_more, drop_all, set_split, length-map, map-append, take_more, map_push, get_or_default}
-use Rattle.iso_codec.specs.declared.element.Element.{Element}
-use Rattle.iso_codec.specs.Message.{pair_of, pairs_of, numbers, is_element, Ascends, IsMessage, with_content, content_of}
+use Rattle.std.proofs.lemmas.List.{take-append-drop, drop_more, drop_all, set_split}
+use Rattle.iso_codec.specs.Message.{numbers, is_element, Ascends, IsMessage, with_content, content_of}
 use Rattle.iso_codec.specs.declared.element_format.ElementFormat.{ElementFormat}
 use Rattle.iso_codec.specs.declared.set_fault.SetFault.TheVariants.{BadLength, BadContent}
 use Rattle.iso_codec.specs.Table.{format_of}
@@ -74,122 +73,41 @@ content_past (e ∷ es) fs n h =
       | inr other ↦ rw other (content_past es fs n (rw other at h))
     ]
 
--- the element at an index
-pub all_at : (es : List Element) (i : ℕ) (d : Element) → list_all is_element (pairs_of es) ≡ true → i < length es
-    → is_element (pair_of (get_or es i d)) ≡ true
-all_at [] i d h lt = absurd (omega arith)
-all_at (e ∷ es) zero d h lt = (and_parts (is_element (pair_of e)) (list_all is_element (pairs_of es)) h).0
-all_at (e ∷ es) (suc i) d h lt = all_at es i d (and_parts (is_element (pair_of e))
-    (list_all is_element (pairs_of es)) h).1 (omega arith)
+-- where the element at a place is n, its content is changed there
+pub with_content-same : (es : List (ℕ × List ℕ)) (n i : ℕ) (text : List ℕ) (d : ℕ × List ℕ) → IsPlace es n i
+    → i < length es → (get_or es i d).0 ≡ n → slice_set es i (n, text) ≡ with_content es n text
+with_content-same es n i text d p lt same =
+    let left : slice_set es i (n, text) ≡ take i es ++ ((n, text) ∷ drop (i + 1) es) =
+    set_split es i (n, text) lt ∙ ap (λ (k : ℕ). take i es ++ (n, text) ∷ drop k es) (sym (add-one i)) in
+    let right : with_content es n text ≡ take i es ++ with_content (drop i es) n text =
+    ap (λ (x : List (ℕ × List ℕ)). with_content x n text) (sym (take-append-drop i es))
+    ∙ with_after (take i es) (drop i es) n text p.before in
+    let here : with_content (drop i es) n text ≡ (n, text) ∷ drop (i + 1) es =
+    ap (λ (x : List (ℕ × List ℕ)). with_content x n text) (drop_more es i d lt)
+    ∙ with_at (get_or es i d) (drop (i + 1) es) n text same in
+    left ∙ sym (right ∙ ap (λ (x : List (ℕ × List ℕ)). take i es ++ x) here)
 
--- the first i + 1 elements
-pub pairs_more : (es : List Element) (i : ℕ) (e : Element) → i < length es → e ≡ get_or es i e
-    → pairs_of (take (i + 1) es) ≡ pairs_of (take i es) ++ pair_of e ∷ []
-pairs_more es i e lt is = ap pairs_of (take_more es i e lt) ∙ map_push pair_of (take i es) (get_or es i e)
-    ∙ ap (λ (x : Element). pairs_of (take i es) ++ pair_of x ∷ []) (sym is)
-
-at_item : (P : Element → Type 0) (es : List Element) (i : ℕ) (e : Element) → e ≡ get_or es i e → P (get_or es i e)
-    → P e
-at_item P es i e is h = subst P (sym is) h
-
-pub item_fits : (es : List Element) (i : ℕ) (e : Element) → list_all is_element (pairs_of es) ≡ true → i < length es
-    → e ≡ get_or es i e → is_element (pair_of e) ≡ true
-item_fits es i e h lt is = at_item (λ x. is_element (pair_of x) ≡ true) es i e is (all_at es i e h lt)
-
-pub item_number : (es : List Element) (i : ℕ) (e : Element) → list_all is_element (pairs_of es) ≡ true
-    → i < length es → e ≡ get_or es i e → (2 ≤ e.number) × (e.number ≤ 128)
-item_number es i e h lt is =
-    let format = format_of_element e.number e.content.items (item_fits es i e h lt is) in
-    let s = format_in_bounds e.number format.0 format.1 in
-    (s.1, s.2)
-
-pub numbers_more : (es : List Element) (i : ℕ) (e : Element) → i < length es → e ≡ get_or es i e
-    → numbers (pairs_of (take (i + 1) es)) ≡ numbers (pairs_of (take i es)) ++ e.number ∷ []
-numbers_more es i e lt is = ap numbers (pairs_more es i e lt is)
-    ∙ map_push (λ (x : ℕ × List ℕ). x.0) (pairs_of (take i es)) (pair_of e)
-
-halves : (es : List Element) (i : ℕ) → pairs_of es ≡ pairs_of (take i es) ++ pairs_of (drop i es)
-halves es i = ap pairs_of (sym (take-append-drop i es)) ∙ map-append pair_of (take i es) (drop i es)
-
-dropped : (es : List Element) (i : ℕ) (d : Element) → i < length es
-    → pairs_of (drop i es) ≡ pair_of (get_or es i d) ∷ pairs_of (drop (i + 1) es)
-dropped es i d lt = ap pairs_of (drop_more es i d lt)
-
-pub place_at : (es : List Element) (n i : ℕ) (e : Element) → i < length es → e ≡ get_or es i e
-    → list_all (is_below n) (pairs_of (take i es)) ≡ true → n ≤ e.number → IsPlace (pairs_of es) n i
-place_at es n i e lt is h le = record {
-  within = simp length-map (omega arith);
-  before = rw (take-map pair_of i es) h;
-  after = subst (λ (x : List (ℕ × List ℕ)). StartsFrom n x) (sym (drop-map pair_of i es ∙ dropped es i e lt))
-      (subst (λ (x : Element). n ≤ x.number) is le);
-}
-
-pub put_same : (es : List Element) (i : ℕ) (e : Element) → IsPlace (pairs_of es) e.number i → i < length es
-    → (get_or es i e).number ≡ e.number → pairs_of (set es i e) ≡ with_content (pairs_of es) e.number e.content.items
-put_same es i e p lt same =
-    let front : list_all (is_below e.number) (pairs_of (take i es)) ≡ true =
-    subst (λ (x : List (ℕ × List ℕ)). list_all (is_below e.number) x ≡ true) (take-map pair_of i es) p.before in
-    let left : pairs_of (set es i e) ≡ pairs_of (take i es) ++ (pair_of e ∷ pairs_of (drop (i + 1) es)) =
-    ap pairs_of (set_split es i e lt ∙ ap (λ (k : ℕ). take i es ++ e ∷ drop k es) (sym (add-one i)))
-    ∙ map-append pair_of (take i es) (e ∷ drop (i + 1) es) in
-    let right : with_content (pairs_of es) e.number e.content.items ≡ pairs_of (take i es)
-    ++ with_content (pairs_of (drop i es)) e.number e.content.items =
-    ap (λ (x : List (ℕ × List ℕ)). with_content x e.number e.content.items) (halves es i)
-    ∙ with_after (pairs_of (take i es)) (pairs_of (drop i es)) e.number e.content.items front in
-    let here : with_content (pairs_of (drop i es)) e.number e.content.items
-    ≡ pair_of e ∷ pairs_of (drop (i + 1) es) = ap (λ (x : List (ℕ × List ℕ)). with_content x e.number
-    e.content.items) (dropped es i e lt) ∙ with_at (pair_of (get_or es i e))
-    (pairs_of (drop (i + 1) es)) e.number e.content.items same in
-    left ∙ sym (right ∙ ap (λ (x : List (ℕ × List ℕ)). pairs_of (take i es) ++ x) here)
-
-not_there : (es : List Element) (i : ℕ) (d : Element) (n : ℕ) → (i < length es → (get_or es i d).number ≢ n)
-    → (e : ℕ × List ℕ) (fs : List (ℕ × List ℕ)) → pairs_of (drop i es) ≡ e ∷ fs → e.0 ≢ n
+not_there : (es : List (ℕ × List ℕ)) (i : ℕ) (d : ℕ × List ℕ) (n : ℕ) → (i < length es → (get_or es i d).0 ≢ n)
+    → (e : ℕ × List ℕ) (fs : List (ℕ × List ℕ)) → drop i es ≡ e ∷ fs → e.0 ≢ n
 not_there es i d n h e fs is same =
     elim (cases_lt i (length es)) [
       | inl lt ↦
-          let both : pair_of (get_or es i d) ∷ pairs_of (drop (i + 1) es) ≡ e ∷ fs = sym (dropped es i d lt) ∙ is in
-          let one : pair_of (get_or es i d) ≡ e = cc in
+          let both : get_or es i d ∷ drop (i + 1) es ≡ e ∷ fs = sym (drop_more es i d lt) ∙ is in
+          let one : get_or es i d ≡ e = cc in
           h lt (ap (λ (x : ℕ × List ℕ). x.0) one ∙ same)
-      | inr past ↦
-          let empty : [] ≡ e ∷ fs = sym (ap pairs_of (drop_all i es past)) ∙ is in
-          absurd cc
+      | inr past ↦ let empty : [] ≡ e ∷ fs = sym (drop_all i es past) ∙ is in absurd cc
     ]
 
-pub put_new : (es : List Element) (i : ℕ) (e : Element) → IsPlace (pairs_of es) e.number i
-    → (i < length es → (get_or es i e).number ≢ e.number)
-    → pairs_of (insert es i e) ≡ with_content (pairs_of es) e.number e.content.items
-put_new es i e p ne =
-    let front : list_all (is_below e.number) (pairs_of (take i es)) ≡ true =
-    subst (λ (x : List (ℕ × List ℕ)). list_all (is_below e.number) x ≡ true) (take-map pair_of i es) p.before in
-    let left : pairs_of (insert es i e) ≡ pairs_of (take i es) ++ (pair_of e ∷ pairs_of (drop i es)) =
-    map-append pair_of (take i es) (e ∷ drop i es) in
-    let right : with_content (pairs_of es) e.number e.content.items ≡ pairs_of (take i es)
-    ++ with_content (pairs_of (drop i es)) e.number e.content.items =
-    ap (λ (x : List (ℕ × List ℕ)). with_content x e.number e.content.items) (halves es i)
-    ∙ with_after (pairs_of (take i es)) (pairs_of (drop i es)) e.number e.content.items front in
-    let from : StartsFrom e.number (pairs_of (drop i es)) =
-    subst (λ (x : List (ℕ × List ℕ)). StartsFrom e.number x) (drop-map pair_of i es) p.after in
-    let here : with_content (pairs_of (drop i es)) e.number e.content.items ≡ pair_of e ∷ pairs_of (drop i es) =
-    with_before (pairs_of (drop i es)) e.number e.content.items from (not_there es i e e.number ne) in
-    left ∙ sym (right ∙ ap (λ (x : List (ℕ × List ℕ)). pairs_of (take i es) ++ x) here)
-
--- ---- a look-up in order
-
-pub found_at : (es : List Element) (i : ℕ) (e : Element) (n : ℕ) → content_of (pairs_of (take i es)) n ≡ None
-    → i < length es → e ≡ get_or es i e → e.number ≡ n → content_of (pairs_of es) n ≡ Some e.content.items
-found_at es i e n h lt is same =
-    let there : pairs_of (drop i es) ≡ pair_of e ∷ pairs_of (drop (i + 1) es) = dropped es i e lt
-    ∙ ap (λ (x : Element). pair_of x ∷ pairs_of (drop (i + 1) es)) (sym is) in
-    ap (λ (x : List (ℕ × List ℕ)). content_of x n) (halves es i)
-    ∙ content_past (pairs_of (take i es)) (pairs_of (drop i es)) n h
-    ∙ ap (λ (x : List (ℕ × List ℕ)). content_of x n) there ∙ rw (eq-eqb n e.number (sym same)) refl
-
-pub past_at : (es : List Element) (i : ℕ) (e : Element) (n : ℕ) → content_of (pairs_of (take i es)) n ≡ None
-    → i < length es → e ≡ get_or es i e → e.number ≢ n → content_of (pairs_of (take (i + 1) es)) n ≡ None
-past_at es i e n h lt is other =
-    let ne : n ≢ e.number = λ x. other (sym x) in
-    ap (λ (x : List (ℕ × List ℕ)). content_of x n) (pairs_more es i e lt is)
-    ∙ content_past (pairs_of (take i es)) (pair_of e ∷ []) n h ∙ rw (ne_eqb n e.number ne) refl
+-- where it isn't, the element goes there
+pub with_content-new : (es : List (ℕ × List ℕ)) (n i : ℕ) (text : List ℕ) (d : ℕ × List ℕ) → IsPlace es n i
+    → (i < length es → (get_or es i d).0 ≢ n) → insert es i (n, text) ≡ with_content es n text
+with_content-new es n i text d p ne =
+    let right : with_content es n text ≡ take i es ++ with_content (drop i es) n text =
+    ap (λ (x : List (ℕ × List ℕ)). with_content x n text) (sym (take-append-drop i es))
+    ∙ with_after (take i es) (drop i es) n text p.before in
+    let here : with_content (drop i es) n text ≡ (n, text) ∷ drop i es =
+    with_before (drop i es) n text p.after (not_there es i d n ne) in
+    sym (right ∙ ap (λ (x : List (ℕ × List ℕ)). take i es ++ x) here)
 
 -- ---- the whole message
 
@@ -216,14 +134,6 @@ message_with kind es n text l h =
       each = all_with es n text l.each fits;
       ascends = ascends_with 1 es n text l.ascends s.1;
     }
-
--- what stands at an index, whatever stands in for what is past the end
-pub index_is : (es : List Element) (i : ℕ) (x d : Element) → i < length es → x ≡ get_or es i x
-    → (get_or es i d).number ≡ x.number
-index_is es i x d lt is = ap (λ (e : Element). e.number) (get_or_default es i d x lt ∙ sym is)
-
-pub place_in : (es fs : List Element) (n i : ℕ) → es ≡ fs → IsPlace (pairs_of es) n i → IsPlace (pairs_of fs) n i
-place_in es fs n i e p = subst (λ (x : List Element). IsPlace (pairs_of x) n i) e p
 
 -- ---- what a look-up gives after a change, and lists with the same look-ups
 

@@ -13,8 +13,7 @@ use Rattle.std.proofs.lemmas.Str.{digit_value_digit}
 use Rattle.std.specs.Str.Parse.{digits_value}
 use Rattle.iso_codec.specs.Content.{prefix_size, stated, length_of, digits_of, has_length, allows, spelled_by}
 use Rattle.iso_codec.specs.declared.bitmaps.Bitmaps.{Bitmaps}
-use Rattle.iso_codec.specs.Message.{names, numbers, is_element, spelled, body}
-use Rattle.iso_codec.proofs.NamedNumbers.{below, below_none, below_in, below_out}
+use Rattle.iso_codec.specs.Message.{named, numbers, is_element, spelled, body}
 use Rattle.iso_codec.specs.Faults.{IsContent}
 
 -- what a length that may stand shows
@@ -126,33 +125,23 @@ pub all_of_mid : {X : Type 0} (p : X → Bool) (xs ys : List X) (x : X) → list
 all_of_mid p [] ys x h = (and_parts (p x) (list_all p ys) h).0
 all_of_mid p (z ∷ xs) ys x h = all_of_mid p xs ys x (and_parts (p z) (list_all p (xs ++ x ∷ ys)) h).1
 
--- where reading the elements has come: those before n are read, and rest is left
-pub record Goes (bitmaps : Bitmaps) (front : List ℕ) (es : List (ℕ × List ℕ)) (rest : List ℕ) (n : ℕ) : Type 0 where
+-- where reading the elements has come: es are read, rest is left, and the elements ns have to come
+pub record Goes (bitmaps : Bitmaps) (front : List ℕ) (es : List (ℕ × List ℕ)) (rest ns : List ℕ) : Type 0 where
   pub parts : front ≡ body es ++ rest
-  pub numbers_are : numbers es ≡ below bitmaps n
+  pub numbers_are : named bitmaps ≡ numbers es ++ ns
   pub each : list_all is_element es ≡ true
 
-pub goes_on : (bitmaps : Bitmaps) (front : List ℕ) (es : List (ℕ × List ℕ)) (rest : List ℕ) (n : ℕ)
-    (r : ElementFormat) (content after : List ℕ) → Goes bitmaps front es rest n → 2 ≤ n → names bitmaps n ≡ true
-    → format_of n ≡ Some r → IsContent r rest content after
-    → Goes bitmaps front (es ++ (n, content) ∷ []) after (n + 1)
-goes_on bitmaps front es rest n r content after g lo h format k =
+pub goes_on : (bitmaps : Bitmaps) (front : List ℕ) (es : List (ℕ × List ℕ)) (rest ns : List ℕ) (n : ℕ)
+    (r : ElementFormat) (content after : List ℕ) → Goes bitmaps front es rest (n ∷ ns) → format_of n ≡ Some r
+    → IsContent r rest content after → Goes bitmaps front (es ++ (n, content) ∷ []) after ns
+goes_on bitmaps front es rest ns n r content after g format k =
     let c = content_is n r rest content after format k in
     record {
       parts = body_push es (n, content) front rest after g.parts c.1;
-      numbers_are = map_push (λ (e : ℕ × List ℕ). e.0) es (n, content)
-          ∙ ap (λ (ns : List ℕ). ns ++ n ∷ []) g.numbers_are ∙ sym (below_in bitmaps n lo h);
+      numbers_are = g.numbers_are ∙ sym (append_assoc (numbers es) (n ∷ []) ns)
+          ∙ ap (λ (l : List ℕ). l ++ ns) (sym (map_push (λ (e : ℕ × List ℕ). e.0) es (n, content)));
       each = all_push is_element es (n, content) g.each c.0;
     }
 
-pub goes_past : (bitmaps : Bitmaps) (front : List ℕ) (es : List (ℕ × List ℕ)) (rest : List ℕ) (n : ℕ)
-    → Goes bitmaps front es rest n → 2 ≤ n → names bitmaps n ≡ false → Goes bitmaps front es rest (n + 1)
-goes_past bitmaps front es rest n g lo h = record {
-  parts = g.parts;
-  numbers_are = g.numbers_are
-      ∙ sym (below_out bitmaps n lo h);
-  each = g.each;
-}
-
-pub goes_none : (bitmaps : Bitmaps) (front : List ℕ) → Goes bitmaps front [] front 2
-goes_none bitmaps front = record { parts = refl; numbers_are = sym (below_none bitmaps); each = refl }
+pub goes_none : (bitmaps : Bitmaps) (front ns : List ℕ) → named bitmaps ≡ ns → Goes bitmaps front [] front ns
+goes_none bitmaps front ns e = record { parts = refl; numbers_are = e; each = refl }

@@ -1,7 +1,7 @@
 -- A fault of a part is the first fault of the whole.
 use Rattle.std.proofs.Common.{◌≡◌, ℕ, ◌+◌, ◌≤◌, ◌<◌, Bool, true, false, ◌++◌, List, [], ◌∷◌, length, take, drop, get_or, Option, Some, None, refl, sym, ap, subst, ◌∙◌, append_assoc, arith, inl, inr}
-use Rattle.std.specs.Prelude.{is_some, if◌then◌else◌}
-use Rattle.std.specs.List.{list_all}
+use Rattle.std.specs.Prelude.{is_some, not}
+use Rattle.std.specs.List.{list_all, filter}
 use Rattle.std.proofs.lemmas.Bool.{true≢false}
 use Rattle.std.proofs.lemmas.List.{append-nil, take-append-drop, nil_from_length}
 use Rattle.iso_codec.specs.declared.bitmaps.Bitmaps.{Bitmaps}
@@ -9,9 +9,9 @@ use Rattle.iso_codec.specs.declared.element_format.ElementFormat.{ElementFormat}
 use Rattle.iso_codec.specs.declared.decode_fault.DecodeFault.{DecodeFault}
 use Rattle.iso_codec.specs.declared.decode_fault.DecodeFault.TheVariants.{Memory, BadType, BadBitmap, UnknownElement, Truncated, BadLength, BadContent, Trailing}
 use Rattle.iso_codec.specs.Table.{format_of}
-use Rattle.iso_codec.specs.Message.{IsKind, bit, names, named, body, Reads, Ascends}
+use Rattle.iso_codec.specs.Message.{IsKind, bit, named, numbers, body, Reads, Ascends}
 use Rattle.iso_codec.specs.Faults.{FirstFault, AwaitsBitmap, AwaitsElement, HasHeader, BitmapFault, BeginsWithBitmap, ContentFault, IsFirstUnknown, IsBody, is_known}
-use Rattle.iso_codec.proofs.NamedNumbers.{below, onward, named_at, below_all, named_ascends}
+use Rattle.iso_codec.proofs.NamedNumbers.{named_ascends, first_fails}
 use Rattle.iso_codec.proofs.ElementReading.{all_of_mid, Goes}
 
 pub bitmap_fault : (text rest : List ℕ) (f : DecodeFault) → AwaitsBitmap text rest → BitmapFault rest f
@@ -108,38 +108,43 @@ pub awaits_second : (text kind rest after : List ℕ) (primary : ℕ) → IsKind
 awaits_second text kind rest after primary k h b set =
     inr (kind, take 16 rest, primary, k, b.bitmap, set, behind kind rest after primary text h b)
 
--- the first number that the table doesn't have
-pub first_unknown_at : (bitmaps : Bitmaps) (n : ℕ) → 2 ≤ n → n ≤ 128 → names bitmaps n ≡ true
-    → list_all is_known (below bitmaps n) ≡ true → format_of n ≡ None → IsFirstUnknown bitmaps n
-first_unknown_at bitmaps n lo hi h known unknown = record {
-  earlier = below bitmaps n;
-  later = onward bitmaps (n + 1);
-  numbers_are = named_at bitmaps n lo hi h;
-  known = known;
-  unknown = unknown;
-}
+pub none_is : {X : Type 0} (o : Option X) → is_some o ≡ false → o ≡ None
+none_is (Some x) h = absurd (true≢false h)
+none_is None h = refl
 
--- a number that is named is in the table
-pub known_at : (bitmaps : Bitmaps) (n : ℕ) → 2 ≤ n → n ≤ 128 → names bitmaps n ≡ true
-    → list_all is_known (named bitmaps) ≡ true → format_of n ≡ None → ⊥
-known_at bitmaps n lo hi h known unknown =
-    let here : is_known n ≡ true = all_of_mid is_known (below bitmaps n) (onward bitmaps (n + 1)) n
-    (subst (λ (ns : List ℕ). list_all is_known ns ≡ true) (named_at bitmaps n lo hi h) known) in
+-- the first number that the table doesn't have
+pub first_unknown_is : (bitmaps : Bitmaps) (n : ℕ) (more : List ℕ)
+    → filter (λ m. not (is_known m)) (named bitmaps) ≡ n ∷ more → IsFirstUnknown bitmaps n
+first_unknown_is bitmaps n more h =
+    let f = first_fails is_known (named bitmaps) n more h in
+    record {
+      earlier = f.earlier;
+      later = f.later;
+      numbers_are = f.parts;
+      known = f.pass;
+      unknown = none_is (format_of n) f.fails;
+    }
+
+-- a number that has to come is in the table
+pub known_next : (bitmaps : Bitmaps) (front rest ns : List ℕ) (es : List (ℕ × List ℕ)) (n : ℕ)
+    → Goes bitmaps front es rest (n ∷ ns) → list_all is_known (named bitmaps) ≡ true → format_of n ≡ None → ⊥
+known_next bitmaps front rest ns es n g known unknown =
+    let here : is_known n ≡ true = all_of_mid is_known (numbers es) ns n
+    (subst (λ (ms : List ℕ). list_all is_known ms ≡ true) g.numbers_are known) in
     true≢false (sym here ∙ ap is_some unknown)
 
-pub awaits_element : (text kind front rest : List ℕ) (bitmaps : Bitmaps) (es : List (ℕ × List ℕ)) (n : ℕ)
-    (r : ElementFormat) → HasHeader text kind bitmaps front → Goes bitmaps front es rest n
-    → list_all is_known (named bitmaps) ≡ true → names bitmaps n ≡ true → 2 ≤ n → n ≤ 128 → format_of n ≡ Some r
-    → AwaitsElement text n r rest
-awaits_element text kind front rest bitmaps es n r o g known h lo hi format = record {
+pub awaits_element : (text kind front rest ns : List ℕ) (bitmaps : Bitmaps) (es : List (ℕ × List ℕ)) (n : ℕ)
+    (r : ElementFormat) → HasHeader text kind bitmaps front → Goes bitmaps front es rest (n ∷ ns)
+    → list_all is_known (named bitmaps) ≡ true → format_of n ≡ Some r → AwaitsElement text n r rest
+awaits_element text kind front rest ns bitmaps es n r o g known format = record {
   kind = kind;
   bitmaps = bitmaps;
   elements = es;
-  later = onward bitmaps (n + 1);
+  later = ns;
   header = subst (λ (x : List ℕ). HasHeader text kind bitmaps x) g.parts o;
   known = known;
   each = g.each;
-  numbers_are = rw g.numbers_are (named_at bitmaps n lo hi h);
+  numbers_are = g.numbers_are;
   format_is = format;
 }
 
@@ -160,29 +165,31 @@ reads_whole text kind rest bitmaps es o b = record {
   names_all = b.numbers_are;
 }
 
-pub body_whole : (bitmaps : Bitmaps) (front rest : List ℕ) (es : List (ℕ × List ℕ)) (n : ℕ)
-    → Goes bitmaps front es rest n → n ≡ 129 → length rest ≡ 0 → IsBody bitmaps front es
-body_whole bitmaps front rest es n g e none = record {
+pub body_whole : (bitmaps : Bitmaps) (front rest : List ℕ) (es : List (ℕ × List ℕ)) → Goes bitmaps front es rest []
+    → length rest ≡ 0 → IsBody bitmaps front es
+body_whole bitmaps front rest es g none = record {
   parts = g.parts ∙ ap (λ (x : List ℕ). body es ++ x) (nil_from_length rest none) ∙ append-nil (body es);
   each = g.each;
-  numbers_are = g.numbers_are ∙ below_all bitmaps n e;
+  numbers_are = sym (g.numbers_are ∙ append-nil (numbers es));
 }
 
-pub trailing_fault : (text kind front rest : List ℕ) (bitmaps : Bitmaps) (es : List (ℕ × List ℕ)) (n : ℕ)
-    → HasHeader text kind bitmaps front → Goes bitmaps front es rest n → n ≡ 129 → 0 < length rest
-    → FirstFault text Trailing
-trailing_fault text kind front rest bitmaps es n o g e some =
+pub trailing_fault : (text kind front rest : List ℕ) (bitmaps : Bitmaps) (es : List (ℕ × List ℕ))
+    → HasHeader text kind bitmaps front → Goes bitmaps front es rest [] → 0 < length rest → FirstFault text Trailing
+trailing_fault text kind front rest bitmaps es o g some =
     let whole : List ℕ = kind ++ (o.digits ++ body es) in
-    let header : HasHeader whole kind bitmaps (body es) =
-    record { digits = o.digits; kind_fits = o.kind_fits; digits_fit = o.digits_fit; parts = refl } in
+    let header : HasHeader whole kind bitmaps (body es) = record {
+      digits = o.digits;
+      kind_fits = o.kind_fits;
+      digits_fit = o.digits_fit;
+      parts = refl;
+    } in
     let is_body : IsBody bitmaps (body es) es = record {
       parts = refl;
       each = g.each;
-      numbers_are = g.numbers_are
-          ∙ below_all bitmaps n e;
+      numbers_are = sym (g.numbers_are ∙ append-nil (numbers es));
     } in
-    let parts : text ≡ whole ++ rest = o.parts ∙ ap (λ (x : List ℕ). kind ++ (o.digits ++ x)) g.parts
-    ∙ simp append_assoc in (
+    let parts : text ≡ whole ++ rest =
+    o.parts ∙ ap (λ (x : List ℕ). kind ++ (o.digits ++ x)) g.parts ∙ simp append_assoc in (
       whole,
       rest,
       record { kind = kind; elements = es },
@@ -190,14 +197,3 @@ trailing_fault text kind front rest bitmaps es n o g e some =
       parts,
       some,
     )
-
-pub none_is : {X : Type 0} (o : Option X) → is_some o ≡ false → o ≡ None
-none_is (Some x) h = absurd (true≢false h)
-none_is None h = refl
-
-pub known_some : (n : ℕ) (o : Option ElementFormat) → o ≡ format_of n → is_some o ≡ true → is_known n ≡ true
-known_some n o e h = rw (← e) h
-
-pub some_true : {X : Type 0} (o : Option X) (b : Bool) → b ≡ false → is_some o ≡ (if b then false else true)
-    → is_some o ≡ true
-some_true o b e h = h ∙ rw e refl

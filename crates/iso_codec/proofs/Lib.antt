@@ -1,5 +1,6 @@
 pub mod BitmapDigits
 pub mod NamedNumbers
+pub mod BitmapWords
 pub mod ElementReading
 pub mod FaultsOfParts
 pub mod TableBounds
@@ -7,6 +8,7 @@ pub mod OneMessage
 pub mod FaultsSpellNothing
 pub mod BitmapsOfNumbers
 pub mod ElementPlaces
+pub mod SpanElements
 pub mod WrittenIsRead
 pub mod OneFirstFault
 pub mod Computing

@@ -17,7 +17,6 @@ use Rattle.iso_codec.specs.Message.{IsoMessage, IsKind, IsBitmap, bit, named, nu
 use Rattle.iso_codec.specs.Faults.{HasHeader, AwaitsElement, IsFirstUnknown, is_known, ContentFault, IsContent, BitmapFault, BeginsWithBitmap, IsBody, FirstFault}
 use Rattle.iso_codec.specs.Reading.{◌>>=◌, taken, or_fault, kind_at, bits_of, bitmap_at, second_at, bitmaps_at, known_of, content_by, elements_at, reading_of}
 use Rattle.iso_codec.proofs.BitmapDigits.{not_hex, sized_is}
-use Rattle.iso_codec.proofs.NamedNumbers.{below_all}
 use Rattle.iso_codec.proofs.ElementReading.{Goes, content_is, body_push, all_push, all_of_mid}
 use Rattle.iso_codec.proofs.FaultsOfParts.{bitmap_fault, content_fault, header_one, header_two, awaits_first, awaits_second, reads_whole, trailing_fault, none_is}
 use Rattle.iso_codec.proofs.OneMessage.{read_once}
@@ -246,13 +245,8 @@ elements_is text kind front bitmaps o known [] es [] parts ns each =
           sym (ns ∙ append-nil (numbers es));
     })
 elements_is text kind front bitmaps o known [] es (b ∷ rest) parts ns each =
-    let goes : Goes bitmaps front es (b ∷ rest) 129 = record {
-      parts = parts;
-      numbers_are =
-          sym (ns ∙ append-nil (numbers es)) ∙ sym (below_all bitmaps 129 refl);
-      each = each;
-    } in
-    trailing_fault text kind front (b ∷ rest) bitmaps es 129 o goes refl (omega arith)
+    let goes : Goes bitmaps front es (b ∷ rest) [] = record { parts = parts; numbers_are = ns; each = each } in
+    trailing_fault text kind front (b ∷ rest) bitmaps es o goes (omega arith)
 elements_is text kind front bitmaps o known (n ∷ ns) es rest parts numbers_are each =
     let here : is_known n ≡ true = all_of_mid is_known (numbers es) ns n
     (subst (λ (l : List ℕ). list_all is_known l ≡ true) numbers_are known) in

@@ -1,5 +1,5 @@
 -- What holds of each row of the table.
-use Rattle.std.proofs.Common.{◌≡◌, ℕ, ◌≤◌, Bool, true, ◌&&◌, eqb, leb, List, [], ◌∷◌, Some, refl, sym, subst, inl, inr}
+use Rattle.std.proofs.Common.{◌≡◌, ℕ, ◌<◌, ◌≤◌, Bool, true, ◌&&◌, eqb, leb, List, [], ◌∷◌, Option, Some, None, refl, sym, subst, arith, inl, inr}
 use Rattle.std.specs.List.{list_all}
 use Rattle.std.proofs.lemmas.Bool.{and_parts, leb-true, eqb-true, cases_Bool}
 use Rattle.iso_codec.specs.declared.element_format.ElementFormat.{ElementFormat}
@@ -34,3 +34,10 @@ format_in_bounds n r e =
     let b = and_parts (is_sound r.form) (leb 2 n && leb n 128) a in
     let d = and_parts (leb 2 n) (leb n 128) b.1 in
     (b.0, leb-true 2 n d.0, leb-true n 128 d.1)
+
+none_beyond : (n : ℕ) (o : Option ElementFormat) → format_of n ≡ o → 128 < n → o ≡ None
+none_beyond n None e h = refl
+none_beyond n (Some format) e h = let b = format_in_bounds n format e in absurd (omega (arith, b.2))
+
+pub format_of-beyond : (n : ℕ) → 128 < n → format_of n ≡ None
+format_of-beyond n h = none_beyond n (format_of n) refl h

@@ -4,5 +4,6 @@ pub mod Message
 pub mod Faults
 pub mod FaultTexts
 pub mod Setting
+pub mod Span
 pub mod Reading
 pub mod Examples

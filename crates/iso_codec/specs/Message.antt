@@ -6,7 +6,6 @@ use Rattle.std.specs.Char.{is_ascii_digit}
 use Rattle.std.specs.Int.{is_in_range, bit_at, w64, from_be_bytes}
 use Rattle.hex.specs.Hex.{decode_of}
 use Rattle.iso_codec.specs.declared.bitmaps.Bitmaps.{Bitmaps}
-use Rattle.iso_codec.specs.declared.element.Element.{Element}
 use Rattle.iso_codec.specs.Table.{format_of}
 use Rattle.iso_codec.specs.Content.{allows, spelled_by}
 
@@ -14,13 +13,6 @@ use Rattle.iso_codec.specs.Content.{allows, spelled_by}
 pub record IsoMessage : Type 0 where
   pub kind : List ℕ
   pub elements : List (ℕ × List ℕ)
-
--- the program's elements, as pairs of number and content
-abbrev pub pair_of : Element → ℕ × List ℕ
-pair_of e = (e.number, e.content.items)
-
-abbrev pub pairs_of : List Element → List (ℕ × List ℕ)
-pairs_of es = map pair_of es
 
 abbrev pub numbers : List (ℕ × List ℕ) → List ℕ
 numbers es = map (λ e. e.0) es

@@ -1,5 +1,5 @@
 -- Which contents an element may be set to, where it goes, and the bits that elements mark.
-use Rattle.std.specs.Prelude.{◌≡◌, ℕ, ◌≤◌, ◌==◌, nat_lt, nat_le, Bool, true, false, List, [], ◌∷◌, length, take, drop, Option, Some, None, if◌then◌else◌}
+use Rattle.std.specs.Prelude.{◌≡◌, ℕ, ◌<◌, ◌≤◌, ◌==◌, nat_lt, nat_le, Bool, true, false, List, [], ◌∷◌, length, take, drop, Option, Some, None, if◌then◌else◌}
 use Rattle.std.specs.List.{list_all, list_any}
 use Rattle.iso_codec.specs.declared.bitmaps.Bitmaps.{Bitmaps}
 use Rattle.iso_codec.specs.declared.form.Form.{Form}
@@ -45,6 +45,13 @@ pub record Marks (ns : List ℕ) (bitmaps : Bitmaps) : Type 0 where
   pub named_each : (n : ℕ) → 2 ≤ n → n ≤ 128 → names bitmaps n ≡ is_in ns n
   pub second : bit bitmaps.primary 1 ≡ list_any (λ n. nat_lt 64 n) ns
   pub none : bit bitmaps.primary 1 ≡ false → bitmaps.secondary ≡ 0
+
+-- bit n is the first of these that is set
+pub record IsFirstBit (bits n : ℕ) : Type 0 where
+  pub low : 1 ≤ n
+  pub high : n ≤ 64
+  pub set : bit bits n ≡ true
+  pub before : (k : ℕ) → 1 ≤ k → k < n → bit bits k ≡ false
 
 -- a greatest length fits the digits before it
 abbrev pub is_sound : Form → Bool

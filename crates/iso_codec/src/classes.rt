@@ -11,21 +11,33 @@ use crate::class::Class;
 pub fn all_digits(text: &[u8]) -> bool
     ensures { result ≡ list_all is_ascii_digit text.now }
 {
-    text.iter().all(|b| b.is_ascii_digit())
+    let mut all = true;
+    for b in text {
+        all &= b.is_ascii_digit();
+    }
+    all
 }
 
 /// Whether all bytes are of class an of ISO 8583:1987: digits, letters of either case, the space.
 pub fn all_alphanumeric(text: &[u8]) -> bool
     ensures { result ≡ list_all is_alphanumeric text.now }
 {
-    text.iter().all(|b| matches!(*b, b'0'..=b'9' | b'A'..=b'Z' | b'a'..=b'z' | b' '))
+    let mut all = true;
+    for b in text {
+        all &= matches!(*b, b'0'..=b'9' | b'A'..=b'Z' | b'a'..=b'z' | b' ');
+    }
+    all
 }
 
 /// Whether all bytes are of class ans of ISO 8583:1987: from the space, 0x20, to the tilde, 0x7E.
 pub fn all_printable(text: &[u8]) -> bool
     ensures { result ≡ list_all is_printable text.now }
 {
-    text.iter().all(|b| matches!(*b, b' '..=b'~'))
+    let mut all = true;
+    for b in text {
+        all &= matches!(*b, b' '..=b'~');
+    }
+    all
 }
 
 fn all_track(text: &[u8]) -> bool

@@ -3,7 +3,8 @@
 ghost use Rattle.std.specs.Prelude.{◌≡◌, ◌⊎◌, ◌+◌, ◌<◌, ◌≤◌, ℕ, List, true, length, take, drop, IfOk, IfErr, IfSome, IfNone, OnOk, MatchResult};
 ghost use Rattle.std.specs.List.{list_all};
 ghost use Rattle.iso_codec.specs.declared.decode_fault.DecodeFault.TheVariants.{Memory};
-ghost use Rattle.iso_codec.specs.Message.{IsoMessage, Reads, IsMessage, IsBitmap, named, pairs_of};
+ghost use Rattle.iso_codec.specs.Message.{IsoMessage, Reads, IsMessage, IsBitmap, named};
+ghost use Rattle.iso_codec.specs.Span.{elements_in, is_within};
 ghost use Rattle.iso_codec.specs.Reading.{reading_of};
 ghost use Rattle.iso_codec.specs.Faults.{FirstFault, HasHeader, NeedsMemory, ElementsFault, IsBody, BitmapFault, BeginsWithBitmap, IsFirstUnknown, is_known};
 
@@ -11,9 +12,9 @@ use crate::bitmaps::{Bitmaps, bit};
 use crate::classes::all_digits;
 use crate::content::content_at;
 use crate::decode_fault::DecodeFault;
-use crate::element::Element;
 use crate::element_format::format_at;
 use crate::message::Message;
+use crate::span::Span;
 use hex::FromHex;
 use std::alloc::Global;
 
@@ -59,40 +60,38 @@ fn first_unknown(bitmaps: &Bitmaps) -> Option<u8>
     ensures none { IfNone result (list_all is_known (named bitmaps.now) ≡ true) }
     ensures some { IfSome result (λ n. IsFirstUnknown bitmaps.now n) }
 {
-    for number in 2..129 {
-        if bitmaps.names(number) && format_at(number).is_none() {
-            return Some(number);
-        }
-    }
-    None
+    let mut unknown = bitmaps.of_unknown();
+    unknown.take_first()
 }
 
-/// The elements that bitmaps name, which are all of the bytes.
-fn elements_at(alloc: Global, bitmaps: &Bitmaps, body: &[u8]) -> Result<Vec<Element>, DecodeFault>
+/// The spans of the elements that bitmaps name, which are all of the bytes.
+fn spans_of(alloc: Global, bitmaps: &Bitmaps, body: &[u8]) -> Result<Vec<Span>, DecodeFault>
     requires { list_all is_known (named bitmaps.now) ≡ true }
-    ensures found { IfOk result (λ es. IsBody bitmaps.now body.now (pairs_of es.items)) }
+    ensures found { IfOk result (λ spans. IsBody bitmaps.now body.now
+        (elements_in body.now spans.items)) }
+    ensures within { IfOk result (λ spans. list_all (is_within (length body.now)) spans.items
+        ≡ true) }
     ensures fault { IfErr result (λ f. ElementsFault bitmaps.now body.now f) }
 {
-    let mut elements = Vec::new(alloc);
+    let mut spans = Vec::with_capacity(alloc, bitmaps.count())?;
+    let mut left = bitmaps.of_elements();
     let mut rest = body;
-    for number in 2..129 {
-        if bitmaps.names(number) {
-            let Some(format) = format_at(number) else {
-                unreachable!();
-            };
-            let (content, after) = content_at(number, format, rest)?;
-            let owned = Vec::from_slice(alloc, content)?;
-            elements.push(Element {
-                number,
-                content: owned,
-            })?;
-            rest = after;
-        }
+    while let Some(number) = left.take_first() {
+        let Some(format) = format_at(number) else {
+            unreachable!();
+        };
+        let (content, after) = content_at(number, format, rest)?;
+        spans.push(Span {
+            number,
+            start: body.len() - after.len() - content.len(),
+            len: content.len(),
+        })?;
+        rest = after;
     }
     if !rest.is_empty() {
         return Err(DecodeFault::Trailing);
     }
-    Ok(elements)
+    Ok(spans)
 }
 
 fn read(alloc: Global, text: &[u8]) -> Result<Message, DecodeFault>
@@ -104,8 +103,9 @@ fn read(alloc: Global, text: &[u8]) -> Result<Message, DecodeFault>
     if let Some(number) = first_unknown(&bitmaps) {
         return Err(DecodeFault::UnknownElement(number));
     }
-    let elements = elements_at(alloc, &bitmaps, body)?;
-    Ok(Message::with_elements(kind, elements))
+    let spans = spans_of(alloc, &bitmaps, body)?;
+    let bytes = Vec::from_slice(alloc, body)?;
+    Ok(Message::with_spans(kind, spans, bytes))
 }
 
 /// The message that a text spells, or the first of its faults in the profile's order.

@@ -1,17 +1,20 @@
 //! Writing a message.
 
-ghost use Rattle.std.specs.Prelude.{◌≡◌, ◌+◌, ◌<◌, ◌≤◌, ◌==◌, ◌||◌, ℕ, List, true, false, length, ◌++◌, OnOk, OnErr, IfOk};
+ghost use Rattle.std.specs.Prelude.{◌≡◌, ◌+◌, ◌<◌, ◌≤◌, ◌==◌, ◌||◌, ℕ, List, true, false, length, slice_index, ◌++◌, OnOk, OnErr, IfOk};
 ghost use Rattle.std.specs.List.{list_all, list_any};
+ghost use Rattle.hex.specs.Hex.{upper_digits};
 ghost use Rattle.iso_codec.specs.Content.{digits_of, has_length};
-ghost use Rattle.iso_codec.specs.Message.{Writes, IsBitmap, AreBitmaps, bit as bit_of, numbers, names, pair_of, pairs_of, is_element, spelled, body, Ascends, is_upper_hex};
+ghost use Rattle.iso_codec.specs.Message.{Writes, IsBitmap, AreBitmaps, bit as bit_of, is_element, spelled, body, Ascends, is_upper_hex};
 ghost use Rattle.iso_codec.specs.Reading.{spelling, Extends};
 ghost use Rattle.iso_codec.specs.Setting.{Marks, is_sound};
+ghost use Rattle.iso_codec.specs.Span.{elements_in, numbers_of, is_within};
+ghost use Rattle.std.specs.Int.{is_in_range};
 
 use crate::bitmaps::{Bitmaps, bit};
-use crate::element::Element;
 use crate::element_format::format_at;
 use crate::form::Form;
 use crate::message::Message;
+use crate::span::{Span, bytes_at};
 use std::alloc::{AllocError, Global};
 
 /// The bits with one more, the leftmost of which is number 1.
@@ -24,14 +27,14 @@ fn with_bit(bits: u64, number: u8) -> u64
 }
 
 /// The bitmaps that name these elements.
-fn bitmaps_of(elements: &[Element]) -> Bitmaps
-    requires { list_all is_element (pairs_of elements.now) ≡ true }
-    ensures { Marks (numbers (pairs_of elements.now)) result }
+fn bitmaps_of(spans: &[Span]) -> Bitmaps
+    requires { list_all (is_in_range 2 128) (numbers_of spans.now) ≡ true }
+    ensures { Marks (numbers_of spans.now) result }
 {
     let mut primary = 0;
     let mut secondary = 0;
-    for element in elements {
-        let number = element.number;
+    for span in spans {
+        let number = span.number;
         if number <= 64 {
             primary = with_bit(primary, number);
         } else {
@@ -42,24 +45,38 @@ fn bitmaps_of(elements: &[Element]) -> Bitmaps
     Bitmaps { primary, secondary }
 }
 
-fn push_bitmap(alloc: Global, out: &mut Vec<u8>, bits: u64) -> Result<(), AllocError>
+/// A byte's upper or lower half as a digit, with capitals.
+fn hex_digit(half: u8) -> u8
+    requires { half < 16 }
+    ensures { result ≡ slice_index upper_digits half }
+{
+    if half < 10 {
+        b'0' + half
+    } else {
+        b'A' + (half - 10)
+    }
+}
+
+fn push_bitmap(out: &mut Vec<u8>, bits: u64) -> Result<(), AllocError>
     ensures ok { OnOk result ((digits : List ℕ) × IsBitmap digits bits
         × (list_all is_upper_hex digits ≡ true) × (out.new.items ≡ out.old.items ++ digits)) }
     ensures grows { Extends out.old.items out.new.items }
 {
-    let digits = hex::encode_upper(alloc, bits.to_be_bytes())?;
-    out.extend_from_slice(digits.as_bytes())
+    for byte in bits.to_be_bytes() {
+        out.extend_from_slice(&[hex_digit(byte / 16), hex_digit(byte % 16)])?;
+    }
+    Ok(())
 }
 
-fn push_bitmaps(alloc: Global, out: &mut Vec<u8>, bitmaps: Bitmaps) -> Result<(), AllocError>
+fn push_bitmaps(out: &mut Vec<u8>, bitmaps: Bitmaps) -> Result<(), AllocError>
     requires { bit_of bitmaps.primary 1 ≡ false → bitmaps.secondary ≡ 0 }
     ensures ok { OnOk result ((digits : List ℕ) × AreBitmaps digits bitmaps
         × (list_all is_upper_hex digits ≡ true) × (out.new.items ≡ out.old.items ++ digits)) }
     ensures grows { Extends out.old.items out.new.items }
 {
-    push_bitmap(alloc, out, bitmaps.primary)?;
+    push_bitmap(out, bitmaps.primary)?;
     if bit(bitmaps.primary, 1) {
-        push_bitmap(alloc, out, bitmaps.secondary)?;
+        push_bitmap(out, bitmaps.secondary)?;
     }
     Ok(())
 }
@@ -87,43 +104,54 @@ fn push_length(out: &mut Vec<u8>, form: Form, len: usize) -> Result<(), AllocErr
     Ok(())
 }
 
-fn push_element(out: &mut Vec<u8>, element: &Element) -> Result<(), AllocError>
-    requires { is_element (pair_of element.now) ≡ true }
-    ensures ok { OnOk result (out.new.items ≡ out.old.items ++ spelled (pair_of element.now)) }
+fn push_element(out: &mut Vec<u8>, number: u8, content: &[u8]) -> Result<(), AllocError>
+    requires { is_element (number, content.now) ≡ true }
+    ensures ok { OnOk result (out.new.items ≡ out.old.items ++ spelled (number, content.now)) }
     ensures grows { Extends out.old.items out.new.items }
 {
-    let Some(format) = format_at(element.number) else {
+    let Some(format) = format_at(number) else {
         unreachable!();
     };
-    push_length(out, format.form, element.content.len())?;
-    out.extend_from_slice(element.content.as_slice())
+    push_length(out, format.form, content.len())?;
+    out.extend_from_slice(content)
 }
 
-fn push_body(out: &mut Vec<u8>, elements: &[Element]) -> Result<(), AllocError>
-    requires { list_all is_element (pairs_of elements.now) ≡ true }
-    ensures ok { OnOk result (out.new.items ≡ out.old.items ++ body (pairs_of elements.now)) }
+fn push_body(out: &mut Vec<u8>, spans: &[Span], bytes: &[u8]) -> Result<(), AllocError>
+    requires within { list_all (is_within (length bytes.now)) spans.now ≡ true }
+    requires each { list_all is_element (elements_in bytes.now spans.now) ≡ true }
+    ensures ok { OnOk result (out.new.items
+        ≡ out.old.items ++ body (elements_in bytes.now spans.now)) }
     ensures grows { Extends out.old.items out.new.items }
 {
-    for element in elements {
-        push_element(out, element)?;
+    for span in spans {
+        push_element(out, span.number, bytes_at(bytes, *span))?;
     }
     Ok(())
 }
 
-fn push_message(alloc: Global, message: &Message, out: &mut Vec<u8>) -> Result<(), AllocError>
+/// Room for the type, two bitmaps, and the digits of a length before each element.
+fn room(spans: &[Span], bytes: &[u8]) -> usize {
+    bytes
+        .len()
+        .saturating_add(spans.len().saturating_mul(3))
+        .saturating_add(36)
+}
+
+fn push_message(message: &Message, out: &mut Vec<u8>) -> Result<(), AllocError>
     ensures ok { OnOk result ((text : List ℕ) × Writes text message.now
         × (out.new.items ≡ out.old.items ++ text)) }
     ensures grows { Extends out.old.items out.new.items }
 {
-    let elements = message.elements();
-    let bitmaps = bitmaps_of(elements);
+    let (spans, bytes) = message.parts();
+    let bitmaps = bitmaps_of(spans);
+    out.reserve(room(spans, bytes))?;
     out.extend_from_slice(&message.kind())?;
-    push_bitmaps(alloc, out, bitmaps)?;
-    push_body(out, elements)
+    push_bitmaps(out, bitmaps)?;
+    push_body(out, spans, bytes)
 }
 
 /// Writes a message at the end. An `Err` changes nothing.
-pub fn encode(alloc: Global, message: &Message, out: &mut Vec<u8>) -> Result<(), AllocError>
+pub fn encode(_alloc: Global, message: &Message, out: &mut Vec<u8>) -> Result<(), AllocError>
     ensures written { OnOk result ((text : List ℕ) × Writes text message.now
         × (out.new.items ≡ out.old.items ++ text)) }
     // What is written is the message's spelling.
@@ -131,7 +159,7 @@ pub fn encode(alloc: Global, message: &Message, out: &mut Vec<u8>) -> Result<(),
     ensures err { OnErr result (out.new.items ≡ out.old.items) }
 {
     let len = out.len();
-    let pushed = push_message(alloc, message, out);
+    let pushed = push_message(message, out);
     if pushed.is_err() {
         out.truncate(len);
     }

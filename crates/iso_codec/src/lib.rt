@@ -12,7 +12,6 @@ mod classes;
 mod content;
 mod decode_fault;
 mod decoding;
-mod element;
 mod element_format;
 mod encoding;
 pub mod examples;
@@ -20,6 +19,7 @@ mod form;
 pub mod laws;
 mod message;
 mod set_fault;
+mod span;
 
 pub use classes::{all_alphanumeric, all_digits, all_printable};
 pub use decode_fault::DecodeFault;

@@ -1,20 +1,21 @@
 //! Messages.
 
-ghost use Rattle.std.specs.Prelude.{◌≡◌, ◌↔◌, ◌⊎◌, true, [], Some, None, Err, IfSome, IsSome, OnOk, OnErr, IfErr};
-ghost use Rattle.std.specs.List.{list_all};
+ghost use Rattle.std.specs.Prelude.{◌≡◌, ◌↔◌, ◌⊎◌, ◌≤◌, ℕ, List, true, [], Some, None, Err, length, slice_set, IfSome, IsSome, IfOk, OnOk, OnErr, IfErr};
+ghost use Rattle.std.specs.List.{list_all, insert};
 ghost use Rattle.std.specs.Option.{option_copied};
 ghost use Rattle.std.specs.Char.{is_ascii_digit};
 ghost use Rattle.iso_codec.specs.declared.set_fault.SetFault.{SetFault};
 ghost use Rattle.iso_codec.specs.declared.set_fault.SetFault.TheVariants.{Memory};
 ghost use Rattle.iso_codec.specs.Content.{has_length};
-ghost use Rattle.iso_codec.specs.Message.{pairs_of, IsMessage, content_of, with_content, is_element};
+ghost use Rattle.iso_codec.specs.Message.{IsMessage, content_of, with_content};
 ghost use Rattle.iso_codec.specs.Setting.{set_fault, IsPlace};
+ghost use Rattle.iso_codec.specs.Span.{elements_in, is_within, IsStored};
 
 use crate::classes::{all_digits, fits_class};
-use crate::element::Element;
 use crate::element_format::format_at;
 use crate::form::Form;
 use crate::set_fault::SetFault;
+use crate::span::{Span, bytes_at};
 use std::alloc::{AllocError, Global};
 use std::fmt;
 use std::marker::Model;
@@ -24,20 +25,24 @@ use std::marker::Model;
 #[derive(Drop)]
 pub struct Message {
     kind: [u8; 4],
-    elements: Vec<Element>,
+    /// The elements, in ascending order.
+    spans: Vec<Span>,
+    /// Their contents, in any order.
+    bytes: Vec<u8>,
 }
 
 impl Model for Message {
-    ghost use Rattle.iso_codec.specs.Message.{IsoMessage, pairs_of, IsMessage};
+    ghost use Rattle.iso_codec.specs.Message.{IsoMessage};
+    ghost use Rattle.iso_codec.specs.Span.{elements_in, IsStored};
 
     ghost Value = { IsoMessage };
 
-    ghost view = { λ m. record { kind = m.kind; elements = pairs_of m.elements.items } };
-
-    ghost invariant = { λ m. IsMessage (record {
+    ghost view = { λ m. record {
       kind = m.kind;
-      elements = pairs_of m.elements.items;
-    }) };
+      elements = elements_in m.bytes.items m.spans.items;
+    } };
+
+    ghost invariant = { λ m. IsStored m.kind m.bytes.items m.spans.items };
 }
 
 /// The type, and each element's number and length. No content is printed, since it may be a card
@@ -50,8 +55,8 @@ impl fmt::Debug for Message {
             "Message({}{}{}{}",
             a as char, b as char, c as char, d as char
         )?;
-        for element in self.elements.as_slice() {
-            write!(f, ", {}: {} bytes", element.number, element.content.len())?;
+        for span in self.spans.as_slice() {
+            write!(f, ", {}: {} bytes", span.number, span.len)?;
         }
         write!(f, ")")
     }
@@ -68,16 +73,20 @@ impl Message {
         }
         Some(Message {
             kind,
-            elements: Vec::new(alloc),
+            spans: Vec::new(alloc),
+            bytes: Vec::new(alloc),
         })
     }
 
-    /// A message of these elements.
-    pub(crate) fn with_elements(kind: [u8; 4], elements: Vec<Element>) -> Message
-        requires { IsMessage (record { kind = kind; elements = pairs_of elements.items }) }
-        ensures { result ≡ record { kind = kind; elements = pairs_of elements.items } }
+    /// A message of the elements at these spans.
+    pub(crate) fn with_spans(kind: [u8; 4], spans: Vec<Span>, bytes: Vec<u8>) -> Message
+        requires { IsStored kind bytes.items spans.items }
+        ensures { result ≡ record {
+          kind = kind;
+          elements = elements_in bytes.items spans.items;
+        } }
     {
-        Message { kind, elements }
+        Message { kind, spans, bytes }
     }
 
     /// The four digits of type.
@@ -87,12 +96,12 @@ impl Message {
         self.kind
     }
 
-    /// The elements, in ascending order.
-    pub(crate) fn elements(&self) -> &[Element]
-        ensures value { pairs_of result.now ≡ self.now.elements }
-        ensures message { IsMessage self.now }
+    /// The elements' spans, in ascending order, and the bytes that they stand in.
+    pub(crate) fn parts(&self) -> (&[Span], &[u8])
+        ensures value { elements_in result.1.now result.0.now ≡ self.now.elements }
+        ensures stored { IsStored self.now.kind result.1.now result.0.now }
     {
-        self.elements.as_slice()
+        (self.spans.as_slice(), self.bytes.as_slice())
     }
 
     /// The content of an element, where it is there. It takes no memory.
@@ -103,7 +112,7 @@ impl Message {
         // The elements stand in ascending order, each with its length and class.
         ensures whole { IsMessage self.now }
     {
-        find(self.elements.as_slice(), number)
+        find(self.spans.as_slice(), self.bytes.as_slice(), number)
     }
 
     /// Sets the content of an element, which is its bytes without a length prefix, in place of what
@@ -122,18 +131,18 @@ impl Message {
         if let Some(fault) = refusal(number, content) {
             return Err(fault);
         }
-        let content = Vec::from_slice(alloc, content)?;
-        put(&mut self.elements, Element { number, content })?;
+        put(alloc, &mut self.spans, &mut self.bytes, number, content)?;
         Ok(())
     }
 }
 
-fn find(elements: &[Element], number: u8) -> Option<&[u8]>
-    ensures { option_copied result ≡ content_of (pairs_of elements.now) number }
+fn find<'a>(spans: &[Span], bytes: &'a [u8], number: u8) -> Option<&'a [u8]>
+    requires { list_all (is_within (length bytes.now)) spans.now ≡ true }
+    ensures { option_copied result ≡ content_of (elements_in bytes.now spans.now) number }
 {
-    for element in elements {
-        if element.number == number {
-            return Some(element.content.as_slice());
+    for span in spans {
+        if span.number == number {
+            return Some(bytes_at(bytes, *span));
         }
     }
     None
@@ -166,28 +175,124 @@ fn refusal(number: u8, content: &[u8]) -> Option<SetFault>
 }
 
 /// The place of the first element that isn't below a number.
-fn place(elements: &[Element], number: u8) -> usize
-    ensures { IsPlace (pairs_of elements.now) number result }
+fn place(spans: &[Span], number: u8) -> usize
+    ensures { (bytes : List ℕ) → IsPlace (elements_in bytes spans.now) number result }
 {
-    for (i, element) in elements.iter().enumerate() {
-        if element.number >= number {
+    for (i, span) in spans.iter().enumerate() {
+        if span.number >= number {
             return i;
         }
     }
-    elements.len()
+    spans.len()
 }
 
 /// Puts an element at its place, in place of one with its number.
-fn put(elements: &mut Vec<Element>, element: Element) -> Result<(), AllocError>
-    ensures ok { OnOk result (pairs_of elements.new.items
-        ≡ with_content (pairs_of elements.old.items) element.number element.content.items) }
-    ensures err { OnErr result (pairs_of elements.new.items ≡ pairs_of elements.old.items) }
+fn put(
+    alloc: Global,
+    spans: &mut Vec<Span>,
+    bytes: &mut Vec<u8>,
+    number: u8,
+    content: &[u8],
+) -> Result<(), AllocError>
+    requires { list_all (is_within (length bytes.old.items)) spans.old.items ≡ true }
+    ensures ok { OnOk result (elements_in bytes.new.items spans.new.items
+        ≡ with_content (elements_in bytes.old.items spans.old.items) number content.now) }
+    ensures err { OnErr result (elements_in bytes.new.items spans.new.items
+        ≡ elements_in bytes.old.items spans.old.items) }
+    ensures within { list_all (is_within (length bytes.new.items)) spans.new.items ≡ true }
 {
-    let at = place(elements.as_slice(), element.number);
-    if at < elements.len() && elements[at].number == element.number {
-        elements[at] = element;
+    let at = place(spans.as_slice(), number);
+    if at < spans.len() && spans[at].number == number {
+        let (fresh_spans, fresh_bytes) = replaced(
+            alloc,
+            spans.as_slice(),
+            bytes.as_slice(),
+            at,
+            number,
+            content,
+        )?;
+        *spans = fresh_spans;
+        *bytes = fresh_bytes;
+        Ok(())
     } else {
-        elements.insert(at, element)?;
+        add(spans, bytes, at, number, content)
+    }
+}
+
+/// How many elements and bytes of content most messages have.
+const USUAL_ELEMENTS: usize = 16;
+
+const USUAL_BYTES: usize = 128;
+
+/// Makes room for a usual message, at its first element.
+fn make_room(spans: &mut Vec<Span>, bytes: &mut Vec<u8>) -> Result<(), AllocError>
+    ensures spans { spans.new.items ≡ spans.old.items }
+    ensures bytes { bytes.new.items ≡ bytes.old.items }
+{
+    if spans.capacity() == 0 {
+        spans.reserve(USUAL_ELEMENTS)?;
+        bytes.reserve(USUAL_BYTES)?;
     }
     Ok(())
+}
+
+/// Adds an element at a place, its content behind the others.
+fn add(
+    spans: &mut Vec<Span>,
+    bytes: &mut Vec<u8>,
+    at: usize,
+    number: u8,
+    content: &[u8],
+) -> Result<(), AllocError>
+    requires place { at ≤ length spans.old.items }
+    requires stand { list_all (is_within (length bytes.old.items)) spans.old.items ≡ true }
+    ensures ok { OnOk result (elements_in bytes.new.items spans.new.items
+        ≡ insert (elements_in bytes.old.items spans.old.items) at (number, content.now)) }
+    ensures err { OnErr result (elements_in bytes.new.items spans.new.items
+        ≡ elements_in bytes.old.items spans.old.items) }
+    ensures within { list_all (is_within (length bytes.new.items)) spans.new.items ≡ true }
+{
+    make_room(spans, bytes)?;
+    let start = bytes.len();
+    bytes.extend_from_slice(content)?;
+    let span = Span {
+        number,
+        start,
+        len: content.len(),
+    };
+    match spans.insert(at, span) {
+        Ok(()) => Ok(()),
+        Err(_) => {
+            bytes.truncate(start);
+            Err(AllocError)
+        }
+    }
+}
+
+/// The elements anew, with another content at one place and nothing of the old one.
+fn replaced(
+    alloc: Global,
+    spans: &[Span],
+    bytes: &[u8],
+    at: usize,
+    number: u8,
+    content: &[u8],
+) -> Result<(Vec<Span>, Vec<u8>), AllocError>
+    requires { list_all (is_within (length bytes.now)) spans.now ≡ true }
+    ensures value { IfOk result (λ x. elements_in x.1.items x.0.items
+        ≡ slice_set (elements_in bytes.now spans.now) at (number, content.now)) }
+    ensures within { IfOk result (λ x. list_all (is_within (length x.1.items)) x.0.items ≡ true) }
+{
+    let mut fresh_spans = Vec::with_capacity(alloc, spans.len())?;
+    let mut fresh_bytes = Vec::with_capacity(alloc, bytes.len())?;
+    for (i, span) in spans.iter().enumerate() {
+        let last = fresh_spans.len();
+        if i == at {
+            add(&mut fresh_spans, &mut fresh_bytes, last, number, content)?;
+        } else {
+            let kept = bytes_at(bytes, *span);
+            add(&mut fresh_spans, &mut fresh_bytes, last, span.number, kept)?;
+        }
+    }
+    Ok((fresh_spans, fresh_bytes))
 }

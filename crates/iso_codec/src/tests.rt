@@ -7,6 +7,9 @@ use std::test::Fail;
 const PURCHASE: &[u8] = b"02007220000000C08000\
     1641111111111111110000000000000010000501093000000001TERM0001MERCHANT0000001978";
 
+/// A content that is one byte too long for any element.
+static ADDITIONAL: [u8; 1000] = [b'x'; 1000];
+
 /// The fault of a text, or `None` where it is read.
 fn fault_of(alloc: Global, text: &[u8]) -> Option<DecodeFault> {
     decode(alloc, text).err()
@@ -45,12 +48,15 @@ fn prefixes_of_a_purchase(rt: HostRuntime) -> Result<(), Fail> {
 fn contents_are_set_and_refused(rt: HostRuntime) -> Result<(), Fail> {
     let alloc = rt.alloc();
     let mut message = Message::new(alloc, *b"0800").ok_or("four digits")?;
-    let card = [b'1'; 20];
-    let additional = [b'x'; 1000];
-    let (most, _) = additional.split_at(999);
+    let (most, _) = ADDITIONAL.split_at(999);
     // An element and a content, and the number, the element and the text of the fault.
     let refused = [
-        (2, card.as_slice(), 6, "element 2 can't have this length"),
+        (
+            2,
+            b"11111111111111111111".as_slice(),
+            6,
+            "element 2 can't have this length",
+        ),
         (
             3,
             b"00000".as_slice(),
@@ -74,7 +80,7 @@ fn contents_are_set_and_refused(rt: HostRuntime) -> Result<(), Fail> {
         (255, b"".as_slice(), 4, "element 255 is not in the profile"),
         (
             48,
-            additional.as_slice(),
+            ADDITIONAL.as_slice(),
             6,
             "element 48 can't have this length",
         ),

@@ -1,6 +1,7 @@
 use Rattle.std.proofs.Common.{take, ◌≡◌, ◌++◌}
-use Rattle.iso_codec.specs.Message.{pairs_of, body}
+use Rattle.iso_codec.specs.Message.{body}
+use Rattle.iso_codec.specs.Span.{elements_in}
 use Rattle.iso_codec.proofs.encoding.push_body.Given as goal
 
-abbrev pub invariant-loop-element : goal.invariant-loop-element
-invariant-loop-element l = l.out.items ≡ l.fn.out.items ++ body (pairs_of (take l.element-index l.elements))
+abbrev pub invariant-loop-span : goal.invariant-loop-span
+invariant-loop-span l = l.out.items ≡ l.fn.out.items ++ body (elements_in l.bytes (take l.span-index l.spans))

@@ -1,6 +1,7 @@
 use Rattle.std.proofs.Common.{take, ◌≡◌, None}
-use Rattle.iso_codec.specs.Message.{pairs_of, content_of}
+use Rattle.iso_codec.specs.Message.{content_of}
+use Rattle.iso_codec.specs.Span.{elements_in}
 use Rattle.iso_codec.proofs.message.find.Given as goal
 
-abbrev pub invariant-loop-element : goal.invariant-loop-element
-invariant-loop-element l = content_of (pairs_of (take l.element-index l.elements)) l.number ≡ None
+abbrev pub invariant-loop-span : goal.invariant-loop-span
+invariant-loop-span l = content_of (elements_in l.bytes (take l.span-index l.spans)) l.number ≡ None

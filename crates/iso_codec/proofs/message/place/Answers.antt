@@ -1,6 +1,9 @@
-use Rattle.iso_codec.proofs.ElementPlaces.{place_at}
+use Rattle.iso_codec.proofs.SpanElements.{span_at, span_at_is, place_at}
 use Rattle.iso_codec.proofs.message.place.Goals as goal
 
-pub returns-then-element-number : goal.returns-then-element-number
-returns-then-element-number c = place_at c.args.elements.now c.args.number c.loop-i.i c.index-elements-i.result
-    c.loop-i-test.true c.index-elements-i.is c.loop-i.invariant c.if-element-number.true
+pub returns-then-span-number : goal.returns-then-span-number
+returns-then-span-number c =
+    let spans = c.args.spans.now in
+    let i = c.loop-i.i in
+    λ bytes. place_at bytes spans c.args.number i (span_at spans i) c.loop-i-test.true
+    (span_at_is spans i c.loop-i-test.true) (c.loop-i.invariant bytes) c.if-span-number.true
