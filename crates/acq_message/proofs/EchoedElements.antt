@@ -1,5 +1,5 @@
 -- What a reply echoes, gathered number by number.
-use Rattle.std.proofs.Common.{◌≡◌, ℕ, zero, suc, lit<, subst, ◌+◌, ◌<◌, ◌≤◌, Bool, true, false, ◌||◌, eqb, ltb, List, [], ◌∷◌, ◌++◌, length, take, get_or, Some, None, refl, sym, ap, ◌∙◌, arith, inl, inr}
+use Rattle.std.proofs.Common.{◌≡◌, ℕ, zero, suc, lit<, subst, ◌+◌, ◌<◌, ◌≤◌, Bool, true, false, ◌&&◌, ◌||◌, eqb, ltb, List, [], ◌∷◌, ◌++◌, length, take, get_or, Some, None, refl, sym, ap, ◌∙◌, arith, inl, inr}
 use Rattle.std.specs.List.{list_all, list_any, filter}
 use Rattle.std.proofs.lemmas.Bool.{and_parts, and_from, le-leb, lt-ltb, ltb-true, ne_eqb, eqb-true, cases_Bool}
 use Rattle.std.proofs.lemmas.List.Folds.{list_any-append}
@@ -122,194 +122,25 @@ at_below low (n ∷ ns) (suc i) up lt =
     and_from (ltb n (get_or ns i 0)) (all_below (get_or ns i 0) (take i ns)) (lt-ltb n (get_or ns i 0)
     (at_above n ns i up.1 (omega arith))) (at_below n ns i up.1 (omega arith))
 
+-- ascending numbers, by a test that computes
+abbrev ascend : ℕ → List ℕ → Bool
+ascend low [] = true
+ascend low (n ∷ ns) = ltb low n && ascend n ns
+
+ascend-Ascends : (low : ℕ) (ns : List ℕ) → ascend low ns ≡ true → Ascends low ns
+ascend-Ascends low [] h = tt
+ascend-Ascends low (n ∷ ns) h =
+    let parts = and_parts (ltb low n) (ascend n ns) h in
+    (ltb-true low n parts.0, ascend-Ascends n ns parts.1)
+
 ascending : (service : Service) → Ascends 1 (echoed service)
-ascending Authorization = (
-  lit< tt,
-  (
-    lit< tt,
-    (
-      lit< tt,
-      (
-        lit< tt,
-        (
-          lit< tt,
-          (
-            lit< tt,
-            (
-              lit< tt,
-              (
-                lit< tt,
-                (
-                  lit< tt,
-                  (lit< tt, tt),
-                ),
-              ),
-            ),
-          ),
-        ),
-      ),
-    ),
-  ),
-)
-ascending Financial = (
-  lit< tt,
-  (
-    lit< tt,
-    (
-      lit< tt,
-      (
-        lit< tt,
-        (
-          lit< tt,
-          (
-            lit< tt,
-            (
-              lit< tt,
-              (
-                lit< tt,
-                (
-                  lit< tt,
-                  (lit< tt, tt),
-                ),
-              ),
-            ),
-          ),
-        ),
-      ),
-    ),
-  ),
-)
-ascending Completion = (
-  lit< tt,
-  (
-    lit< tt,
-    (
-      lit< tt,
-      (
-        lit< tt,
-        (
-          lit< tt,
-          (
-            lit< tt,
-            (
-              lit< tt,
-              (
-                lit< tt,
-                (
-                  lit< tt,
-                  (lit< tt, (lit< tt, tt)),
-                ),
-              ),
-            ),
-          ),
-        ),
-      ),
-    ),
-  ),
-)
-ascending Reversal = (
-  lit< tt,
-  (
-    lit< tt,
-    (
-      lit< tt,
-      (
-        lit< tt,
-        (
-          lit< tt,
-          (
-            lit< tt,
-            (
-              lit< tt,
-              (
-                lit< tt,
-                (
-                  lit< tt,
-                  (lit< tt, tt),
-                ),
-              ),
-            ),
-          ),
-        ),
-      ),
-    ),
-  ),
-)
-ascending ReversalAdvice = (
-  lit< tt,
-  (
-    lit< tt,
-    (
-      lit< tt,
-      (
-        lit< tt,
-        (
-          lit< tt,
-          (
-            lit< tt,
-            (
-              lit< tt,
-              (
-                lit< tt,
-                (lit< tt, (lit< tt, tt)),
-              ),
-            ),
-          ),
-        ),
-      ),
-    ),
-  ),
-)
-ascending Reconciliation = (
-  lit< tt,
-  (
-    lit< tt,
-    (
-      lit< tt,
-      (
-        lit< tt,
-        (
-          lit< tt,
-          (
-            lit< tt,
-            (
-              lit< tt,
-              (
-                lit< tt,
-                (lit< tt, (lit< tt, tt)),
-              ),
-            ),
-          ),
-        ),
-      ),
-    ),
-  ),
-)
-ascending NetworkManagement = (
-  lit< tt,
-  (
-    lit< tt,
-    (
-      lit< tt,
-      (
-        lit< tt,
-        (
-          lit< tt,
-          (
-            lit< tt,
-            (
-              lit< tt,
-              (
-                lit< tt,
-                (lit< tt, (lit< tt, (lit< tt, tt))),
-              ),
-            ),
-          ),
-        ),
-      ),
-    ),
-  ),
-)
+ascending Authorization = ascend-Ascends 1 (echoed Authorization) refl
+ascending Financial = ascend-Ascends 1 (echoed Financial) refl
+ascending Completion = ascend-Ascends 1 (echoed Completion) refl
+ascending Reversal = ascend-Ascends 1 (echoed Reversal) refl
+ascending ReversalAdvice = ascend-Ascends 1 (echoed ReversalAdvice) refl
+ascending Reconciliation = ascend-Ascends 1 (echoed Reconciliation) refl
+ascending NetworkManagement = ascend-Ascends 1 (echoed NetworkManagement) refl
 
 -- the reply so far, after the first i numbers
 abbrev pub so_far : Service → IsoMessage → List ℕ → ℕ → IsoMessage
