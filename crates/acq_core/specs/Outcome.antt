@@ -1,5 +1,5 @@
 -- What an event results in, and what goes out.
-use Rattle.std.specs.Prelude.{ℕ, Bool, true, false, List, Option, Some, None}
+use Rattle.std.specs.Prelude.{ℕ, Bool, true, false, List, Option}
 use Rattle.iso_codec.specs.Message.{IsoMessage}
 use Rattle.iso_codec.specs.Reading.{spelling}
 use Rattle.card_no.specs.declared.range.Range.{Range}

@@ -1,5 +1,5 @@
 -- The status of a row, by what the row says.
-use Rattle.std.proofs.Common.{◌≡◌, ℕ, List, true, refl}
+use Rattle.std.proofs.Common.{◌≡◌, true, refl}
 use Rattle.iso_codec.specs.Message.{IsoMessage}
 use Rattle.acq_core.specs.declared.status.Status.{Status}
 use Rattle.acq_core.specs.declared.status.Status.TheVariants.{Refused, Pending, Declined, Approved, Completed, Reversed, ReversedPending, Reconciled}

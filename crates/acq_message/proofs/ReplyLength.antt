@@ -1,26 +1,24 @@
 -- A reply fits a frame: it has at most 127 elements of at most 21 bytes.
-use Rattle.std.proofs.Common.{◌≡◌, ℕ, ◌+◌, ◌*◌, ◌≤◌, Bool, true, false, eqb, leb, List, [], ◌∷◌, ◌++◌, length, Option, Some, None, Result, Ok, Err, refl, ap, subst, ◌∙◌, arith, inl, inr, length-append}
+use Rattle.std.proofs.Common.{◌≡◌, ℕ, ◌+◌, ◌*◌, ◌≤◌, Bool, true, false, eqb, leb, List, [], ◌∷◌, ◌++◌, length, Option, Some, None, refl, ap, subst, ◌∙◌, arith, inl, inr, length-append}
 use Rattle.std.specs.Prelude.{MatchBool}
 use Rattle.std.specs.List.{list_all, filter}
 use Rattle.std.proofs.lemmas.Bool.{and_parts, and_from, leb-true, le-leb, eqb-true, cases_Bool, or_cases}
 use Rattle.iso_codec.specs.declared.form.Form.{Form}
 use Rattle.iso_codec.specs.declared.form.Form.TheVariants.{Fixed, Llvar, Lllvar}
 use Rattle.iso_codec.specs.declared.element_format.ElementFormat.{ElementFormat}
-use Rattle.iso_codec.specs.declared.decode_fault.DecodeFault.{DecodeFault}
 use Rattle.iso_codec.specs.Content.{has_length, has_class, allows, digits_of, spelled_by}
 use Rattle.iso_codec.specs.Table.{format_of}
 use Rattle.iso_codec.specs.Message.{IsoMessage, IsMessage, IsKind, IsBitmap, numbers, Ascends, is_element, spelled, body, with_content}
-use Rattle.iso_codec.specs.Reading.{reading_of, spelling}
+use Rattle.iso_codec.specs.Reading.{spelling}
 use Rattle.iso_codec.specs.Setting.{set_fault}
 use Rattle.iso_codec.proofs.TableBounds.{format_in_bounds}
 use Rattle.iso_codec.proofs.OneMessage.{format_of_element}
-use Rattle.iso_codec.proofs.ReadingComputes.{read_as}
 use Rattle.iso_codec.proofs.ElementPlaces.{message_with, fits_by}
 use Rattle.iso_codec.proofs.SpellingComputes.{spelling_writes}
 use Rattle.acq_message.specs.declared.service.Service.{Service}
 use Rattle.acq_message.specs.declared.service.Service.TheVariants.{Authorization, Financial, Completion, Reversal, ReversalAdvice, Reconciliation, NetworkManagement}
 use Rattle.acq_message.specs.declared.response_code.ResponseCode.{ResponseCode}
-use Rattle.acq_message.specs.Services.{service_of, reply_kind, echoed}
+use Rattle.acq_message.specs.Services.{reply_kind, echoed}
 use Rattle.acq_message.specs.Responses.{code_text}
 use Rattle.acq_message.specs.Elements.{is_among}
 use Rattle.acq_message.specs.Reply.{echo, reply, code_element}

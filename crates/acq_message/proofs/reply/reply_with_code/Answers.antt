@@ -1,4 +1,4 @@
-use Rattle.std.proofs.Common.{sym, ◌∙◌, refl, arith, ap}
+use Rattle.std.proofs.Common.{sym, ◌∙◌, refl, arith}
 use Rattle.acq_message.proofs.EchoedElements.{next_there, next_missing, at_first, at_last}
 use Rattle.acq_message.proofs.reply.reply_with_code.Goals as goal
 use Rattle.acq_message.proofs.reply.reply_with_code.Goals.{in-Some-get+in_ok-put, in_default-get}
