@@ -51,6 +51,11 @@ card_return trace amount merchant =
 abbrev pub hold : String → String → List ℕ → List ℕ
 hold trace amount merchant = card_request "0100" "5500005555555559" "000000" amount trace merchant
 
+-- the same, marked as a repeat
+abbrev pub hold_again : String → String → List ℕ → List ℕ
+hold_again trace amount merchant =
+    card_request "0101" "5500005555555559" "000000" amount trace merchant
+
 -- ---- their replies
 
 -- approved: elements 15, 37, 38 and 39 besides
@@ -104,6 +109,11 @@ hold_approved trace amount day reference merchant =
 abbrev pub hold_declined : String → String → String → String → String → List ℕ → List ℕ
 hold_declined trace amount day reference code merchant =
     card_declined "0110" "5500005555555559" "000000" amount trace day reference code merchant
+
+-- an authorization that the host refused
+abbrev pub hold_refused : String → String → String → String → List ℕ → List ℕ
+hold_refused trace amount day code merchant =
+    card_refused "0110" "5500005555555559" "000000" amount trace day code merchant
 
 -- ---- completions, of 2024-05-02 09:30: elements 3, 4, 7, 11, 37, 41, 42, 49
 
@@ -204,3 +214,9 @@ reconciliation_reply trace day code settlement kept merchant =
     codes "0510" ++ codes "8222000002C00000" ++ codes "4078078080000000" ++ codes "0501100000"
     ++ codes trace ++ codes day
     ++ codes code ++ terminal ++ merchant ++ codes settlement ++ kept
+
+-- the reply without totals: 15 and 39 alone
+abbrev pub reconciliation_refused : String → String → String → List ℕ → List ℕ
+reconciliation_refused trace day code merchant =
+    codes "0510" ++ codes "0222000002C00000" ++ codes "0501100000" ++ codes trace ++ codes day
+    ++ codes code ++ terminal ++ merchant

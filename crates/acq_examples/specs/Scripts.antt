@@ -1,20 +1,32 @@
 -- Events of the worked rows, and what a row says of them.
-use Rattle.std.specs.Prelude.{◌≡◌, ℕ, List, [], ◌∷◌, ◌++◌, Some, None, codes}
+use Rattle.std.specs.Prelude.{◌≡◌, ℕ, List, [], ◌∷◌, ◌++◌, map, filter, Option, Some, None}
+use Rattle.std.specs.Prelude.{option_map, if◌then◌else◌, codes}
+use Rattle.std.specs.Str.{bytes_eq}
 use Prim.Native.String.{String}
-use Rattle.day_totals.specs.declared.leg.Leg.TheVariants.{Debit}
+use Rattle.day_totals.specs.declared.leg.Leg.TheVariants.{Credit, Debit}
+use Rattle.acq_message.specs.declared.service.Service.{Service}
 use Rattle.acq_message.specs.declared.service.Service.TheVariants.{Authorization, Financial}
+use Rattle.acq_message.specs.declared.request_key.RequestKey.{RequestKey}
+use Rattle.acq_core.specs.declared.request.Request.{Request}
+use Rattle.acq_core.specs.declared.reconciliation.Reconciliation.{Reconciliation}
 use Rattle.acq_core.specs.declared.posting.Posting.{Posting}
 use Rattle.acq_core.specs.declared.event.Event.{Event}
-use Rattle.acq_core.specs.declared.event.Event.TheVariants.{Frame, Answer, Cutover, AddRange, Enrol, AddTerminal}
+use Rattle.acq_core.specs.declared.event.Event.TheVariants.{Frame, Answer, Cutover, AddRange, Enrol}
+use Rattle.acq_core.specs.declared.event.Event.TheVariants.{AddTerminal}
 use Rattle.acq_message.specs.declared.verdict.Verdict.TheVariants.{Approved, Declined, NoAnswer}
 use Rattle.acq_core.specs.declared.output.Output.{Output}
 use Rattle.acq_core.specs.declared.output.Output.TheVariants.{Reply, Ask, Done}
 use Rattle.acq_core.specs.Arrivals.{merchant_named}
 use Rattle.acq_core.specs.Outcome.{output_of}
-use Rattle.acq_core.specs.Tables.{Opening, new_tables, outputs, postings_of}
+use Rattle.acq_core.specs.Known.{Prior}
+use Rattle.acq_core.specs.Decision.{is_open_at}
+use Rattle.acq_core.specs.Tables.{Opening, Tables, new_tables, outputs, postings_of, requests_of}
+use Rattle.acq_core.specs.Tables.{prior_of}
 use Rattle.acq_history.specs.Entries.{Entry}
-use Rattle.acq_history.specs.History.{postings, day_after}
-use Rattle.acq_history.specs.PartyHistory.{Party, own, history_of, book_after, outputs_alone, outputs_at}
+use Rattle.acq_history.specs.History.{postings, day_after, prior, recorded, referred, is_admission}
+use Rattle.acq_history.specs.History.{next_reference}
+use Rattle.acq_history.specs.PartyHistory.{Party, own, history_of, book_after, outputs_alone}
+use Rattle.acq_history.specs.PartyHistory.{outputs_at}
 use Rattle.acq_examples.specs.Messages.{merchant_a, merchant_b, terminal}
 
 -- ---- days and moments
@@ -88,6 +100,19 @@ asked merchant reference amount =
       issuer = codes "12345";
     })
 
+-- the issuer is asked about a return
+abbrev pub asked_to_credit : List ℕ → ℕ → ℕ → Output
+asked_to_credit merchant reference amount =
+    Ask (record {
+      merchant = merchant;
+      reference = reference;
+      service = Financial;
+      leg = Credit;
+      card = codes "4111111111111111";
+      amount = amount;
+      issuer = codes "12345";
+    })
+
 -- the issuer is asked about an authorization
 abbrev pub asked_to_hold : List ℕ → ℕ → ℕ → Output
 asked_to_hold merchant reference amount =
@@ -135,6 +160,80 @@ pub record Posts (limit : ℕ) (m : List ℕ) (es : List Event)
       rows ≡ postings_of m (book_after (book_opening limit may_1) (setup ++ es)).postings
   pub by_history :
       rows ≡ postings (history_of (book_opening limit may_1) (Some m) (setup ++ es))
+
+-- ---- what a row says of the rows that are recorded
+
+-- the tables after the setup and these events
+abbrev pub tables_of : ℕ → List Event → Tables
+tables_of limit es = book_after (book_opening limit may_1) (setup ++ es)
+
+-- a merchant's history of them
+abbrev pub history_alone : ℕ → List ℕ → List Event → List Entry
+history_alone limit m es = history_of (book_opening limit may_1) (Some m) (setup ++ es)
+
+-- the key of a request from the terminal of most rows
+abbrev pub key_from : List ℕ → Service → String → String → RequestKey
+key_from merchant service trace transmission =
+    record {
+      merchant = merchant;
+      terminal = terminal;
+      service = service;
+      trace = codes trace;
+      transmission = codes transmission;
+    }
+
+-- what a history says of the requests with the keys of these rows
+abbrev pub recorded_by : List Entry → List Request → List (Option Prior)
+recorded_by h rows = map (λ row. option_map prior (recorded row.key h)) rows
+
+-- After the setup and these events, these are a merchant's requests, with all their columns; and
+-- its own history says of each what its row says.
+pub record Records (limit : ℕ) (m : List ℕ) (es : List Event)
+    (rows : List Request) : Type 0 where
+  pub by_tables : rows ≡ requests_of m (tables_of limit es).requests
+  pub by_history :
+      map (λ row. Some (prior_of row)) rows ≡ recorded_by (history_alone limit m es) rows
+
+-- After them, these are a merchant's reconciliations, with their numbers.
+pub record Reconciles (limit : ℕ) (m : List ℕ) (es : List Event)
+    (rows : List (ℕ × Reconciliation)) : Type 0 where
+  pub by_tables :
+      rows ≡ filter (λ row. bytes_eq row.1.merchant m) (tables_of limit es).reconciliations
+
+-- the references of a history's admitted requests, the first first
+abbrev pub references : List Entry → List ℕ
+references [] = []
+references (e ∷ h) =
+    if is_admission e h then references h ++ next_reference h ∷ [] else references h
+
+-- the reference and the last second of a hold that is open at a moment
+abbrev pub open_end : ℕ → Option Prior → List (Option ℕ × Option ℕ)
+open_end moment None = []
+open_end moment (Some p) =
+    if is_open_at moment p.hold_end then (p.reference, p.hold_end) ∷ [] else []
+
+-- those of all that are open then
+abbrev pub open_ends : ℕ → List (Option Prior) → List (Option ℕ × Option ℕ)
+open_ends moment [] = []
+open_ends moment (p ∷ ps) = open_end moment p ++ open_ends moment ps
+
+-- After them, these are a merchant's holds that are open at a moment: their references and last
+-- seconds, by the tables, and by its own history.
+pub record OpenHolds (limit : ℕ) (m : List ℕ) (es : List Event) (moment : ℕ)
+    (holds : List (Option ℕ × Option ℕ)) : Type 0 where
+  pub by_tables :
+      holds ≡ open_ends moment
+      (map (λ row. Some (prior_of row)) (requests_of m (tables_of limit es).requests))
+  pub by_history :
+      holds ≡ open_ends moment
+      (map (λ n. option_map prior (referred n (history_alone limit m es)))
+      (references (history_alone limit m es)))
+
+-- After them, these are the tables.
+pub record Leaves (limit : ℕ) (es : List Event) (t : Tables) : Type 0 where
+  pub by_tables : t ≡ tables_of limit es
+
+-- ---- what belongs to all
 
 -- the outputs of a history's entries, the oldest first
 abbrev pub all_outputs : List Entry → List Output

@@ -4,8 +4,15 @@ ghost use Rattle.std.specs.Prelude.{◌++◌, ◌∷◌, [], codes, Some};
 ghost use Rattle.acq_core.specs.declared.event.Event.TheVariants.{Frame};
 ghost use Rattle.acq_core.specs.declared.output.Output.TheVariants.{Reply, Done, LastDay};
 ghost use Rattle.day_totals.specs.declared.leg.Leg.TheVariants.{Debit, DebitReversal};
-ghost use Rattle.acq_examples.specs.Messages.{merchant_a, merchant_b, terminal, sale, sale_approved, original, reversal, reversal_accepted, totals, totals_of_debits, no_totals, reconciliation, reconciliation_of, reconciliation_reply};
-ghost use Rattle.acq_examples.specs.Scripts.{book_opening, GivesParty, GivesAllFrom, Gives, Posts, may_1, may_2, last_day, morning, setup, sent, approves, cutover, asked, replied};
+ghost use Rattle.acq_examples.specs.Messages.{merchant_a, merchant_b, terminal, sale};
+ghost use Rattle.acq_examples.specs.Messages.{sale_approved, card_return, card_approved, original};
+ghost use Rattle.acq_examples.specs.Messages.{reversal, reversal_accepted, totals};
+ghost use Rattle.acq_examples.specs.Messages.{totals_of_debits, no_totals, reconciliation};
+ghost use Rattle.acq_examples.specs.Messages.{reconciliation_of, reconciliation_reply};
+ghost use Rattle.acq_examples.specs.Messages.{reconciliation_refused};
+ghost use Rattle.acq_examples.specs.Scripts.{book_opening, GivesParty, GivesAllFrom, Gives, Posts};
+ghost use Rattle.acq_examples.specs.Scripts.{may_1, may_2, last_day, morning, setup, sent};
+ghost use Rattle.acq_examples.specs.Scripts.{approves, cutover, asked, asked_to_credit, replied};
 
 /// A request keeps the day of its arrival: an answer after cutover posts to it. A reversal is of
 /// its own day, and leaves the original's day as it was.
@@ -25,6 +32,30 @@ pub fn cutovers()
           record {
             merchant = merchant_a;
             day = may_1;
+            leg = Debit;
+            amount = 1000;
+            reference = 1;
+            card = codes "4111111111111111";
+            terminal = terminal;
+            trace = codes "000001";
+          },
+        ) ∷ []) }
+    ensures sale_of_the_second_day { Gives 999999 merchant_a
+        (cutover ∷ sent (sale "000001" "000000001000" merchant_a) ∷ cutover
+        ∷ approves "A1B2C3" merchant_a 1 ∷ sent (sale "000001" "000000001000" merchant_a) ∷ [])
+        (asked merchant_a 1 1000
+        ∷ replied merchant_a
+        (sale_approved "000001" "000000001000" "0502" "000000000001" merchant_a)
+        ∷ replied merchant_a
+        (sale_approved "000001" "000000001000" "0502" "000000000001" merchant_a) ∷ []) }
+    ensures posts_to_the_second_day { Posts 999999 merchant_a
+        (cutover ∷ sent (sale "000001" "000000001000" merchant_a) ∷ cutover
+        ∷ approves "A1B2C3" merchant_a 1 ∷ [])
+        ((
+          1,
+          record {
+            merchant = merchant_a;
+            day = may_2;
             leg = Debit;
             amount = 1000;
             reference = 1;
@@ -163,6 +194,109 @@ pub fn reconciliations()
         ∷ []) }
 {}
 
+/// All eight values and the net are compared: a claim that is wrong in one of them alone is out of
+/// balance. The host's totals have each leg's count and amount, and their net.
+#[tactic(auto, unfolding(crate::proofs::Computing::on_literals))]
+pub fn claimed_values()
+    ensures one_wrong_value { Gives 999999 merchant_a
+        (sent (sale "000001" "000000001000" merchant_a) ∷ approves "A1B2C3" merchant_a 1
+        ∷ sent (sale "000002" "000000002000" merchant_a) ∷ approves "A1B2C3" merchant_a 2
+        ∷ sent (reversal "000011" "000000001000" (original "0200" "000001" "0501093000") merchant_a)
+        ∷ sent (card_return "000003" "000000000700" merchant_a) ∷ approves "D4E5F6" merchant_a 3
+        ∷ sent (card_return "000004" "000000000500" merchant_a) ∷ approves "D4E5F6" merchant_a 4
+        ∷ sent (reversal "000014" "000000000500" (original "0200" "000004" "0501093000") merchant_a)
+        ∷ sent (reconciliation "000021"
+        (totals "0000000003" "0000000001" "0000000002" "0000000001" "0000000000001200"
+        "0000000000000500" "0000000000003000" "0000000000001000" "D0000000000001300") merchant_a)
+        ∷ sent (reconciliation "000022"
+        (totals "0000000002" "0000000000" "0000000002" "0000000001" "0000000000001200"
+        "0000000000000500" "0000000000003000" "0000000000001000" "D0000000000001300") merchant_a)
+        ∷ sent (reconciliation "000023"
+        (totals "0000000002" "0000000001" "0000000001" "0000000001" "0000000000001200"
+        "0000000000000500" "0000000000003000" "0000000000001000" "D0000000000001300") merchant_a)
+        ∷ sent (reconciliation "000024"
+        (totals "0000000002" "0000000001" "0000000002" "0000000002" "0000000000001200"
+        "0000000000000500" "0000000000003000" "0000000000001000" "D0000000000001300") merchant_a)
+        ∷ sent (reconciliation "000025"
+        (totals "0000000002" "0000000001" "0000000002" "0000000001" "0000000000001201"
+        "0000000000000500" "0000000000003000" "0000000000001000" "D0000000000001300") merchant_a)
+        ∷ sent (reconciliation "000026"
+        (totals "0000000002" "0000000001" "0000000002" "0000000001" "0000000000001200"
+        "0000000000000499" "0000000000003000" "0000000000001000" "D0000000000001300") merchant_a)
+        ∷ sent (reconciliation "000027"
+        (totals "0000000002" "0000000001" "0000000002" "0000000001" "0000000000001200"
+        "0000000000000500" "0000000000002000" "0000000000001000" "D0000000000001300") merchant_a)
+        ∷ sent (reconciliation "000028"
+        (totals "0000000002" "0000000001" "0000000002" "0000000001" "0000000000001200"
+        "0000000000000500" "0000000000003000" "0000000000000000" "D0000000000001300") merchant_a)
+        ∷ sent (reconciliation "000029"
+        (totals "0000000002" "0000000001" "0000000002" "0000000001" "0000000000001200"
+        "0000000000000500" "0000000000003000" "0000000000001000" "D0000000000001301") merchant_a)
+        ∷ sent (reconciliation "000030"
+        (totals "0000000002" "0000000001" "0000000002" "0000000001" "0000000000001200"
+        "0000000000000500" "0000000000003000" "0000000000001000" "D0000000000001300") merchant_a)
+        ∷ [])
+        (asked merchant_a 1 1000
+        ∷ replied merchant_a
+        (sale_approved "000001" "000000001000" "0501" "000000000001" merchant_a)
+        ∷ asked merchant_a 2 2000
+        ∷ replied merchant_a
+        (sale_approved "000002" "000000002000" "0501" "000000000002" merchant_a)
+        ∷ replied merchant_a
+        (reversal_accepted "000011" "000000001000" "0501" "000000000001" merchant_a)
+        ∷ asked_to_credit merchant_a 3 700
+        ∷ replied merchant_a
+        (card_approved "0210" "4111111111111111" "200000" "000000000700" "000003" "0501"
+        "000000000003" "D4E5F6" merchant_a)
+        ∷ asked_to_credit merchant_a 4 500
+        ∷ replied merchant_a
+        (card_approved "0210" "4111111111111111" "200000" "000000000500" "000004" "0501"
+        "000000000004" "D4E5F6" merchant_a)
+        ∷ replied merchant_a
+        (reversal_accepted "000014" "000000000500" "0501" "000000000004" merchant_a)
+        ∷ replied merchant_a
+        (reconciliation_reply "000021" "0501" "95" "2"
+        (totals "0000000002" "0000000001" "0000000002" "0000000001" "0000000000001200"
+        "0000000000000500" "0000000000003000" "0000000000001000" "D0000000000001300") merchant_a)
+        ∷ replied merchant_a
+        (reconciliation_reply "000022" "0501" "95" "2"
+        (totals "0000000002" "0000000001" "0000000002" "0000000001" "0000000000001200"
+        "0000000000000500" "0000000000003000" "0000000000001000" "D0000000000001300") merchant_a)
+        ∷ replied merchant_a
+        (reconciliation_reply "000023" "0501" "95" "2"
+        (totals "0000000002" "0000000001" "0000000002" "0000000001" "0000000000001200"
+        "0000000000000500" "0000000000003000" "0000000000001000" "D0000000000001300") merchant_a)
+        ∷ replied merchant_a
+        (reconciliation_reply "000024" "0501" "95" "2"
+        (totals "0000000002" "0000000001" "0000000002" "0000000001" "0000000000001200"
+        "0000000000000500" "0000000000003000" "0000000000001000" "D0000000000001300") merchant_a)
+        ∷ replied merchant_a
+        (reconciliation_reply "000025" "0501" "95" "2"
+        (totals "0000000002" "0000000001" "0000000002" "0000000001" "0000000000001200"
+        "0000000000000500" "0000000000003000" "0000000000001000" "D0000000000001300") merchant_a)
+        ∷ replied merchant_a
+        (reconciliation_reply "000026" "0501" "95" "2"
+        (totals "0000000002" "0000000001" "0000000002" "0000000001" "0000000000001200"
+        "0000000000000500" "0000000000003000" "0000000000001000" "D0000000000001300") merchant_a)
+        ∷ replied merchant_a
+        (reconciliation_reply "000027" "0501" "95" "2"
+        (totals "0000000002" "0000000001" "0000000002" "0000000001" "0000000000001200"
+        "0000000000000500" "0000000000003000" "0000000000001000" "D0000000000001300") merchant_a)
+        ∷ replied merchant_a
+        (reconciliation_reply "000028" "0501" "95" "2"
+        (totals "0000000002" "0000000001" "0000000002" "0000000001" "0000000000001200"
+        "0000000000000500" "0000000000003000" "0000000000001000" "D0000000000001300") merchant_a)
+        ∷ replied merchant_a
+        (reconciliation_reply "000029" "0501" "95" "2"
+        (totals "0000000002" "0000000001" "0000000002" "0000000001" "0000000000001200"
+        "0000000000000500" "0000000000003000" "0000000000001000" "D0000000000001300") merchant_a)
+        ∷ replied merchant_a
+        (reconciliation_reply "000030" "0501" "00" "1"
+        (totals "0000000002" "0000000001" "0000000002" "0000000001" "0000000000001200"
+        "0000000000000500" "0000000000003000" "0000000000001000" "D0000000000001300") merchant_a)
+        ∷ []) }
+{}
+
 /// A reconciliation that comes again gets its first reply, whatever was posted since. Under a new
 /// trace the totals of now decide.
 #[tactic(auto, unfolding(crate::proofs::Computing::on_literals))]
@@ -227,6 +361,41 @@ pub fn earlier_days()
         ∷ Reply (Some merchant_a)
         (codes "0510" ++ codes "0222000002C00000" ++ codes "0501100000" ++ codes "000010"
         ++ codes "0501" ++ codes "95" ++ terminal ++ merchant_a) ∷ []) }
+    ensures days_between { Gives 999999 merchant_a
+        (sent (reconciliation_of "000010" "0429" (no_totals "C0000000000000000") merchant_a)
+        ∷ sent (reconciliation_of "000011" "0402" (no_totals "C0000000000000000") merchant_a)
+        ∷ sent (reconciliation_of "000012" "0401" (no_totals "C0000000000000000") merchant_a)
+        ∷ sent (reconciliation_of "000013" "0331" (no_totals "C0000000000000000") merchant_a)
+        ∷ sent (reconciliation_of "000014" "0430" (no_totals "C0000000000000000") merchant_a)
+        ∷ sent (reconciliation_of "000015" "0431" (no_totals "C0000000000000000") merchant_a) ∷ [])
+        (replied merchant_a
+        (reconciliation_reply "000010" "0429" "00" "1" (no_totals "C0000000000000000") merchant_a)
+        ∷ replied merchant_a
+        (reconciliation_reply "000011" "0402" "00" "1" (no_totals "C0000000000000000") merchant_a)
+        ∷ replied merchant_a
+        (reconciliation_reply "000012" "0401" "00" "1" (no_totals "C0000000000000000") merchant_a)
+        ∷ replied merchant_a (reconciliation_refused "000013" "0501" "95" merchant_a)
+        ∷ replied merchant_a
+        (reconciliation_reply "000014" "0430" "00" "1" (no_totals "C0000000000000000") merchant_a)
+        ∷ replied merchant_a (reconciliation_refused "000015" "0501" "95" merchant_a) ∷ []) }
+    ensures of_the_year_before { GivesParty (book_opening 999999 8780) (Some merchant_a)
+        (setup ++ sent
+        (reconciliation_of "000010" "1231" (no_totals "C0000000000000000") merchant_a)
+        ∷ sent (reconciliation_of "000011" "1216" (no_totals "C0000000000000000") merchant_a)
+        ∷ sent (reconciliation_of "000012" "1215" (no_totals "C0000000000000000") merchant_a) ∷ [])
+        (Done ∷ Done ∷ replied merchant_a
+        (reconciliation_reply "000010" "1231" "00" "1" (no_totals "C0000000000000000") merchant_a)
+        ∷ replied merchant_a
+        (reconciliation_reply "000011" "1216" "00" "1" (no_totals "C0000000000000000") merchant_a)
+        ∷ replied merchant_a (reconciliation_refused "000012" "0115" "95" merchant_a) ∷ []) }
+    ensures leap_day { GivesParty (book_opening 999999 8855) (Some merchant_a)
+        (setup ++ sent
+        (reconciliation_of "000010" "0229" (no_totals "C0000000000000000") merchant_a)
+        ∷ cutover
+        ∷ sent (reconciliation_of "000011" "0229" (no_totals "C0000000000000000") merchant_a) ∷ [])
+        (Done ∷ Done ∷ replied merchant_a
+        (reconciliation_reply "000010" "0229" "00" "1" (no_totals "C0000000000000000") merchant_a)
+        ∷ replied merchant_a (reconciliation_refused "000011" "0331" "95" merchant_a) ∷ []) }
     ensures today { Gives 999999 merchant_a
         (sent (reconciliation_of "000010" "0501" (no_totals "C0000000000000000") merchant_a) ∷ [])
         (replied merchant_a

@@ -1,5 +1,6 @@
 //! Worked rows: what a party gets of a run of events, from the frames' bytes to the replies' bytes,
-//! and what is posted. The checker computes each by the tables and by the party's own history.
+//! what is posted, and what the tables then hold. The checker computes each by the tables and by
+//! the party's own history.
 #![tactic(auto)]
 
 pub mod cards;
@@ -11,3 +12,4 @@ pub mod ranges;
 pub mod repeats;
 pub mod reversals;
 pub mod sales;
+pub mod tables;

@@ -2,9 +2,11 @@
 
 ghost use Rattle.std.specs.Prelude.{◌∷◌, [], codes};
 ghost use Rattle.acq_core.specs.declared.event.Event.TheVariants.{AddRange, DropRange};
-ghost use Rattle.acq_core.specs.declared.output.Output.TheVariants.{Done, BadRange, Overlap, NoSuchRange};
+ghost use Rattle.acq_core.specs.declared.output.Output.TheVariants.{Done, BadRange, Overlap};
+ghost use Rattle.acq_core.specs.declared.output.Output.TheVariants.{NoSuchRange};
 ghost use Rattle.acq_examples.specs.Messages.{merchant_a, sale, sale_refused};
-ghost use Rattle.acq_examples.specs.Scripts.{GivesAllFrom, Gives, GivesAll, may_1, sent, asked, replied};
+ghost use Rattle.acq_examples.specs.Scripts.{GivesAllFrom, Gives, GivesAll, may_1, sent, asked};
+ghost use Rattle.acq_examples.specs.Scripts.{replied};
 
 /// A range with bad values is refused as such, also where it overlaps another.
 #[tactic(auto, unfolding(crate::proofs::Computing::on_literals))]
@@ -23,6 +25,18 @@ pub fn bad()
         ∷ AddRange (record { low = 600000; high = 600000; issuer = codes "12345"; hold_days = 31 })
         ∷ [])
         (BadRange ∷ Done ∷ []) }
+    ensures issuers { GivesAll
+        (AddRange
+        (record { low = 600000; high = 600000; issuer = codes "123456789012"; hold_days = 7 })
+        ∷ AddRange
+        (record { low = 600000; high = 600000; issuer = codes "1234A"; hold_days = 7 })
+        ∷ AddRange
+        (record { low = 600000; high = 600000; issuer = codes "01234567890"; hold_days = 1 })
+        ∷ [])
+        (BadRange
+        ∷ BadRange
+        ∷ Done
+        ∷ []) }
     ensures no_issuer { GivesAll
         (AddRange (record { low = 600000; high = 600000; issuer = []; hold_days = 7 }) ∷ [])
         (BadRange ∷ []) }

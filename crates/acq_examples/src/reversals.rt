@@ -3,9 +3,18 @@
 ghost use Rattle.std.specs.Prelude.{◌++◌, ◌∷◌, [], codes, Some};
 ghost use Rattle.acq_core.specs.declared.event.Event.TheVariants.{Frame, AddTerminal};
 ghost use Rattle.acq_core.specs.declared.output.Output.TheVariants.{Reply, Done, Late};
-ghost use Rattle.day_totals.specs.declared.leg.Leg.TheVariants.{Credit, CreditReversal, Debit, DebitReversal};
-ghost use Rattle.acq_examples.specs.Messages.{merchant_a, merchant_b, terminal, other_terminal, sale, card_return, sale_approved, sale_declined, sale_refused, card_request, card_refused, hold, hold_approved, completion, completion_reply, original, original_through, reversal, reversal_as, reversal_accepted, reversal_refused};
-ghost use Rattle.acq_examples.specs.Scripts.{Gives, Posts, may_1, morning, next_morning, sent, approves, declines, says_nothing, cutover, asked, asked_to_hold, replied};
+ghost use Rattle.day_totals.specs.declared.leg.Leg.TheVariants.{Credit, CreditReversal, Debit};
+ghost use Rattle.day_totals.specs.declared.leg.Leg.TheVariants.{DebitReversal};
+ghost use Rattle.acq_examples.specs.Messages.{merchant_a, merchant_b, terminal, other_terminal};
+ghost use Rattle.acq_examples.specs.Messages.{sale, card_return, sale_approved, sale_declined};
+ghost use Rattle.acq_examples.specs.Messages.{sale_refused, card_request, card_refused, hold};
+ghost use Rattle.acq_examples.specs.Messages.{hold_approved, hold_declined, hold_refused};
+ghost use Rattle.acq_examples.specs.Messages.{completion, completion_reply, original};
+ghost use Rattle.acq_examples.specs.Messages.{original_through, reversal, reversal_as};
+ghost use Rattle.acq_examples.specs.Messages.{reversal_accepted, reversal_refused};
+ghost use Rattle.acq_examples.specs.Scripts.{Gives, Posts, may_1, morning, next_morning, sent};
+ghost use Rattle.acq_examples.specs.Scripts.{approves, declines, says_nothing, cutover, asked};
+ghost use Rattle.acq_examples.specs.Scripts.{asked_to_hold, replied};
 
 /// An approved sale or return is reversed by a posting of the reversal leg. Another merchant's sale
 /// of the same trace stays.
@@ -145,6 +154,16 @@ pub fn of_pending_requests()
         ∷ Late ∷ Late
         ∷ replied merchant_a
         (completion_reply "000021" "000000005000" "0501" "000000000001" "25" merchant_a) ∷ []) }
+    ensures still_counts { Gives 2 merchant_a
+        (sent (sale "000001" "000000001000" merchant_a)
+        ∷ sent (reversal "000003" "000000001000" (original "0200" "000001" "0501093000") merchant_a)
+        ∷ sent (sale "000002" "000000001000" merchant_a) ∷ cutover
+        ∷ sent (sale "000004" "000000001000" merchant_a) ∷ [])
+        (asked merchant_a 1 1000
+        ∷ replied merchant_a
+        (reversal_accepted "000003" "000000001000" "0501" "000000000001" merchant_a)
+        ∷ replied merchant_a (sale_refused "000002" "000000001000" "0501" "65" merchant_a)
+        ∷ asked merchant_a 2 1000 ∷ []) }
     ensures hold_posts_nothing { Posts 999999 merchant_a
         (sent (hold "000020" "000000005000" merchant_a)
         ∷ sent (reversal "000022" "000000005000" (original "0100" "000020" "0501093000") merchant_a)
@@ -176,6 +195,36 @@ pub fn of_holds()
         (reversal_accepted "000022" "000000005000" "0501" "000000000001" merchant_a)
         ∷ replied merchant_a
         (completion_reply "000021" "000000005000" "0501" "000000000001" "25" merchant_a) ∷ []) }
+    ensures other_amount { Gives 999999 merchant_a
+        (sent (hold "000020" "000000005000" merchant_a) ∷ approves "H00001" merchant_a 1
+        ∷ sent (reversal "000022" "000000004999" (original "0100" "000020" "0501093000") merchant_a)
+        ∷ sent (reversal "000023" "000000005001" (original "0100" "000020" "0501093000") merchant_a)
+        ∷ sent (completion "000021" "000000005000" "000000000001" merchant_a) ∷ [])
+        (asked_to_hold merchant_a 1 5000
+        ∷ replied merchant_a
+        (hold_approved "000020" "000000005000" "0501" "000000000001" merchant_a)
+        ∷ replied merchant_a (reversal_refused "000022" "000000004999" "0501" "13" merchant_a)
+        ∷ replied merchant_a (reversal_refused "000023" "000000005001" "0501" "13" merchant_a)
+        ∷ replied merchant_a
+        (completion_reply "000021" "000000005000" "0501" "000000000001" "00" merchant_a) ∷ []) }
+    ensures on_a_later_day { Gives 999999 merchant_a
+        (sent (hold "000020" "000000005000" merchant_a) ∷ approves "H00001" merchant_a 1 ∷ cutover
+        ∷ sent (reversal "000022" "000000005000" (original "0100" "000020" "0501093000") merchant_a)
+        ∷ sent (completion "000021" "000000005000" "000000000001" merchant_a)
+        ∷ sent (hold "000020" "000000005000" merchant_a) ∷ [])
+        (asked_to_hold merchant_a 1 5000
+        ∷ replied merchant_a
+        (hold_approved "000020" "000000005000" "0501" "000000000001" merchant_a)
+        ∷ replied merchant_a
+        (reversal_accepted "000022" "000000005000" "0502" "000000000001" merchant_a)
+        ∷ replied merchant_a
+        (completion_reply "000021" "000000005000" "0502" "000000000001" "25" merchant_a)
+        ∷ replied merchant_a
+        (hold_approved "000020" "000000005000" "0501" "000000000001" merchant_a) ∷ []) }
+    ensures later_day_posts_nothing { Posts 999999 merchant_a
+        (sent (hold "000020" "000000005000" merchant_a) ∷ approves "H00001" merchant_a 1 ∷ cutover
+        ∷ sent (reversal "000022" "000000005000" (original "0100" "000020" "0501093000") merchant_a)
+        ∷ sent (completion "000021" "000000005000" "000000000001" merchant_a) ∷ []) [] }
     ensures expired_hold { Gives 999999 merchant_a
         (sent (hold "000020" "000000005000" merchant_a) ∷ approves "H00001" merchant_a 1
         ∷ Frame 1714642201
@@ -230,6 +279,60 @@ pub fn of_completions()
         ++ merchant_a)
         ∷ replied merchant_a
         (completion_reply "000024" "000000005000" "0501" "000000000001" "25" merchant_a) ∷ []) }
+    ensures of_less_than_the_hold { Gives 999999 merchant_a
+        (sent (hold "000020" "000000005000" merchant_a)
+        ∷ approves "H00001" merchant_a 1
+        ∷ Frame next_morning (completion "000021" "000000004200" "000000000001" merchant_a)
+        ∷ Frame next_morning
+        (reversal "000022" "000000005000" (original "0220" "000021" "0502093000") merchant_a)
+        ∷ Frame next_morning
+        (reversal "000023" "000000004200" (original "0220" "000021" "0502093000") merchant_a)
+        ∷ [])
+        (asked_to_hold merchant_a 1 5000
+        ∷ replied merchant_a
+        (hold_approved "000020" "000000005000" "0501" "000000000001" merchant_a)
+        ∷ replied merchant_a
+        (completion_reply "000021" "000000004200" "0501" "000000000001" "00" merchant_a)
+        ∷ replied merchant_a (reversal_refused "000022" "000000005000" "0501" "13" merchant_a)
+        ∷ replied merchant_a
+        (reversal_accepted "000023" "000000004200" "0501" "000000000001" merchant_a)
+        ∷ []) }
+    ensures posts_its_own_amount { Posts 999999 merchant_a
+        (sent (hold "000020" "000000005000" merchant_a)
+        ∷ approves "H00001" merchant_a 1
+        ∷ Frame next_morning (completion "000021" "000000004200" "000000000001" merchant_a)
+        ∷ Frame next_morning
+        (reversal "000022" "000000005000" (original "0220" "000021" "0502093000") merchant_a)
+        ∷ Frame next_morning
+        (reversal "000023" "000000004200" (original "0220" "000021" "0502093000") merchant_a)
+        ∷ [])
+        ((
+          1,
+          record {
+            merchant = merchant_a;
+            day = may_1;
+            leg = Debit;
+            amount = 4200;
+            reference = 1;
+            card = codes "5500005555555559";
+            terminal = terminal;
+            trace = codes "000021";
+          },
+        )
+        ∷ (
+          2,
+          record {
+            merchant = merchant_a;
+            day = may_1;
+            leg = DebitReversal;
+            amount = 4200;
+            reference = 1;
+            card = codes "5500005555555559";
+            terminal = terminal;
+            trace = codes "000023";
+          },
+        )
+        ∷ []) }
     ensures hold_of_a_reversed_completion { Gives 999999 merchant_a
         (sent (hold "000020" "000000005000" merchant_a) ∷ approves "H00001" merchant_a 1
         ∷ Frame next_morning (completion "000021" "000000005000" "000000000001" merchant_a)
@@ -349,6 +452,25 @@ pub fn of_nothing_to_reverse()
         ∷ replied merchant_a (sale_refused "000002" "000000001000" "0501" "65" merchant_a)
         ∷ replied merchant_a (reversal_refused "000012" "000000001000" "0501" "21" merchant_a)
         ∷ []) }
+    ensures refused_and_declined_holds { Gives 999999 merchant_a
+        (sent (hold "000020" "000000000000" merchant_a)
+        ∷ sent (reversal "000030" "000000000000" (original "0100" "000020" "0501093000") merchant_a)
+        ∷ sent (hold "000021" "000000005000" merchant_a) ∷ declines "51" merchant_a 1
+        ∷ sent (reversal "000031" "000000005000" (original "0100" "000021" "0501093000") merchant_a)
+        ∷ sent (hold "000022" "000000005000" merchant_a) ∷ says_nothing merchant_a 2
+        ∷ sent (reversal "000032" "000000005000" (original "0100" "000022" "0501093000") merchant_a)
+        ∷ [])
+        (replied merchant_a (hold_refused "000020" "000000000000" "0501" "13" merchant_a)
+        ∷ replied merchant_a (reversal_refused "000030" "000000000000" "0501" "21" merchant_a)
+        ∷ asked_to_hold merchant_a 1 5000
+        ∷ replied merchant_a
+        (hold_declined "000021" "000000005000" "0501" "000000000001" "51" merchant_a)
+        ∷ replied merchant_a (reversal_refused "000031" "000000005000" "0501" "21" merchant_a)
+        ∷ asked_to_hold merchant_a 2 5000
+        ∷ replied merchant_a
+        (hold_declined "000022" "000000005000" "0501" "000000000002" "91" merchant_a)
+        ∷ replied merchant_a (reversal_refused "000032" "000000005000" "0501" "21" merchant_a)
+        ∷ []) }
     ensures refused_completion { Gives 999999 merchant_a
         (sent (completion "000021" "000000005000" "000000000001" merchant_a)
         ∷ sent (reversal "000022" "000000005000" (original "0220" "000021" "0502093000") merchant_a)
@@ -374,8 +496,9 @@ pub fn of_nothing_to_reverse()
         ++ codes "000003" ++ codes "0501" ++ codes "21" ++ terminal ++ merchant_a) ∷ []) }
 {}
 
-/// A reversal without an original: none was sent, or it was another merchant's, another terminal's
-/// or of another kind; or a reversal is named, or what was never recorded.
+/// A reversal without an original: none was sent, or it was another merchant's, another terminal's,
+/// of another kind, or of another trace, date or time; or a reversal is named, or what was never
+/// recorded.
 #[tactic(auto, unfolding(crate::proofs::Computing::on_literals))]
 pub fn without_original()
     ensures comes_first { Gives 999999 merchant_a
@@ -450,6 +573,43 @@ pub fn without_original()
         ++ merchant_a)
         ∷ replied merchant_a (reversal_refused "000004" "000000001000" "0501" "25" merchant_a)
         ∷ []) }
+    ensures of_another_date_and_time { Gives 999999 merchant_a
+        (sent (sale "000001" "000000001000" merchant_a) ∷ approves "A1B2C3" merchant_a 1
+        ∷ sent (reversal "000003" "000000001000" (original "0200" "000001" "0501093001") merchant_a)
+        ∷ sent (reversal "000004" "000000001000" (original "0200" "000001" "0502093000") merchant_a)
+        ∷ sent (reversal "000005" "000000001000" (original "0200" "000011" "0501093000") merchant_a)
+        ∷ sent (reversal "000006" "000000001000" (original "0200" "000001" "0501093000") merchant_a)
+        ∷ [])
+        (asked merchant_a 1 1000
+        ∷ replied merchant_a
+        (sale_approved "000001" "000000001000" "0501" "000000000001" merchant_a)
+        ∷ replied merchant_a (reversal_refused "000003" "000000001000" "0501" "25" merchant_a)
+        ∷ replied merchant_a (reversal_refused "000004" "000000001000" "0501" "25" merchant_a)
+        ∷ replied merchant_a (reversal_refused "000005" "000000001000" "0501" "25" merchant_a)
+        ∷ replied merchant_a
+        (reversal_accepted "000006" "000000001000" "0501" "000000000001" merchant_a) ∷ []) }
+    ensures two_of_one_trace { Gives 999999 merchant_a
+        (sent (sale "000001" "000000001000" merchant_a)
+        ∷ Frame morning
+        (codes "0200" ++ codes "7220000000C08000" ++ codes "16" ++ codes "4111111111111111"
+        ++ codes "000000" ++ codes "000000001000" ++ codes "0501093001" ++ codes "000001"
+        ++ terminal ++ merchant_a ++ codes "978")
+        ∷ approves "A1B2C3" merchant_a 1 ∷ approves "A1B2C3" merchant_a 2
+        ∷ sent (reversal "000003" "000000001000" (original "0200" "000001" "0501093001") merchant_a)
+        ∷ sent (reversal "000004" "000000001000" (original "0200" "000001" "0501093000") merchant_a)
+        ∷ [])
+        (asked merchant_a 1 1000 ∷ asked merchant_a 2 1000
+        ∷ replied merchant_a
+        (sale_approved "000001" "000000001000" "0501" "000000000001" merchant_a)
+        ∷ Reply (Some merchant_a)
+        (codes "0210" ++ codes "722200000EC08000" ++ codes "16" ++ codes "4111111111111111"
+        ++ codes "000000" ++ codes "000000001000" ++ codes "0501093001" ++ codes "000001"
+        ++ codes "0501" ++ codes "000000000002" ++ codes "A1B2C3" ++ codes "00" ++ terminal
+        ++ merchant_a ++ codes "978")
+        ∷ replied merchant_a
+        (reversal_accepted "000003" "000000001000" "0501" "000000000002" merchant_a)
+        ∷ replied merchant_a
+        (reversal_accepted "000004" "000000001000" "0501" "000000000001" merchant_a) ∷ []) }
     ensures never_recorded { Gives 999999 merchant_a
         (Frame morning
         (codes "0200" ++ codes "3220000000C08000" ++ codes "000000" ++ codes "000000001000"
@@ -541,7 +701,8 @@ pub fn originals_named()
         (reversal_accepted "000004" "000000001000" "0501" "000000000001" merchant_a) ∷ []) }
 {}
 
-/// A reversal is of the original's amount, and counts against the limit of its own day.
+/// A reversal is of the original's amount, and counts against the limit of its own day. The order
+/// of its checks is original, what became of it, amount, and the day's limit.
 #[tactic(auto, unfolding(crate::proofs::Computing::on_literals))]
 pub fn amounts_and_limits()
     ensures other_amount { Gives 999999 merchant_a
@@ -577,4 +738,23 @@ pub fn amounts_and_limits()
         ∷ replied merchant_a
         (reversal_accepted "000004" "000000001000" "0502" "000000000001" merchant_a)
         ∷ replied merchant_a (sale_refused "000002" "000000001000" "0502" "65" merchant_a) ∷ []) }
+    ensures order { Gives 1 merchant_a
+        (sent (sale "000001" "000000001000" merchant_a) ∷ approves "A1B2C3" merchant_a 1
+        ∷ sent (reversal "000011" "000000000999" (original "0200" "000009" "0501093000") merchant_a)
+        ∷ sent (reversal "000012" "000000000999" (original "0200" "000001" "0501093000") merchant_a)
+        ∷ sent (reversal "000013" "000000001000" (original "0200" "000001" "0501093000") merchant_a)
+        ∷ cutover
+        ∷ sent (reversal "000014" "000000001000" (original "0200" "000001" "0501093000") merchant_a)
+        ∷ sent (reversal "000015" "000000000999" (original "0200" "000001" "0501093000") merchant_a)
+        ∷ [])
+        (asked merchant_a 1 1000
+        ∷ replied merchant_a
+        (sale_approved "000001" "000000001000" "0501" "000000000001" merchant_a)
+        ∷ replied merchant_a (reversal_refused "000011" "000000000999" "0501" "25" merchant_a)
+        ∷ replied merchant_a (reversal_refused "000012" "000000000999" "0501" "13" merchant_a)
+        ∷ replied merchant_a (reversal_refused "000013" "000000001000" "0501" "65" merchant_a)
+        ∷ replied merchant_a
+        (reversal_accepted "000014" "000000001000" "0502" "000000000001" merchant_a)
+        ∷ replied merchant_a (reversal_refused "000015" "000000000999" "0502" "21" merchant_a)
+        ∷ []) }
 {}
