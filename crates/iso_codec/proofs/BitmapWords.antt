@@ -1,7 +1,7 @@
 -- The bits of a bitmap: the first that is set, all but one, and those of the elements that the table doesn't have.
-use Rattle.std.proofs.Common.{◌≡◌, ◌≢◌, ℕ, zero, suc, ◌+◌, ◌-◌, ◌*◌, ◌%◌, ◌^◌, ◌<◌, ◌≤◌, Bool, true, false, ◌&&◌, eqb, leb, List, [], ◌∷◌, refl, sym, ap, ◌∙◌, arith, inl, inr, bit_and, min, pow_mono}
+use Rattle.std.proofs.Common.{◌≡◌, ◌≢◌, ℕ, zero, suc, ◌+◌, ◌-◌, ◌*◌, ◌%◌, ◌^◌, ◌<◌, ◌≤◌, Bool, true, false, ◌&&◌, eqb, leb, [], ◌∷◌, refl, sym, ap, ◌∙◌, arith, inl, inr, bit_and, min}
 use Rattle.std.specs.Prelude.{not}
-use Rattle.std.specs.List.{filter, range_with_len}
+use Rattle.std.specs.List.{filter}
 use Rattle.std.specs.Int.{w64, bit_at, bit_not, leading_zeros}
 use Rattle.std.proofs.lemmas.Bool.{cases_eq, cases_lt, cases_Bool, eq-eqb, ne_eqb, le-leb, lt-leb, agree_below_at, true≢false}
 use Rattle.std.proofs.lemmas.Nat.{leading_top}
@@ -23,7 +23,8 @@ top_bit n j lo hi =
     let place : j - j ≡ 0 = omega arith in
     ap (λ (x : ℕ). bit_at x j) whole ∙ bit_at_cat_high 1 j (n - 2 ^ j) j rest (omega arith) ∙ ap (bit_at 1) place
 
-pub first_bit_is : (bits number : ℕ) → 0 < bits → bits < 2 ^ 64 → number ≡ leading_zeros w64 bits + 1 → IsFirstBit bits number
+pub first_bit_is : (bits number : ℕ) → 0 < bits → bits < 2 ^ 64 → number ≡ leading_zeros w64 bits + 1 →
+    IsFirstBit bits number
 first_bit_is bits number some small is =
     let top = leading_top 64 bits some small in
     let place : 64 - number ≡ top.0 = omega (arith, top.1) in
@@ -51,7 +52,11 @@ without_bit_is bits n k a b d e =
           let place : 64 - k ≡ 64 - n = omega arith in
           rw (eq-eqb k n same, place, bit_at_clear_same w64 bits (64 - n) (omega arith)) (and_not_here _)
       | inr other ↦
-          rw (ne_eqb k n other, bit_at_clear_other w64 bits (64 - n) (omega arith) (64 - k) (omega arith) (omega arith))
+          rw (
+            ne_eqb k n other,
+            bit_at_clear_other w64 bits (64 - n) (omega arith) (64 - k) (omega arith)
+                (omega arith),
+          )
           (and_not_there (bit bits k))
     ]
 
@@ -130,7 +135,8 @@ pub first_unnamed : (p q s : ℕ) → Drops p q 1
     → named (record { primary = q; secondary = s }) ≡ named (record { primary = p; secondary = s })
 unfolding named
 first_unnamed p q s d =
-    filter_same (names (record { primary = q; secondary = s })) (names (record { primary = p; secondary = s })) 2 127
+    filter_same (names (record { primary = q; secondary = s })) (names
+    (record { primary = p; secondary = s })) 2 127
     (λ n lo hi. elim (cases_lt 64 n) [
       | inl above ↦ let far : leb n 64 ≡ false = lt-leb n 64 above in rw far refl
       | inr below ↦

@@ -1,9 +1,10 @@
 -- Bitmaps that are made of numbers name those numbers.
-use Rattle.std.proofs.Common.{◌≡◌, ◌≢◌, ℕ, zero, suc, ◌+◌, ◌-◌, ◌*◌, ◌/◌, ◌%◌, ◌^◌, ◌<◌, ◌≤◌, Bool, true, false, ◌||◌, cond, eqb, leb, ltb, List, [], ◌∷◌, ◌++◌, length, take, refl, sym, ap, subst, ◌∙◌, arith, inl, inr, bit_or, get_or}
+use Rattle.std.proofs.Common.{◌≡◌, ◌≢◌, ℕ, zero, suc, ◌+◌, ◌-◌, ◌*◌, ◌/◌, ◌%◌, ◌^◌, ◌<◌, ◌≤◌, Bool, true, false, ◌||◌, eqb, leb, ltb, List, [], ◌∷◌, ◌++◌, length, take, refl, sym, ap, subst, ◌∙◌, arith, inl, inr, bit_or, get_or}
 use Rattle.std.specs.List.{list_all, list_any, filter, range_with_len}
 use Rattle.std.specs.Int.{w64, to_be_bytes}
 use Rattle.std.proofs.lemmas.Bool.{and_parts, and_from, or_left, or_right, leb-true, le-leb, lt-leb, ne_eqb, eq-eqb, lt-ltb, le-ltb, cases_eq, cases_lt, cases_Bool, agree_below_at, true≢false}
 use Rattle.std.proofs.lemmas.List.{take_more}
+use Rattle.std.proofs.lemmas.List.Folds.{list_any-append}
 use Rattle.std.proofs.lemmas.Nat.{from_be_bytes-to_be_bytes_8}
 use Rattle.std.proofs.lemmas.Nat.Bits.{bit_at_set_same, bit_at_set_other, bit_at-zero}
 use Rattle.hex.specs.Hex.{encode_upper, encode_with, upper_digits, IsBytes}
@@ -18,13 +19,9 @@ or_false : (b : Bool) → (b || false) ≡ b
 or_false true = refl
 or_false false = refl
 
-or_assoc : (a b d : Bool) → ((a || b) || d) ≡ (a || (b || d))
-or_assoc true b d = refl
-or_assoc false b d = refl
-
-pub any_push : {X : Type 0} (p : X → Bool) (xs : List X) (x : X) → list_any p (xs ++ x ∷ []) ≡ (list_any p xs || p x)
-any_push p [] x = or_false (p x)
-any_push p (y ∷ ys) x = ap (λ (b : Bool). p y || b) (any_push p ys x) ∙ sym (or_assoc (p y) (list_any p ys) (p x))
+pub any_push : {X : Type 0} (p : X → Bool) (xs : List X) (x : X) →
+    list_any p (xs ++ x ∷ []) ≡ (list_any p xs || p x)
+any_push p xs x = list_any-append p xs (x ∷ []) ∙ ap (λ (b : Bool). list_any p xs || b) (or_false (p x))
 
 -- ---- one bit
 
@@ -126,7 +123,8 @@ pub not_in : (low n : ℕ) (xs : List ℕ) → Ascends low xs → n ≤ low → 
 not_in low n [] h le = refl
 not_in low n (x ∷ xs) h le = rw (ne_eqb n x (omega arith)) (not_in x n xs h.1 (omega arith))
 
-pub filter_is : (p : ℕ → Bool) (k low start top : ℕ) (xs : List ℕ) → start ≡ low + 1 → top ≡ low + k → Ascends low xs
+pub filter_is : (p : ℕ → Bool) (k low start top : ℕ) (xs : List ℕ) → start ≡ low + 1 → top ≡ low + k →
+    Ascends low xs
     → list_all (λ n. leb n top) xs ≡ true → ((n : ℕ) → low < n → n ≤ top → p n ≡ is_in xs n)
     → filter p (range_with_len start k) ≡ xs
 filter_is p zero low start top [] e f asc all h = refl
@@ -163,7 +161,8 @@ small_numbers (e ∷ es) h =
     and_from (leb e.0 128) (list_all (λ n. leb n 128) (numbers es))
     (le-leb e.0 128 (format_in_bounds e.0 format.0 format.1).2) (small_numbers es parts.1)
 
-pub names_marked : (bitmaps : Bitmaps) (es : List (ℕ × List ℕ)) → Marks (numbers es) bitmaps → Ascends 1 (numbers es)
+pub names_marked : (bitmaps : Bitmaps) (es : List (ℕ × List ℕ)) → Marks (numbers es) bitmaps →
+    Ascends 1 (numbers es)
     → list_all is_element es ≡ true → numbers es ≡ named bitmaps
 unfolding named
 names_marked bitmaps es m asc all = sym (filter_is (names bitmaps) 127 1 2 128 (numbers es) refl refl asc
@@ -210,7 +209,8 @@ unfolding encode_with
 encode_upper-nil = refl
 
 encode_upper-push : (xs : List ℕ) (b : ℕ)
-    → encode_upper (xs ++ b ∷ []) ≡ encode_upper xs ++ (get_or upper_digits (b / 16) 0 ∷ get_or upper_digits (b % 16) 0 ∷ [])
+    → encode_upper (xs ++ b ∷ []) ≡ encode_upper xs ++ (get_or upper_digits (b / 16) 0 ∷ get_or upper_digits
+    (b % 16) 0 ∷ [])
 unfolding encode_with
 encode_upper-push [] b = refl
 encode_upper-push (x ∷ xs) b = rw (encode_upper-push xs b) refl
@@ -219,4 +219,5 @@ encode_upper-push (x ∷ xs) b = rw (encode_upper-push xs b) refl
 pub encode_upper-more : (bytes : List ℕ) (i : ℕ) → i < length bytes → encode_upper (take (i + 1) bytes)
     ≡ encode_upper (take i bytes)
     ++ (get_or upper_digits (get_or bytes i 0 / 16) 0 ∷ get_or upper_digits (get_or bytes i 0 % 16) 0 ∷ [])
-encode_upper-more bytes i lt = ap encode_upper (take_more bytes i 0 lt) ∙ encode_upper-push (take i bytes) (get_or bytes i 0)
+encode_upper-more bytes i lt = ap encode_upper (take_more bytes i 0 lt)
+    ∙ encode_upper-push (take i bytes) (get_or bytes i 0)

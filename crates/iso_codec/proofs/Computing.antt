@@ -1,4 +1,4 @@
--- Computing on literals.
+-- What an answer unfolds to compute the definitions on literals.
 use Rattle.std.specs.Prelude.{⊤}
 use Rattle.hex.specs.Hex.{decode_pairs, encode_with}
 use Rattle.iso_codec.specs.Table.{format_of}

@@ -1,9 +1,10 @@
 -- One element: what is read is spelled so.
-use Rattle.std.proofs.Common.{◌≡◌, ℕ, ◌+◌, ◌/◌, ◌%◌, ◌<◌, ◌≤◌, Bool, true, false, ◌&&◌, leb, List, [], ◌∷◌, ◌++◌, length, take, Some, None, refl, sym, ap, ◌∙◌, append_assoc, arith, inl, inr}
+use Rattle.std.proofs.Common.{◌≡◌, ℕ, ◌+◌, ◌/◌, ◌%◌, ◌<◌, ◌≤◌, Bool, true, ◌&&◌, leb, List, [], ◌∷◌, ◌++◌, length, take, Some, None, refl, sym, ap, ◌∙◌, append_assoc, arith, inl, inr}
 use Rattle.std.specs.List.{list_all}
 use Rattle.std.proofs.lemmas.Bool.{and_parts, and_from, leb-true, eq-eqb, le-leb, cases_Bool}
 use Rattle.std.proofs.lemmas.List.{append-nil, nil_from_length, length-take-le, map_push}
 use Rattle.std.proofs.lemmas.List.Concat.{flat_map-append}
+use Rattle.std.proofs.lemmas.List.Folds.{list_all-append}
 use Rattle.iso_codec.specs.declared.form.Form.{Form}
 use Rattle.iso_codec.specs.declared.form.Form.TheVariants.{Fixed, Llvar, Lllvar}
 use Rattle.iso_codec.specs.declared.element_format.ElementFormat.{ElementFormat}
@@ -116,14 +117,13 @@ body_push es e front rest after h k =
 
 pub all_push : {X : Type 0} (p : X → Bool) (xs : List X) (x : X) → list_all p xs ≡ true → p x ≡ true
     → list_all p (xs ++ x ∷ []) ≡ true
-all_push p [] x h k = and_from (p x) true k refl
-all_push p (y ∷ ys) x h k =
-    let parts = and_parts (p y) (list_all p ys) h in
-    and_from (p y) (list_all p (ys ++ x ∷ [])) parts.0 (all_push p ys x parts.1 k)
+all_push p xs x h k = list_all-append p xs (x ∷ []) ∙ rw (h, k) refl
 
 pub all_of_mid : {X : Type 0} (p : X → Bool) (xs ys : List X) (x : X) → list_all p (xs ++ x ∷ ys) ≡ true → p x ≡ true
-all_of_mid p [] ys x h = (and_parts (p x) (list_all p ys) h).0
-all_of_mid p (z ∷ xs) ys x h = all_of_mid p xs ys x (and_parts (p z) (list_all p (xs ++ x ∷ ys)) h).1
+all_of_mid p xs ys x h =
+    let both = sym (list_all-append p xs (x ∷ ys)) ∙ h in
+    let behind = and_parts (list_all p xs) (list_all p (x ∷ ys)) both in
+    (and_parts (p x) (list_all p ys) behind.1).0
 
 -- where reading the elements has come: es are read, rest is left, and the elements ns have to come
 pub record Goes (bitmaps : Bitmaps) (front : List ℕ) (es : List (ℕ × List ℕ)) (rest ns : List ℕ) : Type 0 where

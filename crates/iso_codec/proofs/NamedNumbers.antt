@@ -1,8 +1,8 @@
 -- The numbers that bitmaps name: in ascending order, and one after the other.
-use Rattle.std.proofs.Common.{◌≡◌, ◌≢◌, ℕ, zero, suc, ◌+◌, ◌-◌, ◌<◌, ◌≤◌, Bool, true, false, ◌&&◌, cond, eqb, List, [], ◌∷◌, ◌++◌, refl, sym, ap, ◌∙◌, arith, inl, inr}
+use Rattle.std.proofs.Common.{◌≡◌, ◌≢◌, ℕ, zero, suc, ◌+◌, ◌<◌, ◌≤◌, Bool, true, false, ◌&&◌, cond, List, [], ◌∷◌, ◌++◌, refl, sym, ap, ◌∙◌, arith, inl, inr}
 use Rattle.std.specs.Prelude.{not}
 use Rattle.std.specs.List.{list_all, filter, range_with_len}
-use Rattle.std.proofs.lemmas.Bool.{cases_Bool, cases_eq, and_from, true≢false}
+use Rattle.std.proofs.lemmas.Bool.{cases_Bool, cases_eq, and_from}
 use Rattle.iso_codec.specs.declared.bitmaps.Bitmaps.{Bitmaps}
 use Rattle.iso_codec.specs.Message.{names, named, Ascends}
 
@@ -46,7 +46,8 @@ filter_first p q n a (suc k) lo hi here gone before others =
       | inl same ↦
           let kept : p a ≡ true = rw same here in
           let left : q a ≡ false = rw same gone in
-          let rest = filter_same p q (a + 1) k (λ m lo' hi'. sym (others m (omega arith) (omega arith) (omega arith))) in
+          let rest = filter_same p q (a + 1) k (λ m lo' hi'.
+          sym (others m (omega arith) (omega arith) (omega arith))) in
           rw (kept, left, rest) (ap (λ (m : ℕ). m ∷ filter q (range_with_len (a + 1) k)) same)
       | inr other ↦
           let out : p a ≡ false = before a (omega arith) (omega arith) in

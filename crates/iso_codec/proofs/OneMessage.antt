@@ -1,4 +1,4 @@
--- No spelling begins another, and a text with a fault spells no message.
+-- At most one message is read from a text, and no spelling begins another.
 use Rattle.std.proofs.Common.{◌≡◌, ℕ, ◌+◌, ◌/◌, ◌%◌, ◌<◌, ◌≤◌, Bool, true, false, leb, List, [], ◌∷◌, ◌++◌, length, Option, Some, None, Ok, refl, sym, ap, subst, ◌∙◌, append_assoc, arith}
 use Rattle.std.specs.Prelude.{MatchBool}
 use Rattle.std.specs.List.{list_all}
@@ -18,7 +18,7 @@ use Rattle.std.specs.Str.Parse.{digits_value}
 use Rattle.iso_codec.specs.Content.{prefix_size, length_of, digits_of, has_length, has_class, allows, spelled_by}
 use Rattle.iso_codec.specs.Message.{IsoMessage, IsBitmap, bit, named, numbers, is_element, spelled, body, Reads}
 use Rattle.iso_codec.specs.Faults.{HasHeader}
-use Rattle.iso_codec.proofs.BitmapDigits.{test_from_AllPass}
+use Rattle.std.proofs.lemmas.List.Sums.{list_all-from_AllPass}
 use Rattle.iso_codec.specs.Setting.{is_sound}
 use Rattle.iso_codec.proofs.TableBounds.{format_in_bounds}
 
@@ -166,7 +166,7 @@ bitmap_once s t v w e a b =
     ∙ sym b.value
 
 pub bitmap_hex : (s : List ℕ) (v : ℕ) → IsBitmap s v → list_all is_hex_digit s ≡ true
-bitmap_hex s v a = test_from_AllPass is_hex_digit s (decode_pairs-ok 0 s a.bytes
+bitmap_hex s v a = list_all-from_AllPass is_hex_digit s (decode_pairs-ok 0 s a.bytes
     (sym (decode_of-even s (omega (arith, a.size))) ∙ a.decoded)).0
 
 seconds_once : (b : Bool) (s t x y : List ℕ) (v w : ℕ) → MatchBool b (IsBitmap s v) ((s ≡ []) × (v ≡ 0))

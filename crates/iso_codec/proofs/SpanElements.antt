@@ -1,6 +1,6 @@
 -- The elements at spans: more bytes behind them, one span more, and the first that is looked for.
-use Rattle.std.proofs.Common.{◌≡◌, ◌≢◌, ℕ, zero, suc, ◌+◌, ◌-◌, ◌<◌, ◌≤◌, true, false, eqb, leb, List, [], ◌∷◌, ◌++◌, length, take, drop, get_or, Some, None, refl, sym, ap, subst, ◌∙◌, append_assoc, arith}
-use Rattle.std.specs.Prelude.{slice_set, ◌&&◌}
+use Rattle.std.proofs.Common.{◌≡◌, ◌≢◌, ℕ, zero, suc, ◌+◌, ◌-◌, ◌<◌, ◌≤◌, true, leb, List, [], ◌∷◌, ◌++◌, length, take, drop, get_or, Some, None, refl, sym, ap, subst, ◌∙◌, arith}
+use Rattle.std.specs.Prelude.{slice_set}
 use Rattle.std.specs.List.{list_all, insert}
 use Rattle.std.specs.Int.{is_in_range}
 use Rattle.std.proofs.lemmas.Bool.{and_parts, and_from, le-leb, leb-true, eq-eqb, ne_eqb}
@@ -180,13 +180,15 @@ pub element_of_span : (bytes : List ℕ) (spans : List Span) (i : ℕ) (s : Span
 element_of_span bytes spans i s d lt is =
     get_or-map (element_at bytes) spans i s d lt ∙ ap (element_at bytes) (sym is)
 
-fits_at : (bytes : List ℕ) (spans : List Span) (i : ℕ) (d : Span) → list_all is_element (elements_in bytes spans) ≡ true
+fits_at : (bytes : List ℕ) (spans : List Span) (i : ℕ) (d : Span) →
+    list_all is_element (elements_in bytes spans) ≡ true
     → i < length spans → is_element (element_at bytes (get_or spans i d)) ≡ true
 fits_at bytes [] i d h lt = absurd (omega arith)
 fits_at bytes (x ∷ xs) zero d h lt =
     (and_parts (is_element (element_at bytes x)) (list_all is_element (elements_in bytes xs)) h).0
 fits_at bytes (x ∷ xs) (suc i) d h lt =
-    fits_at bytes xs i d (and_parts (is_element (element_at bytes x)) (list_all is_element (elements_in bytes xs)) h).1
+    fits_at bytes xs i d (and_parts (is_element (element_at bytes x)) (list_all is_element
+    (elements_in bytes xs)) h).1
     (omega arith)
 
 pub element_fits : (bytes : List ℕ) (spans : List Span) (i : ℕ) (s : Span)
@@ -195,7 +197,8 @@ pub element_fits : (bytes : List ℕ) (spans : List Span) (i : ℕ) (s : Span)
 element_fits bytes spans i s h lt is =
     subst (λ (x : Span). is_element (element_at bytes x) ≡ true) (sym is) (fits_at bytes spans i s h lt)
 
-pub numbers-elements_in : (bytes : List ℕ) (spans : List Span) → numbers (elements_in bytes spans) ≡ numbers_of spans
+pub numbers-elements_in : (bytes : List ℕ) (spans : List Span) →
+    numbers (elements_in bytes spans) ≡ numbers_of spans
 numbers-elements_in bytes [] = refl
 numbers-elements_in bytes (s ∷ ss) = ap (λ (ns : List ℕ). s.number ∷ ns) (numbers-elements_in bytes ss)
 
@@ -220,7 +223,8 @@ in_range_at (x ∷ xs) (suc i) d h lt =
     in_range_at xs i d (and_parts (is_in_range 2 128 x.number) (list_all (is_in_range 2 128) (numbers_of xs)) h).1
     (omega arith)
 
-pub number_in_range : (spans : List Span) (i : ℕ) (s : Span) → list_all (is_in_range 2 128) (numbers_of spans) ≡ true
+pub number_in_range : (spans : List Span) (i : ℕ) (s : Span) →
+    list_all (is_in_range 2 128) (numbers_of spans) ≡ true
     → i < length spans → s ≡ get_or spans i s → (2 ≤ s.number) × (s.number ≤ 128)
 number_in_range spans i s h lt is =
     let here = subst (λ (x : Span). is_in_range 2 128 x.number ≡ true) (sym is) (in_range_at spans i s h lt) in
@@ -230,13 +234,15 @@ number_in_range spans i s h lt is =
 -- ---- in order
 
 dropped : (bytes : List ℕ) (spans : List Span) (i : ℕ) (d : Span) → i < length spans
-    → elements_in bytes (drop i spans) ≡ element_at bytes (get_or spans i d) ∷ elements_in bytes (drop (i + 1) spans)
+    → elements_in bytes (drop i spans) ≡ element_at bytes (get_or spans i d) ∷ elements_in bytes (drop
+    (i + 1) spans)
 dropped bytes spans i d lt = ap (elements_in bytes) (drop_more spans i d lt)
 
 halves : (bytes : List ℕ) (spans : List Span) (i : ℕ)
     → elements_in bytes spans ≡ elements_in bytes (take i spans) ++ elements_in bytes (drop i spans)
 halves bytes spans i =
-    ap (elements_in bytes) (sym (take-append-drop i spans)) ∙ map-append (element_at bytes) (take i spans) (drop i spans)
+    ap (elements_in bytes) (sym (take-append-drop i spans))
+    ∙ map-append (element_at bytes) (take i spans) (drop i spans)
 
 pub place_at : (bytes : List ℕ) (spans : List Span) (n i : ℕ) (s : Span) → i < length spans → s ≡ get_or spans i s
     → list_all (is_below n) (elements_in bytes (take i spans)) ≡ true → n ≤ s.number
@@ -250,7 +256,8 @@ place_at bytes spans n i s lt is h le = record {
 }
 
 pub found_at : (bytes : List ℕ) (spans : List Span) (i : ℕ) (s : Span) (n : ℕ)
-    → content_of (elements_in bytes (take i spans)) n ≡ None → i < length spans → s ≡ get_or spans i s → s.number ≡ n
+    → content_of (elements_in bytes (take i spans)) n ≡ None → i < length spans → s ≡ get_or spans i s →
+    s.number ≡ n
     → content_of (elements_in bytes spans) n ≡ Some (take s.len (drop s.start bytes))
 found_at bytes spans i s n h lt is same =
     let there : elements_in bytes (drop i spans) ≡ element_at bytes s ∷ elements_in bytes (drop (i + 1) spans) =
@@ -261,7 +268,8 @@ found_at bytes spans i s n h lt is same =
     ∙ ap (λ (x : List (ℕ × List ℕ)). content_of x n) there ∙ rw (eq-eqb n s.number (sym same)) refl
 
 pub past_at : (bytes : List ℕ) (spans : List Span) (i : ℕ) (s : Span) (n : ℕ)
-    → content_of (elements_in bytes (take i spans)) n ≡ None → i < length spans → s ≡ get_or spans i s → s.number ≢ n
+    → content_of (elements_in bytes (take i spans)) n ≡ None → i < length spans → s ≡ get_or spans i s →
+    s.number ≢ n
     → content_of (elements_in bytes (take (i + 1) spans)) n ≡ None
 past_at bytes spans i s n h lt is other =
     let ne : n ≢ s.number = λ x. other (sym x) in

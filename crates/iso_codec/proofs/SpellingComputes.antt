@@ -5,6 +5,7 @@ use Rattle.std.specs.List.{list_all, filter, range_with_len}
 use Rattle.std.specs.Int.{w64, to_be_bytes, from_be_bytes, bit_at}
 use Rattle.std.proofs.lemmas.Bool.{and_parts, and_from, leb-true, le-leb, lt-leb, eq-eqb, eqb-true, eqb-false, ne_eqb, or_left, cases_Bool, cases_eq, cases_lt, agree_below_at}
 use Rattle.std.proofs.lemmas.List.{append-nil}
+use Rattle.std.proofs.lemmas.List.Folds.{list_all-append}
 use Rattle.std.proofs.lemmas.Nat.{or_lt, be_bytes_8}
 use Rattle.std.proofs.lemmas.Nat.Bits.{bit_at-lt, same_from_bits_below}
 use Rattle.hex.specs.Hex.{decode_of, encode_upper, encode_with, upper_digits, IsBytes}
@@ -290,11 +291,8 @@ capital_is s v b up =
 
 all_front : (xs ys : List ℕ) → list_all is_upper_hex (xs ++ ys) ≡ true
     → (list_all is_upper_hex xs ≡ true) × (list_all is_upper_hex ys ≡ true)
-all_front [] ys h = (refl, h)
-all_front (x ∷ xs) ys h =
-    let p = and_parts (is_upper_hex x) (list_all is_upper_hex (xs ++ ys)) h in
-    let q = all_front xs ys p.1 in
-    (and_from (is_upper_hex x) (list_all is_upper_hex xs) p.0 q.0, q.1)
+all_front xs ys h =
+    and_parts (list_all is_upper_hex xs) (list_all is_upper_hex ys) (sym (list_all-append is_upper_hex xs ys) ∙ h)
 
 same_second : (set : Bool) (a b : Bitmaps) (s t : List ℕ) → named a ≡ named b → list_all is_upper_hex s ≡ true
     → list_all is_upper_hex t ≡ true

@@ -1,8 +1,9 @@
--- What is written is the message's spelling.
-use Rattle.std.proofs.Common.{◌≡◌, ℕ, Bool, true, false, List, [], ◌∷◌, ◌++◌, refl, sym}
+-- What is written is read, with the bitmaps that name the message's elements.
+use Rattle.std.proofs.Common.{◌≡◌, ℕ, Bool, true, false, List, [], ◌∷◌, ◌++◌, refl, sym, ◌∙◌}
 use Rattle.std.specs.List.{list_all}
 use Rattle.std.proofs.lemmas.Bool.{and_parts, and_from}
 use Rattle.std.proofs.lemmas.List.{append-nil}
+use Rattle.std.proofs.lemmas.List.Folds.{list_all-append}
 use Rattle.iso_codec.specs.declared.bitmaps.Bitmaps.{Bitmaps}
 use Rattle.iso_codec.specs.Message.{IsoMessage, IsMessage, IsBitmap, AreBitmaps, bit, numbers, body, is_upper_hex, Writes, Reads}
 use Rattle.iso_codec.specs.Setting.{Marks}
@@ -10,10 +11,7 @@ use Rattle.iso_codec.proofs.BitmapsOfNumbers.{names_marked}
 
 pub all_append : {X : Type 0} (p : X → Bool) (xs ys : List X) → list_all p xs ≡ true → list_all p ys ≡ true
     → list_all p (xs ++ ys) ≡ true
-all_append p [] ys h k = k
-all_append p (x ∷ xs) ys h k =
-    let parts = and_parts (p x) (list_all p xs) h in
-    and_from (p x) (list_all p (xs ++ ys)) parts.0 (all_append p xs ys parts.1 k)
+all_append p xs ys h k = list_all-append p xs ys ∙ rw (h, k) refl
 
 pub one_bitmap : (digits : List ℕ) (bitmaps : Bitmaps) → IsBitmap digits bitmaps.primary
     → bit bitmaps.primary 1 ≡ false → bitmaps.secondary ≡ 0 → AreBitmaps digits bitmaps

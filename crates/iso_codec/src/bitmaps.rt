@@ -1,4 +1,4 @@
-//! The bitmaps of a message.
+//! The bitmaps of a message, and the elements that they name, one after the other.
 
 ghost use Rattle.std.specs.Prelude.{◌≡◌, ◌<◌, ◌≤◌, ◌==◌, ◌&&◌, ℕ, [], ◌∷◌, false, not, filter, MatchOption};
 ghost use Rattle.iso_codec.specs.Message.{bit as bit_of, named};

@@ -1,4 +1,4 @@
-//! Classes of bytes.
+//! Which texts are of which class of ISO 8583:1987.
 
 ghost use Rattle.std.specs.Prelude.{◌≡◌};
 ghost use Rattle.std.specs.List.{list_all};

@@ -1,4 +1,4 @@
-//! The content of one element.
+//! One element of a text: the length before it, its content, and their faults.
 
 ghost use Rattle.std.specs.Prelude.{◌≡◌, ◌⊎◌, ◌≤◌, length, IfOk, IfErr};
 ghost use Rattle.std.specs.Char.{digit_value};

@@ -1,4 +1,4 @@
-//! Reading a message.
+//! Reading a message: its header, then the elements that it names, each fault in its order.
 
 ghost use Rattle.std.specs.Prelude.{◌≡◌, ◌⊎◌, ◌+◌, ◌<◌, ◌≤◌, ℕ, List, true, length, take, drop, IfOk, IfErr, IfSome, IfNone, OnOk, MatchResult};
 ghost use Rattle.std.specs.List.{list_all};

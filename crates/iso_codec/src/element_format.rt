@@ -1,4 +1,4 @@
-//! The element table.
+//! The element table: how each element is spelled.
 
 ghost use Rattle.std.specs.Prelude.{◌≡◌};
 ghost use Rattle.iso_codec.specs.Table.{format_of};

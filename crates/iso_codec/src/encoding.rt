@@ -1,4 +1,4 @@
-//! Writing a message.
+//! Writing a message: its one spelling, with bitmaps in capitals.
 
 ghost use Rattle.std.specs.Prelude.{◌≡◌, ◌+◌, ◌<◌, ◌≤◌, ◌==◌, ◌||◌, ℕ, List, true, false, length, slice_index, ◌++◌, OnOk, OnErr, IfOk};
 ghost use Rattle.std.specs.List.{list_all, list_any};
@@ -151,7 +151,7 @@ fn push_message(message: &Message, out: &mut Vec<u8>) -> Result<(), AllocError>
 }
 
 /// Writes a message at the end. An `Err` changes nothing.
-pub fn encode(_alloc: Global, message: &Message, out: &mut Vec<u8>) -> Result<(), AllocError>
+pub fn encode(alloc: Global, message: &Message, out: &mut Vec<u8>) -> Result<(), AllocError>
     ensures written { OnOk result ((text : List ℕ) × Writes text message.now
         × (out.new.items ≡ out.old.items ++ text)) }
     // What is written is the message's spelling.

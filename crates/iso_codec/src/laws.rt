@@ -1,4 +1,4 @@
-//! Laws of the spelling.
+//! Laws of the spelling: each is the contract of a function that has no code.
 
 ghost use Rattle.std.specs.Prelude.{◌≡◌, ◌↔◌, ℕ, List, [], ◌++◌};
 ghost use Rattle.iso_codec.specs.Message.{IsoMessage, IsMessage, Reads, Writes};

@@ -1,4 +1,4 @@
-//! Messages.
+//! Messages: how an element is looked up and set, and what is printed of them.
 
 ghost use Rattle.std.specs.Prelude.{◌≡◌, ◌↔◌, ◌⊎◌, ◌≤◌, ℕ, List, true, [], Some, None, Err, length, slice_set, IfSome, IsSome, IfOk, OnOk, OnErr, IfErr};
 ghost use Rattle.std.specs.List.{list_all, insert};

@@ -1,4 +1,4 @@
-//! Where contents stand.
+//! Where an element's content stands among a message's bytes.
 
 ghost use Rattle.std.specs.Prelude.{◌≡◌, true, length, take, drop};
 ghost use Rattle.iso_codec.specs.Span.{is_within};

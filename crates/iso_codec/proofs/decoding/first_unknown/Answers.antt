@@ -1,4 +1,4 @@
-use Rattle.std.proofs.Common.{◌≡◌, ℕ, List, [], ◌∷◌, Option, Some, None, true, sym, ◌∙◌}
+use Rattle.std.proofs.Common.{◌≡◌, ℕ, [], ◌∷◌, Option, Some, None, true, sym, ◌∙◌}
 use Rattle.std.specs.Prelude.{IfNone, IfSome, MatchOption, not}
 use Rattle.std.specs.List.{list_all, filter}
 use Rattle.iso_codec.specs.declared.bitmaps.Bitmaps.{Bitmaps}

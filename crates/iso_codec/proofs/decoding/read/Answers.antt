@@ -1,4 +1,4 @@
-use Rattle.std.proofs.Common.{◌≡◌, sym, subst, List, ℕ}
+use Rattle.std.proofs.Common.{sym, subst, List, ℕ}
 use Rattle.iso_codec.specs.Span.{elements_in, IsStored}
 use Rattle.iso_codec.proofs.FaultsOfParts.{reads_whole}
 use Rattle.iso_codec.proofs.decoding.read.Goals as goal

@@ -1,4 +1,4 @@
-use Rattle.std.proofs.Common.{sym, ◌∙◌, ap, subst, arith, ◌≡◌, ◌++◌, ◌∷◌, ◌+◌, ◌-◌, [], List, ℕ, true, length, take, append_assoc, inr}
+use Rattle.std.proofs.Common.{sym, ◌∙◌, ap, subst, arith, ◌≡◌, ◌++◌, ◌∷◌, ◌-◌, [], List, ℕ, true, length, take, append_assoc, inr}
 use Rattle.std.specs.List.{list_all}
 use Rattle.std.proofs.lemmas.Bool.{eqb-false}
 use Rattle.std.proofs.lemmas.List.{map_push}

@@ -1,4 +1,4 @@
-use Rattle.std.proofs.Common.{◌≡◌, ap, sym, ◌∙◌, ◌++◌, List, ℕ, take, append_assoc}
+use Rattle.std.proofs.Common.{ap, ◌∙◌, ◌++◌, List, ℕ, take, append_assoc}
 use Rattle.iso_codec.specs.Message.{body}
 use Rattle.iso_codec.specs.Span.{elements_in}
 use Rattle.iso_codec.proofs.SpanElements.{span_at, span_at_is, element_fits}

@@ -1,7 +1,5 @@
-use Rattle.std.proofs.Common.{◌≡◌, length, true, refl, sym, subst, arith, List, ℕ}
-use Rattle.std.specs.List.{list_all}
+use Rattle.std.proofs.Common.{length, refl, arith}
 use Rattle.iso_codec.specs.declared.span.Span.{Span}
-use Rattle.iso_codec.specs.Span.{is_within}
 use Rattle.iso_codec.proofs.SpanElements.{insert_span, insert_within, IsBehind, within_same}
 use Rattle.iso_codec.proofs.message.add.Goals as goal
 
@@ -11,10 +9,20 @@ returns-in-Ok-clause-ok c =
     let spans = c.make_room.new.spans.items in
     let content = c.args.content.now in
     let span : Span = record { number = c.args.number; start = c.len-start.result; len = length content } in
-    let behind : IsBehind bytes content span = record { start_is = omega (arith, c.len-start.ensures); len_is = refl } in
+    let behind : IsBehind bytes content span = record {
+      start_is = omega
+          (arith, c.len-start.ensures);
+      len_is = refl;
+    } in
     let stand = within_same c.args.bytes.now.items bytes c.args.spans.now.items spans c.make_room.ensures.bytes
-        c.make_room.ensures.spans c.requires.stand in
-    rw (c.in_ok-extend_from_slice.ensures.items, c.in-Ok.ensures.items, ← c.make_room.ensures.bytes, ← c.make_room.ensures.spans)
+    c.make_room.ensures.spans c.requires.stand in
+    rw (
+      c.in_ok-extend_from_slice.ensures.items,
+      c.in-Ok.ensures.items,
+      ← c.make_room.ensures.bytes,
+      ←
+          c.make_room.ensures.spans,
+    )
     (insert_span bytes content spans c.args.at span behind stand)
 
 pub returns-in-Ok-clause-within : goal.returns-in-Ok-clause-within
@@ -23,8 +31,12 @@ returns-in-Ok-clause-within c =
     let spans = c.make_room.new.spans.items in
     let content = c.args.content.now in
     let span : Span = record { number = c.args.number; start = c.len-start.result; len = length content } in
-    let behind : IsBehind bytes content span = record { start_is = omega (arith, c.len-start.ensures); len_is = refl } in
+    let behind : IsBehind bytes content span = record {
+      start_is = omega
+          (arith, c.len-start.ensures);
+      len_is = refl;
+    } in
     let stand = within_same c.args.bytes.now.items bytes c.args.spans.now.items spans c.make_room.ensures.bytes
-        c.make_room.ensures.spans c.requires.stand in
+    c.make_room.ensures.spans c.requires.stand in
     rw (c.in_ok-extend_from_slice.ensures.items, c.in-Ok.ensures.items)
     (insert_within bytes content spans c.args.at span behind stand)

@@ -1,9 +1,7 @@
-use Rattle.std.proofs.Common.{◌≡◌, sym, ap, subst, ◌∙◌, arith, ◌<◌, ◌≤◌, [], List, ℕ, length}
+use Rattle.std.proofs.Common.{◌≡◌, sym, ap, subst, ◌∙◌, arith, ◌<◌, [], List, ℕ, length}
 use Rattle.std.specs.Prelude.{slice_set}
 use Rattle.std.proofs.lemmas.Result.{on_ok_weaker}
 use Rattle.iso_codec.specs.declared.span.Span.{Span}
-use Rattle.iso_codec.specs.Message.{with_content}
-use Rattle.iso_codec.specs.Setting.{IsPlace}
 use Rattle.iso_codec.specs.Span.{elements_in}
 use Rattle.iso_codec.proofs.ElementPlaces.{with_content-same, with_content-new}
 use Rattle.iso_codec.proofs.SpanElements.{element_of_span, place_in, length-elements_in}

@@ -1,6 +1,5 @@
-use Rattle.std.proofs.Common.{◌≡◌, ◌≢◌, sym, ap, ◌∙◌, arith, ◌<◌, ◌≤◌, ◌++◌, ◌∷◌, [], List, ℕ, length, take}
+use Rattle.std.proofs.Common.{◌≡◌, sym, ap, ◌∙◌, arith, ◌<◌, ◌≤◌, ◌++◌, ◌∷◌, [], List, ℕ, length, take}
 use Rattle.std.specs.Prelude.{slice_set}
-use Rattle.std.specs.List.{insert}
 use Rattle.iso_codec.specs.Span.{element_at, elements_in}
 use Rattle.iso_codec.proofs.SpanElements.{span_at, span_at_is, element_of_span, insert_last, set_more-same, set_more-other, length-elements_in}
 use Rattle.iso_codec.proofs.message.replaced.Goals as goal
@@ -24,16 +23,26 @@ loop-i-preserved c =
           let made = w.in_ok-add.ensures.ok ∙ insert_last fresh c.len-last.result new last
           ∙ ap (λ (l : List (ℕ × List ℕ)). l ++ new ∷ []) c.loop-i.invariant.elements
           ∙ sym (set_more-same es at i new lt' w.if-i-at.true) in
-          record { elements = rw (w.fresh_spans-is, w.fresh_bytes-is) made; within = rw (w.fresh_spans-is, w.fresh_bytes-is) w.in_ok-add.ensures.within }
+          record {
+            elements = rw (w.fresh_spans-is, w.fresh_bytes-is) made;
+            within = rw
+                (w.fresh_spans-is, w.fresh_bytes-is) w.in_ok-add.ensures.within;
+          }
       | else-i-at+in_ok-add-2 w ↦
           let s = span_at spans i in
           let kept : ℕ × List ℕ = element_at bytes s in
           let same : (s.number, w.bytes_at-kept.result.now) ≡ kept =
           ap (λ (t : List ℕ). (s.number, t)) w.bytes_at-kept.ensures in
-          let made = w.in_ok-add-2.ensures.ok ∙ insert_last fresh c.len-last.result (s.number, w.bytes_at-kept.result.now) last
-          ∙ ap (λ (l : List (ℕ × List ℕ)). l ++ (s.number, w.bytes_at-kept.result.now) ∷ []) c.loop-i.invariant.elements
+          let made = w.in_ok-add-2.ensures.ok ∙ insert_last fresh c.len-last.result
+          (s.number, w.bytes_at-kept.result.now) last
+          ∙ ap (λ (l : List (ℕ × List ℕ)). l ++ (s.number, w.bytes_at-kept.result.now) ∷ [])
+          c.loop-i.invariant.elements
           ∙ ap (λ (x : ℕ × List ℕ). take i (slice_set es at new) ++ x ∷ []) same
           ∙ sym (set_more-other es at i new kept lt' w.if-i-at.false
           (element_of_span bytes spans i s kept lt (span_at_is spans i lt))) in
-          record { elements = rw (w.fresh_spans-is, w.fresh_bytes-is) made; within = rw (w.fresh_spans-is, w.fresh_bytes-is) w.in_ok-add-2.ensures.within }
+          record {
+            elements = rw (w.fresh_spans-is, w.fresh_bytes-is) made;
+            within = rw
+                (w.fresh_spans-is, w.fresh_bytes-is) w.in_ok-add-2.ensures.within;
+          }
     ]
