@@ -1,7 +1,8 @@
 -- How an element is spelled: digits of its length where its form has them, and then its bytes
 -- (ISO 8583:1987, attributes of data elements; tracks, hexadecimal digits and any bytes: own
 -- profile).
-use Rattle.std.specs.Prelude.{ℕ, ◌+◌, ◌/◌, ◌%◌, ◌==◌, nat_le, Bool, true, false, ◌&&◌, ◌||◌, List, [], ◌∷◌, ◌++◌, length, Option, Some, None, if◌then◌else◌}
+use Rattle.std.specs.Prelude.{ℕ, ◌+◌, ◌/◌, ◌%◌, ◌==◌, nat_le, Bool, true, false, ◌&&◌, ◌||◌, List}
+use Rattle.std.specs.Prelude.{[], ◌∷◌, ◌++◌, length, Option, Some, None, if◌then◌else◌}
 use Rattle.std.specs.List.{list_all}
 use Rattle.std.specs.Char.{is_ascii_digit, is_ascii_hexdigit}
 use Rattle.std.specs.Int.{is_in_range}
@@ -9,7 +10,8 @@ use Rattle.std.specs.Str.Parse.{digits_value}
 use Rattle.iso_codec.specs.declared.form.Form.{Form}
 use Rattle.iso_codec.specs.declared.form.Form.TheVariants.{Fixed, Llvar, Lllvar}
 use Rattle.iso_codec.specs.declared.class.Class.{Class}
-use Rattle.iso_codec.specs.declared.class.Class.TheVariants.{Numeric, Alphanumeric, Printable, Track, Hex, SignedNumeric, Any}
+use Rattle.iso_codec.specs.declared.class.Class.TheVariants.{Numeric, Alphanumeric, Printable}
+use Rattle.iso_codec.specs.declared.class.Class.TheVariants.{Track, Hex, SignedNumeric, Any}
 use Rattle.iso_codec.specs.declared.element_format.ElementFormat.{ElementFormat}
 
 -- class an: digits, letters and the space

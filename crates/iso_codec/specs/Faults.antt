@@ -1,16 +1,21 @@
 -- The faults of a text, each as a rule on the whole text (own profile): what stands before the
 -- place where it shows, and what doesn't follow.
-use Rattle.std.specs.Prelude.{◌≡◌, ℕ, ◌+◌, ◌<◌, ◌≤◌, Bool, true, false, List, ◌∷◌, ◌++◌, length, take, drop, Option, Some, None, is_some, ◌⊎◌}
+use Rattle.std.specs.Prelude.{◌≡◌, ℕ, ◌+◌, ◌<◌, ◌≤◌, Bool, true, false, List, ◌∷◌, ◌++◌, length}
+use Rattle.std.specs.Prelude.{take, drop, Option, Some, None, is_some, ◌⊎◌}
 use Rattle.std.specs.List.{list_all}
 use Rattle.std.specs.Char.{is_ascii_digit}
 use Rattle.hex.specs.Hex.{is_hex_digit}
 use Rattle.iso_codec.specs.declared.bitmaps.Bitmaps.{Bitmaps}
 use Rattle.iso_codec.specs.declared.element_format.ElementFormat.{ElementFormat}
 use Rattle.iso_codec.specs.declared.decode_fault.DecodeFault.{DecodeFault}
-use Rattle.iso_codec.specs.declared.decode_fault.DecodeFault.TheVariants.{Memory, BadType, BadBitmap, UnknownElement, Truncated, BadLength, BadContent, Trailing}
+use Rattle.iso_codec.specs.declared.decode_fault.DecodeFault.TheVariants.{Memory, BadType}
+use Rattle.iso_codec.specs.declared.decode_fault.DecodeFault.TheVariants.{BadBitmap, UnknownElement}
+use Rattle.iso_codec.specs.declared.decode_fault.DecodeFault.TheVariants.{Truncated, BadLength}
+use Rattle.iso_codec.specs.declared.decode_fault.DecodeFault.TheVariants.{BadContent, Trailing}
 use Rattle.iso_codec.specs.Table.{format_of}
 use Rattle.iso_codec.specs.Content.{prefix_size, length_of, has_class}
-use Rattle.iso_codec.specs.Message.{IsoMessage, IsKind, IsBitmap, AreBitmaps, bit, named, numbers, is_element, body, Reads}
+use Rattle.iso_codec.specs.Message.{IsoMessage, IsKind, IsBitmap, AreBitmaps, bit, named, numbers}
+use Rattle.iso_codec.specs.Message.{is_element, body, Reads}
 
 -- Four digits, and perhaps a primary bitmap with bit 1, stand before rest: a bitmap has to come.
 abbrev pub AwaitsBitmap : List ℕ → List ℕ → Type 0

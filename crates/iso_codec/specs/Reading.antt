@@ -1,6 +1,8 @@
 -- What a text reads as, and how a message is spelled, as functions that compute. `laws` ties them
 -- to the relations of `Message` and `Faults`.
-use Rattle.std.specs.Prelude.{◌≡◌, ℕ, ◌-◌, ◌^◌, nat_le, nat_lt, Bool, true, false, List, [], ◌∷◌, ◌++◌, length, take, drop, Option, Some, None, Result, Ok, Err, if◌then◌else◌, fold, bit_or}
+use Rattle.std.specs.Prelude.{◌≡◌, ℕ, ◌-◌, ◌^◌, nat_le, nat_lt, Bool, true, false, List, [], ◌∷◌}
+use Rattle.std.specs.Prelude.{◌++◌, length, take, drop, Option, Some, None, Result, Ok, Err}
+use Rattle.std.specs.Prelude.{if◌then◌else◌, fold, bit_or}
 use Rattle.std.specs.List.{list_all}
 use Rattle.std.specs.Char.{is_ascii_digit}
 use Rattle.std.specs.Int.{w64, from_be_bytes, to_be_bytes}
@@ -9,7 +11,10 @@ use Rattle.hex.specs.declared.error.FromHexError.{FromHexError}
 use Rattle.iso_codec.specs.declared.bitmaps.Bitmaps.{Bitmaps}
 use Rattle.iso_codec.specs.declared.element_format.ElementFormat.{ElementFormat}
 use Rattle.iso_codec.specs.declared.decode_fault.DecodeFault.{DecodeFault}
-use Rattle.iso_codec.specs.declared.decode_fault.DecodeFault.TheVariants.{BadType, BadBitmap, UnknownElement, Truncated, BadLength, BadContent, Trailing}
+use Rattle.iso_codec.specs.declared.decode_fault.DecodeFault.TheVariants.{BadType, BadBitmap}
+use Rattle.iso_codec.specs.declared.decode_fault.DecodeFault.TheVariants.{UnknownElement, Truncated}
+use Rattle.iso_codec.specs.declared.decode_fault.DecodeFault.TheVariants.{BadLength, BadContent}
+use Rattle.iso_codec.specs.declared.decode_fault.DecodeFault.TheVariants.{Trailing}
 use Rattle.iso_codec.specs.Table.{format_of}
 use Rattle.iso_codec.specs.Content.{prefix_size, length_of, has_class}
 use Rattle.iso_codec.specs.Message.{IsoMessage, bit, named, numbers, body}

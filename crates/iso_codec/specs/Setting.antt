@@ -1,12 +1,14 @@
 -- Which contents an element may be set to, where it goes, and the bits that elements mark.
-use Rattle.std.specs.Prelude.{◌≡◌, ℕ, ◌<◌, ◌≤◌, ◌==◌, nat_lt, nat_le, Bool, true, false, List, [], ◌∷◌, length, take, drop, Option, Some, None, if◌then◌else◌}
+use Rattle.std.specs.Prelude.{◌≡◌, ℕ, ◌<◌, ◌≤◌, ◌==◌, nat_lt, nat_le, Bool, true, false, List, []}
+use Rattle.std.specs.Prelude.{◌∷◌, length, take, drop, Option, Some, None, if◌then◌else◌}
 use Rattle.std.specs.List.{list_all, list_any}
 use Rattle.iso_codec.specs.declared.bitmaps.Bitmaps.{Bitmaps}
 use Rattle.iso_codec.specs.declared.form.Form.{Form}
 use Rattle.iso_codec.specs.declared.form.Form.TheVariants.{Fixed, Llvar, Lllvar}
 use Rattle.iso_codec.specs.declared.element_format.ElementFormat.{ElementFormat}
 use Rattle.iso_codec.specs.declared.set_fault.SetFault.{SetFault}
-use Rattle.iso_codec.specs.declared.set_fault.SetFault.TheVariants.{UnknownElement, BadLength, BadContent}
+use Rattle.iso_codec.specs.declared.set_fault.SetFault.TheVariants.{UnknownElement, BadLength}
+use Rattle.iso_codec.specs.declared.set_fault.SetFault.TheVariants.{BadContent}
 use Rattle.iso_codec.specs.Table.{format_of}
 use Rattle.iso_codec.specs.Content.{has_length, has_class}
 use Rattle.iso_codec.specs.Message.{bit, names}

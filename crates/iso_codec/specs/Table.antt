@@ -3,7 +3,8 @@ use Rattle.std.specs.Prelude.{ℕ, ◌==◌, List, [], ◌∷◌, Option, Some, 
 use Rattle.iso_codec.specs.declared.form.Form.{Form}
 use Rattle.iso_codec.specs.declared.form.Form.TheVariants.{Fixed, Llvar, Lllvar}
 use Rattle.iso_codec.specs.declared.class.Class.{Class}
-use Rattle.iso_codec.specs.declared.class.Class.TheVariants.{Numeric, Alphanumeric, Printable, Track, Hex, SignedNumeric, Any}
+use Rattle.iso_codec.specs.declared.class.Class.TheVariants.{Numeric, Alphanumeric, Printable}
+use Rattle.iso_codec.specs.declared.class.Class.TheVariants.{Track, Hex, SignedNumeric, Any}
 use Rattle.iso_codec.specs.declared.element_format.ElementFormat.{ElementFormat}
 
 abbrev pub row : ℕ → Form → Class → ℕ × ElementFormat

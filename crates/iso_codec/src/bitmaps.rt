@@ -1,6 +1,7 @@
 //! The bitmaps of a message, and the elements that they name, one after the other.
 
-ghost use Rattle.std.specs.Prelude.{◌≡◌, ◌<◌, ◌≤◌, ◌==◌, ◌&&◌, ℕ, [], ◌∷◌, false, not, filter, MatchOption};
+ghost use Rattle.std.specs.Prelude.{◌≡◌, ◌<◌, ◌≤◌, ◌==◌, ◌&&◌, ℕ, [], ◌∷◌, false, not, filter};
+ghost use Rattle.std.specs.Prelude.{MatchOption};
 ghost use Rattle.iso_codec.specs.Message.{bit as bit_of, named};
 ghost use Rattle.iso_codec.specs.Faults.{is_known};
 ghost use Rattle.iso_codec.specs.Setting.{IsFirstBit};

@@ -3,7 +3,8 @@
 ghost use Rattle.std.specs.Prelude.{◌≡◌};
 ghost use Rattle.std.specs.List.{list_all};
 ghost use Rattle.std.specs.Char.{is_ascii_digit, is_ascii_hexdigit};
-ghost use Rattle.iso_codec.specs.Content.{is_alphanumeric, is_printable, is_track, is_signed, has_class};
+ghost use Rattle.iso_codec.specs.Content.{is_alphanumeric, is_printable, is_track, is_signed};
+ghost use Rattle.iso_codec.specs.Content.{has_class};
 
 use crate::class::Class;
 

@@ -1,12 +1,14 @@
 //! Reading a message: its header, then the elements that it names, each fault in its order.
 
-ghost use Rattle.std.specs.Prelude.{◌≡◌, ◌⊎◌, ◌+◌, ◌<◌, ◌≤◌, ℕ, List, true, length, take, drop, IfOk, IfErr, IfSome, IfNone, OnOk, MatchResult};
+ghost use Rattle.std.specs.Prelude.{◌≡◌, ◌⊎◌, ◌+◌, ◌<◌, ◌≤◌, ℕ, List, true, length, take, drop};
+ghost use Rattle.std.specs.Prelude.{IfOk, IfErr, IfSome, IfNone, OnOk, MatchResult};
 ghost use Rattle.std.specs.List.{list_all};
 ghost use Rattle.iso_codec.specs.declared.decode_fault.DecodeFault.TheVariants.{Memory};
 ghost use Rattle.iso_codec.specs.Message.{IsoMessage, Reads, IsMessage, IsBitmap, named};
 ghost use Rattle.iso_codec.specs.Span.{elements_in, is_within};
 ghost use Rattle.iso_codec.specs.Reading.{reading_of};
-ghost use Rattle.iso_codec.specs.Faults.{FirstFault, HasHeader, NeedsMemory, ElementsFault, IsBody, BitmapFault, BeginsWithBitmap, IsFirstUnknown, is_known};
+ghost use Rattle.iso_codec.specs.Faults.{FirstFault, HasHeader, NeedsMemory, ElementsFault, IsBody};
+ghost use Rattle.iso_codec.specs.Faults.{BitmapFault, BeginsWithBitmap, IsFirstUnknown, is_known};
 
 use crate::bitmaps::{Bitmaps, bit};
 use crate::classes::all_digits;

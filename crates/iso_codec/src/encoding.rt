@@ -1,10 +1,12 @@
 //! Writing a message: its one spelling, with bitmaps in capitals.
 
-ghost use Rattle.std.specs.Prelude.{◌≡◌, ◌+◌, ◌<◌, ◌≤◌, ◌==◌, ◌||◌, ℕ, List, true, false, length, slice_index, ◌++◌, OnOk, OnErr, IfOk};
+ghost use Rattle.std.specs.Prelude.{◌≡◌, ◌+◌, ◌<◌, ◌≤◌, ◌==◌, ◌||◌, ℕ, List, true, false, length};
+ghost use Rattle.std.specs.Prelude.{slice_index, ◌++◌, OnOk, OnErr, IfOk};
 ghost use Rattle.std.specs.List.{list_all, list_any};
 ghost use Rattle.hex.specs.Hex.{upper_digits};
 ghost use Rattle.iso_codec.specs.Content.{digits_of, has_length};
-ghost use Rattle.iso_codec.specs.Message.{Writes, IsBitmap, AreBitmaps, bit as bit_of, is_element, spelled, body, Ascends, is_upper_hex};
+ghost use Rattle.iso_codec.specs.Message.{Writes, IsBitmap, AreBitmaps, bit as bit_of, is_element};
+ghost use Rattle.iso_codec.specs.Message.{spelled, body, Ascends, is_upper_hex};
 ghost use Rattle.iso_codec.specs.Reading.{spelling, Extends};
 ghost use Rattle.iso_codec.specs.Setting.{Marks, is_sound};
 ghost use Rattle.iso_codec.specs.Span.{elements_in, numbers_of, is_within};

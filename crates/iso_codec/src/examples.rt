@@ -3,8 +3,16 @@
 
 ghost use Rattle.std.specs.Prelude.{◌≡◌, ◌++◌, [], codes, take};
 ghost use Rattle.iso_codec.specs.Reading.{reading_of, spelling};
-ghost use Rattle.iso_codec.specs.Examples.{echo_request, echo_request_text, echo_reply, echo_reply_text, purchase, purchase_body, purchase_text, purchase_text_lower, reconciliation, reconciliation_text, zeros, zeros_text, zeros_spelling};
-ghost use Rattle.iso_codec.specs.declared.decode_fault.DecodeFault.TheVariants.{BadType, BadBitmap, UnknownElement, Truncated, BadLength, BadContent, Trailing};
+ghost use Rattle.iso_codec.specs.Examples.{echo_request, echo_request_text, echo_reply};
+ghost use Rattle.iso_codec.specs.Examples.{echo_reply_text, purchase, purchase_body, purchase_text};
+ghost use Rattle.iso_codec.specs.Examples.{purchase_text_lower, reconciliation};
+ghost use Rattle.iso_codec.specs.Examples.{reconciliation_text, zeros, zeros_text, zeros_spelling};
+ghost use Rattle.iso_codec.specs.declared.decode_fault.DecodeFault.TheVariants.{BadType, BadBitmap};
+ghost use Rattle.iso_codec.specs.declared.decode_fault.DecodeFault.TheVariants.{UnknownElement};
+ghost use Rattle.iso_codec.specs.declared.decode_fault.DecodeFault.TheVariants.{Truncated};
+ghost use Rattle.iso_codec.specs.declared.decode_fault.DecodeFault.TheVariants.{BadLength};
+ghost use Rattle.iso_codec.specs.declared.decode_fault.DecodeFault.TheVariants.{BadContent};
+ghost use Rattle.iso_codec.specs.declared.decode_fault.DecodeFault.TheVariants.{Trailing};
 
 /// Texts and the messages that they read as. Lower-case bitmaps are read too.
 #[tactic(auto, unfolding(crate::proofs::Computing::on_literals))]

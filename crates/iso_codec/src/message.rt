@@ -1,6 +1,7 @@
 //! Messages: how an element is looked up and set, and what is printed of them.
 
-ghost use Rattle.std.specs.Prelude.{◌≡◌, ◌↔◌, ◌⊎◌, ◌≤◌, ℕ, List, true, [], Some, None, Err, length, slice_set, IfSome, IsSome, IfOk, OnOk, OnErr, IfErr};
+ghost use Rattle.std.specs.Prelude.{◌≡◌, ◌↔◌, ◌⊎◌, ◌≤◌, ℕ, List, true, [], Some, None, Err, length};
+ghost use Rattle.std.specs.Prelude.{slice_set, IfSome, IsSome, IfOk, OnOk, OnErr, IfErr};
 ghost use Rattle.std.specs.List.{list_all, insert};
 ghost use Rattle.std.specs.Option.{option_copied};
 ghost use Rattle.std.specs.Char.{is_ascii_digit};
