@@ -1,7 +1,7 @@
 //! Amounts.
 
 ghost use Rattle.std.specs.Prelude.{◌≡◌, true, SomeIff};
-ghost use Rattle.acq_message.specs.Numbers.{is_amount};
+ghost use Rattle.acq_message.specs.Numbers.{is_amount, is_accepted_amount};
 
 use std::marker::Model;
 
@@ -36,6 +36,13 @@ impl Amount {
         } else {
             None
         }
+    }
+
+    /// Whether a request of this amount may be accepted: from 1 to 9,999,999,999 (own profile).
+    pub fn is_accepted(&self) -> bool
+        ensures { result ≡ is_accepted_amount self.now }
+    {
+        (1..=9_999_999_999).contains(&self.number)
     }
 
     /// The minor units.

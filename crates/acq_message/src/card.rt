@@ -1,6 +1,8 @@
 //! The card of a message.
 
-ghost use Rattle.std.specs.Prelude.{◌≡◌, option_map};
+ghost use Rattle.std.specs.Prelude.{◌≡◌, option_map, IfSome, length, true};
+ghost use Rattle.std.specs.List.{list_all};
+ghost use Rattle.std.specs.Char.{is_ascii_digit};
 ghost use Rattle.std.specs.Option.{option_copied};
 ghost use Rattle.acq_message.specs.Cards.{track_of, card_of, expiry_of, expiry_at};
 ghost use Rattle.acq_message.specs.Cards.{has_bad_track, has_two_cards};
@@ -25,7 +27,9 @@ pub fn card_of(message: &Message) -> Option<&[u8]>
 /// The expiry of a message's card, YYMM: element 14, else the four digits behind the first `=` or
 /// `D` of element 35, where four stand there. It takes no memory.
 pub fn expiry_of(message: &Message) -> Option<&[u8]>
-    ensures { option_copied result ≡ expiry_of message.now }
+    ensures value { option_copied result ≡ expiry_of message.now }
+    ensures size { IfSome result (λ expiry. length expiry.now ≡ 4) }
+    ensures digits { IfSome result (λ expiry. list_all is_ascii_digit expiry.now ≡ true) }
 {
     match message.get(14) {
         Some(expiry) => Some(expiry),
@@ -37,7 +41,9 @@ pub fn expiry_of(message: &Message) -> Option<&[u8]>
 }
 
 fn expiry_at(after: &[u8]) -> Option<&[u8]>
-    ensures { option_copied result ≡ expiry_at after.now }
+    ensures value { option_copied result ≡ expiry_at after.now }
+    ensures size { IfSome result (λ expiry. length expiry.now ≡ 4) }
+    ensures digits { IfSome result (λ expiry. list_all is_ascii_digit expiry.now ≡ true) }
 {
     if after.len() < 4 {
         return None;

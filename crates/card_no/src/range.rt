@@ -1,11 +1,12 @@
 //! The prefixes of one issuer's cards.
 
-ghost use Rattle.std.specs.Prelude.{◌≡◌};
+ghost use Rattle.std.specs.Prelude.{◌≡◌, IfOk};
 ghost use Rattle.card_no.specs.Ranges.{is_issuer, is_valid_range, holds_prefix, overlaps, has_ends};
 
 use crate::digits::all_digits;
 use crate::issuer_id::IssuerId;
 use crate::prefix::Prefix;
+use std::alloc::{AllocError, Global};
 
 const ISSUER_LEN: usize = 11;
 
@@ -52,6 +53,19 @@ impl Range {
         ensures { result ≡ overlaps self.now other.now }
     {
         self.low <= other.high && other.low <= self.high
+    }
+
+    /// A copy.
+    pub fn copied(&self, alloc: Global) -> Result<Range, AllocError>
+        ensures { IfOk result (λ range. range ≡ self.now) }
+    {
+        let issuer = IssuerId::from_slice(alloc, self.issuer.as_bytes())?;
+        Ok(Range {
+            low: self.low,
+            high: self.high,
+            issuer,
+            hold_days: self.hold_days,
+        })
     }
 
     /// Whether these are the range's ends.

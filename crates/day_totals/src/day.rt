@@ -69,6 +69,20 @@ impl Day {
         first_date() + i64::from(self.number).days()
     }
 
+    /// The year of its date.
+    pub fn year(self) -> u16
+        ensures { result ≡ (date_of self).year }
+    {
+        self.date().year() as u16
+    }
+
+    /// The month of its date, from 1 to 12.
+    pub fn month(self) -> u8
+        ensures { result ≡ (date_of self).month }
+    {
+        self.date().month() as u8
+    }
+
     /// The day with this date.
     fn of_date(date: Date) -> Option<Day>
         ensures found { IfSome result (λ day. IsDateOf (date_of day) date) }
