@@ -1,3 +1,4 @@
 pub mod EchoedElements
 pub mod ElementsFit
+pub mod NeededElements
 pub mod ReplyLength

@@ -1,6 +1,7 @@
 -- The requests that are served (types: ISO 8583:1987, message type identifier; what is needed and
 -- echoed: own profile).
-use Rattle.std.specs.Prelude.{ℕ, Bool, List, [], ◌∷◌, Option, Some, None, if◌then◌else◌, codes}
+use Rattle.std.specs.Prelude.{ℕ, Bool, true, false, List, [], ◌∷◌, Option, Some, None}
+use Rattle.std.specs.Prelude.{if◌then◌else◌, codes}
 use Rattle.std.specs.Str.{bytes_eq}
 use Rattle.acq_message.specs.declared.service.Service.{Service}
 use Rattle.acq_message.specs.declared.service.Service.TheVariants.{Authorization, Financial}
@@ -74,3 +75,14 @@ abbrev pub echoed : Service → List ℕ
 echoed Completion = 2 ∷ 3 ∷ 4 ∷ 7 ∷ 11 ∷ 12 ∷ 13 ∷ 37 ∷ 41 ∷ 42 ∷ 49 ∷ []
 echoed NetworkManagement = 2 ∷ 3 ∷ 4 ∷ 7 ∷ 11 ∷ 12 ∷ 13 ∷ 41 ∷ 42 ∷ 49 ∷ 70 ∷ []
 echoed service = 2 ∷ 3 ∷ 4 ∷ 7 ∷ 11 ∷ 12 ∷ 13 ∷ 41 ∷ 42 ∷ 49 ∷ []
+
+-- a request that names its terminal and merchant: all but those of network management
+abbrev pub is_recordable : Service → Bool
+is_recordable NetworkManagement = false
+is_recordable service = true
+
+-- a request that names an original, in element 90
+abbrev pub names_original : Service → Bool
+names_original Reversal = true
+names_original ReversalAdvice = true
+names_original service = false

@@ -15,7 +15,7 @@ use Rattle.iso_codec.specs.Setting.{Marks, is_in}
 use Rattle.iso_codec.proofs.TableBounds.{format_in_bounds}
 use Rattle.iso_codec.proofs.OneMessage.{format_of_element}
 
-or_false : (b : Bool) → (b || false) ≡ b
+pub or_false : (b : Bool) → (b || false) ≡ b
 or_false true = refl
 or_false false = refl
 

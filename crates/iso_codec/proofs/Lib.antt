@@ -14,3 +14,4 @@ pub mod OneFirstFault
 pub mod Computing
 pub mod ReadingComputes
 pub mod SpellingComputes
+pub mod SelectedElements

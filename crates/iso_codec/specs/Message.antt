@@ -51,6 +51,10 @@ with_content (e ∷ es) n text =
     if nat_le e.0 n then (if n == e.0 then (n, text) ∷ es else e ∷ with_content es n text)
     else (n, text) ∷ e ∷ es
 
+-- whether an element's number is among these
+abbrev pub is_among : List ℕ → ℕ × List ℕ → Bool
+is_among numbers element = list_any (λ n. n == element.0) numbers
+
 -- ---- bitmaps
 
 -- Sixteen hexadecimal digits, of either case, spell a bitmap.

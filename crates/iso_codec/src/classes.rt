@@ -8,6 +8,8 @@ ghost use Rattle.iso_codec.specs.Content.{has_class};
 
 use crate::class::Class;
 
+// The loops look at every byte, which measures faster than to leave at the first that fails.
+
 /// Whether all bytes are of class n of ISO 8583:1987: `0` to `9`.
 pub fn all_digits(text: &[u8]) -> bool
     ensures { result ≡ list_all is_ascii_digit text.now }

@@ -13,104 +13,66 @@ pub struct ElementFormat {
     pub class: Class,
 }
 
+/// A row of the table.
+macro_rules! element {
+    ($form:ident($length:literal), $class:ident) => {
+        Some(ElementFormat {
+            form: Form::$form($length),
+            class: Class::$class,
+        })
+    };
+}
+
 /// The formats, each at its element's number.
 static FORMATS: [Option<ElementFormat>; 129] = [
     // 0 to 1
     None,
     None,
     // 2
-    Some(ElementFormat {
-        form: Form::Llvar(19),
-        class: Class::Numeric,
-    }),
+    element!(Llvar(19), Numeric),
     // 3
-    Some(ElementFormat {
-        form: Form::Fixed(6),
-        class: Class::Numeric,
-    }),
+    element!(Fixed(6), Numeric),
     // 4
-    Some(ElementFormat {
-        form: Form::Fixed(12),
-        class: Class::Numeric,
-    }),
+    element!(Fixed(12), Numeric),
     // 5 to 6
     None,
     None,
     // 7
-    Some(ElementFormat {
-        form: Form::Fixed(10),
-        class: Class::Numeric,
-    }),
+    element!(Fixed(10), Numeric),
     // 8 to 10
     None,
     None,
     None,
     // 11
-    Some(ElementFormat {
-        form: Form::Fixed(6),
-        class: Class::Numeric,
-    }),
+    element!(Fixed(6), Numeric),
     // 12
-    Some(ElementFormat {
-        form: Form::Fixed(6),
-        class: Class::Numeric,
-    }),
+    element!(Fixed(6), Numeric),
     // 13
-    Some(ElementFormat {
-        form: Form::Fixed(4),
-        class: Class::Numeric,
-    }),
+    element!(Fixed(4), Numeric),
     // 14
-    Some(ElementFormat {
-        form: Form::Fixed(4),
-        class: Class::Numeric,
-    }),
+    element!(Fixed(4), Numeric),
     // 15
-    Some(ElementFormat {
-        form: Form::Fixed(4),
-        class: Class::Numeric,
-    }),
+    element!(Fixed(4), Numeric),
     // 16 to 17
     None,
     None,
     // 18
-    Some(ElementFormat {
-        form: Form::Fixed(4),
-        class: Class::Numeric,
-    }),
+    element!(Fixed(4), Numeric),
     // 19
-    Some(ElementFormat {
-        form: Form::Fixed(3),
-        class: Class::Numeric,
-    }),
+    element!(Fixed(3), Numeric),
     // 20 to 21
     None,
     None,
     // 22
-    Some(ElementFormat {
-        form: Form::Fixed(3),
-        class: Class::Numeric,
-    }),
+    element!(Fixed(3), Numeric),
     // 23
-    Some(ElementFormat {
-        form: Form::Fixed(3),
-        class: Class::Numeric,
-    }),
+    element!(Fixed(3), Numeric),
     // 24
-    Some(ElementFormat {
-        form: Form::Fixed(3),
-        class: Class::Numeric,
-    }),
+    element!(Fixed(3), Numeric),
     // 25
-    Some(ElementFormat {
-        form: Form::Fixed(2),
-        class: Class::Numeric,
-    }),
+    element!(Fixed(2), Numeric),
     // 26
-    Some(ElementFormat {
-        form: Form::Fixed(2),
-        class: Class::Numeric,
-    }),
+    element!(Fixed(2), Numeric),
     // 27 to 31
     None,
     None,
@@ -118,188 +80,92 @@ static FORMATS: [Option<ElementFormat>; 129] = [
     None,
     None,
     // 32
-    Some(ElementFormat {
-        form: Form::Llvar(11),
-        class: Class::Numeric,
-    }),
+    element!(Llvar(11), Numeric),
     // 33
-    Some(ElementFormat {
-        form: Form::Llvar(11),
-        class: Class::Numeric,
-    }),
+    element!(Llvar(11), Numeric),
     // 34
     None,
     // 35
-    Some(ElementFormat {
-        form: Form::Llvar(37),
-        class: Class::Track,
-    }),
+    element!(Llvar(37), Track),
     // 36
     None,
     // 37
-    Some(ElementFormat {
-        form: Form::Fixed(12),
-        class: Class::Alphanumeric,
-    }),
+    element!(Fixed(12), Alphanumeric),
     // 38
-    Some(ElementFormat {
-        form: Form::Fixed(6),
-        class: Class::Alphanumeric,
-    }),
+    element!(Fixed(6), Alphanumeric),
     // 39
-    Some(ElementFormat {
-        form: Form::Fixed(2),
-        class: Class::Alphanumeric,
-    }),
+    element!(Fixed(2), Alphanumeric),
     // 40
     None,
     // 41
-    Some(ElementFormat {
-        form: Form::Fixed(8),
-        class: Class::Printable,
-    }),
+    element!(Fixed(8), Printable),
     // 42
-    Some(ElementFormat {
-        form: Form::Fixed(15),
-        class: Class::Printable,
-    }),
+    element!(Fixed(15), Printable),
     // 43
-    Some(ElementFormat {
-        form: Form::Fixed(40),
-        class: Class::Printable,
-    }),
+    element!(Fixed(40), Printable),
     // 44
     None,
     // 45
-    Some(ElementFormat {
-        form: Form::Llvar(76),
-        class: Class::Printable,
-    }),
+    element!(Llvar(76), Printable),
     // 46 to 47
     None,
     None,
     // 48
-    Some(ElementFormat {
-        form: Form::Lllvar(999),
-        class: Class::Any,
-    }),
+    element!(Lllvar(999), Any),
     // 49
-    Some(ElementFormat {
-        form: Form::Fixed(3),
-        class: Class::Alphanumeric,
-    }),
+    element!(Fixed(3), Alphanumeric),
     // 50
-    Some(ElementFormat {
-        form: Form::Fixed(3),
-        class: Class::Alphanumeric,
-    }),
+    element!(Fixed(3), Alphanumeric),
     // 51
     None,
     // 52
-    Some(ElementFormat {
-        form: Form::Fixed(16),
-        class: Class::Hex,
-    }),
+    element!(Fixed(16), Hex),
     // 53
-    Some(ElementFormat {
-        form: Form::Fixed(16),
-        class: Class::Numeric,
-    }),
+    element!(Fixed(16), Numeric),
     // 54
-    Some(ElementFormat {
-        form: Form::Lllvar(120),
-        class: Class::Printable,
-    }),
+    element!(Lllvar(120), Printable),
     // 55
-    Some(ElementFormat {
-        form: Form::Lllvar(999),
-        class: Class::Any,
-    }),
+    element!(Lllvar(999), Any),
     // 56
-    Some(ElementFormat {
-        form: Form::Lllvar(999),
-        class: Class::Any,
-    }),
+    element!(Lllvar(999), Any),
     // 57
-    Some(ElementFormat {
-        form: Form::Lllvar(999),
-        class: Class::Any,
-    }),
+    element!(Lllvar(999), Any),
     // 58
-    Some(ElementFormat {
-        form: Form::Lllvar(999),
-        class: Class::Any,
-    }),
+    element!(Lllvar(999), Any),
     // 59
-    Some(ElementFormat {
-        form: Form::Lllvar(999),
-        class: Class::Any,
-    }),
+    element!(Lllvar(999), Any),
     // 60
-    Some(ElementFormat {
-        form: Form::Lllvar(999),
-        class: Class::Any,
-    }),
+    element!(Lllvar(999), Any),
     // 61
-    Some(ElementFormat {
-        form: Form::Lllvar(999),
-        class: Class::Any,
-    }),
+    element!(Lllvar(999), Any),
     // 62
-    Some(ElementFormat {
-        form: Form::Lllvar(999),
-        class: Class::Any,
-    }),
+    element!(Lllvar(999), Any),
     // 63
-    Some(ElementFormat {
-        form: Form::Lllvar(999),
-        class: Class::Any,
-    }),
+    element!(Lllvar(999), Any),
     // 64
-    Some(ElementFormat {
-        form: Form::Fixed(16),
-        class: Class::Hex,
-    }),
+    element!(Fixed(16), Hex),
     // 65
     None,
     // 66
-    Some(ElementFormat {
-        form: Form::Fixed(1),
-        class: Class::Numeric,
-    }),
+    element!(Fixed(1), Numeric),
     // 67 to 69
     None,
     None,
     None,
     // 70
-    Some(ElementFormat {
-        form: Form::Fixed(3),
-        class: Class::Numeric,
-    }),
+    element!(Fixed(3), Numeric),
     // 71 to 73
     None,
     None,
     None,
     // 74
-    Some(ElementFormat {
-        form: Form::Fixed(10),
-        class: Class::Numeric,
-    }),
+    element!(Fixed(10), Numeric),
     // 75
-    Some(ElementFormat {
-        form: Form::Fixed(10),
-        class: Class::Numeric,
-    }),
+    element!(Fixed(10), Numeric),
     // 76
-    Some(ElementFormat {
-        form: Form::Fixed(10),
-        class: Class::Numeric,
-    }),
+    element!(Fixed(10), Numeric),
     // 77
-    Some(ElementFormat {
-        form: Form::Fixed(10),
-        class: Class::Numeric,
-    }),
+    element!(Fixed(10), Numeric),
     // 78 to 85
     None,
     None,
@@ -310,47 +176,26 @@ static FORMATS: [Option<ElementFormat>; 129] = [
     None,
     None,
     // 86
-    Some(ElementFormat {
-        form: Form::Fixed(16),
-        class: Class::Numeric,
-    }),
+    element!(Fixed(16), Numeric),
     // 87
-    Some(ElementFormat {
-        form: Form::Fixed(16),
-        class: Class::Numeric,
-    }),
+    element!(Fixed(16), Numeric),
     // 88
-    Some(ElementFormat {
-        form: Form::Fixed(16),
-        class: Class::Numeric,
-    }),
+    element!(Fixed(16), Numeric),
     // 89
-    Some(ElementFormat {
-        form: Form::Fixed(16),
-        class: Class::Numeric,
-    }),
+    element!(Fixed(16), Numeric),
     // 90
-    Some(ElementFormat {
-        form: Form::Fixed(42),
-        class: Class::Numeric,
-    }),
+    element!(Fixed(42), Numeric),
     // 91 to 94
     None,
     None,
     None,
     None,
     // 95
-    Some(ElementFormat {
-        form: Form::Fixed(42),
-        class: Class::Alphanumeric,
-    }),
+    element!(Fixed(42), Alphanumeric),
     // 96
     None,
     // 97
-    Some(ElementFormat {
-        form: Form::Fixed(17),
-        class: Class::SignedNumeric,
-    }),
+    element!(Fixed(17), SignedNumeric),
     // 98 to 127
     None,
     None,
@@ -383,10 +228,7 @@ static FORMATS: [Option<ElementFormat>; 129] = [
     None,
     None,
     // 128
-    Some(ElementFormat {
-        form: Form::Fixed(16),
-        class: Class::Hex,
-    }),
+    element!(Fixed(16), Hex),
 ];
 
 /// The format of an element, or `None` where the profile doesn't have it.

@@ -1,14 +1,14 @@
 //! Messages: how an element is looked up and set, and what is printed of them.
 
 ghost use Rattle.std.specs.Prelude.{◌≡◌, ◌↔◌, ◌⊎◌, ◌≤◌, ℕ, List, true, [], Some, None, Err, length};
-ghost use Rattle.std.specs.Prelude.{slice_set, IfSome, IsSome, IfOk, OnOk, OnErr, IfErr};
+ghost use Rattle.std.specs.Prelude.{slice_set, filter, IfSome, IsSome, IfOk, OnOk, OnErr, IfErr};
 ghost use Rattle.std.specs.List.{list_all, insert};
 ghost use Rattle.std.specs.Option.{option_copied};
 ghost use Rattle.std.specs.Char.{is_ascii_digit};
 ghost use Rattle.iso_codec.specs.declared.set_fault.SetFault.{SetFault};
 ghost use Rattle.iso_codec.specs.declared.set_fault.SetFault.TheVariants.{Memory};
 ghost use Rattle.iso_codec.specs.Content.{has_length};
-ghost use Rattle.iso_codec.specs.Message.{IsMessage, content_of, with_content};
+ghost use Rattle.iso_codec.specs.Message.{IsMessage, content_of, with_content, is_among};
 ghost use Rattle.iso_codec.specs.Setting.{set_fault, IsPlace};
 ghost use Rattle.iso_codec.specs.Span.{elements_in, is_within, IsStored};
 
@@ -134,6 +134,41 @@ impl Message {
         }
         put(alloc, &mut self.spans, &mut self.bytes, number, content)?;
         Ok(())
+    }
+
+    /// A message of another type, with those of this one's elements whose numbers are among these.
+    pub fn select(
+        &self,
+        alloc: Global,
+        kind: [u8; 4],
+        numbers: &[u8],
+    ) -> Result<Message, AllocError>
+        requires { list_all is_ascii_digit kind ≡ true }
+        ensures { IfOk result (λ m. m ≡ record {
+          kind = kind;
+          elements = filter (is_among numbers.now) self.now.elements;
+        }) }
+    {
+        let (spans, bytes) = selected(
+            alloc,
+            self.spans.as_slice(),
+            self.bytes.as_slice(),
+            numbers,
+        )?;
+        Ok(Message { kind, spans, bytes })
+    }
+
+    /// A copy.
+    pub fn copied(&self, alloc: Global) -> Result<Message, AllocError>
+        ensures { IfOk result (λ m. m ≡ self.now) }
+    {
+        let spans = Vec::from_slice(alloc, self.spans.as_slice())?;
+        let bytes = Vec::from_slice(alloc, self.bytes.as_slice())?;
+        Ok(Message {
+            kind: self.kind,
+            spans,
+            bytes,
+        })
     }
 }
 
@@ -296,4 +331,28 @@ fn replaced(
         }
     }
     Ok((fresh_spans, fresh_bytes))
+}
+
+/// The elements whose numbers are among these, anew.
+fn selected(
+    alloc: Global,
+    spans: &[Span],
+    bytes: &[u8],
+    numbers: &[u8],
+) -> Result<(Vec<Span>, Vec<u8>), AllocError>
+    requires { list_all (is_within (length bytes.now)) spans.now ≡ true }
+    ensures value { IfOk result (λ x. elements_in x.1.items x.0.items
+        ≡ filter (is_among numbers.now) (elements_in bytes.now spans.now)) }
+    ensures within { IfOk result (λ x. list_all (is_within (length x.1.items)) x.0.items ≡ true) }
+{
+    let mut kept_spans = Vec::with_capacity(alloc, spans.len())?;
+    let mut kept_bytes = Vec::with_capacity(alloc, bytes.len())?;
+    for span in spans {
+        if numbers.contains(&span.number) {
+            let last = kept_spans.len();
+            let content = bytes_at(bytes, *span);
+            add(&mut kept_spans, &mut kept_bytes, last, span.number, content)?;
+        }
+    }
+    Ok((kept_spans, kept_bytes))
 }

@@ -127,6 +127,40 @@ fn what_is_set_is_written_and_read(rt: HostRuntime) -> Result<(), Fail> {
     Ok(())
 }
 
+/// A message's spelling.
+fn written(alloc: Global, message: &Message) -> Result<Vec<u8>, Fail> {
+    let mut text = Vec::new(alloc);
+    encode(alloc, message, &mut text)?;
+    Ok(text)
+}
+
+#[test]
+fn elements_are_selected(rt: HostRuntime) -> Result<(), Fail> {
+    let alloc = rt.alloc();
+    let request = decode(alloc, PURCHASE)?;
+    // Numbers in any order, one of which isn't there.
+    let mut reply = request.select(alloc, *b"0210", &[11, 3, 70, 7])?;
+    assert_eq!(rt;
+        written(alloc, &reply)?.as_slice(),
+        b"021022200000000000000000000501093000000001".as_slice()
+    );
+    reply.set(alloc, 39, b"00")?;
+    assert_eq!(rt;
+        written(alloc, &reply)?.as_slice(),
+        b"02102220000002000000000000050109300000000100".as_slice()
+    );
+    assert_eq!(rt; written(alloc, &request)?.as_slice(), PURCHASE);
+    Ok(())
+}
+
+#[test]
+fn a_copy_is_written_alike(rt: HostRuntime) -> Result<(), Fail> {
+    let alloc = rt.alloc();
+    let copy = decode(alloc, PURCHASE)?.copied(alloc)?;
+    assert_eq!(rt; written(alloc, &copy)?.as_slice(), PURCHASE);
+    Ok(())
+}
+
 #[test]
 fn malformed_texts(rt: HostRuntime) -> Result<(), Fail> {
     let alloc = rt.alloc();
