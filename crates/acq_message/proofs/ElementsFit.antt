@@ -136,3 +136,9 @@ pub below_twelve : (number size : ℕ) → number < 10 ^ size → size ≤ 12 �
 below_twelve number size h le =
     let most : 10 ^ size ≤ 10 ^ 12 = pow-le-pow_right {n = 10} (omega arith) {i = size} {j = 12} le in
     omega arith
+
+-- an expiry is four digits
+pub four_digits : (text : List ℕ) → set_fault 14 text ≡ None
+    → (length text ≡ 4) × (list_all is_ascii_digit text ≡ true)
+unfolding format_of has_class
+four_digits text fits = fixed_fits 14 4 Numeric text refl fits
