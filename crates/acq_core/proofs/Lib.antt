@@ -1,3 +1,4 @@
 pub mod DecisionCases
 pub mod NetworkIsTheHosts
 pub mod NetworkRepliesFit
+pub mod PaddedTexts

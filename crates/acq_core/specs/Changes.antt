@@ -1,6 +1,6 @@
 -- What an event changes: the rows that it records, and what becomes of earlier ones.
 use Rattle.std.specs.Prelude.{ℕ, ◌+◌, ◌*◌, true, false, Option, Some, None, option_map}
-use Rattle.iso_codec.specs.Message.{content_of}
+use Rattle.iso_codec.specs.Message.{IsoMessage, content_of}
 use Rattle.card_no.specs.declared.range.Range.{Range}
 use Rattle.day_totals.specs.declared.leg.Leg.{Leg}
 use Rattle.day_totals.specs.declared.leg.Leg.TheVariants.{Credit, CreditReversal}
@@ -98,9 +98,9 @@ reversal_posting today r p =
 
 -- ---- rows of requests
 
--- a request as it is recorded where a check refused it: its reply has this code
-abbrev pub refused_row : ℕ → RequestMessage → ResponseCode → Request
-refused_row today r code =
+-- a request as it is recorded with a reply, where nothing came of it
+abbrev pub recorded_row : ℕ → RequestMessage → IsoMessage → Request
+recorded_row today r reply =
     record {
       key = key_of r.service r.message;
       essence = essence_of r.service r.message;
@@ -115,13 +115,17 @@ refused_row today r code =
       acquirer = content_of r.message.elements 32;
       hold_days = None;
       hold_end = None;
-      reply = coded_reply today r code;
+      reply = reply;
     }
 
--- one that the host accepted
-abbrev pub accepted_row : ℕ → RequestMessage → Request
-accepted_row today r =
-    record (refused_row today r code.Approved) { status = status.Approved; admitted = true }
+-- one that a check refused: its reply has this code
+abbrev pub refused_row : ℕ → RequestMessage → ResponseCode → Request
+refused_row today r code = recorded_row today r (coded_reply today r code)
+
+-- one that the host accepted, with a reply
+abbrev pub accepted_row : ℕ → RequestMessage → IsoMessage → Request
+accepted_row today r reply =
+    record (recorded_row today r reply) { status = status.Approved; admitted = true }
 
 -- a hold has no leg until it is completed
 abbrev pub admitted_leg : Service → Leg → Leg
@@ -131,18 +135,17 @@ admitted_leg service leg = Credit
 -- a request whose issuer is asked
 abbrev pub admitted_row : ℕ → RequestMessage → Range → ℕ → Request
 admitted_row today r range reference =
-    record (accepted_row today r) {
+    record (accepted_row today r (draft_reply today r reference)) {
       status = status.Pending;
       reference = Some reference;
       leg = admitted_leg r.service (sale_leg r.message);
       hold_days = Some range.hold_days;
-      reply = draft_reply today r reference;
     }
 
 -- an accepted completion: the card is the hold's
 abbrev pub completion_row : ℕ → RequestMessage → Prior → Request
 completion_row today r hold =
-    record (accepted_row today r) {
+    record (accepted_row today r (coded_reply today r code.Approved)) {
       follows = hold.reference;
       leg = Debit;
       card = hold.card;
@@ -156,20 +159,17 @@ reversing_leg None = Credit
 -- an accepted reversal
 abbrev pub reversal_row : ℕ → RequestMessage → Prior → Request
 reversal_row today r p =
-    record (accepted_row today r) {
+    record (accepted_row today r (referring_reply today r p.reference code.Approved)) {
       follows = p.reference;
       leg = reversing_leg (posted_leg p.reply_state p.leg);
-      reply = referring_reply today r p.reference code.Approved;
     }
 
 -- a reconciliation with totals
 abbrev pub reconciliation_row : Known → RequestMessage → ℕ → Request
 reconciliation_row k r day =
     let in_balance = is_in_balance k r in
-    record (refused_row k.today r (balance_code in_balance)) {
-      status = status.Reconciled;
-      reply = totals_reply day r (balance_code in_balance) in_balance k.totals;
-    }
+    let reply = totals_reply day r (balance_code in_balance) in_balance k.totals in
+    record (recorded_row k.today r reply) { status = status.Reconciled }
 
 -- ---- what becomes of earlier requests
 

@@ -210,12 +210,16 @@ repeat_of (Kept reply) = Repeats reply
 repeat_of (Awaited draft) = Reports output.Waiting
 repeat_of Late = Reports output.Late
 
--- a key that is recorded gets no new decision: a repeat must be alike in its essence
-abbrev pub decision_of_key : RequestMessage → Option Prior → Decision → Decision
-decision_of_key r None fresh = fresh
-decision_of_key r (Some p) fresh =
+-- a request whose key is recorded: a repeat must be alike in its essence
+abbrev pub decision_of_repeat : RequestMessage → Prior → Decision
+decision_of_repeat r p =
     if bytes_eq (essence_of r.service r.message) p.essence then repeat_of p.reply_state
     else Replies r code.DuplicateTransmission
+
+-- a key that is recorded gets no new decision
+abbrev pub decision_of_key : RequestMessage → Option Prior → Decision → Decision
+decision_of_key r None fresh = fresh
+decision_of_key r (Some p) fresh = decision_of_repeat r p
 
 -- only enrolled merchants' terminals are served
 abbrev pub decision_of_merchant : Known → RequestMessage → Option Merchant → Decision

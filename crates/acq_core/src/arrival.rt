@@ -2,7 +2,7 @@
 
 use crate::merchant::Merchant;
 use crate::terminal::Terminal;
-use acq_message::{MerchantId, Moment, Reference, RequestMessage, Verdict};
+use acq_message::{CheckedRequest, MerchantId, Moment, Reference, RequestMessage, Verdict};
 use card_no::Range;
 use iso_codec::{DecodeFault, Message};
 
@@ -16,7 +16,7 @@ pub enum Arrival {
     /// A request that the first check refuses.
     Malformed(RequestMessage),
     /// A request that the first check passes.
-    Requested(RequestMessage),
+    Requested(CheckedRequest),
     /// What an issuer says to the request of a merchant with a reference.
     Answered {
         moment: Moment,

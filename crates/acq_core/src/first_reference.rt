@@ -1,8 +1,10 @@
 //! First references.
 
-ghost use Rattle.std.specs.Prelude.{◌≡◌, true, SomeIff};
+ghost use Rattle.std.specs.Prelude.{◌≡◌, ◌+◌, true, SomeIff};
 ghost use Rattle.acq_core.specs.Numbers.{is_first_reference};
 
+use crate::admitted_count::AdmittedCount;
+use acq_message::Reference;
 use std::marker::Model;
 
 /// The reference that a merchant's first admitted request gets, from 1 to 900,000,000,000, so that
@@ -43,5 +45,15 @@ impl FirstReference {
         ensures range { is_first_reference self.now ≡ true }
     {
         self.number
+    }
+
+    /// The reference of the request that is admitted after so many others.
+    pub fn reference_after(&self, admitted: AdmittedCount) -> Reference
+        ensures { result ≡ self.now + admitted }
+    {
+        let Some(reference) = Reference::from_number(self.number + admitted.number()) else {
+            unreachable!();
+        };
+        reference
     }
 }

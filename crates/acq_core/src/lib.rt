@@ -10,6 +10,9 @@
 mod admitted_count;
 mod arrival;
 mod change;
+mod deciding;
+mod decision;
+mod effects;
 mod event;
 pub mod examples;
 mod first_reference;
@@ -19,12 +22,16 @@ mod lookup;
 mod merchant;
 mod network;
 mod output;
+mod posted;
 mod posting;
 mod query;
+mod reconciled_day;
 mod reconciliation;
+mod recording;
 mod reply_state;
 mod request;
 mod status;
+mod stubs;
 mod terminal;
 #[cfg(test)]
 mod tests;

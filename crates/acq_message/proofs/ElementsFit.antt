@@ -142,3 +142,8 @@ pub four_digits : (text : List ℕ) → set_fault 14 text ≡ None
     → (length text ≡ 4) × (list_all is_ascii_digit text ≡ true)
 unfolding format_of has_class
 four_digits text fits = fixed_fits 14 4 Numeric text refl fits
+
+-- a date of settlement is four digits
+pub settlement_date_length : (text : List ℕ) → set_fault 15 text ≡ None → length text ≡ 4
+unfolding format_of has_class
+settlement_date_length text fits = (fixed_fits 15 4 Numeric text refl fits).0

@@ -6,7 +6,7 @@ ghost use Rattle.std.specs.Char.{is_ascii_digit};
 ghost use Rattle.std.specs.Str.Parse.{digits_value};
 
 /// The number that sixteen digits or fewer spell, as many as an element's number has.
-pub(crate) fn digits_value(digits: &[u8]) -> u64
+pub fn digits_value(digits: &[u8]) -> u64
     requires each { list_all is_ascii_digit digits.now ≡ true }
     requires size { length digits.now ≤ 16 }
     ensures value { result ≡ digits_value 10 digits.now }

@@ -1,6 +1,7 @@
 //! What a message says in its elements. Nothing here takes memory.
 
 ghost use Rattle.std.specs.Prelude.{◌≡◌, true, None, take, drop};
+ghost use Rattle.iso_codec.specs.Message.{content_of};
 ghost use Rattle.iso_codec.specs.Setting.{set_fault};
 ghost use Rattle.acq_message.specs.Elements.{has, text_at, number_at, is_short_number, amount_in};
 ghost use Rattle.acq_message.specs.Elements.{transaction_in, sale_leg};
@@ -83,6 +84,17 @@ pub fn original_acquirer(message: &Message) -> &[u8]
     ensures { result.now ≡ original_acquirer message.now }
 {
     part(text_at(message, 90), 20, 11)
+}
+
+/// The month and day of settlement, MMDD: element 15, where it is there.
+pub fn settlement_date(message: &Message) -> Option<[u8; 4]>
+    ensures { result ≡ content_of message.now.elements 15 }
+{
+    let date = message.get(15)?;
+    let Ok(date) = <[u8; 4]>::try_from(date) else {
+        unreachable!();
+    };
+    Some(date)
 }
 
 /// So many bytes of a text, from a place on, or those of them that there are.

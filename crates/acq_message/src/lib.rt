@@ -41,8 +41,11 @@ pub use checked_request::CheckedRequest;
 pub use claims::claimed_in;
 pub use currency::Currency;
 pub use decline_code::DeclineCode;
+pub use digits::digits_value;
 pub use element_content::ElementContent;
-pub use elements::{amount_in, original_acquirer, reference_in, sale_leg, text_at, transaction_in};
+pub use elements::{
+    amount_in, original_acquirer, reference_in, sale_leg, settlement_date, text_at, transaction_in,
+};
 pub use first_check::is_malformed;
 pub use merchant_id::MerchantId;
 pub use message_text::MessageText;
