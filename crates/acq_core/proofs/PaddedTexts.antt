@@ -19,7 +19,6 @@ zeros_before (b ∷ bs) (suc n) rest h =
 
 module _ (text front rest : List ℕ) (n : ℕ) (end : List ℕ) (le : n ≤ length text)
     (is_front : front ≡ take n text) (is_rest : rest ≡ drop n text) where
-
   -- the same of a front and a rest that were split off
   split_before : (list_all (λ b. b == 48) front && bytes_eq rest end) ≡ bytes_eq text (replicate n 48 ++ end)
   split_before = rw (is_front, is_rest) (zeros_before text n end le)

@@ -30,9 +30,8 @@ use crate::merchant::Merchant;
 use crate::output::Output;
 use crate::request::Request;
 use crate::status::Status;
-use crate::stubs::essence_of;
 use acq_message::{
-    CheckedRequest, RequestMessage, ResponseCode, Service, text_at, transaction_in,
+    CheckedRequest, RequestMessage, ResponseCode, Service, essence_of, text_at, transaction_in,
 };
 use day_totals::Day;
 use std::alloc::{AllocError, Global};
@@ -52,7 +51,9 @@ pub(crate) fn decision<'a>(
         Arrival::Malformed(request) => Ok(Decision::Replies(request, ResponseCode::FormatError)),
         Arrival::Requested(request) => decision_of_request(alloc, looked, request),
         Arrival::Answered {
-            moment, verdict, ..
+            moment,
+            verdict,
+            ..
         } => Ok(answer::decision_of_answer(looked, *moment, *verdict)),
         Arrival::CutOver => Ok(decision_of_cutover(looked.today)),
         Arrival::RangeAdded(range) => Ok(ranges::decision_of_new_range(range, &looked.overlapped)),

@@ -16,8 +16,7 @@ use crate::decision::Decision;
 use crate::lookup::Looked;
 use crate::output::Output;
 use crate::recording::recorded_row;
-use crate::stubs::coded_reply;
-use acq_message::{CheckedRequest, MerchantId, RequestMessage, ResponseCode, spelled};
+use acq_message::{CheckedRequest, MerchantId, RequestMessage, ResponseCode, coded_reply, spelled};
 use day_totals::Day;
 use iso_codec::Message;
 use std::alloc::{AllocError, Global};
@@ -63,7 +62,7 @@ pub(crate) fn carry_out(
             moment,
             verdict,
             request,
-        } => answer::answered(alloc, merchant, moment, verdict, request),
+        } => answer::answered(alloc, merchant, moment, &verdict, request),
         Decision::CutsOver => Ok((Output::Done, Some(Change::SetDay(day_after(today))))),
         Decision::AddsRange(range) => {
             Ok((Output::Done, Some(Change::AddRange(range.copied(alloc)?))))

@@ -31,7 +31,6 @@ mod recording;
 mod reply_state;
 mod request;
 mod status;
-mod stubs;
 mod terminal;
 #[cfg(test)]
 mod tests;

@@ -7,8 +7,7 @@ ghost use Rattle.acq_core.specs.Changes.{recorded_row, accepted_row};
 
 use crate::request::Request;
 use crate::status::Status;
-use crate::stubs::essence_of;
-use acq_message::{CheckedRequest, ElementContent, amount_in, card_of, key_of};
+use acq_message::{CheckedRequest, ElementContent, amount_in, card_of, essence_of, key_of};
 use day_totals::{Day, Leg};
 use iso_codec::Message;
 use std::alloc::{AllocError, Global};

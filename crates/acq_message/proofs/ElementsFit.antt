@@ -36,7 +36,7 @@ pub some_where : (found : Option (List ℕ)) (P : Type 0) (text : List ℕ) → 
 some_where None P text h passes = absurd (h passes)
 some_where (Some x) P text h passes = ap Some h.1
 
-fits_both : (long good : Bool) (x y : SetFault) → (long && good) ≡ true
+pub fits_both : (long good : Bool) (x y : SetFault) → (long && good) ≡ true
     → (if long then (if good then None else Some x) else Some y) ≡ None
 fits_both true true x y h = refl
 fits_both true false x y h = absurd cc

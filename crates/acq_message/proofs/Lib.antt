@@ -1,4 +1,4 @@
-pub mod EchoedElements
 pub mod ElementsFit
 pub mod NeededElements
+pub mod AddedElements
 pub mod ReplyLength

@@ -30,7 +30,7 @@ needed_there service m passed =
 abbrev pub needs : Service → ℕ → Bool
 needs service n = list_any (λ k. eqb k n) (needed service)
 
-one_of_all : (p : ℕ → Bool) (ns : List ℕ) (n : ℕ) → list_all p ns ≡ true → list_any (λ k. eqb k n) ns ≡ true
+pub one_of_all : (p : ℕ → Bool) (ns : List ℕ) (n : ℕ) → list_all p ns ≡ true → list_any (λ k. eqb k n) ns ≡ true
     → p n ≡ true
 one_of_all p [] n h k = absurd cc
 one_of_all p (m ∷ ns) n h k =

@@ -8,19 +8,21 @@ use Rattle.iso_codec.specs.declared.form.Form.TheVariants.{Fixed, Llvar, Lllvar}
 use Rattle.iso_codec.specs.declared.element_format.ElementFormat.{ElementFormat}
 use Rattle.iso_codec.specs.Content.{has_length, has_class, allows, digits_of, spelled_by}
 use Rattle.iso_codec.specs.Table.{format_of}
-use Rattle.iso_codec.specs.Message.{IsoMessage, IsMessage, IsKind, IsBitmap, numbers, Ascends, is_element, spelled, body, with_content}
+use Rattle.iso_codec.specs.Message.{IsoMessage, IsMessage, IsKind, IsBitmap, numbers, Ascends, is_element, spelled, body, with_content, is_among}
 use Rattle.iso_codec.specs.Reading.{spelling}
 use Rattle.iso_codec.specs.Setting.{set_fault}
 use Rattle.iso_codec.proofs.TableBounds.{format_in_bounds}
 use Rattle.iso_codec.proofs.OneMessage.{format_of_element}
 use Rattle.iso_codec.proofs.ElementPlaces.{message_with, fits_by}
+use Rattle.iso_codec.proofs.SelectedElements.{message-filter}
 use Rattle.iso_codec.proofs.SpellingComputes.{spelling_writes}
 use Rattle.acq_message.specs.declared.service.Service.{Service}
 use Rattle.acq_message.specs.declared.service.Service.TheVariants.{Authorization, Financial, Completion, Reversal, ReversalAdvice, Reconciliation, NetworkManagement}
 use Rattle.acq_message.specs.declared.response_code.ResponseCode.{ResponseCode}
 use Rattle.acq_message.specs.Services.{reply_kind, echoed}
 use Rattle.acq_message.specs.Responses.{code_text}
-use Rattle.acq_message.specs.Elements.{is_among}
+use Rattle.acq_message.proofs.NeededElements.{one_of_all}
+use Rattle.acq_message.proofs.AddedElements.{kind_fits}
 use Rattle.acq_message.specs.Reply.{echo, reply, code_element}
 
 -- ---- the length of one element
@@ -76,16 +78,6 @@ code_short code = refl
 
 -- ---- the elements of a reply
 
-short_among : (ks : List ℕ) (e : ℕ × List ℕ) → list_all is_short ks ≡ true → is_among ks e ≡ true →
-    is_short e.0 ≡ true
-short_among [] e h k = absurd cc
-short_among (n ∷ ks) e h k =
-    let parts = and_parts (is_short n) (list_all is_short ks) h in
-    elim (or_cases (eqb n e.0) (is_among ks e) k) [
-      | inl same ↦ subst (λ (m : ℕ). is_short m ≡ true) (eqb-true n e.0 same) parts.0
-      | inr later ↦ short_among ks e parts.1 later
-    ]
-
 kept_short : (ks : List ℕ) (es : List (ℕ × List ℕ)) → list_all is_short ks ≡ true → list_all is_element es ≡ true →
     list_all is_short_element (filter (is_among ks) es) ≡ true
 kept_short ks [] h k = refl
@@ -94,34 +86,8 @@ kept_short ks (e ∷ es) h k =
     let rest = kept_short ks es h parts.1 in
     elim (cases_Bool (is_among ks e)) [
       | inl kept ↦ rw kept (and_from (is_short_element e) _ (short_element e parts.0
-          (short_among ks e h kept)) rest)
+          (one_of_all is_short ks e.0 h kept)) rest)
       | inr dropped ↦ rw dropped rest
-    ]
-
-kept_elements : (p : ℕ × List ℕ → Bool) (es : List (ℕ × List ℕ)) → list_all is_element es ≡ true →
-    list_all is_element (filter p es) ≡ true
-kept_elements p [] k = refl
-kept_elements p (e ∷ es) k =
-    let parts = and_parts (is_element e) (list_all is_element es) k in
-    let rest = kept_elements p es parts.1 in
-    elim (cases_Bool (p e)) [
-      | inl kept ↦ rw kept (and_from (is_element e) _ parts.0 rest)
-      | inr dropped ↦ rw dropped rest
-    ]
-
-ascends_lower : (low m : ℕ) (ns : List ℕ) → low ≤ m → Ascends m ns → Ascends low ns
-ascends_lower low m [] le up = tt
-ascends_lower low m (n ∷ ns) le up = let above = up.0 in (omega arith, up.1)
-
-kept_ascends : (p : ℕ × List ℕ → Bool) (low : ℕ) (es : List (ℕ × List ℕ)) → Ascends low (numbers es) →
-    Ascends low (numbers (filter p es))
-kept_ascends p low [] up = tt
-kept_ascends p low (e ∷ es) up =
-    let above = up.0 in
-    let rest = kept_ascends p e.0 es up.1 in
-    elim (cases_Bool (p e)) [
-      | inl kept ↦ rw kept (above, rest)
-      | inr dropped ↦ rw dropped (ascends_lower low e.0 (numbers (filter p es)) (omega arith) rest)
     ]
 
 all_with : (p : ℕ × List ℕ → Bool) (es : List (ℕ × List ℕ)) (n : ℕ) (text : List ℕ) → list_all p es ≡ true →
@@ -180,20 +146,9 @@ kind_four NetworkManagement = refl
 reply_is_message : (service : Service) (request : IsoMessage) (code : ResponseCode) →
     set_fault 39 (code_text code) ≡ None → IsMessage request → IsMessage (reply service request (code_element code))
 reply_is_message service request code fits whole =
-    message_with (reply_kind service) (echo service request) 39 (code_text code) (record {
-      kind_fits = kind service;
-      each = kept_elements (is_among (echoed service)) request.elements whole.each;
-      ascends = kept_ascends (is_among (echoed service)) 1 request.elements whole.ascends;
-    }) fits
-  where
-    kind : (s : Service) → IsKind (reply_kind s)
-    kind Authorization = record { size = refl; digits = refl }
-    kind Financial = record { size = refl; digits = refl }
-    kind Completion = record { size = refl; digits = refl }
-    kind Reversal = record { size = refl; digits = refl }
-    kind ReversalAdvice = record { size = refl; digits = refl }
-    kind Reconciliation = record { size = refl; digits = refl }
-    kind NetworkManagement = record { size = refl; digits = refl }
+    message_with (reply_kind service) (echo service request) 39 (code_text code)
+    (message-filter (is_among (echoed service)) request.kind (reply_kind service) request.elements whole
+    (kind_fits service)) fits
 
 -- a frame's message has 1 to 4,096 bytes
 abbrev pub IsFrameSize : List ℕ → Type 0

@@ -1,11 +1,11 @@
 -- What a request says: its elements, its key, and its essence (elements: ISO 8583:1987; key and
 -- essence: own profile).
-use Rattle.std.specs.Prelude.{ℕ, nat_le, ◌==◌, Bool, true, false, ◌&&◌, List, [], ◌∷◌, ◌++◌, take}
+use Rattle.std.specs.Prelude.{ℕ, nat_le, Bool, true, false, ◌&&◌, List, [], ◌∷◌, ◌++◌, take}
 use Rattle.std.specs.Prelude.{drop, filter, codes, Option, Some, None, option_map, is_some, if◌then◌else◌}
-use Rattle.std.specs.List.{list_all, list_any}
+use Rattle.std.specs.List.{list_all}
 use Rattle.std.specs.Str.{bytes_eq}
 use Rattle.std.specs.Char.{is_ascii_digit}
-use Rattle.iso_codec.specs.Message.{IsoMessage, content_of}
+use Rattle.iso_codec.specs.Message.{IsoMessage, content_of, is_among}
 use Rattle.iso_codec.specs.Table.{format_of}
 use Rattle.iso_codec.specs.declared.form.Form.{Form}
 use Rattle.iso_codec.specs.declared.form.Form.TheVariants.{Fixed, Llvar, Lllvar}
@@ -104,10 +104,6 @@ same_key a b =
 abbrev pub essential : List ℕ
 essential =
     3 ∷ 4 ∷ 15 ∷ 37 ∷ 49 ∷ 74 ∷ 75 ∷ 76 ∷ 77 ∷ 86 ∷ 87 ∷ 88 ∷ 89 ∷ 90 ∷ 97 ∷ []
-
--- whether an element's number is among these
-abbrev pub is_among : List ℕ → ℕ × List ℕ → Bool
-is_among numbers element = list_any (λ n. n == element.0) numbers
 
 -- an element with this content, where there is one
 abbrev pub element_if : ℕ → Option (List ℕ) → List (ℕ × List ℕ)

@@ -1,7 +1,7 @@
 -- What replies hold (elements: ISO 8583:1987; which of them a reply has: own profile).
 use Rattle.std.specs.Prelude.{ℕ, Bool, List, [], ◌∷◌, ◌++◌, filter, Option, Some, None}
 use Rattle.std.specs.Prelude.{if◌then◌else◌, codes}
-use Rattle.iso_codec.specs.Message.{IsoMessage, with_content}
+use Rattle.iso_codec.specs.Message.{IsoMessage, with_content, is_among}
 use Rattle.day_totals.specs.Day.{mmdd_of}
 use Rattle.day_totals.specs.Digits.{zero_padded}
 use Rattle.day_totals.specs.Totals.{DayTotals, net_of, net_text_of}
@@ -13,7 +13,7 @@ use Rattle.acq_message.specs.declared.verdict.Verdict.{Verdict}
 use Rattle.acq_message.specs.declared.verdict.Verdict.TheVariants as verdict
 use Rattle.acq_message.specs.Services.{reply_kind, echoed}
 use Rattle.acq_message.specs.Responses.{code_text}
-use Rattle.acq_message.specs.Elements.{is_among}
+use Rattle.acq_message.specs.Elements.{element_if}
 use Rattle.acq_message.specs.declared.request_message.RequestMessage.{RequestMessage}
 
 -- those of a request's elements that its reply echoes
@@ -50,15 +50,23 @@ reference_element (Some reference) = (37, zero_padded 12 reference) ∷ []
 abbrev pub code_element : ResponseCode → List (ℕ × List ℕ)
 code_element code = (39, code_text code) ∷ []
 
+-- elements 74 to 77: the host's counts
+abbrev pub count_elements : DayTotals → List (ℕ × List ℕ)
+count_elements t =
+    (74, zero_padded 10 t.credits.count) ∷ (75, zero_padded 10 t.credit_reversals.count)
+    ∷ (76, zero_padded 10 t.debits.count) ∷ (77, zero_padded 10 t.debit_reversals.count) ∷ []
+
+-- elements 86 to 89: its amounts
+abbrev pub amount_elements : DayTotals → List (ℕ × List ℕ)
+amount_elements t =
+    (86, zero_padded 16 t.credits.amount) ∷ (87, zero_padded 16 t.credit_reversals.amount)
+    ∷ (88, zero_padded 16 t.debits.amount) ∷ (89, zero_padded 16 t.debit_reversals.amount) ∷ []
+
 -- elements 66, 74 to 77, 86 to 89 and 97: whether the totals are in balance, and the host's totals
 abbrev pub totals_elements : Bool → DayTotals → List (ℕ × List ℕ)
 totals_elements in_balance t =
     (66, if in_balance then codes "1" else codes "2")
-    ∷ (74, zero_padded 10 t.credits.count) ∷ (75, zero_padded 10 t.credit_reversals.count)
-    ∷ (76, zero_padded 10 t.debits.count) ∷ (77, zero_padded 10 t.debit_reversals.count)
-    ∷ (86, zero_padded 16 t.credits.amount) ∷ (87, zero_padded 16 t.credit_reversals.amount)
-    ∷ (88, zero_padded 16 t.debits.amount) ∷ (89, zero_padded 16 t.debit_reversals.amount)
-    ∷ (97, net_text_of (net_of t)) ∷ []
+    ∷ count_elements t ++ amount_elements t ++ (97, net_text_of (net_of t)) ∷ []
 
 -- ---- the replies
 
@@ -87,11 +95,15 @@ verdict_code (verdict.Approved id) = code.Approved
 verdict_code (verdict.Declined text) = code.Declined text
 verdict_code verdict.NoAnswer = code.IssuerInoperative
 
--- element 38: the authorization id of an approval
+-- the authorization id of an approval
+abbrev pub authorization_id : Verdict → Option (List ℕ)
+authorization_id (verdict.Approved id) = Some id
+authorization_id (verdict.Declined text) = None
+authorization_id verdict.NoAnswer = None
+
+-- element 38: that id
 abbrev pub authorization_element : Verdict → List (ℕ × List ℕ)
-authorization_element (verdict.Approved id) = (38, id) ∷ []
-authorization_element (verdict.Declined text) = []
-authorization_element verdict.NoAnswer = []
+authorization_element v = element_if 38 (authorization_id v)
 
 -- the elements of the issuer's part
 abbrev pub verdict_elements : Verdict → List (ℕ × List ℕ)

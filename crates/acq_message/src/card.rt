@@ -1,11 +1,12 @@
 //! The card of a message.
 
-ghost use Rattle.std.specs.Prelude.{◌≡◌, option_map, IfSome, length, true};
+ghost use Rattle.std.specs.Prelude.{◌≡◌, None, IfSome, option_map, length, true};
 ghost use Rattle.std.specs.List.{list_all};
 ghost use Rattle.std.specs.Char.{is_ascii_digit};
 ghost use Rattle.std.specs.Option.{option_copied};
 ghost use Rattle.acq_message.specs.Cards.{track_of, card_of, expiry_of, expiry_at};
 ghost use Rattle.acq_message.specs.Cards.{has_bad_track, has_two_cards};
+ghost use Rattle.iso_codec.specs.Setting.{set_fault};
 
 use card_no::split_track2;
 use iso_codec::{Message, all_digits};
@@ -14,6 +15,14 @@ use iso_codec::{Message, all_digits};
 /// 35. It may be empty, and need not be valid. It takes no memory.
 pub fn card_of(message: &Message) -> Option<&[u8]>
     ensures { option_copied result ≡ card_of message.now }
+{
+    card_number_of(message)
+}
+
+/// The same, and that element 2 may have it.
+pub(crate) fn card_number_of(message: &Message) -> Option<&[u8]>
+    ensures value { option_copied result ≡ card_of message.now }
+    ensures fits { IfSome result (λ number. set_fault 2 number.now ≡ None) }
 {
     match message.get(2) {
         Some(number) => Some(number),

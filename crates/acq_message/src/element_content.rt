@@ -30,6 +30,13 @@ impl ElementContent {
         Ok(ElementContent { bytes })
     }
 
+    /// A copy.
+    pub fn copied(&self, alloc: Global) -> Result<ElementContent, AllocError>
+        ensures { IfOk result (λ content. content ≡ self.now) }
+    {
+        ElementContent::from_slice(alloc, self.as_bytes())
+    }
+
     /// The bytes.
     pub fn as_bytes(&self) -> &[u8]
         ensures { result.now ≡ self.now }

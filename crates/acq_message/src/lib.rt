@@ -17,10 +17,13 @@ mod decline_code;
 mod digits;
 mod element_content;
 mod elements;
+mod essence;
 mod first_check;
 mod merchant_id;
 mod message_text;
 mod moment;
+mod put;
+mod reconciliation_reply;
 mod reference;
 mod reply;
 mod request_key;
@@ -46,12 +49,17 @@ pub use element_content::ElementContent;
 pub use elements::{
     amount_in, original_acquirer, reference_in, sale_leg, settlement_date, text_at, transaction_in,
 };
+pub use essence::essence_of;
 pub use first_check::is_malformed;
 pub use merchant_id::MerchantId;
 pub use message_text::MessageText;
 pub use moment::Moment;
+pub use reconciliation_reply::totals_reply;
 pub use reference::Reference;
-pub use reply::{merchant_in, reply_with_code, spelled};
+pub use reply::{
+    answered_reply, coded_reply, draft_reply, merchant_in, referring_reply, reply_with_code,
+    spelled, verdict_code,
+};
 pub use request_key::{RequestKey, key_of, merchant_of, original_key, terminal_of, trace_of};
 pub use request_message::RequestMessage;
 pub use response_code::ResponseCode;

@@ -37,6 +37,13 @@ impl MessageText {
         MessageText { bytes }
     }
 
+    /// A copy.
+    pub fn copied(&self, alloc: Global) -> Result<MessageText, AllocError>
+        ensures { IfOk result (λ text. text ≡ self.now) }
+    {
+        MessageText::from_slice(alloc, self.as_bytes())
+    }
+
     /// The bytes.
     pub fn as_bytes(&self) -> &[u8]
         ensures { result.now ≡ self.now }

@@ -2,7 +2,9 @@
 
 ghost use Rattle.std.specs.Prelude.{◌≡◌, true, SomeIff};
 ghost use Rattle.acq_message.specs.Numbers.{is_reference};
+ghost use Rattle.day_totals.specs.Digits.{zero_padded};
 
+use day_totals::write_digits;
 use std::marker::Model;
 
 /// What a merchant's admitted requests are told apart by, as element 37 has it: a number of at most
@@ -44,5 +46,14 @@ impl Reference {
         ensures range { is_reference self.now ≡ true }
     {
         self.number
+    }
+
+    /// The twelve digits of element 37.
+    pub fn text(self) -> [u8; 12]
+        ensures { result ≡ zero_padded 12 self }
+    {
+        let mut text = [b'0'; 12];
+        write_digits(self.number(), &mut text);
+        text
     }
 }

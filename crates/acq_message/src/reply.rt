@@ -1,17 +1,21 @@
 //! Replies.
 
-ghost use Rattle.std.specs.Prelude.{◌≡◌, IfOk, OnOk};
+ghost use Rattle.std.specs.Prelude.{◌≡◌, Some, IfOk};
 ghost use Rattle.acq_message.specs.Elements.{merchant_in};
-ghost use Rattle.acq_message.specs.Reply.{reply, code_element};
-ghost use Rattle.acq_message.specs.Responses.{code_text};
-ghost use Rattle.iso_codec.specs.Message.{with_content};
+ghost use Rattle.acq_message.specs.Reply.{reply, reply_to, day_element, code_element, coded_reply};
+ghost use Rattle.acq_message.specs.Reply.{referring_reply, draft_reply, answered_reply};
+ghost use Rattle.acq_message.specs.Reply.{verdict_code};
 ghost use Rattle.iso_codec.specs.Reading.{spelling};
-ghost use Rattle.iso_codec.specs.Setting.{set_fault};
 
 use crate::merchant_id::MerchantId;
 use crate::message_text::MessageText;
+use crate::put::put;
+use crate::reference::Reference;
+use crate::request_message::RequestMessage;
 use crate::response_code::ResponseCode;
 use crate::service::Service;
+use crate::verdict::Verdict;
+use day_totals::Day;
 use iso_codec::{Message, encode};
 use std::alloc::{AllocError, Global};
 
@@ -25,15 +29,13 @@ pub fn merchant_in(message: &Message) -> Option<MerchantId>
     MerchantId::read(message.get(42)?)
 }
 
-/// Sets an element to a content that it may have, so that only memory can be wanting.
-fn put(message: &mut Message, alloc: Global, number: u8, content: &[u8]) -> Result<(), AllocError>
-    requires { set_fault number content.now ≡ None }
-    ensures { OnOk result (message.new ≡ record {
-      kind = message.old.kind;
-      elements = with_content message.old.elements number content.now;
-    }) }
+/// The bytes of a message.
+pub fn spelled(alloc: Global, message: &Message) -> Result<MessageText, AllocError>
+    ensures { IfOk result (λ text. text ≡ spelling message.now) }
 {
-    message.set(alloc, number, content).map_err(|_| AllocError)
+    let mut text = Vec::with_capacity(alloc, USUAL_LENGTH)?;
+    encode(alloc, message, &mut text)?;
+    Ok(MessageText::from_vec(text))
 }
 
 /// The reply to a request that adds a code to what it echoes.
@@ -45,23 +47,95 @@ pub fn reply_with_code(
 ) -> Result<Message, AllocError>
     ensures { IfOk result (λ m. m ≡ reply service request.now (code_element code)) }
 {
-    let Some(mut message) = Message::new(alloc, service.reply_kind()) else {
-        unreachable!();
-    };
-    for number in service.echoed() {
-        if let Some(content) = request.get(*number) {
-            put(&mut message, alloc, *number, content)?;
-        }
-    }
+    let mut message = request.select(alloc, service.reply_kind(), service.echoed())?;
     put(&mut message, alloc, 39, &code.to_bytes())?;
     Ok(message)
 }
 
-/// The bytes of a message.
-pub fn spelled(alloc: Global, message: &Message) -> Result<MessageText, AllocError>
-    ensures { IfOk result (λ text. text ≡ spelling message.now) }
+/// What each reply has: what it echoes, and the business day.
+pub(crate) fn dated_reply(
+    alloc: Global,
+    day: Day,
+    request: &RequestMessage,
+) -> Result<Message, AllocError>
+    ensures { IfOk result
+        (λ m. m ≡ reply_to request.now (day_element request.now.service day)) }
 {
-    let mut text = Vec::with_capacity(alloc, USUAL_LENGTH)?;
-    encode(alloc, message, &mut text)?;
-    Ok(MessageText::from_vec(text))
+    let service = request.service;
+    let mut message = request
+        .message
+        .select(alloc, service.reply_kind(), service.echoed())?;
+    if service != Service::NetworkManagement {
+        put(&mut message, alloc, 15, &day.mmdd())?;
+    }
+    Ok(message)
+}
+
+/// The reply of a code and the business day.
+pub fn coded_reply(
+    alloc: Global,
+    day: Day,
+    request: &RequestMessage,
+    code: ResponseCode,
+) -> Result<Message, AllocError>
+    ensures { IfOk result (λ m. m ≡ coded_reply day request.now code) }
+{
+    let mut message = dated_reply(alloc, day, request)?;
+    put(&mut message, alloc, 39, &code.to_bytes())?;
+    Ok(message)
+}
+
+/// The same with a reference, where there is one.
+pub fn referring_reply(
+    alloc: Global,
+    day: Day,
+    request: &RequestMessage,
+    reference: Option<Reference>,
+    code: ResponseCode,
+) -> Result<Message, AllocError>
+    ensures { IfOk result (λ m. m ≡ referring_reply day request.now reference code) }
+{
+    let mut message = match reference {
+        Some(reference) => draft_reply(alloc, day, request, reference)?,
+        None => dated_reply(alloc, day, request)?,
+    };
+    put(&mut message, alloc, 39, &code.to_bytes())?;
+    Ok(message)
+}
+
+/// What stands fixed of the reply to an admitted request, before its issuer answers.
+pub fn draft_reply(
+    alloc: Global,
+    day: Day,
+    request: &RequestMessage,
+    reference: Reference,
+) -> Result<Message, AllocError>
+    ensures { IfOk result (λ m. m ≡ draft_reply day request.now reference) }
+{
+    let mut message = dated_reply(alloc, day, request)?;
+    put(&mut message, alloc, 37, &reference.text())?;
+    Ok(message)
+}
+
+/// The reply to a request that its issuer answered, from what stood fixed of it.
+pub fn answered_reply(
+    alloc: Global,
+    draft: &Message,
+    verdict: Verdict,
+) -> Result<Message, AllocError>
+    ensures { IfOk result (λ m. m ≡ answered_reply draft.now verdict) }
+{
+    let mut message = draft.copied(alloc)?;
+    if let Some(id) = verdict.authorization_id() {
+        put(&mut message, alloc, 38, &id.to_bytes())?;
+    }
+    put(&mut message, alloc, 39, &verdict.code().to_bytes())?;
+    Ok(message)
+}
+
+/// The code of what an issuer says.
+pub fn verdict_code(verdict: Verdict) -> ResponseCode
+    ensures { result ≡ verdict_code verdict }
+{
+    verdict.code()
 }

@@ -2,9 +2,11 @@
 
 ghost use Rattle.std.specs.Prelude.{◌≡◌, true, SomeIff};
 ghost use Rattle.acq_message.specs.IssuerTexts.{is_authorization_id, is_decline_code};
+ghost use Rattle.acq_message.specs.Reply.{authorization_id, verdict_code};
 
 use crate::authorization_id::AuthorizationId;
 use crate::decline_code::DeclineCode;
+use crate::response_code::ResponseCode;
 
 /// What an issuer says to a request that it was asked about.
 #[derive(Clone, Copy, Debug, PartialEq, Eq)]
@@ -34,5 +36,26 @@ impl Verdict {
     {
         let code = DeclineCode::read(code)?;
         Some(Verdict::Declined(code))
+    }
+
+    /// The authorization id of an approval.
+    pub fn authorization_id(&self) -> Option<AuthorizationId>
+        ensures { result ≡ authorization_id self.now }
+    {
+        match self {
+            Verdict::Approved(id) => Some(*id),
+            Verdict::Declined(_) | Verdict::NoAnswer => None,
+        }
+    }
+
+    /// The code of the reply.
+    pub fn code(&self) -> ResponseCode
+        ensures { result ≡ verdict_code self.now }
+    {
+        match self {
+            Verdict::Approved(_) => ResponseCode::Approved,
+            Verdict::Declined(code) => ResponseCode::Declined(*code),
+            Verdict::NoAnswer => ResponseCode::IssuerInoperative,
+        }
     }
 }

@@ -1,6 +1,8 @@
 //! The days on which a merchant's business is counted.
 
-ghost use Rattle.std.specs.Prelude.{◌≡◌, ◌+◌, ◌<◌, ◌≤◌, pos, SomeIff, IfSome, IfNone};
+ghost use Rattle.std.specs.Prelude.{◌≡◌, ◌+◌, ◌<◌, ◌≤◌, true, pos, SomeIff, IfSome, IfNone};
+ghost use Rattle.std.specs.List.{list_all};
+ghost use Rattle.std.specs.Char.{is_ascii_digit};
 ghost use Rattle.jiff.specs.Words.{IsYmd};
 ghost use Rattle.day_totals.specs.Day.{last_day, IsDayNumber, IsDateOf, IsOnNoDay};
 ghost use Rattle.day_totals.specs.Day.{IsDaysAfterFirst, IsNoDateText, date_of, two_digits};
@@ -128,7 +130,8 @@ impl Day {
 
     /// Month and day, MMDD, as element 15 has them (ISO 8583:1987).
     pub fn mmdd(self) -> [u8; 4]
-        ensures { result ≡ mmdd_of self }
+        ensures text { result ≡ mmdd_of self }
+        ensures digits { list_all is_ascii_digit result ≡ true }
     {
         let date = self.date();
         let month = two_digits(date.month() as u8);

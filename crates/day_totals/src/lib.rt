@@ -14,5 +14,6 @@ mod totals;
 
 pub use claimed::Claimed;
 pub use day::Day;
+pub use digits::write_digits;
 pub use leg::Leg;
 pub use totals::Totals;

@@ -21,10 +21,9 @@ use crate::output::Output;
 use crate::query::Query;
 use crate::recording::accepted_row;
 use crate::status::Status;
-use crate::stubs::draft_reply;
 use acq_message::{
-    CheckedRequest, Reference, ResponseCode, Service, amount_in, card_of, digits_value, expiry_of,
-    merchant_of, sale_leg,
+    CheckedRequest, Reference, ResponseCode, Service, amount_in, card_of, digits_value,
+    draft_reply, expiry_of, merchant_of, sale_leg,
 };
 use card_no::{CardNumber, IssuerId, Range};
 use day_totals::{Day, Leg};

@@ -19,8 +19,7 @@ use crate::posted::approval_posting;
 use crate::posting::Posting;
 use crate::request::Request;
 use crate::status::Status;
-use crate::stubs::answered_reply;
-use acq_message::{MerchantId, Moment, Service, Verdict};
+use acq_message::{MerchantId, Moment, Service, Verdict, answered_reply};
 use std::alloc::{AllocError, Global};
 
 /// What is to be done about an answer.
@@ -60,25 +59,25 @@ pub(crate) fn answered(
     alloc: Global,
     merchant: Option<MerchantId>,
     moment: Moment,
-    verdict: Verdict,
+    verdict: &Verdict,
     request: &Request,
 ) -> Result<(Output, Option<Change>), AllocError>
     ensures output { IfOk result (λ x. x.0
-        ≡ Output.Reply merchant (spelling (answered_reply request.now.reply verdict))) }
+        ≡ Output.Reply merchant (spelling (answered_reply request.now.reply verdict.now))) }
     ensures change { IfOk result (λ x. let p = prior_of request.now in x.1
-        ≡ Some (Change.Answered p.key (answered_status verdict)
-          (answered_reply request.now.reply verdict)
-          (answered_hold_end p.key.service moment verdict p.hold_days)
-          (answer_posting verdict p))) }
+        ≡ Some (Change.Answered p.key (answered_status verdict.now)
+        (answered_reply request.now.reply verdict.now)
+        (answered_hold_end p.key.service moment verdict.now p.hold_days)
+        (answer_posting verdict.now p))) }
 {
-    let reply = answered_reply(alloc, &request.reply, verdict)?;
+    let reply = answered_reply(alloc, &request.reply, *verdict)?;
     let output = replied(alloc, merchant, &reply)?;
-    let posting = answer_posting(alloc, verdict, request)?;
+    let posting = answer_posting(alloc, *verdict, request)?;
     let change = Change::Answered {
         key: request.key,
-        status: answered_status(verdict),
+        status: answered_status(*verdict),
         reply,
-        hold_end: answered_hold_end(moment, verdict, request),
+        hold_end: answered_hold_end(moment, *verdict, request),
         posting,
     };
     Ok((output, Some(change)))

@@ -21,8 +21,10 @@ use crate::posted::{posting_today, reference_of};
 use crate::recording::accepted_row;
 use crate::request::Request;
 use crate::status::Status;
-use crate::stubs::coded_reply;
-use acq_message::{CheckedRequest, ElementContent, MerchantId, Moment, ResponseCode, Service, amount_in};
+use acq_message::{
+    CheckedRequest, ElementContent, MerchantId, Moment, ResponseCode, Service, amount_in,
+    coded_reply,
+};
 use day_totals::{Day, Leg};
 use std::alloc::{AllocError, Global};
 
@@ -83,10 +85,10 @@ pub(crate) fn completed(
     requires { is_recordable request.now.service ≡ true }
     ensures output { IfOk result (λ x. x.0
         ≡ Output.Reply merchant
-          (spelling (coded_reply today request.now ResponseCode.Approved))) }
+        (spelling (coded_reply today request.now ResponseCode.Approved))) }
     ensures change { IfOk result (λ x. let p = prior_of hold.now in x.1
         ≡ Some (Change.Follow (completion_row today request.now p) p.key Status.Completed
-          (Some (completion_posting today request.now p)))) }
+        (Some (completion_posting today request.now p)))) }
 {
     let message = request.as_request();
     let reply = coded_reply(alloc, today, message, ResponseCode::Approved)?;

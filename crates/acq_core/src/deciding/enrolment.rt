@@ -11,7 +11,10 @@ use crate::output::Output;
 use crate::terminal::Terminal;
 
 /// What is to be done about a merchant to enrol.
-pub(super) fn decision_of_enrolment(merchant: Merchant, enrolled: Option<Merchant>) -> Decision<'static>
+pub(super) fn decision_of_enrolment(
+    merchant: Merchant,
+    enrolled: Option<Merchant>,
+) -> Decision<'static>
     ensures value { meaning_of result ≡ decision_of_enrolment merchant enrolled }
     ensures feasible { (k : Known) → is_feasible k (meaning_of result) ≡ true }
 {

@@ -18,7 +18,7 @@ pub(super) fn decision_of_new_range<'a>(
 ) -> Decision<'a>
     ensures value { meaning_of result
         ≡ (if is_valid_range range.now then decision_of_new_range range.now overlapped.now
-          else decided.Reports Output.BadRange) }
+        else decided.Reports Output.BadRange) }
     ensures feasible { (k : Known) → is_feasible k (meaning_of result) ≡ true }
 {
     if !range.is_valid() {
@@ -31,11 +31,7 @@ pub(super) fn decision_of_new_range<'a>(
 }
 
 /// What is to be done about a range to drop: what overlaps its ends must be just it.
-pub(super) fn decision_of_old_range(
-    low: u32,
-    high: u32,
-    overlapped: &Option<Range>,
-) -> Decision
+pub(super) fn decision_of_old_range(low: u32, high: u32, overlapped: &Option<Range>) -> Decision
     ensures value { meaning_of result ≡ decision_of_old_range low high overlapped.now }
     ensures feasible { (k : Known) → is_feasible k (meaning_of result) ≡ true }
 {

@@ -22,8 +22,9 @@ use crate::reconciled_day::reconciled_day;
 use crate::reconciliation::Reconciliation;
 use crate::recording::recorded_row;
 use crate::status::Status;
-use crate::stubs::totals_reply;
-use acq_message::{CheckedRequest, MerchantId, ResponseCode, claimed_in, merchant_of};
+use acq_message::{
+    CheckedRequest, MerchantId, ResponseCode, claimed_in, merchant_of, totals_reply,
+};
 use day_totals::Day;
 use std::alloc::{AllocError, Global};
 
@@ -53,15 +54,15 @@ pub(crate) fn reconciled(
         let k = known_of looked.now in
         let in_balance = is_in_balance k request.now in
         x.0 ≡ Output.Reply merchant (spelling
-          (totals_reply day request.now (balance_code in_balance) in_balance k.totals))) }
+        (totals_reply day request.now (balance_code in_balance) in_balance k.totals))) }
     ensures change { IfOk result (λ x.
         let k = known_of looked.now in
         x.1 ≡ Some (Change.Reconciled (reconciliation_row k request.now day)
-          (record {
-            merchant = text_at request.now.message 42;
-            day = day;
-            in_balance = is_in_balance k request.now;
-          }))) }
+        (record {
+          merchant = text_at request.now.message 42;
+          day = day;
+          in_balance = is_in_balance k request.now;
+        }))) }
 {
     let message = request.as_request();
     let in_balance = looked.totals.agrees(&claimed_in(&message.message));

@@ -25,9 +25,9 @@ use crate::posting::Posting;
 use crate::recording::accepted_row;
 use crate::request::Request;
 use crate::status::Status;
-use crate::stubs::referring_reply;
 use acq_message::{
     CheckedRequest, ElementContent, MerchantId, ResponseCode, amount_in, original_acquirer,
+    referring_reply,
 };
 use day_totals::{Day, Leg};
 use std::alloc::{AllocError, Global};
@@ -108,10 +108,10 @@ pub(crate) fn reversed(
     requires { is_recordable request.now.service ≡ true }
     ensures output { IfOk result (λ x. x.0
         ≡ Output.Reply merchant (spelling (referring_reply today request.now
-          (prior_of original.now).reference ResponseCode.Approved))) }
+        (prior_of original.now).reference ResponseCode.Approved))) }
     ensures change { IfOk result (λ x. let p = prior_of original.now in x.1
         ≡ Some (Change.Follow (reversal_row today request.now p) p.key
-          (reversed_status p.reply_state) (reversal_posting today request.now p))) }
+        (reversed_status p.reply_state) (reversal_posting today request.now p))) }
 {
     let message = request.as_request();
     let reply = referring_reply(

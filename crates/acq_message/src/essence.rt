@@ -1,0 +1,36 @@
+//! What a repeat must have alike.
+
+ghost use Rattle.std.specs.Prelude.{◌≡◌, IfOk};
+ghost use Rattle.acq_message.specs.Elements.{essential, essence_of};
+
+use crate::card::card_number_of;
+use crate::message_text::MessageText;
+use crate::put::put;
+use crate::reply::spelled;
+use crate::service::Service;
+use iso_codec::Message;
+use std::alloc::{AllocError, Global};
+
+/// What a repeat must have alike: the spelling of a message of the request's kind with just its
+/// card number, as element 2, and its essential elements (own profile).
+pub fn essence_of(
+    alloc: Global,
+    service: Service,
+    message: &Message,
+) -> Result<MessageText, AllocError>
+    ensures { IfOk result (λ text. text ≡ essence_of service message.now) }
+{
+    let [a, b, c] = service.digits();
+    let mut essence = message.select(alloc, [a, b, c, b'0'], essential())?;
+    if let Some(number) = card_number_of(message) {
+        put(&mut essence, alloc, 2, number)?;
+    }
+    spelled(alloc, &essence)
+}
+
+/// The elements that a repeat must have alike, beside the card number.
+fn essential() -> &'static [u8]
+    ensures { result.now ≡ essential }
+{
+    &[3, 4, 15, 37, 49, 74, 75, 76, 77, 86, 87, 88, 89, 90, 97]
+}

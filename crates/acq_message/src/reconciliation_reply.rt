@@ -1,0 +1,66 @@
+//! The reply to a reconciliation.
+
+ghost use Rattle.std.specs.Prelude.{◌≡◌, IfOk, OnOk, codes, if◌then◌else◌};
+ghost use Rattle.acq_message.specs.Reply.{with_contents, count_elements, amount_elements};
+ghost use Rattle.acq_message.specs.Reply.{totals_reply};
+
+use crate::put::put;
+use crate::reply::coded_reply;
+use crate::request_message::RequestMessage;
+use crate::response_code::ResponseCode;
+use day_totals::{Day, Leg, Totals};
+use iso_codec::Message;
+use std::alloc::{AllocError, Global};
+
+/// The reply to a reconciliation of a day: a code, whether the claimed totals are in balance, and
+/// the host's totals.
+pub fn totals_reply(
+    alloc: Global,
+    day: Day,
+    request: &RequestMessage,
+    code: ResponseCode,
+    in_balance: bool,
+    totals: &Totals,
+) -> Result<Message, AllocError>
+    ensures { IfOk result (λ m. m ≡ totals_reply day request.now code in_balance totals.now) }
+{
+    let mut message = coded_reply(alloc, day, request, code)?;
+    put(&mut message, alloc, 66, &balance_text(in_balance))?;
+    put_counts(&mut message, alloc, totals)?;
+    put_amounts(&mut message, alloc, totals)?;
+    put(&mut message, alloc, 97, &totals.net_text())?;
+    Ok(message)
+}
+
+/// Element 66: 1 where the claimed totals are in balance, else 2.
+fn balance_text(in_balance: bool) -> [u8; 1]
+    ensures { result ≡ if in_balance then codes "1" else codes "2" }
+{
+    if in_balance { *b"1" } else { *b"2" }
+}
+
+/// Elements 74 to 77.
+fn put_counts(message: &mut Message, alloc: Global, totals: &Totals) -> Result<(), AllocError>
+    ensures { OnOk result (message.new ≡ record {
+      kind = message.old.kind;
+      elements = with_contents message.old.elements (count_elements totals.now);
+    }) }
+{
+    put(message, alloc, 74, &totals.count_text(Leg::Credit))?;
+    put(message, alloc, 75, &totals.count_text(Leg::CreditReversal))?;
+    put(message, alloc, 76, &totals.count_text(Leg::Debit))?;
+    put(message, alloc, 77, &totals.count_text(Leg::DebitReversal))
+}
+
+/// Elements 86 to 89.
+fn put_amounts(message: &mut Message, alloc: Global, totals: &Totals) -> Result<(), AllocError>
+    ensures { OnOk result (message.new ≡ record {
+      kind = message.old.kind;
+      elements = with_contents message.old.elements (amount_elements totals.now);
+    }) }
+{
+    put(message, alloc, 86, &totals.amount_text(Leg::Credit))?;
+    put(message, alloc, 87, &totals.amount_text(Leg::CreditReversal))?;
+    put(message, alloc, 88, &totals.amount_text(Leg::Debit))?;
+    put(message, alloc, 89, &totals.amount_text(Leg::DebitReversal))
+}
