@@ -1,10 +1,31 @@
 //! What came.
 
+ghost use Rattle.std.specs.Prelude.{◌≡◌, IfOk};
+ghost use Rattle.acq_message.specs.Services.{service_of};
+ghost use Rattle.acq_core.specs.Arrivals.{arrival_of, arrival_of_message, arrival_of_reading};
+ghost use Rattle.acq_core.specs.Arrivals.{checked, merchant_named};
+ghost use Rattle.acq_core.specs.Changes.{change_for};
+ghost use Rattle.acq_core.specs.Known.{wanted_by};
+ghost use Rattle.acq_core.specs.Looking.{known_of};
+ghost use Rattle.acq_core.specs.Outcome.{outcome, output_of};
+ghost use Rattle.iso_codec.specs.Reading.{reading_of};
+
+use crate::change::Change;
+use crate::deciding::decision;
+use crate::effects::carry_out;
+use crate::event::Event;
+use crate::looking_up::wanted_by;
+use crate::lookup::{Looked, Wanted};
 use crate::merchant::Merchant;
+use crate::output::Output;
 use crate::terminal::Terminal;
-use acq_message::{CheckedRequest, MerchantId, Moment, Reference, RequestMessage, Verdict};
+use acq_message::{
+    CheckedRequest, MerchantId, Moment, Reference, RequestMessage, Service, Verdict, merchant_in,
+};
 use card_no::Range;
-use iso_codec::{DecodeFault, Message};
+use day_totals::Day;
+use iso_codec::{DecodeFault, Message, decode};
+use std::alloc::{AllocError, Global};
 
 /// An event as the host sees it: a frame by what it spells, read once.
 #[derive(Debug, Drop)]
@@ -37,4 +58,112 @@ pub enum Arrival {
     Enrolled(Merchant),
     /// A terminal to add.
     TerminalAdded(Terminal),
+}
+
+impl Arrival {
+    /// An event as the host sees it. A frame is decoded here, and nowhere else.
+    pub fn of(alloc: Global, event: &Event) -> Result<Arrival, AllocError>
+        ensures { IfOk result (λ arrival. arrival ≡ arrival_of event.now) }
+    {
+        match event {
+            Event::Frame(moment, text) => Arrival::of_frame(alloc, *moment, text.as_bytes()),
+            Event::Answer(moment, merchant, reference, verdict) => Ok(Arrival::Answered {
+                moment: *moment,
+                merchant: *merchant,
+                reference: *reference,
+                verdict: *verdict,
+            }),
+            Event::Cutover(_) => Ok(Arrival::CutOver),
+            Event::AddRange(range) => Ok(Arrival::RangeAdded(range.copied(alloc)?)),
+            Event::DropRange(low, high) => Ok(Arrival::RangeDropped {
+                low: *low,
+                high: *high,
+            }),
+            Event::Enrol(id, currency, first_reference) => Ok(Arrival::Enrolled(Merchant {
+                id: *id,
+                currency: *currency,
+                first_reference: *first_reference,
+            })),
+            Event::AddTerminal(merchant, id) => Ok(Arrival::TerminalAdded(Terminal {
+                merchant: *merchant,
+                id: *id,
+            })),
+        }
+    }
+
+    /// A frame whose message has these bytes, by what it reads as.
+    pub fn of_frame(alloc: Global, moment: Moment, bytes: &[u8]) -> Result<Arrival, AllocError>
+        ensures { IfOk result (λ arrival. arrival
+            ≡ arrival_of_reading moment (reading_of bytes.now)) }
+    {
+        match decode(alloc, bytes) {
+            Ok(message) => Ok(Arrival::of_message(moment, message)),
+            Err(DecodeFault::Memory) => Err(AllocError),
+            Err(fault) => Ok(Arrival::Undecoded(fault)),
+        }
+    }
+
+    /// A message, by the service of its type and the first check.
+    fn of_message(moment: Moment, message: Message) -> Arrival
+        ensures { result ≡ arrival_of_message moment message (service_of message.kind) }
+    {
+        match Service::of(message.kind()) {
+            Some(service) => Arrival::checked(RequestMessage {
+                moment,
+                service,
+                message,
+            }),
+            None => Arrival::Unserved(message),
+        }
+    }
+
+    /// A request, by the first check.
+    fn checked(request: RequestMessage) -> Arrival
+        ensures { result ≡ checked request }
+    {
+        match CheckedRequest::new(request) {
+            Ok(request) => Arrival::Requested(request),
+            Err(request) => Arrival::Malformed(request),
+        }
+    }
+
+    /// The merchant that it names, if it names one.
+    pub fn merchant(&self) -> Option<MerchantId>
+        ensures { result ≡ merchant_named self.now }
+    {
+        match self {
+            Arrival::Unserved(message) => merchant_in(message),
+            Arrival::Malformed(request) => merchant_in(&request.message),
+            Arrival::Requested(request) => merchant_in(&request.as_request().message),
+            Arrival::Answered { merchant, .. } => Some(*merchant),
+            Arrival::Enrolled(merchant) => Some(merchant.id),
+            Arrival::TerminalAdded(terminal) => Some(terminal.merchant),
+            Arrival::Undecoded(_)
+            | Arrival::CutOver
+            | Arrival::RangeAdded(_)
+            | Arrival::RangeDropped { .. } => None,
+        }
+    }
+
+    /// What has to be looked up for it on a business day. It takes no memory.
+    pub fn wanted(&self, today: Day) -> Wanted
+        ensures { result ≡ wanted_by today self.now }
+    {
+        wanted_by(today, self)
+    }
+
+    /// What the host says to it, over what was looked up, and what changes. All memory of both is
+    /// taken here.
+    pub fn decide(
+        &self,
+        alloc: Global,
+        looked: &Looked,
+    ) -> Result<(Output, Option<Change>), AllocError>
+        ensures output { IfOk result (λ x. x.0
+            ≡ output_of (merchant_named self.now) (outcome (known_of looked.now) self.now)) }
+        ensures change { IfOk result (λ x. x.1 ≡ change_for (known_of looked.now) self.now) }
+    {
+        let decision = decision(alloc, looked, self)?;
+        carry_out(alloc, looked, self.merchant(), decision)
+    }
 }

@@ -65,7 +65,7 @@ pub(crate) fn reconciled(
         }))) }
 {
     let message = request.as_request();
-    let in_balance = looked.totals.agrees(&claimed_in(&message.message));
+    let in_balance = is_in_balance(looked, request);
     let code = balance_code(in_balance);
     let reply = totals_reply(alloc, day, message, code, in_balance, &looked.totals)?;
     let output = replied(alloc, merchant, &reply)?;
@@ -81,6 +81,15 @@ pub(crate) fn reconciled(
         reconciliation,
     };
     Ok((output, Some(change)))
+}
+
+/// Whether the claimed totals are the day's.
+fn is_in_balance(looked: &Looked, request: &CheckedRequest) -> bool
+    ensures { result ≡ is_in_balance (known_of looked.now) request.now }
+{
+    looked
+        .totals
+        .agrees(&claimed_in(&request.as_request().message))
 }
 
 /// The code of a reconciliation with totals.
