@@ -1,0 +1,2 @@
+pub mod StepCases
+pub mod RangesStayApart

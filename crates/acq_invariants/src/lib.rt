@@ -1,0 +1,12 @@
+//! What every run of events keeps.
+//!
+//! Laws over the tables of `acq_core`, from a new book on, whatever comes; the statements stand in
+//! `specs`.
+#![tactic(auto)]
+
+ghost use Rattle.acq_invariants.specs.Ranges.{RangesStayApart};
+
+/// Each range is valid, they are in order of `low`, and no two overlap.
+pub fn ranges_stay_apart()
+    ensures { RangesStayApart }
+{}
