@@ -1,2 +1,4 @@
 pub mod StepCases
+pub mod Runs
 pub mod RangesStayApart
+pub mod KeysStayUnique

@@ -1,16 +1,13 @@
 -- Ranges stay apart, whatever comes.
-use Rattle.std.proofs.Common.{◌≡◌, true, List, [], ◌∷◌, refl}
-use Rattle.card_no.specs.Ranges.{are_ranges}
+use Rattle.std.proofs.Common.{refl}
 use Rattle.card_no.proofs.OneRangeMore.{ranges_with}
 use Rattle.card_no.proofs.OneRangeLess.{ranges_without}
-use Rattle.acq_core.specs.declared.event.Event.{Event}
 use Rattle.acq_core.specs.declared.arrival.Arrival.{Arrival}
-use Rattle.acq_core.specs.Arrivals.{arrival_of}
-use Rattle.acq_core.specs.Decision.{Decision}
 use Rattle.acq_core.specs.Changes.{change_of}
-use Rattle.acq_core.specs.Tables.{Tables, known_in, after_any, step_tables, tables_after}
+use Rattle.acq_core.specs.Tables.{Tables, new_tables, known_in, after_any, step_tables}
 use Rattle.acq_invariants.specs.Ranges.{HasRangesApart, RangesStayApart}
 use Rattle.acq_invariants.proofs.StepCases.{by_step}
+use Rattle.acq_invariants.proofs.Runs.{kept}
 
 step : (t : Tables) (a : Arrival) → HasRangesApart t → HasRangesApart (step_tables t a)
 step t a h =
@@ -33,9 +30,5 @@ step t a h =
       terminal_added = λ terminal came new. h;
     })
 
-after : (t : Tables) (es : List Event) → HasRangesApart t → HasRangesApart (tables_after t es)
-after t [] h = h
-after t (e ∷ es) h = after (step_tables t (arrival_of e)) es (step t (arrival_of e) h)
-
 pub ranges_stay_apart : RangesStayApart
-ranges_stay_apart opening es = after _ es refl
+ranges_stay_apart opening es = kept HasRangesApart step (new_tables opening) es refl

@@ -5,8 +5,15 @@
 #![tactic(auto)]
 
 ghost use Rattle.acq_invariants.specs.Ranges.{RangesStayApart};
+ghost use Rattle.acq_invariants.specs.Keys.{KeysStayUnique};
 
 /// Each range is valid, they are in order of `low`, and no two overlap.
 pub fn ranges_stay_apart()
     ensures { RangesStayApart }
+{}
+
+/// No two requests have the same key, no two merchants the same name, and no two terminals of a
+/// merchant the same name.
+pub fn keys_stay_unique()
+    ensures { KeysStayUnique }
 {}
