@@ -2,3 +2,4 @@ pub mod StepCases
 pub mod Runs
 pub mod RangesStayApart
 pub mod KeysStayUnique
+pub mod ReferencesAreConsecutive

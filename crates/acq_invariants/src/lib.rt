@@ -6,6 +6,7 @@
 
 ghost use Rattle.acq_invariants.specs.Ranges.{RangesStayApart};
 ghost use Rattle.acq_invariants.specs.Keys.{KeysStayUnique};
+ghost use Rattle.acq_invariants.specs.References.{ReferencesAreConsecutive};
 
 /// Each range is valid, they are in order of `low`, and no two overlap.
 pub fn ranges_stay_apart()
@@ -16,4 +17,10 @@ pub fn ranges_stay_apart()
 /// merchant the same name.
 pub fn keys_stay_unique()
     ensures { KeysStayUnique }
+{}
+
+/// The references of each merchant count up from its first, one more for each admitted request, so
+/// that none is given twice. A merchant that isn't enrolled has no requests.
+pub fn references_are_consecutive()
+    ensures { ReferencesAreConsecutive }
 {}
