@@ -4,9 +4,13 @@
 //! `specs`.
 #![tactic(auto)]
 
+mod types;
+
 ghost use Rattle.acq_invariants.specs.Ranges.{RangesStayApart};
 ghost use Rattle.acq_invariants.specs.Keys.{KeysStayUnique};
 ghost use Rattle.acq_invariants.specs.References.{ReferencesAreConsecutive};
+
+pub use types::{is_event, is_opening, is_verdict};
 
 /// Each range is valid, they are in order of `low`, and no two overlap.
 pub fn ranges_stay_apart()
