@@ -3,3 +3,9 @@ pub mod Runs
 pub mod RangesStayApart
 pub mod KeysStayUnique
 pub mod ReferencesAreConsecutive
+pub mod DayTexts
+pub mod ReplyBodies
+pub mod ReplyTexts
+pub mod Arrivals
+pub mod ChangedRows
+pub mod RepliesAreMessages

@@ -9,6 +9,7 @@ mod types;
 ghost use Rattle.acq_invariants.specs.Ranges.{RangesStayApart};
 ghost use Rattle.acq_invariants.specs.Keys.{KeysStayUnique};
 ghost use Rattle.acq_invariants.specs.References.{ReferencesAreConsecutive};
+ghost use Rattle.acq_invariants.specs.Replies.{RepliesAreMessages};
 
 pub use types::{is_event, is_opening, is_verdict};
 
@@ -27,4 +28,10 @@ pub fn keys_stay_unique()
 /// that none is given twice. A merchant that isn't enrolled has no requests.
 pub fn references_are_consecutive()
     ensures { ReferencesAreConsecutive }
+{}
+
+/// Each reply, those that are kept in rows and those that go out, is a message of the reply type of
+/// a service, with no elements but those of replies. Its text fits a frame, and is printable.
+pub fn replies_are_messages()
+    ensures { RepliesAreMessages }
 {}
