@@ -9,3 +9,4 @@ pub mod ReplyTexts
 pub mod Arrivals
 pub mod ChangedRows
 pub mod RepliesAreMessages
+pub mod SensitiveDataStaysOut

@@ -86,14 +86,15 @@ body_with_all (e ∷ added) es b fits =
 abbrev pub are_of_replies : List ℕ → Bool
 are_of_replies ks = list_all (λ k. is_among reply_elements (k, [])) ks
 
-among_wider : (ks : List ℕ) (e : ℕ × List ℕ) → are_of_replies ks ≡ true → is_among ks e ≡ true →
-    is_among reply_elements e ≡ true
-among_wider [] e h k = absurd cc
-among_wider (n ∷ ks) e h k =
-    let parts = and_parts (is_among reply_elements (n, [])) (are_of_replies ks) h in
+-- what holds of each of these numbers holds of an element's number among them
+pub among_passes : (q : ℕ → Bool) (ks : List ℕ) (e : ℕ × List ℕ) → list_all q ks ≡ true → is_among ks e ≡ true →
+    q e.0 ≡ true
+among_passes q [] e h k = absurd cc
+among_passes q (n ∷ ks) e h k =
+    let parts = and_parts (q n) (list_all q ks) h in
     elim (or_cases (eqb n e.0) (is_among ks e) k) [
-      | inl same ↦ subst (λ (m : ℕ). is_among reply_elements (m, []) ≡ true) (eqb-true n e.0 same) parts.0
-      | inr later ↦ among_wider ks e parts.1 later
+      | inl same ↦ subst (λ (m : ℕ). q m ≡ true) (eqb-true n e.0 same) parts.0
+      | inr later ↦ among_passes q ks e parts.1 later
     ]
 
 echoed-of_replies : (service : Service) → are_of_replies (echoed service) ≡ true
@@ -113,7 +114,7 @@ kept_each ks (e ∷ es) h k =
     let rest = kept_each ks es h parts.1 in
     elim (cases_Bool (is_among ks e)) [
       | inl kept ↦ rw kept (and_from (may_have e) (list_all may_have (filter (is_among ks) es))
-          (and_from (is_element e) (is_among reply_elements e) parts.0 (among_wider ks e h kept)) rest)
+          (and_from (is_element e) (is_among reply_elements e) parts.0 (among_passes (λ k. is_among reply_elements (k, [])) ks e h kept)) rest)
       | inr dropped ↦ rw dropped rest
     ]
 
@@ -121,7 +122,7 @@ ascends_lower : (low m : ℕ) (ns : List ℕ) → low ≤ m → Ascends m ns →
 ascends_lower low m [] le up = tt
 ascends_lower low m (n ∷ ns) le up = let above = up.0 in (omega arith, up.1)
 
-kept_ascends : (p : ℕ × List ℕ → Bool) (low : ℕ) (es : List (ℕ × List ℕ)) → Ascends low (numbers es) →
+pub kept_ascends : (p : ℕ × List ℕ → Bool) (low : ℕ) (es : List (ℕ × List ℕ)) → Ascends low (numbers es) →
     Ascends low (numbers (filter p es))
 kept_ascends p low [] up = tt
 kept_ascends p low (e ∷ es) up =

@@ -21,7 +21,7 @@ use Rattle.iso_codec.proofs.WrittenIsRead.{all_append}
 use Rattle.acq_message.specs.declared.service.Service.{Service}
 use Rattle.acq_message.specs.Elements.{is_among}
 use Rattle.acq_invariants.specs.Replies.{reply_elements, IsReply, IsReplyText}
-use Rattle.acq_invariants.proofs.ReplyBodies.{may_have, all_weaker, body_of_reply}
+use Rattle.acq_invariants.proofs.ReplyBodies.{may_have, all_weaker, among_passes, body_of_reply}
 
 -- ---- bytes
 
@@ -68,16 +68,6 @@ are_plain ns = list_all (λ n. is_plain_format (format_of n)) ns
 reply_elements-plain : are_plain reply_elements ≡ true
 unfolding format_of
 reply_elements-plain = refl
-
-plain_among : (ns : List ℕ) (e : ℕ × List ℕ) → are_plain ns ≡ true → is_among ns e ≡ true →
-    is_plain_format (format_of e.0) ≡ true
-plain_among [] e h k = absurd cc
-plain_among (n ∷ ns) e h k =
-    let parts = and_parts (is_plain_format (format_of n)) (are_plain ns) h in
-    elim (or_cases (eqb n e.0) (is_among ns e) k) [
-      | inl same ↦ subst (λ (m : ℕ). is_plain_format (format_of m) ≡ true) (eqb-true n e.0 same) parts.0
-      | inr later ↦ plain_among ns e parts.1 later
-    ]
 
 plain_text : (c : Class) (text : List ℕ) → is_plain_class c ≡ true → has_class c text ≡ true →
     list_all is_printable text ≡ true
@@ -127,7 +117,8 @@ plain_spelled (Some f) text h k =
 plain_element : (e : ℕ × List ℕ) → may_have e ≡ true → IsPlain (spelled e)
 plain_element e h =
     let parts = and_parts (is_element e) (is_among reply_elements e) h in
-    plain_spelled (format_of e.0) e.1 (plain_among reply_elements e reply_elements-plain parts.1) parts.0
+    plain_spelled (format_of e.0) e.1
+    (among_passes (λ n. is_plain_format (format_of n)) reply_elements e reply_elements-plain parts.1) parts.0
 
 -- ---- all elements
 

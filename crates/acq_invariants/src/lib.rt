@@ -10,6 +10,7 @@ ghost use Rattle.acq_invariants.specs.Ranges.{RangesStayApart};
 ghost use Rattle.acq_invariants.specs.Keys.{KeysStayUnique};
 ghost use Rattle.acq_invariants.specs.References.{ReferencesAreConsecutive};
 ghost use Rattle.acq_invariants.specs.Replies.{RepliesAreMessages};
+ghost use Rattle.acq_invariants.specs.CardData.{SensitiveDataStaysOut};
 
 pub use types::{is_event, is_opening, is_verdict};
 
@@ -34,4 +35,11 @@ pub fn references_are_consecutive()
 /// a service, with no elements but those of replies. Its text fits a frame, and is printable.
 pub fn replies_are_messages()
     ensures { RepliesAreMessages }
+{}
+
+/// No row keeps a track, a PIN block or chip data (elements 35, 45, 52 and 55), and no reply that
+/// goes out has them: of a card a row has at most 19 digits, and its essence has the card number
+/// and the essential elements alone.
+pub fn sensitive_data_stays_out()
+    ensures { SensitiveDataStaysOut }
 {}
