@@ -20,7 +20,7 @@ use Rattle.acq_core.specs.Tables.{Tables, known_in, with_changed, with_next_post
 use Rattle.acq_bookkeeping.specs.DaySums.{postings_on}
 use Rattle.acq_bookkeeping.specs.Finality.{has_pending, is_pending}
 use Rattle.acq_history.proofs.Members.{In, In-push, any_none}
-use Rattle.acq_bookkeeping.proofs.GroundsOfDecision.{Grounds, grounds, Other, Made, changed_is}
+use Rattle.acq_history.proofs.GroundsOfDecision.{Grounds, grounds, Other, Made, changed_is}
 use Rattle.acq_history.proofs.Lookups.{some_is, filter-push_out}
 use Rattle.acq_history.proofs.Statuses.{reply_state_of-awaited}
 use Rattle.acq_history.proofs.DayOfPosting.{reversal_posting_day}

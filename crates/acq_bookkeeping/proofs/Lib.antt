@@ -1,4 +1,3 @@
-pub mod GroundsOfDecision
 pub mod BalanceOfReconciliation
 pub mod RepliesToRepeats
 pub mod FinalDays

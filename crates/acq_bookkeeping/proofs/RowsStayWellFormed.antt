@@ -14,7 +14,7 @@ use Rattle.acq_core.specs.Tables.{requests_of, admitted_in, with_changed}
 use Rattle.acq_history.specs.Entries.{is_admissible, is_reversal}
 use Rattle.acq_bookkeeping.specs.Conservation.{is_reversal_leg}
 use Rattle.acq_history.proofs.Members.{In, In-first, In-push, In-map}
-use Rattle.acq_bookkeeping.proofs.GroundsOfDecision.{Other, Made, changed_is}
+use Rattle.acq_history.proofs.GroundsOfDecision.{Other, Made, changed_is}
 use Rattle.acq_history.proofs.Keys.{bytes_eq_itself, same_key_is, same_key_from}
 use Rattle.acq_history.proofs.Lookups.{some_is}
 

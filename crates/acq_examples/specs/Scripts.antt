@@ -3,6 +3,7 @@ use Rattle.std.specs.Prelude.{◌≡◌, ℕ, List, [], ◌∷◌, ◌++◌, map
 use Rattle.std.specs.Prelude.{option_map, if◌then◌else◌, codes}
 use Rattle.std.specs.Str.{bytes_eq}
 use Prim.Native.String.{String}
+use Rattle.day_totals.specs.declared.leg.Leg.{Leg}
 use Rattle.day_totals.specs.declared.leg.Leg.TheVariants.{Credit, Debit}
 use Rattle.acq_message.specs.declared.service.Service.{Service}
 use Rattle.acq_message.specs.declared.service.Service.TheVariants.{Authorization, Financial}
@@ -129,6 +130,32 @@ asked_to_hold merchant reference amount =
 -- a merchant's terminal gets a reply
 abbrev pub replied : List ℕ → List ℕ → Output
 replied merchant text = Reply (Some merchant) text
+
+-- ---- postings, each with its number of the day
+
+-- a posting with a card, from the terminal of most rows
+abbrev pub posting_with : String → ℕ → List ℕ → ℕ → Leg → ℕ → ℕ → String → ℕ × Posting
+posting_with card number merchant day leg amount reference trace = (
+  number,
+  record {
+    merchant = merchant;
+    day = day;
+    leg = leg;
+    amount = amount;
+    reference = reference;
+    card = codes card;
+    terminal = terminal;
+    trace = codes trace;
+  },
+)
+
+-- with the card of most sales and returns
+abbrev pub sale_posting : ℕ → List ℕ → ℕ → Leg → ℕ → ℕ → String → ℕ × Posting
+sale_posting = posting_with "4111111111111111"
+
+-- with the card of most holds
+abbrev pub hold_posting : ℕ → List ℕ → ℕ → Leg → ℕ → ℕ → String → ℕ × Posting
+hold_posting = posting_with "5500005555555559"
 
 -- ---- what a row says. What is expected stands on the left, where `refl` takes its term from.
 

@@ -13,6 +13,7 @@ ghost use Rattle.acq_examples.specs.Messages.{reconciliation_refused};
 ghost use Rattle.acq_examples.specs.Scripts.{book_opening, GivesParty, GivesAllFrom, Gives, Posts};
 ghost use Rattle.acq_examples.specs.Scripts.{may_1, may_2, last_day, morning, setup, sent};
 ghost use Rattle.acq_examples.specs.Scripts.{approves, cutover, asked, asked_to_credit, replied};
+ghost use Rattle.acq_examples.specs.Scripts.{sale_posting};
 
 /// A request keeps the day of its arrival: an answer after cutover posts to it. A reversal is of
 /// its own day, and leaves the original's day as it was.
@@ -27,19 +28,7 @@ pub fn cutovers()
     ensures posts_to_its_day { Posts 999999 merchant_a
         (sent (sale "000001" "000000001000" merchant_a) ∷ cutover ∷ approves "A1B2C3" merchant_a 1
         ∷ [])
-        ((
-          1,
-          record {
-            merchant = merchant_a;
-            day = may_1;
-            leg = Debit;
-            amount = 1000;
-            reference = 1;
-            card = codes "4111111111111111";
-            terminal = terminal;
-            trace = codes "000001";
-          },
-        ) ∷ []) }
+        (sale_posting 1 merchant_a may_1 Debit 1000 1 "000001" ∷ []) }
     ensures sale_of_the_second_day { Gives 999999 merchant_a
         (cutover ∷ sent (sale "000001" "000000001000" merchant_a) ∷ cutover
         ∷ approves "A1B2C3" merchant_a 1 ∷ sent (sale "000001" "000000001000" merchant_a) ∷ [])
@@ -51,19 +40,7 @@ pub fn cutovers()
     ensures posts_to_the_second_day { Posts 999999 merchant_a
         (cutover ∷ sent (sale "000001" "000000001000" merchant_a) ∷ cutover
         ∷ approves "A1B2C3" merchant_a 1 ∷ [])
-        ((
-          1,
-          record {
-            merchant = merchant_a;
-            day = may_2;
-            leg = Debit;
-            amount = 1000;
-            reference = 1;
-            card = codes "4111111111111111";
-            terminal = terminal;
-            trace = codes "000001";
-          },
-        ) ∷ []) }
+        (sale_posting 1 merchant_a may_2 Debit 1000 1 "000001" ∷ []) }
     ensures reversal_after_cutover { Gives 999999 merchant_a
         (sent (sale "000001" "000000001000" merchant_a) ∷ approves "A1B2C3" merchant_a 1 ∷ cutover
         ∷ sent (reversal "000003" "000000001000" (original "0200" "000001" "0501093000") merchant_a)
@@ -79,32 +56,8 @@ pub fn cutovers()
         (sent (sale "000001" "000000001000" merchant_a) ∷ approves "A1B2C3" merchant_a 1 ∷ cutover
         ∷ sent (reversal "000003" "000000001000" (original "0200" "000001" "0501093000") merchant_a)
         ∷ [])
-        ((
-          1,
-          record {
-            merchant = merchant_a;
-            day = may_1;
-            leg = Debit;
-            amount = 1000;
-            reference = 1;
-            card = codes "4111111111111111";
-            terminal = terminal;
-            trace = codes "000001";
-          },
-        )
-        ∷ (
-          1,
-          record {
-            merchant = merchant_a;
-            day = may_2;
-            leg = DebitReversal;
-            amount = 1000;
-            reference = 1;
-            card = codes "4111111111111111";
-            terminal = terminal;
-            trace = codes "000003";
-          },
-        ) ∷ []) }
+        (sale_posting 1 merchant_a may_1 Debit 1000 1 "000001"
+        ∷ sale_posting 1 merchant_a may_2 DebitReversal 1000 1 "000003" ∷ []) }
     ensures totals_of_both_days { Gives 999999 merchant_a
         (sent (sale "000001" "000000001000" merchant_a) ∷ approves "A1B2C3" merchant_a 1 ∷ cutover
         ∷ sent (reversal "000003" "000000001000" (original "0200" "000001" "0501093000") merchant_a)

@@ -16,6 +16,7 @@ ghost use Rattle.acq_examples.specs.Messages.{completion_reply, card_approved};
 ghost use Rattle.acq_examples.specs.Scripts.{Gives, Posts, may_1, may_2, morning, next_morning};
 ghost use Rattle.acq_examples.specs.Scripts.{sent, approves, declines, says_nothing, cutover};
 ghost use Rattle.acq_examples.specs.Scripts.{asked, asked_to_hold, replied};
+ghost use Rattle.acq_examples.specs.Scripts.{hold_posting};
 
 /// An authorization is asked of the issuer. Its approval opens a hold and posts nothing.
 #[tactic(auto, unfolding(crate::proofs::Computing::on_literals))]
@@ -87,19 +88,7 @@ pub fn last_seconds()
         ∷ approves "H00001" merchant_a 1 ∷ approves "H00001" merchant_a 2
         ∷ Frame 1714642200 (completion "000021" "000000005000" "000000000001" merchant_a)
         ∷ Frame 1714642201 (completion "000031" "000000005000" "000000000002" merchant_a) ∷ [])
-        ((
-          1,
-          record {
-            merchant = merchant_a;
-            day = may_1;
-            leg = Debit;
-            amount = 5000;
-            reference = 1;
-            card = codes "5500005555555559";
-            terminal = terminal;
-            trace = codes "000021";
-          },
-        ) ∷ []) }
+        (hold_posting 1 merchant_a may_1 Debit 5000 1 "000021" ∷ []) }
     ensures before_the_approval { Gives 999999 merchant_a
         (sent (hold "000020" "000000005000" merchant_a) ∷ approves "H00001" merchant_a 1
         ∷ Frame 1714555799 (completion "000021" "000000005000" "000000000001" merchant_a) ∷ [])
@@ -202,19 +191,7 @@ pub fn amounts()
     ensures less { Posts 999999 merchant_a
         (sent (hold "000020" "000000005000" merchant_a) ∷ approves "H00001" merchant_a 1 ∷ cutover
         ∷ Frame next_morning (completion "000021" "000000004200" "000000000001" merchant_a) ∷ [])
-        ((
-          1,
-          record {
-            merchant = merchant_a;
-            day = may_2;
-            leg = Debit;
-            amount = 4200;
-            reference = 1;
-            card = codes "5500005555555559";
-            terminal = terminal;
-            trace = codes "000021";
-          },
-        ) ∷ []) }
+        (hold_posting 1 merchant_a may_2 Debit 4200 1 "000021" ∷ []) }
     ensures day_full { Gives 1 merchant_a
         (sent (hold "000020" "000000005000" merchant_a) ∷ approves "H00001" merchant_a 1
         ∷ sent (completion "000021" "000000005000" "000000000001" merchant_a) ∷ cutover
@@ -297,20 +274,7 @@ pub fn holds_named()
         ++ codes "000000" ++ codes "000000005000" ++ codes "0502093000" ++ codes "000021"
         ++ codes "2404" ++ codes "000000000001" ++ terminal ++ merchant_a ++ codes "978")
         ∷ [])
-        ((
-          1,
-          record {
-            merchant = merchant_a;
-            day = may_1;
-            leg = Debit;
-            amount = 5000;
-            reference = 1;
-            card = codes "5500005555555559";
-            terminal = terminal;
-            trace = codes "000021";
-          },
-        )
-        ∷ []) }
+        (hold_posting 1 merchant_a may_1 Debit 5000 1 "000021" ∷ []) }
     ensures other_merchant { Gives 999999 merchant_b
         (sent (hold "000020" "000000005000" merchant_a) ∷ approves "H00001" merchant_a 1
         ∷ sent (completion "000021" "000000005000" "000000000001" merchant_b) ∷ [])

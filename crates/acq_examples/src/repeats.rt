@@ -16,6 +16,7 @@ ghost use Rattle.acq_examples.specs.Messages.{reconciliation_refused};
 ghost use Rattle.acq_examples.specs.Scripts.{Gives, Posts, may_1, morning, next_morning, sent};
 ghost use Rattle.acq_examples.specs.Scripts.{approves, declines, cutover, asked, asked_to_hold};
 ghost use Rattle.acq_examples.specs.Scripts.{replied};
+ghost use Rattle.acq_examples.specs.Scripts.{hold_posting, sale_posting};
 
 /// A repeat of a sale waits while the sale is pending, and then gets the reply that was kept, byte
 /// by byte, also on a later day. It need not be marked as a repeat, and what is marked as one may
@@ -86,19 +87,7 @@ pub fn sales()
         (sent (sale "000001" "000000001000" merchant_a)
         ∷ sent (sale_again "000001" "000000001000" merchant_a) ∷ approves "A1B2C3" merchant_a 1
         ∷ sent (sale_again "000001" "000000001000" merchant_a) ∷ [])
-        ((
-          1,
-          record {
-            merchant = merchant_a;
-            day = may_1;
-            leg = Debit;
-            amount = 1000;
-            reference = 1;
-            card = codes "4111111111111111";
-            terminal = terminal;
-            trace = codes "000001";
-          },
-        ) ∷ []) }
+        (sale_posting 1 merchant_a may_1 Debit 1000 1 "000001" ∷ []) }
     ensures next_day { Gives 999999 merchant_a
         (sent (sale "000001" "000000001000" merchant_a) ∷ approves "A1B2C3" merchant_a 1 ∷ cutover
         ∷ sent (sale "000001" "000000001000" merchant_a) ∷ [])
@@ -508,19 +497,7 @@ pub fn advices()
         ∷ Frame next_morning (completion "000021" "000000005000" "000000000001" merchant_a)
         ∷ Frame next_morning
         (completion_as "0221" "000021" "000000005000" "000000000001" terminal merchant_a) ∷ [])
-        ((
-          1,
-          record {
-            merchant = merchant_a;
-            day = may_1;
-            leg = Debit;
-            amount = 5000;
-            reference = 1;
-            card = codes "5500005555555559";
-            terminal = terminal;
-            trace = codes "000021";
-          },
-        ) ∷ []) }
+        (hold_posting 1 merchant_a may_1 Debit 5000 1 "000021" ∷ []) }
     ensures reversal_twice { Gives 999999 merchant_a
         (sent (sale "000001" "000000001000" merchant_a) ∷ approves "A1B2C3" merchant_a 1
         ∷ sent (reversal "000003" "000000001000" (original "0200" "000001" "0501093000") merchant_a)

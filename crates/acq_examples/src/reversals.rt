@@ -15,6 +15,7 @@ ghost use Rattle.acq_examples.specs.Messages.{reversal_accepted, reversal_refuse
 ghost use Rattle.acq_examples.specs.Scripts.{Gives, Posts, may_1, morning, next_morning, sent};
 ghost use Rattle.acq_examples.specs.Scripts.{approves, declines, says_nothing, cutover, asked};
 ghost use Rattle.acq_examples.specs.Scripts.{asked_to_hold, replied};
+ghost use Rattle.acq_examples.specs.Scripts.{hold_posting, sale_posting};
 
 /// An approved sale or return is reversed by a posting of the reversal leg. Another merchant's sale
 /// of the same trace stays.
@@ -51,81 +52,21 @@ pub fn of_sales()
         ∷ approves "A1B2C3" merchant_a 1 ∷ approves "A1B2C3" merchant_b 1
         ∷ sent (reversal "000003" "000000001000" (original "0200" "000001" "0501093000") merchant_a)
         ∷ [])
-        ((
-          1,
-          record {
-            merchant = merchant_a;
-            day = may_1;
-            leg = Debit;
-            amount = 1000;
-            reference = 1;
-            card = codes "4111111111111111";
-            terminal = terminal;
-            trace = codes "000001";
-          },
-        )
-        ∷ (
-          2,
-          record {
-            merchant = merchant_a;
-            day = may_1;
-            leg = DebitReversal;
-            amount = 1000;
-            reference = 1;
-            card = codes "4111111111111111";
-            terminal = terminal;
-            trace = codes "000003";
-          },
-        ) ∷ []) }
+        (sale_posting 1 merchant_a may_1 Debit 1000 1 "000001"
+        ∷ sale_posting 2 merchant_a may_1 DebitReversal 1000 1 "000003" ∷ []) }
     ensures one_debit_of_the_other { Posts 999999 merchant_b
         (sent (sale "000001" "000000001000" merchant_a)
         ∷ sent (sale "000001" "000000001000" merchant_b)
         ∷ approves "A1B2C3" merchant_a 1 ∷ approves "A1B2C3" merchant_b 1
         ∷ sent (reversal "000003" "000000001000" (original "0200" "000001" "0501093000") merchant_a)
         ∷ [])
-        ((
-          1,
-          record {
-            merchant = merchant_b;
-            day = may_1;
-            leg = Debit;
-            amount = 1000;
-            reference = 1;
-            card = codes "4111111111111111";
-            terminal = terminal;
-            trace = codes "000001";
-          },
-        ) ∷ []) }
+        (sale_posting 1 merchant_b may_1 Debit 1000 1 "000001" ∷ []) }
     ensures return_reversed { Posts 999999 merchant_a
         (sent (card_return "000001" "000000000700" merchant_a) ∷ approves "A1B2C3" merchant_a 1
         ∷ sent (reversal "000003" "000000000700" (original "0200" "000001" "0501093000") merchant_a)
         ∷ [])
-        ((
-          1,
-          record {
-            merchant = merchant_a;
-            day = may_1;
-            leg = Credit;
-            amount = 700;
-            reference = 1;
-            card = codes "4111111111111111";
-            terminal = terminal;
-            trace = codes "000001";
-          },
-        )
-        ∷ (
-          2,
-          record {
-            merchant = merchant_a;
-            day = may_1;
-            leg = CreditReversal;
-            amount = 700;
-            reference = 1;
-            card = codes "4111111111111111";
-            terminal = terminal;
-            trace = codes "000003";
-          },
-        ) ∷ []) }
+        (sale_posting 1 merchant_a may_1 Credit 700 1 "000001"
+        ∷ sale_posting 2 merchant_a may_1 CreditReversal 700 1 "000003" ∷ []) }
 {}
 
 /// What is reversed while it is pending is never posted: its answer and its repeats come too late.
@@ -306,33 +247,8 @@ pub fn of_completions()
         ∷ Frame next_morning
         (reversal "000023" "000000004200" (original "0220" "000021" "0502093000") merchant_a)
         ∷ [])
-        ((
-          1,
-          record {
-            merchant = merchant_a;
-            day = may_1;
-            leg = Debit;
-            amount = 4200;
-            reference = 1;
-            card = codes "5500005555555559";
-            terminal = terminal;
-            trace = codes "000021";
-          },
-        )
-        ∷ (
-          2,
-          record {
-            merchant = merchant_a;
-            day = may_1;
-            leg = DebitReversal;
-            amount = 4200;
-            reference = 1;
-            card = codes "5500005555555559";
-            terminal = terminal;
-            trace = codes "000023";
-          },
-        )
-        ∷ []) }
+        (hold_posting 1 merchant_a may_1 Debit 4200 1 "000021"
+        ∷ hold_posting 2 merchant_a may_1 DebitReversal 4200 1 "000023" ∷ []) }
     ensures hold_of_a_reversed_completion { Gives 999999 merchant_a
         (sent (hold "000020" "000000005000" merchant_a) ∷ approves "H00001" merchant_a 1
         ∷ Frame next_morning (completion "000021" "000000005000" "000000000001" merchant_a)
@@ -354,32 +270,8 @@ pub fn of_completions()
         ∷ Frame next_morning (completion "000021" "000000005000" "000000000001" merchant_a)
         ∷ Frame next_morning
         (reversal "000022" "000000005000" (original "0220" "000021" "0502093000") merchant_a) ∷ [])
-        ((
-          1,
-          record {
-            merchant = merchant_a;
-            day = may_1;
-            leg = Debit;
-            amount = 5000;
-            reference = 1;
-            card = codes "5500005555555559";
-            terminal = terminal;
-            trace = codes "000021";
-          },
-        )
-        ∷ (
-          2,
-          record {
-            merchant = merchant_a;
-            day = may_1;
-            leg = DebitReversal;
-            amount = 5000;
-            reference = 1;
-            card = codes "5500005555555559";
-            terminal = terminal;
-            trace = codes "000022";
-          },
-        ) ∷ []) }
+        (hold_posting 1 merchant_a may_1 Debit 5000 1 "000021"
+        ∷ hold_posting 2 merchant_a may_1 DebitReversal 5000 1 "000022" ∷ []) }
 {}
 
 /// What was refused or declined, also by no answer, can't be reversed, nor what was reversed

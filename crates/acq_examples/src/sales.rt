@@ -17,6 +17,7 @@ ghost use Rattle.acq_examples.specs.Messages.{reconciliation_reply};
 ghost use Rattle.acq_examples.specs.Scripts.{book_opening, GivesParty, Gives, Posts, may_1};
 ghost use Rattle.acq_examples.specs.Scripts.{morning, setup, sent, approves, declines};
 ghost use Rattle.acq_examples.specs.Scripts.{says_nothing, cutover, asked, replied};
+ghost use Rattle.acq_examples.specs.Scripts.{sale_posting};
 
 /// A sale is asked of the issuer, and its answer decides the reply: approved, declined, or no
 /// answer. Only an approval posts. The bitmap may be in lower case.
@@ -53,19 +54,7 @@ pub fn answered()
         (sale_approved "000001" "000000001000" "0501" "000000000001" merchant_a) ∷ []) }
     ensures approval_posts { Posts 999999 merchant_a
         (sent (sale "000001" "000000001000" merchant_a) ∷ approves "A1B2C3" merchant_a 1 ∷ [])
-        ((
-          1,
-          record {
-            merchant = merchant_a;
-            day = may_1;
-            leg = Debit;
-            amount = 1000;
-            reference = 1;
-            card = codes "4111111111111111";
-            terminal = terminal;
-            trace = codes "000001";
-          },
-        ) ∷ []) }
+        (sale_posting 1 merchant_a may_1 Debit 1000 1 "000001" ∷ []) }
     ensures declined { Gives 999999 merchant_a
         (sent (sale "000001" "000000001000" merchant_a) ∷ declines "51" merchant_a 1 ∷ [])
         (asked merchant_a 1 1000
@@ -184,19 +173,7 @@ pub fn returns()
         (sent (sale "000001" "000000001000" merchant_a)
         ∷ sent (card_return "000002" "000000000700" merchant_a) ∷ approves "D4E5F6" merchant_a 2
         ∷ [])
-        ((
-          1,
-          record {
-            merchant = merchant_a;
-            day = may_1;
-            leg = Credit;
-            amount = 700;
-            reference = 2;
-            card = codes "4111111111111111";
-            terminal = terminal;
-            trace = codes "000002";
-          },
-        ) ∷ []) }
+        (sale_posting 1 merchant_a may_1 Credit 700 2 "000002" ∷ []) }
 {}
 
 /// A business day admits no more messages of a merchant than the limit, whatever becomes of them.

@@ -18,6 +18,7 @@ ghost use Rattle.acq_examples.specs.Messages.{reconciliation_of};
 ghost use Rattle.acq_examples.specs.Scripts.{Records, Reconciles, OpenHolds, Leaves, may_1, may_2};
 ghost use Rattle.acq_examples.specs.Scripts.{morning, next_morning, sent, approves, declines};
 ghost use Rattle.acq_examples.specs.Scripts.{cutover, key_from, says_nothing};
+ghost use Rattle.acq_examples.specs.Scripts.{sale_posting};
 
 /// A request's row by what became of it: refused, pending, approved, declined.
 #[tactic(auto, unfolding(crate::proofs::Computing::on_literals))]
@@ -674,19 +675,7 @@ pub fn whole()
                       ∷ (89, codes "0000000000000000") ∷ (97, codes "C0000000000000000") ∷ [];
                 };
               } ∷ [];
-          postings = (
-            1,
-            record {
-              merchant = merchant_a;
-              day = may_1;
-              leg = Debit;
-              amount = 1000;
-              reference = 1;
-              card = codes "4111111111111111";
-              terminal = terminal;
-              trace = codes "000001";
-            },
-          ) ∷ [];
+          postings = sale_posting 1 merchant_a may_1 Debit 1000 1 "000001" ∷ [];
           reconciliations = (
             1,
             record { merchant = merchant_b; day = may_2; in_balance = true },

@@ -1,5 +1,5 @@
 -- Two keys with the same parts are one.
-use Rattle.std.proofs.Common.{◌≡◌, ℕ, List, Bool, true, false, refl, sym, ap, ◌∙◌, subst, arith, eqb}
+use Rattle.std.proofs.Common.{◌≡◌, ℕ, List, true, refl, sym, ap, ◌∙◌, subst, arith, eqb}
 use Rattle.std.specs.Prelude.{◌&&◌, if◌then◌else◌}
 use Rattle.std.specs.Str.{bytes_eq}
 use Rattle.std.proofs.lemmas.Slice.Eq.{bytes_eq-Decides}
@@ -10,7 +10,6 @@ use Rattle.acq_message.specs.declared.request_key.RequestKey.{RequestKey}
 use Rattle.acq_message.specs.Services.{digits_of, same_service}
 use Rattle.acq_message.specs.Elements.{same_key}
 use Rattle.std.proofs.lemmas.Bool.{and_parts}
-use Rattle.acq_history.proofs.Lookups.{clash}
 
 pub bytes_eq_itself : (a : List ℕ) → bytes_eq a a ≡ true
 bytes_eq_itself a = (bytes_eq-Decides a a).1 refl
@@ -77,23 +76,3 @@ same_key_is a b e =
       trace = bytes_eq_is a.trace b.trace fourth.1 i;
       transmission = bytes_eq_is a.transmission b.transmission last.1 i;
     }
-
--- two tests of the same pair of keys
-pub same_key_swap : (a b : RequestKey) → same_key a b ≡ same_key b a
-same_key_swap a b =
-    let step : (c d : Bool) → same_key a b ≡ c → same_key b a ≡ d → c ≡ d =
-    elim [
-      | true ↦ elim [
-        | true ↦ (λ e f. refl)
-        | false ↦
-            (λ e f. clash (same_key b a)
-            (subst (λ k. same_key b k ≡ true) (sym (same_key_is a b e)) (same_key_itself b)) f)
-      ]
-      | false ↦ elim [
-        | true ↦
-            (λ e f. clash (same_key a b)
-            (subst (λ k. same_key a k ≡ true) (sym (same_key_is b a f)) (same_key_itself a)) e)
-        | false ↦ (λ e f. refl)
-      ]
-    ] in
-    step (same_key a b) (same_key b a) refl refl

@@ -5,3 +5,4 @@ pub mod RecordableRequests
 pub mod Statuses
 pub mod NextReference
 pub mod DayOfPosting
+pub mod GroundsOfDecision

@@ -13,10 +13,6 @@ pub or_split : (a b : Bool) → (a || b) ≡ false → (a ≡ false) × (b ≡ f
 or_split true b e = absurd (cc)
 or_split false b e = (refl, e)
 
-pub and_true : (b : Bool) → (b && true) ≡ b
-and_true true = refl
-and_true false = refl
-
 pub and_false : (b : Bool) → (b && false) ≡ false
 and_false true = refl
 and_false false = refl
@@ -24,10 +20,6 @@ and_false false = refl
 pub or_true : (b : Bool) → (b || true) ≡ true
 or_true true = refl
 or_true false = refl
-
-pub or_false : (b : Bool) → (b || false) ≡ b
-or_false true = refl
-or_false false = refl
 
 pub not_false : (b : Bool) → not b ≡ false → b ≡ true
 not_false true e = refl
@@ -53,9 +45,6 @@ not_some (Some x) e = absurd (cc)
 
 pub some_is : {X : Type 0} (x y : X) → Some x ≡ Some y → x ≡ y
 some_is x y e = cc
-
-pub some_not_none : {X Y : Type 0} (o : Option X) (x : X) → o ≡ Some x → o ≡ None → Y
-some_not_none {X} o x e n = absurd (let h : ◌≡◌ {A = Option X} (Some x) None = sym e ∙ n in cc)
 
 pub map_none : {X Y : Type 0} (f : X → Y) (o : Option X) → option_map f o ≡ None → o ≡ None
 map_none f None e = refl

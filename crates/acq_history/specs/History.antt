@@ -1,6 +1,8 @@
 -- One merchant's history, and what it says. There are no rows, no status and no running sum. The
 -- newest entry stands first.
-use Rattle.std.specs.Prelude.{ℕ, ◌+◌, ◌==◌, Bool, true, false, not, ◌&&◌, ◌||◌, List, [], ◌∷◌, find, Option, Some, None, option_map, option_and_then, is_some, is_none, if◌then◌else◌}
+use Rattle.std.specs.Prelude.{ℕ, ◌+◌, ◌==◌, Bool, true, false, not, ◌&&◌, ◌||◌, List, [], ◌∷◌, find}
+use Rattle.std.specs.Prelude.{Option, Some, None, option_map, option_and_then, is_some, is_none}
+use Rattle.std.specs.Prelude.{if◌then◌else◌}
 use Rattle.std.specs.List.{list_any}
 use Rattle.std.specs.Option.{option_or}
 use Rattle.std.specs.Str.{bytes_eq}
@@ -11,24 +13,32 @@ use Rattle.card_no.specs.Ranges.{range_of_prefix, overlapped_by, with_range, wit
 use Rattle.day_totals.specs.declared.leg.Leg.{Leg}
 use Rattle.day_totals.specs.declared.leg.Leg.TheVariants.{Debit}
 use Rattle.acq_message.specs.declared.service.Service.{Service}
-use Rattle.acq_message.specs.declared.service.Service.TheVariants.{Authorization, Financial, Completion, Reversal, ReversalAdvice}
+use Rattle.acq_message.specs.declared.service.Service.TheVariants.{Authorization, Financial}
+use Rattle.acq_message.specs.declared.service.Service.TheVariants.{Completion, Reversal}
+use Rattle.acq_message.specs.declared.service.Service.TheVariants.{ReversalAdvice}
 use Rattle.acq_message.specs.declared.request_key.RequestKey.{RequestKey}
 use Rattle.acq_core.specs.declared.merchant.Merchant.{Merchant}
 use Rattle.acq_core.specs.declared.posting.Posting.{Posting}
-use Rattle.acq_message.specs.Elements.{or_empty, amount_in, reference_in, key_of, same_key, essence_of, original_key}
+use Rattle.acq_message.specs.Elements.{or_empty, amount_in, reference_in, key_of, same_key}
+use Rattle.acq_message.specs.Elements.{essence_of, original_key}
 use Rattle.acq_message.specs.Cards.{card_of}
 use Rattle.acq_core.specs.declared.arrival.Arrival.{Arrival}
 use Rattle.acq_message.specs.declared.request_message.RequestMessage.{RequestMessage}
-use Rattle.acq_core.specs.declared.arrival.Arrival.TheVariants.{Requested, Answered, RangeAdded, RangeDropped}
+use Rattle.acq_core.specs.declared.arrival.Arrival.TheVariants.{Requested, Answered, RangeAdded}
+use Rattle.acq_core.specs.declared.arrival.Arrival.TheVariants.{RangeDropped}
 use Rattle.acq_core.specs.declared.reply_state.ReplyState.{ReplyState}
 use Rattle.acq_core.specs.declared.reply_state.ReplyState.TheVariants.{Kept, Awaited, Late}
 use Rattle.acq_core.specs.Known.{Prior, Facts}
 use Rattle.acq_message.specs.Elements.{sale_leg}
 use Rattle.acq_message.specs.Reply.{draft_reply}
-use Rattle.acq_core.specs.Changes.{end_of_hold, answer_posting, completion_posting, reversal_posting}
+use Rattle.acq_core.specs.Changes.{end_of_hold, answer_posting, completion_posting}
+use Rattle.acq_core.specs.Changes.{reversal_posting}
 use Rattle.card_no.specs.Ranges.{between}
 use Rattle.acq_core.specs.Tables.{Opening, with_next_posting, totals_on}
-use Rattle.acq_history.specs.Entries.{Entry, reply_in, is_asked, is_performed, is_past_merchant, request_of, is_admissible, accepts, is_acceptable, is_acceptance, is_completing, is_reversing, is_answer, approval_in, is_cutover, enrolment_in, terminal_in}
+use Rattle.acq_history.specs.Entries.{Entry, reply_in, is_asked, is_performed, is_past_merchant}
+use Rattle.acq_history.specs.Entries.{request_of, is_admissible, accepts, is_acceptable}
+use Rattle.acq_history.specs.Entries.{is_acceptance, is_completing, is_reversing, is_answer}
+use Rattle.acq_history.specs.Entries.{approval_in, is_cutover, enrolment_in, terminal_in}
 
 -- ---- what all share
 

@@ -8,6 +8,7 @@ pub mod TablesAgreeWithHistory
 pub mod OwnRequests
 pub mod OwnStep
 pub mod OtherPartysStep
+pub mod WholeRuns
 pub mod MerchantsRuns
 pub mod NobodysRuns
 pub mod IsolatedParties

@@ -1,19 +1,20 @@
 -- Isolation of a merchant, over whole runs: its outputs, its postings and its open holds.
-use Rattle.std.proofs.Common.{◌≡◌, ℕ, List, [], ◌∷◌, Option, Some, Bool, true, false, cond, refl, sym, ap, ◌∙◌}
+use Rattle.std.proofs.Common.{◌≡◌, ℕ, List, [], ◌∷◌, Option, Some, Bool, true, false, refl, sym, ap, ◌∙◌}
 use Rattle.std.specs.Prelude.{map, ◌||◌}
 use Rattle.acq_core.specs.declared.event.Event.{Event}
 use Rattle.acq_core.specs.declared.arrival.Arrival.{Arrival}
 use Rattle.acq_core.specs.Arrivals.{arrival_of, merchant_named, is_shared}
 use Rattle.acq_core.specs.Known.{Prior}
 use Rattle.acq_core.specs.Outcome.{output_of}
-use Rattle.acq_core.specs.Tables.{Opening, Tables, new_tables, requests_of, step_output, step_tables, outputs, tables_after}
+use Rattle.acq_core.specs.Tables.{Opening, Tables, new_tables, requests_of, step_output, step_tables}
 use Rattle.acq_history.specs.Entries.{Entry}
-use Rattle.acq_history.specs.PartyHistory.{names, is_of, own, entry_for, history_after, outputs_alone, outputs_at, book_after, history_of}
+use Rattle.acq_history.specs.PartyHistory.{names, is_of, entry_for, book_after, history_of}
 use Rattle.acq_isolation.specs.Isolation.{open_at, all_recorded, IsIsolated, PostsAlone, HoldsAlone}
 use Rattle.acq_history.proofs.Lookups.{map-both}
 use Rattle.acq_isolation.proofs.RequestsAfterNewEntry.{line, shown}
 use Rattle.acq_isolation.proofs.TablesAgreeWithHistory.{Agrees, names_is}
 use Rattle.acq_isolation.proofs.OwnStep.{step_mine, step_shared}
+use Rattle.acq_isolation.proofs.WholeRuns.{KeepsAgreement, whole_run}
 use Rattle.acq_isolation.proofs.OtherPartysStep.{alike_agrees, other_step, naming_of}
 
 -- a new book agrees with an empty history
@@ -41,55 +42,27 @@ own_step opening m t h g a mine =
     ] in
     step (names (merchant_named a) m) refl mine
 
--- over all events: the same outputs at the merchant's places, and the agreement after them
-abbrev pub WholeRun : Opening → List ℕ → Tables → List Entry → List Event → Type 0
-WholeRun opening m t h es =
-    (outputs_at (Some m) es (outputs t es) ≡ outputs_alone opening (Some m) h (own (Some m) es))
-    × Agrees opening m (tables_after t es) (history_after opening h (own (Some m) es))
-
-pub whole_run : (opening : Opening) (m : List ℕ) (t : Tables) (h : List Entry) → Agrees opening m t h →
-    (es : List Event) → WholeRun opening m t h es
-whole_run opening m t h g [] = (refl, g)
-whole_run opening m t h g (e ∷ es) =
-    let a = arrival_of e in
-    let o = step_output t a in
-    let u = step_tables t a in
-    let x = entry_for opening h a in
-    let rest = own (Some m) es in
-    let later = outputs_alone opening (Some m) (x ∷ h) rest in
-    let step : (b c : Bool) → is_of (Some m) a ≡ b → is_shared a ≡ c →
-    (cond b (o ∷ outputs_at (Some m) es (outputs u es)) (outputs_at (Some m) es (outputs u es))
-    ≡ outputs_alone opening (Some m) h (cond (b || c) (e ∷ rest) rest))
-    × Agrees opening m (tables_after u es) (history_after opening h (cond (b || c) (e ∷ rest) rest)) =
-    elim [
-      | true ↦ (λ c mine shared.
-          let s = own_step opening m t h g a (ap (λ b. b || is_shared a) mine) in
-          let w = whole_run opening m u (x ∷ h) s.1 es in (
-            (λ i. s.0 i ∷ w.0 i) ∙ sym (ap (λ b. cond b (output_of (merchant_named a) x.outcome ∷ later) later) mine),
-            w.1,
-          ))
-      | false ↦ elim [
-        | true ↦ (λ other shared.
-            let s = own_step opening m t h g a (λ i. other i || shared i) in
-            let w = whole_run opening m u (x ∷ h) s.1 es in
-            (w.0 ∙ sym (ap (λ b. cond b (output_of (merchant_named a) x.outcome ∷ later) later) other), w.1))
-        | false ↦
-            (λ other alone.
-            whole_run opening m u h (alike_agrees opening m t u h (other_step m t a (naming_of e) other alone) g) es)
-      ]
-    ] in
-    step (is_of (Some m) a) (is_shared a) refl refl
+-- each event does to the agreement what a whole run asks of it
+keeps_agreement : (opening : Opening) (m : List ℕ) → KeepsAgreement opening (Some m) (Agrees opening m)
+keeps_agreement opening m = record {
+  own_event = λ t h e g mine. own_step opening m t h g (arrival_of e) (ap (λ b. b || is_shared (arrival_of e)) mine);
+  shared_event = λ t h e g shared. (step_shared opening m t h g (arrival_of e) shared).1;
+  other_event = λ t h e g other alone.
+      alike_agrees opening m t (step_tables t (arrival_of e)) h
+      (other_step m t (arrival_of e) (naming_of e) other alone) g;
+}
 
 -- from a new book
 pub from_new : (opening : Opening) (m : List ℕ) (es : List Event) →
     Agrees opening m (book_after opening es) (history_of opening (Some m) es)
-from_new opening m es = (whole_run opening m (new_tables opening) [] (new_agrees opening m) es).1
+from_new opening m es = (whole_run opening (Some m) (Agrees opening m) (keeps_agreement opening m) (new_tables opening) []
+    (new_agrees opening m) es).1
 
 -- from any past
 pub merchant_isolated : (m : List ℕ) → IsIsolated (Some m)
 merchant_isolated m opening past further =
-    (whole_run opening m (book_after opening past) (history_of opening (Some m) past)
-    (from_new opening m past) further).0
+    (whole_run opening (Some m) (Agrees opening m) (keeps_agreement opening m) (book_after opening past)
+    (history_of opening (Some m) past) (from_new opening m past) further).0
 
 pub posted : (m : List ℕ) → PostsAlone m
 posted m opening es = (from_new opening m es).posted

@@ -1,6 +1,6 @@
 -- A row that is recorded says what its entry does.
 use Rattle.std.proofs.Common.{◌≡◌, ℕ, List, [], Option, Some, None, true, false, cond, refl, sym, ap, ◌∙◌}
-use Rattle.std.specs.Prelude.{find, option_map, option_and_then, ◌&&◌, ◌||◌, not}
+use Rattle.std.specs.Prelude.{find, option_map, option_and_then, ◌&&◌, ◌||◌}
 use Rattle.iso_codec.specs.Message.{IsoMessage, content_of}
 use Rattle.card_no.specs.declared.range.Range.{Range}
 use Rattle.card_no.specs.CardNumbers.{prefix_of}

@@ -1,6 +1,6 @@
 -- Isolation of nobody, over whole runs: its outputs need what all share alone.
-use Rattle.std.proofs.Common.{◌≡◌, ℕ, List, [], ◌∷◌, Option, Some, None, Bool, true, false, cond, refl, sym, ap, ◌∙◌, subst}
-use Rattle.std.specs.Prelude.{nat_lt, is_none, is_some, not, ◌&&◌, ◌||◌, if◌then◌else◌}
+use Rattle.std.proofs.Common.{◌≡◌, ℕ, List, [], ◌∷◌, Option, Some, None, Bool, true, false, refl, sym, ap, ◌∙◌, subst}
+use Rattle.std.specs.Prelude.{nat_lt, is_none, is_some, not, ◌&&◌, if◌then◌else◌}
 use Rattle.std.specs.Str.{bytes_eq}
 use Rattle.iso_codec.specs.Message.{IsoMessage}
 use Rattle.card_no.specs.declared.range.Range.{Range}
@@ -8,7 +8,6 @@ use Rattle.card_no.specs.Ranges.{with_range, without_range, overlapped_by, has_e
 use Rattle.std.proofs.lemmas.Bool.{and_parts}
 use Rattle.acq_message.specs.declared.service.Service.{Service}
 use Rattle.acq_message.specs.declared.service.Service.TheVariants.{Authorization, Financial, Completion, Reversal, ReversalAdvice, Reconciliation, NetworkManagement}
-use Rattle.acq_core.specs.declared.event.Event.{Event}
 use Rattle.acq_core.specs.declared.output.Output.TheVariants as output
 use Rattle.acq_message.specs.declared.response_code.ResponseCode.TheVariants as code
 use Rattle.acq_core.specs.declared.arrival.Arrival.{Arrival}
@@ -22,14 +21,15 @@ use Rattle.acq_message.specs.Reply.{coded_reply}
 use Rattle.acq_core.specs.Outcome.{Replied, output_of, outcome_of}
 use Rattle.acq_core.specs.Changes.{change_of, change_for}
 use Rattle.card_no.specs.Ranges.{between}
-use Rattle.acq_core.specs.Tables.{Opening, Tables, new_tables, facts_in, known_in, after_any, step_output, step_tables, outputs, tables_after}
+use Rattle.acq_core.specs.Tables.{Opening, Tables, new_tables, facts_in, known_in, after_any, step_output, step_tables}
 use Rattle.acq_history.specs.Entries.{Entry}
 use Rattle.acq_history.specs.History.{day_after, ranges_after}
-use Rattle.acq_history.specs.PartyHistory.{names, is_of, own, known_by, entry_for, history_after, outputs_alone, outputs_at, book_after, history_of}
+use Rattle.acq_history.specs.PartyHistory.{names, is_of, known_by, entry_for, book_after, history_of}
 use Rattle.acq_isolation.specs.Isolation.{IsIsolated}
 use Rattle.acq_history.proofs.Lookups.{clash, not_true}
 use Rattle.acq_history.proofs.Keys.{bytes_eq_is}
 use Rattle.acq_isolation.proofs.OtherPartysStep.{IsNaming, other_step, naming_of}
+use Rattle.acq_isolation.proofs.WholeRuns.{KeepsAgreement, whole_run}
 
 -- what all share
 pub record AgreesInShared (opening : Opening) (t : Tables) (h : List Entry) : Type 0 where
@@ -43,7 +43,7 @@ named_clash None there alone = absurd (cc)
 named_clash (Some n) there alone = absurd (cc)
 
 module _ (opening : Opening) (t : Tables) (h : List Entry) (s : AgreesInShared opening t h) where
-  -- the notions of nobody, from the ones of the tables to the ones of the history
+  -- what a shared event may know is the same by the tables and by the history
   known_of_nobody : (a : Arrival) → is_shared a ≡ true → known_in t a ≡ known_by opening h a
   known_of_nobody CutOver shared =
       λ i. known_for (wanted_by (s.day i) CutOver)
@@ -206,48 +206,22 @@ others_keep_shared opening t h s a naming other alone =
     ] in
     step (merchant_named a) refl
 
--- over all events: the same outputs at nobody's places, and the agreement after them
-abbrev WholeRun : Opening → Tables → List Entry → List Event → Type 0
-WholeRun opening t h es =
-    (outputs_at None es (outputs t es) ≡ outputs_alone opening None h (own None es))
-    × AgreesInShared opening (tables_after t es) (history_after opening h (own None es))
-
-whole_run : (opening : Opening) (t : Tables) (h : List Entry) → AgreesInShared opening t h → (es : List Event) →
-    WholeRun opening t h es
-whole_run opening t h g [] = (refl, g)
-whole_run opening t h g (e ∷ es) =
-    let a = arrival_of e in
-    let o = step_output t a in
-    let u = step_tables t a in
-    let x = entry_for opening h a in
-    let rest = own None es in
-    let later = outputs_alone opening None (x ∷ h) rest in
-    let step : (b c : Bool) → is_of None a ≡ b → is_shared a ≡ c →
-    (cond b (o ∷ outputs_at None es (outputs u es)) (outputs_at None es (outputs u es))
-    ≡ outputs_alone opening None h (cond (b || c) (e ∷ rest) rest))
-    × AgreesInShared opening (tables_after u es) (history_after opening h (cond (b || c) (e ∷ rest) rest)) =
-    elim [
-      | true ↦ (λ c mine shared.
-          let both = and_parts (is_none (merchant_named a)) (not (is_shared a)) mine in
-          let s = nobodys_step opening t h g a (naming_of e) both.0 (not_true (is_shared a) both.1) in
-          let w = whole_run opening u (x ∷ h) s.1 es in (
-            (λ i. s.0 i ∷ w.0 i) ∙ sym (ap (λ b. cond b (output_of (merchant_named a) x.outcome ∷ later) later) mine),
-            w.1,
-          ))
-      | false ↦ elim [
-        | true ↦ (λ other shared.
-            let w = whole_run opening u (x ∷ h) (shared_step opening t h g a shared) es in
-            (w.0 ∙ sym (ap (λ b. cond b (output_of (merchant_named a) x.outcome ∷ later) later) other), w.1))
-        | false ↦
-            (λ other alone. whole_run opening u h (others_keep_shared opening t h g a (naming_of e) other alone) es)
-      ]
-    ] in
-    step (is_of None a) (is_shared a) refl refl
+-- each event does to the agreement what a whole run asks of it
+keeps_agreement : (opening : Opening) → KeepsAgreement opening None (AgreesInShared opening)
+keeps_agreement opening = record {
+  own_event = λ t h e g mine.
+      let a = arrival_of e in
+      let both = and_parts (is_none (merchant_named a)) (not (is_shared a)) mine in
+      nobodys_step opening t h g a (naming_of e) both.0 (not_true (is_shared a) both.1);
+  shared_event = λ t h e g shared. shared_step opening t h g (arrival_of e) shared;
+  other_event = λ t h e g other alone. others_keep_shared opening t h g (arrival_of e) (naming_of e) other alone;
+}
 
 new_shared : (opening : Opening) → AgreesInShared opening (new_tables opening) []
 new_shared opening = record { bounded = refl; day = refl; ranges = refl }
 
 pub nobody_isolated : IsIsolated None
 nobody_isolated opening past further =
-    let from_new = (whole_run opening (new_tables opening) [] (new_shared opening) past).1 in
-    (whole_run opening (book_after opening past) (history_of opening None past) from_new further).0
+    let run = whole_run opening None (AgreesInShared opening) (keeps_agreement opening) in
+    let from_new = (run (new_tables opening) [] (new_shared opening) past).1 in
+    (run (book_after opening past) (history_of opening None past) from_new further).0

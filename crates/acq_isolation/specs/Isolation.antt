@@ -1,5 +1,6 @@
 -- Isolation: what a party gets depends on its own events and the shared ones alone.
-use Rattle.std.specs.Prelude.{◌≡◌, ℕ, not, ◌&&◌, List, [], ◌∷◌, ◌++◌, map, filter, Option, Some, None, is_some, if◌then◌else◌}
+use Rattle.std.specs.Prelude.{◌≡◌, ℕ, not, ◌&&◌, List, [], ◌∷◌, ◌++◌, map, filter, Option, Some}
+use Rattle.std.specs.Prelude.{None, is_some, if◌then◌else◌}
 use Rattle.acq_core.specs.declared.event.Event.{Event}
 use Rattle.acq_message.specs.Elements.{key_of}
 use Rattle.acq_message.specs.declared.request_message.RequestMessage.{RequestMessage}
@@ -8,7 +9,8 @@ use Rattle.acq_core.specs.Decision.{is_open_at}
 use Rattle.acq_core.specs.Tables.{Opening, new_tables, outputs, prior_of, requests_of, postings_of}
 use Rattle.acq_history.specs.Entries.{Entry, request_of, is_past_merchant}
 use Rattle.acq_history.specs.History.{Found, recorded, newest, aged, prior, postings}
-use Rattle.acq_history.specs.PartyHistory.{Party, own, history_of, book_after, outputs_alone, outputs_at}
+use Rattle.acq_history.specs.PartyHistory.{Party, own, history_of, book_after, outputs_alone}
+use Rattle.acq_history.specs.PartyHistory.{outputs_at}
 
 -- From any past on, what a party gets of further events is what it gets where its own events, the
 -- past ones and then the further ones, come alone.

@@ -1,5 +1,6 @@
 -- Repeats change nothing of what the merchant gets of all else.
-use Rattle.std.specs.Prelude.{◌≡◌, ℕ, Bool, false, ◌&&◌, List, [], ◌∷◌, Option, Some, None, is_some, if◌then◌else◌}
+use Rattle.std.specs.Prelude.{◌≡◌, ℕ, Bool, false, ◌&&◌, List, [], ◌∷◌, Option, Some, None, is_some}
+use Rattle.std.specs.Prelude.{if◌then◌else◌}
 use Rattle.acq_core.specs.declared.event.Event.{Event}
 use Rattle.acq_core.specs.declared.output.Output.{Output}
 use Rattle.acq_message.specs.Elements.{key_of}
@@ -9,7 +10,8 @@ use Rattle.acq_core.specs.Arrivals.{arrival_of}
 use Rattle.acq_core.specs.Tables.{Opening}
 use Rattle.acq_history.specs.Entries.{Entry, request_of}
 use Rattle.acq_history.specs.History.{recorded}
-use Rattle.acq_history.specs.PartyHistory.{Party, own, entry_for, history_of, with_output, outputs_alone}
+use Rattle.acq_history.specs.PartyHistory.{Party, own, entry_for, history_of, with_output}
+use Rattle.acq_history.specs.PartyHistory.{outputs_alone}
 
 -- a request's key is recorded
 abbrev pub has_recorded : Option RequestMessage → List Entry → Bool

@@ -6,7 +6,8 @@
 
 ghost use Rattle.std.specs.Prelude.{ℕ, List};
 ghost use Rattle.acq_history.specs.PartyHistory.{Party};
-ghost use Rattle.acq_isolation.specs.Isolation.{IsIsolated, IsSameInTwoRuns, PostsAlone, HoldsAlone};
+ghost use Rattle.acq_isolation.specs.Isolation.{IsIsolated, IsSameInTwoRuns, PostsAlone};
+ghost use Rattle.acq_isolation.specs.Isolation.{HoldsAlone};
 ghost use Rattle.acq_isolation.specs.Splitting.{SplitsOverHosts};
 ghost use Rattle.acq_isolation.specs.QuietRepeats.{RepeatsAreQuiet};
 

@@ -101,12 +101,12 @@ Grounds t (AddsTerminal terminal) = Unit {0}
 
 -- ---- look-ups
 
-is_number_is : (n : ℕ) (o : Option ℕ) → is_number n o ≡ true → o ≡ Some n
+pub is_number_is : (n : ℕ) (o : Option ℕ) → is_number n o ≡ true → o ≡ Some n
 is_number_is n None e = absurd (cc)
 is_number_is n (Some m) e = let same : m ≡ n = grind (arith, nat_tests) in ap (λ x. Some x) same
 
 -- the row that a key finds among a merchant's
-row_of_key : (t : Tables) (m : List ℕ) (o : Option RequestKey) (p : Prior) →
+pub row_of_key : (t : Tables) (m : List ℕ) (o : Option RequestKey) (p : Prior) →
     option_and_then (recorded_in (requests_of m t.requests)) o ≡ Some p →
     (found : IsRow t p) × (found.row.key.merchant ≡ m)
 row_of_key t m o p e =
@@ -117,7 +117,7 @@ row_of_key t m o p e =
     (record { row = b.0; member = d.0; says = b.2 }, bytes_eq_is b.0.key.merchant m d.1)
 
 -- the row that a reference finds among a merchant's
-row_of_reference : (t : Tables) (m : List ℕ) (o : Option ℕ) (p : Prior) →
+pub row_of_reference : (t : Tables) (m : List ℕ) (o : Option ℕ) (p : Prior) →
     option_and_then (referred_in (requests_of m t.requests)) o ≡ Some p →
     (referred : IsReferred t p) × (referred.found.row.key.merchant ≡ m)
 row_of_reference t m o p e =
@@ -134,7 +134,7 @@ row_of_reference t m o p e =
     )
 
 -- a key that finds nothing among its merchant's rows is new
-is_new : (t : Tables) (m : List ℕ) (key : RequestKey) → key.merchant ≡ m →
+pub is_new : (t : Tables) (m : List ℕ) (key : RequestKey) → key.merchant ≡ m →
     recorded_in (requests_of m t.requests) key ≡ None → IsNew t key
 is_new t m key mine e row member same =
     let none = map_none prior_of (find (λ x. same_key x.key key) (requests_of m t.requests)) e in

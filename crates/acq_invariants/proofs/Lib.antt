@@ -1,0 +1,12 @@
+pub mod StepCases
+pub mod Runs
+pub mod RangesStayApart
+pub mod KeysStayUnique
+pub mod ReferencesAreConsecutive
+pub mod DayTexts
+pub mod ReplyBodies
+pub mod ReplyTexts
+pub mod Arrivals
+pub mod ChangedRows
+pub mod RepliesAreMessages
+pub mod SensitiveDataStaysOut

@@ -1,0 +1,45 @@
+//! What every run of events keeps.
+//!
+//! Laws over the tables of `acq_core`, from a new book on, whatever comes; the statements stand in
+//! `specs`.
+#![tactic(auto)]
+
+mod types;
+
+ghost use Rattle.acq_invariants.specs.Ranges.{RangesStayApart};
+ghost use Rattle.acq_invariants.specs.Keys.{KeysStayUnique};
+ghost use Rattle.acq_invariants.specs.References.{ReferencesAreConsecutive};
+ghost use Rattle.acq_invariants.specs.Replies.{RepliesAreMessages};
+ghost use Rattle.acq_invariants.specs.CardData.{SensitiveDataStaysOut};
+
+pub use types::{is_event, is_opening, is_verdict};
+
+/// Each range is valid, they are in order of `low`, and no two overlap.
+pub fn ranges_stay_apart()
+    ensures { RangesStayApart }
+{}
+
+/// No two requests have the same key, no two merchants the same name, and no two terminals of a
+/// merchant the same name.
+pub fn keys_stay_unique()
+    ensures { KeysStayUnique }
+{}
+
+/// The references of each merchant count up from its first, one more for each admitted request, so
+/// that none is given twice. A merchant that isn't enrolled has no requests.
+pub fn references_are_consecutive()
+    ensures { ReferencesAreConsecutive }
+{}
+
+/// Each reply, those that are kept in rows and those that go out, is a message of the reply type of
+/// a service, with no elements but those of replies. Its text fits a frame, and is printable.
+pub fn replies_are_messages()
+    ensures { RepliesAreMessages }
+{}
+
+/// No row keeps a track, a PIN block or chip data (elements 35, 45, 52 and 55), and no reply that
+/// goes out has them: of a card a row has at most 19 digits, and its essence has the card number
+/// and the essential elements alone.
+pub fn sensitive_data_stays_out()
+    ensures { SensitiveDataStaysOut }
+{}
