@@ -1,5 +1,7 @@
 //! The least and greatest values that the readers take, and calls that take memory.
 
+mod decisions;
+
 use crate::{AdmittedCount, FirstReference, Limit, Output, UsedCount, answer_network};
 use std::test::Fail;
 
