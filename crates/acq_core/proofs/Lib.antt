@@ -1,4 +1,2 @@
 pub mod DecisionCases
-pub mod NetworkIsTheHosts
-pub mod NetworkRepliesFit
 pub mod PaddedTexts

@@ -7,5 +7,5 @@ pub mod Outcome
 pub mod Changes
 pub mod Tables
 pub mod Looking
+pub mod NewBook
 pub mod Meaning
-pub mod NetworkAlone

@@ -1,10 +1,12 @@
 //! The decision on one event, over what was looked up for it; it has no store.
 //!
-//! The definitions stand whole, in `specs`: [`Event`]s as the host sees them ([`Arrival`],
-//! `Arrivals.antt`), what has to be known to decide on one (`Known.antt`), the order of the checks
-//! (`Decision.antt`), what it results in (`Outcome.antt`), and what it changes in the tables
-//! (`Changes.antt`, `Tables.antt`). Of the code, the types stand, and the answers to network
-//! management. The messages themselves are those of `acq_message`, whose types stand here too.
+//! An [`Event`] is read once, into an [`Arrival`]. [`Arrival::wanted`] says what to look up for it,
+//! and [`Arrival::decide`] what goes out and what changes, over what was looked up; [`wanted`] and
+//! [`decide`] do the same of an event. The definitions stand in `specs`: events as the host sees
+//! them (`Arrivals.antt`), what has to be known to decide on one (`Known.antt`), the order of the
+//! checks (`Decision.antt`), what it results in (`Outcome.antt`), and what it changes in the tables
+//! (`Changes.antt`, `Tables.antt`). The messages themselves are those of `acq_message`, whose types
+//! stand here too.
 #![tactic(auto)]
 
 mod admitted_count;
@@ -16,12 +18,10 @@ mod effects;
 mod event;
 pub mod examples;
 mod first_reference;
-pub mod laws;
 mod limit;
 mod looking_up;
 mod lookup;
 mod merchant;
-mod network;
 mod of_events;
 mod output;
 mod posted;
@@ -51,7 +51,6 @@ pub use first_reference::FirstReference;
 pub use limit::Limit;
 pub use lookup::{Looked, Wanted};
 pub use merchant::Merchant;
-pub use network::answer_network;
 pub use of_events::{decide, wanted};
 pub use output::Output;
 pub use posting::Posting;

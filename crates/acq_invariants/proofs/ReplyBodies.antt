@@ -7,7 +7,7 @@ use Rattle.std.proofs.lemmas.Bool.{and_parts, and_from, cases_Bool, or_cases, eq
 use Rattle.std.proofs.lemmas.Bool.Decides.{nat_tests}
 use Rattle.iso_codec.specs.Content.{has_class, is_alphanumeric}
 use Rattle.iso_codec.specs.Table.{format_of}
-use Rattle.iso_codec.specs.Message.{IsoMessage, IsMessage, IsKind, numbers, Ascends, is_element, with_content}
+use Rattle.iso_codec.specs.Message.{IsoMessage, IsMessage, IsKind, numbers, Ascends, is_element, with_content, is_among}
 use Rattle.iso_codec.proofs.OneMessage.{format_of_element}
 use Rattle.iso_codec.proofs.TableBounds.{format_in_bounds}
 use Rattle.iso_codec.proofs.ElementPlaces.{ascends_with}
@@ -25,7 +25,6 @@ use Rattle.acq_message.specs.declared.verdict.Verdict.TheVariants as verdict
 use Rattle.acq_message.specs.IssuerTexts.{is_decline_code}
 use Rattle.acq_message.specs.Services.{reply_kind, echoed}
 use Rattle.acq_message.specs.Responses.{code_text}
-use Rattle.acq_message.specs.Elements.{is_among}
 use Rattle.acq_message.specs.Reply.{echo, with_contents, day_element, reference_element, code_element, totals_elements, verdict_code, authorization_element, verdict_elements}
 use Rattle.acq_invariants.specs.Events.{IsVerdict}
 use Rattle.acq_invariants.specs.Replies.{reply_elements, IsReply}

@@ -12,14 +12,13 @@ use Rattle.iso_codec.specs.declared.form.Form.TheVariants.{Fixed, Llvar, Lllvar}
 use Rattle.iso_codec.specs.declared.element_format.ElementFormat.{ElementFormat}
 use Rattle.iso_codec.specs.Content.{has_length, has_class, allows, digits_of, spelled_by, is_printable, is_alphanumeric, is_signed}
 use Rattle.iso_codec.specs.Table.{format_of}
-use Rattle.iso_codec.specs.Message.{IsoMessage, IsMessage, IsBitmap, numbers, Ascends, is_element, is_upper_hex, spelled, body}
+use Rattle.iso_codec.specs.Message.{IsoMessage, IsMessage, IsBitmap, numbers, Ascends, is_element, is_upper_hex, spelled, body, is_among}
 use Rattle.iso_codec.specs.Reading.{spelling}
 use Rattle.iso_codec.proofs.OneMessage.{format_of_element}
 use Rattle.iso_codec.proofs.TableBounds.{format_in_bounds}
 use Rattle.iso_codec.proofs.SpellingComputes.{spelling_writes}
 use Rattle.iso_codec.proofs.WrittenIsRead.{all_append}
 use Rattle.acq_message.specs.declared.service.Service.{Service}
-use Rattle.acq_message.specs.Elements.{is_among}
 use Rattle.acq_invariants.specs.Replies.{reply_elements, IsReply, IsReplyText}
 use Rattle.acq_invariants.proofs.ReplyBodies.{may_have, all_weaker, among_passes, body_of_reply}
 

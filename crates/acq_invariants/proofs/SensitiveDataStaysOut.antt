@@ -9,7 +9,7 @@ use Rattle.std.proofs.lemmas.List.Elements.{All-nil, All-push}
 use Rattle.card_no.specs.Track2.{may_be_number, parts_of, if_number, track2_of}
 use Rattle.iso_codec.specs.Content.{has_class}
 use Rattle.iso_codec.specs.Table.{format_of}
-use Rattle.iso_codec.specs.Message.{IsoMessage, IsMessage, IsKind, numbers, Ascends, is_element, content_of}
+use Rattle.iso_codec.specs.Message.{IsoMessage, IsMessage, IsKind, numbers, Ascends, is_element, content_of, is_among}
 use Rattle.iso_codec.specs.Reading.{spelling}
 use Rattle.iso_codec.proofs.ElementPlaces.{fits_by, text_fits}
 use Rattle.iso_codec.proofs.WrittenIsRead.{all_append}
@@ -18,7 +18,7 @@ use Rattle.acq_message.specs.declared.service.Service.TheVariants.{Authorization
 use Rattle.acq_message.specs.declared.request_message.RequestMessage.{RequestMessage}
 use Rattle.acq_message.specs.Services.{digits_of}
 use Rattle.acq_message.specs.Cards.{card_of, track_in, track_of}
-use Rattle.acq_message.specs.Elements.{essential, is_among, element_if, essence_of}
+use Rattle.acq_message.specs.Elements.{essential, element_if, essence_of}
 use Rattle.acq_core.specs.declared.arrival.Arrival.{Arrival}
 use Rattle.acq_core.specs.declared.request.Request.{Request}
 use Rattle.acq_core.specs.Changes.{change_of}

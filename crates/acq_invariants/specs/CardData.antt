@@ -5,9 +5,9 @@ use Rattle.std.specs.Prelude.{All, IfSome}
 use Rattle.std.specs.Char.{is_ascii_digit}
 use Rattle.std.specs.List.{list_all, list_any}
 use Rattle.card_no.specs.Track2.{may_be_number}
-use Rattle.iso_codec.specs.Message.{IsoMessage, IsMessage}
+use Rattle.iso_codec.specs.Message.{IsoMessage, IsMessage, is_among}
 use Rattle.iso_codec.specs.Reading.{spelling}
-use Rattle.acq_message.specs.Elements.{essential, is_among}
+use Rattle.acq_message.specs.Elements.{essential}
 use Rattle.acq_core.specs.declared.event.Event.{Event}
 use Rattle.acq_core.specs.declared.request.Request.{Request}
 use Rattle.acq_core.specs.declared.output.Output.TheVariants.{Reply}

@@ -3,11 +3,10 @@
 use Rattle.std.specs.Prelude.{◌≡◌, ◌≤◌, ℕ, true, List, [], ◌∷◌, length, Option, All}
 use Rattle.std.specs.List.{list_all}
 use Rattle.iso_codec.specs.Content.{is_printable}
-use Rattle.iso_codec.specs.Message.{IsoMessage, IsMessage}
+use Rattle.iso_codec.specs.Message.{IsoMessage, IsMessage, is_among}
 use Rattle.iso_codec.specs.Reading.{spelling}
 use Rattle.acq_message.specs.declared.service.Service.{Service}
 use Rattle.acq_message.specs.Services.{reply_kind}
-use Rattle.acq_message.specs.Elements.{is_among}
 use Rattle.acq_core.specs.declared.event.Event.{Event}
 use Rattle.acq_core.specs.declared.output.Output.TheVariants.{Reply}
 use Rattle.acq_core.specs.Arrivals.{arrival_of}
