@@ -1,5 +1,5 @@
 -- What is answered to frames, one after another.
-use Rattle.std.proofs.Common.{◌≡◌, ℕ, Bool, true, List, [], ◌∷◌, ◌++◌, length, Option, Some, None, Result, Ok, Err, refl, sym, ap, subst, ◌∙◌, arith, append_assoc, append-nil}
+use Rattle.std.proofs.Common.{◌≡◌, ℕ, Bool, true, false, List, [], ◌∷◌, ◌++◌, length, Option, Some, None, Result, Ok, Err, refl, sym, ap, subst, ◌∙◌, arith, append_assoc, append-nil}
 use Rattle.std.specs.Prelude.{is_ok}
 use Rattle.std.specs.List.{list_all}
 use Rattle.std.proofs.lemmas.Bool.{and_parts, and_from, le-leb, lt-ltb}
@@ -9,54 +9,79 @@ use Rattle.iso_codec.specs.declared.decode_fault.DecodeFault.{DecodeFault}
 use Rattle.iso_codec.specs.Message.{IsoMessage}
 use Rattle.iso_codec.specs.Reading.{reading_of}
 use Rattle.acq_message.specs.declared.service.Service.{Service}
-use Rattle.acq_message.specs.declared.service.Service.TheVariants.{NetworkManagement}
+use Rattle.acq_message.specs.declared.service.Service.TheVariants.{Authorization, Financial, Completion, Reversal, ReversalAdvice, Reconciliation, NetworkManagement}
 use Rattle.acq_core.specs.declared.output.Output.{Output}
-use Rattle.acq_core.specs.declared.output.Output.TheVariants.{Reply, Undecodable, UnservedType}
+use Rattle.acq_core.specs.declared.output.Output.TheVariants.{Reply, Undecodable}
 use Rattle.acq_message.specs.Services.{service_of}
-use Rattle.acq_core.specs.NetworkAlone.{output_of_frame, output_of_reading, output_of_request}
-use Rattle.acq_core.proofs.NetworkRepliesFit.{fits_a_frame}
+use Rattle.std.specs.Prelude.{if◌then◌else◌}
+use Rattle.std.proofs.lemmas.List.Elements.{All-nil}
+use Rattle.acq_message.specs.declared.request_message.RequestMessage.{RequestMessage}
+use Rattle.acq_message.specs.FirstCheck.{is_malformed}
+use Rattle.acq_core.specs.declared.arrival.Arrival.TheVariants.{Malformed, Requested}
+use Rattle.acq_core.specs.declared.event.Event.TheVariants.{Frame}
+use Rattle.acq_core.specs.Arrivals.{arrival_of_message, arrival_of_reading}
+use Rattle.acq_core.specs.NewBook.{output_to}
+use Rattle.acq_core.specs.Tables.{Opening, new_tables, step_output}
+use Rattle.acq_invariants.specs.Events.{IsOpening, IsEvent}
+use Rattle.acq_invariants.proofs.RepliesAreMessages.{replies_are_messages}
 use Rattle.acq_link.specs.declared.input_fault.InputFault as input
 use Rattle.acqd.specs.Faults.{of_input}
 use Rattle.acqd.specs.Once.{replies_in, replies_to, replies, is_read, Answers, ServesAll, Serves}
 
 -- ---- one frame
 
+-- what a new book begins with
+abbrev new_book : Opening
+new_book = record { limit = 999999; first_day = 0 }
+
+is_opening : IsOpening new_book
+is_opening = record { limit = refl; first_day = omega arith }
+
 -- a reply fits a frame
-pub reply_fits : (message text : List ℕ) (party : Option (List ℕ)) → output_of_frame message ≡ Reply party text →
+pub reply_fits : (message text : List ℕ) (party : Option (List ℕ)) → output_to message ≡ Reply party text →
     fits_frame text ≡ true
 reply_fits message text party is =
-    let size = fits_a_frame message text party is in
-    and_from _ _ (lt-ltb 0 (length text) (omega arith)) (le-leb (length text) 4096 size.1)
+    let given = (replies_are_messages new_book [] is_opening (All-nil IsEvent)).1 (Frame 946684800 message) party text refl is in
+    and_from _ _ (lt-ltb 0 (length text) (omega (arith, given.not_empty))) (le-leb (length text) 4096 given.fits)
 
--- what an output says of the reading of its frame
-read_by_request : (o : Option Service) (m : IsoMessage) (f : DecodeFault) → output_of_request m o ≡ Undecodable f →
-    ⊥
-read_by_request None m f h = cc
-read_by_request (Some NetworkManagement) m f h = cc
-read_by_request (Some other) m f h = cc
+-- a message that is read is not reported as one that isn't
+read_by_service : (o : Option Service) (m : IsoMessage) (f : DecodeFault) →
+    step_output (new_tables new_book) (arrival_of_message 946684800 m o) ≡ Undecodable f → ⊥
+read_by_service None m f h = cc
+read_by_service (Some service) m f h = by_check (is_malformed service m) service h
+  where
+    by_check : (malformed : Bool) (s : Service) →
+        (let r : RequestMessage = record { moment = 946684800; service = s; message = m } in
+        step_output (new_tables new_book) (if malformed then Malformed r else Requested r)) ≡ Undecodable f → ⊥
+    by_check true s h = cc
+    by_check false Authorization h = cc
+    by_check false Financial h = cc
+    by_check false Completion h = cc
+    by_check false Reversal h = cc
+    by_check false ReversalAdvice h = cc
+    by_check false Reconciliation h = cc
+    by_check false NetworkManagement h = cc
 
-read_by : (r : Result IsoMessage DecodeFault) → ((f : DecodeFault) → output_of_reading r ≡ Undecodable f → ⊥) →
+fault_by : (r : Result IsoMessage DecodeFault) (f : DecodeFault) →
+    step_output (new_tables new_book) (arrival_of_reading 946684800 r) ≡ Undecodable f → r ≡ Err f
+fault_by (Ok m) f h = absurd (read_by_service (service_of m.kind) m f h)
+fault_by (Err e) f h = let same : e ≡ f = cc in ap (λ (x : DecodeFault). Err x) same
+
+-- what is reported as undecodable doesn't read
+pub undecodable_is : (message : List ℕ) (f : DecodeFault) → output_to message ≡ Undecodable f →
+    reading_of message ≡ Err f
+undecodable_is message f is = fault_by (reading_of message) f is
+
+read_by : (r : Result IsoMessage DecodeFault) →
+    ((f : DecodeFault) → step_output (new_tables new_book) (arrival_of_reading 946684800 r) ≡ Undecodable f → ⊥) →
     is_ok r ≡ true
 read_by (Ok m) h = refl
 read_by (Err f) h = absurd (h f refl)
 
-fault_by : (r : Result IsoMessage DecodeFault) (f : DecodeFault) → output_of_reading r ≡ Undecodable f → r ≡ Err f
-fault_by (Ok m) f h = absurd (read_by_request (service_of m.kind) m f h)
-fault_by (Err e) f h = let same : e ≡ f = cc in ap (λ (x : DecodeFault). Err x) same
-
-pub replied_is_read : (message text : List ℕ) (party : Option (List ℕ)) →
-    output_of_frame message ≡ Reply party text → is_read message ≡ true
-replied_is_read message text party is = read_by (reading_of message) (λ f h. let bad : Reply party text
-    ≡ Undecodable f = sym is ∙ h in cc)
-
-pub unserved_is_read : (message kind : List ℕ) → output_of_frame message ≡ UnservedType kind →
+-- anything else reads
+pub is_read-otherwise : (message : List ℕ) → ((f : DecodeFault) → output_to message ≡ Undecodable f → ⊥) →
     is_read message ≡ true
-unserved_is_read message kind is = read_by (reading_of message) (λ f h. let bad : UnservedType kind
-    ≡ Undecodable f = sym is ∙ h in cc)
-
-pub undecodable_is : (message : List ℕ) (f : DecodeFault) → output_of_frame message ≡ Undecodable f →
-    reading_of message ≡ Err f
-undecodable_is message f is = fault_by (reading_of message) f is
+is_read-otherwise message h = read_by (reading_of message) h
 
 fit_in : (output : Output) → ((party : Option (List ℕ)) (text : List ℕ) → output ≡ Reply party text →
     fits_frame text ≡ true) → fit_frames (replies_in output) ≡ true
@@ -65,7 +90,7 @@ fit_in other h = refl
 
 -- the replies to a frame fit frames
 pub replies_fit : (message : List ℕ) → fit_frames (replies_to message) ≡ true
-replies_fit message = fit_in (output_of_frame message) (λ party text is. reply_fits message text party is)
+replies_fit message = fit_in (output_to message) (λ party text is. reply_fits message text party is)
 
 -- ---- frames in order
 

@@ -1,4 +1,4 @@
--- Frames in, reply frames out.
+-- Frames in, reply frames out, over a new book.
 use Rattle.std.specs.Prelude.{◌≡◌, ◌<◌, ℕ, Bool, true, List, [], ◌∷◌, ◌++◌, length, take}
 use Rattle.std.specs.Prelude.{Option, Some, None, Result, Ok, Err, is_ok}
 use Rattle.std.specs.List.{list_all, flat_map}
@@ -7,7 +7,7 @@ use Rattle.acq_link.specs.FramesAt.{BeginsWithFrame}
 use Rattle.iso_codec.specs.Reading.{reading_of}
 use Rattle.acq_core.specs.declared.output.Output.{Output}
 use Rattle.acq_core.specs.declared.output.Output.TheVariants.{Reply}
-use Rattle.acq_core.specs.NetworkAlone.{output_of_frame}
+use Rattle.acq_core.specs.NewBook.{output_to}
 use Rattle.acqd.specs.declared.fault.Fault as fault
 
 -- the reply that an output is, if it is one
@@ -17,7 +17,7 @@ replies_in other = []
 
 -- the replies to a frame: one, or none
 abbrev pub replies_to : List ℕ → List (List ℕ)
-replies_to message = replies_in (output_of_frame message)
+replies_to message = replies_in (output_to message)
 
 -- the replies to frames, in order
 abbrev pub replies : List (List ℕ) → List (List ℕ)

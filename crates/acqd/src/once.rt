@@ -2,13 +2,21 @@
 
 ghost use Rattle.std.specs.Prelude.{◌≡◌, ◌+◌, ◌<◌, ◌++◌, ℕ, List, length, OnOk, IfOk, IfErr};
 ghost use Rattle.acq_link.specs.FramesAt.{BeginsWithFrame};
+ghost use Rattle.acq_core.specs.NewBook.{output_of_new_book, output_to};
 ghost use Rattle.acqd.specs.Once.{AnswersOne, FrameFault, Serves, TakesAll};
 ghost use Rattle.acqd.specs.Once.{failed_reads, failed_writes};
 
 use crate::fault::Fault;
-use acq_core::{Output, answer_network};
+use acq_core::{Arrival, Limit, Looked, Moment, Output};
 use acq_link::{Front, Sink, Source, frame_at, read_to_end, write_frame};
-use std::alloc::Global;
+use day_totals::Day;
+use std::alloc::{AllocError, Global};
+
+/// 2000-01-01 at 00:00:00, the first moment that there is.
+const FIRST_MOMENT: u64 = 946_684_800;
+
+/// The greatest limit of a day.
+const GREATEST_LIMIT: u32 = 999_999;
 
 /// Reads the whole input, and then answers its frames, each before the next is looked at.
 pub fn once<S: Source, K: Sink>(alloc: Global, input: &mut S, output: &mut K) -> Result<(), Fault>
@@ -61,7 +69,7 @@ fn answer<K: Sink>(alloc: Global, message: &[u8], output: &mut K) -> Result<(), 
     ensures sent { AnswersOne message.now (K.sent output.old) (K.sent output.new) result }
     ensures writes { K.failures output.new ≡ K.failures output.old + failed_writes result }
 {
-    match answer_network(alloc, message)? {
+    match said_to(alloc, message)? {
         Output::Reply(_, reply) => {
             write_frame(alloc, reply.as_bytes(), output)?;
             Ok(())
@@ -69,4 +77,35 @@ fn answer<K: Sink>(alloc: Global, message: &[u8], output: &mut K) -> Result<(), 
         Output::Undecodable(fault) => Err(Fault::Undecodable(fault)),
         _ => Ok(()),
     }
+}
+
+/// What the host says to a message over the widest book, where nobody is enrolled.
+fn said_to(alloc: Global, message: &[u8]) -> Result<Output, AllocError>
+    ensures { IfOk result (λ output. output ≡ output_to message.now) }
+{
+    let (Some(moment), Some(limit), Some(first_day)) = (
+        Moment::from_seconds(FIRST_MOMENT),
+        Limit::from_number(GREATEST_LIMIT),
+        Day::from_number(0),
+    ) else {
+        unreachable!();
+    };
+    said_in_new_book(alloc, limit, first_day, moment, message)
+}
+
+/// What the host says to a message over a new book.
+fn said_in_new_book(
+    alloc: Global,
+    limit: Limit,
+    first_day: Day,
+    moment: Moment,
+    message: &[u8],
+) -> Result<Output, AllocError>
+    ensures { IfOk result (λ output. output ≡ output_of_new_book
+        (record { limit = limit; first_day = first_day }) moment message.now) }
+{
+    let arrival = Arrival::of_frame(alloc, moment, message)?;
+    let looked = Looked::in_new_book(limit, first_day);
+    let (output, _) = arrival.decide(alloc, &looked)?;
+    Ok(output)
 }
