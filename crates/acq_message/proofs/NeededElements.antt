@@ -1,5 +1,5 @@
 -- A request that the first check passed has the elements that it needs, each with its format.
-use Rattle.std.proofs.Common.{◌≡◌, ℕ, zero, suc, ◌≤◌, Bool, true, false, eqb, List, [], ◌∷◌, length, take, drop, None, refl, subst, arith, inl, inr}
+use Rattle.std.proofs.Common.{◌≡◌, ℕ, zero, suc, Bool, true, false, eqb, List, [], ◌∷◌, length, take, drop, None, refl, subst, arith, inl, inr}
 use Rattle.std.specs.List.{list_all, list_any}
 use Rattle.std.specs.Char.{is_ascii_digit}
 use Rattle.std.proofs.lemmas.Bool.{and_parts, and_from, eq-eqb, eqb-true, or_cases, cases_Bool}
@@ -16,8 +16,8 @@ use Rattle.acq_message.specs.declared.request_message.RequestMessage.{RequestMes
 use Rattle.acq_message.specs.Services.{needed, is_recordable, names_original}
 use Rattle.acq_message.specs.Elements.{has}
 use Rattle.acq_message.specs.FirstCheck.{is_malformed}
-use Rattle.acq_message.specs.Names.{is_merchant, is_terminal, is_trace, is_transmission}
-use Rattle.acq_message.proofs.ElementsFit.{FitsWhereThere, fixed_fits, names_merchant}
+use Rattle.acq_message.specs.Names.{is_terminal, is_trace, is_transmission}
+use Rattle.acq_message.proofs.ElementsFit.{FitsWhereThere, fixed_fits}
 
 needed_there : (service : Service) (m : IsoMessage) → is_malformed service m ≡ false
     → list_all (has m) (needed service) ≡ true
