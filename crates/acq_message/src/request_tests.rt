@@ -3,11 +3,11 @@
 ghost use Rattle.std.specs.Prelude.{◌≡◌, IfOk};
 
 use crate::{
-    AuthorizationId, CheckedRequest, ElementContent, MerchantId, MessageText, Moment, Reference,
-    RequestMessage, ResponseCode, Service, TerminalId, Trace, Transmission, Verdict, amount_in,
-    answered_reply, claimed_in, coded_reply, draft_reply, essence_of, key_of, merchant_of,
-    original_acquirer, original_key, reference_in, referring_reply, sale_leg, spelled, terminal_of,
-    text_at, totals_reply, trace_of, transaction_in, verdict_code,
+    AuthorizationId, CheckedRequest, ElementContent, MerchantId, Moment, Reference, RequestMessage,
+    ResponseCode, Service, TerminalId, Trace, Transmission, Verdict, amount_in, answered_reply,
+    claimed_in, coded_reply, draft_reply, essence_of, key_of, merchant_of, original_acquirer,
+    original_key, reference_in, referring_reply, sale_leg, spelled, terminal_of, text_at,
+    totals_reply, trace_of, transaction_in, verdict_code,
 };
 use day_totals::{Claimed, Day, Leg, Totals};
 use iso_codec::decode;
