@@ -1,17 +1,16 @@
 -- What a reply has besides what it echoes: each content fits, and the elements are set in turn.
-use Rattle.std.proofs.Common.{◌≡◌, ℕ, suc, ℤ, pos, negsuc, Bool, true, false, ◌&&◌, ◌||◌, eqb, leb, List, [], ◌∷◌, ◌++◌, length, Option, Some, None, refl, sym, ap, ◌∙◌, arith, inl, inr}
+use Rattle.std.proofs.Common.{◌≡◌, ℕ, suc, ℤ, pos, negsuc, Bool, true, false, eqb, List, [], ◌∷◌, ◌++◌, length, Some, None, refl, ap}
 use Rattle.std.specs.Prelude.{codes, if◌then◌else◌}
-use Rattle.std.specs.List.{list_all, filter}
+use Rattle.std.specs.List.{list_all}
 use Rattle.std.specs.Char.{is_ascii_digit}
-use Rattle.std.proofs.lemmas.Bool.{and_parts, and_from, eq-eqb, cases_Bool}
+use Rattle.std.proofs.lemmas.Bool.{and_parts, and_from, eq-eqb}
 use Rattle.iso_codec.specs.declared.class.Class.{Class}
 use Rattle.iso_codec.specs.declared.class.Class.TheVariants.{Numeric, Alphanumeric, SignedNumeric}
-use Rattle.iso_codec.specs.declared.element_format.ElementFormat.{ElementFormat}
 use Rattle.iso_codec.specs.declared.form.Form.TheVariants.{Fixed}
 use Rattle.iso_codec.specs.Content.{has_class, is_alphanumeric}
 use Rattle.iso_codec.specs.Message.{IsoMessage, IsKind, with_content}
 use Rattle.iso_codec.specs.Table.{format_of}
-use Rattle.iso_codec.specs.Setting.{set_fault, set_fault_by}
+use Rattle.iso_codec.specs.Setting.{set_fault}
 use Rattle.day_totals.specs.Day.{mmdd_of}
 use Rattle.day_totals.specs.Digits.{zero_padded}
 use Rattle.day_totals.proofs.ZeroPadded.{length-zero_padded, all_digits-zero_padded}

@@ -17,7 +17,8 @@ use Rattle.iso_codec.specs.Table.{format_of}
 use Rattle.iso_codec.specs.Setting.{set_fault, set_fault_by}
 use Rattle.acq_message.specs.Names.{is_merchant}
 use Rattle.acq_message.specs.IssuerTexts.{is_decline_code}
-use Rattle.acq_message.specs.Elements.{has, or_empty, text_at, is_short_form, is_numeric, is_short_format, is_short_number}
+use Rattle.acq_message.specs.Elements.{has, or_empty, text_at}
+use Rattle.acq_message.specs.ShortNumbers.{is_short_form, is_numeric, is_short_format, is_short_number}
 
 passes_both : (long good : Bool) (x y : SetFault)
     → (if long then (if good then None else Some x) else Some y) ≡ None → (long && good) ≡ true
@@ -31,10 +32,10 @@ unfolding format_of has_class
 names_merchant text h = passes_both (eqb (length text) 15) (list_all is_printable text) _ _ h
 
 -- what is read exactly where a text passes is there where it does
-pub some_where : (found : Option (List ℕ)) (P : Type 0) (text : List ℕ) → SomeIff found P text → P →
-    found ≡ Some text
-some_where None P text h passes = absurd (h passes)
-some_where (Some x) P text h passes = ap Some h.1
+pub some_where : {A : Type 0} (found : Option A) (P : Type 0) (value : A) → SomeIff found P value → P →
+    found ≡ Some value
+some_where None P value h passes = absurd (h passes)
+some_where (Some x) P value h passes = ap Some h.1
 
 pub fits_both : (long good : Bool) (x y : SetFault) → (long && good) ≡ true
     → (if long then (if good then None else Some x) else Some y) ≡ None

@@ -1,5 +1,5 @@
 -- A request that the first check passed has the elements that it needs, each with its format.
-use Rattle.std.proofs.Common.{◌≡◌, ℕ, zero, suc, ◌≤◌, Bool, true, false, eqb, List, [], ◌∷◌, length, take, drop, None, refl, subst, arith, inl, inr}
+use Rattle.std.proofs.Common.{◌≡◌, ℕ, zero, suc, Bool, true, false, eqb, List, [], ◌∷◌, length, take, drop, None, refl, subst, arith, inl, inr}
 use Rattle.std.specs.List.{list_all, list_any}
 use Rattle.std.specs.Char.{is_ascii_digit}
 use Rattle.std.proofs.lemmas.Bool.{and_parts, and_from, eq-eqb, eqb-true, or_cases, cases_Bool}
@@ -16,8 +16,8 @@ use Rattle.acq_message.specs.declared.request_message.RequestMessage.{RequestMes
 use Rattle.acq_message.specs.Services.{needed, is_recordable, names_original}
 use Rattle.acq_message.specs.Elements.{has}
 use Rattle.acq_message.specs.FirstCheck.{is_malformed}
-use Rattle.acq_message.specs.Names.{is_merchant, is_terminal, is_trace, is_transmission}
-use Rattle.acq_message.proofs.ElementsFit.{FitsWhereThere, fixed_fits, names_merchant}
+use Rattle.acq_message.specs.Names.{is_terminal, is_trace, is_transmission}
+use Rattle.acq_message.proofs.ElementsFit.{FitsWhereThere, fixed_fits}
 
 needed_there : (service : Service) (m : IsoMessage) → is_malformed service m ≡ false
     → list_all (has m) (needed service) ≡ true
@@ -49,41 +49,25 @@ needed_fits r s n text is passed need fits =
 
 -- ---- what a recorded request needs
 
-pub needs_merchant : (s : Service) → is_recordable s ≡ true → needs s 42 ≡ true
-needs_merchant Authorization h = refl
-needs_merchant Financial h = refl
-needs_merchant Completion h = refl
-needs_merchant Reversal h = refl
-needs_merchant ReversalAdvice h = refl
-needs_merchant Reconciliation h = refl
-needs_merchant NetworkManagement h = absurd cc
+abbrev key_elements : List ℕ
+key_elements = 7 ∷ 11 ∷ 41 ∷ 42 ∷ []
 
-pub needs_terminal : (s : Service) → is_recordable s ≡ true → needs s 41 ≡ true
-needs_terminal Authorization h = refl
-needs_terminal Financial h = refl
-needs_terminal Completion h = refl
-needs_terminal Reversal h = refl
-needs_terminal ReversalAdvice h = refl
-needs_terminal Reconciliation h = refl
-needs_terminal NetworkManagement h = absurd cc
+needs_key : (s : Service) → is_recordable s ≡ true → list_all (needs s) key_elements ≡ true
+needs_key Authorization h = refl
+needs_key Financial h = refl
+needs_key Completion h = refl
+needs_key Reversal h = refl
+needs_key ReversalAdvice h = refl
+needs_key Reconciliation h = refl
+needs_key NetworkManagement h = absurd cc
 
-pub needs_trace : (s : Service) → needs s 11 ≡ true
-needs_trace Authorization = refl
-needs_trace Financial = refl
-needs_trace Completion = refl
-needs_trace Reversal = refl
-needs_trace ReversalAdvice = refl
-needs_trace Reconciliation = refl
-needs_trace NetworkManagement = refl
-
-pub needs_transmission : (s : Service) → needs s 7 ≡ true
-needs_transmission Authorization = refl
-needs_transmission Financial = refl
-needs_transmission Completion = refl
-needs_transmission Reversal = refl
-needs_transmission ReversalAdvice = refl
-needs_transmission Reconciliation = refl
-needs_transmission NetworkManagement = refl
+-- the content of an element of the key fits it
+pub key_fits : (r s : RequestMessage) (n : ℕ) (text : List ℕ) → s ≡ r → is_malformed r.service r.message ≡ false
+    → is_recordable r.service ≡ true → list_any (λ k. eqb k n) key_elements ≡ true → FitsWhereThere s.message n text
+    → set_fault n text ≡ None
+key_fits r s n text is passed recorded in_key fits =
+    needed_fits r s n text is passed
+    (one_of_all (needs r.service) key_elements n (needs_key r.service recorded) in_key) fits
 
 -- ---- what the contents name
 

@@ -1,14 +1,14 @@
 -- A reply fits a frame: it has at most 127 elements of at most 21 bytes.
-use Rattle.std.proofs.Common.{◌≡◌, ℕ, ◌+◌, ◌*◌, ◌≤◌, Bool, true, false, eqb, leb, List, [], ◌∷◌, ◌++◌, length, Option, Some, None, refl, ap, subst, ◌∙◌, arith, inl, inr, length-append}
+use Rattle.std.proofs.Common.{◌≡◌, ℕ, ◌+◌, ◌*◌, ◌≤◌, Bool, true, false, eqb, leb, List, [], ◌∷◌, ◌++◌, length, Option, Some, None, refl, ap, ◌∙◌, arith, inl, inr, length-append}
 use Rattle.std.specs.Prelude.{MatchBool}
 use Rattle.std.specs.List.{list_all, filter}
-use Rattle.std.proofs.lemmas.Bool.{and_parts, and_from, leb-true, le-leb, eqb-true, cases_Bool, or_cases}
+use Rattle.std.proofs.lemmas.Bool.{and_parts, and_from, leb-true, le-leb, eqb-true, cases_Bool}
 use Rattle.iso_codec.specs.declared.form.Form.{Form}
 use Rattle.iso_codec.specs.declared.form.Form.TheVariants.{Fixed, Llvar, Lllvar}
 use Rattle.iso_codec.specs.declared.element_format.ElementFormat.{ElementFormat}
 use Rattle.iso_codec.specs.Content.{has_length, has_class, allows, digits_of, spelled_by}
 use Rattle.iso_codec.specs.Table.{format_of}
-use Rattle.iso_codec.specs.Message.{IsoMessage, IsMessage, IsKind, IsBitmap, numbers, Ascends, is_element, spelled, body, with_content, is_among}
+use Rattle.iso_codec.specs.Message.{IsoMessage, IsMessage, IsBitmap, numbers, Ascends, is_element, spelled, body, with_content, is_among}
 use Rattle.iso_codec.specs.Reading.{spelling}
 use Rattle.iso_codec.specs.Setting.{set_fault}
 use Rattle.iso_codec.proofs.TableBounds.{format_in_bounds}

@@ -1,17 +1,11 @@
 -- What a request says: its elements, its key, and its essence (elements: ISO 8583:1987; key and
 -- essence: own profile).
-use Rattle.std.specs.Prelude.{ℕ, nat_le, Bool, true, false, ◌&&◌, List, [], ◌∷◌, ◌++◌, take}
-use Rattle.std.specs.Prelude.{drop, filter, codes, Option, Some, None, option_map, is_some, if◌then◌else◌}
+use Rattle.std.specs.Prelude.{ℕ, Bool, ◌&&◌, List, [], ◌∷◌, ◌++◌, take, drop, filter, codes}
+use Rattle.std.specs.Prelude.{Option, Some, None, option_map, is_some, if◌then◌else◌}
 use Rattle.std.specs.List.{list_all}
 use Rattle.std.specs.Str.{bytes_eq}
 use Rattle.std.specs.Char.{is_ascii_digit}
 use Rattle.iso_codec.specs.Message.{IsoMessage, content_of, is_among}
-use Rattle.iso_codec.specs.Table.{format_of}
-use Rattle.iso_codec.specs.declared.form.Form.{Form}
-use Rattle.iso_codec.specs.declared.form.Form.TheVariants.{Fixed, Llvar, Lllvar}
-use Rattle.iso_codec.specs.declared.class.Class.{Class}
-use Rattle.iso_codec.specs.declared.class.Class.TheVariants.{Numeric}
-use Rattle.iso_codec.specs.declared.element_format.ElementFormat.{ElementFormat}
 use Rattle.iso_codec.specs.Reading.{spelling}
 use Rattle.std.specs.Str.Parse.{digits_value}
 use Rattle.day_totals.specs.declared.leg.Leg.{Leg}
@@ -39,24 +33,6 @@ text_at m n = or_empty (content_of m.elements n)
 -- the number in an element of digits
 abbrev pub number_at : IsoMessage → ℕ → ℕ
 number_at m n = digits_value 10 (text_at m n)
-
-abbrev pub is_short_form : Form → Bool
-is_short_form (Fixed size) = nat_le size 16
-is_short_form (Llvar greatest) = nat_le greatest 16
-is_short_form (Lllvar greatest) = nat_le greatest 16
-
-abbrev pub is_numeric : Class → Bool
-is_numeric Numeric = true
-is_numeric class = false
-
--- a content of at most sixteen digits
-abbrev pub is_short_format : Option ElementFormat → Bool
-is_short_format None = false
-is_short_format (Some format) = is_short_form format.form && is_numeric format.class
-
--- whether an element is a number of at most sixteen digits
-abbrev pub is_short_number : ℕ → Bool
-is_short_number n = is_short_format (format_of n)
 
 -- element 4, in minor units; 0 where it isn't there
 abbrev pub amount_in : IsoMessage → ℕ

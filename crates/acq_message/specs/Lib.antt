@@ -6,6 +6,7 @@ pub mod Services
 pub mod Responses
 pub mod Cards
 pub mod Elements
+pub mod ShortNumbers
 pub mod Claims
 pub mod FirstCheck
 pub mod Reply

@@ -3,9 +3,10 @@
 ghost use Rattle.std.specs.Prelude.{◌≡◌, true, None, take, drop};
 ghost use Rattle.iso_codec.specs.Message.{content_of};
 ghost use Rattle.iso_codec.specs.Setting.{set_fault};
-ghost use Rattle.acq_message.specs.Elements.{has, text_at, number_at, is_short_number, amount_in};
-ghost use Rattle.acq_message.specs.Elements.{transaction_in, sale_leg};
+ghost use Rattle.acq_message.specs.Elements.{has, text_at, number_at, amount_in, transaction_in};
+ghost use Rattle.acq_message.specs.Elements.{sale_leg};
 ghost use Rattle.acq_message.specs.Elements.{reference_in, original_acquirer};
+ghost use Rattle.acq_message.specs.ShortNumbers.{is_short_number};
 
 use crate::amount::Amount;
 use crate::digits::digits_value;

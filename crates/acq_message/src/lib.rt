@@ -28,6 +28,8 @@ mod reference;
 mod reply;
 mod request_key;
 mod request_message;
+#[cfg(test)]
+mod request_tests;
 mod response_code;
 mod service;
 mod terminal_id;

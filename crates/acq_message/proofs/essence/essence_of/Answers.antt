@@ -1,14 +1,14 @@
-use Rattle.std.proofs.Common.{◌≡◌, ℕ, ◌<◌, Bool, true, false, eqb, leb, ltb, List, [], ◌∷◌, ◌++◌, length, Option, Some, None, get_or, refl, sym, ap, ◌∙◌, arith, inl, inr, subst}
+use Rattle.std.proofs.Common.{◌≡◌, ℕ, true, false, leb, ltb, List, [], ◌∷◌, ◌++◌, Some, None, get_or, refl, inl, inr, subst}
 use Rattle.std.specs.Prelude.{codes, IfOk}
-use Rattle.std.specs.List.{list_all, list_any, filter}
+use Rattle.std.specs.List.{filter}
 use Rattle.std.proofs.lemmas.Bool.{cases_Bool, ltb-true, lt-leb}
-use Rattle.iso_codec.specs.Message.{IsoMessage, content_of, with_content, is_among}
+use Rattle.iso_codec.specs.Message.{IsoMessage, with_content, is_among}
 use Rattle.iso_codec.specs.Reading.{spelling}
 use Rattle.acq_message.specs.declared.service.Service.{Service}
 use Rattle.acq_message.specs.declared.service.Service.TheVariants.{Authorization, Financial, Completion, Reversal, ReversalAdvice, Reconciliation, NetworkManagement}
 use Rattle.acq_message.specs.Services.{digits_of}
 use Rattle.acq_message.specs.Cards.{card_of}
-use Rattle.acq_message.specs.Elements.{essential, element_if, essence_of}
+use Rattle.acq_message.specs.Elements.{essential, essence_of}
 use Rattle.acq_message.proofs.NeededElements.{one_of_all}
 use Rattle.acq_message.proofs.essence.essence_of.Goals as goal
 use Rattle.acq_message.proofs.essence.essence_of.Goals.{in-Some+in_ok-put, in_default}
