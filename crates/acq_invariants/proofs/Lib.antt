@@ -10,3 +10,7 @@ pub mod Arrivals
 pub mod ChangedRows
 pub mod RepliesAreMessages
 pub mod SensitiveDataStaysOut
+pub mod CountsOfRows
+pub mod AdmittedCounts
+pub mod CountsStayWithin
+pub mod NumbersStayBounded

@@ -14,11 +14,12 @@ use Rattle.acq_core.specs.declared.merchant.Merchant.{Merchant}
 use Rattle.acq_core.specs.declared.request.Request.{Request}
 use Rattle.acq_core.specs.Changes.{change_of}
 use Rattle.acq_core.specs.Tables.{Tables, new_tables, known_in, requests_of, admitted_in, with_changed, after_any, step_tables}
-use Rattle.acq_history.proofs.Lookups.{filter-map, count-view, count-same, count-push, filter-push_in, filter-push_out}
+use Rattle.acq_history.proofs.Lookups.{count-view, count-same, count-push, filter-push_in, filter-push_out}
 use Rattle.acq_history.proofs.Keys.{bytes_eq_is, bytes_eq_itself}
 use Rattle.acq_invariants.specs.References.{references_in, AreRowsOf, HasConsecutiveReferences, ReferencesAreConsecutive}
 use Rattle.acq_invariants.proofs.StepCases.{by_step}
 use Rattle.acq_invariants.proofs.Runs.{kept}
+use Rattle.acq_invariants.proofs.ChangedRows.{changing, requests_of-changed}
 
 -- ---- one number more
 
@@ -115,24 +116,13 @@ with_changes : (merchants : List Merchant) (rows : List Request) (key : RequestK
     ((x : Request) → (changed x).key ≡ x.key) → ((x : Request) → (changed x).reference ≡ x.reference) →
     AreRows merchants rows → AreRows merchants (with_changed key changed rows)
 with_changes merchants rows key changed keys references h m =
-    subst (AreRowsOf (merchant_among merchants m))
-    (sym (filter-map (λ x. bytes_eq x.key.merchant m) u u (λ x. ap (λ k. bytes_eq k.merchant m) (key_of_u x)) (λ x e. refl) rows))
-    (rows_changed (merchant_among merchants m) u reference_of_u (requests_of m rows) (h m))
+    subst (AreRowsOf (merchant_among merchants m)) (sym (requests_of-changed m key changed keys rows))
+    (rows_changed (merchant_among merchants m) (changing key changed) (λ x. one x (same_key x.key key))
+    (requests_of m rows) (h m))
   where
-    u : Request → Request
-    u = λ row. cond (same_key row.key key) (changed row) row
-
-    key_of_u : (x : Request) → (u x).key ≡ x.key
-    key_of_u x = elim (same_key x.key key) as (λ b. (cond b (changed x) x).key ≡ x.key) [
-      | true ↦ keys x
-      | false ↦ refl
-    ]
-
-    reference_of_u : (x : Request) → (u x).reference ≡ x.reference
-    reference_of_u x = elim (same_key x.key key) as (λ b. (cond b (changed x) x).reference ≡ x.reference) [
-      | true ↦ references x
-      | false ↦ refl
-    ]
+    one : (x : Request) (b : Bool) → (cond b (changed x) x).reference ≡ x.reference
+    one x true = references x
+    one x false = refl
 
 -- with a merchant more
 with_merchant : (merchants : List Merchant) (rows : List Request) (merchant : Merchant) → AreRows merchants rows →

@@ -11,6 +11,7 @@ ghost use Rattle.acq_invariants.specs.Keys.{KeysStayUnique};
 ghost use Rattle.acq_invariants.specs.References.{ReferencesAreConsecutive};
 ghost use Rattle.acq_invariants.specs.Replies.{RepliesAreMessages};
 ghost use Rattle.acq_invariants.specs.CardData.{SensitiveDataStaysOut};
+ghost use Rattle.acq_invariants.specs.Bounds.{NumbersStayBounded};
 
 pub use types::{is_event, is_opening, is_verdict};
 
@@ -42,4 +43,10 @@ pub fn replies_are_messages()
 /// and the essential elements alone.
 pub fn sensitive_data_stays_out()
     ensures { SensitiveDataStaysOut }
+{}
+
+/// Days, references, counts and amounts stay within what the types hold: on each day no more
+/// messages of a merchant count than the limit is, no more are posted, and the day's totals fit.
+pub fn numbers_stay_bounded()
+    ensures { NumbersStayBounded }
 {}
