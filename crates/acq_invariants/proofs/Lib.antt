@@ -14,3 +14,4 @@ pub mod CountsOfRows
 pub mod AdmittedCounts
 pub mod CountsStayWithin
 pub mod NumbersStayBounded
+pub mod BooksAreSound

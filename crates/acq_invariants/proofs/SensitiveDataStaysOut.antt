@@ -24,7 +24,7 @@ use Rattle.acq_core.specs.declared.request.Request.{Request}
 use Rattle.acq_core.specs.Changes.{change_of}
 use Rattle.acq_core.specs.Tables.{Tables, new_tables, known_in, after_any, step_tables, tables_after}
 use Rattle.acq_history.proofs.Lookups.{or_true}
-use Rattle.acq_invariants.specs.Replies.{reply_elements, IsReply}
+use Rattle.acq_invariants.specs.Replies.{reply_elements, IsReplyText}
 use Rattle.acq_invariants.specs.CardData.{sensitive_elements, lacks_sensitive_data, IsEssence, may_be_acquirer, KeepsNoSensitiveData, SpellsNoSensitiveData, SensitiveDataStaysOut}
 use Rattle.acq_invariants.proofs.StepCases.{by_step}
 use Rattle.acq_invariants.proofs.Arrivals.{IsArrival, kept_by_events}
@@ -253,19 +253,20 @@ with_reply row c r = record {
   reply = lacks_by reply_elements row.reply.elements refl r.elements;
 }
 
+-- a reply's text
+text_without : (text : List ℕ) → IsReplyText text → SpellsNoSensitiveData text
+text_without text r = record {
+  message = r.reply;
+  is_message = r.is_reply.is_message;
+  spelled = r.spelled;
+  lacks = lacks_by reply_elements r.reply.elements refl r.is_reply.elements;
+}
+
 pub sensitive_data_stays_out : SensitiveDataStaysOut
 sensitive_data_stays_out opening es begins are =
-    let t = tables_after (new_tables opening) es in
     let clean : AreClean (tables_after (new_tables opening) es) =
     kept_by_events AreClean step (new_tables opening) es are (All-nil IsClean) in
     let replies = replies_are_messages opening es begins are in (
       λ k d lt. with_reply _ (clean k d lt) (replies.0 k d lt),
-      λ e party text is reply.
-          let r = replies.1 e party text is reply in
-          record {
-            message = r.reply;
-            is_message = r.is_reply.is_message;
-            spelled = r.spelled;
-            lacks = lacks_by reply_elements r.reply.elements refl r.is_reply.elements;
-          },
+      λ k d lt party text is. text_without text (replies.1 k d lt party text is),
     )
