@@ -5,7 +5,7 @@ use Rattle.acq_core.specs.declared.event.Event.{Event}
 use Rattle.acq_core.specs.Arrivals.{arrival_of}
 use Rattle.acq_core.specs.Tables.{Opening, Tables, new_tables, step_tables, tables_after}
 use Rattle.acq_invariants.specs.Events.{IsEvent, AreEvents, IsOpening}
-use Rattle.acq_invariants.specs.Books.{IsBook, IsSound, BooksBegin, BooksGoOn, BooksAreSound}
+use Rattle.acq_invariants.specs.Books.{IsSound, BooksBegin, BooksGoOn, BooksAreSound}
 use Rattle.acq_invariants.proofs.RangesStayApart.{ranges_stay_apart}
 use Rattle.acq_invariants.proofs.KeysStayUnique.{keys_stay_unique}
 use Rattle.acq_invariants.proofs.ReferencesAreConsecutive.{references_are_consecutive}

@@ -1,6 +1,6 @@
 -- On each day no more messages of a merchant count than the limit is, and no more of them are pending or posted.
-use Rattle.std.proofs.Common.{◌≡◌, ℕ, ◌+◌, ◌<◌, ◌≤◌, List, [], ◌∷◌, ◌++◌, Option, Some, None, Bool, true, false, cond, inl, inr, refl, sym, ap, ◌∙◌, subst, arith, eqb}
-use Rattle.std.specs.Prelude.{map, IfSome, ◌&&◌}
+use Rattle.std.proofs.Common.{◌≡◌, ℕ, ◌+◌, ◌<◌, ◌≤◌, List, [], ◌∷◌, ◌++◌, Option, Some, None, Bool, true, false, refl, ap, ◌∙◌, subst, arith, eqb}
+use Rattle.std.specs.Prelude.{IfSome, ◌&&◌}
 use Rattle.std.specs.Str.{bytes_eq}
 use Rattle.acq_message.specs.declared.request_key.RequestKey.{RequestKey}
 use Rattle.acq_core.specs.declared.posting.Posting.{Posting}
@@ -8,8 +8,8 @@ use Rattle.acq_core.specs.declared.request.Request.{Request}
 use Rattle.acq_core.specs.Tables.{count, requests_of, postings_of, used_in, with_changed, with_next_posting, postings_before}
 use Rattle.acq_history.proofs.Lookups.{and_false}
 use Rattle.acq_history.proofs.Members.{In, In-filter}
-use Rattle.acq_history.proofs.Keys.{bytes_eq_is, bytes_eq_itself, eqb_is}
-use Rattle.acq_invariants.proofs.ChangedRows.{changing, requests_of-changed}
+use Rattle.acq_history.proofs.Keys.{bytes_eq_is, eqb_is}
+use Rattle.acq_invariants.proofs.ChangedRows.{requests_of-changed}
 use Rattle.acq_invariants.proofs.CountsOfRows.{one_if, count-filter_push, used_in-changed, is_pending, pending_in, pending_in-changed, pending_in-answered}
 
 -- how many postings of a day a merchant has

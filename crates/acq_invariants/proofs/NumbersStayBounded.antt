@@ -1,5 +1,5 @@
 -- Numbers stay within their bounds, whatever comes.
-use Rattle.std.proofs.Common.{◌≡◌, ℕ, ◌+◌, ◌*◌, ◌<◌, ◌≤◌, List, [], ◌∷◌, ◌++◌, length, Option, Some, None, Bool, true, false, cond, refl, sym, ap, ◌∙◌, subst, arith, eqb, leb}
+use Rattle.std.proofs.Common.{◌≡◌, ℕ, ◌+◌, ◌*◌, ◌≤◌, List, [], ◌∷◌, length, Option, Some, None, Bool, true, false, cond, refl, sym, ap, subst, arith, eqb, leb}
 use Rattle.std.specs.Prelude.{All, IfSome, map, filter, find, option_map}
 use Rattle.std.specs.Str.{bytes_eq}
 use Rattle.std.proofs.lemmas.Bool.{and_parts, leb-true, le-leb}
@@ -7,7 +7,7 @@ use Rattle.std.proofs.lemmas.List.Elements.{All-nil, All-push, All-map, All-filt
 use Rattle.std.proofs.lemmas.List.{length-map}
 use Rattle.day_totals.specs.Day.{last_day}
 use Rattle.day_totals.specs.declared.leg.Leg.{Leg}
-use Rattle.day_totals.specs.Totals.{FitsDay, IsWithinLimits, greatest_count, greatest_posting}
+use Rattle.day_totals.specs.Totals.{greatest_posting}
 use Rattle.day_totals.proofs.WithinLimits.{FitsDay-within}
 use Rattle.acq_message.specs.declared.service.Service.{Service}
 use Rattle.acq_message.specs.declared.service.Service.TheVariants.{Authorization, Financial, Completion, Reversal, ReversalAdvice, Reconciliation, NetworkManagement}
@@ -25,9 +25,9 @@ use Rattle.acq_core.specs.declared.status.Status.{Status}
 use Rattle.acq_core.specs.declared.status.Status.TheVariants as status
 use Rattle.acq_core.specs.declared.reply_state.ReplyState.{ReplyState}
 use Rattle.acq_core.specs.declared.reply_state.ReplyState.TheVariants.{Kept, Awaited, Late}
-use Rattle.acq_core.specs.Numbers.{is_limit, is_first_reference, greatest_limit}
+use Rattle.acq_core.specs.Numbers.{is_first_reference, greatest_limit}
 use Rattle.acq_core.specs.Changes.{or_zero, change_of, approval_posting, answer_posting, posting_today, completion_posting, posted_leg, reversal_leg, reversal_posting, answered_status, reversed_status}
-use Rattle.acq_core.specs.Tables.{Opening, Tables, new_tables, count, prior_of, reply_state_of, reference_by, leg_by, requests_of, postings_of, admitted_in, with_changed, with_next_posting, postings_before, totals_on, known_in, after_any, step_tables, tables_after}
+use Rattle.acq_core.specs.Tables.{Opening, Tables, new_tables, count, prior_of, reply_state_of, reference_by, leg_by, requests_of, postings_of, admitted_in, with_changed, with_next_posting, postings_before, known_in, after_any, step_tables, tables_after}
 use Rattle.acq_history.specs.Entries.{is_reversal}
 use Rattle.acq_history.proofs.Lookups.{map_some}
 use Rattle.acq_history.proofs.Members.{In-find, from_In}
@@ -38,7 +38,7 @@ use Rattle.acq_invariants.proofs.Arrivals.{IsArrival, kept_by_events}
 use Rattle.acq_invariants.proofs.ChangedRows.{All-with_changed, All-member}
 use Rattle.acq_invariants.proofs.CountsOfRows.{is_pending}
 use Rattle.acq_invariants.proofs.AdmittedCounts.{IsCounted, admitted_in-within}
-use Rattle.acq_invariants.proofs.CountsStayWithin.{AreCountsWithin, IsOf, IsCountedRow, within_uncounted, within_counted, posted_on-ended, used_on-changed, pending_on-changed, within_answered}
+use Rattle.acq_invariants.proofs.CountsStayWithin.{AreCountsWithin, IsOf, within_uncounted, within_counted, posted_on-ended, used_on-changed, pending_on-changed, within_answered}
 
 -- ---- rows
 
@@ -367,10 +367,20 @@ module _ (opening : Opening) (begins : IsOpening opening) where
           counts = h.counts;
         };
         range_added = λ range valid free. record {
-          limit = h.limit; day = h.day; firsts = h.firsts; rows = h.rows; postings = h.postings; counts = h.counts;
+          limit = h.limit;
+          day = h.day;
+          firsts = h.firsts;
+          rows = h.rows;
+          postings = h.postings;
+          counts = h.counts;
         };
         range_dropped = λ low high. record {
-          limit = h.limit; day = h.day; firsts = h.firsts; rows = h.rows; postings = h.postings; counts = h.counts;
+          limit = h.limit;
+          day = h.day;
+          firsts = h.firsts;
+          rows = h.rows;
+          postings = h.postings;
+          counts = h.counts;
         };
         enrolled = λ merchant came new. record {
           limit = h.limit;
@@ -381,7 +391,12 @@ module _ (opening : Opening) (begins : IsOpening opening) where
           counts = h.counts;
         };
         terminal_added = λ terminal came new. record {
-          limit = h.limit; day = h.day; firsts = h.firsts; rows = h.rows; postings = h.postings; counts = h.counts;
+          limit = h.limit;
+          day = h.day;
+          firsts = h.firsts;
+          rows = h.rows;
+          postings = h.postings;
+          counts = h.counts;
         };
       })
 

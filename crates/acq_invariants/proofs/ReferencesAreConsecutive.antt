@@ -1,8 +1,8 @@
 -- References are consecutive, whatever comes.
 use Rattle.std.proofs.Common.{◌≡◌, ℕ, zero, suc, ◌+◌, ◌<◌, List, [], ◌∷◌, ◌++◌, Option, Some, None, Bool, true, false, cond, inl, inr, ◌⊎◌, refl, sym, ap, ◌∙◌, subst, arith}
-use Rattle.std.specs.Prelude.{map, find, is_some, nat_eq, ◌||◌}
+use Rattle.std.specs.Prelude.{map, find, is_some, nat_eq}
 use Rattle.std.specs.Option.{option_or}
-use Rattle.std.specs.List.{filter_map, cons_option, range_with_len, list_any}
+use Rattle.std.specs.List.{cons_option, range_with_len, list_any}
 use Rattle.std.specs.Str.{bytes_eq}
 use Rattle.std.proofs.lemmas.Bool.{ne_eqb}
 use Rattle.std.proofs.lemmas.List.{append-nil}

@@ -1,6 +1,6 @@
 -- All replies are messages of the reply types, whatever comes.
-use Rattle.std.proofs.Common.{◌≡◌, ℕ, ◌+◌, ◌-◌, ◌<◌, ◌≤◌, List, [], ◌∷◌, ◌++◌, Option, Some, None, Bool, true, false, refl, sym, ap, ◌∙◌, subst, arith}
-use Rattle.std.specs.Prelude.{All, map, find, min}
+use Rattle.std.proofs.Common.{◌≡◌, ℕ, ◌+◌, ◌-◌, ◌≤◌, List, [], ◌∷◌, ◌++◌, Option, Some, None, Bool, true, false, refl, sym, ap, ◌∙◌, subst, arith}
+use Rattle.std.specs.Prelude.{min}
 use Rattle.std.specs.List.{list_all, range_with_len}
 use Rattle.std.specs.Str.{bytes_eq}
 use Rattle.std.proofs.lemmas.List.Elements.{All-nil, All-cons, All-head, All-tail, All-push}
@@ -10,7 +10,6 @@ use Rattle.iso_codec.proofs.WrittenIsRead.{all_append}
 use Rattle.day_totals.specs.Day.{last_day, mmdd_of, days_back, recent_days, resolved}
 use Rattle.day_totals.specs.Totals.{DayTotals}
 use Rattle.acq_message.specs.declared.service.Service.{Service}
-use Rattle.acq_message.specs.declared.request_key.RequestKey.{RequestKey}
 use Rattle.acq_message.specs.declared.request_message.RequestMessage.{RequestMessage}
 use Rattle.acq_message.specs.declared.response_code.ResponseCode.{ResponseCode}
 use Rattle.acq_message.specs.declared.response_code.ResponseCode.TheVariants as code
@@ -22,15 +21,14 @@ use Rattle.acq_core.specs.declared.request.Request.{Request}
 use Rattle.acq_core.specs.declared.output.Output.{Output}
 use Rattle.acq_core.specs.declared.output.Output.TheVariants as output
 use Rattle.acq_core.specs.Arrivals.{arrival_of, merchant_named}
-use Rattle.acq_core.specs.Known.{Known, reconciled_day}
-use Rattle.acq_core.specs.Decision.{Decision, decision}
+use Rattle.acq_core.specs.Known.{reconciled_day}
 use Rattle.acq_core.specs.Outcome.{Outcome, Replied, Repeated, Asked, Performed, Reported, balance_code, outcome, outcome_of, output_of, is_in_balance}
 use Rattle.acq_core.specs.Changes.{change_of}
 use Rattle.acq_core.specs.Tables.{Opening, Tables, new_tables, known_in, after_any, step_output, step_tables, outputs, tables_after}
 use Rattle.acq_history.proofs.Members.{In-find, In-mapped}
 use Rattle.acq_invariants.specs.Events.{IsVerdict, IsEvent, AreEvents, IsOpening}
 use Rattle.acq_invariants.specs.Replies.{IsReply, IsReplyText, HasReplies, GivesReplies, AreReplies, RepliesAreMessages}
-use Rattle.acq_invariants.proofs.StepCases.{is_reply, is_hosts, by_step}
+use Rattle.acq_invariants.proofs.StepCases.{is_reply, by_step}
 use Rattle.acq_invariants.proofs.Arrivals.{IsArrival, of_event, kept_by_events}
 use Rattle.acq_invariants.proofs.ChangedRows.{All-with_changed, All-member}
 use Rattle.acq_invariants.proofs.ReplyBodies.{may_have, body_with_all, body_of_echo, reply_of_body, body_of_reply, day_element-may, reference_element-may, IsCode, IsCode-hosts, code_element-may, verdict_elements-may, totals_elements-may}

@@ -1,6 +1,6 @@
 -- By cases over a step: what holds in each case that the tables allow holds of what is decided on them. Where a request
 -- is accepted, none of its service's refusals applied.
-use Rattle.std.proofs.Common.{◌≡◌, ℕ, ◌+◌, ◌<◌, List, [], ◌∷◌, Option, Some, None, Bool, true, false, cond, ◌⊎◌, inl, inr, refl, sym, ap, ◌∙◌, subst, ltb}
+use Rattle.std.proofs.Common.{◌≡◌, ℕ, ◌+◌, ◌<◌, List, [], ◌∷◌, Option, Some, None, Bool, true, false, refl, sym, ap, ◌∙◌, subst, ltb}
 use Rattle.std.specs.Prelude.{not, nat_lt, ◌==◌, ◌||◌, ◌&&◌, option_and_then, find, if◌then◌else◌}
 use Rattle.std.specs.List.{list_all, list_any}
 use Rattle.std.specs.Str.{bytes_eq}
@@ -28,8 +28,6 @@ use Rattle.acq_core.specs.declared.output.Output.{Output}
 use Rattle.acq_core.specs.declared.output.Output.TheVariants as output
 use Rattle.acq_core.specs.declared.arrival.Arrival.{Arrival}
 use Rattle.acq_core.specs.declared.arrival.Arrival.TheVariants.{Undecoded, Unserved, Malformed, Requested, Answered, CutOver, RangeAdded, RangeDropped, Enrolled, TerminalAdded}
-use Rattle.acq_core.specs.declared.reply_state.ReplyState.{ReplyState}
-use Rattle.acq_core.specs.declared.reply_state.ReplyState.TheVariants.{Kept, Awaited, Late}
 use Rattle.acq_core.specs.Known.{Known, Prior, reconciled_day, number_if, wanted_for}
 use Rattle.acq_core.specs.Decision.{Decision, Reports, Replies, Repeats, Refuses, Admits, Completes, Reverses, Reconciles, Answers, CutsOver, AddsRange, DropsRange, Enrols, AddsTerminal, first_of, is_full, is_other_transaction, is_expired, is_open_at, open_hold, fits_acquirer, original_of, admission_in, admission, completion_of, completion, reversal_of, reconciliation_of, is_network_code, network_response, decision_by, repeat_of, decision_of_key, decision_of_merchant, decision_of_request, decision_of_reply_state, decision_of_prior, decision_of_answer, decision_of_new_range, decision_of_old_range, decision_of_enrolment, decision_of_terminal, decision}
 use Rattle.acq_core.specs.Tables.{Tables, prior_of, reply_state_of, requests_of, recorded_in, referred_in, admitted_in, used_in, known_in}
@@ -38,8 +36,7 @@ use Rattle.acq_history.specs.Entries.{is_admissible, is_reversal}
 use Rattle.acq_history.proofs.Lookups.{or_split, not_false}
 use Rattle.acq_history.proofs.Members.{In}
 use Rattle.acq_history.proofs.RecordableRequests.{WantsByKey, wants_by_key, recordable_some}
-use Rattle.acq_history.proofs.Statuses.{reply_state_of-awaited}
-use Rattle.acq_history.proofs.GroundsOfDecision.{IsNew, IsRow, IsReferred, row_of_key, row_of_reference, is_new}
+use Rattle.acq_history.proofs.GroundsOfDecision.{IsNew, row_of_key, row_of_reference, is_new}
 
 -- the codes that the host gives of itself, and not in an issuer's words
 abbrev pub is_hosts : ResponseCode → Bool

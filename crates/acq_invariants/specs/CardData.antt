@@ -63,4 +63,5 @@ SpellNoneSensitive os =
 abbrev pub SensitiveDataStaysOut : Type 0
 SensitiveDataStaysOut =
     (opening : Opening) (es : List Event) → IsOpening opening → AreEvents es →
-    KeepsNoneSensitive (tables_after (new_tables opening) es) × SpellNoneSensitive (outputs (new_tables opening) es)
+    KeepsNoneSensitive (tables_after (new_tables opening) es)
+    × SpellNoneSensitive (outputs (new_tables opening) es)
