@@ -15,7 +15,7 @@ use Rattle.acq_history.proofs.Lookups.{or_split, not_true, any-push, map-push}
 use Rattle.acq_history.proofs.Members.{In}
 use Rattle.acq_history.proofs.Keys.{same_key_is}
 use Rattle.acq_invariants.specs.Keys.{are_distinct, same_terminal, HasUniqueKeys, KeysStayUnique}
-use Rattle.acq_invariants.proofs.StepCases.{by_step}
+use Rattle.acq_history.proofs.StepCases.{by_step}
 use Rattle.acq_invariants.proofs.Runs.{kept}
 
 -- ---- lists whose elements are distinct

@@ -1,4 +1,3 @@
-pub mod StepCases
 pub mod Runs
 pub mod RangesStayApart
 pub mod KeysStayUnique

@@ -33,7 +33,7 @@ use Rattle.acq_history.proofs.Lookups.{map_some}
 use Rattle.acq_history.proofs.Members.{In-find, from_In}
 use Rattle.acq_invariants.specs.Events.{IsOpening}
 use Rattle.acq_invariants.specs.Bounds.{IsBoundedRow, IsBoundedPosting, IsWithinLimit, NumbersStayBounded}
-use Rattle.acq_invariants.proofs.StepCases.{next_reference, by_step}
+use Rattle.acq_history.proofs.StepCases.{next_reference, by_step}
 use Rattle.acq_invariants.proofs.Arrivals.{IsArrival, kept_by_events}
 use Rattle.acq_invariants.proofs.ChangedRows.{All-with_changed, All-member}
 use Rattle.acq_invariants.proofs.CountsOfRows.{is_pending}

@@ -19,7 +19,7 @@ use Rattle.acq_history.proofs.Lookups.{count-view, count-same, count-push, filte
 use Rattle.acq_history.proofs.Keys.{bytes_eq_is, bytes_eq_itself}
 use Rattle.acq_invariants.specs.References.{references_in, merchant_in, AreRowsOf, HasConsecutiveReferences, ReferencesAreConsecutive}
 use Rattle.acq_invariants.specs.Keys.{are_distinct}
-use Rattle.acq_invariants.proofs.StepCases.{by_step}
+use Rattle.acq_history.proofs.StepCases.{by_step}
 use Rattle.acq_invariants.proofs.Runs.{kept}
 use Rattle.acq_invariants.proofs.ChangedRows.{changing, requests_of-changed}
 

@@ -28,7 +28,7 @@ use Rattle.acq_core.specs.Tables.{Opening, Tables, new_tables, known_in, after_a
 use Rattle.acq_history.proofs.Members.{In-find, In-mapped}
 use Rattle.acq_invariants.specs.Events.{IsVerdict, IsEvent, AreEvents, IsOpening}
 use Rattle.acq_invariants.specs.Replies.{IsReply, IsReplyText, HasReplies, GivesReplies, AreReplies, RepliesAreMessages}
-use Rattle.acq_invariants.proofs.StepCases.{is_reply, by_step}
+use Rattle.acq_history.proofs.StepCases.{is_reply, by_step}
 use Rattle.acq_invariants.proofs.Arrivals.{IsArrival, of_event, kept_by_events}
 use Rattle.acq_invariants.proofs.ChangedRows.{All-with_changed, All-member}
 use Rattle.acq_invariants.proofs.ReplyBodies.{may_have, body_with_all, body_of_echo, reply_of_body, body_of_reply, day_element-may, reference_element-may, IsCode, IsCode-hosts, code_element-may, verdict_elements-may, totals_elements-may}

@@ -28,7 +28,7 @@ use Rattle.acq_message.specs.Reply.{echo, with_contents, day_element, reference_
 use Rattle.acq_invariants.specs.Events.{IsVerdict}
 use Rattle.acq_invariants.specs.Replies.{reply_elements, IsReply}
 use Rattle.acq_invariants.proofs.DayTexts.{mmdd_of-digits}
-use Rattle.acq_invariants.proofs.StepCases.{is_hosts}
+use Rattle.acq_history.proofs.StepCases.{is_hosts}
 
 -- an element that a reply may have
 abbrev pub may_have : ℕ × List ℕ → Bool

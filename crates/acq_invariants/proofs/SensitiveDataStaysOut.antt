@@ -22,7 +22,7 @@ use Rattle.acq_core.specs.Tables.{Tables, new_tables, known_in, after_any, step_
 use Rattle.acq_history.proofs.Lookups.{or_true}
 use Rattle.acq_invariants.specs.Replies.{reply_elements, IsReplyText}
 use Rattle.acq_invariants.specs.CardData.{sensitive_elements, IsEssence, may_be_acquirer, KeepsNoSensitiveData, SpellsNoSensitiveData, SensitiveDataStaysOut}
-use Rattle.acq_invariants.proofs.StepCases.{by_step}
+use Rattle.acq_history.proofs.StepCases.{by_step}
 use Rattle.acq_invariants.proofs.Arrivals.{IsArrival, kept_by_events}
 use Rattle.acq_invariants.proofs.ChangedRows.{All-with_changed, All-member}
 use Rattle.acq_invariants.proofs.ReplyBodies.{all_weaker, among_passes, kept_ascends}
