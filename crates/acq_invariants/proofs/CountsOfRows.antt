@@ -11,7 +11,7 @@ use Rattle.acq_core.specs.Tables.{count, used_in}
 use Rattle.acq_history.proofs.Lookups.{count-push, count-view, count-same, filter-push_in, filter-push_out}
 use Rattle.acq_history.proofs.Members.{In}
 use Rattle.acq_history.proofs.Keys.{same_key_from, eqb_itself}
-use Rattle.acq_invariants.proofs.ChangedRows.{changing}
+use Rattle.acq_invariants.proofs.RowsWithChanges.{changing}
 
 -- one where a test passes
 abbrev pub one_if : Bool → ℕ

@@ -9,7 +9,7 @@ use Rattle.acq_core.specs.Tables.{count, requests_of, postings_of, used_in, with
 use Rattle.acq_history.proofs.Lookups.{and_false}
 use Rattle.acq_history.proofs.Members.{In, In-filter}
 use Rattle.acq_history.proofs.Keys.{bytes_eq_is, eqb_is}
-use Rattle.acq_invariants.proofs.ChangedRows.{requests_of-changed}
+use Rattle.acq_invariants.proofs.RowsWithChanges.{requests_of-changed}
 use Rattle.acq_invariants.proofs.CountsOfRows.{one_if, count-filter_push, used_in-changed, is_pending, pending_in, pending_in-changed, pending_in-answered}
 
 -- how many postings of a day a merchant has

@@ -6,7 +6,7 @@ pub mod DayTexts
 pub mod ReplyBodies
 pub mod ReplyTexts
 pub mod Arrivals
-pub mod ChangedRows
+pub mod RowsWithChanges
 pub mod RepliesAreMessages
 pub mod SensitiveDataStaysOut
 pub mod CountsOfRows

@@ -35,7 +35,7 @@ use Rattle.acq_invariants.specs.Events.{IsOpening}
 use Rattle.acq_invariants.specs.Bounds.{IsBoundedRow, IsBoundedPosting, IsWithinLimit, NumbersStayBounded}
 use Rattle.acq_history.proofs.StepCases.{next_reference, by_step}
 use Rattle.acq_invariants.proofs.Arrivals.{IsArrival, kept_by_events}
-use Rattle.acq_invariants.proofs.ChangedRows.{All-with_changed, All-member}
+use Rattle.acq_invariants.proofs.RowsWithChanges.{All-with_changed, All-member}
 use Rattle.acq_invariants.proofs.CountsOfRows.{is_pending}
 use Rattle.acq_invariants.proofs.AdmittedCounts.{IsCounted, admitted_in-within}
 use Rattle.acq_invariants.proofs.CountsStayWithin.{AreCountsWithin, IsOf, within_uncounted, within_counted, posted_on-ended, used_on-changed, pending_on-changed, within_answered}

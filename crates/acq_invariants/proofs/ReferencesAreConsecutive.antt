@@ -21,7 +21,7 @@ use Rattle.acq_invariants.specs.References.{references_in, merchant_in, AreRowsO
 use Rattle.acq_invariants.specs.Keys.{are_distinct}
 use Rattle.acq_history.proofs.StepCases.{by_step}
 use Rattle.acq_invariants.proofs.Runs.{kept}
-use Rattle.acq_invariants.proofs.ChangedRows.{changing, requests_of-changed}
+use Rattle.acq_invariants.proofs.RowsWithChanges.{changing, requests_of-changed}
 
 -- ---- one number more
 

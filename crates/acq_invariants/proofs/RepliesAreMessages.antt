@@ -30,7 +30,7 @@ use Rattle.acq_invariants.specs.Events.{IsVerdict, IsEvent, AreEvents, IsOpening
 use Rattle.acq_invariants.specs.Replies.{IsReply, IsReplyText, HasReplies, GivesReplies, AreReplies, RepliesAreMessages}
 use Rattle.acq_history.proofs.StepCases.{is_reply, by_step}
 use Rattle.acq_invariants.proofs.Arrivals.{IsArrival, of_event, kept_by_events}
-use Rattle.acq_invariants.proofs.ChangedRows.{All-with_changed, All-member}
+use Rattle.acq_invariants.proofs.RowsWithChanges.{All-with_changed, All-member}
 use Rattle.acq_invariants.proofs.ReplyBodies.{may_have, body_with_all, body_of_echo, reply_of_body, body_of_reply, day_element-may, reference_element-may, IsCode, IsCode-hosts, code_element-may, verdict_elements-may, totals_elements-may}
 use Rattle.acq_invariants.proofs.ReplyTexts.{text_of_reply}
 
@@ -115,10 +115,6 @@ IsSoundOutcome (Reported o) = is_reply o ≡ false
 
 abbrev pub IsRowReply : Request → Type 0
 IsRowReply row = IsReply row.key.service row.reply
-
--- a message that came
-message_of : (a : Arrival) (b : Arrival) → a ≡ b → IsArrival a → IsArrival b
-message_of a b e h = subst IsArrival e h
 
 step : (t : Tables) (a : Arrival) → IsArrival a → HasSoundReplies t →
     HasSoundReplies (step_tables t a) × IsSoundOutcome (outcome (known_in t a) a)

@@ -24,7 +24,7 @@ use Rattle.acq_invariants.specs.Replies.{reply_elements, IsReplyText}
 use Rattle.acq_invariants.specs.CardData.{sensitive_elements, IsEssence, may_be_acquirer, KeepsNoSensitiveData, SpellsNoSensitiveData, SensitiveDataStaysOut}
 use Rattle.acq_history.proofs.StepCases.{by_step}
 use Rattle.acq_invariants.proofs.Arrivals.{IsArrival, kept_by_events}
-use Rattle.acq_invariants.proofs.ChangedRows.{All-with_changed, All-member}
+use Rattle.acq_invariants.proofs.RowsWithChanges.{All-with_changed, All-member}
 use Rattle.acq_invariants.proofs.ReplyBodies.{all_weaker, among_passes, kept_ascends}
 use Rattle.acq_invariants.proofs.RepliesAreMessages.{IsRowReply, replies_are_messages}
 
