@@ -27,7 +27,8 @@ use Rattle.acq_core.specs.Tables.{Opening, Tables, new_tables, prior_of, reply_s
 use Rattle.acq_history.specs.Entries.{is_reversal}
 use Rattle.acq_bookkeeping.specs.Conservation.{is_reversal_leg, IsConserved}
 use Rattle.acq_history.proofs.Members.{In, In-first, In-last, In-push, from_In, to_In}
-use Rattle.acq_history.proofs.GroundsOfDecision.{IsNew, IsAdmission, Grounds, grounds}
+use Rattle.acq_history.proofs.FoundRows.{IsNew}
+use Rattle.acq_history.proofs.GroundsOfDecision.{IsAdmission, Grounds, grounds}
 use Rattle.acq_bookkeeping.proofs.PostingsOfRequests.{is_posted, is_reversed, posted_by, posted, IsPostingOf, HasPosted, PostingsMatchRows, Grows, FromBefore, FromBeforeOr, unposted, posted_first, posted_reversal}
 use Rattle.acq_bookkeeping.proofs.RowsStayWellFormed.{IsWellFormed, IsFit, IsCompleting, IsChange, IsReplaced, well_formed_later, well_formed_with_merchant, well_formed_with_row, well_formed_changed, replaced}
 use Rattle.acq_bookkeeping.proofs.PostingsOfChangedRows.{IsLegOf, IsReversible, reversed_as, posted_same, posted_none, posted_reversing, posted_unsold, leg_of, leg_by_admissible, reversal_leg_is, is_open_until_row, reversible, posted_leg_approved, once_posted, none_posted, Grows-push, Grows-both, from_push, pushed, Grows-replaced, from_replaced}

@@ -5,4 +5,6 @@ pub mod RecordableRequests
 pub mod Statuses
 pub mod NextReference
 pub mod DayOfPosting
+pub mod FoundRows
+pub mod StepCases
 pub mod GroundsOfDecision

@@ -1,10 +1,10 @@
 -- Element 15 of a day is four digits.
-use Rattle.std.proofs.Common.{◌≡◌, ℕ, ◌≤◌, true, refl, arith}
+use Rattle.std.proofs.Common.{◌≡◌, ℕ, ◌≤◌, true, arith}
 use Rattle.std.proofs.lemmas.Bool.Decides.{nat_tests}
 use Rattle.iso_codec.proofs.WrittenIsRead.{all_append}
 use Rattle.std.specs.List.{list_all}
 use Rattle.std.specs.Char.{is_ascii_digit}
-use Rattle.std.specs.Prelude.{length, pos}
+use Rattle.std.specs.Prelude.{pos}
 use Rattle.jiff.specs.Words.{days_in_month}
 use Rattle.day_totals.specs.Day.{last_day, date_of, two_digits, mmdd_of}
 use Rattle.day_totals.proofs.MonthsAndYears.{date_of-at}
@@ -22,6 +22,3 @@ mmdd_of-digits day h =
     let front = two_digits-digits (date_of day).month month in
     let back = two_digits-digits (date_of day).day dom in
     all_append is_ascii_digit (two_digits (date_of day).month) (two_digits (date_of day).day) front back
-
-pub length-mmdd_of : (day : ℕ) → length (mmdd_of day) ≡ 4
-length-mmdd_of day = refl

@@ -1,6 +1,6 @@
 -- Keys stay unique, whatever comes.
-use Rattle.std.proofs.Common.{◌≡◌, List, [], ◌∷◌, ◌++◌, Bool, true, false, None, cond, inl, inr, refl, sym, ap, ◌∙◌, subst}
-use Rattle.std.specs.Prelude.{map, find, not, ◌&&◌, ◌||◌}
+use Rattle.std.proofs.Common.{◌≡◌, List, [], ◌∷◌, ◌++◌, Bool, true, false, cond, inl, inr, refl, sym, ap, ◌∙◌, subst}
+use Rattle.std.specs.Prelude.{map, not, ◌||◌}
 use Rattle.std.specs.List.{list_any}
 use Rattle.std.specs.Str.{bytes_eq}
 use Rattle.std.proofs.lemmas.Bool.{and_parts, and_from}
@@ -15,7 +15,7 @@ use Rattle.acq_history.proofs.Lookups.{or_split, not_true, any-push, map-push}
 use Rattle.acq_history.proofs.Members.{In}
 use Rattle.acq_history.proofs.Keys.{same_key_is}
 use Rattle.acq_invariants.specs.Keys.{are_distinct, same_terminal, HasUniqueKeys, KeysStayUnique}
-use Rattle.acq_invariants.proofs.StepCases.{by_step}
+use Rattle.acq_history.proofs.StepCases.{by_step}
 use Rattle.acq_invariants.proofs.Runs.{kept}
 
 -- ---- lists whose elements are distinct
@@ -88,8 +88,12 @@ step t a h =
       reconciled = λ r came merchant g service day is.
           record { requests = unique_with_row t.requests t.requests _ refl g.new h.requests; merchants = h.merchants; terminals = h.terminals };
       answered = λ moment merchant reference v came row member pending n under.
-          record { requests = subst (λ ks. are_distinct same_key ks ≡ true)
-          (sym (keys-with_changed row.key _ (λ x. refl) t.requests)) h.requests; merchants = h.merchants; terminals = h.terminals };
+          record {
+            requests = subst (λ ks. are_distinct same_key ks ≡ true)
+                (sym (keys-with_changed row.key _ (λ x. refl) t.requests)) h.requests;
+            merchants = h.merchants;
+            terminals = h.terminals;
+          };
       cut_over = λ before. record { requests = h.requests; merchants = h.merchants; terminals = h.terminals };
       range_added = λ range valid free.
           record { requests = h.requests; merchants = h.merchants; terminals = h.terminals };

@@ -1,4 +1,3 @@
-pub mod StepCases
 pub mod Runs
 pub mod RangesStayApart
 pub mod KeysStayUnique
@@ -7,6 +6,11 @@ pub mod DayTexts
 pub mod ReplyBodies
 pub mod ReplyTexts
 pub mod Arrivals
-pub mod ChangedRows
+pub mod RowsWithChanges
 pub mod RepliesAreMessages
 pub mod SensitiveDataStaysOut
+pub mod CountsOfRows
+pub mod AdmittedCounts
+pub mod CountsStayWithin
+pub mod NumbersStayBounded
+pub mod BooksAreSound

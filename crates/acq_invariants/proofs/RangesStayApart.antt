@@ -6,7 +6,7 @@ use Rattle.acq_core.specs.declared.arrival.Arrival.{Arrival}
 use Rattle.acq_core.specs.Changes.{change_of}
 use Rattle.acq_core.specs.Tables.{Tables, new_tables, known_in, after_any, step_tables}
 use Rattle.acq_invariants.specs.Ranges.{HasRangesApart, RangesStayApart}
-use Rattle.acq_invariants.proofs.StepCases.{by_step}
+use Rattle.acq_history.proofs.StepCases.{by_step}
 use Rattle.acq_invariants.proofs.Runs.{kept}
 
 step : (t : Tables) (a : Arrival) → HasRangesApart t → HasRangesApart (step_tables t a)

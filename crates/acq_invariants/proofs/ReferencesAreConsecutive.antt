@@ -1,9 +1,10 @@
 -- References are consecutive, whatever comes.
-use Rattle.std.proofs.Common.{◌≡◌, ℕ, zero, suc, ◌+◌, List, [], ◌∷◌, ◌++◌, Option, Some, None, Bool, true, false, cond, inl, inr, ◌⊎◌, refl, sym, ap, ◌∙◌, subst, arith}
-use Rattle.std.specs.Prelude.{map, find, is_some, ◌||◌}
+use Rattle.std.proofs.Common.{◌≡◌, ℕ, zero, suc, ◌+◌, ◌<◌, List, [], ◌∷◌, ◌++◌, Option, Some, None, Bool, true, false, cond, inl, inr, ◌⊎◌, refl, sym, ap, ◌∙◌, subst, arith}
+use Rattle.std.specs.Prelude.{map, find, is_some, nat_eq}
 use Rattle.std.specs.Option.{option_or}
-use Rattle.std.specs.List.{filter_map, cons_option, range_with_len}
+use Rattle.std.specs.List.{cons_option, range_with_len, list_any}
 use Rattle.std.specs.Str.{bytes_eq}
+use Rattle.std.proofs.lemmas.Bool.{ne_eqb}
 use Rattle.std.proofs.lemmas.List.{append-nil}
 use Rattle.std.proofs.lemmas.List.Elements.{filter_map-append}
 use Rattle.std.proofs.lemmas.List.Folds.{find-append}
@@ -13,12 +14,14 @@ use Rattle.acq_core.specs.declared.arrival.Arrival.{Arrival}
 use Rattle.acq_core.specs.declared.merchant.Merchant.{Merchant}
 use Rattle.acq_core.specs.declared.request.Request.{Request}
 use Rattle.acq_core.specs.Changes.{change_of}
-use Rattle.acq_core.specs.Tables.{Tables, new_tables, known_in, requests_of, admitted_in, with_changed, after_any, step_tables}
-use Rattle.acq_history.proofs.Lookups.{filter-map, count-view, count-same, count-push, filter-push_in, filter-push_out}
+use Rattle.acq_core.specs.Tables.{Tables, new_tables, known_in, requests_of, admitted_in, with_changed, after_any, step_tables, tables_after}
+use Rattle.acq_history.proofs.Lookups.{count-view, count-same, count-push, filter-push_in, filter-push_out}
 use Rattle.acq_history.proofs.Keys.{bytes_eq_is, bytes_eq_itself}
-use Rattle.acq_invariants.specs.References.{references_in, AreRowsOf, HasConsecutiveReferences, ReferencesAreConsecutive}
-use Rattle.acq_invariants.proofs.StepCases.{by_step}
+use Rattle.acq_invariants.specs.References.{references_in, merchant_in, AreRowsOf, HasConsecutiveReferences, ReferencesAreConsecutive}
+use Rattle.acq_invariants.specs.Keys.{are_distinct}
+use Rattle.acq_history.proofs.StepCases.{by_step}
 use Rattle.acq_invariants.proofs.Runs.{kept}
+use Rattle.acq_invariants.proofs.RowsWithChanges.{changing, requests_of-changed}
 
 -- ---- one number more
 
@@ -115,24 +118,13 @@ with_changes : (merchants : List Merchant) (rows : List Request) (key : RequestK
     ((x : Request) → (changed x).key ≡ x.key) → ((x : Request) → (changed x).reference ≡ x.reference) →
     AreRows merchants rows → AreRows merchants (with_changed key changed rows)
 with_changes merchants rows key changed keys references h m =
-    subst (AreRowsOf (merchant_among merchants m))
-    (sym (filter-map (λ x. bytes_eq x.key.merchant m) u u (λ x. ap (λ k. bytes_eq k.merchant m) (key_of_u x)) (λ x e. refl) rows))
-    (rows_changed (merchant_among merchants m) u reference_of_u (requests_of m rows) (h m))
+    subst (AreRowsOf (merchant_among merchants m)) (sym (requests_of-changed m key changed keys rows))
+    (rows_changed (merchant_among merchants m) (changing key changed) (λ x. one x (same_key x.key key))
+    (requests_of m rows) (h m))
   where
-    u : Request → Request
-    u = λ row. cond (same_key row.key key) (changed row) row
-
-    key_of_u : (x : Request) → (u x).key ≡ x.key
-    key_of_u x = elim (same_key x.key key) as (λ b. (cond b (changed x) x).key ≡ x.key) [
-      | true ↦ keys x
-      | false ↦ refl
-    ]
-
-    reference_of_u : (x : Request) → (u x).reference ≡ x.reference
-    reference_of_u x = elim (same_key x.key key) as (λ b. (cond b (changed x) x).reference ≡ x.reference) [
-      | true ↦ references x
-      | false ↦ refl
-    ]
+    one : (x : Request) (b : Bool) → (cond b (changed x) x).reference ≡ x.reference
+    one x true = references x
+    one x false = refl
 
 -- with a merchant more
 with_merchant : (merchants : List Merchant) (rows : List Request) (merchant : Merchant) → AreRows merchants rows →
@@ -182,5 +174,26 @@ step t a h =
       terminal_added = λ terminal came new. h;
     })
 
+-- ---- none is given twice
+
+-- numbers from one on stand above all before it
+range-above : (low a n : ℕ) → low < a → list_any (nat_eq low) (range_with_len a n) ≡ false
+range-above low a zero above = refl
+range-above low a (suc n) above = rw (ne_eqb low a (omega arith)) (range-above low (a + 1) n (omega arith))
+
+range-distinct : (a n : ℕ) → are_distinct nat_eq (range_with_len a n) ≡ true
+range-distinct a zero = refl
+range-distinct a (suc n) = rw (range-above a (a + 1) n (omega arith)) (range-distinct (a + 1) n)
+
+references-distinct : (o : Option Merchant) (rows : List Request) → AreRowsOf o rows →
+    are_distinct nat_eq (references_in rows) ≡ true
+references-distinct None rows h = ap (λ xs. are_distinct nat_eq (references_in xs)) h
+references-distinct (Some merchant) rows h =
+    ap (are_distinct nat_eq) h ∙ range-distinct merchant.first_reference (admitted_in rows)
+
 pub references_are_consecutive : ReferencesAreConsecutive
-references_are_consecutive opening es = kept HasConsecutiveReferences step (new_tables opening) es (λ m. refl)
+references_are_consecutive opening es =
+    let t = tables_after (new_tables opening) es in
+    let all : HasConsecutiveReferences (tables_after (new_tables opening) es) =
+    kept HasConsecutiveReferences step (new_tables opening) es (λ m. refl) in
+    (all, λ m. references-distinct (merchant_in t m) (requests_of m t.requests) (all m))

@@ -1,16 +1,15 @@
 -- All replies are messages of the reply types, whatever comes.
-use Rattle.std.proofs.Common.{◌≡◌, ℕ, ◌+◌, ◌-◌, ◌<◌, ◌≤◌, List, [], ◌∷◌, ◌++◌, Option, Some, None, Bool, true, false, refl, sym, ap, ◌∙◌, subst, arith}
-use Rattle.std.specs.Prelude.{All, map, find, min}
+use Rattle.std.proofs.Common.{◌≡◌, ℕ, ◌+◌, ◌-◌, ◌≤◌, List, [], ◌∷◌, ◌++◌, Option, Some, None, Bool, true, false, refl, sym, ap, ◌∙◌, subst, arith}
+use Rattle.std.specs.Prelude.{min}
 use Rattle.std.specs.List.{list_all, range_with_len}
 use Rattle.std.specs.Str.{bytes_eq}
-use Rattle.std.proofs.lemmas.List.Elements.{All-nil, All-push}
+use Rattle.std.proofs.lemmas.List.Elements.{All-nil, All-cons, All-head, All-tail, All-push}
 use Rattle.iso_codec.specs.Message.{IsoMessage, IsMessage}
 use Rattle.iso_codec.specs.Reading.{spelling}
 use Rattle.iso_codec.proofs.WrittenIsRead.{all_append}
 use Rattle.day_totals.specs.Day.{last_day, mmdd_of, days_back, recent_days, resolved}
 use Rattle.day_totals.specs.Totals.{DayTotals}
 use Rattle.acq_message.specs.declared.service.Service.{Service}
-use Rattle.acq_message.specs.declared.request_key.RequestKey.{RequestKey}
 use Rattle.acq_message.specs.declared.request_message.RequestMessage.{RequestMessage}
 use Rattle.acq_message.specs.declared.response_code.ResponseCode.{ResponseCode}
 use Rattle.acq_message.specs.declared.response_code.ResponseCode.TheVariants as code
@@ -19,19 +18,19 @@ use Rattle.acq_message.specs.Reply.{echo, reply_to, day_element, reference_eleme
 use Rattle.acq_core.specs.declared.event.Event.{Event}
 use Rattle.acq_core.specs.declared.arrival.Arrival.{Arrival}
 use Rattle.acq_core.specs.declared.request.Request.{Request}
+use Rattle.acq_core.specs.declared.output.Output.{Output}
 use Rattle.acq_core.specs.declared.output.Output.TheVariants as output
 use Rattle.acq_core.specs.Arrivals.{arrival_of, merchant_named}
-use Rattle.acq_core.specs.Known.{Known, reconciled_day}
-use Rattle.acq_core.specs.Decision.{Decision, decision}
+use Rattle.acq_core.specs.Known.{reconciled_day}
 use Rattle.acq_core.specs.Outcome.{Outcome, Replied, Repeated, Asked, Performed, Reported, balance_code, outcome, outcome_of, output_of, is_in_balance}
 use Rattle.acq_core.specs.Changes.{change_of}
-use Rattle.acq_core.specs.Tables.{Tables, new_tables, known_in, after_any, step_tables, tables_after}
+use Rattle.acq_core.specs.Tables.{Opening, Tables, new_tables, known_in, after_any, step_output, step_tables, outputs, tables_after}
 use Rattle.acq_history.proofs.Members.{In-find, In-mapped}
-use Rattle.acq_invariants.specs.Events.{IsVerdict, IsEvent, IsOpening}
-use Rattle.acq_invariants.specs.Replies.{IsReply, IsReplyText, HasReplies, GivesReplies, RepliesAreMessages}
-use Rattle.acq_invariants.proofs.StepCases.{is_reply, is_hosts, by_step}
+use Rattle.acq_invariants.specs.Events.{IsVerdict, IsEvent, AreEvents, IsOpening}
+use Rattle.acq_invariants.specs.Replies.{IsReply, IsReplyText, HasReplies, GivesReplies, AreReplies, RepliesAreMessages}
+use Rattle.acq_history.proofs.StepCases.{is_reply, by_step}
 use Rattle.acq_invariants.proofs.Arrivals.{IsArrival, of_event, kept_by_events}
-use Rattle.acq_invariants.proofs.ChangedRows.{All-with_changed, All-member}
+use Rattle.acq_invariants.proofs.RowsWithChanges.{All-with_changed, All-member}
 use Rattle.acq_invariants.proofs.ReplyBodies.{may_have, body_with_all, body_of_echo, reply_of_body, body_of_reply, day_element-may, reference_element-may, IsCode, IsCode-hosts, code_element-may, verdict_elements-may, totals_elements-may}
 use Rattle.acq_invariants.proofs.ReplyTexts.{text_of_reply}
 
@@ -117,10 +116,6 @@ IsSoundOutcome (Reported o) = is_reply o ≡ false
 abbrev pub IsRowReply : Request → Type 0
 IsRowReply row = IsReply row.key.service row.reply
 
--- a message that came
-message_of : (a : Arrival) (b : Arrival) → a ≡ b → IsArrival a → IsArrival b
-message_of a b e h = subst IsArrival e h
-
 step : (t : Tables) (a : Arrival) → IsArrival a → HasSoundReplies t →
     HasSoundReplies (step_tables t a) × IsSoundOutcome (outcome (known_in t a) a)
 step t a is h =
@@ -192,6 +187,10 @@ step t a is h =
       terminal_added = λ terminal came new. (record { day = h.day; replies = h.replies }, tt);
     })
 
+-- an output, if it is a reply, is such a text
+abbrev pub IsReplyOutput : Output → Type 0
+IsReplyOutput o = (party : Option (List ℕ)) (text : List ℕ) → o ≡ output.Reply party text → IsReplyText text
+
 -- what goes out as a reply is the text of one
 text_of_outcome : (merchant : Option (List ℕ)) (o : Outcome) (party : Option (List ℕ)) (text : List ℕ) →
     IsSoundOutcome o → output_of merchant o ≡ output.Reply party text → IsReplyText text
@@ -204,14 +203,33 @@ text_of_outcome merchant Performed party text is e = absurd cc
 text_of_outcome merchant (Reported o) party text is e =
     absurd (let no : true ≡ false = sym (ap is_reply e) ∙ is in cc)
 
+module _ (opening : Opening) (begins : IsOpening opening) where
+  sound_after : (es : List Event) → AreEvents es → HasSoundReplies (tables_after (new_tables opening) es)
+  sound_after es are =
+      kept_by_events HasSoundReplies (λ t a is h. (step t a is h).0) (new_tables opening) es are
+      (record { day = begins.first_day; replies = All-nil IsRowReply })
+
+  -- the next reply
+  gives : (t : Tables) → HasSoundReplies t → GivesReplies t
+  gives t h e party text is reply =
+      text_of_outcome (merchant_named (arrival_of e)) _ party text (step t (arrival_of e) (of_event e is) h).1 reply
+
+  -- all replies from a table on
+  all_outputs : (t : Tables) (es : List Event) → AreEvents es → HasSoundReplies t → AreReplies (outputs t es)
+  all_outputs t [] are h = All-nil IsReplyOutput
+  all_outputs t (e ∷ es) are h =
+      let is = All-head IsEvent e es are in
+      All-cons IsReplyOutput (step_output t (arrival_of e)) (outputs (step_tables t (arrival_of e)) es)
+      (λ party text reply. gives t h e party text is reply)
+      (all_outputs (step_tables t (arrival_of e)) es (All-tail IsEvent e es are)
+      (step t (arrival_of e) (of_event e is) h).0)
+
+  pub gives_replies : (es : List Event) → AreEvents es → GivesReplies (tables_after (new_tables opening) es)
+  gives_replies es are = gives (tables_after (new_tables opening) es) (sound_after es are)
+
 pub replies_are_messages : RepliesAreMessages
-replies_are_messages opening es begins are =
-    let t = tables_after (new_tables opening) es in
-    let sound : HasSoundReplies (tables_after (new_tables opening) es) =
-    kept_by_events HasSoundReplies (λ u a is h. (step u a is h).0) (new_tables opening) es are
-    (record { day = begins.first_day; replies = All-nil IsRowReply }) in (
-      sound.replies,
-      λ e party text is reply.
-          text_of_outcome (merchant_named (arrival_of e)) _ party text
-          (step t (arrival_of e) (of_event e is) sound).1 reply,
-    )
+replies_are_messages opening es begins are = (
+  (sound_after opening begins es are).replies,
+  all_outputs opening begins (new_tables opening) es are
+      (record { day = begins.first_day; replies = All-nil IsRowReply }),
+)

@@ -1,9 +1,9 @@
 -- The elements of a reply: what is echoed, and what is added, are elements that replies may have.
-use Rattle.std.proofs.Common.{◌≡◌, ℕ, suc, ◌+◌, ◌<◌, ◌≤◌, List, [], ◌∷◌, ◌++◌, length, Option, Some, None, Bool, true, false, eqb, leb, cond, inl, inr, refl, sym, ap, ◌∙◌, subst, arith}
-use Rattle.std.specs.Prelude.{filter, codes, pos, ◌&&◌, ◌||◌, if◌then◌else◌, ℤ, negsuc}
-use Rattle.std.specs.List.{list_all, list_any}
+use Rattle.std.proofs.Common.{◌≡◌, ℕ, suc, ◌≤◌, List, [], ◌∷◌, length, Option, Some, None, Bool, true, false, eqb, leb, inl, inr, refl, sym, subst, arith}
+use Rattle.std.specs.Prelude.{filter, codes, pos, ◌&&◌, if◌then◌else◌, ℤ, negsuc}
+use Rattle.std.specs.List.{list_all}
 use Rattle.std.specs.Char.{is_ascii_digit}
-use Rattle.std.proofs.lemmas.Bool.{and_parts, and_from, cases_Bool, or_cases, eqb-true, leb-true}
+use Rattle.std.proofs.lemmas.Bool.{and_parts, and_from, cases_Bool, or_cases, eqb-true}
 use Rattle.std.proofs.lemmas.Bool.Decides.{nat_tests}
 use Rattle.iso_codec.specs.Content.{has_class, is_alphanumeric}
 use Rattle.iso_codec.specs.Table.{format_of}
@@ -11,7 +11,6 @@ use Rattle.iso_codec.specs.Message.{IsoMessage, IsMessage, IsKind, numbers, Asce
 use Rattle.iso_codec.proofs.OneMessage.{format_of_element}
 use Rattle.iso_codec.proofs.TableBounds.{format_in_bounds}
 use Rattle.iso_codec.proofs.ElementPlaces.{ascends_with}
-use Rattle.iso_codec.proofs.WrittenIsRead.{all_append}
 use Rattle.day_totals.specs.Day.{last_day, mmdd_of}
 use Rattle.day_totals.specs.Digits.{zero_padded}
 use Rattle.day_totals.specs.Totals.{DayTotals, net_text_of, net_of}
@@ -24,12 +23,11 @@ use Rattle.acq_message.specs.declared.verdict.Verdict.{Verdict}
 use Rattle.acq_message.specs.declared.verdict.Verdict.TheVariants as verdict
 use Rattle.acq_message.specs.IssuerTexts.{is_decline_code}
 use Rattle.acq_message.specs.Services.{reply_kind, echoed}
-use Rattle.acq_message.specs.Responses.{code_text}
-use Rattle.acq_message.specs.Reply.{echo, with_contents, day_element, reference_element, code_element, totals_elements, verdict_code, authorization_element, verdict_elements}
+use Rattle.acq_message.specs.Reply.{echo, with_contents, day_element, reference_element, code_element, totals_elements, verdict_elements}
 use Rattle.acq_invariants.specs.Events.{IsVerdict}
 use Rattle.acq_invariants.specs.Replies.{reply_elements, IsReply}
 use Rattle.acq_invariants.proofs.DayTexts.{mmdd_of-digits}
-use Rattle.acq_invariants.proofs.StepCases.{is_hosts}
+use Rattle.acq_history.proofs.StepCases.{is_hosts}
 
 -- an element that a reply may have
 abbrev pub may_have : ℕ × List ℕ → Bool

@@ -1,18 +1,18 @@
 -- The text of a reply fits a frame, and is printable.
-use Rattle.std.proofs.Common.{◌≡◌, ℕ, ◌+◌, ◌*◌, ◌/◌, ◌%◌, ◌≤◌, List, [], ◌∷◌, ◌++◌, length, Option, Some, None, Bool, true, false, eqb, leb, inl, inr, refl, sym, ap, ◌∙◌, subst, arith, length-append}
+use Rattle.std.proofs.Common.{◌≡◌, ℕ, ◌+◌, ◌*◌, ◌/◌, ◌%◌, ◌≤◌, List, [], ◌∷◌, ◌++◌, length, Option, Some, None, Bool, true, false, eqb, leb, refl, sym, ap, ◌∙◌, subst, arith, length-append}
 use Rattle.std.specs.Prelude.{MatchBool, ◌&&◌, ◌||◌}
 use Rattle.std.specs.List.{list_all}
 use Rattle.std.specs.Char.{is_ascii_digit}
-use Rattle.std.proofs.lemmas.Bool.{and_parts, and_from, or_cases, eqb-true, leb-true}
+use Rattle.std.proofs.lemmas.Bool.{and_parts, and_from, eqb-true, leb-true}
 use Rattle.std.proofs.lemmas.Bool.Decides.{nat_tests}
 use Rattle.iso_codec.specs.declared.class.Class.{Class}
 use Rattle.iso_codec.specs.declared.class.Class.TheVariants.{Numeric, Alphanumeric, Printable, Track, Hex, SignedNumeric, Any}
 use Rattle.iso_codec.specs.declared.form.Form.{Form}
 use Rattle.iso_codec.specs.declared.form.Form.TheVariants.{Fixed, Llvar, Lllvar}
 use Rattle.iso_codec.specs.declared.element_format.ElementFormat.{ElementFormat}
-use Rattle.iso_codec.specs.Content.{has_length, has_class, allows, digits_of, spelled_by, is_printable, is_alphanumeric, is_signed}
+use Rattle.iso_codec.specs.Content.{has_length, has_class, allows, digits_of, spelled_by, is_printable, is_alphanumeric}
 use Rattle.iso_codec.specs.Table.{format_of}
-use Rattle.iso_codec.specs.Message.{IsoMessage, IsMessage, IsBitmap, numbers, Ascends, is_element, is_upper_hex, spelled, body, is_among}
+use Rattle.iso_codec.specs.Message.{IsoMessage, IsBitmap, numbers, Ascends, is_element, is_upper_hex, spelled, body, is_among}
 use Rattle.iso_codec.specs.Reading.{spelling}
 use Rattle.iso_codec.proofs.OneMessage.{format_of_element}
 use Rattle.iso_codec.proofs.TableBounds.{format_in_bounds}

@@ -1,21 +1,17 @@
 -- No row keeps a track, a PIN block or chip data, and no reply has them, whatever comes.
-use Rattle.std.proofs.Common.{◌≡◌, ℕ, ◌<◌, ◌≤◌, List, [], ◌∷◌, ◌++◌, length, Option, Some, None, Bool, true, false, eqb, leb, ltb, inl, inr, refl, sym, ap, ◌∙◌, subst, arith}
-use Rattle.std.specs.Prelude.{All, IfSome, filter, option_map, not, codes, ◌&&◌, ◌||◌, if◌then◌else◌}
+use Rattle.std.proofs.Common.{◌≡◌, ℕ, List, [], ◌∷◌, ◌++◌, Option, Some, None, Bool, true, false, eqb, ltb, inl, inr, refl, ap, ◌∙◌, subst, arith}
+use Rattle.std.specs.Prelude.{All, IfSome, filter, option_map, not, codes, ◌||◌, if◌then◌else◌}
 use Rattle.std.specs.Option.{option_or}
 use Rattle.std.specs.List.{list_all, list_any}
-use Rattle.std.specs.Char.{is_ascii_digit}
 use Rattle.std.proofs.lemmas.Bool.{and_parts, and_from, cases_Bool, ltb-true}
 use Rattle.std.proofs.lemmas.List.Elements.{All-nil, All-push}
-use Rattle.card_no.specs.Track2.{may_be_number, parts_of, if_number, track2_of}
+use Rattle.card_no.specs.Track2.{may_be_number, parts_of, if_number}
 use Rattle.iso_codec.specs.Content.{has_class}
 use Rattle.iso_codec.specs.Table.{format_of}
 use Rattle.iso_codec.specs.Message.{IsoMessage, IsMessage, IsKind, numbers, Ascends, is_element, content_of, is_among}
-use Rattle.iso_codec.specs.Reading.{spelling}
 use Rattle.iso_codec.proofs.ElementPlaces.{fits_by, text_fits}
-use Rattle.iso_codec.proofs.WrittenIsRead.{all_append}
 use Rattle.acq_message.specs.declared.service.Service.{Service}
 use Rattle.acq_message.specs.declared.service.Service.TheVariants.{Authorization, Financial, Completion, Reversal, ReversalAdvice, Reconciliation, NetworkManagement}
-use Rattle.acq_message.specs.declared.request_message.RequestMessage.{RequestMessage}
 use Rattle.acq_message.specs.Services.{digits_of}
 use Rattle.acq_message.specs.Cards.{card_of, track_in, track_of}
 use Rattle.acq_message.specs.Elements.{essential, element_if, essence_of}
@@ -24,11 +20,11 @@ use Rattle.acq_core.specs.declared.request.Request.{Request}
 use Rattle.acq_core.specs.Changes.{change_of}
 use Rattle.acq_core.specs.Tables.{Tables, new_tables, known_in, after_any, step_tables, tables_after}
 use Rattle.acq_history.proofs.Lookups.{or_true}
-use Rattle.acq_invariants.specs.Replies.{reply_elements, IsReply}
-use Rattle.acq_invariants.specs.CardData.{sensitive_elements, lacks_sensitive_data, IsEssence, may_be_acquirer, KeepsNoSensitiveData, SpellsNoSensitiveData, SensitiveDataStaysOut}
-use Rattle.acq_invariants.proofs.StepCases.{by_step}
+use Rattle.acq_invariants.specs.Replies.{reply_elements, IsReplyText}
+use Rattle.acq_invariants.specs.CardData.{sensitive_elements, IsEssence, may_be_acquirer, KeepsNoSensitiveData, SpellsNoSensitiveData, SensitiveDataStaysOut}
+use Rattle.acq_history.proofs.StepCases.{by_step}
 use Rattle.acq_invariants.proofs.Arrivals.{IsArrival, kept_by_events}
-use Rattle.acq_invariants.proofs.ChangedRows.{All-with_changed, All-member}
+use Rattle.acq_invariants.proofs.RowsWithChanges.{All-with_changed, All-member}
 use Rattle.acq_invariants.proofs.ReplyBodies.{all_weaker, among_passes, kept_ascends}
 use Rattle.acq_invariants.proofs.RepliesAreMessages.{IsRowReply, replies_are_messages}
 
@@ -253,19 +249,20 @@ with_reply row c r = record {
   reply = lacks_by reply_elements row.reply.elements refl r.elements;
 }
 
+-- a reply's text
+text_without : (text : List ℕ) → IsReplyText text → SpellsNoSensitiveData text
+text_without text r = record {
+  message = r.reply;
+  is_message = r.is_reply.is_message;
+  spelled = r.spelled;
+  lacks = lacks_by reply_elements r.reply.elements refl r.is_reply.elements;
+}
+
 pub sensitive_data_stays_out : SensitiveDataStaysOut
 sensitive_data_stays_out opening es begins are =
-    let t = tables_after (new_tables opening) es in
     let clean : AreClean (tables_after (new_tables opening) es) =
     kept_by_events AreClean step (new_tables opening) es are (All-nil IsClean) in
     let replies = replies_are_messages opening es begins are in (
       λ k d lt. with_reply _ (clean k d lt) (replies.0 k d lt),
-      λ e party text is reply.
-          let r = replies.1 e party text is reply in
-          record {
-            message = r.reply;
-            is_message = r.is_reply.is_message;
-            spelled = r.spelled;
-            lacks = lacks_by reply_elements r.reply.elements refl r.is_reply.elements;
-          },
+      λ k d lt party text is. text_without text (replies.1 k d lt party text is),
     )

@@ -10,10 +10,10 @@ use Rattle.iso_codec.specs.Reading.{spelling}
 use Rattle.acq_message.specs.Elements.{essential}
 use Rattle.acq_core.specs.declared.event.Event.{Event}
 use Rattle.acq_core.specs.declared.request.Request.{Request}
+use Rattle.acq_core.specs.declared.output.Output.{Output}
 use Rattle.acq_core.specs.declared.output.Output.TheVariants.{Reply}
-use Rattle.acq_core.specs.Arrivals.{arrival_of}
-use Rattle.acq_core.specs.Tables.{Opening, Tables, new_tables, step_output, tables_after}
-use Rattle.acq_invariants.specs.Events.{IsEvent, AreEvents, IsOpening}
+use Rattle.acq_core.specs.Tables.{Opening, Tables, new_tables, outputs, tables_after}
+use Rattle.acq_invariants.specs.Events.{AreEvents, IsOpening}
 
 -- the elements of tracks 2 and 1, of the PIN block, and of the chip
 abbrev pub sensitive_elements : List ℕ
@@ -49,11 +49,19 @@ pub record SpellsNoSensitiveData (text : List ℕ) : Type 0 where
   pub spelled : text ≡ spelling message
   pub lacks : lacks_sensitive_data message ≡ true
 
--- Whatever comes, no row keeps sensitive data, and no reply that goes out has them.
+-- so it is of all rows
+abbrev pub KeepsNoneSensitive : Tables → Type 0
+KeepsNoneSensitive t = All KeepsNoSensitiveData t.requests
+
+-- and of all replies among outputs
+abbrev pub SpellNoneSensitive : List Output → Type 0
+SpellNoneSensitive os =
+    All (λ o. (party : Option (List ℕ)) (text : List ℕ) → o ≡ Reply party text →
+    SpellsNoSensitiveData text) os
+
+-- Whatever came, no row keeps sensitive data, and no reply that went out has them.
 abbrev pub SensitiveDataStaysOut : Type 0
 SensitiveDataStaysOut =
     (opening : Opening) (es : List Event) → IsOpening opening → AreEvents es →
-    let t = tables_after (new_tables opening) es in
-    All KeepsNoSensitiveData t.requests
-    × ((e : Event) (party : Option (List ℕ)) (text : List ℕ) → IsEvent e →
-    step_output t (arrival_of e) ≡ Reply party text → SpellsNoSensitiveData text)
+    KeepsNoneSensitive (tables_after (new_tables opening) es)
+    × SpellNoneSensitive (outputs (new_tables opening) es)

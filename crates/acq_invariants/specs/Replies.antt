@@ -8,9 +8,11 @@ use Rattle.iso_codec.specs.Reading.{spelling}
 use Rattle.acq_message.specs.declared.service.Service.{Service}
 use Rattle.acq_message.specs.Services.{reply_kind}
 use Rattle.acq_core.specs.declared.event.Event.{Event}
+use Rattle.acq_core.specs.declared.output.Output.{Output}
 use Rattle.acq_core.specs.declared.output.Output.TheVariants.{Reply}
 use Rattle.acq_core.specs.Arrivals.{arrival_of}
-use Rattle.acq_core.specs.Tables.{Opening, Tables, new_tables, step_output, tables_after}
+use Rattle.acq_core.specs.Tables.{Opening, Tables, new_tables, step_output, outputs}
+use Rattle.acq_core.specs.Tables.{tables_after}
 use Rattle.acq_invariants.specs.Events.{IsEvent, AreEvents, IsOpening}
 
 -- the elements that a reply may have
@@ -39,14 +41,20 @@ pub record IsReplyText (text : List ℕ) : Type 0 where
 abbrev pub HasReplies : Tables → Type 0
 HasReplies t = All (λ row. IsReply row.key.service row.reply) t.requests
 
--- so is each reply that goes out at an event
+-- whatever comes next, a reply that goes out is such a text
 abbrev pub GivesReplies : Tables → Type 0
 GivesReplies t =
     (e : Event) (party : Option (List ℕ)) (text : List ℕ) → IsEvent e →
     step_output t (arrival_of e) ≡ Reply party text → IsReplyText text
 
--- Whatever comes, all replies, those that are kept and those that go out, are such messages.
+-- so are all replies among outputs
+abbrev pub AreReplies : List Output → Type 0
+AreReplies os =
+    All (λ o. (party : Option (List ℕ)) (text : List ℕ) → o ≡ Reply party text → IsReplyText text)
+    os
+
+-- Whatever came, all replies, those that are kept and those that went out, are such messages.
 abbrev pub RepliesAreMessages : Type 0
 RepliesAreMessages =
     (opening : Opening) (es : List Event) → IsOpening opening → AreEvents es →
-    let t = tables_after (new_tables opening) es in HasReplies t × GivesReplies t
+    HasReplies (tables_after (new_tables opening) es) × AreReplies (outputs (new_tables opening) es)

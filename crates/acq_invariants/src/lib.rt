@@ -11,8 +11,10 @@ ghost use Rattle.acq_invariants.specs.Keys.{KeysStayUnique};
 ghost use Rattle.acq_invariants.specs.References.{ReferencesAreConsecutive};
 ghost use Rattle.acq_invariants.specs.Replies.{RepliesAreMessages};
 ghost use Rattle.acq_invariants.specs.CardData.{SensitiveDataStaysOut};
+ghost use Rattle.acq_invariants.specs.Bounds.{NumbersStayBounded};
+ghost use Rattle.acq_invariants.specs.Books.{BooksBegin, BooksGoOn, BooksAreSound};
 
-pub use types::{is_event, is_opening, is_verdict};
+pub use types::{every_event, every_opening, every_verdict};
 
 /// Each range is valid, they are in order of `low`, and no two overlap.
 pub fn ranges_stay_apart()
@@ -42,4 +44,18 @@ pub fn replies_are_messages()
 /// and the essential elements alone.
 pub fn sensitive_data_stays_out()
     ensures { SensitiveDataStaysOut }
+{}
+
+/// Days, references, counts and amounts stay within what the types hold: on each day no more
+/// messages of a merchant count than the limit is, no more are posted, and the day's totals fit.
+pub fn numbers_stay_bounded()
+    ensures { NumbersStayBounded }
+{}
+
+/// All of these at once, of the tables that any run of events leads to: a book begins with a new
+/// one's tables, stays one at each event, and is sound.
+pub fn books_are_sound()
+    ensures begin { BooksBegin }
+    ensures go_on { BooksGoOn }
+    ensures sound { BooksAreSound }
 {}

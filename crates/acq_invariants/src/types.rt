@@ -7,7 +7,7 @@ use acq_core::{Event, Limit, Verdict};
 use day_totals::Day;
 
 /// Every verdict has an id or a code that an issuer may give.
-pub fn is_verdict(verdict: &Verdict)
+pub fn every_verdict(verdict: &Verdict)
     ensures { IsVerdict verdict.now }
 {
     match verdict {
@@ -22,7 +22,7 @@ pub fn is_verdict(verdict: &Verdict)
 }
 
 /// Every event is such as the laws take it.
-pub fn is_event(event: &Event)
+pub fn every_event(event: &Event)
     ensures { IsEvent event.now }
 {
     match event {
@@ -33,7 +33,7 @@ pub fn is_event(event: &Event)
             let _seconds = moment.seconds();
             let _name = merchant.to_bytes();
             let _number = reference.number();
-            is_verdict(verdict);
+            every_verdict(verdict);
         }
         Event::AddRange(_) | Event::DropRange(_, _) => {}
         Event::Enrol(merchant, currency, first) => {
@@ -49,7 +49,7 @@ pub fn is_event(event: &Event)
 }
 
 /// Every limit and every day are an opening such as the laws take it.
-pub fn is_opening(limit: Limit, first_day: Day)
+pub fn every_opening(limit: Limit, first_day: Day)
     ensures { let opening : Opening = record { limit = limit; first_day = first_day } in
         IsOpening opening }
 {

@@ -1,6 +1,6 @@
 -- By cases over a step: what holds in each case that the tables allow holds of what is decided on them. Where a request
 -- is accepted, none of its service's refusals applied.
-use Rattle.std.proofs.Common.{◌≡◌, ℕ, ◌+◌, ◌<◌, List, [], ◌∷◌, Option, Some, None, Bool, true, false, cond, ◌⊎◌, inl, inr, refl, sym, ap, ◌∙◌, subst, ltb}
+use Rattle.std.proofs.Common.{◌≡◌, ℕ, ◌+◌, ◌<◌, List, [], ◌∷◌, Option, Some, None, Bool, true, false, refl, sym, ap, ◌∙◌, subst, ltb}
 use Rattle.std.specs.Prelude.{not, nat_lt, ◌==◌, ◌||◌, ◌&&◌, option_and_then, find, if◌then◌else◌}
 use Rattle.std.specs.List.{list_all, list_any}
 use Rattle.std.specs.Str.{bytes_eq}
@@ -28,18 +28,15 @@ use Rattle.acq_core.specs.declared.output.Output.{Output}
 use Rattle.acq_core.specs.declared.output.Output.TheVariants as output
 use Rattle.acq_core.specs.declared.arrival.Arrival.{Arrival}
 use Rattle.acq_core.specs.declared.arrival.Arrival.TheVariants.{Undecoded, Unserved, Malformed, Requested, Answered, CutOver, RangeAdded, RangeDropped, Enrolled, TerminalAdded}
-use Rattle.acq_core.specs.declared.reply_state.ReplyState.{ReplyState}
-use Rattle.acq_core.specs.declared.reply_state.ReplyState.TheVariants.{Kept, Awaited, Late}
 use Rattle.acq_core.specs.Known.{Known, Prior, reconciled_day, number_if, wanted_for}
 use Rattle.acq_core.specs.Decision.{Decision, Reports, Replies, Repeats, Refuses, Admits, Completes, Reverses, Reconciles, Answers, CutsOver, AddsRange, DropsRange, Enrols, AddsTerminal, first_of, is_full, is_other_transaction, is_expired, is_open_at, open_hold, fits_acquirer, original_of, admission_in, admission, completion_of, completion, reversal_of, reconciliation_of, is_network_code, network_response, decision_by, repeat_of, decision_of_key, decision_of_merchant, decision_of_request, decision_of_reply_state, decision_of_prior, decision_of_answer, decision_of_new_range, decision_of_old_range, decision_of_enrolment, decision_of_terminal, decision}
-use Rattle.acq_core.specs.Tables.{Tables, prior_of, reply_state_of, requests_of, recorded_in, referred_in, admitted_in, used_in, known_in}
+use Rattle.acq_core.specs.Tables.{Tables, prior_of, reply_state_of, is_reversible, requests_of, recorded_in, referred_in, admitted_in, used_in, known_in}
 use Rattle.acq_core.proofs.DecisionCases.{IsFresh}
 use Rattle.acq_history.specs.Entries.{is_admissible, is_reversal}
 use Rattle.acq_history.proofs.Lookups.{or_split, not_false}
 use Rattle.acq_history.proofs.Members.{In}
 use Rattle.acq_history.proofs.RecordableRequests.{WantsByKey, wants_by_key, recordable_some}
-use Rattle.acq_history.proofs.Statuses.{reply_state_of-awaited}
-use Rattle.acq_history.proofs.GroundsOfDecision.{IsNew, IsRow, IsReferred, row_of_key, row_of_reference, is_new}
+use Rattle.acq_history.proofs.FoundRows.{IsNew, row_of_key, row_of_reference, is_new}
 
 -- the codes that the host gives of itself, and not in an issuer's words
 abbrev pub is_hosts : ResponseCode → Bool
@@ -62,10 +59,19 @@ pub record IsRecording (t : Tables) (r : RequestMessage) (merchant : Merchant) :
 abbrev pub HasRoom : Tables → RequestMessage → Type 0
 HasRoom t r = used_in (requests_of (text_at r.message 42) t.requests) t.day < t.limit
 
--- a row of the request's merchant
-pub record IsOwnRow (t : Tables) (r : RequestMessage) (row : Request) : Type 0 where
+-- a hold of the request's merchant that is open when the request comes
+pub record IsOpenHold (t : Tables) (r : RequestMessage) (hold : Request) : Type 0 where
+  pub member : In hold t.requests
+  pub merchant : hold.key.merchant ≡ text_at r.message 42
+  pub number : ℕ
+  pub reference : hold.reference ≡ Some number
+  pub opens : is_open_at r.moment (prior_of hold).hold_end ≡ true
+
+-- a row of the request's merchant that can be reversed
+pub record IsOriginal (t : Tables) (r : RequestMessage) (row : Request) : Type 0 where
   pub member : In row t.requests
   pub merchant : row.key.merchant ≡ text_at r.message 42
+  pub reversible : is_reversible row.status ≡ true
 
 -- the reference that the request's merchant gives next
 abbrev pub next_reference : Tables → RequestMessage → Merchant → ℕ
@@ -87,10 +93,10 @@ pub record StepCases (t : Tables) (a : Arrival) (P : Decision → Type 0) : Type
       is_accepted_amount (amount_in r.message) ≡ true → HasRoom t r → (range : Range) →
       P (Admits r range (next_reference t r merchant))
   pub completed : (r : RequestMessage) → a ≡ Requested r → (merchant : Merchant) → IsRecording t r merchant → r.service ≡ Completion →
-      is_accepted_amount (amount_in r.message) ≡ true → HasRoom t r → (hold : Request) → IsOwnRow t r hold →
+      is_accepted_amount (amount_in r.message) ≡ true → HasRoom t r → (hold : Request) → IsOpenHold t r hold →
       P (Completes r (prior_of hold))
   pub reversed : (r : RequestMessage) → a ≡ Requested r → (merchant : Merchant) → IsRecording t r merchant → is_reversal r.service ≡ true →
-      HasRoom t r → (row : Request) → IsOwnRow t r row → P (Reverses r (prior_of row))
+      HasRoom t r → (row : Request) → IsOriginal t r row → P (Reverses r (prior_of row))
   pub reconciled : (r : RequestMessage) → a ≡ Requested r → (merchant : Merchant) → IsRecording t r merchant → r.service ≡ Reconciliation →
       (day : ℕ) → reconciled_day t.day (content_of r.message.elements 15) ≡ Some day → P (Reconciles r day)
   -- a pending request is answered
@@ -203,8 +209,10 @@ module _ (t : Tables) (r : RequestMessage) (P : Decision → Type 0) (cases : St
       P (completion_of k r (open_hold r.moment o))
   by_hold merchant fresh service amount None is = refused merchant fresh code.RecordNotFound refl
   by_hold merchant fresh service amount (Some hold) is =
-      elim (is_open_at r.moment hold.hold_end) as (λ b. P (completion_of k r (if b then Some hold else None))) [
-        | true ↦
+      let step : (b : Bool) → is_open_at r.moment hold.hold_end ≡ b →
+      P (completion_of k r (if b then Some hold else None)) =
+      elim [
+        | true ↦ (λ opens.
             by_refusals P r ((nat_lt hold.amount (amount_in r.message), code.InvalidAmount)
             ∷ (is_full k, code.LimitExceeded) ∷ []) (Completes r hold) (refused merchant fresh) refl
             (λ none.
@@ -214,9 +222,16 @@ module _ (t : Tables) (r : RequestMessage) (P : Decision → Type 0) (cases : St
             let found = row_of_reference t m (wanted_for t.day r.service r.message).reference hold is in
             subst (λ p. P (Completes r p)) found.0.found.says
             (cases.completed r refl merchant (recording merchant fresh) service amount (room merchant fresh free.0)
-            found.0.found.row (record { member = found.0.found.member; merchant = found.1 })))
-        | false ↦ refused merchant fresh code.RecordNotFound refl
-      ]
+            found.0.found.row (record {
+              member = found.0.found.member;
+              merchant = found.1;
+              number = found.0.number;
+              reference = found.0.reference;
+              opens = ap (λ p. is_open_at r.moment p.hold_end) found.0.found.says ∙ opens;
+            }))))
+        | false ↦ (λ shut. refused merchant fresh code.RecordNotFound refl)
+      ] in
+      step (is_open_at r.moment hold.hold_end) refl
 
   by_completion : (merchant : Merchant) → IsFresh k r merchant → r.service ≡ Completion → P (completion k merchant r)
   by_completion merchant fresh service =
@@ -239,12 +254,16 @@ module _ (t : Tables) (r : RequestMessage) (P : Decision → Type 0) (cases : St
       ∷ (not (amount_in r.message == p.amount), code.InvalidAmount) ∷ (is_full k, code.LimitExceeded) ∷ [])
       (Reverses r p) (refused merchant fresh) refl
       (λ none.
-      let later = (or_split (not p.is_reversible) (amount || (is_full k || false)) none).1 in
-      let free = or_split (is_full k) false (or_split amount (is_full k || false) later).1 in
+      let first = or_split (not p.is_reversible) (amount || (is_full k || false)) none in
+      let free = or_split (is_full k) false (or_split amount (is_full k || false) first.1).1 in
       let found = row_of_key t m (wanted_for t.day r.service r.message).original p is in
       subst (λ x. P (Reverses r x)) found.0.says
       (cases.reversed r refl merchant (recording merchant fresh) service (room merchant fresh free.0) found.0.row
-      (record { member = found.0.member; merchant = found.1 })))
+      (record {
+        member = found.0.member;
+        merchant = found.1;
+        reversible = ap (λ x. x.is_reversible) found.0.says ∙ not_false p.is_reversible first.0;
+      })))
 
   by_original : (merchant : Merchant) → IsFresh k r merchant → is_reversal r.service ≡ true →
       (o : Option Prior) → k.original ≡ o → P (reversal_of k r (original_of r.message o))
