@@ -10,6 +10,7 @@ use Rattle.acq_invariants.specs.References.{HasConsecutiveReferences, HasUniqueR
 use Rattle.acq_invariants.specs.Replies.{HasReplies, GivesReplies}
 use Rattle.acq_invariants.specs.CardData.{KeepsNoneSensitive}
 use Rattle.acq_invariants.specs.Bounds.{IsBounded}
+use Rattle.acq_invariants.specs.Rows.{HasFittingRows}
 
 -- a book that began so has these tables after some events
 pub record IsBook (opening : Opening) (t : Tables) : Type 0 where
@@ -28,6 +29,7 @@ pub record IsSound (opening : Opening) (t : Tables) : Type 0 where
   pub next_reply : GivesReplies t
   pub card_data : KeepsNoneSensitive t
   pub numbers : IsBounded opening t
+  pub rows : HasFittingRows t
 
 -- A new book is one.
 abbrev pub BooksBegin : Type 0
