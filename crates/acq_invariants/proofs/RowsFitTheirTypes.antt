@@ -34,7 +34,7 @@ use Rattle.acq_history.proofs.Keys.{bytes_eq_itself, eqb_itself}
 use Rattle.acq_history.proofs.StepCases.{by_step}
 use Rattle.acq_invariants.specs.Events.{AreEvents, IsOpening}
 use Rattle.acq_invariants.specs.Ranges.{HasRangesApart}
-use Rattle.acq_invariants.specs.CardData.{KeepsNoSensitiveData, KeepsNoneSensitive}
+use Rattle.acq_invariants.specs.CardData.{KeepsNoSensitiveData, HasNoSensitiveData}
 use Rattle.acq_invariants.specs.Bounds.{IsBounded}
 use Rattle.acq_invariants.specs.Rows.{AreHoldDays, greatest_hold_end, FitsMerchant, FitsTerminal, FitsKey, FitsReconciliation, RowsFitTheirTypes}
 use Rattle.acq_invariants.specs.Books.{IsBook}
@@ -203,7 +203,7 @@ followed key st rows h =
     All-with_changed FitsColumns key (λ row. record row { status = st }) rows
     (λ x same c. record { key = c.key; amount = c.amount; hold_days = c.hold_days; hold_end = c.hold_end }) h
 
-module _ (opening : Opening) (t : Tables) (ranges : HasRangesApart t) (cards : KeepsNoneSensitive t)
+module _ (opening : Opening) (t : Tables) (ranges : HasRangesApart t) (cards : HasNoSensitiveData t)
     (day : t.day ≤ last_day) where
   card_of-row : (row : Request) → In row t.requests → IsNumber row.card
   card_of-row row member = (All-member KeepsNoSensitiveData t.requests row cards member).card
@@ -344,9 +344,9 @@ module _ (opening : Opening) (t : Tables) (book : IsBook opening t) where
   pub ranges_of : HasRangesApart t
   ranges_of = subst HasRangesApart (sym book.after) (ranges_stay_apart opening book.events)
 
-  pub cards_of : KeepsNoneSensitive t
+  pub cards_of : HasNoSensitiveData t
   cards_of =
-      subst KeepsNoneSensitive (sym book.after)
+      subst HasNoSensitiveData (sym book.after)
       (sensitive_data_stays_out opening book.events book.opens book.are_events).0
 
   pub numbers_of : IsBounded opening t
