@@ -82,7 +82,7 @@ grounds t a =
       replied = λ r came given hosts. tt;
       repeated = λ row member. tt;
       refused = λ r came merchant g given hosts. g.new;
-      admitted = λ r came merchant g service amount room range.
+      admitted = λ r came merchant g service amount room range held.
           record { new = g.new; service = service; merchant = merchant; enrolled = g.enrolled; next = refl };
       completed = λ r came merchant g service amount room hold own. record {
         new = g.new;

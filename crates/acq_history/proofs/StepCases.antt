@@ -8,7 +8,7 @@ use Rattle.std.proofs.lemmas.Bool.{and_parts, ltb-true}
 use Rattle.iso_codec.specs.Message.{IsoMessage, content_of}
 use Rattle.card_no.specs.declared.range.Range.{Range}
 use Rattle.card_no.specs.CardNumbers.{is_valid_card}
-use Rattle.card_no.specs.Ranges.{is_valid_range, between, overlapped_by, has_ends}
+use Rattle.card_no.specs.Ranges.{is_valid_range, holds_prefix, range_of_prefix, between, overlapped_by, has_ends}
 use Rattle.day_totals.specs.Day.{last_day}
 use Rattle.acq_message.specs.declared.service.Service.{Service}
 use Rattle.acq_message.specs.declared.service.Service.TheVariants.{Authorization, Financial, Completion, Reversal, ReversalAdvice, Reconciliation, NetworkManagement}
@@ -33,8 +33,8 @@ use Rattle.acq_core.specs.Decision.{Decision, Reports, Replies, Repeats, Refuses
 use Rattle.acq_core.specs.Tables.{Tables, prior_of, reply_state_of, is_reversible, requests_of, recorded_in, referred_in, admitted_in, used_in, known_in}
 use Rattle.acq_core.proofs.DecisionCases.{IsFresh}
 use Rattle.acq_history.specs.Entries.{is_admissible, is_reversal}
-use Rattle.acq_history.proofs.Lookups.{or_split, not_false}
-use Rattle.acq_history.proofs.Members.{In}
+use Rattle.acq_history.proofs.Lookups.{or_split, not_false, then_some}
+use Rattle.acq_history.proofs.Members.{In, In-find}
 use Rattle.acq_history.proofs.RecordableRequests.{WantsByKey, wants_by_key, recordable_some}
 use Rattle.acq_history.proofs.FoundRows.{IsNew, row_of_key, row_of_reference, is_new}
 
@@ -52,6 +52,7 @@ is_reply other = false
 
 -- a request whose key is new, of a merchant that is enrolled
 pub record IsRecording (t : Tables) (r : RequestMessage) (merchant : Merchant) : Type 0 where
+  pub recordable : r.service ≡ NetworkManagement → ⊥
   pub enrolled : find (λ row. bytes_eq row.id (text_at r.message 42)) t.merchants ≡ Some merchant
   pub new : IsNew t (key_of r.service r.message)
 
@@ -91,7 +92,7 @@ pub record StepCases (t : Tables) (a : Arrival) (P : Decision → Type 0) : Type
       is_hosts given ≡ true → P (Refuses r given)
   pub admitted : (r : RequestMessage) → a ≡ Requested r → (merchant : Merchant) → IsRecording t r merchant → is_admissible r.service ≡ true →
       is_accepted_amount (amount_in r.message) ≡ true → HasRoom t r → (range : Range) →
-      P (Admits r range (next_reference t r merchant))
+      In range t.ranges → P (Admits r range (next_reference t r merchant))
   pub completed : (r : RequestMessage) → a ≡ Requested r → (merchant : Merchant) → IsRecording t r merchant → r.service ≡ Completion →
       is_accepted_amount (amount_in r.message) ≡ true → HasRoom t r → (hold : Request) → IsOpenHold t r hold →
       P (Completes r (prior_of hold))
@@ -153,6 +154,7 @@ module _ (t : Tables) (r : RequestMessage) (P : Decision → Type 0) (cases : St
   -- a fresh request is one that is recorded
   recording : (merchant : Merchant) → IsFresh k r merchant → IsRecording t r merchant
   recording merchant fresh = record {
+    recordable = fresh.recordable;
     enrolled =
         sym (ap (option_and_then (λ id. find (λ row. bytes_eq row.id m) t.merchants)) (wants fresh.recordable).merchant)
         ∙ fresh.enrolled;
@@ -174,16 +176,20 @@ module _ (t : Tables) (r : RequestMessage) (P : Decision → Type 0) (cases : St
   refused merchant fresh = cases.refused r refl merchant (recording merchant fresh)
 
   by_range : (merchant : Merchant) → IsFresh k r merchant → is_admissible r.service ≡ true →
-      is_accepted_amount (amount_in r.message) ≡ true → (o : Option Range) → P (admission_in k merchant r o)
-  by_range merchant fresh service amount None = refused merchant fresh code.NoSuchIssuer refl
-  by_range merchant fresh service amount (Some range) =
+      is_accepted_amount (amount_in r.message) ≡ true → (o : Option Range) → k.range ≡ o →
+      P (admission_in k merchant r o)
+  by_range merchant fresh service amount None is = refused merchant fresh code.NoSuchIssuer refl
+  by_range merchant fresh service amount (Some range) is =
       by_refusals P r ((is_full k, code.LimitExceeded) ∷ []) (Admits r range (merchant.first_reference + k.admitted))
       (refused merchant fresh) refl
       (λ none.
+      let prefix =
+      then_some (range_of_prefix t.ranges) (wanted_for t.day r.service r.message).prefix range is in
       subst (λ n. P (Admits r range (merchant.first_reference + n)))
       (sym (ap (number_if (admitted_in (requests_of m t.requests))) (wants fresh.recordable).merchant))
       (cases.admitted r refl merchant (recording merchant fresh) service amount
-      (room merchant fresh (or_split (is_full k) false none).0) range))
+      (room merchant fresh (or_split (is_full k) false none).0) range
+      (In-find (holds_prefix prefix.0) t.ranges range prefix.2).0))
 
   by_admission : (merchant : Merchant) → IsFresh k r merchant → is_admissible r.service ≡ true →
       P (admission k merchant r)
@@ -202,7 +208,7 @@ module _ (t : Tables) (r : RequestMessage) (P : Decision → Type 0) (cases : St
       let later = (or_split (is_other_transaction merchant r) (amount || (card || (expired || false))) none).1 in
       by_range merchant fresh service
       (not_false (is_accepted_amount (amount_in r.message)) (or_split amount (card || (expired || false)) later).0)
-      k.range)
+      k.range refl)
 
   by_hold : (merchant : Merchant) → IsFresh k r merchant → r.service ≡ Completion →
       is_accepted_amount (amount_in r.message) ≡ true → (o : Option Prior) → k.referred ≡ o →

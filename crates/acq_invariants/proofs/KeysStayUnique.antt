@@ -79,7 +79,7 @@ step t a h =
       replied = λ r came given is. h;
       repeated = λ row member. h;
       refused = λ r came merchant g given is. record { requests = unique_with_row t.requests t.requests _ refl g.new h.requests; merchants = h.merchants; terminals = h.terminals };
-      admitted = λ r came merchant g service amount room range.
+      admitted = λ r came merchant g service amount room range held.
           record { requests = unique_with_row t.requests t.requests _ refl g.new h.requests; merchants = h.merchants; terminals = h.terminals };
       completed = λ r came merchant g service amount room hold own.
           record { requests = unique_with_row t.requests _ _ (keys-with_changed hold.key _ (λ x. refl) t.requests) g.new h.requests; merchants = h.merchants; terminals = h.terminals };

@@ -258,7 +258,7 @@ module _ (opening : Opening) (begins : IsOpening opening) where
           postings = h.postings;
           counts = within_uncounted t.limit t.requests t.postings _ refl refl h.counts;
         };
-        admitted = λ r came merchant g service amount room range. record {
+        admitted = λ r came merchant g service amount room range held. record {
           limit = h.limit;
           day = h.day;
           firsts = h.firsts;
@@ -385,7 +385,7 @@ module _ (opening : Opening) (begins : IsOpening opening) where
         enrolled = λ merchant came new. record {
           limit = h.limit;
           day = h.day;
-          firsts = All-push HasFirst t.merchants merchant h.firsts (subst IsArrival came is);
+          firsts = All-push HasFirst t.merchants merchant h.firsts (subst IsArrival came is).first_reference;
           rows = h.rows;
           postings = h.postings;
           counts = h.counts;

@@ -155,7 +155,7 @@ step t a h =
       repeated = λ row member. h;
       refused = λ r came merchant g given is.
           with_row t.merchants t.requests _ merchant g.enrolled (inl refl) h;
-      admitted = λ r came merchant g service amount room range.
+      admitted = λ r came merchant g service amount room range held.
           with_row t.merchants t.requests _ merchant g.enrolled (inr refl) h;
       completed = λ r came merchant g service amount room hold own.
           with_row t.merchants _ _ merchant g.enrolled (inl refl)

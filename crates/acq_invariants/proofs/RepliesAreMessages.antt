@@ -90,7 +90,7 @@ resolved-within mmdd today day e =
     let is : today - back.0 ≡ day = back.2 in
     omega arith
 
-reconciled_day-within : (today : ℕ) (o : Option (List ℕ)) (day : ℕ) → reconciled_day today o ≡ Some day → day ≤ today
+pub reconciled_day-within : (today : ℕ) (o : Option (List ℕ)) (day : ℕ) → reconciled_day today o ≡ Some day → day ≤ today
 reconciled_day-within today None day e = let same : today ≡ day = cc in omega arith
 reconciled_day-within today (Some mmdd) day e = resolved-within mmdd today day e
 
@@ -125,22 +125,22 @@ step t a is h =
       reported = λ o not. (h, not);
       malformed = λ r came. (h, (r.service, coded_reply-is t.day r h.day (subst IsArrival came is) code.FormatError tt));
       replied = λ r came given hosts.
-          (h, (r.service, coded_reply-is t.day r h.day (subst IsArrival came is) given (IsCode-hosts given hosts)));
+          (h, (r.service, coded_reply-is t.day r h.day (subst IsArrival came is).message given (IsCode-hosts given hosts)));
       repeated = λ row member. (h, (row.key.service, All-member IsRowReply t.requests row h.replies member));
       refused = λ r came merchant g given hosts.
-          let reply = coded_reply-is t.day r h.day (subst IsArrival came is) given (IsCode-hosts given hosts) in
+          let reply = coded_reply-is t.day r h.day (subst IsArrival came is).message given (IsCode-hosts given hosts) in
           (record { day = h.day; replies = All-push IsRowReply t.requests _ h.replies reply }, (r.service, reply));
-      admitted = λ r came merchant g service amount room range. (
+      admitted = λ r came merchant g service amount room range held. (
         record {
           day = h.day;
           replies =
               All-push IsRowReply t.requests _ h.replies
-              (draft_reply-is t.day r h.day (subst IsArrival came is) _);
+              (draft_reply-is t.day r h.day (subst IsArrival came is).message _);
         },
         tt,
       );
       completed = λ r came merchant g service amount room hold own.
-          let reply = coded_reply-is t.day r h.day (subst IsArrival came is) code.Approved tt in (
+          let reply = coded_reply-is t.day r h.day (subst IsArrival came is).message code.Approved tt in (
             record {
               day = h.day;
               replies =
@@ -150,7 +150,7 @@ step t a is h =
             (r.service, reply),
           );
       reversed = λ r came merchant g service room row own.
-          let reply = referring_reply-is t.day r h.day (subst IsArrival came is) _ code.Approved tt in (
+          let reply = referring_reply-is t.day r h.day (subst IsArrival came is).message _ code.Approved tt in (
             record {
               day = h.day;
               replies =
@@ -165,12 +165,12 @@ step t a is h =
           let dated : day ≤ last_day = omega arith in
           let b = is_in_balance (known_in t a) r in
           let reply =
-          totals_reply-is day r dated (subst IsArrival came is) (balance_code b) b (known_in t a).totals
+          totals_reply-is day r dated (subst IsArrival came is).message (balance_code b) b (known_in t a).totals
           (IsCode-balance b) in
           (record { day = h.day; replies = All-push IsRowReply t.requests _ h.replies reply }, (r.service, reply));
       answered = λ moment merchant reference v came row member pending n under.
           let reply =
-          answered_reply-is row.key.service row.reply v (subst IsArrival came is)
+          answered_reply-is row.key.service row.reply v (subst IsArrival came is).1
           (All-member IsRowReply t.requests row h.replies member) in (
             record {
               day = h.day;

@@ -9,7 +9,6 @@ use Rattle.card_no.specs.Track2.{may_be_number, parts_of, if_number}
 use Rattle.iso_codec.specs.Content.{has_class}
 use Rattle.iso_codec.specs.Table.{format_of}
 use Rattle.iso_codec.specs.Message.{IsoMessage, IsMessage, IsKind, numbers, Ascends, is_element, content_of, is_among}
-use Rattle.iso_codec.proofs.ElementPlaces.{fits_by, text_fits}
 use Rattle.acq_message.specs.declared.service.Service.{Service}
 use Rattle.acq_message.specs.declared.service.Service.TheVariants.{Authorization, Financial, Completion, Reversal, ReversalAdvice, Reconciliation, NetworkManagement}
 use Rattle.acq_message.specs.Services.{digits_of}
@@ -25,6 +24,7 @@ use Rattle.acq_invariants.specs.CardData.{sensitive_elements, IsEssence, may_be_
 use Rattle.acq_history.proofs.StepCases.{by_step}
 use Rattle.acq_invariants.proofs.Arrivals.{IsArrival, kept_by_events}
 use Rattle.acq_invariants.proofs.RowsWithChanges.{All-with_changed, All-member}
+use Rattle.acq_invariants.proofs.ContentsFit.{content-fits}
 use Rattle.acq_invariants.proofs.ReplyBodies.{all_weaker, among_passes, kept_ascends}
 use Rattle.acq_invariants.proofs.RepliesAreMessages.{IsRowReply, replies_are_messages}
 
@@ -68,11 +68,6 @@ kept_elements p (e ∷ es) h =
     ]
 
 -- ---- the card number and the acquirer
-
--- the content of an element fits it
-content-fits : (m : IsoMessage) (n : ℕ) (text : List ℕ) → IsMessage m → content_of m.elements n ≡ Some text →
-    is_element (n, text) ≡ true
-content-fits m n text whole e = fits_by (format_of n) n text (text_fits m.elements n text whole.each e)
 
 number_in_element : (text : List ℕ) → is_element (2, text) ≡ true → may_be_number text ≡ true
 unfolding format_of has_class
@@ -196,39 +191,39 @@ step t a is h =
       repeated = λ row member. h;
       refused = λ r came merchant g given hosts.
           All-push IsClean t.requests _ h (record {
-            essence = essence_of-is r.service r.message (subst IsArrival came is);
-            card = card_of-number r.message (subst IsArrival came is);
-            acquirer = acquirer-fits r.message (subst IsArrival came is) _ refl;
+            essence = essence_of-is r.service r.message (subst IsArrival came is).message;
+            card = card_of-number r.message (subst IsArrival came is).message;
+            acquirer = acquirer-fits r.message (subst IsArrival came is).message _ refl;
           });
-      admitted = λ r came merchant g service amount room range.
+      admitted = λ r came merchant g service amount room range held.
           All-push IsClean t.requests _ h (record {
-            essence = essence_of-is r.service r.message (subst IsArrival came is);
-            card = card_of-number r.message (subst IsArrival came is);
-            acquirer = acquirer-fits r.message (subst IsArrival came is) _ refl;
+            essence = essence_of-is r.service r.message (subst IsArrival came is).message;
+            card = card_of-number r.message (subst IsArrival came is).message;
+            acquirer = acquirer-fits r.message (subst IsArrival came is).message _ refl;
           });
       completed = λ r came merchant g service amount room hold own.
           All-push IsClean _ _
           (All-with_changed IsClean hold.key _ t.requests
           (λ x same p. record { essence = p.essence; card = p.card; acquirer = p.acquirer }) h)
           (record {
-            essence = essence_of-is r.service r.message (subst IsArrival came is);
+            essence = essence_of-is r.service r.message (subst IsArrival came is).message;
             card = (All-member IsClean t.requests hold h own.member).card;
-            acquirer = acquirer-fits r.message (subst IsArrival came is) _ refl;
+            acquirer = acquirer-fits r.message (subst IsArrival came is).message _ refl;
           });
       reversed = λ r came merchant g service room row own.
           All-push IsClean _ _
           (All-with_changed IsClean row.key _ t.requests
           (λ x same p. record { essence = p.essence; card = p.card; acquirer = p.acquirer }) h)
           (record {
-            essence = essence_of-is r.service r.message (subst IsArrival came is);
-            card = card_of-number r.message (subst IsArrival came is);
-            acquirer = acquirer-fits r.message (subst IsArrival came is) _ refl;
+            essence = essence_of-is r.service r.message (subst IsArrival came is).message;
+            card = card_of-number r.message (subst IsArrival came is).message;
+            acquirer = acquirer-fits r.message (subst IsArrival came is).message _ refl;
           });
       reconciled = λ r came merchant g service day on.
           All-push IsClean t.requests _ h (record {
-            essence = essence_of-is r.service r.message (subst IsArrival came is);
-            card = card_of-number r.message (subst IsArrival came is);
-            acquirer = acquirer-fits r.message (subst IsArrival came is) _ refl;
+            essence = essence_of-is r.service r.message (subst IsArrival came is).message;
+            card = card_of-number r.message (subst IsArrival came is).message;
+            acquirer = acquirer-fits r.message (subst IsArrival came is).message _ refl;
           });
       answered = λ moment merchant reference v came row member pending n under.
           All-with_changed IsClean row.key _ t.requests

@@ -8,8 +8,9 @@ use Rattle.acq_invariants.specs.Ranges.{HasRangesApart}
 use Rattle.acq_invariants.specs.Keys.{HasUniqueKeys}
 use Rattle.acq_invariants.specs.References.{HasConsecutiveReferences, HasUniqueReferences}
 use Rattle.acq_invariants.specs.Replies.{HasReplies, GivesReplies}
-use Rattle.acq_invariants.specs.CardData.{KeepsNoneSensitive}
+use Rattle.acq_invariants.specs.CardData.{HasNoSensitiveData}
 use Rattle.acq_invariants.specs.Bounds.{IsBounded}
+use Rattle.acq_invariants.specs.Rows.{HasFittingRows}
 
 -- a book that began so has these tables after some events
 pub record IsBook (opening : Opening) (t : Tables) : Type 0 where
@@ -26,8 +27,9 @@ pub record IsSound (opening : Opening) (t : Tables) : Type 0 where
   pub unique_references : HasUniqueReferences t
   pub replies : HasReplies t
   pub next_reply : GivesReplies t
-  pub card_data : KeepsNoneSensitive t
+  pub card_data : HasNoSensitiveData t
   pub numbers : IsBounded opening t
+  pub rows : HasFittingRows t
 
 -- A new book is one.
 abbrev pub BooksBegin : Type 0

@@ -50,12 +50,12 @@ pub record SpellsNoSensitiveData (text : List ℕ) : Type 0 where
   pub lacks : lacks_sensitive_data message ≡ true
 
 -- so it is of all rows
-abbrev pub KeepsNoneSensitive : Tables → Type 0
-KeepsNoneSensitive t = All KeepsNoSensitiveData t.requests
+abbrev pub HasNoSensitiveData : Tables → Type 0
+HasNoSensitiveData t = All KeepsNoSensitiveData t.requests
 
 -- and of all replies among outputs
-abbrev pub SpellNoneSensitive : List Output → Type 0
-SpellNoneSensitive os =
+abbrev pub SendNoSensitiveData : List Output → Type 0
+SendNoSensitiveData os =
     All (λ o. (party : Option (List ℕ)) (text : List ℕ) → o ≡ Reply party text →
     SpellsNoSensitiveData text) os
 
@@ -63,5 +63,5 @@ SpellNoneSensitive os =
 abbrev pub SensitiveDataStaysOut : Type 0
 SensitiveDataStaysOut =
     (opening : Opening) (es : List Event) → IsOpening opening → AreEvents es →
-    KeepsNoneSensitive (tables_after (new_tables opening) es)
-    × SpellNoneSensitive (outputs (new_tables opening) es)
+    HasNoSensitiveData (tables_after (new_tables opening) es)
+    × SendNoSensitiveData (outputs (new_tables opening) es)

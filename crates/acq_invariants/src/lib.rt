@@ -12,6 +12,7 @@ ghost use Rattle.acq_invariants.specs.References.{ReferencesAreConsecutive};
 ghost use Rattle.acq_invariants.specs.Replies.{RepliesAreMessages};
 ghost use Rattle.acq_invariants.specs.CardData.{SensitiveDataStaysOut};
 ghost use Rattle.acq_invariants.specs.Bounds.{NumbersStayBounded};
+ghost use Rattle.acq_invariants.specs.Rows.{RowsFitTheirTypes};
 ghost use Rattle.acq_invariants.specs.Books.{BooksBegin, BooksGoOn, BooksAreSound};
 
 pub use types::{every_event, every_opening, every_verdict};
@@ -50,6 +51,11 @@ pub fn sensitive_data_stays_out()
 /// messages of a merchant count than the limit is, no more are posted, and the day's totals fit.
 pub fn numbers_stay_bounded()
     ensures { NumbersStayBounded }
+{}
+
+/// Each column of each row is what its Rust type holds, so rows may be kept as such and read back.
+pub fn rows_fit_their_types()
+    ensures { RowsFitTheirTypes }
 {}
 
 /// All of these at once, of the tables that any run of events leads to: a book begins with a new

@@ -1,4 +1,5 @@
-use Rattle.acq_invariants.proofs.BooksAreSound.{books_begin, books_go_on, books_are_sound}
+use Rattle.acq_invariants.proofs.BooksGoOn.{books_begin, books_go_on}
+use Rattle.acq_invariants.proofs.BooksAreSound.{books_are_sound}
 use Rattle.acq_invariants.proofs.books_are_sound.Goals as goal
 
 pub returns-clause-begin : goal.returns-clause-begin
