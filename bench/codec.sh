@@ -1,6 +1,7 @@
 #!/bin/sh
 # Times the codec on four messages, on one core: the nanoseconds that a decode takes, and a decode, a
 # reply and its encode; beside a plain C program on the same messages, where there is a C compiler.
+# A reply is the elements that it echoes, selected from the request, and element 39 set.
 # The program is built in a repository of its own, which proves the codec once: some minutes.
 # With a folder as its argument, it is kept there for the next time.
 set -eu

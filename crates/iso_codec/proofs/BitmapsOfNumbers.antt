@@ -1,9 +1,8 @@
 -- Bitmaps that are made of numbers name those numbers.
-use Rattle.std.proofs.Common.{◌≡◌, ◌≢◌, ℕ, zero, suc, ◌+◌, ◌-◌, ◌*◌, ◌/◌, ◌%◌, ◌^◌, ◌<◌, ◌≤◌, Bool, true, false, ◌||◌, eqb, leb, ltb, List, [], ◌∷◌, ◌++◌, length, take, refl, sym, ap, subst, ◌∙◌, arith, inl, inr, bit_or, get_or}
+use Rattle.std.proofs.Common.{◌≡◌, ◌≢◌, ℕ, zero, suc, ◌+◌, ◌-◌, ◌*◌, ◌/◌, ◌%◌, ◌^◌, ◌<◌, ◌≤◌, Bool, true, false, ◌||◌, eqb, leb, ltb, List, [], ◌∷◌, ◌++◌, refl, sym, ap, subst, ◌∙◌, arith, inl, inr, bit_or, get_or}
 use Rattle.std.specs.List.{list_all, list_any, filter, range_with_len}
 use Rattle.std.specs.Int.{w64, to_be_bytes}
 use Rattle.std.proofs.lemmas.Bool.{and_parts, and_from, or_left, or_right, leb-true, le-leb, lt-leb, ne_eqb, eq-eqb, lt-ltb, le-ltb, cases_eq, cases_lt, cases_Bool, agree_below_at, true≢false}
-use Rattle.std.proofs.lemmas.List.{take_more}
 use Rattle.std.proofs.lemmas.List.Folds.{list_any-append}
 use Rattle.std.proofs.lemmas.Nat.{from_be_bytes-to_be_bytes_8}
 use Rattle.std.proofs.lemmas.Nat.Bits.{bit_at_set_same, bit_at_set_other, bit_at-zero}
@@ -201,23 +200,3 @@ bytes_small n (suc (suc (suc (suc (suc zero))))) = omega arith
 bytes_small n (suc (suc (suc (suc (suc (suc zero)))))) = omega arith
 bytes_small n (suc (suc (suc (suc (suc (suc (suc zero))))))) = omega arith
 bytes_small n (suc (suc (suc (suc (suc (suc (suc (suc i)))))))) = omega arith
-
--- ---- one byte after the other
-
-pub encode_upper-nil : encode_upper [] ≡ []
-unfolding encode_with
-encode_upper-nil = refl
-
-encode_upper-push : (xs : List ℕ) (b : ℕ)
-    → encode_upper (xs ++ b ∷ []) ≡ encode_upper xs ++ (get_or upper_digits (b / 16) 0 ∷ get_or upper_digits
-    (b % 16) 0 ∷ [])
-unfolding encode_with
-encode_upper-push [] b = refl
-encode_upper-push (x ∷ xs) b = rw (encode_upper-push xs b) refl
-
--- the digits of the first i + 1 bytes
-pub encode_upper-more : (bytes : List ℕ) (i : ℕ) → i < length bytes → encode_upper (take (i + 1) bytes)
-    ≡ encode_upper (take i bytes)
-    ++ (get_or upper_digits (get_or bytes i 0 / 16) 0 ∷ get_or upper_digits (get_or bytes i 0 % 16) 0 ∷ [])
-encode_upper-more bytes i lt = ap encode_upper (take_more bytes i 0 lt)
-    ∙ encode_upper-push (take i bytes) (get_or bytes i 0)

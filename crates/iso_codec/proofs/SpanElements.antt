@@ -98,8 +98,23 @@ insert_within bytes content spans at s b h =
     list_all-append (is_within (length (bytes ++ content))) (take at spans) (s ∷ drop at spans)
     ∙ rw (p.0, p.1, behind_within bytes content s b) refl
 
-pub insert_last : {X : Type 0} (xs : List X) (n : ℕ) (x : X) → length xs ≤ n → insert xs n x ≡ xs ++ x ∷ []
+insert_last : {X : Type 0} (xs : List X) (n : ℕ) (x : X) → length xs ≤ n → insert xs n x ≡ xs ++ x ∷ []
 insert_last xs n x h = rw (take_all n xs h, drop_all n xs h) refl
+
+-- a span behind the others
+pub push_span : (bytes content : List ℕ) (spans : List Span) (s : Span) → IsBehind bytes content s
+    → list_all (is_within (length bytes)) spans ≡ true
+    → elements_in (bytes ++ content) (spans ++ s ∷ []) ≡ elements_in bytes spans ++ (s.number, content) ∷ []
+push_span bytes content spans s b h =
+    map_push (element_at (bytes ++ content)) spans s
+    ∙ rw (elements_in-append bytes content spans h, behind_is bytes content s b) refl
+
+pub push_within : (bytes content : List ℕ) (spans : List Span) (s : Span) → IsBehind bytes content s
+    → list_all (is_within (length bytes)) spans ≡ true
+    → list_all (is_within (length (bytes ++ content))) (spans ++ s ∷ []) ≡ true
+push_within bytes content spans s b h =
+    ap (list_all (is_within (length (bytes ++ content)))) (sym (insert_last spans (length spans) s (omega arith)))
+    ∙ insert_within bytes content spans (length spans) s b h
 
 -- one more of a list in which the element at a place was changed
 pub set_more-same : (es : List (ℕ × List ℕ)) (at i : ℕ) (x : ℕ × List ℕ) → i < length es → i ≡ at

@@ -46,13 +46,22 @@ pub fn all_printable(text: &[u8]) -> bool
 fn all_track(text: &[u8]) -> bool
     ensures { result ≡ list_all is_track text.now }
 {
-    text.iter().all(|b| matches!(*b, 0x30..=0x3f | b'D'))
+    let mut all = true;
+    for b in text {
+        all &= matches!(*b, 0x30..=0x3f | b'D');
+    }
+    all
 }
 
-fn all_hex(text: &[u8]) -> bool
+/// Whether all bytes are hexadecimal digits, of either case.
+pub(crate) fn all_hex(text: &[u8]) -> bool
     ensures { result ≡ list_all is_ascii_hexdigit text.now }
 {
-    text.iter().all(|b| b.is_ascii_hexdigit())
+    let mut all = true;
+    for b in text {
+        all &= b.is_ascii_hexdigit();
+    }
+    all
 }
 
 fn all_signed(text: &[u8]) -> bool

@@ -1,23 +1,23 @@
 //! Reading a message: its header, then the elements that it names, each fault in its order.
 
-ghost use Rattle.std.specs.Prelude.{◌≡◌, ◌⊎◌, ◌+◌, ◌<◌, ◌≤◌, ℕ, List, true, length, take, drop};
-ghost use Rattle.std.specs.Prelude.{IfOk, IfErr, IfSome, IfNone, OnOk, MatchResult};
+ghost use Rattle.std.specs.Prelude.{◌≡◌, ◌⊎◌, ◌<◌, true, length, take};
+ghost use Rattle.std.specs.Prelude.{IfOk, IfErr, IfSome, IfNone, MatchResult};
 ghost use Rattle.std.specs.List.{list_all};
 ghost use Rattle.iso_codec.specs.declared.decode_fault.DecodeFault.TheVariants.{Memory};
-ghost use Rattle.iso_codec.specs.Message.{IsoMessage, Reads, IsMessage, IsBitmap, named};
+ghost use Rattle.iso_codec.specs.Message.{IsoMessage, Reads, named};
 ghost use Rattle.iso_codec.specs.Span.{elements_in, is_within};
 ghost use Rattle.iso_codec.specs.Reading.{reading_of};
 ghost use Rattle.iso_codec.specs.Faults.{FirstFault, HasHeader, NeedsMemory, ElementsFault, IsBody};
 ghost use Rattle.iso_codec.specs.Faults.{BitmapFault, BeginsWithBitmap, IsFirstUnknown, is_known};
 
+use crate::bitmap_digits::bits_of_digits;
 use crate::bitmaps::{Bitmaps, bit};
-use crate::classes::all_digits;
+use crate::classes::{all_digits, all_hex};
 use crate::content::content_at;
 use crate::decode_fault::DecodeFault;
 use crate::element_format::format_at;
 use crate::message::Message;
 use crate::span::Span;
-use hex::FromHex;
 use std::alloc::Global;
 
 /// A bitmap, and what stands after it.
@@ -29,10 +29,10 @@ fn bitmap_at(rest: &[u8]) -> Result<(u64, &[u8]), DecodeFault>
         return Err(DecodeFault::Truncated(0));
     }
     let (digits, after) = rest.split_at(16);
-    match <[u8; 8] as FromHex>::from_hex(digits) {
-        Ok(bytes) => Ok((u64::from_be_bytes(bytes), after)),
-        Err(_) => Err(DecodeFault::BadBitmap),
+    if !all_hex(digits) {
+        return Err(DecodeFault::BadBitmap);
     }
+    Ok((bits_of_digits(digits), after))
 }
 
 /// The type and the bitmaps, and what stands after them.

@@ -1,17 +1,17 @@
 //! Writing a message: its one spelling, with bitmaps in capitals.
 
 ghost use Rattle.std.specs.Prelude.{◌≡◌, ◌+◌, ◌<◌, ◌≤◌, ◌==◌, ◌||◌, ℕ, List, true, false, length};
-ghost use Rattle.std.specs.Prelude.{slice_index, ◌++◌, OnOk, OnErr, IfOk};
-ghost use Rattle.std.specs.List.{list_all, list_any};
-ghost use Rattle.hex.specs.Hex.{upper_digits};
+ghost use Rattle.std.specs.Prelude.{◌++◌, OnOk, OnErr};
+ghost use Rattle.std.specs.List.{list_all};
 ghost use Rattle.iso_codec.specs.Content.{digits_of, has_length};
-ghost use Rattle.iso_codec.specs.Message.{Writes, IsBitmap, AreBitmaps, bit as bit_of, is_element};
-ghost use Rattle.iso_codec.specs.Message.{spelled, body, Ascends, is_upper_hex};
+ghost use Rattle.iso_codec.specs.Message.{Writes, AreBitmaps, bit as bit_of, is_element};
+ghost use Rattle.iso_codec.specs.Message.{spelled, body, is_upper_hex};
 ghost use Rattle.iso_codec.specs.Reading.{spelling, Extends};
 ghost use Rattle.iso_codec.specs.Setting.{Marks, is_sound};
 ghost use Rattle.iso_codec.specs.Span.{elements_in, numbers_of, is_within};
 ghost use Rattle.std.specs.Int.{is_in_range};
 
+use crate::bitmap_digits::digits_of_bits;
 use crate::bitmaps::{Bitmaps, bit};
 use crate::element_format::format_at;
 use crate::form::Form;
@@ -47,38 +47,15 @@ fn bitmaps_of(spans: &[Span]) -> Bitmaps
     Bitmaps { primary, secondary }
 }
 
-/// A byte's upper or lower half as a digit, with capitals.
-fn hex_digit(half: u8) -> u8
-    requires { half < 16 }
-    ensures { result ≡ slice_index upper_digits half }
-{
-    if half < 10 {
-        b'0' + half
-    } else {
-        b'A' + (half - 10)
-    }
-}
-
-fn push_bitmap(out: &mut Vec<u8>, bits: u64) -> Result<(), AllocError>
-    ensures ok { OnOk result ((digits : List ℕ) × IsBitmap digits bits
-        × (list_all is_upper_hex digits ≡ true) × (out.new.items ≡ out.old.items ++ digits)) }
-    ensures grows { Extends out.old.items out.new.items }
-{
-    for byte in bits.to_be_bytes() {
-        out.extend_from_slice(&[hex_digit(byte / 16), hex_digit(byte % 16)])?;
-    }
-    Ok(())
-}
-
 fn push_bitmaps(out: &mut Vec<u8>, bitmaps: Bitmaps) -> Result<(), AllocError>
     requires { bit_of bitmaps.primary 1 ≡ false → bitmaps.secondary ≡ 0 }
     ensures ok { OnOk result ((digits : List ℕ) × AreBitmaps digits bitmaps
         × (list_all is_upper_hex digits ≡ true) × (out.new.items ≡ out.old.items ++ digits)) }
     ensures grows { Extends out.old.items out.new.items }
 {
-    push_bitmap(out, bitmaps.primary)?;
+    out.extend_from_slice(&digits_of_bits(bitmaps.primary))?;
     if bit(bitmaps.primary, 1) {
-        push_bitmap(out, bitmaps.secondary)?;
+        out.extend_from_slice(&digits_of_bits(bitmaps.secondary))?;
     }
     Ok(())
 }

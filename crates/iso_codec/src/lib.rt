@@ -6,6 +6,7 @@
 //! [`laws`] says that every text reads as exactly one message or one first fault.
 #![tactic(auto)]
 
+mod bitmap_digits;
 mod bitmaps;
 mod class;
 mod classes;

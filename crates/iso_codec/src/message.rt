@@ -1,8 +1,9 @@
 //! Messages: how an element is looked up and set, and what is printed of them.
 
 ghost use Rattle.std.specs.Prelude.{◌≡◌, ◌↔◌, ◌⊎◌, ◌≤◌, ℕ, List, true, [], Some, None, Err, length};
-ghost use Rattle.std.specs.Prelude.{slice_set, filter, IfSome, IsSome, IfOk, OnOk, OnErr, IfErr};
-ghost use Rattle.std.specs.List.{list_all, insert};
+ghost use Rattle.std.specs.Prelude.{◌<◌, ◌==◌, ◌∷◌, ◌++◌, false, slice_index_or, slice_set, filter};
+ghost use Rattle.std.specs.Prelude.{IfSome, IsSome, IfOk, OnOk, OnErr, IfErr};
+ghost use Rattle.std.specs.List.{list_all, list_any, insert};
 ghost use Rattle.std.specs.Option.{option_copied};
 ghost use Rattle.std.specs.Char.{is_ascii_digit};
 ghost use Rattle.iso_codec.specs.declared.set_fault.SetFault.{SetFault};
@@ -305,6 +306,29 @@ fn add(
     }
 }
 
+/// Adds an element behind the others. After an `Err` neither vector is used again.
+fn append(
+    spans: &mut Vec<Span>,
+    bytes: &mut Vec<u8>,
+    number: u8,
+    content: &[u8],
+) -> Result<(), AllocError>
+    requires { list_all (is_within (length bytes.old.items)) spans.old.items ≡ true }
+    ensures ok { OnOk result (elements_in bytes.new.items spans.new.items
+        ≡ elements_in bytes.old.items spans.old.items ++ (number, content.now) ∷ []) }
+    ensures within { OnOk result (list_all (is_within (length bytes.new.items)) spans.new.items
+        ≡ true) }
+{
+    let start = bytes.len();
+    bytes.extend_from_slice(content)?;
+    spans.push(Span {
+        number,
+        start,
+        len: content.len(),
+    })?;
+    Ok(())
+}
+
 /// The elements anew, with another content at one place and nothing of the old one.
 fn replaced(
     alloc: Global,
@@ -320,17 +344,34 @@ fn replaced(
     ensures within { IfOk result (λ x. list_all (is_within (length x.1.items)) x.0.items ≡ true) }
 {
     let mut fresh_spans = Vec::with_capacity(alloc, spans.len())?;
-    let mut fresh_bytes = Vec::with_capacity(alloc, bytes.len())?;
+    let mut fresh_bytes = Vec::with_capacity(alloc, bytes.len().saturating_add(content.len()))?;
     for (i, span) in spans.iter().enumerate() {
-        let last = fresh_spans.len();
         if i == at {
-            add(&mut fresh_spans, &mut fresh_bytes, last, number, content)?;
+            append(&mut fresh_spans, &mut fresh_bytes, number, content)?;
         } else {
             let kept = bytes_at(bytes, *span);
-            add(&mut fresh_spans, &mut fresh_bytes, last, span.number, kept)?;
+            append(&mut fresh_spans, &mut fresh_bytes, span.number, kept)?;
         }
     }
     Ok((fresh_spans, fresh_bytes))
+}
+
+/// How many elements and bytes of content are mostly added to a selection.
+const SPARE_ELEMENTS: usize = 4;
+
+const SPARE_BYTES: usize = 32;
+
+/// Whether each number is among these.
+fn marked(numbers: &[u8]) -> [bool; 256]
+    ensures size { length result ≡ 256 }
+    ensures value { (n : ℕ) → n < 256
+        → slice_index_or result n false ≡ list_any (λ m. m == n) numbers.now }
+{
+    let mut marks = [false; 256];
+    for number in numbers {
+        marks[*number as usize] = true;
+    }
+    marks
 }
 
 /// The elements whose numbers are among these, anew.
@@ -345,13 +386,13 @@ fn selected(
         ≡ filter (is_among numbers.now) (elements_in bytes.now spans.now)) }
     ensures within { IfOk result (λ x. list_all (is_within (length x.1.items)) x.0.items ≡ true) }
 {
-    let mut kept_spans = Vec::with_capacity(alloc, spans.len())?;
-    let mut kept_bytes = Vec::with_capacity(alloc, bytes.len())?;
+    let mut kept_spans = Vec::with_capacity(alloc, spans.len().saturating_add(SPARE_ELEMENTS))?;
+    let mut kept_bytes = Vec::with_capacity(alloc, bytes.len().saturating_add(SPARE_BYTES))?;
+    let wanted = marked(numbers);
     for span in spans {
-        if numbers.contains(&span.number) {
-            let last = kept_spans.len();
+        if wanted[span.number as usize] {
             let content = bytes_at(bytes, *span);
-            add(&mut kept_spans, &mut kept_bytes, last, span.number, content)?;
+            append(&mut kept_spans, &mut kept_bytes, span.number, content)?;
         }
     }
     Ok((kept_spans, kept_bytes))

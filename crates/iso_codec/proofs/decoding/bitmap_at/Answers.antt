@@ -1,9 +1,12 @@
-use Rattle.std.proofs.Common.{sym, ◌∙◌, arith}
-use Rattle.iso_codec.proofs.BitmapDigits.{not_hex}
+use Rattle.std.proofs.Common.{sym, ap, ◌∙◌}
+use Rattle.std.specs.List.{list_all}
+use Rattle.hex.specs.Hex.{is_hex_digit}
+use Rattle.iso_codec.proofs.BitmapDigits.{all_hexadecimal}
 use Rattle.iso_codec.proofs.decoding.bitmap_at.Goals as goal
 
-pub returns-in-Err-clause-fault : goal.returns-in-Err-clause-fault
-returns-in-Err-clause-fault c =
-    let bad = not_hex c.split_at.result.0.now c.in-Err.field-0 c.split_at.ensures.front_len
-    (sym c.from_hex.ensures ∙ c.in-Err.is) in
-    (omega arith, rw c.split_at.ensures.front at bad)
+pub returns-then-not-all_hex-clause-fault : goal.returns-then-not-all_hex-clause-fault
+returns-then-not-all_hex-clause-fault c = (
+  c.if-rest-lt16.false,
+  ap (list_all is_hex_digit) (sym c.split_at.ensures.front) ∙ sym (all_hexadecimal c.split_at.result.0.now)
+      ∙ sym c.all_hex.ensures ∙ c.if-not-all_hex.true,
+)

@@ -1,9 +1,9 @@
-use Rattle.std.proofs.Common.{◌≡◌, sym, ap, ◌∙◌, arith, ◌<◌, ◌≤◌, ◌++◌, ◌∷◌, [], List, ℕ, length, take}
+use Rattle.std.proofs.Common.{◌≡◌, sym, ap, ◌∙◌, arith, ◌<◌, ◌++◌, ◌∷◌, [], List, ℕ, length, take}
 use Rattle.std.specs.Prelude.{slice_set}
 use Rattle.iso_codec.specs.Span.{element_at, elements_in}
-use Rattle.iso_codec.proofs.SpanElements.{span_at, span_at_is, element_of_span, insert_last, set_more-same, set_more-other, length-elements_in}
+use Rattle.iso_codec.proofs.SpanElements.{span_at, span_at_is, element_of_span, set_more-same, set_more-other, length-elements_in}
 use Rattle.iso_codec.proofs.message.replaced.Goals as goal
-use Rattle.iso_codec.proofs.message.replaced.Goals.{then-i-at+in_ok-add, else-i-at+in_ok-add-2}
+use Rattle.iso_codec.proofs.message.replaced.Goals.{then-i-at+in_ok-append, else-i-at+in_ok-append-2}
 
 pub loop-i-preserved : goal.loop-i-preserved
 loop-i-preserved c =
@@ -13,28 +13,23 @@ loop-i-preserved c =
     let at = c.args.at in
     let i = c.loop-i.i in
     let new : ℕ × List ℕ = (c.args.number, c.args.content.now) in
-    let fresh = elements_in c.loop-i.fresh_bytes.items c.loop-i.fresh_spans.items in
-    let last : length fresh ≤ c.len-last.result =
-    omega (arith, c.len-last.ensures, length-elements_in c.loop-i.fresh_bytes.items c.loop-i.fresh_spans.items) in
     let lt : i < length spans = omega (arith, c.loop-i-test.true) in
     let lt' : i < length es = omega (arith, length-elements_in bytes spans) in
     elim c.if-i-at.branch [
-      | then-i-at+in_ok-add w ↦
-          let made = w.in_ok-add.ensures.ok ∙ insert_last fresh c.len-last.result new last
-          ∙ ap (λ (l : List (ℕ × List ℕ)). l ++ new ∷ []) c.loop-i.invariant.elements
+      | then-i-at+in_ok-append w ↦
+          let made = w.in_ok-append.ensures.ok ∙ ap (λ (l : List (ℕ × List ℕ)). l ++ new ∷ []) c.loop-i.invariant.elements
           ∙ sym (set_more-same es at i new lt' w.if-i-at.true) in
           record {
             elements = rw (w.fresh_spans-is, w.fresh_bytes-is) made;
             within = rw
-                (w.fresh_spans-is, w.fresh_bytes-is) w.in_ok-add.ensures.within;
+                (w.fresh_spans-is, w.fresh_bytes-is) w.in_ok-append.ensures.within;
           }
-      | else-i-at+in_ok-add-2 w ↦
+      | else-i-at+in_ok-append-2 w ↦
           let s = span_at spans i in
           let kept : ℕ × List ℕ = element_at bytes s in
           let same : (s.number, w.bytes_at-kept.result.now) ≡ kept =
           ap (λ (t : List ℕ). (s.number, t)) w.bytes_at-kept.ensures in
-          let made = w.in_ok-add-2.ensures.ok ∙ insert_last fresh c.len-last.result
-          (s.number, w.bytes_at-kept.result.now) last
+          let made = w.in_ok-append-2.ensures.ok
           ∙ ap (λ (l : List (ℕ × List ℕ)). l ++ (s.number, w.bytes_at-kept.result.now) ∷ [])
           c.loop-i.invariant.elements
           ∙ ap (λ (x : ℕ × List ℕ). take i (slice_set es at new) ++ x ∷ []) same
@@ -43,6 +38,6 @@ loop-i-preserved c =
           record {
             elements = rw (w.fresh_spans-is, w.fresh_bytes-is) made;
             within = rw
-                (w.fresh_spans-is, w.fresh_bytes-is) w.in_ok-add-2.ensures.within;
+                (w.fresh_spans-is, w.fresh_bytes-is) w.in_ok-append-2.ensures.within;
           }
     ]
