@@ -14,7 +14,6 @@ use Rattle.acq_core.specs.declared.output.Output.{Output}
 use Rattle.acq_core.specs.declared.output.Output.TheVariants.{Reply, Undecodable}
 use Rattle.acq_message.specs.Services.{service_of}
 use Rattle.std.specs.Prelude.{if◌then◌else◌}
-use Rattle.std.proofs.lemmas.List.Elements.{All-nil}
 use Rattle.acq_message.specs.declared.request_message.RequestMessage.{RequestMessage}
 use Rattle.acq_message.specs.FirstCheck.{is_malformed}
 use Rattle.acq_core.specs.declared.arrival.Arrival.TheVariants.{Malformed, Requested}
@@ -22,8 +21,9 @@ use Rattle.acq_core.specs.declared.event.Event.TheVariants.{Frame}
 use Rattle.acq_core.specs.Arrivals.{arrival_of_message, arrival_of_reading}
 use Rattle.acq_core.specs.NewBook.{output_to}
 use Rattle.acq_core.specs.Tables.{Opening, new_tables, step_output}
-use Rattle.acq_invariants.specs.Events.{IsOpening, IsEvent}
-use Rattle.acq_invariants.proofs.RepliesAreMessages.{replies_are_messages}
+use Rattle.acq_invariants.specs.Events.{IsOpening}
+use Rattle.acq_invariants.proofs.BooksAreSound.{books_are_sound}
+use Rattle.acq_invariants.proofs.BooksGoOn.{books_begin}
 use Rattle.acq_link.specs.declared.input_fault.InputFault as input
 use Rattle.acqd.specs.Faults.{of_input}
 use Rattle.acqd.specs.Once.{replies_in, replies_to, replies, is_read, Answers, ServesAll, Serves}
@@ -41,7 +41,8 @@ is_opening = record { limit = refl; first_day = omega arith }
 pub reply_fits : (message text : List ℕ) (party : Option (List ℕ)) → output_to message ≡ Reply party text →
     fits_frame text ≡ true
 reply_fits message text party is =
-    let given = (replies_are_messages new_book [] is_opening (All-nil IsEvent)).1 (Frame 946684800 message) party text refl is in
+    let given = (books_are_sound new_book (new_tables new_book) (books_begin new_book is_opening)).next_reply
+    (Frame 946684800 message) party text refl is in
     and_from _ _ (lt-ltb 0 (length text) (omega (arith, given.not_empty))) (le-leb (length text) 4096 given.fits)
 
 -- a message that is read is not reported as one that isn't
