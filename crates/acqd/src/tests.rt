@@ -18,7 +18,7 @@ const REFUSED: &str = "\x00\x2608100220000002000000010112000000000130";
 const REFUSED_PIN: &str = "\x00\x39081082200000020000000400000000000000010112000000000130301";
 
 /// An input, and the status, the output and the fault line that it gives.
-const CASES: [(&str, u8, &str, &str); 17] = [
+const CASES: [(&str, u8, &str, &str); 18] = [
     ("", 0, "", ""),
     (ECHO, 0, ECHO_REPLY, ""),
     // Without element 70, and the same with a second bitmap of zeros.
@@ -40,9 +40,17 @@ const CASES: [(&str, u8, &str, &str); 17] = [
         REFUSED_PIN,
         "",
     ),
-    // A purchase, which isn't served.
+    // A purchase of a merchant that isn't enrolled.
     (
         "\x00\x6202007220000000C080001641111111111111110000000000000010000501093000000001TERM0001MERCHANT0000001978",
+        0,
+        "\x00\x6802107222000002C0800016411111111111111100000000000000100005010930000000010101\
+03TERM0001MERCHANT0000001978",
+        "",
+    ),
+    // A reply, which isn't served.
+    (
+        "\x00\x2608100220000002000000010112000000000130",
         0,
         "",
         "",
