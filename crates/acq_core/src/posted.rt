@@ -126,7 +126,7 @@ fn card_copied(alloc: Global, request: &Request) -> Result<ElementContent, Alloc
     ensures { IfOk result (λ card. card ≡ or_empty request.now.card) }
 {
     match &request.card {
-        Some(card) => ElementContent::from_slice(alloc, card.as_bytes()),
+        Some(card) => card.copied(alloc),
         None => ElementContent::from_slice(alloc, &[]),
     }
 }

@@ -1,4 +1,3 @@
 pub mod ElementsFit
 pub mod NeededElements
 pub mod AddedElements
-pub mod ReplyLength

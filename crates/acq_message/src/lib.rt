@@ -58,10 +58,7 @@ pub use message_text::MessageText;
 pub use moment::Moment;
 pub use reconciliation_reply::totals_reply;
 pub use reference::Reference;
-pub use reply::{
-    answered_reply, coded_reply, draft_reply, merchant_in, referring_reply, reply_with_code,
-    spelled, verdict_code,
-};
+pub use reply::{answered_reply, coded_reply, draft_reply, merchant_in, referring_reply, spelled};
 pub use request_key::{RequestKey, key_of, merchant_of, original_key, terminal_of, trace_of};
 pub use request_message::RequestMessage;
 pub use response_code::ResponseCode;

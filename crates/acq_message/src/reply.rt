@@ -4,7 +4,6 @@ ghost use Rattle.std.specs.Prelude.{◌≡◌, Some, IfOk};
 ghost use Rattle.acq_message.specs.Elements.{merchant_in};
 ghost use Rattle.acq_message.specs.Reply.{reply, reply_to, day_element, code_element, coded_reply};
 ghost use Rattle.acq_message.specs.Reply.{referring_reply, draft_reply, answered_reply};
-ghost use Rattle.acq_message.specs.Reply.{verdict_code};
 ghost use Rattle.iso_codec.specs.Reading.{spelling};
 
 use crate::merchant_id::MerchantId;
@@ -36,20 +35,6 @@ pub fn spelled(alloc: Global, message: &Message) -> Result<MessageText, AllocErr
     let mut text = Vec::with_capacity(alloc, USUAL_LENGTH)?;
     encode(alloc, message, &mut text)?;
     Ok(MessageText::from_vec(text))
-}
-
-/// The reply to a request that adds a code to what it echoes.
-pub fn reply_with_code(
-    alloc: Global,
-    service: Service,
-    request: &Message,
-    code: ResponseCode,
-) -> Result<Message, AllocError>
-    ensures { IfOk result (λ m. m ≡ reply service request.now (code_element code)) }
-{
-    let mut message = request.select(alloc, service.reply_kind(), service.echoed())?;
-    put(&mut message, alloc, 39, &code.to_bytes())?;
-    Ok(message)
 }
 
 /// What each reply has: what it echoes, and the business day.
@@ -131,11 +116,4 @@ pub fn answered_reply(
     }
     put(&mut message, alloc, 39, &verdict.code().to_bytes())?;
     Ok(message)
-}
-
-/// The code of what an issuer says.
-pub fn verdict_code(verdict: Verdict) -> ResponseCode
-    ensures { result ≡ verdict_code verdict }
-{
-    verdict.code()
 }

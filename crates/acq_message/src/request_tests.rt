@@ -7,7 +7,7 @@ use crate::{
     ResponseCode, Service, TerminalId, Trace, Transmission, Verdict, amount_in, answered_reply,
     claimed_in, coded_reply, draft_reply, essence_of, key_of, merchant_of, original_acquirer,
     original_key, reference_in, referring_reply, sale_leg, spelled, terminal_of, text_at,
-    totals_reply, trace_of, transaction_in, verdict_code,
+    totals_reply, trace_of, transaction_in,
 };
 use day_totals::{Claimed, Day, Leg, Totals};
 use iso_codec::decode;
@@ -174,7 +174,7 @@ fn sales_are_answered(rt: HostRuntime) -> Result<(), Fail> {
         b"0210722200000AC080001641111111111111110000000000000010000501093000000001\
 050100000000000191TERM0001MERCHANT0000001978";
     let id = AuthorizationId::read(b"A1B2C3").ok_or("no id")?;
-    assert_eq!(rt; verdict_code(Verdict::Approved(id)), ResponseCode::Approved);
+    assert_eq!(rt; Verdict::Approved(id).code(), ResponseCode::Approved);
     for (verdict, expected) in [
         (Verdict::Approved(id), approved),
         (Verdict::declined(b"51").ok_or("no code")?, declined),

@@ -113,7 +113,7 @@ fn card_of_hold(alloc: Global, hold: &Request) -> Result<Option<ElementContent>,
     ensures { IfOk result (λ card. card ≡ hold.now.card) }
 {
     match &hold.card {
-        Some(card) => Ok(Some(ElementContent::from_slice(alloc, card.as_bytes())?)),
+        Some(card) => Ok(Some(card.copied(alloc)?)),
         None => Ok(None),
     }
 }
