@@ -1,6 +1,6 @@
 -- What a decision of the program says, in the words of the definitions, and what it needs to be
 -- carried out.
-use Rattle.std.specs.Prelude.{ℕ, nat_lt, Bool, true, ◌&&◌}
+use Rattle.std.specs.Prelude.{nat_lt, Bool, true, ◌&&◌}
 use Rattle.card_no.specs.CardNumbers.{is_valid_card}
 use Rattle.day_totals.specs.Day.{last_day}
 use Rattle.acq_message.specs.Services.{is_recordable}

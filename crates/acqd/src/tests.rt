@@ -49,12 +49,7 @@ const CASES: [(&str, u8, &str, &str); 18] = [
         "",
     ),
     // A reply, which isn't served.
-    (
-        "\x00\x2608100220000002000000010112000000000130",
-        0,
-        "",
-        "",
-    ),
+    ("\x00\x2608100220000002000000010112000000000130", 0, "", ""),
     // Frames that spell no message: a `G` in a bitmap, element 65, one byte more, a prefix of 20, a
     // cut in element 42, and every bit set.
     (

@@ -1,4 +1,4 @@
-use Rattle.std.proofs.Common.{◌≡◌, Bool, true, false, Result, Ok, Err}
+use Rattle.std.proofs.Common.{◌≡◌, Bool, true, false, Ok, Err}
 use Rattle.std.specs.Prelude.{if◌then◌else◌}
 use Rattle.acq_message.specs.declared.request_message.RequestMessage.{RequestMessage}
 use Rattle.acq_message.specs.FirstCheck.{is_malformed}
