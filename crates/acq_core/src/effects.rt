@@ -63,18 +63,19 @@ pub(crate) fn carry_out(
             verdict,
             request,
         } => answer::answered(alloc, merchant, moment, &verdict, request),
-        Decision::CutsOver => Ok((Output::Done, Some(Change::SetDay(day_after(today))))),
-        Decision::AddsRange(range) => {
-            Ok((Output::Done, Some(Change::AddRange(range.copied(alloc)?))))
-        }
-        Decision::DropsRange { low, high } => {
-            Ok((Output::Done, Some(Change::DropRange { low, high })))
-        }
-        Decision::Enrols(merchant) => Ok((Output::Done, Some(Change::AddMerchant(merchant)))),
-        Decision::AddsTerminal(terminal) => {
-            Ok((Output::Done, Some(Change::AddTerminal(terminal))))
-        }
+        Decision::CutsOver => Ok(performed(Change::SetDay(day_after(today)))),
+        Decision::AddsRange(range) => Ok(performed(Change::AddRange(range.copied(alloc)?))),
+        Decision::DropsRange { low, high } => Ok(performed(Change::DropRange { low, high })),
+        Decision::Enrols(merchant) => Ok(performed(Change::AddMerchant(merchant))),
+        Decision::AddsTerminal(terminal) => Ok(performed(Change::AddTerminal(terminal))),
     }
+}
+
+/// What was asked for is done, by this change.
+fn performed(change: Change) -> (Output, Option<Change>)
+    ensures { result ≡ (Output.Done, Some change) }
+{
+    (Output::Done, Some(change))
 }
 
 /// A reply in its spelling, for the merchant that was named.

@@ -3,8 +3,10 @@
 ghost use Rattle.std.specs.Prelude.{◌≡◌, ◌++◌, ◌∷◌, [], codes};
 ghost use Rattle.acq_message.specs.Cards.{card_of, expiry_of};
 ghost use Rattle.acq_core.specs.NewBook.{output_to};
-ghost use Rattle.acq_core.specs.declared.output.Output.TheVariants.{Reply, Undecodable, UnservedType};
-ghost use Rattle.iso_codec.specs.declared.decode_fault.DecodeFault.TheVariants.{Trailing, UnknownElement};
+ghost use Rattle.acq_core.specs.declared.output.Output.TheVariants.{Reply, Undecodable};
+ghost use Rattle.acq_core.specs.declared.output.Output.TheVariants.{UnservedType};
+ghost use Rattle.iso_codec.specs.declared.decode_fault.DecodeFault.TheVariants.{Trailing};
+ghost use Rattle.iso_codec.specs.declared.decode_fault.DecodeFault.TheVariants.{UnknownElement};
 
 /// Echo tests, sign-ons and sign-offs.
 #[tactic(auto, unfolding(iso_codec::proofs::Computing::on_literals))]

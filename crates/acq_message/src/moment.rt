@@ -27,8 +27,7 @@ impl Model for Moment {
 
 impl Moment {
     /// The moment so many seconds after 1970-01-01 00:00:00, or `None` outside the range. It takes
-    /// no
-    /// memory.
+    /// no memory.
     pub fn from_seconds(seconds: u64) -> Option<Moment>
         ensures { SomeIff result (is_moment seconds ≡ true) seconds }
     {

@@ -20,9 +20,8 @@ use std::fmt::Write;
 const USAGE: u8 = 2;
 
 /// Runs the command that the arguments name, the program's own name first, and returns the status:
-/// 0
-/// where all is well, 1 for a fault, 2 for wrong usage, 3 where memory ran out. A fault, or what is
-/// wrong with the arguments, is written to `faults`; help goes to `output`.
+/// 0 where all is well, 1 for a fault, 2 for wrong usage, 3 where memory ran out. A fault, or what
+/// is wrong with the arguments, is written to `faults`; help goes to `output`.
 pub fn command<W: AsStr, S: Source, K: Sink, F: Sink>(
     alloc: Global,
     args: &[W],
@@ -32,8 +31,7 @@ pub fn command<W: AsStr, S: Source, K: Sink, F: Sink>(
 ) -> u8
     ensures status { result ≤ 3 }
     // Where nothing is wrong with the arguments, what was read was served, and the status is that
-    // of
-    // how it ended.
+    // of how it ended.
     ensures ran { fault_of program (map W.text args.now) ≡ []
         → Runs (S.received input.old) (S.received input.new)
         (K.sent output.old) (K.sent output.new) result }
