@@ -1,6 +1,7 @@
 //! The least and greatest values that the readers take, and worked rows.
 
 mod decisions;
+mod look_ups;
 
 use crate::{AdmittedCount, FirstReference, Limit, Output, UsedCount};
 

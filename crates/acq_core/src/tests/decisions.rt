@@ -13,10 +13,10 @@ use std::process::Abort;
 use std::test::Fail;
 
 /// 2024-05-01 at 09:30.
-const MORNING: u64 = 1_714_555_800;
+pub(super) const MORNING: u64 = 1_714_555_800;
 
 /// A sale of 10.00 with a card of the first range.
-const SALE: &str = "02007220000000C08000164111111111111111000000000000001000\
+pub(super) const SALE: &str = "02007220000000C08000164111111111111111000000000000001000\
 0501093000000001TERM0001MERCHANT0000001978";
 
 /// The reply to it, approved under the first reference.
@@ -43,11 +43,11 @@ const HOLD_DRAFT: &str = "01107222000008C080001655000055555555590000000000000050
 const HOLD_ESSENCE: &str = "01007000000000008000165500005555555559000000000000005000978";
 
 /// A completion of the hold, on the next day.
-const COMPLETION: &str = "02203220000008C080000000000000000050000502093000000021\
+pub(super) const COMPLETION: &str = "02203220000008C080000000000000000050000502093000000021\
 000000000001TERM0001MERCHANT0000001978";
 
 /// A reversal of the sale.
-const REVERSAL: &str = "04209220000000C0000000000040000000000000000010000501093100000003\
+pub(super) const REVERSAL: &str = "04209220000000C0000000000040000000000000000010000501093100000003\
 TERM0001MERCHANT0000001020000000105010930000000000000000000000000";
 
 /// What is looked up for an event, where anything is found.
@@ -82,7 +82,7 @@ enum Found {
 }
 
 /// A day by its number, 8887 for 2024-05-01.
-fn day(number: u32) -> Result<Day, Fail> {
+pub(super) fn day(number: u32) -> Result<Day, Fail> {
     Ok(Day::from_number(number).ok_or("a day")?)
 }
 
@@ -95,7 +95,7 @@ fn range(alloc: Global, low: u32, issuer: &str, hold_days: u8) -> Result<Range, 
     })
 }
 
-fn merchant() -> Result<Merchant, Fail> {
+pub(super) fn merchant() -> Result<Merchant, Fail> {
     Ok(Merchant {
         id: MerchantId::read(b"MERCHANT0000001").ok_or("a merchant")?,
         currency: Currency::read(b"978").ok_or("a currency")?,
