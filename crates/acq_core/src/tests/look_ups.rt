@@ -2,10 +2,11 @@
 
 use super::decisions::{COMPLETION, MORNING, REVERSAL, SALE, day, merchant};
 use crate::{
-    Event, MessageText, Moment, Reference, RequestKey, Service, TerminalId, Trace, Transmission,
-    Verdict, Wanted, wanted,
+    Event, MerchantId, MessageText, Moment, Reference, RequestKey, Service, TerminalId, Trace,
+    Transmission, Verdict, Wanted, wanted,
 };
 use card_no::Prefix;
+use day_totals::Day;
 use std::alloc::Global;
 use std::test::Fail;
 
@@ -22,44 +23,41 @@ fn wanted_for(alloc: Global, frame: &str) -> Result<Wanted, Fail> {
     Ok(wanted(alloc, &Event::Frame(moment, text), day(8887)?)?)
 }
 
-/// What is looked up for every recorded request, by the parts of its key.
-fn by_key(service: Service, trace: &[u8], sent: &[u8]) -> Result<Wanted, Fail> {
-    let id = merchant()?.id;
-    let terminal = TerminalId::read(b"TERM0001").ok_or("a terminal")?;
-    Ok(Wanted {
-        merchant: Some(id),
-        terminal: Some(terminal),
-        key: Some(RequestKey {
-            merchant: id,
-            terminal,
-            service,
-            trace: Trace::read(trace).ok_or("a trace")?,
-            transmission: Transmission::read(sent).ok_or("a date and time")?,
-        }),
-        original: None,
-        reference: None,
-        prefix: None,
-        bounds: None,
-        totals_day: None,
+/// The key of a request of the merchant's terminal.
+fn key(service: Service, trace: &[u8], sent: &[u8]) -> Result<RequestKey, Fail> {
+    Ok(RequestKey {
+        merchant: merchant()?.id,
+        terminal: TerminalId::read(b"TERM0001").ok_or("a terminal")?,
+        service,
+        trace: Trace::read(trace).ok_or("a trace")?,
+        transmission: Transmission::read(sent).ok_or("a date and time")?,
     })
 }
 
 #[test]
-fn of_requests(rt: HostRuntime) -> Result<(), Fail> {
-    let alloc = rt.alloc();
-    let mut sale = by_key(Service::Financial, b"000001", b"0501093000")?;
-    let original = sale.key;
-    sale.prefix = Prefix::from_number(411_111);
-    assert_eq!(rt; wanted_for(alloc, SALE)?, sale);
-    let mut completion = by_key(Service::Completion, b"000021", b"0502093000")?;
-    completion.reference = Reference::from_number(1);
-    assert_eq!(rt; wanted_for(alloc, COMPLETION)?, completion);
-    let mut reversal = by_key(Service::ReversalAdvice, b"000003", b"0501093100")?;
-    reversal.original = original;
-    assert_eq!(rt; wanted_for(alloc, REVERSAL)?, reversal);
-    let mut reconciliation = by_key(Service::Reconciliation, b"000010", b"0501100000")?;
-    reconciliation.totals_day = Some(day(8857)?);
-    assert_eq!(rt; wanted_for(alloc, RECONCILIATION)?, reconciliation);
+fn of_sales_and_completions(rt: HostRuntime) -> Result<(), Fail> {
+    let found = wanted_for(rt.alloc(), SALE)?;
+    assert_eq!(rt; found.merchant, MerchantId::read(b"MERCHANT0000001"));
+    assert_eq!(rt; found.terminal, TerminalId::read(b"TERM0001"));
+    let sale = key(Service::Financial, b"000001", b"0501093000")?;
+    assert_eq!(rt; found.key, Some(sale));
+    assert_eq!(rt; found.prefix, Prefix::from_number(411_111));
+    assert_eq!(rt; found.reference, None);
+    let found = wanted_for(rt.alloc(), COMPLETION)?;
+    let completion = key(Service::Completion, b"000021", b"0502093000")?;
+    assert_eq!(rt; found.key, Some(completion));
+    assert_eq!(rt; found.reference, Reference::from_number(1));
+    Ok(())
+}
+
+#[test]
+fn of_reversals_and_reconciliations(rt: HostRuntime) -> Result<(), Fail> {
+    let found = wanted_for(rt.alloc(), REVERSAL)?;
+    let original = key(Service::Financial, b"000001", b"0501093000")?;
+    assert_eq!(rt; found.original, Some(original));
+    let found = wanted_for(rt.alloc(), RECONCILIATION)?;
+    assert_eq!(rt; found.totals_day, Day::from_number(8857));
+    assert_eq!(rt; found.original, None);
     Ok(())
 }
 
