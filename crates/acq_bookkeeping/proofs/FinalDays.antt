@@ -16,9 +16,9 @@ use Rattle.acq_core.specs.declared.reply_state.ReplyState.TheVariants.{Kept, Awa
 use Rattle.acq_core.specs.Known.{Prior, Known}
 use Rattle.acq_core.specs.Decision.{Decision, Reports, Replies, Repeats, Refuses, Admits, Completes, Reverses, Reconciles, Answers, CutsOver, AddsRange, DropsRange, Enrols, AddsTerminal, decision}
 use Rattle.acq_core.specs.Changes.{change_of, answered_status, reversed_status, answer_posting, approval_posting, reversal_posting, completion_posting}
-use Rattle.acq_core.specs.Tables.{Tables, known_in, with_changed, with_next_posting, after_any, step_tables, tables_after}
+use Rattle.acq_core.specs.Tables.{Tables, is_pending, known_in, with_changed, with_next_posting, after_any, step_tables, tables_after}
 use Rattle.acq_bookkeeping.specs.DaySums.{postings_on}
-use Rattle.acq_bookkeeping.specs.Finality.{has_pending, is_pending}
+use Rattle.acq_bookkeeping.specs.Finality.{has_pending}
 use Rattle.acq_history.proofs.Members.{In, In-push, any_none}
 use Rattle.acq_history.proofs.GroundsOfDecision.{Grounds, grounds, Other, Made, changed_is}
 use Rattle.acq_history.proofs.Lookups.{some_is, filter-push_out}

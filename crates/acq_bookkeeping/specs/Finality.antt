@@ -3,16 +3,9 @@ use Rattle.std.specs.Prelude.{◌≡◌, ℕ, ◌<◌, ◌==◌, Bool, true, fal
 use Rattle.std.specs.List.{list_any}
 use Rattle.acq_core.specs.declared.event.Event.{Event}
 use Rattle.acq_core.specs.declared.request.Request.{Request}
-use Rattle.acq_core.specs.declared.status.Status.{Status}
-use Rattle.acq_core.specs.declared.status.Status.TheVariants.{Pending}
-use Rattle.acq_core.specs.Tables.{Opening}
+use Rattle.acq_core.specs.Tables.{Opening, is_pending}
 use Rattle.acq_history.specs.PartyHistory.{book_after}
 use Rattle.acq_bookkeeping.specs.DaySums.{postings_on}
-
--- admitted and not answered
-abbrev pub is_pending : Status → Bool
-is_pending Pending = true
-is_pending status = false
 
 -- a request of a day is pending
 abbrev pub has_pending : ℕ → List Request → Bool

@@ -88,6 +88,11 @@ reply_state_of Completed reply = Kept reply
 reply_state_of Reversed reply = Kept reply
 reply_state_of Reconciled reply = Kept reply
 
+-- admitted, and neither answered nor reversed
+abbrev pub is_pending : Status → Bool
+is_pending Pending = true
+is_pending status = false
+
 -- a reversal of it can be accepted
 abbrev pub is_reversible : Status → Bool
 is_reversible Pending = true

@@ -5,9 +5,7 @@ use Rattle.std.proofs.lemmas.Bool.{cases_Bool}
 use Rattle.acq_message.specs.declared.request_key.RequestKey.{RequestKey}
 use Rattle.acq_message.specs.Elements.{same_key}
 use Rattle.acq_core.specs.declared.request.Request.{Request}
-use Rattle.acq_core.specs.declared.status.Status.{Status}
-use Rattle.acq_core.specs.declared.status.Status.TheVariants.{Pending}
-use Rattle.acq_core.specs.Tables.{count, used_in}
+use Rattle.acq_core.specs.Tables.{count, is_pending, used_in}
 use Rattle.acq_history.proofs.Lookups.{count-push, count-view, count-same, filter-push_in, filter-push_out}
 use Rattle.acq_history.proofs.Members.{In}
 use Rattle.acq_history.proofs.Keys.{same_key_from, eqb_itself}
@@ -51,11 +49,6 @@ used_in-changed key changed admitted days rows day =
         ((cond b (changed x) x).admitted && eqb (cond b (changed x) x).day day) ≡ (x.admitted && eqb x.day day)
     one x true = λ i. admitted x i && eqb (days x i) day
     one x false = refl
-
--- admitted and not answered
-abbrev pub is_pending : Status → Bool
-is_pending Pending = true
-is_pending status = false
 
 -- how many of a day are
 abbrev pub pending_in : List Request → ℕ → ℕ

@@ -5,12 +5,12 @@ use Rattle.std.specs.Str.{bytes_eq}
 use Rattle.acq_message.specs.declared.request_key.RequestKey.{RequestKey}
 use Rattle.acq_core.specs.declared.posting.Posting.{Posting}
 use Rattle.acq_core.specs.declared.request.Request.{Request}
-use Rattle.acq_core.specs.Tables.{count, requests_of, postings_of, used_in, with_changed, with_next_posting, postings_before}
+use Rattle.acq_core.specs.Tables.{count, is_pending, requests_of, postings_of, used_in, with_changed, with_next_posting, postings_before}
 use Rattle.acq_history.proofs.Lookups.{and_false}
 use Rattle.acq_history.proofs.Members.{In, In-filter}
 use Rattle.acq_history.proofs.Keys.{bytes_eq_is, eqb_is}
 use Rattle.acq_invariants.proofs.RowsWithChanges.{requests_of-changed}
-use Rattle.acq_invariants.proofs.CountsOfRows.{one_if, count-filter_push, used_in-changed, is_pending, pending_in, pending_in-changed, pending_in-answered}
+use Rattle.acq_invariants.proofs.CountsOfRows.{one_if, count-filter_push, used_in-changed, pending_in, pending_in-changed, pending_in-answered}
 
 -- how many postings of a day a merchant has
 abbrev pub posted_on : List ℕ → List (ℕ × Posting) → ℕ → ℕ

@@ -27,7 +27,7 @@ use Rattle.acq_core.specs.declared.reply_state.ReplyState.{ReplyState}
 use Rattle.acq_core.specs.declared.reply_state.ReplyState.TheVariants.{Kept, Awaited, Late}
 use Rattle.acq_core.specs.Numbers.{is_first_reference, greatest_limit}
 use Rattle.acq_core.specs.Changes.{or_zero, change_of, approval_posting, answer_posting, posting_today, completion_posting, posted_leg, reversal_leg, reversal_posting, answered_status, reversed_status}
-use Rattle.acq_core.specs.Tables.{Opening, Tables, new_tables, count, prior_of, reply_state_of, reference_by, leg_by, requests_of, postings_of, admitted_in, with_changed, with_next_posting, postings_before, known_in, after_any, step_tables, tables_after}
+use Rattle.acq_core.specs.Tables.{Opening, Tables, new_tables, count, is_pending, prior_of, reply_state_of, reference_by, leg_by, requests_of, postings_of, admitted_in, with_changed, with_next_posting, postings_before, known_in, after_any, step_tables, tables_after}
 use Rattle.acq_history.specs.Entries.{is_reversal}
 use Rattle.acq_history.proofs.Lookups.{map_some}
 use Rattle.acq_history.proofs.Members.{In-find, from_In}
@@ -36,7 +36,6 @@ use Rattle.acq_invariants.specs.Bounds.{IsBoundedRow, IsBoundedPosting, IsWithin
 use Rattle.acq_history.proofs.StepCases.{next_reference, by_step}
 use Rattle.acq_invariants.proofs.Arrivals.{IsArrival, kept_by_events}
 use Rattle.acq_invariants.proofs.RowsWithChanges.{All-with_changed, All-member}
-use Rattle.acq_invariants.proofs.CountsOfRows.{is_pending}
 use Rattle.acq_invariants.proofs.AdmittedCounts.{IsCounted, admitted_in-within}
 use Rattle.acq_invariants.proofs.CountsStayWithin.{AreCountsWithin, IsOf, within_uncounted, within_counted, posted_on-ended, used_on-changed, pending_on-changed, within_answered}
 

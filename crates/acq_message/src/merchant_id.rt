@@ -8,7 +8,7 @@ use std::marker::Model;
 
 /// A merchant's name, as element 42 has it: fifteen bytes from 0x20 to 0x7E. Contracts see it as
 /// the list of these bytes. Source: ISO 8583:1987, card acceptor identification code.
-#[derive(Clone, Copy, Debug, PartialEq, Eq)]
+#[derive(Clone, Copy, Debug, PartialEq, Eq, Hash)]
 pub struct MerchantId {
     bytes: [u8; 15],
 }

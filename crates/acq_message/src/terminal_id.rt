@@ -9,7 +9,7 @@ use std::marker::Model;
 /// A terminal's name, as element 41 has it: eight bytes from 0x20 to 0x7E. The same name at two
 /// merchants is two terminals. Contracts see it as the list of these bytes. Source: ISO 8583:1987,
 /// card acceptor terminal identification.
-#[derive(Clone, Copy, Debug, PartialEq, Eq)]
+#[derive(Clone, Copy, Debug, PartialEq, Eq, Hash)]
 pub struct TerminalId {
     bytes: [u8; 8],
 }

@@ -8,7 +8,7 @@ use std::marker::Model;
 
 /// What a terminal numbers its messages with, as element 11 has it: six digits. Contracts see it as
 /// the list of their bytes. Source: ISO 8583:1987, systems trace audit number.
-#[derive(Clone, Copy, Debug, PartialEq, Eq)]
+#[derive(Clone, Copy, Debug, PartialEq, Eq, Hash)]
 pub struct Trace {
     bytes: [u8; 6],
 }

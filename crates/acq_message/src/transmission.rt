@@ -9,7 +9,7 @@ use std::marker::Model;
 /// When a terminal sent a message by its own clock, as element 7 has it: ten digits, MMDDhhmmss. It
 /// serves as a part of a request's key, so any ten digits are taken (own profile). Contracts see it
 /// as the list of their bytes. Source: ISO 8583:1987, transmission date and time.
-#[derive(Clone, Copy, Debug, PartialEq, Eq)]
+#[derive(Clone, Copy, Debug, PartialEq, Eq, Hash)]
 pub struct Transmission {
     bytes: [u8; 10],
 }

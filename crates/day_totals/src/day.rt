@@ -13,7 +13,7 @@ use jiff::civil::{Date, date};
 use std::marker::Model;
 
 /// A business day, from 2000-01-01 to 2099-12-31 (own profile). Contracts see its number.
-#[derive(Clone, Copy, Debug, PartialEq, Eq, PartialOrd, Ord)]
+#[derive(Clone, Copy, Debug, PartialEq, Eq, PartialOrd, Ord, Hash)]
 pub struct Day {
     number: u32,
 }

@@ -1,0 +1,5 @@
+pub mod Order
+pub mod Lookups
+pub mod Fits
+pub mod Promise
+pub mod Visits

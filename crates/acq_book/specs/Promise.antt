@@ -1,0 +1,45 @@
+-- What every call of a book promises of its tables, its faults, and what a stop may leave.
+use Rattle.std.specs.Prelude.{◌≡◌, ◌⊎◌, ℕ, ◌+◌, ◌<◌, ◌≤◌, ◌^◌, Bool, true, false, Result, Ok, Err}
+use Rattle.acq_core.specs.Tables.{Tables}
+use Rattle.acq_book.specs.declared.book_fault.BookFault.{BookFault}
+use Rattle.acq_book.specs.declared.book_fault.BookFault.TheVariants.{Memory, Store}
+
+-- more calls of the store have failed; a count that is full stays as it is
+abbrev pub HasRisen : ℕ → ℕ → Type 0
+HasRisen old new = (old < new) ⊎ (2 ^ 64 ≤ old + 1)
+
+-- a fault of the store is reported only where a call of it failed
+abbrev pub IfStore : {T : Type 0} → Result T BookFault → Type 0 → Type 0
+IfStore (Ok x) failed = Unit {0}
+IfStore (Err Memory) failed = Unit {0}
+IfStore (Err Store) failed = failed
+
+-- A look-up or a walk leaves the tables as they are, and adds nothing to what a stop may leave.
+-- Where it succeeded, the book stays open.
+pub record Looks {S : Type 0} (tables : S → Tables) (is_honest is_open : S → Type 0)
+    (may_leave : S → Tables → Type 0) (failures : S → ℕ) (old new : S)
+    (succeeded : Bool) : Type 0 where
+  pub was_honest : is_honest new → is_honest old
+  pub was_open : is_open new → is_open old
+  pub stays_open : succeeded ≡ true → is_honest new → is_open old → is_open new
+  pub same : is_open new → tables new ≡ tables old
+  pub leaves : is_honest new → (t : Tables) → may_leave new t → may_leave old t
+  pub rise : failures old ≤ failures new
+
+-- A change leads to these tables, or is not made. At any moment a stop leaves what it might before,
+-- or the tables with the whole change; after a change that was made only these, where before it
+-- only the tables themselves might be left.
+pub record Makes {S : Type 0} (tables : S → Tables) (is_honest is_open : S → Type 0)
+    (may_leave : S → Tables → Type 0) (failures : S → ℕ) (old new : S)
+    (succeeded : Bool) (changed : Tables) : Type 0 where
+  pub was_honest : is_honest new → is_honest old
+  pub was_open : is_open new → is_open old
+  pub stays_open : succeeded ≡ true → is_honest new → is_open old → is_open new
+  pub made : succeeded ≡ true → is_open new → tables new ≡ changed
+  pub unmade : succeeded ≡ false → is_open new → tables new ≡ tables old
+  pub leaves : is_open old → is_honest new → (t : Tables) → may_leave new t →
+      may_leave old t ⊎ (t ≡ changed)
+  pub settled : succeeded ≡ true → is_open old → is_honest new →
+      ((t : Tables) → may_leave old t → t ≡ tables old) →
+      (t : Tables) → may_leave new t → t ≡ changed
+  pub rise : failures old ≤ failures new

@@ -1,0 +1,198 @@
+//! What keeps the tables.
+
+ghost use Rattle.std.specs.Prelude.{◌≡◌, ℕ, IfOk, OnOk, OnErr, is_ok};
+ghost use Rattle.acq_core.specs.Tables.{Tables, after};
+ghost use Rattle.acq_book.specs.Fits.{Fits};
+ghost use Rattle.acq_book.specs.Lookups.{merchant_at, has_terminal_at, range_at, overlapping_at};
+ghost use Rattle.acq_book.specs.Lookups.{request_at, referred_at, admitted_at, used_at, totals_at};
+ghost use Rattle.acq_book.specs.Lookups.{pending_at, last_reconciliation_at};
+ghost use Rattle.acq_book.specs.Lookups.{postings_at, merchants_at, holds_at};
+ghost use Rattle.acq_book.specs.Promise.{HasRisen, IfStore, Looks, Makes};
+ghost use Rattle.acq_book.specs.Visits.{SawAll, SawSome};
+
+use crate::book_fault::BookFault;
+use crate::visit::Visit;
+use acq_core::{
+    AdmittedCount, Change, Limit, Merchant, MerchantId, Posting, Reconciliation, Reference,
+    Request, RequestKey, TerminalId, UsedCount,
+};
+use card_no::{Prefix, Range};
+use day_totals::{Day, Totals};
+
+/// What keeps the tables.
+///
+/// Each look-up gives what its definition says of the tables, and changes nothing. What is said of
+/// the tables is said of an open book, whose store gave back what was written. Any call may answer
+/// that memory ran out, or that the store failed.
+pub trait Book {
+    /// The tables.
+    ghost tables: { Self → Tables };
+
+    /// The store gave back what was written, and nothing but this book has written it.
+    ghost is_honest: { Self → Type 0 };
+
+    /// The store is honest, and no fault has shut it.
+    ghost is_open: { Self → Type 0 };
+
+    /// The tables that a stop may leave.
+    ghost may_leave: { Self → Tables → Type 0 };
+
+    /// How many calls of the store have failed.
+    ghost failures: { Self → ℕ };
+
+    /// How many messages of a merchant a day admits.
+    fn limit(&mut self) -> Result<Limit, BookFault>
+        ensures value { is_open self.new → IfOk result (λ n. n ≡ (tables self.old).limit) }
+        ensures looks { Looks tables is_honest is_open may_leave failures
+            self.old self.new (is_ok result) }
+        ensures store { IfStore result (HasRisen (failures self.old) (failures self.new)) };
+
+    /// The business day.
+    fn day(&mut self) -> Result<Day, BookFault>
+        ensures value { is_open self.new → IfOk result (λ day. day ≡ (tables self.old).day) }
+        ensures looks { Looks tables is_honest is_open may_leave failures
+            self.old self.new (is_ok result) }
+        ensures store { IfStore result (HasRisen (failures self.old) (failures self.new)) };
+
+    /// The merchant with this name.
+    fn merchant(&mut self, id: MerchantId) -> Result<Option<Merchant>, BookFault>
+        ensures value { is_open self.new → IfOk result
+            (λ row. row ≡ merchant_at (tables self.old) id) }
+        ensures looks { Looks tables is_honest is_open may_leave failures
+            self.old self.new (is_ok result) }
+        ensures store { IfStore result (HasRisen (failures self.old) (failures self.new)) };
+
+    /// Whether the merchant has this terminal.
+    fn has_terminal(&mut self, merchant: MerchantId, id: TerminalId) -> Result<bool, BookFault>
+        ensures value { is_open self.new → IfOk result
+            (λ has. has ≡ has_terminal_at (tables self.old) merchant id) }
+        ensures looks { Looks tables is_honest is_open may_leave failures
+            self.old self.new (is_ok result) }
+        ensures store { IfStore result (HasRisen (failures self.old) (failures self.new)) };
+
+    /// The range that holds a prefix.
+    fn range(&mut self, prefix: Prefix) -> Result<Option<Range>, BookFault>
+        ensures value { is_open self.new → IfOk result
+            (λ range. range ≡ range_at (tables self.old) prefix) }
+        ensures looks { Looks tables is_honest is_open may_leave failures
+            self.old self.new (is_ok result) }
+        ensures store { IfStore result (HasRisen (failures self.old) (failures self.new)) };
+
+    /// Of the ranges that overlap these ends, the one of least low.
+    fn overlapping(&mut self, low: u32, high: u32) -> Result<Option<Range>, BookFault>
+        ensures value { is_open self.new → IfOk result
+            (λ range. range ≡ overlapping_at (tables self.old) low high) }
+        ensures looks { Looks tables is_honest is_open may_leave failures
+            self.old self.new (is_ok result) }
+        ensures store { IfStore result (HasRisen (failures self.old) (failures self.new)) };
+
+    /// The request with this key.
+    fn request(&mut self, key: RequestKey) -> Result<Option<Request>, BookFault>
+        ensures value { is_open self.new → IfOk result
+            (λ row. row ≡ request_at (tables self.old) key) }
+        ensures looks { Looks tables is_honest is_open may_leave failures
+            self.old self.new (is_ok result) }
+        ensures store { IfStore result (HasRisen (failures self.old) (failures self.new)) };
+
+    /// The merchant's request with this reference.
+    fn by_reference(
+        &mut self,
+        merchant: MerchantId,
+        reference: Reference,
+    ) -> Result<Option<Request>, BookFault>
+        ensures value { is_open self.new → IfOk result
+            (λ row. row ≡ referred_at (tables self.old) merchant reference) }
+        ensures looks { Looks tables is_honest is_open may_leave failures
+            self.old self.new (is_ok result) }
+        ensures store { IfStore result (HasRisen (failures self.old) (failures self.new)) };
+
+    /// How many of the merchant's requests were admitted: so many references it has given.
+    fn admitted(&mut self, merchant: MerchantId) -> Result<AdmittedCount, BookFault>
+        ensures value { is_open self.new → IfOk result
+            (λ n. n ≡ admitted_at (tables self.old) merchant) }
+        ensures looks { Looks tables is_honest is_open may_leave failures
+            self.old self.new (is_ok result) }
+        ensures store { IfStore result (HasRisen (failures self.old) (failures self.new)) };
+
+    /// How many of the merchant's messages count against the limit of a day.
+    fn used(&mut self, merchant: MerchantId, day: Day) -> Result<UsedCount, BookFault>
+        ensures value { is_open self.new → IfOk result
+            (λ n. n ≡ used_at (tables self.old) merchant day) }
+        ensures looks { Looks tables is_honest is_open may_leave failures
+            self.old self.new (is_ok result) }
+        ensures store { IfStore result (HasRisen (failures self.old) (failures self.new)) };
+
+    /// The merchant's totals of a day.
+    fn totals(&mut self, merchant: MerchantId, day: Day) -> Result<Totals, BookFault>
+        ensures value { is_open self.new → IfOk result
+            (λ totals. totals ≡ totals_at (tables self.old) merchant day) }
+        ensures looks { Looks tables is_honest is_open may_leave failures
+            self.old self.new (is_ok result) }
+        ensures store { IfStore result (HasRisen (failures self.old) (failures self.new)) };
+
+    /// How many requests of a day are pending, of all merchants.
+    fn pending(&mut self, day: Day) -> Result<u64, BookFault>
+        ensures value { is_open self.new → IfOk result (λ n. n ≡ pending_at (tables self.old) day) }
+        ensures looks { Looks tables is_honest is_open may_leave failures
+            self.old self.new (is_ok result) }
+        ensures store { IfStore result (HasRisen (failures self.old) (failures self.new)) };
+
+    /// The merchant's last reconciliation of a day.
+    fn last_reconciliation(
+        &mut self,
+        merchant: MerchantId,
+        day: Day,
+    ) -> Result<Option<Reconciliation>, BookFault>
+        ensures value { is_open self.new → IfOk result
+            (λ row. row ≡ last_reconciliation_at (tables self.old) merchant day) }
+        ensures looks { Looks tables is_honest is_open may_leave failures
+            self.old self.new (is_ok result) }
+        ensures store { IfStore result (HasRisen (failures self.old) (failures self.new)) };
+
+    /// Hands over the postings of a day, each with its number, in order of merchant and number.
+    fn walk_postings<V: Visit<(u64, Posting)>>(
+        &mut self,
+        day: Day,
+        visitor: &mut V,
+    ) -> Result<(), BookFault>
+        ensures seen { is_honest self.new → is_open self.old → OnOk result
+            (SawAll V.sees (postings_at (tables self.old) day) visitor.old visitor.new) }
+        ensures begun { is_honest self.new → is_open self.old → OnErr result
+            (SawSome V.sees (postings_at (tables self.old) day) visitor.old visitor.new) }
+        ensures looks { Looks tables is_honest is_open may_leave failures
+            self.old self.new (is_ok result) }
+        ensures store { IfStore result (HasRisen (failures self.old) (failures self.new)) };
+
+    /// Hands over the merchants, in order of their names.
+    fn walk_merchants<V: Visit<Merchant>>(&mut self, visitor: &mut V) -> Result<(), BookFault>
+        ensures seen { is_honest self.new → is_open self.old → OnOk result
+            (SawAll V.sees (merchants_at (tables self.old)) visitor.old visitor.new) }
+        ensures begun { is_honest self.new → is_open self.old → OnErr result
+            (SawSome V.sees (merchants_at (tables self.old)) visitor.old visitor.new) }
+        ensures looks { Looks tables is_honest is_open may_leave failures
+            self.old self.new (is_ok result) }
+        ensures store { IfStore result (HasRisen (failures self.old) (failures self.new)) };
+
+    /// Hands over a merchant's approved holds, which are neither completed nor reversed, in order
+    /// of reference.
+    fn walk_holds<V: Visit<Request>>(
+        &mut self,
+        merchant: MerchantId,
+        visitor: &mut V,
+    ) -> Result<(), BookFault>
+        ensures seen { is_honest self.new → is_open self.old → OnOk result
+            (SawAll V.sees (holds_at (tables self.old) merchant) visitor.old visitor.new) }
+        ensures begun { is_honest self.new → is_open self.old → OnErr result
+            (SawSome V.sees (holds_at (tables self.old) merchant) visitor.old visitor.new) }
+        ensures looks { Looks tables is_honest is_open may_leave failures
+            self.old self.new (is_ok result) }
+        ensures store { IfStore result (HasRisen (failures self.old) (failures self.new)) };
+
+    /// Makes all of a change, or none of it. The change fits: its keys are new, and there is room
+    /// for it.
+    fn apply(&mut self, change: &Change) -> Result<(), BookFault>
+        requires fits { is_open self.old → Fits (tables self.old) change.now }
+        ensures makes { Makes tables is_honest is_open may_leave failures
+            self.old self.new (is_ok result) (after (tables self.old) change.now) }
+        ensures store { IfStore result (HasRisen (failures self.old) (failures self.new)) };
+}

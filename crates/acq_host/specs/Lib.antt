@@ -1,0 +1,3 @@
+pub mod Pasts
+pub mod Runs
+pub mod Headline

@@ -1,0 +1,123 @@
+//! A host over a book.
+
+ghost use Rattle.std.specs.Prelude.{◌≡◌, ◌⊎◌, ◌+◌, is_ok, take, IfOk, IfErr, OnOk, OnErr};
+ghost use Rattle.acq_core.specs.Arrivals.{arrival_of};
+ghost use Rattle.acq_core.specs.Tables.{Tables, outputs, step_output, step_tables, tables_after};
+ghost use Rattle.acq_book.specs.Promise.{HasRisen, IfStore, Makes};
+ghost use Rattle.acq_host.specs.Headline.{IsAlone, KeptItsPostings};
+ghost use Rattle.acq_host.specs.Pasts.{HasPast};
+ghost use Rattle.acq_host.specs.Runs.{StopsAt, after_first};
+
+use crate::looking_up::{apply, look_up};
+use crate::run_fault::RunFault;
+use acq_book::{Book, BookFault};
+use acq_core::{Arrival, Event, Output};
+use std::alloc::Global;
+use std::marker::Model;
+
+/// A host over a book that began new, and that events alone have changed. Contracts see it as its
+/// book.
+#[derive(Drop)]
+pub struct Host<B: Book + Drop> {
+    alloc: Global,
+    book: B,
+}
+
+impl<B: Book + Drop> Model for Host<B> {
+    ghost use Rattle.acq_host.specs.Pasts.{HasPast};
+
+    ghost Value = { B };
+
+    ghost view = { λ host. host.book };
+
+    ghost invariant = { λ host. B.is_open host.book → HasPast (B.tables host.book) };
+}
+
+impl<B: Book + Drop> Host<B> {
+    /// A host over this book.
+    pub fn new(alloc: Global, book: B) -> Host<B>
+        requires past { B.is_open book → HasPast (B.tables book) }
+        ensures { result ≡ book }
+    {
+        Host { alloc, book }
+    }
+
+    /// The book.
+    pub fn into_book(self) -> B
+        ensures book { result ≡ self }
+        ensures past { B.is_open result → HasPast (B.tables result) }
+    {
+        self.book
+    }
+
+    /// Takes one event whole, or not at all, and returns what the host says to it.
+    pub fn take(&mut self, event: &Event) -> Result<Output, BookFault>
+        ensures output { B.is_open self.new → IfOk result (λ output.
+            output ≡ step_output (B.tables self.old) (arrival_of event.now)) }
+        // The tables after it, and what a stop at any moment may leave.
+        ensures tables { Makes B.tables B.is_honest B.is_open B.may_leave B.failures
+            self.old self.new (is_ok result) (step_tables (B.tables self.old) (arrival_of event.now)) }
+        ensures store { IfStore result (HasRisen (B.failures self.old) (B.failures self.new)) }
+    {
+        let arrival = Arrival::of(self.alloc, event)?;
+        let looked = look_up(&mut self.book, &arrival)?;
+        let (output, change) = arrival.decide(self.alloc, &looked)?;
+        apply(&mut self.book, change)?;
+        Ok(output)
+    }
+
+    /// Takes events in order, to the last or to the first fault, and returns what the host says to
+    /// each.
+    pub fn run(&mut self, events: &[Event]) -> Result<Vec<Output>, RunFault>
+        ensures outputs { B.is_honest self.new → B.is_open self.old → IfOk result (λ told.
+            told.items ≡ outputs (B.tables self.old) events.now) }
+        ensures tables { B.is_honest self.new → B.is_open self.old → OnOk result
+            (B.tables self.new ≡ tables_after (B.tables self.old) events.now) }
+        // After a fault so it is of the events before it.
+        ensures fault { B.is_honest self.new → B.is_open self.old → IfErr result (λ fault.
+            StopsAt (B.tables self.old) events.now fault.at fault.outputs.items) }
+        ensures fault_tables { B.is_open self.new → IfErr result (λ fault.
+            B.tables self.new ≡ after_first fault.at (B.tables self.old) events.now) }
+        // Each party got what its own events alone give.
+        ensures alone { B.is_honest self.new → B.is_open self.old → IfOk result (λ told.
+            IsAlone (B.tables self.old) events.now told.items (B.tables self.new)) }
+        ensures fault_alone { B.is_open self.new → IfErr result (λ fault.
+            IsAlone (B.tables self.old) (take fault.at events.now) fault.outputs.items
+            (B.tables self.new)) }
+        // Nothing is posted or reversed twice, and closed days stay as they are.
+        ensures postings { B.is_open self.new
+            → KeptItsPostings (B.tables self.old) (B.tables self.new) }
+        // A stop leaves all events so far.
+        ensures stop { B.is_honest self.new → B.is_open self.old
+            → ((t : Tables) → B.may_leave self.old t → t ≡ B.tables self.old)
+            → (t : Tables) → B.may_leave self.new t → OnOk result
+            (t ≡ tables_after (B.tables self.old) events.now) }
+        ensures fault_stop { B.is_honest self.new → B.is_open self.old
+            → ((t : Tables) → B.may_leave self.old t → t ≡ B.tables self.old)
+            → (t : Tables) → B.may_leave self.new t → IfErr result (λ fault.
+            (t ≡ after_first fault.at (B.tables self.old) events.now)
+            ⊎ (t ≡ after_first (fault.at + 1) (B.tables self.old) events.now)) }
+        ensures store { IfErr result (λ fault. IfStore (Err fault.fault)
+            (HasRisen (B.failures self.old) (B.failures self.new))) }
+    {
+        let mut told = Vec::new(self.alloc);
+        for (at, event) in events.iter().enumerate() {
+            // Once the event is taken nothing may fail, so the place of its output is taken first.
+            let output = match told.reserve(1) {
+                Ok(()) => self.take(event),
+                Err(e) => Err(BookFault::from(e)),
+            };
+            match output {
+                Ok(output) => told.push(output).unwrap(),
+                Err(fault) => {
+                    return Err(RunFault {
+                        at,
+                        outputs: told,
+                        fault,
+                    });
+                }
+            }
+        }
+        Ok(told)
+    }
+}

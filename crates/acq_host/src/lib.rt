@@ -1,0 +1,9 @@
+//! The host: it takes events, one whole after the other, over any book.
+#![tactic(auto)]
+
+mod host;
+mod looking_up;
+mod run_fault;
+
+pub use host::Host;
+pub use run_fault::RunFault;
