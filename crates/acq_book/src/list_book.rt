@@ -193,8 +193,6 @@ impl ListBook {
 }
 
 impl Book for ListBook {
-    ghost use Rattle.std.specs.Prelude.{⊥};
-
     ghost tables = { λ t. t };
 
     ghost is_honest = { λ t. Unit {0} };

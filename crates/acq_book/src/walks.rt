@@ -32,7 +32,7 @@ pub(crate) fn in_order_of_numbers(
     mut rows: Vec<&(u64, Posting)>,
 ) -> Result<Vec<&(u64, Posting)>, AllocError>
     ensures { IfOk result (λ sorted. map deref sorted.items
-        ≡ in_order is_posting_before (map deref rows.items)) }
+        ≡ in_order is_posting_before (map deref rows.entry.items)) }
 {
     rows.sort_by_key(|row| (row.1.merchant.to_bytes(), row.0))?;
     Ok(rows)
@@ -41,7 +41,7 @@ pub(crate) fn in_order_of_numbers(
 /// Merchants by name.
 pub(crate) fn in_order_of_names(mut rows: Vec<&Merchant>) -> Result<Vec<&Merchant>, AllocError>
     ensures { IfOk result (λ sorted. map deref sorted.items
-        ≡ in_order (λ a b. is_lt (slice_cmp nat_cmp a.id b.id)) (map deref rows.items)) }
+        ≡ in_order (λ a b. is_lt (slice_cmp nat_cmp a.id b.id)) (map deref rows.entry.items)) }
 {
     rows.sort_by_key(|row| row.id.to_bytes())?;
     Ok(rows)
@@ -50,7 +50,7 @@ pub(crate) fn in_order_of_names(mut rows: Vec<&Merchant>) -> Result<Vec<&Merchan
 /// Requests by reference.
 pub(crate) fn in_order_of_references(mut rows: Vec<&Request>) -> Result<Vec<&Request>, AllocError>
     ensures { IfOk result (λ sorted. map deref sorted.items
-        ≡ in_order (λ a b. is_reference_before a.reference b.reference) (map deref rows.items)) }
+        ≡ in_order (λ a b. is_reference_before a.reference b.reference) (map deref rows.entry.items)) }
 {
     rows.sort_by_key(|row| row.reference.map(|reference| reference.number()))?;
     Ok(rows)

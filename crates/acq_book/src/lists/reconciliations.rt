@@ -85,9 +85,9 @@ impl Reconciliations {
             merchant: row.merchant,
             day: row.day,
         };
-        let number = number_of(&self.last, &day) + 1;
-        put(&mut self.last, day, (number, row));
-        self.rows.push((number, row)).unwrap();
+        let numbered = (number_of(&self.last, &day) + 1, row);
+        put(&mut self.last, day, numbered);
+        self.rows.push(numbered).unwrap();
         self.room -= 1;
     }
 }

@@ -202,7 +202,7 @@ fn row_at(rows: &IndexMap<RequestKey, Request, RandomState>, place: usize) -> Op
 }
 
 fn used_at(counts: &IndexMap<MerchantDay, UsedCount, RandomState>, day: &MerchantDay) -> UsedCount
-    ensures { result ≡ count_at (get day_eq counts.now day.now) }
+    ensures { result ≡ count_at (get day_eq counts.now) day.now }
 {
     if let Some(count) = counts.get(day) {
         return *count;
@@ -217,7 +217,7 @@ fn admitted_at(
     counts: &IndexMap<MerchantId, AdmittedCount, RandomState>,
     merchant: &MerchantId,
 ) -> AdmittedCount
-    ensures { result ≡ count_at (get merchant_eq counts.now merchant.now) }
+    ensures { result ≡ count_at (get merchant_eq counts.now) merchant.now }
 {
     if let Some(count) = counts.get(merchant) {
         return *count;
@@ -235,11 +235,11 @@ fn count_used(
     counted: bool,
 )
     requires room { 0 < spare counts.old }
-    requires fits { counted ≡ true → is_used_count (1 + count_at (get day_eq counts.old day))
+    requires fits { counted ≡ true → is_used_count (1 + count_at (get day_eq counts.old) day)
         ≡ true }
-    ensures counts { (k : MerchantDay) → count_at (get day_eq counts.new k)
-        ≡ (if counted && day_eq day k then 1 + count_at (get day_eq counts.old day)
-        else count_at (get day_eq counts.old k)) }
+    ensures counts { (k : MerchantDay) → count_at (get day_eq counts.new) k
+        ≡ (if counted && day_eq day k then 1 + count_at (get day_eq counts.old) day
+        else count_at (get day_eq counts.old) k) }
     ensures spare { spare counts.old ≤ spare counts.new + 1 }
 {
     if counted {
@@ -259,11 +259,11 @@ fn count_admitted(
 )
     requires room { 0 < spare counts.old }
     requires fits { counted ≡ true
-        → is_admitted_count (1 + count_at (get merchant_eq counts.old merchant)) ≡ true }
-    ensures counts { (m : List ℕ) → count_at (get merchant_eq counts.new m)
+        → is_admitted_count (1 + count_at (get merchant_eq counts.old) merchant) ≡ true }
+    ensures counts { (m : List ℕ) → count_at (get merchant_eq counts.new) m
         ≡ (if counted && merchant_eq merchant m
-        then 1 + count_at (get merchant_eq counts.old merchant)
-        else count_at (get merchant_eq counts.old m)) }
+        then 1 + count_at (get merchant_eq counts.old) merchant
+        else count_at (get merchant_eq counts.old) m) }
     ensures spare { spare counts.old ≤ spare counts.new + 1 }
 {
     if counted {
