@@ -34,6 +34,7 @@ totals-push rows y m d = ap (λ l. totals_on l d) (filter-append (λ row. bytes_
     map-push : (xs : List (ℕ × Posting)) (x : ℕ × Posting) → map {B = Leg × ℕ} (λ row. (row.1.leg, row.1.amount)) (xs ++ x ∷ []) ≡ map {B = Leg × ℕ} (λ row. (row.1.leg, row.1.amount)) xs ++ (x.1.leg, x.1.amount) ∷ []
     map-push [] x = refl
     map-push (z ∷ zs) x = ap (λ l. (z.1.leg, z.1.amount) ∷ l) (map-push zs x)
+
     at : (b c : Bool) → eqb y.1.day d ≡ c → totals_on (postings_of m rows ++ cond b (y ∷ []) []) d ≡ cond (b && c) (with_leg_amount (totals_on (postings_of m rows) d) y.1.leg y.1.amount) (totals_on (postings_of m rows) d)
     at false c e = ap (λ l. totals_on l d) (append-nil (postings_of m rows))
     at true true e =
@@ -106,6 +107,7 @@ number_more rows y old new next was put k =
     at : (b : Bool) (o : Option (ℕ × Reconciliation)) → number_in (cond b (Some y) o) ≡ cond b (number_in (get day_eq old (record { merchant = y.1.merchant; day = y.1.day })) + 1) (number_in o)
     at true o = next
     at false o = refl
+
     turn : (b : Bool) (n : ℕ) → cond b (n + 1) n ≡ cond b (1 + n) n
     turn true n = omega arith
     turn false n = refl

@@ -58,11 +58,11 @@ module _ (k : RequestKey) (f : Request → Request) (u : IsUnseen f) where
       record {
         keyed = subst (IsKeyedBy key_of) (sym entries) (changed-keyed k f u.key s.rows.entries was.keyed);
         places = λ r. was.places r ∙ sym (ap (place (refers r)) edited
-        ∙ place-map (refers r) (λ row. if same_key row.key k then f row else row) (same_at (refers r) (λ row i. bytes_eq (u.key row i).merchant r.merchant && is_number r.reference (u.reference row i))) (values_of s.rows.entries));
+            ∙ place-map (refers r) (λ row. if same_key row.key k then f row else row) (same_at (refers r) (λ row i. bytes_eq (u.key row i).merchant r.merchant && is_number r.reference (u.reference row i))) (values_of s.rows.entries));
         used = λ d. was.used d ∙ sym (ap (λ l. used_in (requests_of d.merchant l) d.day) edited
-        ∙ used-map d.merchant d.day (values_of s.rows.entries));
+            ∙ used-map d.merchant d.day (values_of s.rows.entries));
         admitted = λ m. was.admitted m ∙ sym (ap (λ l. admitted_in (requests_of m l)) edited
-        ∙ admitted-map m (values_of s.rows.entries));
+            ∙ admitted-map m (values_of s.rows.entries));
         room_rows = omega (arith, room, was.room_rows);
         room_places = was.room_places;
         room_used = was.room_used;

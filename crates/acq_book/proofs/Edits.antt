@@ -30,7 +30,7 @@ set-changed {K} {X} test f [] x = λ e. absurd (let h : ◌≡◌ {A = Option X}
 set-changed {K} {X} test f (y ∷ ys) x = elim (test y.0) as (λ b. cond b (Some y.1) (lookup test ys) ≡ Some x → cond b ((y.0, f x) ∷ ys) (y ∷ set_value test ys (f x)) ≡ cond b ((y.0, f y.1) ∷ ys) (y ∷ changed_at test f ys)) [
   | true ↦ (λ e. let same : y.1 ≡ x = cc in ap (λ z. (y.0, f z) ∷ ys) (sym same))
   | false ↦ (λ e. ap (λ zs. y ∷ zs) (set-changed test f ys x e))
-  ]
+]
 
 -- there was none
 pub none-changed : {K X : Type 0} (test : K → Bool) (f : X → X) (es : List (K × X)) → lookup test es ≡ None → changed_at test f es ≡ es
@@ -38,7 +38,7 @@ none-changed test f [] = λ e. refl
 none-changed {K} {X} test f (y ∷ ys) = elim (test y.0) as (λ b. cond b (Some y.1) (lookup test ys) ≡ None → cond b ((y.0, f y.1) ∷ ys) (y ∷ changed_at test f ys) ≡ y ∷ ys) [
   | true ↦ (λ e. absurd (let h : ◌≡◌ {A = Option X} (Some y.1) None = e in cc))
   | false ↦ (λ e. ap (λ zs. y ∷ zs) (none-changed test f ys e))
-  ]
+]
 
 -- where no later key is the same
 apart : (k : RequestKey) (f : Request → Request) (es : List (RequestKey × Request)) → IsKeyedBy key_of es → AllByRecursion (λ y. key_eq k y ≡ false) (keys_of es) → with_changed k f (values_of es) ≡ values_of es
@@ -54,6 +54,7 @@ changed-rows k f (e ∷ es) h d =
     later : (es' : List (RequestKey × Request)) → key_eq k e.0 ≡ true → AllByRecursion (λ y. key_eq e.0 y ≡ false) (keys_of es') → AllByRecursion (λ y. key_eq k y ≡ false) (keys_of es')
     later [] t a = tt
     later (x ∷ xs) t a = (keys_equiv.congr k e.0 x.0 t ∙ a.0, later xs t a.1)
+
     at : values_of (changed_at (key_eq k) f es) ≡ with_changed k f (values_of es) → (b : Bool) → key_eq k e.0 ≡ b → values_of (cond b ((e.0, f e.1) ∷ es) (e ∷ changed_at (key_eq k) f es)) ≡ cond b (f e.1) e.1 ∷ with_changed k f (values_of es)
     at rest true t = ap (λ zs. f e.1 ∷ zs) (sym (apart k f es h.1 (later es t d.0)))
     at rest false t = ap (λ zs. e.1 ∷ zs) rest
@@ -63,5 +64,4 @@ changed-keyed k f same [] h = tt
 changed-keyed k f same (e ∷ es) h = elim (key_eq k e.0) as (λ b. IsKeyedBy key_of (cond b ((e.0, f e.1) ∷ es) (e ∷ changed_at (key_eq k) f es))) [
   | true ↦ (h.0 ∙ sym (same e.1), h.1)
   | false ↦ (h.0, changed-keyed k f same es h.1)
-  ]
-
+]

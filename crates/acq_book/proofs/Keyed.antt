@@ -31,7 +31,7 @@ found-any p [] = refl
 found-any p (x ∷ xs) = elim (p x) as (λ b. is_some (cond b (Some x) (find p xs)) ≡ (b || list_any p xs)) [
   | true ↦ refl
   | false ↦ found-any p xs
-  ]
+]
 
 -- none is found where none passes
 pub none-found : {X : Type 0} (o : Option X) → is_some o ≡ false → o ≡ None

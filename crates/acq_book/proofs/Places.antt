@@ -20,7 +20,7 @@ find-place p [] = refl
 find-place {X} p (x ∷ xs) = elim (p x) as (λ b. option_and_then (slice_get (x ∷ xs)) (cond b (Some 0) (option_map suc (place p xs))) ≡ cond b (Some x) (find p xs)) [
   | true ↦ refl
   | false ↦ later (place p xs) ∙ find-place p xs
-  ]
+]
   where
     later : (o : Option ℕ) → option_and_then (slice_get (x ∷ xs)) (option_map suc o) ≡ option_and_then (slice_get xs) o
     later None = refl
@@ -32,7 +32,7 @@ find-filter p q [] = refl
 find-filter p q (x ∷ xs) = elim (p x) as (λ b. find q (cond b (x ∷ filter p xs) (filter p xs)) ≡ cond (b && q x) (Some x) (find (λ y. p y && q y) xs)) [
   | true ↦ ap (cond (q x) (Some x)) (find-filter p q xs)
   | false ↦ find-filter p q xs
-  ]
+]
 
 -- one more at the end
 pub place-push : {X : Type 0} (p : X → Bool) (xs : List X) (y : X) → place p (xs ++ y ∷ []) ≡ option_or (place p xs) (cond (p y) (Some (length xs)) None)
@@ -40,7 +40,7 @@ place-push p [] y = refl
 place-push {X} p (x ∷ xs) y = elim (p x) as (λ b. cond b (Some 0) (option_map suc (place p (xs ++ y ∷ []))) ≡ option_or (cond b (Some 0) (option_map suc (place p xs))) (cond (p y) (Some (suc (length xs))) None)) [
   | true ↦ refl
   | false ↦ ap (option_map suc) (place-push p xs y) ∙ later (place p xs) (p y)
-  ]
+]
   where
     later : (o : Option ℕ) (b : Bool) → option_map suc (option_or o (cond b (Some (length xs)) None)) ≡ option_or (option_map suc o) (cond b (Some (suc (length xs))) None)
     later None true = refl
@@ -58,7 +58,7 @@ no-place p [] = λ e. refl
 no-place {X} p (x ∷ xs) = elim (p x) as (λ b. cond b (Some x) (find p xs) ≡ None → cond b (Some 0) (option_map suc (place p xs)) ≡ None) [
   | true ↦ (λ e. absurd (let h : ◌≡◌ {A = Option X} (Some x) None = e in cc))
   | false ↦ (λ e. ap (option_map suc) (no-place p xs e))
-  ]
+]
 
 or_none : {X : Type 0} (o : Option X) → option_or o None ≡ o
 or_none None = refl

@@ -176,11 +176,11 @@ impl ListBook {
     fn reconciled(
         &mut self,
         request: &Request,
-        reconciliation: Reconciliation,
+        reconciliation: &Reconciliation,
     ) -> Result<(), AllocError>
-        requires { Fits self.old (change.Reconciled request.now reconciliation) }
+        requires { Fits self.old (change.Reconciled request.now reconciliation.now) }
         ensures ok { OnOk result (self.new ≡ after self.old
-            (change.Reconciled request.now reconciliation)) }
+            (change.Reconciled request.now reconciliation.now)) }
         ensures err { OnErr result (self.new ≡ self.old) }
     {
         let request = request_copied(self.alloc, request)?;
@@ -316,7 +316,7 @@ impl Book for ListBook {
             Change::Reconciled {
                 request,
                 reconciliation,
-            } => self.reconciled(request, *reconciliation)?,
+            } => self.reconciled(request, reconciliation)?,
         }
         Ok(())
     }

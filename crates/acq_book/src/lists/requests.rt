@@ -110,13 +110,10 @@ impl Requests {
     pub fn pending(&self, day: Day) -> u64
         ensures { result ≡ count (λ row. is_pending row.status && (row.day == day)) self.now.rows }
     {
-        let mut pending = 0;
-        for row in self.rows.values() {
-            if row.status == Status::Pending && row.day == day {
-                pending += 1;
-            }
-        }
-        pending
+        self.rows
+            .values()
+            .filter(|row| is_pending_on(row, day))
+            .count() as u64
     }
 
     /// The merchant's approved holds, in the order in which they came.
@@ -127,11 +124,8 @@ impl Requests {
     {
         self.rows
             .values()
-            .filter(|row| {
-                row.key.merchant == merchant
-                    && row.key.service == Service::Authorization
-                    && row.status == Status::Approved
-            })
+            .filter(|row| row.key.merchant == merchant)
+            .filter(|row| is_hold(row))
             .collect(alloc)
     }
 
@@ -190,6 +184,20 @@ impl Requests {
     {
         follow_at(&mut self.rows, key, status);
     }
+}
+
+/// Whether a request of this day is pending.
+fn is_pending_on(row: &Request, day: Day) -> bool
+    ensures { result ≡ (is_pending row.now.status && (row.now.day == day)) }
+{
+    matches!(row.status, Status::Pending) && row.day == day
+}
+
+/// Whether it is an approved authorization, which neither was completed nor reversed.
+fn is_hold(row: &Request) -> bool
+    ensures { result ≡ (is_authorization row.now.key.service && is_approved row.now.status) }
+{
+    matches!(row.key.service, Service::Authorization) && matches!(row.status, Status::Approved)
 }
 
 fn row_at(rows: &IndexMap<RequestKey, Request, RandomState>, place: usize) -> Option<&Request>

@@ -50,9 +50,9 @@ invariant_of-self c =
           r
           ∙ sym (ap (place (refers r)) grown);
       used = λ k. used_more (values_of s.rows.entries) y s.used c.count_used.new.counts c.self.invariant.used c.count_used.ensures.counts k
-      ∙ sym (ap (λ rows. used_in (requests_of k.merchant rows) k.day) grown);
+          ∙ sym (ap (λ rows. used_in (requests_of k.merchant rows) k.day) grown);
       admitted = λ m. given_more (values_of s.rows.entries) y s.admitted c.count_admitted.new.counts c.self.invariant.admitted (λ q. c.count_admitted.ensures.counts q ∙ ap (λ b. if b && merchant_eq y.key.merchant q then 1 + count_at (get merchant_eq s.admitted) y.key.merchant else count_at (get merchant_eq s.admitted) q) c.is_some.ensures) m
-      ∙ sym (ap (λ rows. admitted_in (requests_of m rows)) grown);
+          ∙ sym (ap (λ rows. admitted_in (requests_of m rows)) grown);
       room_used = omega (arith, c.count_used.ensures.spare, c.self.invariant.room_used);
       room_admitted = omega (arith, c.count_admitted.ensures.spare, c.self.invariant.room_admitted);
       room_rows = omega (arith, c.put_request.ensures.spare, c.self.invariant.room_rows);

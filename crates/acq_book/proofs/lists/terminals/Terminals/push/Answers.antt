@@ -13,8 +13,8 @@ put_terminal-requires-clause-new c =
     let s = c.self.inside in
     let k = key_of_terminal c.args.row in
     let found = found-keyed terminal_eq key_of_terminal
-        (λ k row. bytes_eq row.merchant k.merchant && bytes_eq row.id k.id) terminal_eq-same k s.rows.entries
-        c.self.invariant.keyed in
+    (λ k row. bytes_eq row.merchant k.merchant && bytes_eq row.id k.id) terminal_eq-same k s.rows.entries
+    c.self.invariant.keyed in
     none-found _ (ap is_some found
     ∙ (found-any (λ row. bytes_eq row.merchant k.merchant && bytes_eq row.id k.id) (values_of s.rows.entries)
     ∙ (ap (λ t. list_any (λ row. bytes_eq row.merchant k.merchant && bytes_eq row.id k.id) t.rows) c.self.view_is
