@@ -95,3 +95,12 @@ given_more rows y old new was put m =
     at true false e = was m
     at false true e = was m
     at false false e = was m
+
+-- as many pass as a filter leaves
+pub count-length : {X : Type 0} (p : X → Bool) (xs : List X) → length (filter p xs) ≡ count p xs
+count-length p [] = refl
+count-length p (x ∷ xs) =
+    elim (p x) as (λ b. length (cond b (x ∷ filter p xs) (filter p xs)) ≡ cond b (1 + count p xs) (count p xs)) [
+      | true ↦ let e = count-length p xs in omega arith
+      | false ↦ count-length p xs
+    ]

@@ -5,3 +5,5 @@ pub mod Edits
 pub mod Counting
 pub mod Days
 pub mod Edited
+pub mod Showing
+pub mod Sorting
