@@ -1,2 +1,4 @@
 pub mod Chains
 pub mod LookedUp
+pub mod NewRows
+pub mod ChangesFit
