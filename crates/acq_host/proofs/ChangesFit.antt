@@ -3,7 +3,6 @@ use Rattle.std.proofs.Common.{◌≡◌, ℕ, ◌+◌, ◌<◌, List, Option, So
 use Rattle.std.specs.Prelude.{IfSome, option_map, nat_lt}
 use Rattle.card_no.specs.declared.range.Range.{Range}
 use Rattle.card_no.specs.declared.range_fault.RangeFault.TheVariants.{BadRange, Overlap, NoSuchRange}
-use Rattle.card_no.specs.RangeChanges.{remove_fault}
 use Rattle.card_no.specs.Ranges.{is_valid_range, has_ends, overlaps, between, overlapped_by}
 use Rattle.day_totals.specs.Day.{last_day}
 use Rattle.acq_message.specs.declared.request_message.RequestMessage.{RequestMessage}

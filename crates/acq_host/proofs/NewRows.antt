@@ -56,7 +56,7 @@ reference_is_new (x ∷ xs) first count n e above =
     step (λ a k f le. reference_is_new xs a k n f le) x.reference count e above
   where
     step : ((a k : ℕ) → references_in xs ≡ range_with_len a k → a + k ≤ n →
-            find (λ row. is_number n row.reference) xs ≡ None) →
+        find (λ row. is_number n row.reference) xs ≡ None) →
         (o : Option ℕ) (k : ℕ) → cons_option o (references_in xs) ≡ range_with_len first k → first + k ≤ n →
         cond (is_number n o) (Some x) (find (λ row. is_number n row.reference) xs) ≡ None
     step rest None k e le = rest first k e le

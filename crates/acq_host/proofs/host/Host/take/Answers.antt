@@ -1,6 +1,6 @@
 -- an event of a book changes what fits, and its tables stay those of a book
-use Rattle.std.proofs.Common.{◌≡◌, refl, ◌∙◌, sym, ap, subst}
-use Rattle.std.specs.Prelude.{true, is_ok, IfSome}
+use Rattle.std.proofs.Common.{◌≡◌, refl, ◌∙◌, sym, ap, subst, rules}
+use Rattle.std.specs.Prelude.{true, false, is_ok, IfSome}
 use Rattle.acq_core.specs.Arrivals.{arrival_of}
 use Rattle.acq_core.specs.Tables.{after_any, step_output, step_tables}
 use Rattle.acq_book.specs.Fits.{Fits}
@@ -25,12 +25,15 @@ apply-requires g c = record {
 pub returns-in_err-apply-clause-tables : goal.returns-in_err-apply-clause-tables
 returns-in_err-apply-clause-tables g c =
     let looks = c.in_ok-output.ensures.looks in
-    subst (λ b. Makes g.B.Book.tables g.B.Book.is_honest g.B.Book.is_open g.B.Book.may_leave g.B.Book.failures b
-    c.apply.new.book (is_ok c.from_residual-in_err-apply.result)
-    (step_tables (g.B.Book.tables b) (arrival_of c.args.event.now))) c.self.view_is
+    let failed : is_ok c.from_residual-in_err-apply.result ≡ false = search rules in
+    subst (λ ok. Makes g.B.Book.tables g.B.Book.is_honest g.B.Book.is_open g.B.Book.may_leave g.B.Book.failures
+    c.args.self.now c.apply.new.book ok (step_tables (g.B.Book.tables c.args.self.now) (arrival_of c.args.event.now)))
+    (sym failed)
+    (subst (λ b. Makes g.B.Book.tables g.B.Book.is_honest g.B.Book.is_open g.B.Book.may_leave g.B.Book.failures b
+    c.apply.new.book false (step_tables (g.B.Book.tables b) (arrival_of c.args.event.now))) c.self.view_is
     (makes_after g.B.Book.tables g.B.Book.is_honest g.B.Book.is_open g.B.Book.may_leave g.B.Book.failures
     c.self.inside.book c.decide.new.book c.apply.new.book _ _ _
-    (λ o i. after_any (looks.same o i) (c.in_ok-output.ensures.change o i)) looks c.in_err-apply.ensures.makes)
+    (λ o i. after_any (looks.same o i) (c.in_ok-output.ensures.change o i)) looks c.in_err-apply.ensures.makes))
 
 pub invariant_of-self-2 : goal.invariant_of-self-2
 invariant_of-self-2 g c = λ o.
@@ -42,8 +45,8 @@ invariant_of-self-2 g c = λ o.
     let t = g.B.Book.tables c.self.inside.book in (
       past.0,
       subst (IsBook past.0)
-      (sym (makes.made refl o ∙ (λ i. after_any (looks.same between i) (c.in_ok-output.ensures.change between i))))
-      (books_go_on past.0 t e past.1 c.every_event.ensures),
+          (sym (makes.made refl o ∙ (λ i. after_any (looks.same between i) (c.in_ok-output.ensures.change between i))))
+          (books_go_on past.0 t e past.1 c.every_event.ensures),
     )
 
 pub returns-clause-output : goal.returns-clause-output
