@@ -2,3 +2,5 @@ pub mod Chains
 pub mod LookedUp
 pub mod NewRows
 pub mod ChangesFit
+pub mod Runs
+pub mod PartiesAlone
