@@ -1,9 +1,12 @@
 //! The host: it takes events, one whole after the other, over any book.
 #![tactic(auto)]
 
+mod deciding;
 mod host;
+mod laws;
 mod looking_up;
 mod run_fault;
 
 pub use host::Host;
+pub use laws::{repeats_are_quiet, same_in_two_runs};
 pub use run_fault::RunFault;
