@@ -1,5 +1,5 @@
 -- A stable sort gives the rows in order.
-use Rattle.std.proofs.Common.{◌≡◌, ℕ, suc, ◌+◌, ◌<◌, ◌≤◌, List, [], ◌∷◌, Bool, true, false, cond, refl, sym, ap, ◌∙◌, subst}
+use Rattle.std.proofs.Common.{◌≡◌, ℕ, suc, ◌<◌, ◌≤◌, List, [], ◌∷◌, Bool, true, false, cond, refl, sym, ap, ◌∙◌, subst}
 use Rattle.std.proofs.Common.{map, length, get_or, arith, filter, true≢false}
 use Rattle.std.specs.Prelude.{◌&&◌, not}
 use Rattle.std.specs.List.{AllByRecursion}
@@ -169,4 +169,4 @@ reference-order None (Some n) = refl
 reference-order (Some n) (Some m) = elim (nat_lt n m) as (λ b. is_lt (cond b Less (cond (eqb n m) Equal Greater)) ≡ b) [
   | true ↦ refl
   | false ↦ elim (eqb n m) as (λ b. is_lt (cond b Equal Greater) ≡ false) [ true ↦ refl | false ↦ refl ]
-  ]
+]

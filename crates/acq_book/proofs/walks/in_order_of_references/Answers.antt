@@ -1,4 +1,4 @@
-use Rattle.std.proofs.Common.{◌≡◌, ◌∙◌, ℕ, Option, ap, map, Bor, rules, nat_cmp, is_lt}
+use Rattle.std.proofs.Common.{◌∙◌, ℕ, Option, ap, map, Bor, rules, nat_cmp, is_lt}
 use Rattle.std.specs.Cmp.{nat_cmp_total}
 use Rattle.std.specs.Cmp.Lexicographic.{options_total}
 use Rattle.std.specs.Option.{option_cmp}
