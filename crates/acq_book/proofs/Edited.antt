@@ -1,6 +1,6 @@
 -- The maps beside the requests, when a request is edited.
-use Rattle.std.proofs.Common.{◌≡◌, ℕ, ◌+◌, List, [], ◌∷◌, Bool, true, false, cond, Some, None, Option, refl, sym, ap, ◌∙◌, subst, arith, eqb, map, if◌then◌else◌, IfSome}
-use Rattle.std.specs.Prelude.{◌&&◌, find, filter, is_some}
+use Rattle.std.proofs.Common.{◌≡◌, ℕ, ◌+◌, List, [], ◌∷◌, Bool, true, false, cond, Some, None, Option, refl, sym, ap, ◌∙◌, subst, arith, eqb, if◌then◌else◌, IfSome}
+use Rattle.std.specs.Prelude.{◌&&◌, find, is_some}
 use Rattle.std.specs.Map.{values_of}
 use Rattle.std.specs.Str.{bytes_eq}
 use Rattle.indexmap.specs.IndexMap.{IndexMap, IsUnique, spare}

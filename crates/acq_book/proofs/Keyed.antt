@@ -1,6 +1,6 @@
 -- Rows that stand under their keys.
-use Rattle.std.proofs.Common.{◌≡◌, ℕ, List, [], ◌∷◌, ◌++◌, Bool, true, false, cond, Some, None, Option, refl}
-use Rattle.std.proofs.Common.{sym, ap, ◌∙◌, is_some}
+use Rattle.std.proofs.Common.{◌≡◌, List, [], ◌∷◌, ◌++◌, Bool, true, false, cond, Some, None, Option, refl}
+use Rattle.std.proofs.Common.{ap, ◌∙◌, is_some}
 use Rattle.std.specs.Prelude.{◌||◌, find}
 use Rattle.std.specs.List.{list_any}
 use Rattle.std.specs.Map.{lookup, values_of}

@@ -1,5 +1,5 @@
 -- What a visitor has seen, as far as a walk has come.
-use Rattle.std.proofs.Common.{◌≡◌, ℕ, ◌+◌, ◌<◌, ◌≤◌, List, [], ◌∷◌, true, false, refl, sym, ap, ◌∙◌, subst, drop, map, length, slice_index_or, Bool, Bor, arith, inl, inr}
+use Rattle.std.proofs.Common.{◌≡◌, ℕ, ◌+◌, ◌<◌, ◌≤◌, List, ◌∷◌, true, false, refl, sym, ap, ◌∙◌, subst, drop, map, length, slice_index_or, Bool, Bor, inl, inr}
 use Rattle.std.proofs.Common.{drop-cons, add-one}
 use Rattle.std.proofs.lemmas.List.{drop_all}
 use Rattle.std.specs.Map.Iter.{deref}

@@ -1,11 +1,14 @@
 -- A stable sort gives the rows in order.
-use Rattle.std.proofs.Common.{◌≡◌, ℕ, suc, ◌+◌, ◌<◌, ◌≤◌, List, [], ◌∷◌, Bool, true, false, cond, refl, sym, ap, ◌∙◌, subst}
+use Rattle.std.proofs.Common.{◌≡◌, ℕ, suc, ◌<◌, ◌≤◌, List, [], ◌∷◌, Bool, true, false, cond, refl, sym, ap, ◌∙◌, subst}
 use Rattle.std.proofs.Common.{map, length, get_or, arith, filter, true≢false}
 use Rattle.std.specs.Prelude.{◌&&◌, not}
 use Rattle.std.specs.List.{AllByRecursion}
 use Rattle.std.specs.Cmp.{IsStrictWeakOrder}
 use Rattle.std.specs.List.Sorted.{IsSortedBy, IsStableBy, ties}
 use Rattle.std.proofs.lemmas.List.Sorted.{sorted_far}
+use Rattle.std.proofs.Common.{Option, Some, None, eqb, nat_cmp, is_lt, nat_lt, Less, Equal, Greater}
+use Rattle.std.specs.Option.{option_cmp}
+use Rattle.acq_book.specs.Lookups.{is_reference_before}
 use Rattle.acq_book.specs.Order.{put_in_order, in_order}
 
 -- rows in order through a function
@@ -157,3 +160,13 @@ module _ {X : Type 0} (lt : X → X → Bool) (o : IsStrictWeakOrder lt) where
   pub sorted-in_order : (xs ys : List X) → IsSortedBy lt ys → IsStableBy lt xs ys → ys ≡ in_order lt xs
   sorted-in_order xs ys up stable =
       alike ys (in_order lt xs) (rising ys up) (rising-in_order xs) (λ a. stable a ∙ sym (stable-in_order a xs))
+
+-- references are in the order of options
+pub reference-order : (a b : Option ℕ) → is_lt (option_cmp nat_cmp a b) ≡ is_reference_before a b
+reference-order None None = refl
+reference-order (Some n) None = refl
+reference-order None (Some n) = refl
+reference-order (Some n) (Some m) = elim (nat_lt n m) as (λ b. is_lt (cond b Less (cond (eqb n m) Equal Greater)) ≡ b) [
+  | true ↦ refl
+  | false ↦ elim (eqb n m) as (λ b. is_lt (cond b Equal Greater) ≡ false) [ true ↦ refl | false ↦ refl ]
+]

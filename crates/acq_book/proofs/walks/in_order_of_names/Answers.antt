@@ -1,4 +1,4 @@
-use Rattle.std.proofs.Common.{◌≡◌, ◌∙◌, ℕ, List, ap, map, Bor, rules, nat_cmp, is_lt}
+use Rattle.std.proofs.Common.{◌∙◌, ℕ, List, ap, map, Bor, rules, nat_cmp, is_lt}
 use Rattle.std.specs.Cmp.{nat_cmp_total}
 use Rattle.std.specs.Cmp.Lexicographic.{slice_cmp, lists_total}
 use Rattle.std.specs.Map.Iter.{deref}

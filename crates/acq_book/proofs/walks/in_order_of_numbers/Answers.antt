@@ -1,7 +1,6 @@
-use Rattle.std.proofs.Common.{◌≡◌, ◌∙◌, ℕ, List, ap, map, Bor, rules, nat_cmp, is_lt}
+use Rattle.std.proofs.Common.{◌∙◌, ℕ, List, ap, map, Bor, rules}
 use Rattle.std.specs.Cmp.{nat_cmp_total, on_total, then_total}
-use Rattle.std.specs.Cmp.Lexicographic.{slice_cmp, lists_total}
-use Rattle.std.specs.Ordering.{ordering_then}
+use Rattle.std.specs.Cmp.Lexicographic.{lists_total}
 use Rattle.std.specs.Map.Iter.{deref}
 use Rattle.std.proofs.lemmas.List.Sorted.{answers_always, ranks_by}
 use Rattle.acq_core.specs.declared.posting.Posting.{Posting}

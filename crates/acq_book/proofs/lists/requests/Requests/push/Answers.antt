@@ -1,6 +1,6 @@
-use Rattle.std.proofs.Common.{◌≡◌, ◌∙◌, ◌+◌, ap, sym, refl, arith, subst, eqb, None, Some, true, MatchOption, IfSome}
+use Rattle.std.proofs.Common.{◌≡◌, ◌∙◌, ◌+◌, ap, sym, refl, arith, subst, None, Some, MatchOption, IfSome}
 use Rattle.std.proofs.Common.{if◌then◌else◌}
-use Rattle.std.specs.Prelude.{find, is_some, ◌&&◌}
+use Rattle.std.specs.Prelude.{find, ◌&&◌}
 use Rattle.std.specs.Map.{count_at, values_of}
 use Rattle.std.proofs.lemmas.Map.Entries.{length-values_of}
 use Rattle.indexmap.specs.IndexMap.{get}
