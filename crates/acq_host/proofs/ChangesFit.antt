@@ -64,11 +64,13 @@ module _ (opening : Opening) (t : Tables) (opens : IsOpening opening) (sound : I
             (later.numbers.merchants (text_at r.message 42)).admitted;
         completed = λ r came merchant g service amount free hold own later. (
           unreferred_is_new t _ g.new refl (λ e. room (text_at r.message 42) t.day free),
-          has_room_for_posting t (Some (completion_posting t.day r (prior_of hold))) (λ m day. (later.numbers.merchants m).totals day),
+          has_room_for_posting t (Some (completion_posting t.day r (prior_of hold)))
+              (λ m day. (later.numbers.merchants m).totals day),
         );
         reversed = λ r came merchant g service free row own later. (
           unreferred_is_new t _ g.new refl (λ e. room (text_at r.message 42) t.day free),
-          has_room_for_posting t (reversal_posting t.day r (prior_of row)) (λ m day. (later.numbers.merchants m).totals day),
+          has_room_for_posting t (reversal_posting t.day r (prior_of row))
+              (λ m day. (later.numbers.merchants m).totals day),
         );
         reconciled = λ r came merchant g service day is later. unreferred_is_new t _ g.new refl (λ e. absurd cc);
         answered = λ moment merchant reference v came row member pending n under later.
@@ -112,7 +114,8 @@ module _ (opening : Opening) (t : Tables) (opens : IsOpening opening) (sound : I
   all_of_new_range k range None h = h
   all_of_new_range k range (Some other) h = h
 
-  all_of_enrolment : (k : Known) (merchant : Merchant) (o : Option Merchant) → IsAll k (decision_of_enrolment merchant o)
+  all_of_enrolment : (k : Known) (merchant : Merchant) (o : Option Merchant) →
+      IsAll k (decision_of_enrolment merchant o)
   all_of_enrolment k merchant None h = h
   all_of_enrolment k merchant (Some other) h = h
 
@@ -132,7 +135,8 @@ module _ (opening : Opening) (t : Tables) (opens : IsOpening opening) (sound : I
       elim [
         | true ↦ (λ e later.
             ap (λ b. cond b None (Some NoSuchRange))
-            (any_member (has_ends low high) t.ranges range (In-find (overlaps (between low high)) t.ranges range is).0 e))
+            (any_member (has_ends low high) t.ranges range
+            (In-find (overlaps (between low high)) t.ranges range is).0 e))
         | false ↦ (λ e later. tt)
       ] in
       step (has_ends low high range) refl

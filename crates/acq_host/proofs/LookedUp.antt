@@ -36,7 +36,8 @@ original_of m None = tt
 original_of m (Some service) = refl
 
 of_nothing : (m : List ℕ) → IsOfMerchant nothing m
-of_nothing m = record { merchant = inl refl; terminal = refl; reference = refl; totals_day = refl; key = tt; original = tt }
+of_nothing m =
+    record { merchant = inl refl; terminal = refl; reference = refl; totals_day = refl; key = tt; original = tt }
 
 wanted_for-of : (today : ℕ) (s : Service) (m : IsoMessage) → IsOfMerchant (wanted_for today s m) (text_at m 42)
 wanted_for-of today Authorization m =

@@ -46,7 +46,8 @@ module _ (opening : Opening) (past : List Event) where
       ∙ ap (λ o. Some o)
       ((λ i. step_output (then i) (came i))
       ∙ (λ i. output_of (named i)
-      (outcome (known_in_mine opening m t h (from_new opening m (past ++ before)) (Requested r) named i) (Requested r)))))
+      (outcome (known_in_mine opening m t h (from_new opening m (past ++ before)) (Requested r) named i)
+      (Requested r)))))
 
   gets_balance : (further : List Event) → AreBalanced opening past further (outputs book further)
   gets_balance further before later e m r day split came named reconciles = record {

@@ -25,7 +25,8 @@ tables_after-append t (x ∷ es) fs = tables_after-append (step_tables t (arriva
 
 -- the output at the place of an event
 pub output_at : (t : Tables) (before later : List Event) (e : Event) →
-    slice_get (outputs t (before ++ e ∷ later)) (length before) ≡ Some (step_output (tables_after t before) (arrival_of e))
+    slice_get (outputs t (before ++ e ∷ later)) (length before)
+    ≡ Some (step_output (tables_after t before) (arrival_of e))
 output_at t [] later e = refl
 output_at t (x ∷ before) later e = output_at (step_tables t (arrival_of x)) before later e
 

@@ -58,7 +58,8 @@ impl<B: Book + Drop> Host<B> {
             output ≡ step_output (B.tables self.old) (arrival_of event.now)) }
         // The tables after it, and what a stop at any moment may leave.
         ensures tables { Makes B.tables B.is_honest B.is_open B.may_leave B.failures
-            self.old self.new (is_ok result) (step_tables (B.tables self.old) (arrival_of event.now)) }
+            self.old self.new (is_ok result)
+            (step_tables (B.tables self.old) (arrival_of event.now)) }
         ensures store { IfStore result (HasRisen (B.failures self.old) (B.failures self.new)) }
     {
         every_event(event);
@@ -120,7 +121,8 @@ impl<B: Book + Drop> Host<B> {
             ≡ told.old.items ++ step_output (B.tables self.old) (arrival_of event.now) ∷ []) }
         ensures kept { OnErr result (told.new.items ≡ told.old.items) }
         ensures tables { Makes B.tables B.is_honest B.is_open B.may_leave B.failures
-            self.old self.new (is_ok result) (step_tables (B.tables self.old) (arrival_of event.now)) }
+            self.old self.new (is_ok result)
+            (step_tables (B.tables self.old) (arrival_of event.now)) }
         ensures store { IfStore result (HasRisen (B.failures self.old) (B.failures self.new)) }
     {
         // Once the event is taken nothing may fail, so the place of its output is taken first.

@@ -7,7 +7,7 @@ ghost use Rattle.acq_isolation.specs.QuietRepeats.{RepeatsAreQuiet};
 
 /// A repeat changes nothing of what its merchant gets of all else: where any of a merchant's
 /// requests whose keys are recorded are left out of the events that [`Host::run`] takes, each other
-/// event of the merchant gets the same. So a terminal may send a request again as often as it likes.
+/// event of the merchant gets the same. So a terminal may repeat a request as often as it likes.
 ///
 /// [`Host::run`]: crate::Host::run
 pub fn repeats_are_quiet()

@@ -48,7 +48,8 @@ returns-clause-alone g c = λ h o.
     let t = g.B.Book.tables c.args.self.now in
     let first = c.loop-at.invariant in
     is_alone t (g.B.Book.tables c.loop-at.self) all c.loop-at.told.items
-    (first.says (first.stays_open h o) ∙ ap (outputs t) whole) (first.leads (first.stays_open h o) ∙ ap (tables_after t) whole)
+    (first.says (first.stays_open h o) ∙ ap (outputs t) whole)
+    (first.leads (first.stays_open h o) ∙ ap (tables_after t) whole)
 
 pub returns-clause-postings : goal.returns-clause-postings
 returns-clause-postings g c = λ o.
