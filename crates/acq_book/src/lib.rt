@@ -16,3 +16,6 @@ pub use book::Book;
 pub use book_fault::BookFault;
 pub use list_book::ListBook;
 pub use visit::Visit;
+
+#[cfg(test)]
+mod tests;
