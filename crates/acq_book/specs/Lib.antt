@@ -3,3 +3,8 @@ pub mod Lookups
 pub mod Fits
 pub mod Promise
 pub mod Visits
+pub mod Stored
+pub mod Keys
+pub mod Rows
+pub mod Sums
+pub mod Indexes

@@ -6,8 +6,13 @@
 
 mod book;
 mod book_fault;
+mod copies;
+mod list_book;
+mod lists;
 mod visit;
+mod walks;
 
 pub use book::Book;
 pub use book_fault::BookFault;
+pub use list_book::ListBook;
 pub use visit::Visit;

@@ -1,0 +1,334 @@
+//! A book in memory.
+
+ghost use Rattle.std.specs.Prelude.{◌≡◌, OnOk, OnErr};
+ghost use Rattle.std.specs.Option.{option_copied};
+ghost use Rattle.card_no.specs.Ranges.{between, overlapped_by};
+ghost use Rattle.acq_core.specs.declared.change.Change.TheVariants as change;
+ghost use Rattle.acq_core.specs.Tables.{after, new_tables};
+ghost use Rattle.acq_book.specs.Fits.{Fits};
+
+use crate::book::Book;
+use crate::book_fault::BookFault;
+use crate::copies::{found_copied, posting_copied, range_copied, request_copied};
+use crate::lists::{Merchants, Postings, Reconciliations, Requests, Terminals};
+use crate::visit::Visit;
+use crate::walks::{in_order_of_names, in_order_of_numbers, in_order_of_references, show};
+use acq_core::{
+    AdmittedCount, Change, Limit, Merchant, MerchantId, Posting, Reconciliation, Reference,
+    Request, RequestKey, Status, Terminal, TerminalId, UsedCount,
+};
+use card_no::{Prefix, Range, RangeFault, RangeList};
+use day_totals::{Day, Totals};
+use iso_codec::Message;
+use std::alloc::{AllocError, Global};
+use std::hash::RandomState;
+use std::marker::Model;
+
+/// The tables, in memory. Contracts see them alone. No look-up goes over all rows, but that of the
+/// pending requests and the walks, which serve reports.
+#[derive(Drop)]
+pub struct ListBook {
+    alloc: Global,
+    limit: Limit,
+    day: Day,
+    merchants: Merchants,
+    terminals: Terminals,
+    ranges: RangeList,
+    requests: Requests,
+    postings: Postings,
+    reconciliations: Reconciliations,
+}
+
+impl Model for ListBook {
+    ghost use Rattle.acq_core.specs.Tables.{Tables};
+
+    ghost Value = { Tables };
+
+    ghost view = { λ b. record {
+      limit = b.limit;
+      day = b.day;
+      merchants = b.merchants.rows;
+      terminals = b.terminals.rows;
+      ranges = b.ranges;
+      requests = b.requests.rows;
+      postings = b.postings.rows;
+      reconciliations = b.reconciliations.rows;
+    } };
+}
+
+impl ListBook {
+    /// A new book. It takes no memory. Terminals choose much of what rows are found by, so the keys
+    /// of the hashes are random ones.
+    pub fn new(alloc: Global, keys: RandomState, limit: Limit, first_day: Day) -> ListBook
+        ensures { result ≡ new_tables (record { limit = limit; first_day = first_day }) }
+    {
+        ListBook {
+            alloc,
+            limit,
+            day: first_day,
+            merchants: Merchants::new(alloc, keys),
+            terminals: Terminals::new(alloc, keys),
+            ranges: RangeList::new(alloc),
+            requests: Requests::new(alloc, keys),
+            postings: Postings::new(alloc, keys),
+            reconciliations: Reconciliations::new(alloc, keys),
+        }
+    }
+
+    fn add_merchant(&mut self, merchant: Merchant) -> Result<(), AllocError>
+        requires { Fits self.old (change.AddMerchant merchant) }
+        ensures ok { OnOk result (self.new ≡ after self.old (change.AddMerchant merchant)) }
+        ensures err { OnErr result (self.new ≡ self.old) }
+    {
+        self.merchants.reserve()?;
+        self.merchants.push(merchant);
+        Ok(())
+    }
+
+    fn add_terminal(&mut self, terminal: Terminal) -> Result<(), AllocError>
+        requires { Fits self.old (change.AddTerminal terminal) }
+        ensures ok { OnOk result (self.new ≡ after self.old (change.AddTerminal terminal)) }
+        ensures err { OnErr result (self.new ≡ self.old) }
+    {
+        self.terminals.reserve()?;
+        self.terminals.push(terminal);
+        Ok(())
+    }
+
+    fn add_range(&mut self, range: &Range) -> Result<(), AllocError>
+        requires { Fits self.old (change.AddRange range.now) }
+        ensures ok { OnOk result (self.new ≡ after self.old (change.AddRange range.now)) }
+        ensures err { OnErr result (self.new ≡ self.old) }
+    {
+        let range = range.copied(self.alloc)?;
+        match self.ranges.add(range) {
+            Ok(()) => Ok(()),
+            Err(RangeFault::Memory) => Err(AllocError),
+            Err(_) => unreachable!(),
+        }
+    }
+
+    fn drop_range(&mut self, low: u32, high: u32)
+        requires { Fits self.old (change.DropRange low high) }
+        ensures { self.new ≡ after self.old (change.DropRange low high) }
+    {
+        let Ok(()) = self.ranges.remove(low, high) else {
+            unreachable!();
+        };
+    }
+
+    fn add_request(&mut self, row: &Request) -> Result<(), AllocError>
+        requires { Fits self.old (change.AddRequest row.now) }
+        ensures ok { OnOk result (self.new ≡ after self.old (change.AddRequest row.now)) }
+        ensures err { OnErr result (self.new ≡ self.old) }
+    {
+        let row = request_copied(self.alloc, row)?;
+        self.requests.reserve()?;
+        self.requests.push(row);
+        Ok(())
+    }
+
+    fn answered(
+        &mut self,
+        key: &RequestKey,
+        status: Status,
+        reply: &Message,
+        hold_end: Option<u64>,
+        posting: &Option<Posting>,
+    ) -> Result<(), AllocError>
+        requires { Fits self.old
+            (change.Answered key.now status reply.now hold_end posting.now) }
+        ensures ok { OnOk result (self.new ≡ after self.old
+            (change.Answered key.now status reply.now hold_end posting.now)) }
+        ensures err { OnErr result (self.new ≡ self.old) }
+    {
+        let reply = reply.copied(self.alloc)?;
+        let posting = posting_copied(self.alloc, posting)?;
+        self.postings.reserve()?;
+        self.requests.answer(key, status, reply, hold_end);
+        self.postings.push_if(posting);
+        Ok(())
+    }
+
+    fn follow(
+        &mut self,
+        request: &Request,
+        original: &RequestKey,
+        status: Status,
+        posting: &Option<Posting>,
+    ) -> Result<(), AllocError>
+        requires { Fits self.old
+            (change.Follow request.now original.now status posting.now) }
+        ensures ok { OnOk result (self.new ≡ after self.old
+            (change.Follow request.now original.now status posting.now)) }
+        ensures err { OnErr result (self.new ≡ self.old) }
+    {
+        let request = request_copied(self.alloc, request)?;
+        let posting = posting_copied(self.alloc, posting)?;
+        self.requests.reserve()?;
+        self.postings.reserve()?;
+        self.requests.follow(original, status);
+        self.requests.push(request);
+        self.postings.push_if(posting);
+        Ok(())
+    }
+
+    fn reconciled(
+        &mut self,
+        request: &Request,
+        reconciliation: Reconciliation,
+    ) -> Result<(), AllocError>
+        requires { Fits self.old (change.Reconciled request.now reconciliation) }
+        ensures ok { OnOk result (self.new ≡ after self.old
+            (change.Reconciled request.now reconciliation)) }
+        ensures err { OnErr result (self.new ≡ self.old) }
+    {
+        let request = request_copied(self.alloc, request)?;
+        self.requests.reserve()?;
+        self.reconciliations.reserve()?;
+        self.requests.push(request);
+        self.reconciliations.push(reconciliation);
+        Ok(())
+    }
+}
+
+impl Book for ListBook {
+    ghost use Rattle.std.specs.Prelude.{⊥};
+
+    ghost tables = { λ t. t };
+
+    ghost is_honest = { λ t. Unit {0} };
+
+    ghost is_open = { λ t. Unit {0} };
+
+    // Nothing outlives a book in memory.
+    ghost may_leave = { λ t left. ⊥ };
+
+    ghost failures = { λ t. 0 };
+
+    fn limit(&mut self) -> Result<Limit, BookFault> {
+        Ok(self.limit)
+    }
+
+    fn day(&mut self) -> Result<Day, BookFault> {
+        Ok(self.day)
+    }
+
+    fn merchant(&mut self, id: MerchantId) -> Result<Option<Merchant>, BookFault> {
+        Ok(self.merchants.get(id).copied())
+    }
+
+    fn has_terminal(&mut self, merchant: MerchantId, id: TerminalId) -> Result<bool, BookFault> {
+        Ok(self.terminals.has(merchant, id))
+    }
+
+    fn range(&mut self, prefix: Prefix) -> Result<Option<Range>, BookFault> {
+        Ok(range_copied(self.alloc, self.ranges.find(prefix))?)
+    }
+
+    fn overlapping(&mut self, low: u32, high: u32) -> Result<Option<Range>, BookFault> {
+        let found = first_overlapping(self.ranges.as_slice(), low, high);
+        Ok(range_copied(self.alloc, found)?)
+    }
+
+    fn request(&mut self, key: RequestKey) -> Result<Option<Request>, BookFault> {
+        Ok(found_copied(self.alloc, self.requests.get(&key))?)
+    }
+
+    fn by_reference(
+        &mut self,
+        merchant: MerchantId,
+        reference: Reference,
+    ) -> Result<Option<Request>, BookFault> {
+        let found = self.requests.by_reference(merchant, reference);
+        Ok(found_copied(self.alloc, found)?)
+    }
+
+    fn admitted(&mut self, merchant: MerchantId) -> Result<AdmittedCount, BookFault> {
+        Ok(self.requests.admitted(merchant))
+    }
+
+    fn used(&mut self, merchant: MerchantId, day: Day) -> Result<UsedCount, BookFault> {
+        Ok(self.requests.used(merchant, day))
+    }
+
+    fn totals(&mut self, merchant: MerchantId, day: Day) -> Result<Totals, BookFault> {
+        Ok(self.postings.totals(merchant, day))
+    }
+
+    fn pending(&mut self, day: Day) -> Result<u64, BookFault> {
+        Ok(self.requests.pending(day))
+    }
+
+    fn last_reconciliation(
+        &mut self,
+        merchant: MerchantId,
+        day: Day,
+    ) -> Result<Option<Reconciliation>, BookFault> {
+        Ok(self.reconciliations.last(merchant, day))
+    }
+
+    fn walk_postings<V: Visit<(u64, Posting)>>(
+        &mut self,
+        day: Day,
+        visitor: &mut V,
+    ) -> Result<(), BookFault> {
+        let rows = self.postings.of_day(self.alloc, day)?;
+        show(&in_order_of_numbers(rows)?, visitor);
+        Ok(())
+    }
+
+    fn walk_merchants<V: Visit<Merchant>>(&mut self, visitor: &mut V) -> Result<(), BookFault> {
+        let rows = self.merchants.all(self.alloc)?;
+        show(&in_order_of_names(rows)?, visitor);
+        Ok(())
+    }
+
+    fn walk_holds<V: Visit<Request>>(
+        &mut self,
+        merchant: MerchantId,
+        visitor: &mut V,
+    ) -> Result<(), BookFault> {
+        let rows = self.requests.holds(self.alloc, merchant)?;
+        show(&in_order_of_references(rows)?, visitor);
+        Ok(())
+    }
+
+    fn apply(&mut self, change: &Change) -> Result<(), BookFault> {
+        match change {
+            Change::AddMerchant(merchant) => self.add_merchant(*merchant)?,
+            Change::AddTerminal(terminal) => self.add_terminal(*terminal)?,
+            Change::AddRange(range) => self.add_range(range)?,
+            Change::DropRange { low, high } => self.drop_range(*low, *high),
+            Change::SetDay(day) => self.day = *day,
+            Change::AddRequest(row) => self.add_request(row)?,
+            Change::Answered {
+                key,
+                status,
+                reply,
+                hold_end,
+                posting,
+            } => self.answered(key, *status, reply, *hold_end, posting)?,
+            Change::Follow {
+                request,
+                original,
+                status,
+                posting,
+            } => self.follow(request, original, *status, posting)?,
+            Change::Reconciled {
+                request,
+                reconciliation,
+            } => self.reconciled(request, *reconciliation)?,
+        }
+        Ok(())
+    }
+}
+
+/// The first range that overlaps these ends.
+fn first_overlapping(ranges: &[Range], low: u32, high: u32) -> Option<&Range>
+    ensures { option_copied result ≡ overlapped_by (between low high) ranges.now }
+{
+    ranges
+        .iter()
+        .find(|range| low <= range.high && range.low <= high)
+}

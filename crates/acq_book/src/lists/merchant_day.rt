@@ -1,0 +1,11 @@
+//! Days of merchants.
+
+use acq_core::MerchantId;
+use day_totals::Day;
+
+/// A day of a merchant.
+#[derive(Clone, Copy, Debug, PartialEq, Eq, Hash)]
+pub(crate) struct MerchantDay {
+    pub merchant: MerchantId,
+    pub day: Day,
+}

@@ -1,0 +1,10 @@
+//! Names of terminals at merchants.
+
+use acq_core::{MerchantId, TerminalId};
+
+/// The name of a terminal at a merchant.
+#[derive(Clone, Copy, Debug, PartialEq, Eq, Hash)]
+pub(crate) struct MerchantTerminal {
+    pub merchant: MerchantId,
+    pub id: TerminalId,
+}

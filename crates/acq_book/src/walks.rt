@@ -1,0 +1,57 @@
+//! Rows in the order of a walk.
+
+ghost use Rattle.std.specs.Prelude.{◌≡◌, ℕ, map, IfOk};
+ghost use Rattle.std.specs.Map.Iter.{deref};
+ghost use Rattle.std.specs.Ordering.{nat_cmp, is_lt};
+ghost use Rattle.std.specs.Cmp.Lexicographic.{slice_cmp};
+ghost use Rattle.acq_core.specs.declared.merchant.Merchant.{Merchant};
+ghost use Rattle.acq_core.specs.declared.posting.Posting.{Posting};
+ghost use Rattle.acq_core.specs.declared.request.Request.{Request};
+ghost use Rattle.acq_book.specs.Lookups.{is_posting_before};
+ghost use Rattle.acq_book.specs.Lookups.{is_reference_before};
+ghost use Rattle.acq_book.specs.Order.{in_order};
+ghost use Rattle.acq_book.specs.Visits.{SawAll};
+
+use crate::visit::Visit;
+use acq_core::{Merchant, Posting, Request};
+use std::alloc::AllocError;
+
+/// Hands over rows in turn, to the last or until the visitor wants no more.
+pub(crate) fn show<Row, V: Visit<Row>>(rows: &[&Row], visitor: &mut V)
+    ensures { SawAll V.sees (map deref rows.now) visitor.old visitor.new }
+{
+    for row in rows.iter() {
+        if !visitor.row(*row) {
+            return;
+        }
+    }
+}
+
+/// Postings by merchant, and of one merchant by number.
+pub(crate) fn in_order_of_numbers(
+    mut rows: Vec<&(u64, Posting)>,
+) -> Result<Vec<&(u64, Posting)>, AllocError>
+    ensures { IfOk result (λ sorted. map deref sorted.items
+        ≡ in_order is_posting_before (map deref rows.items)) }
+{
+    rows.sort_by_key(|row| (row.1.merchant.to_bytes(), row.0))?;
+    Ok(rows)
+}
+
+/// Merchants by name.
+pub(crate) fn in_order_of_names(mut rows: Vec<&Merchant>) -> Result<Vec<&Merchant>, AllocError>
+    ensures { IfOk result (λ sorted. map deref sorted.items
+        ≡ in_order (λ a b. is_lt (slice_cmp nat_cmp a.id b.id)) (map deref rows.items)) }
+{
+    rows.sort_by_key(|row| row.id.to_bytes())?;
+    Ok(rows)
+}
+
+/// Requests by reference.
+pub(crate) fn in_order_of_references(mut rows: Vec<&Request>) -> Result<Vec<&Request>, AllocError>
+    ensures { IfOk result (λ sorted. map deref sorted.items
+        ≡ in_order (λ a b. is_reference_before a.reference b.reference) (map deref rows.items)) }
+{
+    rows.sort_by_key(|row| row.reference.map(|reference| reference.number()))?;
+    Ok(rows)
+}
