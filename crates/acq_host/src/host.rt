@@ -8,10 +8,11 @@ ghost use Rattle.acq_host.specs.Headline.{IsAlone, KeptItsPostings};
 ghost use Rattle.acq_host.specs.Pasts.{HasPast};
 ghost use Rattle.acq_host.specs.Runs.{StopsAt, after_first};
 
-use crate::looking_up::{apply, look_up};
+use crate::deciding::{apply, decide};
 use crate::run_fault::RunFault;
 use acq_book::{Book, BookFault};
-use acq_core::{Arrival, Event, Output};
+use acq_core::{Event, Output};
+use acq_invariants::every_event;
 use std::alloc::Global;
 use std::marker::Model;
 
@@ -59,9 +60,8 @@ impl<B: Book + Drop> Host<B> {
             self.old self.new (is_ok result) (step_tables (B.tables self.old) (arrival_of event.now)) }
         ensures store { IfStore result (HasRisen (B.failures self.old) (B.failures self.new)) }
     {
-        let arrival = Arrival::of(self.alloc, event)?;
-        let looked = look_up(&mut self.book, &arrival)?;
-        let (output, change) = arrival.decide(self.alloc, &looked)?;
+        every_event(event);
+        let (output, change) = decide(self.alloc, &mut self.book, event)?;
         apply(&mut self.book, change)?;
         Ok(output)
     }

@@ -1,6 +1,7 @@
 //! The host: it takes events, one whole after the other, over any book.
 #![tactic(auto)]
 
+mod deciding;
 mod host;
 mod looking_up;
 mod run_fault;

@@ -1,15 +1,24 @@
-//! What an event needs of a book, and what it makes of it.
+//! What an event needs of a book.
 
-ghost use Rattle.std.specs.Prelude.{◌≡◌, is_ok, IfOk, IfSome};
+ghost use Rattle.std.specs.Prelude.{◌≡◌, is_ok, option_and_then, IfOk};
+ghost use Rattle.acq_message.specs.Elements.{or_empty};
+ghost use Rattle.acq_core.specs.Known.{holds_if, number_if, totals_if};
 ghost use Rattle.acq_core.specs.Looking.{known_of};
-ghost use Rattle.acq_core.specs.Tables.{after_any, known_in};
-ghost use Rattle.acq_book.specs.Fits.{Fits};
-ghost use Rattle.acq_book.specs.Promise.{HasRisen, IfStore, Looks, Makes};
+ghost use Rattle.acq_core.specs.Tables.{known_in};
+ghost use Rattle.acq_book.specs.Lookups.{merchant_at, has_terminal_at, range_at, overlapping_at};
+ghost use Rattle.acq_book.specs.Lookups.{request_at, referred_at, admitted_at, used_at, totals_at};
+ghost use Rattle.acq_book.specs.Promise.{HasRisen, IfStore, Looks};
 
 use acq_book::{Book, BookFault};
-use acq_core::{Arrival, Change, Looked};
+use acq_core::{
+    AdmittedCount, Arrival, Looked, Merchant, MerchantId, Reference, Request, RequestKey,
+    TerminalId, UsedCount, Wanted,
+};
+use card_no::{Prefix, Range};
+use day_totals::{Day, Totals};
 
 /// Looks up all that an event needs.
+#[tactic(auto, using(crate::proofs::Chains::looks_more))]
 pub(crate) fn look_up<B: Book>(book: &mut B, arrival: &Arrival) -> Result<Looked, BookFault>
     ensures known { B.is_open book.new → IfOk result (λ looked.
         known_of looked ≡ known_in (B.tables book.old) arrival.now) }
@@ -17,18 +26,228 @@ pub(crate) fn look_up<B: Book>(book: &mut B, arrival: &Arrival) -> Result<Looked
         book.old book.new (is_ok result) }
     ensures store { IfStore result (HasRisen (B.failures book.old) (B.failures book.new)) }
 {
-    Err(BookFault::Memory)
+    let today = book.day()?;
+    let limit = book.limit()?;
+    let wanted = arrival.wanted(today);
+    let merchant = merchant(book, wanted.merchant)?;
+    let has_terminal = has_terminal(book, wanted.merchant, wanted.terminal)?;
+    let admitted = admitted(book, wanted.merchant)?;
+    let used = used(book, wanted.merchant, today)?;
+    let totals = totals(book, wanted.merchant, wanted.totals_day)?;
+    let range = range(book, wanted.prefix)?;
+    let overlapped = overlapping(book, wanted.bounds)?;
+    let found = requests(book, &wanted)?;
+    Ok(Looked {
+        today,
+        limit,
+        merchant,
+        has_terminal,
+        recorded: found.recorded,
+        original: found.original,
+        referred: found.referred,
+        range,
+        overlapped,
+        admitted,
+        used,
+        totals,
+    })
 }
 
-/// Makes a change, if there is one.
-pub(crate) fn apply<B: Book>(book: &mut B, change: Option<Change>) -> Result<(), BookFault>
-    requires fits { B.is_open book.old → IfSome change (Fits (B.tables book.old)) }
-    ensures makes { Makes B.tables B.is_honest B.is_open B.may_leave B.failures
-        book.old book.new (is_ok result) (after_any (B.tables book.old) change) }
+/// The merchant that is wanted.
+#[tactic(auto, using(crate::proofs::Chains::looks_more))]
+fn merchant<B: Book>(book: &mut B, id: Option<MerchantId>) -> Result<Option<Merchant>, BookFault>
+    ensures value { B.is_open book.new → IfOk result (λ row.
+        row ≡ option_and_then (merchant_at (B.tables book.old)) id) }
+    ensures looks { Looks B.tables B.is_honest B.is_open B.may_leave B.failures
+        book.old book.new (is_ok result) }
     ensures store { IfStore result (HasRisen (B.failures book.old) (B.failures book.new)) }
 {
-    match change {
-        Some(change) => book.apply(&change),
-        None => Ok(()),
+    match id {
+        Some(id) => book.merchant(id),
+        None => Ok(None),
+    }
+}
+
+/// Whether the merchant has the terminal, where both are wanted.
+#[tactic(auto, using(crate::proofs::Chains::looks_more))]
+fn has_terminal<B: Book>(
+    book: &mut B,
+    merchant: Option<MerchantId>,
+    id: Option<TerminalId>,
+) -> Result<bool, BookFault>
+    ensures value { B.is_open book.new → IfOk result (λ has.
+        has ≡ holds_if (has_terminal_at (B.tables book.old) (or_empty merchant))
+        (option_and_then (λ m. id) merchant)) }
+    ensures looks { Looks B.tables B.is_honest B.is_open B.may_leave B.failures
+        book.old book.new (is_ok result) }
+    ensures store { IfStore result (HasRisen (B.failures book.old) (B.failures book.new)) }
+{
+    match (merchant, id) {
+        (Some(merchant), Some(id)) => book.has_terminal(merchant, id),
+        (Some(_), None) | (None, _) => Ok(false),
+    }
+}
+
+/// How many of the merchant's requests were admitted, where one is wanted.
+#[tactic(auto, using(crate::proofs::Chains::looks_more))]
+fn admitted<B: Book>(book: &mut B, merchant: Option<MerchantId>) -> Result<AdmittedCount, BookFault>
+    ensures value { B.is_open book.new → IfOk result (λ n.
+        n ≡ number_if (admitted_at (B.tables book.old) (or_empty merchant)) merchant) }
+    ensures looks { Looks B.tables B.is_honest B.is_open B.may_leave B.failures
+        book.old book.new (is_ok result) }
+    ensures store { IfStore result (HasRisen (B.failures book.old) (B.failures book.new)) }
+{
+    match merchant {
+        Some(merchant) => book.admitted(merchant),
+        None => {
+            let Some(none) = AdmittedCount::from_number(0) else {
+                unreachable!();
+            };
+            Ok(none)
+        }
+    }
+}
+
+/// How many of the merchant's messages count against the limit of a day, where one is wanted.
+#[tactic(auto, using(crate::proofs::Chains::looks_more))]
+fn used<B: Book>(
+    book: &mut B,
+    merchant: Option<MerchantId>,
+    day: Day,
+) -> Result<UsedCount, BookFault>
+    ensures value { B.is_open book.new → IfOk result (λ n.
+        n ≡ number_if (used_at (B.tables book.old) (or_empty merchant) day) merchant) }
+    ensures looks { Looks B.tables B.is_honest B.is_open B.may_leave B.failures
+        book.old book.new (is_ok result) }
+    ensures store { IfStore result (HasRisen (B.failures book.old) (B.failures book.new)) }
+{
+    match merchant {
+        Some(merchant) => book.used(merchant, day),
+        None => {
+            let Some(none) = UsedCount::from_number(0) else {
+                unreachable!();
+            };
+            Ok(none)
+        }
+    }
+}
+
+/// The merchant's totals of the day, where both are wanted.
+#[tactic(auto, using(crate::proofs::Chains::looks_more))]
+fn totals<B: Book>(
+    book: &mut B,
+    merchant: Option<MerchantId>,
+    day: Option<Day>,
+) -> Result<Totals, BookFault>
+    ensures value { B.is_open book.new → IfOk result (λ totals.
+        totals ≡ totals_if (totals_at (B.tables book.old) (or_empty merchant))
+        (option_and_then (λ m. day) merchant)) }
+    ensures looks { Looks B.tables B.is_honest B.is_open B.may_leave B.failures
+        book.old book.new (is_ok result) }
+    ensures store { IfStore result (HasRisen (B.failures book.old) (B.failures book.new)) }
+{
+    match (merchant, day) {
+        (Some(merchant), Some(day)) => book.totals(merchant, day),
+        (Some(_), None) | (None, _) => Ok(Totals::zero()),
+    }
+}
+
+/// The range that holds the prefix that is wanted.
+#[tactic(auto, using(crate::proofs::Chains::looks_more))]
+fn range<B: Book>(book: &mut B, prefix: Option<Prefix>) -> Result<Option<Range>, BookFault>
+    ensures value { B.is_open book.new → IfOk result (λ range.
+        range ≡ option_and_then (range_at (B.tables book.old)) prefix) }
+    ensures looks { Looks B.tables B.is_honest B.is_open B.may_leave B.failures
+        book.old book.new (is_ok result) }
+    ensures store { IfStore result (HasRisen (B.failures book.old) (B.failures book.new)) }
+{
+    match prefix {
+        Some(prefix) => book.range(prefix),
+        None => Ok(None),
+    }
+}
+
+/// Of the ranges that overlap the ends that are wanted, the one of least low.
+#[tactic(auto, using(crate::proofs::Chains::looks_more))]
+fn overlapping<B: Book>(
+    book: &mut B,
+    bounds: Option<(u32, u32)>,
+) -> Result<Option<Range>, BookFault>
+    ensures value { B.is_open book.new → IfOk result (λ range.
+        range ≡ option_and_then (λ ends. overlapping_at (B.tables book.old) ends.0 ends.1) bounds) }
+    ensures looks { Looks B.tables B.is_honest B.is_open B.may_leave B.failures
+        book.old book.new (is_ok result) }
+    ensures store { IfStore result (HasRisen (B.failures book.old) (B.failures book.new)) }
+{
+    match bounds {
+        Some((low, high)) => book.overlapping(low, high),
+        None => Ok(None),
+    }
+}
+
+/// The requests that are wanted.
+#[derive(Drop)]
+struct FoundRequests {
+    recorded: Option<Request>,
+    original: Option<Request>,
+    referred: Option<Request>,
+}
+
+/// The recorded requests that are wanted.
+#[tactic(auto, using(crate::proofs::Chains::looks_more))]
+fn requests<B: Book>(book: &mut B, wanted: &Wanted) -> Result<FoundRequests, BookFault>
+    ensures recorded { B.is_open book.new → IfOk result (λ found. found.recorded
+        ≡ option_and_then (request_at (B.tables book.old)) wanted.now.key) }
+    ensures original { B.is_open book.new → IfOk result (λ found. found.original
+        ≡ option_and_then (request_at (B.tables book.old)) wanted.now.original) }
+    ensures referred { B.is_open book.new → IfOk result (λ found. found.referred
+        ≡ option_and_then (referred_at (B.tables book.old) (or_empty wanted.now.merchant))
+        (option_and_then (λ m. wanted.now.reference) wanted.now.merchant)) }
+    ensures looks { Looks B.tables B.is_honest B.is_open B.may_leave B.failures
+        book.old book.new (is_ok result) }
+    ensures store { IfStore result (HasRisen (B.failures book.old) (B.failures book.new)) }
+{
+    let recorded = request(book, wanted.key)?;
+    let original = request(book, wanted.original)?;
+    let referred = referred(book, wanted.merchant, wanted.reference)?;
+    Ok(FoundRequests {
+        recorded,
+        original,
+        referred,
+    })
+}
+
+/// The request with the key that is wanted.
+#[tactic(auto, using(crate::proofs::Chains::looks_more))]
+fn request<B: Book>(book: &mut B, key: Option<RequestKey>) -> Result<Option<Request>, BookFault>
+    ensures value { B.is_open book.new → IfOk result (λ row.
+        row ≡ option_and_then (request_at (B.tables book.old)) key) }
+    ensures looks { Looks B.tables B.is_honest B.is_open B.may_leave B.failures
+        book.old book.new (is_ok result) }
+    ensures store { IfStore result (HasRisen (B.failures book.old) (B.failures book.new)) }
+{
+    match key {
+        Some(key) => book.request(key),
+        None => Ok(None),
+    }
+}
+
+/// The merchant's request with the reference, where both are wanted.
+#[tactic(auto, using(crate::proofs::Chains::looks_more))]
+fn referred<B: Book>(
+    book: &mut B,
+    merchant: Option<MerchantId>,
+    reference: Option<Reference>,
+) -> Result<Option<Request>, BookFault>
+    ensures value { B.is_open book.new → IfOk result (λ row.
+        row ≡ option_and_then (referred_at (B.tables book.old) (or_empty merchant))
+        (option_and_then (λ m. reference) merchant)) }
+    ensures looks { Looks B.tables B.is_honest B.is_open B.may_leave B.failures
+        book.old book.new (is_ok result) }
+    ensures store { IfStore result (HasRisen (B.failures book.old) (B.failures book.new)) }
+{
+    match (merchant, reference) {
+        (Some(merchant), Some(reference)) => book.by_reference(merchant, reference),
+        (Some(_), None) | (None, _) => Ok(None),
     }
 }

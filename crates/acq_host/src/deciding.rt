@@ -1,0 +1,46 @@
+//! What is decided on an event, and what it makes of a book.
+
+ghost use Rattle.std.specs.Prelude.{◌≡◌, is_ok, IfOk, IfSome};
+ghost use Rattle.acq_core.specs.Arrivals.{arrival_of};
+ghost use Rattle.acq_core.specs.Changes.{change_for};
+ghost use Rattle.acq_core.specs.Tables.{after_any, known_in, step_output};
+ghost use Rattle.acq_book.specs.Fits.{Fits};
+ghost use Rattle.acq_book.specs.Promise.{HasRisen, IfStore, Looks, Makes};
+
+use crate::looking_up::look_up;
+use acq_book::{Book, BookFault};
+use acq_core::{Arrival, Change, Event, Output};
+use std::alloc::Global;
+
+/// Reads an event, looks up what it needs, and returns what the host says to it and what changes.
+#[tactic(auto, using(crate::proofs::Chains::looks_more))]
+pub(crate) fn decide<B: Book>(
+    alloc: Global,
+    book: &mut B,
+    event: &Event,
+) -> Result<(Output, Option<Change>), BookFault>
+    ensures output { B.is_open book.new → IfOk result (λ x.
+        x.0 ≡ step_output (B.tables book.old) (arrival_of event.now)) }
+    ensures change { B.is_open book.new → IfOk result (λ x. let a = arrival_of event.now in
+        x.1 ≡ change_for (known_in (B.tables book.old) a) a) }
+    ensures looks { Looks B.tables B.is_honest B.is_open B.may_leave B.failures
+        book.old book.new (is_ok result) }
+    ensures store { IfStore result (HasRisen (B.failures book.old) (B.failures book.new)) }
+{
+    let arrival = Arrival::of(alloc, event)?;
+    let looked = look_up(book, &arrival)?;
+    Ok(arrival.decide(alloc, &looked)?)
+}
+
+/// Makes a change, if there is one.
+pub(crate) fn apply<B: Book>(book: &mut B, change: Option<Change>) -> Result<(), BookFault>
+    requires fits { B.is_open book.old → IfSome change (Fits (B.tables book.old)) }
+    ensures makes { Makes B.tables B.is_honest B.is_open B.may_leave B.failures
+        book.old book.new (is_ok result) (after_any (B.tables book.old) change) }
+    ensures store { IfStore result (HasRisen (B.failures book.old) (B.failures book.new)) }
+{
+    match change {
+        Some(change) => book.apply(&change),
+        None => Ok(()),
+    }
+}
