@@ -1,6 +1,15 @@
 //! Rows of the program: statuses, replies and printed lines; each read and each write failing in
 //! turn; and an input longer than a hundred reads.
 
+mod days;
+mod happening;
+mod holds;
+mod reversals;
+mod sales;
+mod saying;
+mod script;
+mod wording;
+
 use crate::{command, once};
 use acq_link::{MemorySink, ReadSource, SliceSource, WriteSink};
 use std::alloc::Global;

@@ -1,0 +1,111 @@
+//! Scripts: events, and what the host says to each.
+
+use super::happening::Happening;
+use super::saying::{Saying, text_of};
+use acq_book::ListBook;
+use acq_core::{Event, Limit, Output};
+use acq_host::Host;
+use day_totals::Day;
+use std::alloc::Global;
+use std::hash::RandomState;
+use std::process::Abort;
+use std::test::Fail;
+
+/// An event, and what the host says to it.
+pub(super) type Step = (Happening, Saying);
+
+/// The number of 2024-05-01.
+pub(super) const MAY_1: u32 = 8887;
+
+/// The greatest limit of a day.
+pub(super) const GREATEST_LIMIT: u32 = 999_999;
+
+/// What happens to a host over a new book, behind the setup that all scripts share.
+#[derive(Clone, Copy)]
+pub(super) struct Script {
+    /// What it shows.
+    pub name: &'static str,
+    /// How many messages of a merchant a day admits.
+    pub limit: u32,
+    /// The number of the first business day.
+    pub first_day: u32,
+    pub steps: &'static [Step],
+}
+
+/// Two issuers' ranges, and two merchants with a terminal each.
+pub(super) const SETUP: [Happening; 6] = [
+    Happening::AddRange(400_000, 499_999, "12345", 7),
+    Happening::AddRange(500_000, 599_999, "67890", 1),
+    Happening::Enrol("A", "978"),
+    Happening::AddTerminal("A", "T"),
+    Happening::Enrol("B", "978"),
+    Happening::AddTerminal("B", "T"),
+];
+
+/// A host over a new book.
+pub(super) fn new_host(
+    alloc: Global,
+    keys: RandomState,
+    limit: u32,
+    first_day: u32,
+) -> Result<Host<ListBook>, Fail> {
+    let limit = Limit::from_number(limit).ok_or("a limit")?;
+    let first_day = Day::from_number(first_day).ok_or("a day")?;
+    Ok(Host::new(alloc, ListBook::new(alloc, keys, limit, first_day)))
+}
+
+/// The events of the setup.
+pub(super) fn setup(alloc: Global) -> Result<Vec<Event>, Fail> {
+    let mut events = Vec::new(alloc);
+    for happening in &SETUP {
+        events.push(happening.event(alloc)?)?;
+    }
+    Ok(events)
+}
+
+/// What a host over a new book says to events.
+pub(super) fn outputs(
+    alloc: Global,
+    keys: RandomState,
+    limit: u32,
+    first_day: u32,
+    events: &[Event],
+) -> Result<Vec<Output>, Fail> {
+    let mut host = new_host(alloc, keys, limit, first_day)?;
+    Ok(host.run(events)?)
+}
+
+/// Runs a script, and compares all that the host says.
+fn run(rt: &impl Abort, alloc: Global, keys: RandomState, script: &Script) -> Result<(), Fail> {
+    let mut events = setup(alloc)?;
+    for (happening, _) in script.steps {
+        events.push(happening.event(alloc)?)?;
+    }
+    let said = outputs(
+        alloc,
+        keys,
+        script.limit,
+        script.first_day,
+        events.as_slice(),
+    )?;
+    assert_eq!(rt; said.len(), events.len(), "{}", script.name);
+    let of_steps = said.iter().skip(SETUP.len());
+    for (output, (happening, saying)) in of_steps.zip(script.steps) {
+        let (found, want) = (text_of(alloc, output)?, saying.text(alloc)?);
+        assert_eq!(rt; found, want, "{}: {happening:?}", script.name);
+    }
+    Ok(())
+}
+
+/// Runs scripts, each over a book of its own.
+pub(super) fn run_all(
+    rt: &impl Abort,
+    alloc: Global,
+    keys: RandomState,
+    scripts: &[Script],
+) -> Result<(), Fail> {
+    for script in scripts {
+        run(rt, alloc, keys, script)?;
+    }
+    Ok(())
+}
