@@ -1,5 +1,6 @@
 //! Scripts: events, and what the host says to each.
 
+use super::crowd::add_lot;
 use super::happening::Happening;
 use super::saying::{Saying, text_of};
 use acq_book::ListBook;
@@ -75,10 +76,39 @@ pub(super) fn outputs(
     Ok(host.run(events)?)
 }
 
-/// Runs a script, and compares all that the host says.
-fn run(rt: &impl Abort, alloc: Global, keys: RandomState, script: &Script) -> Result<(), Fail> {
+/// Compares what the host said at the steps of a script, which stand at these places.
+fn compare(
+    rt: &impl Abort,
+    alloc: Global,
+    script: &Script,
+    said: &[Output],
+    places: &[usize],
+) -> Result<(), Fail> {
+    assert_eq!(rt; places.len(), script.steps.len(), "{}", script.name);
+    for (place, (happening, saying)) in places.iter().zip(script.steps) {
+        let output = said.get(*place).ok_or("an output")?;
+        let (found, want) = (text_of(alloc, output)?, saying.text(alloc)?);
+        assert_eq!(rt; found, want, "{}: {happening:?}", script.name);
+    }
+    Ok(())
+}
+
+/// Runs a script with a lot of another merchant's events before each step, so many sales and some
+/// other events, and compares what the host says at the steps; with none where there are no sales.
+pub(super) fn run_among(
+    rt: &impl Abort,
+    alloc: Global,
+    keys: RandomState,
+    script: &Script,
+    sales: u64,
+) -> Result<(), Fail> {
     let mut events = setup(alloc)?;
-    for (happening, _) in script.steps {
+    let mut places = Vec::new(alloc);
+    for (place, (happening, _)) in (0..).zip(script.steps) {
+        if sales > 0 {
+            add_lot(alloc, place, sales, &mut events)?;
+        }
+        places.push(events.len())?;
         events.push(happening.event(alloc)?)?;
     }
     let said = outputs(
@@ -89,12 +119,7 @@ fn run(rt: &impl Abort, alloc: Global, keys: RandomState, script: &Script) -> Re
         events.as_slice(),
     )?;
     assert_eq!(rt; said.len(), events.len(), "{}", script.name);
-    let of_steps = said.iter().skip(SETUP.len());
-    for (output, (happening, saying)) in of_steps.zip(script.steps) {
-        let (found, want) = (text_of(alloc, output)?, saying.text(alloc)?);
-        assert_eq!(rt; found, want, "{}: {happening:?}", script.name);
-    }
-    Ok(())
+    compare(rt, alloc, script, said.as_slice(), places.as_slice())
 }
 
 /// Runs scripts, each over a book of its own.
@@ -105,7 +130,7 @@ pub(super) fn run_all(
     scripts: &[Script],
 ) -> Result<(), Fail> {
     for script in scripts {
-        run(rt, alloc, keys, script)?;
+        run_among(rt, alloc, keys, script, 0)?;
     }
     Ok(())
 }
