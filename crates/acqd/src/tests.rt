@@ -6,6 +6,7 @@ mod days;
 mod happening;
 mod holds;
 mod isolation;
+mod many_merchants;
 mod reversals;
 mod sales;
 mod saying;

@@ -63,10 +63,7 @@ impl Happening {
             })),
             Happening::DropRange(low, high) => Ok(Event::DropRange(low, high)),
             Happening::Enrol(merchant, currency) => enrolment(merchant, currency),
-            Happening::AddTerminal(merchant, terminal) => {
-                let id = TerminalId::read(spelled(terminal).as_bytes()).ok_or("a terminal")?;
-                Ok(Event::AddTerminal(merchant_named(merchant)?, id))
-            }
+            Happening::AddTerminal(merchant, terminal) => new_terminal(merchant, terminal),
         }
     }
 }
@@ -96,8 +93,14 @@ pub(super) fn answer(merchant: &str, reference: u64, verdict: Verdict) -> Result
     ))
 }
 
+/// A terminal is added at a merchant.
+pub(super) fn new_terminal(merchant: &str, terminal: &str) -> Result<Event, Fail> {
+    let id = TerminalId::read(spelled(terminal).as_bytes()).ok_or("a terminal")?;
+    Ok(Event::AddTerminal(merchant_named(merchant)?, id))
+}
+
 /// An enrolment, with first reference 1.
-fn enrolment(merchant: &str, currency: &str) -> Result<Event, Fail> {
+pub(super) fn enrolment(merchant: &str, currency: &str) -> Result<Event, Fail> {
     Ok(Event::Enrol(
         merchant_named(merchant)?,
         Currency::read(currency.as_bytes()).ok_or("a currency")?,
