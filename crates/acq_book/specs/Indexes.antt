@@ -1,8 +1,8 @@
 -- What the lists of a book in memory hold beside their rows.
 use Rattle.std.specs.Prelude.{◌≡◌, ℕ, ◌+◌, ◌≤◌, ◌==◌, ◌&&◌, List}
-use Rattle.std.specs.Map.{count_at}
 use Rattle.std.specs.Str.{bytes_eq}
 use Rattle.std.specs.Vec.{vec_len, vec_capacity}
+use Rattle.std.specs.Map.{count_at}
 use Rattle.indexmap.specs.IndexMap.{get, values, spare}
 use Rattle.acq_core.specs.Tables.{count, requests_of, used_in, admitted_in}
 use Rattle.acq_book.specs.declared.lists.merchant_day.MerchantDay.{MerchantDay}

@@ -6,6 +6,7 @@ use Rattle.acq_message.specs.Numbers.{is_number}
 use Rattle.acq_message.specs.declared.request_key.RequestKey.{RequestKey}
 use Rattle.acq_message.specs.contracts.request_key.RequestKeyPartialEq.TheImpl as key_block
 use Rattle.acq_message.specs.contracts.merchant_id.MerchantIdPartialEq.TheImpl as merchant_block
+use Rattle.acq_core.specs.declared.reconciliation.Reconciliation.{Reconciliation}
 use Rattle.acq_core.specs.declared.request.Request.{Request}
 use Rattle.acq_core.specs.declared.terminal.Terminal.{Terminal}
 use Rattle.acq_book.specs.declared.lists.merchant_day.MerchantDay.{MerchantDay}
@@ -48,6 +49,10 @@ key_of_terminal row = record { merchant = row.merchant; id = row.id }
 -- the day of a request at its merchant
 abbrev pub day_of_request : Request → MerchantDay
 day_of_request row = record { merchant = row.key.merchant; day = row.day }
+
+-- the day of a reconciliation at its merchant
+abbrev pub day_of_reconciliation : Reconciliation → MerchantDay
+day_of_reconciliation row = record { merchant = row.merchant; day = row.day }
 
 -- the place of the first that passes
 abbrev pub place : {X : Type 0} → (X → Bool) → List X → Option ℕ

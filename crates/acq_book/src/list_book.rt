@@ -176,11 +176,11 @@ impl ListBook {
     fn reconciled(
         &mut self,
         request: &Request,
-        reconciliation: Reconciliation,
+        reconciliation: &Reconciliation,
     ) -> Result<(), AllocError>
-        requires { Fits self.old (change.Reconciled request.now reconciliation) }
+        requires { Fits self.old (change.Reconciled request.now reconciliation.now) }
         ensures ok { OnOk result (self.new ≡ after self.old
-            (change.Reconciled request.now reconciliation)) }
+            (change.Reconciled request.now reconciliation.now)) }
         ensures err { OnErr result (self.new ≡ self.old) }
     {
         let request = request_copied(self.alloc, request)?;
@@ -193,8 +193,6 @@ impl ListBook {
 }
 
 impl Book for ListBook {
-    ghost use Rattle.std.specs.Prelude.{⊥};
-
     ghost tables = { λ t. t };
 
     ghost is_honest = { λ t. Unit {0} };
@@ -318,7 +316,7 @@ impl Book for ListBook {
             Change::Reconciled {
                 request,
                 reconciliation,
-            } => self.reconciled(request, *reconciliation)?,
+            } => self.reconciled(request, reconciliation)?,
         }
         Ok(())
     }

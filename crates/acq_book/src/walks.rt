@@ -32,26 +32,47 @@ pub(crate) fn in_order_of_numbers(
     mut rows: Vec<&(u64, Posting)>,
 ) -> Result<Vec<&(u64, Posting)>, AllocError>
     ensures { IfOk result (λ sorted. map deref sorted.items
-        ≡ in_order is_posting_before (map deref rows.items)) }
+        ≡ in_order is_posting_before (map deref rows.entry.items)) }
 {
-    rows.sort_by_key(|row| (row.1.merchant.to_bytes(), row.0))?;
+    rows.sort_by_key(
+        |row: &&(u64, Posting)|
+            ensures { result ≡ (row.now.now.1.merchant, row.now.now.0) }
+        { (row.1.merchant.to_bytes(), row.0) },
+    )?;
     Ok(rows)
 }
 
 /// Merchants by name.
 pub(crate) fn in_order_of_names(mut rows: Vec<&Merchant>) -> Result<Vec<&Merchant>, AllocError>
     ensures { IfOk result (λ sorted. map deref sorted.items
-        ≡ in_order (λ a b. is_lt (slice_cmp nat_cmp a.id b.id)) (map deref rows.items)) }
+        ≡ in_order (λ a b. is_lt (slice_cmp nat_cmp a.id b.id)) (map deref rows.entry.items)) }
 {
-    rows.sort_by_key(|row| row.id.to_bytes())?;
+    rows.sort_by_key(
+        |row: &&Merchant|
+            ensures { result ≡ row.now.now.id }
+        { row.id.to_bytes() },
+    )?;
     Ok(rows)
 }
 
 /// Requests by reference.
 pub(crate) fn in_order_of_references(mut rows: Vec<&Request>) -> Result<Vec<&Request>, AllocError>
     ensures { IfOk result (λ sorted. map deref sorted.items
-        ≡ in_order (λ a b. is_reference_before a.reference b.reference) (map deref rows.items)) }
+        ≡ in_order (λ a b. is_reference_before a.reference b.reference) (map deref rows.entry.items)) }
 {
-    rows.sort_by_key(|row| row.reference.map(|reference| reference.number()))?;
+    rows.sort_by_key(
+        |row: &&Request|
+            ensures { result ≡ row.now.now.reference }
+        { reference_of(*row) },
+    )?;
     Ok(rows)
+}
+
+fn reference_of(row: &Request) -> Option<u64>
+    ensures { result ≡ row.now.reference }
+{
+    match row.reference {
+        Some(reference) => Some(reference.number()),
+        None => None,
+    }
 }

@@ -142,8 +142,9 @@ fn count_posting(
     ensures spare { spare sums.old ≤ spare sums.new + 1 }
 {
     let more = with_one(sums_of(sums, day), leg, amount);
+    let number = more.posted;
     put(sums, *day, more);
-    more.posted
+    number
 }
 
 fn with_one(old: DaySums, leg: Leg, amount: Amount) -> DaySums

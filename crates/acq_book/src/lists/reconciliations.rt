@@ -6,7 +6,7 @@ ghost use Rattle.std.specs.Option.{option_copied};
 ghost use Rattle.std.specs.Str.{bytes_eq};
 ghost use Rattle.indexmap.specs.IndexMap.{get, spare};
 ghost use Rattle.acq_core.specs.Tables.{with_next_reconciliation};
-ghost use Rattle.acq_book.specs.Keys.{day_eq};
+ghost use Rattle.acq_book.specs.Keys.{day_eq, day_of_reconciliation};
 ghost use Rattle.acq_book.specs.Order.{last_of};
 ghost use Rattle.acq_book.specs.Sums.{number_in};
 
@@ -77,17 +77,12 @@ impl Reconciliations {
     }
 
     /// One more reconciliation, which gets its number.
-    pub fn push(&mut self, row: Reconciliation)
+    pub fn push(&mut self, row: &Reconciliation)
         requires { 0 < self.old.room }
-        ensures { self.new.rows ≡ with_next_reconciliation self.old.rows row }
+        ensures { self.new.rows ≡ with_next_reconciliation self.old.rows row.now }
     {
-        let day = MerchantDay {
-            merchant: row.merchant,
-            day: row.day,
-        };
-        let number = number_of(&self.last, &day) + 1;
-        put(&mut self.last, day, (number, row));
-        self.rows.push((number, row)).unwrap();
+        let number = put_next(&mut self.last, row);
+        self.rows.push((number, *row)).unwrap();
         self.room -= 1;
     }
 }
@@ -103,4 +98,26 @@ fn number_of(
         Some((number, _)) => *number,
         None => 0,
     }
+}
+
+/// Puts a row as the last of its merchant's day, and returns its number.
+fn put_next(
+    last: &mut IndexMap<MerchantDay, (u64, Reconciliation), RandomState>,
+    row: &Reconciliation,
+) -> u64
+    requires room { 0 < spare last.old }
+    requires small { number_in (get day_eq last.old (day_of_reconciliation row.now)) < 2 ^ 63 }
+    ensures number { result ≡ number_in (get day_eq last.old (day_of_reconciliation row.now)) + 1 }
+    ensures last { (k : MerchantDay) → get day_eq last.new k
+        ≡ (if day_eq (day_of_reconciliation row.now) k then Some (result, row.now)
+        else get day_eq last.old k) }
+    ensures spare { spare last.old ≤ spare last.new + 1 }
+{
+    let day = MerchantDay {
+        merchant: row.merchant,
+        day: row.day,
+    };
+    let number = number_of(last, &day) + 1;
+    put(last, day, (number, *row));
+    number
 }

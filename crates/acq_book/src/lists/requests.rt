@@ -110,13 +110,10 @@ impl Requests {
     pub fn pending(&self, day: Day) -> u64
         ensures { result ≡ count (λ row. is_pending row.status && (row.day == day)) self.now.rows }
     {
-        let mut pending = 0;
-        for row in self.rows.values() {
-            if row.status == Status::Pending && row.day == day {
-                pending += 1;
-            }
-        }
-        pending
+        self.rows
+            .values()
+            .filter(|row| is_pending_on(row, day))
+            .count() as u64
     }
 
     /// The merchant's approved holds, in the order in which they came.
@@ -127,11 +124,8 @@ impl Requests {
     {
         self.rows
             .values()
-            .filter(|row| {
-                row.key.merchant == merchant
-                    && row.key.service == Service::Authorization
-                    && row.status == Status::Approved
-            })
+            .filter(|row| row.key.merchant == merchant)
+            .filter(|row| is_hold(row))
             .collect(alloc)
     }
 
@@ -192,6 +186,20 @@ impl Requests {
     }
 }
 
+/// Whether a request of this day is pending.
+fn is_pending_on(row: &Request, day: Day) -> bool
+    ensures { result ≡ (is_pending row.now.status && (row.now.day == day)) }
+{
+    matches!(row.status, Status::Pending) && row.day == day
+}
+
+/// Whether it is an approved authorization, which neither was completed nor reversed.
+fn is_hold(row: &Request) -> bool
+    ensures { result ≡ (is_authorization row.now.key.service && is_approved row.now.status) }
+{
+    matches!(row.key.service, Service::Authorization) && matches!(row.status, Status::Approved)
+}
+
 fn row_at(rows: &IndexMap<RequestKey, Request, RandomState>, place: usize) -> Option<&Request>
     ensures { option_copied result ≡ slice_get (values rows.now) place }
 {
@@ -202,7 +210,7 @@ fn row_at(rows: &IndexMap<RequestKey, Request, RandomState>, place: usize) -> Op
 }
 
 fn used_at(counts: &IndexMap<MerchantDay, UsedCount, RandomState>, day: &MerchantDay) -> UsedCount
-    ensures { result ≡ count_at (get day_eq counts.now day.now) }
+    ensures { result ≡ count_at (get day_eq counts.now) day.now }
 {
     if let Some(count) = counts.get(day) {
         return *count;
@@ -217,7 +225,7 @@ fn admitted_at(
     counts: &IndexMap<MerchantId, AdmittedCount, RandomState>,
     merchant: &MerchantId,
 ) -> AdmittedCount
-    ensures { result ≡ count_at (get merchant_eq counts.now merchant.now) }
+    ensures { result ≡ count_at (get merchant_eq counts.now) merchant.now }
 {
     if let Some(count) = counts.get(merchant) {
         return *count;
@@ -235,11 +243,11 @@ fn count_used(
     counted: bool,
 )
     requires room { 0 < spare counts.old }
-    requires fits { counted ≡ true → is_used_count (1 + count_at (get day_eq counts.old day))
+    requires fits { counted ≡ true → is_used_count (1 + count_at (get day_eq counts.old) day)
         ≡ true }
-    ensures counts { (k : MerchantDay) → count_at (get day_eq counts.new k)
-        ≡ (if counted && day_eq day k then 1 + count_at (get day_eq counts.old day)
-        else count_at (get day_eq counts.old k)) }
+    ensures counts { (k : MerchantDay) → count_at (get day_eq counts.new) k
+        ≡ (if counted && day_eq day k then 1 + count_at (get day_eq counts.old) day
+        else count_at (get day_eq counts.old) k) }
     ensures spare { spare counts.old ≤ spare counts.new + 1 }
 {
     if counted {
@@ -259,11 +267,11 @@ fn count_admitted(
 )
     requires room { 0 < spare counts.old }
     requires fits { counted ≡ true
-        → is_admitted_count (1 + count_at (get merchant_eq counts.old merchant)) ≡ true }
-    ensures counts { (m : List ℕ) → count_at (get merchant_eq counts.new m)
+        → is_admitted_count (1 + count_at (get merchant_eq counts.old) merchant) ≡ true }
+    ensures counts { (m : List ℕ) → count_at (get merchant_eq counts.new) m
         ≡ (if counted && merchant_eq merchant m
-        then 1 + count_at (get merchant_eq counts.old merchant)
-        else count_at (get merchant_eq counts.old m)) }
+        then 1 + count_at (get merchant_eq counts.old) merchant
+        else count_at (get merchant_eq counts.old) m) }
     ensures spare { spare counts.old ≤ spare counts.new + 1 }
 {
     if counted {
