@@ -1,7 +1,7 @@
--- Look-ups, one after another.
-use Rattle.std.proofs.Common.{ℕ, Bool, true, ◌∙◌, refl, arith}
+-- Look-ups, one after another, and a change after them.
+use Rattle.std.proofs.Common.{◌≡◌, ℕ, Bool, true, inl, inr, ⊎_elim, ◌∙◌, refl, sym, arith}
 use Rattle.acq_core.specs.Tables.{Tables}
-use Rattle.acq_book.specs.Promise.{Looks}
+use Rattle.acq_book.specs.Promise.{Looks, Makes}
 
 -- a look-up that succeeded, and what was looked up then
 pub looks_more : {S : Type 0} (tables : S → Tables) (is_honest is_open : S → Type 0)
@@ -15,5 +15,28 @@ looks_more tables is_honest is_open may_leave failures a b c succeeded first sec
   stays_open = λ s h o. second.stays_open s h (first.stays_open refl (second.was_honest h) o);
   same = λ o. second.same o ∙ first.same (second.was_open o);
   leaves = λ h t l. first.leaves (second.was_honest h) t (second.leaves h t l);
+  rise = omega arith;
+}
+
+-- look-ups that succeeded, and a change then
+pub makes_after : {S : Type 0} (tables : S → Tables) (is_honest is_open : S → Type 0)
+    (may_leave : S → Tables → Type 0) (failures : S → ℕ) (a b c : S) (succeeded : Bool) (made changed : Tables) →
+    (is_open b → made ≡ changed) → Looks tables is_honest is_open may_leave failures a b true →
+    Makes tables is_honest is_open may_leave failures b c succeeded made →
+    Makes tables is_honest is_open may_leave failures a c succeeded changed
+makes_after tables is_honest is_open may_leave failures a b c succeeded made changed same first second = record {
+  was_honest = λ h. first.was_honest (second.was_honest h);
+  was_open = λ o. first.was_open (second.was_open o);
+  stays_open = λ s h o. second.stays_open s h (first.stays_open refl (second.was_honest h) o);
+  made = λ s o. second.made s o ∙ same (second.was_open o);
+  unmade = λ s o. second.unmade s o ∙ first.same (second.was_open o);
+  leaves = λ o h t l.
+      let between = first.stays_open refl (second.was_honest h) o in
+      ⊎_elim (λ was. inl (first.leaves (second.was_honest h) t was)) (λ is. inr (is ∙ same between))
+      (second.leaves between h t l);
+  settled = λ s o h only t l.
+      let between = first.stays_open refl (second.was_honest h) o in
+      second.settled s between h
+      (λ u was. only u (first.leaves (second.was_honest h) u was) ∙ sym (first.same between)) t l ∙ same between;
   rise = omega arith;
 }

@@ -1,6 +1,7 @@
 //! A host over a book.
 
-ghost use Rattle.std.specs.Prelude.{◌≡◌, ◌⊎◌, ◌+◌, is_ok, take, IfOk, IfErr, OnOk, OnErr};
+ghost use Rattle.std.specs.Prelude.{◌≡◌, ◌⊎◌, ◌+◌, [], ◌∷◌, ◌++◌, is_ok, take, Err};
+ghost use Rattle.std.specs.Prelude.{IfOk, IfErr, OnOk, OnErr};
 ghost use Rattle.acq_core.specs.Arrivals.{arrival_of};
 ghost use Rattle.acq_core.specs.Tables.{Tables, outputs, step_output, step_tables, tables_after};
 ghost use Rattle.acq_book.specs.Promise.{HasRisen, IfStore, Makes};
@@ -97,27 +98,35 @@ impl<B: Book + Drop> Host<B> {
             → (t : Tables) → B.may_leave self.new t → IfErr result (λ fault.
             (t ≡ after_first fault.at (B.tables self.old) events.now)
             ⊎ (t ≡ after_first (fault.at + 1) (B.tables self.old) events.now)) }
-        ensures store { IfErr result (λ fault. IfStore (Err fault.fault)
+        ensures store { IfErr result (λ fault. IfStore {T = Unit {0}} (Err fault.fault)
             (HasRisen (B.failures self.old) (B.failures self.new))) }
     {
         let mut told = Vec::new(self.alloc);
         for (at, event) in events.iter().enumerate() {
-            // Once the event is taken nothing may fail, so the place of its output is taken first.
-            let output = match told.reserve(1) {
-                Ok(()) => self.take(event),
-                Err(e) => Err(BookFault::from(e)),
-            };
-            match output {
-                Ok(output) => told.push(output).unwrap(),
-                Err(fault) => {
-                    return Err(RunFault {
-                        at,
-                        outputs: told,
-                        fault,
-                    });
-                }
+            if let Err(fault) = self.tell(&mut told, event) {
+                return Err(RunFault {
+                    at,
+                    outputs: told,
+                    fault,
+                });
             }
         }
         Ok(told)
+    }
+
+    /// Takes one event, and puts what the host says to it behind what it told so far.
+    fn tell(&mut self, told: &mut Vec<Output>, event: &Event) -> Result<(), BookFault>
+        ensures told { B.is_open self.new → OnOk result (told.new.items
+            ≡ told.old.items ++ step_output (B.tables self.old) (arrival_of event.now) ∷ []) }
+        ensures kept { OnErr result (told.new.items ≡ told.old.items) }
+        ensures tables { Makes B.tables B.is_honest B.is_open B.may_leave B.failures
+            self.old self.new (is_ok result) (step_tables (B.tables self.old) (arrival_of event.now)) }
+        ensures store { IfStore result (HasRisen (B.failures self.old) (B.failures self.new)) }
+    {
+        // Once the event is taken nothing may fail, so the place of its output is taken first.
+        told.reserve(1)?;
+        let output = self.take(event)?;
+        told.push(output).unwrap();
+        Ok(())
     }
 }

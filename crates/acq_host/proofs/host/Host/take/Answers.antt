@@ -1,0 +1,64 @@
+-- an event of a book changes what fits, and its tables stay those of a book
+use Rattle.std.proofs.Common.{◌≡◌, refl, ◌∙◌, sym, ap, subst, rules}
+use Rattle.std.specs.Prelude.{true, false, is_ok, IfSome}
+use Rattle.acq_core.specs.Arrivals.{arrival_of}
+use Rattle.acq_core.specs.Tables.{after_any, step_output, step_tables}
+use Rattle.acq_book.specs.Fits.{Fits}
+use Rattle.acq_book.specs.Promise.{Makes}
+use Rattle.acq_invariants.specs.Books.{IsBook}
+use Rattle.acq_invariants.proofs.BooksGoOn.{books_go_on}
+use Rattle.acq_host.proofs.Chains.{makes_after}
+use Rattle.acq_host.proofs.ChangesFit.{changes_fit}
+use Rattle.acq_host.proofs.host.Host.take.Goals as goal
+
+pub apply-requires : goal.apply-requires
+apply-requires g c = record {
+  fits = λ o.
+      let e = c.args.event.now in
+      let looks = c.in_ok-output.ensures.looks in
+      let past = c.self.invariant (looks.was_open o) in
+      subst (λ t. IfSome c.in_ok-output.change (Fits t)) (sym (looks.same o))
+      (subst (λ x. IfSome x (Fits (g.B.Book.tables c.self.inside.book))) (sym (c.in_ok-output.ensures.change o))
+      (changes_fit past.0 (g.B.Book.tables c.self.inside.book) e past.1 c.every_event.ensures));
+}
+
+pub returns-in_err-apply-clause-tables : goal.returns-in_err-apply-clause-tables
+returns-in_err-apply-clause-tables g c =
+    let looks = c.in_ok-output.ensures.looks in
+    let failed : is_ok c.from_residual-in_err-apply.result ≡ false = search rules in
+    subst (λ ok. Makes g.B.Book.tables g.B.Book.is_honest g.B.Book.is_open g.B.Book.may_leave g.B.Book.failures
+    c.args.self.now c.apply.new.book ok (step_tables (g.B.Book.tables c.args.self.now) (arrival_of c.args.event.now)))
+    (sym failed)
+    (subst (λ b. Makes g.B.Book.tables g.B.Book.is_honest g.B.Book.is_open g.B.Book.may_leave g.B.Book.failures b
+    c.apply.new.book false (step_tables (g.B.Book.tables b) (arrival_of c.args.event.now))) c.self.view_is
+    (makes_after g.B.Book.tables g.B.Book.is_honest g.B.Book.is_open g.B.Book.may_leave g.B.Book.failures
+    c.self.inside.book c.decide.new.book c.apply.new.book _ _ _
+    (λ o i. after_any (looks.same o i) (c.in_ok-output.ensures.change o i)) looks c.in_err-apply.ensures.makes))
+
+pub invariant_of-self-2 : goal.invariant_of-self-2
+invariant_of-self-2 g c = λ o.
+    let e = c.args.event.now in
+    let looks = c.in_ok-output.ensures.looks in
+    let makes = c.in_ok-apply.ensures.makes in
+    let between = makes.was_open o in
+    let past = c.self.invariant (looks.was_open between) in
+    let t = g.B.Book.tables c.self.inside.book in (
+      past.0,
+      subst (IsBook past.0)
+          (sym (makes.made refl o ∙ (λ i. after_any (looks.same between i) (c.in_ok-output.ensures.change between i))))
+          (books_go_on past.0 t e past.1 c.every_event.ensures),
+    )
+
+pub returns-clause-output : goal.returns-clause-output
+returns-clause-output g c = λ o.
+    c.in_ok-output.ensures.output (c.in_ok-apply.ensures.makes.was_open o)
+    ∙ ap (λ b. step_output (g.B.Book.tables b) (arrival_of c.args.event.now)) c.self.view_is
+
+pub returns-clause-tables : goal.returns-clause-tables
+returns-clause-tables g c =
+    let looks = c.in_ok-output.ensures.looks in
+    subst (λ b. Makes g.B.Book.tables g.B.Book.is_honest g.B.Book.is_open g.B.Book.may_leave g.B.Book.failures b
+    c.apply.new.book true (step_tables (g.B.Book.tables b) (arrival_of c.args.event.now))) c.self.view_is
+    (makes_after g.B.Book.tables g.B.Book.is_honest g.B.Book.is_open g.B.Book.may_leave g.B.Book.failures
+    c.self.inside.book c.decide.new.book c.apply.new.book _ _ _
+    (λ o i. after_any (looks.same o i) (c.in_ok-output.ensures.change o i)) looks c.in_ok-apply.ensures.makes)
