@@ -6,6 +6,7 @@ use super::saying::{Saying, text_of};
 use acq_book::ListBook;
 use acq_core::{Event, Limit, Output};
 use acq_host::Host;
+use acq_invariants::{books_are_sound, every_opening};
 use day_totals::Day;
 use std::alloc::Global;
 use std::hash::RandomState;
@@ -52,6 +53,8 @@ pub(super) fn new_host(
 ) -> Result<Host<ListBook>, Fail> {
     let limit = Limit::from_number(limit).ok_or("a limit")?;
     let first_day = Day::from_number(first_day).ok_or("a day")?;
+    every_opening(limit, first_day);
+    books_are_sound();
     Ok(Host::new(alloc, ListBook::new(alloc, keys, limit, first_day)))
 }
 
@@ -77,7 +80,7 @@ pub(super) fn outputs(
 }
 
 /// Compares what the host said at the steps of a script, which stand at these places.
-fn compare(
+pub(super) fn compare(
     rt: &impl Abort,
     alloc: Global,
     script: &Script,
@@ -93,17 +96,14 @@ fn compare(
     Ok(())
 }
 
-/// Runs a script with a lot of another merchant's events before each step, so many sales and some
-/// other events, and compares what the host says at the steps; with none where there are no sales.
-pub(super) fn run_among(
-    rt: &impl Abort,
+/// The events of a script behind the setup, and the places of its steps among them. Before each step
+/// there is a lot of another merchant's events, with so many sales; none where these are 0.
+pub(super) fn events_among(
     alloc: Global,
-    keys: RandomState,
     script: &Script,
     sales: u64,
-) -> Result<(), Fail> {
-    let mut events = setup(alloc)?;
-    let mut places = Vec::new(alloc);
+) -> Result<(Vec<Event>, Vec<usize>), Fail> {
+    let (mut events, mut places) = (setup(alloc)?, Vec::new(alloc));
     for (place, (happening, _)) in (0..).zip(script.steps) {
         if sales > 0 {
             add_lot(alloc, place, sales, &mut events)?;
@@ -111,6 +111,19 @@ pub(super) fn run_among(
         places.push(events.len())?;
         events.push(happening.event(alloc)?)?;
     }
+    Ok((events, places))
+}
+
+/// Runs a script among so many sales of another merchant, and compares what the host says at its
+/// steps.
+pub(super) fn run_among(
+    rt: &impl Abort,
+    alloc: Global,
+    keys: RandomState,
+    script: &Script,
+    sales: u64,
+) -> Result<(), Fail> {
+    let (events, places) = events_among(alloc, script, sales)?;
     let said = outputs(
         alloc,
         keys,
