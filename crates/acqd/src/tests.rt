@@ -1,6 +1,19 @@
 //! Rows of the program: statuses, replies and printed lines; each read and each write failing in
 //! turn; and an input longer than a hundred reads.
 
+mod crowd;
+mod days;
+mod happening;
+mod holds;
+mod isolation;
+mod many_merchants;
+mod reversals;
+mod sales;
+mod saying;
+mod script;
+mod two_days;
+mod wording;
+
 use crate::{command, once};
 use acq_link::{MemorySink, ReadSource, SliceSource, WriteSink};
 use std::alloc::Global;

@@ -7,6 +7,7 @@ pub mod Track2Splits
 pub mod MaskText
 pub mod RangeEnds
 pub mod OneRangeOfPrefix
+pub mod NearestRange
 pub mod OneRangeMore
 pub mod OneRangeLess
 pub mod LeastOverlap

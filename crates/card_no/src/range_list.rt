@@ -1,7 +1,8 @@
 //! The issuers' ranges, each prefix in one at most.
 
-ghost use Rattle.std.specs.Prelude.{◌≡◌, ◌≤◌, ◌⊎◌, ◌↔◌, true, false, [], length, insert, position};
+ghost use Rattle.std.specs.Prelude.{◌≡◌, ◌<◌, ◌≤◌, ◌⊎◌, ◌↔◌, true, false, [], length, insert, position};
 ghost use Rattle.std.specs.Prelude.{find, Some, None, Err, IsOk, IfErr, OnOk, OnErr};
+ghost use Rattle.std.specs.List.{AllWithin};
 ghost use Rattle.std.specs.Option.{option_copied};
 ghost use Rattle.card_no.specs.Ranges.{are_ranges, is_valid_range, holds_prefix, has_ends};
 ghost use Rattle.card_no.specs.Ranges.{range_of_prefix, IsRangeOf, overlaps, overlapped_by};
@@ -58,7 +59,7 @@ impl RangeList {
         ensures value { option_copied result ≡ range_of_prefix self.now prefix }
         ensures only { IsRangeOf self.now prefix (option_copied result) }
     {
-        first_holding(self.ranges.as_slice(), prefix)
+        holding(self.ranges.as_slice(), prefix)
     }
 
     /// Adds a range at its place. A bad value is reported before an overlap. An `Err` changes
@@ -102,11 +103,28 @@ impl RangeList {
     }
 }
 
-/// The first range that holds a prefix.
-fn first_holding(ranges: &[Range], prefix: Prefix) -> Option<&Range>
+/// The range that holds a prefix: the last that doesn't begin above it, or none.
+fn holding(ranges: &[Range], prefix: Prefix) -> Option<&Range>
+    requires { are_ranges ranges.now ≡ true }
     ensures { option_copied result ≡ range_of_prefix ranges.now prefix }
 {
-    ranges.iter().find(|range| range.holds(prefix))
+    let nearest = ranges.get(begun_at(ranges, prefix).checked_sub(1)?)?;
+    if nearest.holds(prefix) {
+        Some(nearest)
+    } else {
+        None
+    }
+}
+
+/// How many ranges begin at a prefix or below it.
+fn begun_at(ranges: &[Range], prefix: Prefix) -> usize
+    requires { are_ranges ranges.now ≡ true }
+    ensures within { result ≤ length ranges.now }
+    ensures begun { AllWithin (λ range. range.low ≤ prefix) ranges.now 0 result }
+    ensures above { AllWithin (λ range. prefix < range.low) ranges.now result (length ranges.now) }
+{
+    let number = prefix.number();
+    ranges.partition_point(|range| range.low <= number)
 }
 
 /// The first range that overlaps one.
