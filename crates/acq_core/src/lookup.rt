@@ -1,10 +1,5 @@
 //! What is looked up for an event.
 
-ghost use Rattle.std.specs.Prelude.{◌≡◌};
-ghost use Rattle.acq_core.specs.declared.arrival.Arrival.{Arrival};
-ghost use Rattle.acq_core.specs.Looking.{known_of};
-ghost use Rattle.acq_core.specs.Tables.{new_tables, known_in};
-
 use crate::admitted_count::AdmittedCount;
 use crate::limit::Limit;
 use crate::merchant::Merchant;
@@ -63,33 +58,4 @@ pub struct Looked {
     pub used: UsedCount,
     /// The merchant's totals of the day that is wanted.
     pub totals: Totals,
-}
-
-impl Looked {
-    /// What look-ups in a new book give, whatever is wanted: nothing is found. It takes no memory.
-    pub fn in_new_book(limit: Limit, first_day: Day) -> Looked
-        ensures { (a : Arrival) → known_of result
-            ≡ known_in (new_tables (record { limit = limit; first_day = first_day })) a }
-    {
-        let (Some(admitted), Some(used)) = (
-            AdmittedCount::from_number(0),
-            UsedCount::from_number(0),
-        ) else {
-            unreachable!();
-        };
-        Looked {
-            today: first_day,
-            limit,
-            merchant: None,
-            has_terminal: false,
-            recorded: None,
-            original: None,
-            referred: None,
-            range: None,
-            overlapped: None,
-            admitted,
-            used,
-            totals: Totals::zero(),
-        }
-    }
 }

@@ -20,40 +20,37 @@ use Rattle.acq_core.specs.declared.arrival.Arrival.TheVariants.{Malformed, Reque
 use Rattle.acq_core.specs.declared.event.Event.TheVariants.{Frame}
 use Rattle.acq_core.specs.Arrivals.{arrival_of_message, arrival_of_reading}
 use Rattle.acq_core.specs.NewBook.{output_to}
-use Rattle.acq_core.specs.Tables.{Opening, new_tables, step_output}
+use Rattle.acq_core.specs.Tables.{new_tables, step_output}
 use Rattle.acq_invariants.specs.Events.{IsOpening}
 use Rattle.acq_invariants.proofs.BooksAreSound.{books_are_sound}
 use Rattle.acq_invariants.proofs.BooksGoOn.{books_begin}
 use Rattle.acq_link.specs.declared.input_fault.InputFault as input
 use Rattle.acqd.specs.Faults.{of_input}
-use Rattle.acqd.specs.Once.{replies_in, replies_to, replies, is_read, Answers, ServesAll, Serves}
+use Rattle.acqd.specs.Once.{widest_opening, replies_in, replies_to, replies, is_read, Answers, ServesAll, Serves}
 
 -- ---- one frame
 
--- what a new book begins with
-abbrev new_book : Opening
-new_book = record { limit = 999999; first_day = 0 }
-
-is_opening : IsOpening new_book
+-- a new book may begin so
+pub is_opening : IsOpening widest_opening
 is_opening = record { limit = refl; first_day = omega arith }
 
 -- a reply fits a frame
 pub reply_fits : (message text : List ℕ) (party : Option (List ℕ)) → output_to message ≡ Reply party text →
     fits_frame text ≡ true
 reply_fits message text party is =
-    let given = (books_are_sound new_book (new_tables new_book) (books_begin new_book is_opening)).next_reply
+    let given = (books_are_sound widest_opening (new_tables widest_opening) (books_begin widest_opening is_opening)).next_reply
     (Frame 946684800 message) party text refl is in
     and_from _ _ (lt-ltb 0 (length text) (omega (arith, given.not_empty))) (le-leb (length text) 4096 given.fits)
 
 -- a message that is read is not reported as one that isn't
 read_by_service : (o : Option Service) (m : IsoMessage) (f : DecodeFault) →
-    step_output (new_tables new_book) (arrival_of_message 946684800 m o) ≡ Undecodable f → ⊥
+    step_output (new_tables widest_opening) (arrival_of_message 946684800 m o) ≡ Undecodable f → ⊥
 read_by_service None m f h = cc
 read_by_service (Some service) m f h = by_check (is_malformed service m) service h
   where
     by_check : (malformed : Bool) (s : Service) →
         (let r : RequestMessage = record { moment = 946684800; service = s; message = m } in
-        step_output (new_tables new_book) (if malformed then Malformed r else Requested r)) ≡ Undecodable f → ⊥
+        step_output (new_tables widest_opening) (if malformed then Malformed r else Requested r)) ≡ Undecodable f → ⊥
     by_check true s h = cc
     by_check false Authorization h = cc
     by_check false Financial h = cc
@@ -64,7 +61,7 @@ read_by_service (Some service) m f h = by_check (is_malformed service m) service
     by_check false NetworkManagement h = cc
 
 fault_by : (r : Result IsoMessage DecodeFault) (f : DecodeFault) →
-    step_output (new_tables new_book) (arrival_of_reading 946684800 r) ≡ Undecodable f → r ≡ Err f
+    step_output (new_tables widest_opening) (arrival_of_reading 946684800 r) ≡ Undecodable f → r ≡ Err f
 fault_by (Ok m) f h = absurd (read_by_service (service_of m.kind) m f h)
 fault_by (Err e) f h = let same : e ≡ f = cc in ap (λ (x : DecodeFault). Err x) same
 
@@ -74,7 +71,7 @@ pub undecodable_is : (message : List ℕ) (f : DecodeFault) → output_to messag
 undecodable_is message f is = fault_by (reading_of message) f is
 
 read_by : (r : Result IsoMessage DecodeFault) →
-    ((f : DecodeFault) → step_output (new_tables new_book) (arrival_of_reading 946684800 r) ≡ Undecodable f → ⊥) →
+    ((f : DecodeFault) → step_output (new_tables widest_opening) (arrival_of_reading 946684800 r) ≡ Undecodable f → ⊥) →
     is_ok r ≡ true
 read_by (Ok m) h = refl
 read_by (Err f) h = absurd (h f refl)

@@ -1,2 +1,3 @@
 pub mod AnsweredFrames
 pub mod ProgramIsSimple
+pub mod FramesChangeNothing

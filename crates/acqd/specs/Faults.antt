@@ -2,14 +2,16 @@
 use Rattle.std.specs.Prelude.{ℕ, List, ◌++◌, [], codes, Result, Ok, Err}
 use Rattle.std.specs.Fmt.{decimal}
 use Rattle.iso_codec.specs.FaultTexts.{number_of_fault, element_of_fault}
+use Rattle.acq_book.specs.declared.book_fault.BookFault as book
 use Rattle.acq_link.specs.declared.input_fault.InputFault as input
 use Rattle.acq_link.specs.declared.write_fault.WriteFault as write
 use Rattle.acqd.specs.declared.fault.Fault.{Fault}
-use Rattle.acqd.specs.declared.fault.Fault.TheVariants.{Memory, BadLength, Ended, Undecodable}
-use Rattle.acqd.specs.declared.fault.Fault.TheVariants.{Read, Write}
+use Rattle.acqd.specs.declared.fault.Fault.TheVariants.{Memory, Store, BadLength, Ended}
+use Rattle.acqd.specs.declared.fault.Fault.TheVariants.{Undecodable, Read, Write}
 
 abbrev pub number_of : Fault → ℕ
 number_of Memory = 1
+number_of Store = 2
 number_of BadLength = 50
 number_of Ended = 51
 number_of (Undecodable fault) = 52
@@ -19,6 +21,7 @@ number_of (Write n) = 54
 -- a fault's name
 abbrev pub name_of : Fault → List ℕ
 name_of Memory = codes "Memory"
+name_of Store = codes "Store"
 name_of BadLength = codes "BadLength"
 name_of Ended = codes "Ended"
 name_of (Undecodable fault) = codes "Undecodable"
@@ -39,11 +42,17 @@ text_of fault = decimal (number_of fault) ++ codes " " ++ name_of fault ++ value
 -- 3 where memory ran out, else 1
 abbrev pub status_of : Fault → ℕ
 status_of Memory = 3
+status_of Store = 1
 status_of BadLength = 1
 status_of Ended = 1
 status_of (Undecodable fault) = 1
 status_of Read = 1
 status_of (Write n) = 1
+
+-- what a fault of a book is
+abbrev pub of_book : book.BookFault → Fault
+of_book book.TheVariants.Memory = Memory
+of_book book.TheVariants.Store = Store
 
 -- what a fault of the input is
 abbrev pub of_input : input.InputFault → Fault

@@ -8,7 +8,12 @@ use Rattle.iso_codec.specs.Reading.{reading_of}
 use Rattle.acq_core.specs.declared.output.Output.{Output}
 use Rattle.acq_core.specs.declared.output.Output.TheVariants.{Reply}
 use Rattle.acq_core.specs.NewBook.{output_to}
+use Rattle.acq_core.specs.Tables.{Opening}
 use Rattle.acqd.specs.declared.fault.Fault as fault
+
+-- what a book begins with that is made for one run: the greatest limit, and the first day
+abbrev pub widest_opening : Opening
+widest_opening = record { limit = 999999; first_day = 0 }
 
 -- the reply that an output is, if it is one
 abbrev pub replies_in : Output → List (List ℕ)
@@ -55,6 +60,7 @@ pub record Breaks (input out : List ℕ) (messages : List (List ℕ)) (message :
 abbrev pub StopsAt : List ℕ → List ℕ → fault.Fault → Type 0
 StopsAt input out fault.TheVariants.Memory =
     (messages : List (List ℕ)) × (rest : List ℕ) × Answers input out messages rest
+StopsAt input out fault.TheVariants.Store = ⊥
 StopsAt input out fault.TheVariants.BadLength =
     (messages : List (List ℕ)) × (rest : List ℕ) × Answers input out messages rest
     × (has_bad_length rest ≡ true)

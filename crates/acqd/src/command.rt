@@ -15,15 +15,18 @@ use clap::error::ErrorKind;
 use std::alloc::Global;
 use std::convert::AsStr;
 use std::fmt::Write;
+use std::hash::RandomState;
 
 /// The status of wrong usage.
 const USAGE: u8 = 2;
 
 /// Runs the command that the arguments name, the program's own name first, and returns the status:
 /// 0 where all is well, 1 for a fault, 2 for wrong usage, 3 where memory ran out. A fault, or what
-/// is wrong with the arguments, is written to `faults`; help goes to `output`.
+/// is wrong with the arguments, is written to `faults`; help goes to `output`. A book in memory
+/// finds its rows by hash, under `keys`.
 pub fn command<W: AsStr, S: Source, K: Sink, F: Sink>(
     alloc: Global,
+    keys: RandomState,
     args: &[W],
     input: &mut S,
     output: &mut K,
@@ -45,7 +48,7 @@ pub fn command<W: AsStr, S: Source, K: Sink, F: Sink>(
     ensures usage_unwritten { result ≡ 2 → K.sent output.new ≡ K.sent output.old }
 {
     match action_of(alloc, args) {
-        Ok(Action::Once) => finish(once(alloc, input, output), faults),
+        Ok(Action::Once) => finish(once(alloc, keys, input, output), faults),
         Err(error) if error.kind() == ErrorKind::OutOfMemory => {
             finish(Err(Fault::Memory), faults)
         }
@@ -65,6 +68,13 @@ pub(crate) fn memory_fault<F: Sink>(faults: &mut F) -> u8
     ensures { result ≡ 3 }
 {
     finish(Err(Fault::Memory), faults)
+}
+
+/// Writes that there was no randomness for the keys of hashes, and returns the status.
+pub(crate) fn read_fault<F: Sink>(faults: &mut F) -> u8
+    ensures { result ≡ 1 }
+{
+    finish(Err(Fault::Read), faults)
 }
 
 /// Writes that an argument isn't UTF-8, which is wrong usage, and returns the status. Arguments are

@@ -2,6 +2,7 @@
 
 ghost use Rattle.std.specs.Prelude.{◌≡◌};
 
+use acq_book::BookFault;
 use acq_link::{InputFault, WriteFault};
 use iso_codec::DecodeFault;
 use std::alloc::AllocError;
@@ -14,6 +15,8 @@ use std::fmt;
 pub enum Fault {
     /// 1: memory ran out.
     Memory,
+    /// 2: a call of the store failed, or gave rows that break the bounds of their columns.
+    Store,
     /// 50: a frame's length is 0 or above 4,096.
     BadLength,
     /// 51: the input ended inside a frame.
@@ -35,6 +38,7 @@ impl Fault {
     {
         match self {
             Fault::Memory => 1,
+            Fault::Store => 2,
             Fault::BadLength => 50,
             Fault::Ended => 51,
             Fault::Undecodable(_) => 52,
@@ -58,6 +62,7 @@ impl Fault {
     {
         match self {
             Fault::Memory => "Memory",
+            Fault::Store => "Store",
             Fault::BadLength => "BadLength",
             Fault::Ended => "Ended",
             Fault::Undecodable(_) => "Undecodable",
@@ -92,6 +97,19 @@ impl From<AllocError> for Fault {
 
     fn from(_e: AllocError) -> Fault {
         Fault::Memory
+    }
+}
+
+impl From<BookFault> for Fault {
+    ghost use Rattle.acqd.specs.Faults.{of_book};
+
+    ghost from_gives = { λ e f. f ≡ of_book e };
+
+    fn from(e: BookFault) -> Fault {
+        match e {
+            BookFault::Memory => Fault::Memory,
+            BookFault::Store => Fault::Store,
+        }
     }
 }
 

@@ -13,6 +13,7 @@ pub use command::command;
 pub use fault::Fault;
 pub use once::once;
 use std::env::{Env, FillError};
+use std::hash::RandomState;
 use std::process::ExitCode;
 use std::{env, io, str};
 
@@ -21,13 +22,17 @@ fn main(rt: HostRuntime) -> ExitCode {
     let mut output = WriteSink::new(rt.stdout());
     let mut faults = WriteSink::new(rt.stderr());
     let status = match args(&rt) {
-        Ok(args) => command(
-            rt.alloc(),
-            args.as_slice(),
-            &mut input,
-            &mut output,
-            &mut faults,
-        ),
+        Ok(args) => match RandomState::new(&rt) {
+            Ok(keys) => command(
+                rt.alloc(),
+                keys,
+                args.as_slice(),
+                &mut input,
+                &mut output,
+                &mut faults,
+            ),
+            Err(_) => command::read_fault(&mut faults),
+        },
         Err(_) => match first_not_text(&rt) {
             Some(place) => command::usage_fault(place, &mut faults),
             None => command::memory_fault(&mut faults),

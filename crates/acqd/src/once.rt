@@ -2,15 +2,20 @@
 
 ghost use Rattle.std.specs.Prelude.{◌≡◌, ◌+◌, ◌<◌, ◌++◌, ℕ, List, length, OnOk, IfOk, IfErr};
 ghost use Rattle.acq_link.specs.FramesAt.{BeginsWithFrame};
-ghost use Rattle.acq_core.specs.NewBook.{output_of_new_book, output_to};
-ghost use Rattle.acqd.specs.Once.{AnswersOne, FrameFault, Serves, TakesAll};
+ghost use Rattle.acq_core.specs.NewBook.{output_to};
+ghost use Rattle.acq_core.specs.Tables.{new_tables};
+ghost use Rattle.acqd.specs.Once.{AnswersOne, FrameFault, Serves, TakesAll, widest_opening};
 ghost use Rattle.acqd.specs.Once.{failed_reads, failed_writes};
+ghost use Rattle.acqd.specs.declared.fault.Fault.TheVariants.{Memory};
 
 use crate::fault::Fault;
-use acq_core::{Arrival, Limit, Looked, Moment, Output};
+use acq_book::ListBook;
+use acq_core::{Event, Limit, MessageText, Moment, Output};
+use acq_host::Host;
 use acq_link::{Front, Sink, Source, frame_at, read_to_end, write_frame};
 use day_totals::Day;
-use std::alloc::{AllocError, Global};
+use std::alloc::Global;
+use std::hash::RandomState;
 
 /// 2000-01-01 at 00:00:00, the first moment that there is.
 const FIRST_MOMENT: u64 = 946_684_800;
@@ -18,8 +23,14 @@ const FIRST_MOMENT: u64 = 946_684_800;
 /// The greatest limit of a day.
 const GREATEST_LIMIT: u32 = 999_999;
 
-/// Reads the whole input, and then answers its frames, each before the next is looked at.
-pub fn once<S: Source, K: Sink>(alloc: Global, input: &mut S, output: &mut K) -> Result<(), Fault>
+/// Reads the whole input, and then answers its frames over a new book, each before the next is
+/// looked at. The book's rows are found by hash, under these keys.
+pub fn once<S: Source, K: Sink>(
+    alloc: Global,
+    keys: RandomState,
+    input: &mut S,
+    output: &mut K,
+) -> Result<(), Fault>
     // What was read, and how it was served.
     ensures served { (bytes out : List ℕ)
         × (S.received input.new ≡ S.received input.old ++ bytes)
@@ -32,11 +43,29 @@ pub fn once<S: Source, K: Sink>(alloc: Global, input: &mut S, output: &mut K) ->
     ensures writes { K.failures output.new ≡ K.failures output.old + failed_writes result }
 {
     let bytes = read_to_end(alloc, input)?;
-    answer_all(alloc, bytes.as_slice(), output)
+    let mut host = new_host(alloc, keys);
+    answer_all(alloc, &mut host, bytes.as_slice(), output)
+}
+
+/// A host over a new book, with the greatest limit and the first day.
+fn new_host(alloc: Global, keys: RandomState) -> Host<ListBook>
+    ensures { result ≡ new_tables widest_opening }
+{
+    let (Some(limit), Some(first_day)) = (Limit::from_number(GREATEST_LIMIT), Day::from_number(0))
+    else {
+        unreachable!();
+    };
+    Host::new(alloc, ListBook::new(alloc, keys, limit, first_day))
 }
 
 /// Answers the frames that the bytes are.
-fn answer_all<K: Sink>(alloc: Global, bytes: &[u8], output: &mut K) -> Result<(), Fault>
+fn answer_all<K: Sink>(
+    alloc: Global,
+    host: &mut Host<ListBook>,
+    bytes: &[u8],
+    output: &mut K,
+) -> Result<(), Fault>
+    requires { host.old ≡ new_tables widest_opening }
     ensures served { (out : List ℕ) × (K.sent output.new ≡ K.sent output.old ++ out)
         × Serves bytes.now out result }
     ensures reads { failed_reads result ≡ 0 }
@@ -45,7 +74,7 @@ fn answer_all<K: Sink>(alloc: Global, bytes: &[u8], output: &mut K) -> Result<()
     let mut rest = bytes;
     while !rest.is_empty() {
         let (message, after) = first_frame(rest)?;
-        answer(alloc, message, output)?;
+        answer(alloc, host, message, output)?;
         rest = after;
     }
     Ok(())
@@ -65,11 +94,18 @@ fn first_frame(bytes: &[u8]) -> Result<(&[u8], &[u8]), Fault>
 }
 
 /// Answers the message of one frame.
-fn answer<K: Sink>(alloc: Global, message: &[u8], output: &mut K) -> Result<(), Fault>
+fn answer<K: Sink>(
+    alloc: Global,
+    host: &mut Host<ListBook>,
+    message: &[u8],
+    output: &mut K,
+) -> Result<(), Fault>
+    requires { host.old ≡ new_tables widest_opening }
     ensures sent { AnswersOne message.now (K.sent output.old) (K.sent output.new) result }
     ensures writes { K.failures output.new ≡ K.failures output.old + failed_writes result }
+    ensures unchanged { host.new ≡ new_tables widest_opening }
 {
-    match said_to(alloc, message)? {
+    match said_to(alloc, host, message)? {
         Output::Reply(_, reply) => {
             write_frame(alloc, reply.as_bytes(), output)?;
             Ok(())
@@ -79,33 +115,16 @@ fn answer<K: Sink>(alloc: Global, message: &[u8], output: &mut K) -> Result<(), 
     }
 }
 
-/// What the host says to a message over the widest book, where nobody is enrolled.
-fn said_to(alloc: Global, message: &[u8]) -> Result<Output, AllocError>
-    ensures { IfOk result (λ output. output ≡ output_to message.now) }
+/// What the host says to a message over a new book, where nobody is enrolled: so nothing changes.
+fn said_to(alloc: Global, host: &mut Host<ListBook>, message: &[u8]) -> Result<Output, Fault>
+    requires { host.old ≡ new_tables widest_opening }
+    ensures said { IfOk result (λ output. output ≡ output_to message.now) }
+    ensures fault { IfErr result (λ fault. fault ≡ Memory) }
+    ensures unchanged { host.new ≡ new_tables widest_opening }
 {
-    let (Some(moment), Some(limit), Some(first_day)) = (
-        Moment::from_seconds(FIRST_MOMENT),
-        Limit::from_number(GREATEST_LIMIT),
-        Day::from_number(0),
-    ) else {
+    let Some(moment) = Moment::from_seconds(FIRST_MOMENT) else {
         unreachable!();
     };
-    said_in_new_book(alloc, limit, first_day, moment, message)
-}
-
-/// What the host says to a message over a new book.
-fn said_in_new_book(
-    alloc: Global,
-    limit: Limit,
-    first_day: Day,
-    moment: Moment,
-    message: &[u8],
-) -> Result<Output, AllocError>
-    ensures { IfOk result (λ output. output ≡ output_of_new_book
-        (record { limit = limit; first_day = first_day }) moment message.now) }
-{
-    let arrival = Arrival::of_frame(alloc, moment, message)?;
-    let looked = Looked::in_new_book(limit, first_day);
-    let (output, _) = arrival.decide(alloc, &looked)?;
-    Ok(output)
+    let event = Event::Frame(moment, MessageText::from_slice(alloc, message)?);
+    Ok(host.take(&event)?)
 }

@@ -17,7 +17,9 @@ mod wording;
 use crate::{command, once};
 use acq_link::{MemorySink, ReadSource, SliceSource, WriteSink};
 use std::alloc::Global;
+use std::hash::RandomState;
 use std::process::Abort;
+use std::random::RandomSource;
 use std::test::Fail;
 
 /// An echo test as a frame, and the frame that answers it.
@@ -112,7 +114,7 @@ const CASES: [(&str, u8, &str, &str); 18] = [
 
 /// Runs `acqd once` over an input, and compares all that it writes.
 fn runs_as(
-    rt: &impl Abort,
+    rt: &(impl Abort + RandomSource),
     alloc: Global,
     input: &[u8],
     status: u8,
@@ -124,6 +126,7 @@ fn runs_as(
     let mut faults = MemorySink::new(alloc);
     let found = command(
         alloc,
+        RandomState::new(rt)?,
         &["acqd", "once"],
         &mut source,
         &mut sink,
@@ -200,6 +203,7 @@ fn each_read_fails_in_turn(rt: HostRuntime) -> Result<(), Fail> {
         let mut faults = MemorySink::new(alloc);
         let status = command(
             alloc,
+            RandomState::new(&rt)?,
             &["acqd", "once"],
             &mut source,
             &mut sink,
@@ -229,6 +233,7 @@ fn each_write_fails_in_turn(rt: HostRuntime) -> Result<(), Fail> {
         let mut faults = MemorySink::new(alloc);
         let status = command(
             alloc,
+            RandomState::new(&rt)?,
             &["acqd", "once"],
             &mut source,
             &mut sink,
@@ -279,7 +284,14 @@ fn usage_and_help(rt: HostRuntime) -> Result<(), Fail> {
         let mut source = SliceSource::new(ECHO.as_bytes());
         let mut output = MemorySink::new(alloc);
         let mut faults = MemorySink::new(alloc);
-        let status = command(alloc, args, &mut source, &mut output, &mut faults);
+        let status = command(
+            alloc,
+            RandomState::new(&rt)?,
+            args,
+            &mut source,
+            &mut output,
+            &mut faults,
+        );
         assert_eq!(rt; status, want, "for {args:?}");
         let (text_sink, quiet) = if want == 0 {
             (&output, &faults)
@@ -303,7 +315,7 @@ fn a_long_input_is_answered_whole(rt: HostRuntime) -> Result<(), Fail> {
     assert!(rt; input.len() > 6_553_600);
     let mut source = ReadSource::new(input.as_slice());
     let mut sink = WriteSink::new(Vec::new(alloc));
-    once(alloc, &mut source, &mut sink)?;
+    once(alloc, RandomState::new(&rt)?, &mut source, &mut sink)?;
     let written = sink.into_inner();
     let replies = repeated(alloc, ECHO_REPLY.as_bytes(), count)?;
     assert_eq!(rt; written.len(), replies.len());

@@ -19,4 +19,5 @@ loop-rest-preserved g c =
             ∙ append_assoc (g.K.Sink.sent c.args.output.now) so.1 more,
       ),
       omega (arith, c.in_ok-answer.ensures.writes, c.loop-rest.invariant.1),
+      c.in_ok-answer.ensures.unchanged,
     )

@@ -1,4 +1,4 @@
-use Rattle.std.proofs.Common.{[], sym, append-nil}
+use Rattle.std.proofs.Common.{ℕ, List, [], ◌++◌, ◌∙◌, sym, ap, append-nil}
 use Rattle.std.proofs.lemmas.Result.{err_from_is_err_and}
 use Rattle.acqd.proofs.AnsweredFrames.{input_stops}
 use Rattle.acqd.proofs.once.once.Goals as goal
@@ -13,4 +13,15 @@ returns-in_err-bytes-clause-served g c =
       sym (append-nil (g.K.Sink.sent c.args.output.now)),
       rw (p.1, p.2)
           (input_stops c.in_err-bytes.field-0.0 more.0),
+    )
+
+pub returns-clause-served : goal.returns-clause-served
+returns-clause-served g c =
+    let more = c.answer_all.ensures.served in (
+      c.as_slice.result.now,
+      more.0,
+      c.in_ok-bytes.ensures.received
+          ∙ ap (λ (bytes : List ℕ). g.S.Source.received c.args.input.now ++ bytes) (sym c.as_slice.ensures.value),
+      more.1,
+      more.2,
     )

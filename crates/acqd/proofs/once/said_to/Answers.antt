@@ -1,13 +1,21 @@
-use Rattle.std.proofs.Common.{◌≡◌, ℕ, subst, IfOk}
-use Rattle.acq_core.specs.NewBook.{output_of_new_book}
+use Rattle.std.proofs.Common.{◌≡◌, ◌∙◌, ap}
+use Rattle.std.specs.Prelude.{is_ok}
+use Rattle.iso_codec.specs.Reading.{reading_of}
+use Rattle.acq_core.specs.Arrivals.{arrival_of_reading}
+use Rattle.acq_core.specs.Tables.{step_output, step_tables}
+use Rattle.acqd.specs.Once.{widest_opening}
+use Rattle.acqd.proofs.FramesChangeNothing.{frames_change_nothing}
 use Rattle.acqd.proofs.once.said_to.Goals as goal
 
-pub returns : goal.returns
-returns c =
-    let arm = c.in-Some-Some-Some in
-    let Said : ℕ → ℕ → ℕ → Type 0 = λ limit day moment.
-    IfOk c.said_in_new_book.result (λ output. output
-    ≡ output_of_new_book (record { limit = limit; first_day = day }) moment c.args.message.now) in
-    subst (λ (x : ℕ). Said 999999 0 x) arm.ensures.1
-    (subst (λ (x : ℕ). Said 999999 x arm.moment) arm.ensures''.1
-    (subst (λ (x : ℕ). Said x arm.first_day arm.moment) arm.ensures'.1 c.said_in_new_book.ensures))
+pub returns-clause-said : goal.returns-clause-said
+returns-clause-said c =
+    c.in_ok-take.ensures.output tt
+    ∙ (λ i. step_output (c.requires i)
+    (arrival_of_reading (c.in-Some.ensures.1 i) (reading_of (c.in_ok-from_slice.ensures i))))
+
+pub returns-clause-unchanged : goal.returns-clause-unchanged
+returns-clause-unchanged c =
+    c.take.ensures.tables.made (ap is_ok c.in_ok-take.was) tt
+    ∙ (λ i. step_tables (c.requires i)
+    (arrival_of_reading (c.in-Some.ensures.1 i) (reading_of (c.in_ok-from_slice.ensures i))))
+    ∙ frames_change_nothing widest_opening 946684800 c.args.message.now
