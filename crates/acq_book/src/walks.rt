@@ -58,7 +58,8 @@ pub(crate) fn in_order_of_names(mut rows: Vec<&Merchant>) -> Result<Vec<&Merchan
 /// Requests by reference.
 pub(crate) fn in_order_of_references(mut rows: Vec<&Request>) -> Result<Vec<&Request>, AllocError>
     ensures { IfOk result (λ sorted. map deref sorted.items
-        ≡ in_order (λ a b. is_reference_before a.reference b.reference) (map deref rows.entry.items)) }
+        ≡ in_order (λ a b. is_reference_before a.reference b.reference)
+        (map deref rows.entry.items)) }
 {
     rows.sort_by_key(
         |row: &&Request|

@@ -1,6 +1,7 @@
 //! Recorded requests, found by key and by reference.
 
-ghost use Rattle.std.specs.Prelude.{◌≡◌, ◌+◌, ◌<◌, ◌≤◌, ◌++◌, ◌∷◌, ◌&&◌, ℕ, List, [], true, Some, None};
+ghost use Rattle.std.specs.Prelude.{◌≡◌, ◌+◌, ◌<◌, ◌≤◌, ◌++◌, ◌∷◌, ◌&&◌};
+ghost use Rattle.std.specs.Prelude.{ℕ, List, [], true, Some, None};
 ghost use Rattle.std.specs.Prelude.{◌==◌, filter, find, map, slice_get, if◌then◌else◌};
 ghost use Rattle.std.specs.Prelude.{IfSome, IfOk, OnOk, MatchOption};
 ghost use Rattle.std.specs.Map.Iter.{deref};

@@ -66,7 +66,8 @@ impl Terminals {
     /// One more terminal.
     pub fn push(&mut self, row: Terminal)
         requires room { 0 < self.old.room }
-        requires new { list_any (λ old. bytes_eq old.merchant row.merchant && bytes_eq old.id row.id)
+        requires new { list_any
+            (λ old. bytes_eq old.merchant row.merchant && bytes_eq old.id row.id)
             self.old.rows ≡ false }
         ensures { self.new.rows ≡ self.old.rows ++ row ∷ [] }
     {
