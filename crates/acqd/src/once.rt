@@ -55,7 +55,7 @@ fn new_host(alloc: Global, keys: RandomState) -> Host<ListBook>
     else {
         unreachable!();
     };
-    Host::new(alloc, ListBook::new(alloc, keys, limit, first_day))
+    Host::in_memory(alloc, keys, limit, first_day)
 }
 
 /// Answers the frames that the bytes are.

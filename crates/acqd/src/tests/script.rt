@@ -3,10 +3,8 @@
 use super::crowd::add_lot;
 use super::happening::Happening;
 use super::saying::{Saying, text_of};
-use acq_book::ListBook;
 use acq_core::{Event, Limit, Output};
 use acq_host::Host;
-use acq_invariants::{books_are_sound, every_opening};
 use day_totals::Day;
 use std::alloc::Global;
 use std::hash::RandomState;
@@ -44,20 +42,6 @@ pub(super) const SETUP: [Happening; 6] = [
     Happening::AddTerminal("B", "T"),
 ];
 
-/// A host over a new book.
-pub(super) fn new_host(
-    alloc: Global,
-    keys: RandomState,
-    limit: u32,
-    first_day: u32,
-) -> Result<Host<ListBook>, Fail> {
-    let limit = Limit::from_number(limit).ok_or("a limit")?;
-    let first_day = Day::from_number(first_day).ok_or("a day")?;
-    every_opening(limit, first_day);
-    books_are_sound();
-    Ok(Host::new(alloc, ListBook::new(alloc, keys, limit, first_day)))
-}
-
 /// The events of the setup.
 pub(super) fn setup(alloc: Global) -> Result<Vec<Event>, Fail> {
     let mut events = Vec::new(alloc);
@@ -75,7 +59,9 @@ pub(super) fn outputs(
     first_day: u32,
     events: &[Event],
 ) -> Result<Vec<Output>, Fail> {
-    let mut host = new_host(alloc, keys, limit, first_day)?;
+    let limit = Limit::from_number(limit).ok_or("a limit")?;
+    let first_day = Day::from_number(first_day).ok_or("a day")?;
+    let mut host = Host::in_memory(alloc, keys, limit, first_day);
     Ok(host.run(events)?)
 }
 

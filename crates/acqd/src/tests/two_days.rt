@@ -5,13 +5,8 @@ use super::holds::{HOLD, LAST_SECOND};
 use super::reversals::{REVERSAL, REVERSED};
 use super::sales::{SALE, SALE_APPROVED};
 use super::saying::Saying::{Ask, Done, Reply};
-use super::script::{GREATEST_LIMIT, MAY_1, Script, compare, events_among, new_host};
-use acq_book::{BookFault, ListBook};
-use acq_core::{Event, Output};
-use acq_host::Host;
-use std::alloc::Global;
+use super::script::{GREATEST_LIMIT, MAY_1, Script, run_all};
 use std::hash::RandomState;
-use std::process::Abort;
 use std::test::Fail;
 
 pub(super) const TWO_DAYS: Script = Script {
@@ -57,32 +52,7 @@ pub(super) const TWO_DAYS: Script = Script {
     ],
 };
 
-/// What a host says to events. Where memory runs out in it, it goes on from the event that wasn't
-/// taken.
-fn said(rt: &impl Abort, host: &mut Host<ListBook>, events: &[Event]) -> Result<Vec<Output>, Fail> {
-    match host.run(events) {
-        Ok(said) => Ok(said),
-        Err(stop) => {
-            assert_eq!(rt; stop.fault, BookFault::Memory);
-            assert_eq!(rt; stop.outputs.len(), stop.at);
-            let mut said = stop.outputs;
-            let left = events.get(stop.at..).ok_or("a place")?;
-            said.append(&mut host.run(left)?)?;
-            Ok(said)
-        }
-    }
-}
-
-/// Runs the script, and compares all that the host says.
-fn run(rt: &impl Abort, alloc: Global, keys: RandomState) -> Result<(), Fail> {
-    let (events, places) = events_among(alloc, &TWO_DAYS, 0)?;
-    let mut host = new_host(alloc, keys, TWO_DAYS.limit, TWO_DAYS.first_day)?;
-    let outputs = said(rt, &mut host, events.as_slice())?;
-    assert_eq!(rt; outputs.len(), events.len());
-    compare(rt, alloc, &TWO_DAYS, outputs.as_slice(), places.as_slice())
-}
-
 #[test]
 fn two_days(rt: HostRuntime) -> Result<(), Fail> {
-    run(&rt, rt.alloc(), RandomState::new(&rt)?)
+    run_all(&rt, rt.alloc(), RandomState::new(&rt)?, &[TWO_DAYS])
 }
