@@ -8,9 +8,9 @@ use super::script::{GREATEST_LIMIT, MAY_1, Script, run_all, run_among};
 use std::hash::RandomState;
 use std::test::Fail;
 
-/// A sale; one that is reversed; two holds, one of which has expired; one that is completed by three
-/// frames; a sale that is reversed on the next day; and on that day a sale, and a reconciliation
-/// that is out of balance.
+/// A sale; one that is reversed; two holds, one of which has expired; one that is completed by
+/// three frames; a sale that is reversed on the next day; and on that day a sale, and a
+/// reconciliation that is out of balance.
 const OF_ONE_MERCHANT: Script = Script {
     name: "of_one_merchant",
     limit: GREATEST_LIMIT,

@@ -36,8 +36,8 @@ fn enrolments(alloc: Global, events: &mut Vec<Event>) -> Result<(), Fail> {
     Ok(())
 }
 
-/// The frame of a merchant's round, by its place: a sale, a hold, the completion of the hold by less,
-/// or the reversal of the sale. Traces and references count on from round to round.
+/// The frame of a merchant's round, by its place: a sale, a hold, the completion of the hold by
+/// less, or the reversal of the sale. Traces and references count on from round to round.
 fn frame_of(alloc: Global, merchant: u64, round: u64, place: u64) -> Result<Event, Fail> {
     let (name, amount) = (name(alloc, merchant)?, amount(merchant));
     let sale = round.saturating_mul(4);

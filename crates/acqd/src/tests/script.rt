@@ -82,8 +82,8 @@ pub(super) fn compare(
     Ok(())
 }
 
-/// The events of a script behind the setup, and the places of its steps among them. Before each step
-/// there is a lot of another merchant's events, with so many sales; none where these are 0.
+/// The events of a script behind the setup, and the places of its steps among them. Before each
+/// step there is a lot of another merchant's events, with so many sales; none where these are 0.
 pub(super) fn events_among(
     alloc: Global,
     script: &Script,
