@@ -86,10 +86,10 @@ wanted_by-of today (TerminalAdded terminal) =
 -- ---- a merchant's request by its key
 
 -- what is found among all is found among those that pass, where what it is found by implies that
-find-filter : {X : Type 0} (p c : X → Bool) → ((x : X) → c x ≡ true → p x ≡ true) → (xs : List X) →
+find-implied : {X : Type 0} (p c : X → Bool) → ((x : X) → c x ≡ true → p x ≡ true) → (xs : List X) →
     find c (filter p xs) ≡ find c xs
-find-filter p c implies [] = refl
-find-filter {X} p c implies (x ∷ xs) = step (find-filter p c implies xs) (p x) (c x) refl refl
+find-implied p c implies [] = refl
+find-implied {X} p c implies (x ∷ xs) = step (find-implied p c implies xs) (p x) (c x) refl refl
   where
     step : find c (filter p xs) ≡ find c xs → (b d : Bool) → p x ≡ b → c x ≡ d →
         find c (cond b (x ∷ filter p xs) (filter p xs)) ≡ cond d (Some x) (find c xs)
@@ -103,7 +103,7 @@ request_of_merchant : (t : Tables) (m : List ℕ) (o : Option RequestKey) → If
 request_of_merchant t m None of = refl
 request_of_merchant t m (Some key) of =
     ap (option_map prior_of)
-    (sym (find-filter (λ (row : Request). bytes_eq row.key.merchant m) (λ (row : Request). same_key row.key key)
+    (sym (find-implied (λ (row : Request). bytes_eq row.key.merchant m) (λ (row : Request). same_key row.key key)
     (λ row e. bytes_eq_from row.key.merchant m (ap (λ k. k.merchant) (same_key_is row.key key e) ∙ of)) t.requests))
 
 -- ---- all of it

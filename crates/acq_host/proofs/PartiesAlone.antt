@@ -31,12 +31,12 @@ module _ (opening : Opening) (past : List Event) where
   book = book_after opening past
 
   -- a merchant's request gets what its own history gives
-  told_alone : (further before later : List Event) (e : Event) (m : List ℕ) (r : RequestMessage) →
+  said_alone : (further before later : List Event) (e : Event) (m : List ℕ) (r : RequestMessage) →
       further ≡ before ++ e ∷ later → arrival_of e ≡ Requested r → merchant_named (Requested r) ≡ Some m →
       slice_get (outputs book further) (length before)
       ≡ Some (output_of (Some m)
       (outcome (known_by opening (history_of opening (Some m) (past ++ before)) (Requested r)) (Requested r)))
-  told_alone further before later e m r split came named =
+  said_alone further before later e m r split came named =
       let t = book_after opening (past ++ before) in
       let h = history_of opening (Some m) (past ++ before) in
       let then : tables_after book before ≡ book_after opening (past ++ before) =
@@ -52,7 +52,7 @@ module _ (opening : Opening) (past : List Event) where
   gets_balance : (further : List Event) → AreBalanced opening past further (outputs book further)
   gets_balance further before later e m r day split came named reconciles = record {
     balanced = balanced opening day (history_of opening (Some m) (past ++ before)) r reconciles;
-    told_so = told_alone further before later e m r split came named;
+    is_said = said_alone further before later e m r split came named;
   }
 
   ran_alone : (further : List Event) → RanAlone opening past further (outputs book further) (tables_after book further)
@@ -81,10 +81,10 @@ module _ (opening : Opening) (past : List Event) where
 
 -- ---- whatever the past
 
-pub is_alone : (t now : Tables) (further : List Event) (told : List Output) → told ≡ outputs t further →
-    now ≡ tables_after t further → IsAlone t further told now
-is_alone t now further told says after opening past is =
-    subst (RanAlone opening past further told) (sym (after ∙ ap (λ u. tables_after u further) is))
+pub is_alone : (t now : Tables) (further : List Event) (said : List Output) → said ≡ outputs t further →
+    now ≡ tables_after t further → IsAlone t further said now
+is_alone t now further said says after opening past is =
+    subst (RanAlone opening past further said) (sym (after ∙ ap (λ u. tables_after u further) is))
     (subst (λ os. RanAlone opening past further os (tables_after (book_after opening past) further))
     (sym (says ∙ ap (λ u. outputs u further) is)) (ran_alone opening past further))
 

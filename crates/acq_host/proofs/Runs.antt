@@ -47,11 +47,11 @@ after_next t events at e within is =
 -- a book became another by taking these events, to which this was said
 pub record HasTaken {S : Type 0} (tables : S → Tables) (is_honest is_open : S → Type 0)
     (may_leave : S → Tables → Type 0) (failures : S → ℕ) (old new : S) (events : List Event)
-    (told : List Output) : Type 0 where
+    (said : List Output) : Type 0 where
   pub was_honest : is_honest new → is_honest old
   pub was_open : is_open new → is_open old
   pub stays_open : is_honest new → is_open old → is_open new
-  pub says : is_open new → told ≡ outputs (tables old) events
+  pub says : is_open new → said ≡ outputs (tables old) events
   pub leads : is_open new → tables new ≡ tables_after (tables old) events
   pub settled : is_honest new → is_open old → ((t : Tables) → may_leave old t → t ≡ tables old) →
       (t : Tables) → may_leave new t → t ≡ tables new
@@ -70,13 +70,13 @@ module _ {S : Type 0} (tables : S → Tables) (is_honest is_open : S → Type 0)
     rise = omega arith;
   }
 
-  pub took_next : (a b c : S) (events : List Event) (at : ℕ) (e : Event) (told now : List Output) →
+  pub took_next : (a b c : S) (events : List Event) (at : ℕ) (e : Event) (said now : List Output) →
       at < length events → e ≡ get_or events at e →
-      HasTaken tables is_honest is_open may_leave failures a b (take at events) told →
+      HasTaken tables is_honest is_open may_leave failures a b (take at events) said →
       Makes tables is_honest is_open may_leave failures b c true (step_tables (tables b) (arrival_of e)) →
-      (is_open c → now ≡ told ++ step_output (tables b) (arrival_of e) ∷ []) →
+      (is_open c → now ≡ said ++ step_output (tables b) (arrival_of e) ∷ []) →
       HasTaken tables is_honest is_open may_leave failures a c (take (at + 1) events) now
-  took_next a b c events at e told now within is first next adds = record {
+  took_next a b c events at e said now within is first next adds = record {
     was_honest = λ h. first.was_honest (next.was_honest h);
     was_open = λ o. first.was_open (next.was_open o);
     stays_open = λ h o. next.stays_open refl h (first.stays_open (next.was_honest h) o);
@@ -100,13 +100,13 @@ module _ {S : Type 0} (tables : S → Tables) (is_honest is_open : S → Type 0)
   -- ---- where the next event wasn't taken
 
   -- a stop leaves the events before it, or these and the next
-  pub may_stop_at : (a b c : S) (events : List Event) (at : ℕ) (e : Event) (told : List Output) → at < length events →
+  pub may_stop_at : (a b c : S) (events : List Event) (at : ℕ) (e : Event) (said : List Output) → at < length events →
       e ≡ get_or events at e →
-      HasTaken tables is_honest is_open may_leave failures a b (take at events) told →
+      HasTaken tables is_honest is_open may_leave failures a b (take at events) said →
       Makes tables is_honest is_open may_leave failures b c false (step_tables (tables b) (arrival_of e)) →
       is_honest c → is_open a → ((t : Tables) → may_leave a t → t ≡ tables a) → (t : Tables) → may_leave c t →
       (t ≡ after_first at (tables a) events) ⊎ (t ≡ after_first (at + 1) (tables a) events)
-  may_stop_at a b c events at e told within is first next h o only t l =
+  may_stop_at a b c events at e said within is first next h o only t l =
       let before = next.was_honest h in
       let between = first.stays_open before o in
       ⊎_elim (λ was. inl (first.settled before o only t was ∙ first.leads between))

@@ -20,44 +20,44 @@ use Rattle.acq_bookkeeping.specs.Finality.{has_pending}
 -- what a merchant's reconciliation gets: its reply says in balance exactly where what it claims are
 -- the totals over the merchant's own postings
 pub record GetsBalance (opening : Opening) (m : List ℕ) (before : List Event) (r : RequestMessage)
-    (day : ℕ) (told : List Output) (place : ℕ) : Type 0 where
+    (day : ℕ) (said : List Output) (place : ℕ) : Type 0 where
   pub balanced : IsBalanced opening (history_of opening (Some m) before) r day
-  pub told_so :
-      slice_get told place
+  pub is_said :
+      slice_get said place
       ≡ Some (output_of (Some m)
       (outcome (known_by opening (history_of opening (Some m) before) (Requested r)) (Requested r)))
 
 -- each reconciliation among further events that is taken, and whose day resolves, gets its balance
 abbrev pub AreBalanced : Opening → List Event → List Event → List Output → Type 0
-AreBalanced opening past further told =
+AreBalanced opening past further said =
     (before later : List Event) (e : Event) (m : List ℕ) (r : RequestMessage) (day : ℕ) →
     further ≡ before ++ e ∷ later →
     arrival_of e ≡ Requested r →
     merchant_named (Requested r) ≡ Some m →
     let h = history_of opening (Some m) (past ++ before) in
     decision (known_by opening h (Requested r)) (Requested r) ≡ Reconciles r day →
-    GetsBalance opening m (past ++ before) r day told (length before)
+    GetsBalance opening m (past ++ before) r day said (length before)
 
 -- After a past, further events gave these outputs and led to these tables. Each merchant, and
 -- nobody, got what its own events alone give; so it is with a merchant's postings and its open
 -- holds; and each reconciliation got its balance.
-pub record RanAlone (opening : Opening) (past further : List Event) (told : List Output)
+pub record RanAlone (opening : Opening) (past further : List Event) (said : List Output)
     (t : Tables) : Type 0 where
   pub outputs : (party : Party) →
-      outputs_at party further told
+      outputs_at party further said
       ≡ outputs_alone opening party (history_of opening party past) (own party further)
   pub posted : (m : List ℕ) →
       postings_of m t.postings ≡ postings (history_of opening (Some m) (past ++ further))
   pub holds : (m : List ℕ) (moment : ℕ) →
       open_at moment (map prior_of (requests_of m t.requests))
       ≡ open_at moment (map prior (all_recorded (history_of opening (Some m) (past ++ further))))
-  pub balanced : AreBalanced opening past further told
+  pub balanced : AreBalanced opening past further said
 
 -- so it is whatever past led to the tables from which the run began
 abbrev pub IsAlone : Tables → List Event → List Output → Tables → Type 0
-IsAlone t further told now =
+IsAlone t further said now =
     (opening : Opening) (past : List Event) → t ≡ book_after opening past →
-    RanAlone opening past further told now
+    RanAlone opening past further said now
 
 -- What was posted is conserved, and a day that was past, with none of its requests pending, kept
 -- its postings.

@@ -9,6 +9,6 @@ abbrev pub after_first : ℕ → Tables → List Event → Tables
 after_first n t events = tables_after t (take n events)
 
 -- a run stopped at an event, after these outputs to those before it
-pub record StopsAt (t : Tables) (events : List Event) (at : ℕ) (told : List Output) : Type 0 where
+pub record StopsAt (t : Tables) (events : List Event) (at : ℕ) (said : List Output) : Type 0 where
   pub within : at < length events
-  pub outputs : told ≡ outputs t (take at events)
+  pub outputs : said ≡ outputs t (take at events)

@@ -91,8 +91,8 @@ impl<B: Book + Drop> Host<B> {
     /// Takes events in order, to the last or to the first fault, and returns what the host says to
     /// each.
     pub fn run(&mut self, events: &[Event]) -> Result<Vec<Output>, RunFault>
-        ensures outputs { B.is_honest self.new → B.is_open self.old → IfOk result (λ told.
-            told.items ≡ outputs (B.tables self.old) events.now) }
+        ensures outputs { B.is_honest self.new → B.is_open self.old → IfOk result (λ said.
+            said.items ≡ outputs (B.tables self.old) events.now) }
         ensures tables { B.is_honest self.new → B.is_open self.old → OnOk result
             (B.tables self.new ≡ tables_after (B.tables self.old) events.now) }
         // After a fault so it is of the events before it.
@@ -101,8 +101,8 @@ impl<B: Book + Drop> Host<B> {
         ensures fault_tables { B.is_open self.new → IfErr result (λ fault.
             B.tables self.new ≡ after_first fault.at (B.tables self.old) events.now) }
         // Each party got what its own events alone give.
-        ensures alone { B.is_honest self.new → B.is_open self.old → IfOk result (λ told.
-            IsAlone (B.tables self.old) events.now told.items (B.tables self.new)) }
+        ensures alone { B.is_honest self.new → B.is_open self.old → IfOk result (λ said.
+            IsAlone (B.tables self.old) events.now said.items (B.tables self.new)) }
         ensures fault_alone { B.is_open self.new → IfErr result (λ fault.
             IsAlone (B.tables self.old) (take fault.at events.now) fault.outputs.items
             (B.tables self.new)) }
@@ -122,33 +122,33 @@ impl<B: Book + Drop> Host<B> {
         ensures store { IfErr result (λ fault. IfStore {T = Unit {0}} (Err fault.fault)
             (HasRisen (B.failures self.old) (B.failures self.new))) }
     {
-        let mut told = Vec::new(self.alloc);
+        let mut said = Vec::new(self.alloc);
         for (at, event) in events.iter().enumerate() {
-            if let Err(fault) = self.tell(&mut told, event) {
+            if let Err(fault) = self.take_next(&mut said, event) {
                 return Err(RunFault {
                     at,
-                    outputs: told,
+                    outputs: said,
                     fault,
                 });
             }
         }
-        Ok(told)
+        Ok(said)
     }
 
-    /// Takes one event, and puts what the host says to it behind what it told so far.
-    fn tell(&mut self, told: &mut Vec<Output>, event: &Event) -> Result<(), BookFault>
-        ensures told { B.is_open self.new → OnOk result (told.new.items
-            ≡ told.old.items ++ step_output (B.tables self.old) (arrival_of event.now) ∷ []) }
-        ensures kept { OnErr result (told.new.items ≡ told.old.items) }
+    /// Takes one event, and puts what the host says to it behind what it said so far.
+    fn take_next(&mut self, said: &mut Vec<Output>, event: &Event) -> Result<(), BookFault>
+        ensures said { B.is_open self.new → OnOk result (said.new.items
+            ≡ said.old.items ++ step_output (B.tables self.old) (arrival_of event.now) ∷ []) }
+        ensures kept { OnErr result (said.new.items ≡ said.old.items) }
         ensures tables { Makes B.tables B.is_honest B.is_open B.may_leave B.failures
             self.old self.new (is_ok result)
             (step_tables (B.tables self.old) (arrival_of event.now)) }
         ensures store { IfStore result (HasRisen (B.failures self.old) (B.failures self.new)) }
     {
         // Once the event is taken nothing may fail, so the place of its output is taken first.
-        told.reserve(1)?;
+        said.reserve(1)?;
         let output = self.take(event)?;
-        told.push(output).unwrap();
+        said.push(output).unwrap();
         Ok(())
     }
 }

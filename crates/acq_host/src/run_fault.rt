@@ -3,8 +3,8 @@
 use acq_book::BookFault;
 use acq_core::Output;
 
-/// Why a run of events stopped before its end. The host holds what the events before made of it, so
-/// a run can go on from there.
+/// Why a run of events stopped before its end. A host whose book is still open holds the tables
+/// after the events before the one that wasn't taken, so a run can go on from there.
 #[derive(Debug, Drop)]
 pub struct RunFault {
     /// The place of the event that wasn't taken, from 0 on.

@@ -10,17 +10,17 @@ use Rattle.acq_host.proofs.host.Host.run.Goals as goal
 pub loop-at-preserved : goal.loop-at-preserved
 loop-at-preserved g c =
     took_next g.B.Book.tables g.B.Book.is_honest g.B.Book.is_open g.B.Book.may_leave g.B.Book.failures
-    c.args.self.now c.loop-at.self c.tell.new.self c.args.events.now c.loop-at.at c.index-events-at.result
-    c.loop-at.told.items c.tell.new.told.items (omega arith) c.index-events-at.is c.loop-at.invariant
-    c.in_default.ensures.tables c.in_default.ensures.told
+    c.args.self.now c.loop-at.self c.take_next.new.self c.args.events.now c.loop-at.at c.index-events-at.result
+    c.loop-at.said.items c.take_next.new.said.items (omega arith) c.index-events-at.is c.loop-at.invariant
+    c.in_default.ensures.tables c.in_default.ensures.said
 
 pub returns-in-Err-clause-fault_alone : goal.returns-in-Err-clause-fault_alone
 returns-in-Err-clause-fault_alone g c = λ o.
     let makes = c.in-Err.ensures.tables in
     let first = c.loop-at.invariant in
     let between = makes.was_open o in
-    is_alone (g.B.Book.tables c.args.self.now) (g.B.Book.tables c.tell.new.self) (take c.loop-at.at c.args.events.now)
-    c.tell.new.told.items
+    is_alone (g.B.Book.tables c.args.self.now) (g.B.Book.tables c.take_next.new.self) (take c.loop-at.at c.args.events.now)
+    c.take_next.new.said.items
     (c.in-Err.ensures.kept ∙ first.says between)
     (makes.unmade refl o ∙ first.leads between)
 
@@ -29,7 +29,7 @@ returns-in-Err-clause-postings g c = λ o.
     let makes = c.in-Err.ensures.tables in
     let first = c.loop-at.invariant in
     let between = makes.was_open o in
-    keeps_postings (g.B.Book.tables c.args.self.now) (g.B.Book.tables c.tell.new.self)
+    keeps_postings (g.B.Book.tables c.args.self.now) (g.B.Book.tables c.take_next.new.self)
     (take c.loop-at.at c.args.events.now)
     (subst (λ b. g.B.Book.is_open b → HasPast (g.B.Book.tables b)) c.self.view_is c.self.invariant
     (first.was_open between))
@@ -38,8 +38,8 @@ returns-in-Err-clause-postings g c = λ o.
 pub returns-in-Err-clause-fault_stop : goal.returns-in-Err-clause-fault_stop
 returns-in-Err-clause-fault_stop g c =
     may_stop_at g.B.Book.tables g.B.Book.is_honest g.B.Book.is_open g.B.Book.may_leave g.B.Book.failures
-    c.args.self.now c.loop-at.self c.tell.new.self c.args.events.now c.loop-at.at c.index-events-at.result
-    c.loop-at.told.items (omega arith) c.index-events-at.is c.loop-at.invariant c.in-Err.ensures.tables
+    c.args.self.now c.loop-at.self c.take_next.new.self c.args.events.now c.loop-at.at c.index-events-at.result
+    c.loop-at.said.items (omega arith) c.index-events-at.is c.loop-at.invariant c.in-Err.ensures.tables
 
 pub returns-clause-alone : goal.returns-clause-alone
 returns-clause-alone g c = λ h o.
@@ -47,7 +47,7 @@ returns-clause-alone g c = λ h o.
     let whole = take_all c.loop-at.at all c.loop-at-test.false in
     let t = g.B.Book.tables c.args.self.now in
     let first = c.loop-at.invariant in
-    is_alone t (g.B.Book.tables c.loop-at.self) all c.loop-at.told.items
+    is_alone t (g.B.Book.tables c.loop-at.self) all c.loop-at.said.items
     (first.says (first.stays_open h o) ∙ ap (outputs t) whole)
     (first.leads (first.stays_open h o) ∙ ap (tables_after t) whole)
 
