@@ -1,7 +1,8 @@
 //! The prefixes of one issuer's cards.
 
 ghost use Rattle.std.specs.Prelude.{◌≡◌, IfOk};
-ghost use Rattle.card_no.specs.Ranges.{is_issuer, is_valid_range, holds_prefix, overlaps, has_ends};
+ghost use Rattle.card_no.specs.Ranges.{is_issuer, is_valid_range, holds_prefix, overlaps, between};
+ghost use Rattle.card_no.specs.Ranges.{has_ends};
 
 use crate::digits::all_digits;
 use crate::issuer_id::IssuerId;
@@ -48,11 +49,11 @@ impl Range {
         self.low <= number && number <= self.high
     }
 
-    /// Whether some prefix lies in both ranges.
-    pub fn overlaps(&self, other: &Range) -> bool
-        ensures { result ≡ overlaps self.now other.now }
+    /// Whether a range with these ends overlaps this one: neither begins behind the other.
+    pub fn overlaps(&self, low: u32, high: u32) -> bool
+        ensures { result ≡ overlaps (between low high) self.now }
     {
-        self.low <= other.high && other.low <= self.high
+        low <= self.high && self.low <= high
     }
 
     /// A copy.

@@ -5,7 +5,7 @@ ghost use Rattle.std.specs.Prelude.{find, Some, None, Err, IsOk, IfErr, OnOk, On
 ghost use Rattle.std.specs.List.{AllWithin};
 ghost use Rattle.std.specs.Option.{option_copied};
 ghost use Rattle.card_no.specs.Ranges.{are_ranges, is_valid_range, holds_prefix, has_ends};
-ghost use Rattle.card_no.specs.Ranges.{range_of_prefix, IsRangeOf, overlaps, overlapped_by};
+ghost use Rattle.card_no.specs.Ranges.{range_of_prefix, IsRangeOf, between, overlapped_by};
 ghost use Rattle.card_no.specs.Ranges.{with_range, has_range, without_range};
 ghost use Rattle.card_no.specs.RangeChanges.{add_fault, remove_fault};
 ghost use Rattle.card_no.specs.declared.range.Range as declared_range;
@@ -62,6 +62,14 @@ impl RangeList {
         holding(self.ranges.as_slice(), prefix)
     }
 
+    /// Of the ranges that overlap one with these ends, that of least `low`, if there is one. It
+    /// goes over the ranges, and takes no memory.
+    pub fn overlapping(&self, low: u32, high: u32) -> Option<&Range>
+        ensures { option_copied result ≡ overlapped_by (between low high) self.now }
+    {
+        self.ranges.iter().find(|range| range.overlaps(low, high))
+    }
+
     /// Adds a range at its place. A bad value is reported before an overlap. An `Err` changes
     /// nothing.
     pub fn add(&mut self, range: Range) -> Result<(), RangeFault>
@@ -80,7 +88,7 @@ impl RangeList {
         if !range.is_valid() {
             return Err(RangeFault::BadRange);
         }
-        if let Some(other) = first_overlapping(self.ranges.as_slice(), &range) {
+        if let Some(other) = self.overlapping(range.low, range.high) {
             return Err(RangeFault::Overlap(other.clone()?));
         }
         let place = place(self.ranges.as_slice(), &range);
@@ -125,13 +133,6 @@ fn begun_at(ranges: &[Range], prefix: Prefix) -> usize
 {
     let number = prefix.number();
     ranges.partition_point(|range| range.low <= number)
-}
-
-/// The first range that overlaps one.
-fn first_overlapping<'a>(ranges: &'a [Range], range: &Range) -> Option<&'a Range>
-    ensures { option_copied result ≡ overlapped_by range.now ranges.now }
-{
-    ranges.iter().find(|other| range.overlaps(other))
 }
 
 /// Where a range goes, in order of `low`.
