@@ -1,5 +1,6 @@
 -- The maps beside the requests, when a request is edited.
-use Rattle.std.proofs.Common.{◌≡◌, ℕ, ◌+◌, List, [], ◌∷◌, Bool, true, false, cond, Some, None, Option, refl, sym, ap, ◌∙◌, subst, arith, eqb, if◌then◌else◌, IfSome}
+use Rattle.std.proofs.Common.{◌≡◌, ℕ, ◌+◌, List, [], ◌∷◌, Bool, true, false, cond, Some, None, Option, refl, sym, ap}
+use Rattle.std.proofs.Common.{◌∙◌, subst, arith, eqb, if◌then◌else◌, IfSome}
 use Rattle.std.specs.Prelude.{◌&&◌, find, is_some}
 use Rattle.std.specs.Map.{values_of}
 use Rattle.std.specs.Str.{bytes_eq}
@@ -29,8 +30,10 @@ pub record IsUnseen (f : Request → Request) : Type 0 where
 
 module _ (k : RequestKey) (f : Request → Request) (u : IsUnseen f) where
   -- a test of what the edit leaves
-  same_at : {Y : Type 0} (p : Request → Y) → ((row : Request) → p (f row) ≡ p row) → (row : Request) → p (if same_key row.key k then f row else row) ≡ p row
-  same_at p same row = elim (same_key row.key k) as (λ b. p (if b then f row else row) ≡ p row) [ true ↦ same row | false ↦ refl ]
+  same_at : {Y : Type 0} (p : Request → Y) → ((row : Request) → p (f row) ≡ p row) → (row : Request) →
+      p (if same_key row.key k then f row else row) ≡ p row
+  same_at p same row =
+      elim (same_key row.key k) as (λ b. p (if b then f row else row) ≡ p row) [ true ↦ same row | false ↦ refl ]
 
   merchant : (m : List ℕ) (row : Request) → bytes_eq (f row).key.merchant m ≡ bytes_eq row.key.merchant m
   merchant m row = ap (λ x. bytes_eq x.merchant m) (u.key row)
@@ -52,13 +55,18 @@ module _ (k : RequestKey) (f : Request → Request) (u : IsUnseen f) where
       (same_at (λ row. bytes_eq row.key.merchant m) (merchant m)) rows
 
   -- the maps are of the edited rows
-  pub requests_changed : (s : Inside) (rows : IndexMap RequestKey Request _) → HasRequests s → rows.entries ≡ changed_at (key_eq k) f s.rows.entries → IsUnique key_eq s.rows → spare rows ≡ spare s.rows → HasRequests (record s { rows = rows })
+  pub requests_changed : (s : Inside) (rows : IndexMap RequestKey Request _) → HasRequests s →
+      rows.entries ≡ changed_at (key_eq k) f s.rows.entries → IsUnique key_eq s.rows → spare rows ≡ spare s.rows →
+      HasRequests (record s { rows = rows })
   requests_changed s rows was entries unique room =
-      let edited : values_of rows.entries ≡ with_changed k f (values_of s.rows.entries) = ap values_of entries ∙ changed-rows k f s.rows.entries was.keyed unique in
+      let edited : values_of rows.entries ≡ with_changed k f (values_of s.rows.entries) =
+      ap values_of entries ∙ changed-rows k f s.rows.entries was.keyed unique in
       record {
         keyed = subst (IsKeyedBy key_of) (sym entries) (changed-keyed k f u.key s.rows.entries was.keyed);
         places = λ r. was.places r ∙ sym (ap (place (refers r)) edited
-            ∙ place-map (refers r) (λ row. if same_key row.key k then f row else row) (same_at (refers r) (λ row i. bytes_eq (u.key row i).merchant r.merchant && is_number r.reference (u.reference row i))) (values_of s.rows.entries));
+            ∙ place-map (refers r) (λ row. if same_key row.key k then f row else row)
+            (same_at (refers r) (λ row i. bytes_eq (u.key row i).merchant r.merchant
+            && is_number r.reference (u.reference row i))) (values_of s.rows.entries));
         used = λ d. was.used d ∙ sym (ap (λ l. used_in (requests_of d.merchant l) d.day) edited
             ∙ used-map d.merchant d.day (values_of s.rows.entries));
         admitted = λ m. was.admitted m ∙ sym (ap (λ l. admitted_in (requests_of m l)) edited
@@ -69,11 +77,13 @@ module _ (k : RequestKey) (f : Request → Request) (u : IsUnseen f) where
         room_admitted = was.room_admitted;
       }
 
-  rest : (x : Request) (b : Bool) (o n : Option Request) → (o ≡ None → n ≡ None) → cond b (Some x) o ≡ None → cond b (Some (if same_key x.key k then f x else x)) n ≡ None
+  rest : (x : Request) (b : Bool) (o n : Option Request) → (o ≡ None → n ≡ None) → cond b (Some x) o ≡ None →
+      cond b (Some (if same_key x.key k then f x else x)) n ≡ None
   rest x true o n h e = absurd (let no : ◌≡◌ {A = Option Request} (Some x) None = e in cc)
   rest x false o n h e = h e
 
-  find-map : (p : Request → Bool) → ((row : Request) → p (f row) ≡ p row) → (rows : List Request) → find p rows ≡ None → find p (with_changed k f rows) ≡ None
+  find-map : (p : Request → Bool) → ((row : Request) → p (f row) ≡ p row) → (rows : List Request) → find p rows ≡ None →
+      find p (with_changed k f rows) ≡ None
   find-map p same [] = λ e. refl
   find-map p same (x ∷ xs) = λ e.
       ap (λ b. cond b (Some (if same_key x.key k then f x else x)) (find p (with_changed k f xs))) (same_at p same x)
@@ -88,16 +98,23 @@ module _ (k : RequestKey) (f : Request → Request) (u : IsUnseen f) where
     admitted = λ e. ap (λ n. is_admitted_count (1 + n)) (admitted-map row.key.merchant rows) ∙ new.admitted e;
   }
     where
-      by : (o : Option ℕ) → IfSome o (λ n. find (λ old. is_number n old.reference) (requests_of row.key.merchant rows) ≡ None) → IfSome o (λ n. find (λ old. is_number n old.reference) (requests_of row.key.merchant (with_changed k f rows)) ≡ None)
+      by : (o : Option ℕ) →
+          IfSome o (λ n. find (λ old. is_number n old.reference) (requests_of row.key.merchant rows) ≡ None) →
+          IfSome o (λ n. find (λ old. is_number n old.reference) (requests_of row.key.merchant (with_changed k f rows))
+          ≡ None)
       by None h = h
       by (Some n) h =
-          find-filter (λ old. bytes_eq old.key.merchant row.key.merchant) (λ old. is_number n old.reference) (with_changed k f rows)
-          ∙ find-map (λ old. bytes_eq old.key.merchant row.key.merchant && is_number n old.reference) (λ old i. bytes_eq (u.key old i).merchant row.key.merchant && is_number n (u.reference old i)) rows
-          (sym (find-filter (λ old. bytes_eq old.key.merchant row.key.merchant) (λ old. is_number n old.reference) rows) ∙ h)
+          find-filter (λ old. bytes_eq old.key.merchant row.key.merchant) (λ old. is_number n old.reference)
+          (with_changed k f rows)
+          ∙ find-map (λ old. bytes_eq old.key.merchant row.key.merchant && is_number n old.reference)
+          (λ old i. bytes_eq (u.key old i).merchant row.key.merchant && is_number n (u.reference old i)) rows
+          (sym (find-filter (λ old. bytes_eq old.key.merchant row.key.merchant) (λ old. is_number n old.reference) rows)
+          ∙ h)
 
 pub edit_follow : (status : Status) → IsUnseen (followed_row status)
 edit_follow status = record { key = λ row. refl; reference = λ row. refl; admitted = λ row. refl; day = λ row. refl }
 
-pub edit_answer : (status : Status) (reply : IsoMessage) (hold_end : Option ℕ) → IsUnseen (answered_row status reply hold_end)
+pub edit_answer : (status : Status) (reply : IsoMessage) (hold_end : Option ℕ) →
+    IsUnseen (answered_row status reply hold_end)
 edit_answer status reply hold_end =
     record { key = λ row. refl; reference = λ row. refl; admitted = λ row. refl; day = λ row. refl }

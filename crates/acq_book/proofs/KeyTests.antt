@@ -4,7 +4,8 @@ use Rattle.std.specs.Prelude.{◌&&◌}
 use Rattle.std.specs.Str.{bytes_eq}
 use Rattle.std.specs.Cmp.Lexicographic.{nat_list_eq_equiv}
 use Rattle.acq_message.specs.declared.service.Service.{Service}
-use Rattle.acq_message.specs.declared.service.Service.TheVariants.{Authorization, Financial, Completion, Reversal, ReversalAdvice, Reconciliation, NetworkManagement}
+use Rattle.acq_message.specs.declared.service.Service.TheVariants.{Authorization, Financial, Completion, Reversal}
+use Rattle.acq_message.specs.declared.service.Service.TheVariants.{ReversalAdvice, Reconciliation, NetworkManagement}
 use Rattle.acq_message.specs.contracts.service.ServicePartialEq.TheImpl as service_block
 use Rattle.acq_core.specs.declared.terminal.Terminal.{Terminal}
 use Rattle.acq_book.specs.declared.lists.merchant_terminal.MerchantTerminal.{MerchantTerminal}
@@ -76,8 +77,12 @@ regroup true true true d e = refl
 -- `==` of keys is the test of the definitions, turned round
 pub key_eq-same : (a b : RequestKey) → key_eq a b ≡ same_key b a
 key_eq-same a b =
-    regroup (bytes_eq a.merchant b.merchant) (bytes_eq a.terminal b.terminal) ((service_block.ghosts).eq a.service b.service) (bytes_eq a.trace b.trace) (bytes_eq a.transmission b.transmission)
-    ∙ (λ i. text_swap a.merchant b.merchant i && text_swap a.terminal b.terminal i && service_eq-same a.service b.service i && text_swap a.trace b.trace i && text_swap a.transmission b.transmission i)
+    regroup (bytes_eq a.merchant b.merchant) (bytes_eq a.terminal b.terminal)
+    ((service_block.ghosts).eq a.service b.service) (bytes_eq a.trace b.trace)
+    (bytes_eq a.transmission b.transmission)
+    ∙ (λ i. text_swap a.merchant b.merchant i && text_swap a.terminal b.terminal i
+    && service_eq-same a.service b.service i && text_swap a.trace b.trace i
+    && text_swap a.transmission b.transmission i)
 
 pub terminal_eq-same : (k : MerchantTerminal) (row : Terminal)
     → terminal_eq k (key_of_terminal row) ≡ (bytes_eq row.merchant k.merchant && bytes_eq row.id k.id)

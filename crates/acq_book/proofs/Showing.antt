@@ -1,5 +1,6 @@
 -- What a visitor has seen, as far as a walk has come.
-use Rattle.std.proofs.Common.{◌≡◌, ℕ, ◌+◌, ◌<◌, ◌≤◌, List, ◌∷◌, true, false, refl, sym, ap, ◌∙◌, subst, drop, map, length, slice_index_or, Bool, Bor, inl, inr}
+use Rattle.std.proofs.Common.{◌≡◌, ℕ, ◌+◌, ◌<◌, ◌≤◌, List, ◌∷◌, true, false, refl, sym, ap, ◌∙◌, subst, drop, map}
+use Rattle.std.proofs.Common.{length, slice_index_or, Bool, Bor, inl, inr}
 use Rattle.std.proofs.Common.{drop-cons, add-one}
 use Rattle.std.proofs.lemmas.List.{drop_all}
 use Rattle.std.specs.Map.Iter.{deref}
@@ -13,7 +14,8 @@ module _ {Row V : Type 0} (sees : V → Row → Bool → V → Type 0) (rows : L
   split : (i : ℕ) (row : Bor Row) → i < length rows → row ≡ slice_index_or rows i row
       → drop i rows ≡ row ∷ drop (i + 1) rows
   split i row within is =
-      let e : slice_index_or rows i row ∷ drop (i + 1) rows ≡ row ∷ drop (i + 1) rows = ap (λ x. x ∷ drop (i + 1) rows) (sym is) in
+      let e : slice_index_or rows i row ∷ drop (i + 1) rows ≡ row ∷ drop (i + 1) rows =
+      ap (λ x. x ∷ drop (i + 1) rows) (sym is) in
       (rw (add-one, drop-cons rows i row)) ∙ e
 
   pub lead-more : (i : ℕ) (row : Bor Row) (v u : V) → i < length rows → row ≡ slice_index_or rows i row

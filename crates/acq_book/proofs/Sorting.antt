@@ -62,7 +62,8 @@ module _ {X : Type 0} (lt : X → X → Bool) (o : IsStrictWeakOrder lt) where
   rising : (xs : List X) → IsSortedBy lt xs → IsRising xs
   rising xs up = from xs (λ i j d. sorted_far lt o xs up i j d)
     where
-      from : (ys : List X) → ((i j : ℕ) (d : X) → i ≤ j → j < length ys → lt (get_or ys j d) (get_or ys i d) ≡ false) → IsRising ys
+      from : (ys : List X) → ((i j : ℕ) (d : X) → i ≤ j → j < length ys → lt (get_or ys j d) (get_or ys i d) ≡ false) →
+          IsRising ys
       from [] h = tt
       from (y ∷ ys) h = (
         all-places (λ u. lt u y ≡ false) y ys (λ j within. h 0 (suc j) y (omega arith) (omega arith)),
@@ -85,7 +86,8 @@ module _ {X : Type 0} (lt : X → X → Bool) (o : IsStrictWeakOrder lt) where
   rising-put x [] h = (tt, tt)
   rising-put x (y ∷ ys) h = at (rising-put x ys h.1) (lt y x) refl
     where
-      at : IsRising (put_in_order lt x ys) → (b : Bool) → lt y x ≡ b → IsRising (cond b (y ∷ put_in_order lt x ys) (x ∷ y ∷ ys))
+      at : IsRising (put_in_order lt x ys) → (b : Bool) → lt y x ≡ b →
+          IsRising (cond b (y ∷ put_in_order lt x ys) (x ∷ y ∷ ys))
       at rest true e = (all-put (λ u. lt u y ≡ false) x ys (o.one_way y x e) h.0, rest)
       at rest false e = ((e, all-chain x y e ys h.0), h)
 
@@ -115,7 +117,8 @@ module _ {X : Type 0} (lt : X → X → Bool) (o : IsStrictWeakOrder lt) where
           → filter (ties lt a) (cond b (y ∷ put_in_order lt x ys) (x ∷ y ∷ ys)) ≡ filter (ties lt a) (x ∷ y ∷ ys)
       at rest true e =
           ap (λ l. cond (ties lt a y) (y ∷ l) l) rest
-          ∙ swap (ties lt a x) (ties lt a y) (both e (lt a x) (lt x a) (lt a y) (lt y a) refl refl refl refl) (filter (ties lt a) ys)
+          ∙ swap (ties lt a x) (ties lt a y) (both e (lt a x) (lt x a) (lt a y) (lt y a) refl refl refl refl)
+          (filter (ties lt a) ys)
       at rest false e = refl
 
   stable-in_order : (a : X) (xs : List X) → filter (ties lt a) (in_order lt xs) ≡ filter (ties lt a) xs
@@ -125,17 +128,29 @@ module _ {X : Type 0} (lt : X → X → Bool) (o : IsStrictWeakOrder lt) where
       ∙ ap (λ l. cond (ties lt a x) (x ∷ l) l) (stable-in_order a xs)
 
   -- rows that rise are told by their ties
-  alike : (ys zs : List X) → IsRising ys → IsRising zs → ((a : X) → filter (ties lt a) ys ≡ filter (ties lt a) zs) → ys ≡ zs
+  alike : (ys zs : List X) → IsRising ys → IsRising zs → ((a : X) → filter (ties lt a) ys ≡ filter (ties lt a) zs) →
+      ys ≡ zs
   alike [] [] hy hz same = refl
-  alike [] (z ∷ zs) hy hz same = absurd (let h : ◌≡◌ {A = List X} [] (z ∷ filter (ties lt z) zs) = same z ∙ ap (λ b. cond b (z ∷ filter (ties lt z) zs) (filter (ties lt z) zs)) (self-ties z) in cc)
-  alike (y ∷ ys) [] hy hz same = absurd (let h : ◌≡◌ {A = List X} (y ∷ filter (ties lt y) ys) [] = sym (ap (λ b. cond b (y ∷ filter (ties lt y) ys) (filter (ties lt y) ys)) (self-ties y)) ∙ same y in cc)
+  alike [] (z ∷ zs) hy hz same =
+      absurd (let h : ◌≡◌ {A = List X} [] (z ∷ filter (ties lt z) zs) = same z
+      ∙ ap (λ b. cond b (z ∷ filter (ties lt z) zs) (filter (ties lt z) zs)) (self-ties z) in cc)
+  alike (y ∷ ys) [] hy hz same =
+      absurd (let h : ◌≡◌ {A = List X} (y ∷ filter (ties lt y) ys) [] = sym
+      (ap (λ b. cond b (y ∷ filter (ties lt y) ys) (filter (ties lt y) ys)) (self-ties y)) ∙ same y in cc)
   alike (y ∷ ys) (z ∷ zs) hy hz same =
-      let first_y : filter (ties lt y) (y ∷ ys) ≡ y ∷ filter (ties lt y) ys = ap (λ b. cond b (y ∷ filter (ties lt y) ys) (filter (ties lt y) ys)) (self-ties y) in
-      let first_z : filter (ties lt z) (z ∷ zs) ≡ z ∷ filter (ties lt z) zs = ap (λ b. cond b (z ∷ filter (ties lt z) zs) (filter (ties lt z) zs)) (self-ties z) in
-      let least_z : lt y z ≡ false = head-holds (λ u. lt u z ≡ false) (ties lt y) (z ∷ zs) y (filter (ties lt y) ys) (itself z, hz.0) (sym (same y) ∙ first_y) in
-      let least_y : lt z y ≡ false = head-holds (λ u. lt u y ≡ false) (ties lt z) (y ∷ ys) z (filter (ties lt z) zs) (itself y, hy.0) (same z ∙ first_z) in
+      let first_y : filter (ties lt y) (y ∷ ys) ≡ y ∷ filter (ties lt y) ys =
+      ap (λ b. cond b (y ∷ filter (ties lt y) ys) (filter (ties lt y) ys)) (self-ties y) in
+      let first_z : filter (ties lt z) (z ∷ zs) ≡ z ∷ filter (ties lt z) zs =
+      ap (λ b. cond b (z ∷ filter (ties lt z) zs) (filter (ties lt z) zs)) (self-ties z) in
+      let least_z : lt y z ≡ false =
+      head-holds (λ u. lt u z ≡ false) (ties lt y) (z ∷ zs) y (filter (ties lt y) ys) (itself z, hz.0)
+      (sym (same y) ∙ first_y) in
+      let least_y : lt z y ≡ false =
+      head-holds (λ u. lt u y ≡ false) (ties lt z) (y ∷ ys) z (filter (ties lt z) zs) (itself y, hy.0)
+      (same z ∙ first_z) in
       let tie : ties lt y z ≡ true = (λ i. not (least_z i) && not (least_y i)) in
-      let heads : y ∷ filter (ties lt y) ys ≡ z ∷ filter (ties lt y) zs = sym first_y ∙ (same y ∙ ap (λ b. cond b (z ∷ filter (ties lt y) zs) (filter (ties lt y) zs)) tie) in
+      let heads : y ∷ filter (ties lt y) ys ≡ z ∷ filter (ties lt y) zs =
+      sym first_y ∙ (same y ∙ ap (λ b. cond b (z ∷ filter (ties lt y) zs) (filter (ties lt y) zs)) tie) in
       let head : y ≡ z = cc in
       λ i. head i ∷ alike ys zs hy.1 hz.1 (λ a. rest a head) i
     where
@@ -150,7 +165,8 @@ module _ {X : Type 0} (lt : X → X → Bool) (o : IsStrictWeakOrder lt) where
       rest a head = at (ties lt a y) (ties lt a z) (ap (ties lt a) head) (same a)
         where
           at : (b c : Bool) → b ≡ c → cond b (y ∷ filter (ties lt a) ys) (filter (ties lt a) ys)
-              ≡ cond c (z ∷ filter (ties lt a) zs) (filter (ties lt a) zs) → filter (ties lt a) ys ≡ filter (ties lt a) zs
+              ≡ cond c (z ∷ filter (ties lt a) zs) (filter (ties lt a) zs) →
+              filter (ties lt a) ys ≡ filter (ties lt a) zs
           at true true e whole = cc
           at true false e whole = absurd (true≢false e)
           at false true e whole = absurd (true≢false (sym e))

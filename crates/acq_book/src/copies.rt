@@ -3,35 +3,9 @@
 ghost use Rattle.std.specs.Prelude.{◌≡◌, IfOk};
 ghost use Rattle.std.specs.Option.{option_copied};
 
-use acq_core::{ElementContent, Posting, Request};
+use acq_core::{Posting, Request};
 use card_no::Range;
 use std::alloc::{AllocError, Global};
-
-/// A copy of a request.
-pub(crate) fn request_copied(alloc: Global, row: &Request) -> Result<Request, AllocError>
-    ensures { IfOk result (λ copy. copy ≡ row.now) }
-{
-    let essence = row.essence.copied(alloc)?;
-    let card = content_copied(alloc, &row.card)?;
-    let acquirer = content_copied(alloc, &row.acquirer)?;
-    let reply = row.reply.copied(alloc)?;
-    Ok(Request {
-        key: row.key,
-        essence,
-        day: row.day,
-        status: row.status,
-        admitted: row.admitted,
-        reference: row.reference,
-        follows: row.follows,
-        amount: row.amount,
-        leg: row.leg,
-        card,
-        acquirer,
-        hold_days: row.hold_days,
-        hold_end: row.hold_end,
-        reply,
-    })
-}
 
 /// A copy of a request, where one was found.
 pub(crate) fn found_copied(
@@ -41,7 +15,7 @@ pub(crate) fn found_copied(
     ensures { IfOk result (λ copy. copy ≡ option_copied row.entry) }
 {
     match row {
-        Some(row) => Ok(Some(request_copied(alloc, row)?)),
+        Some(row) => Ok(Some(row.copied(alloc)?)),
         None => Ok(None),
     }
 }
@@ -67,28 +41,7 @@ pub(crate) fn posting_copied(
     ensures { IfOk result (λ copy. copy ≡ posting.now) }
 {
     match posting {
-        Some(posting) => Ok(Some(Posting {
-            merchant: posting.merchant,
-            day: posting.day,
-            leg: posting.leg,
-            amount: posting.amount,
-            reference: posting.reference,
-            card: posting.card.copied(alloc)?,
-            terminal: posting.terminal,
-            trace: posting.trace,
-        })),
-        None => Ok(None),
-    }
-}
-
-fn content_copied(
-    alloc: Global,
-    content: &Option<ElementContent>,
-) -> Result<Option<ElementContent>, AllocError>
-    ensures { IfOk result (λ copy. copy ≡ content.now) }
-{
-    match content {
-        Some(content) => Ok(Some(content.copied(alloc)?)),
+        Some(posting) => Ok(Some(posting.copied(alloc)?)),
         None => Ok(None),
     }
 }

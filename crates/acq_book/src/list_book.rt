@@ -1,15 +1,13 @@
 //! A book in memory.
 
 ghost use Rattle.std.specs.Prelude.{◌≡◌, OnOk, OnErr};
-ghost use Rattle.std.specs.Option.{option_copied};
-ghost use Rattle.card_no.specs.Ranges.{between, overlapped_by};
 ghost use Rattle.acq_core.specs.declared.change.Change.TheVariants as change;
 ghost use Rattle.acq_core.specs.Tables.{after, new_tables};
 ghost use Rattle.acq_book.specs.Fits.{Fits};
 
 use crate::book::Book;
 use crate::book_fault::BookFault;
-use crate::copies::{found_copied, posting_copied, range_copied, request_copied};
+use crate::copies::{found_copied, posting_copied, range_copied};
 use crate::lists::{Merchants, Postings, Reconciliations, Requests, Terminals};
 use crate::visit::Visit;
 use crate::walks::{in_order_of_names, in_order_of_numbers, in_order_of_references, show};
@@ -24,8 +22,9 @@ use std::alloc::{AllocError, Global};
 use std::hash::RandomState;
 use std::marker::Model;
 
-/// The tables, in memory. Contracts see them alone. No look-up goes over all rows, but that of the
-/// pending requests and the walks, which serve reports.
+/// The tables, in memory. Contracts see them alone. No look-up goes over all rows of a table, but
+/// that of an overlap, which goes over the ranges, and those of the pending requests and the walks,
+/// which serve reports.
 #[derive(Drop)]
 pub struct ListBook {
     alloc: Global,
@@ -122,7 +121,7 @@ impl ListBook {
         ensures ok { OnOk result (self.new ≡ after self.old (change.AddRequest row.now)) }
         ensures err { OnErr result (self.new ≡ self.old) }
     {
-        let row = request_copied(self.alloc, row)?;
+        let row = row.copied(self.alloc)?;
         self.requests.reserve()?;
         self.requests.push(row);
         Ok(())
@@ -163,7 +162,7 @@ impl ListBook {
             (change.Follow request.now original.now status posting.now)) }
         ensures err { OnErr result (self.new ≡ self.old) }
     {
-        let request = request_copied(self.alloc, request)?;
+        let request = request.copied(self.alloc)?;
         let posting = posting_copied(self.alloc, posting)?;
         self.requests.reserve()?;
         self.postings.reserve()?;
@@ -183,7 +182,7 @@ impl ListBook {
             (change.Reconciled request.now reconciliation.now)) }
         ensures err { OnErr result (self.new ≡ self.old) }
     {
-        let request = request_copied(self.alloc, request)?;
+        let request = request.copied(self.alloc)?;
         self.requests.reserve()?;
         self.reconciliations.reserve()?;
         self.requests.push(request);
@@ -225,8 +224,7 @@ impl Book for ListBook {
     }
 
     fn overlapping(&mut self, low: u32, high: u32) -> Result<Option<Range>, BookFault> {
-        let found = first_overlapping(self.ranges.as_slice(), low, high);
-        Ok(range_copied(self.alloc, found)?)
+        Ok(range_copied(self.alloc, self.ranges.overlapping(low, high))?)
     }
 
     fn request(&mut self, key: RequestKey) -> Result<Option<Request>, BookFault> {
@@ -320,13 +318,4 @@ impl Book for ListBook {
         }
         Ok(())
     }
-}
-
-/// The first range that overlaps these ends.
-fn first_overlapping(ranges: &[Range], low: u32, high: u32) -> Option<&Range>
-    ensures { option_copied result ≡ overlapped_by (between low high) ranges.now }
-{
-    ranges
-        .iter()
-        .find(|range| low <= range.high && range.low <= high)
 }

@@ -1,2 +1,3 @@
 pub mod DecisionCases
 pub mod PaddedTexts
+pub mod Counts

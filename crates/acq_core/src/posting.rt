@@ -1,7 +1,10 @@
 //! Postings.
 
+ghost use Rattle.std.specs.Prelude.{◌≡◌, IfOk};
+
 use acq_message::{Amount, ElementContent, MerchantId, Reference, TerminalId, Trace};
 use day_totals::{Day, Leg};
+use std::alloc::{AllocError, Global};
 
 /// A row of the postings, but for its number, which the book gives it: 1 plus the number of that
 /// merchant's postings of that day before it.
@@ -19,4 +22,23 @@ pub struct Posting {
     pub terminal: TerminalId,
     /// The trace of the message that posted.
     pub trace: Trace,
+}
+
+impl Posting {
+    /// A copy.
+    pub fn copied(&self, alloc: Global) -> Result<Posting, AllocError>
+        ensures { IfOk result (λ copy. copy ≡ self.now) }
+    {
+        let card = self.card.copied(alloc)?;
+        Ok(Posting {
+            merchant: self.merchant,
+            day: self.day,
+            leg: self.leg,
+            amount: self.amount,
+            reference: self.reference,
+            card,
+            terminal: self.terminal,
+            trace: self.trace,
+        })
+    }
 }

@@ -1,9 +1,12 @@
 //! Recorded requests.
 
+ghost use Rattle.std.specs.Prelude.{◌≡◌, IfOk};
+
 use crate::status::Status;
 use acq_message::{Amount, ElementContent, MessageText, Reference, RequestKey};
 use day_totals::{Day, Leg};
 use iso_codec::Message;
+use std::alloc::{AllocError, Global};
 
 /// A row of the requests: one that was recorded, and where it stands.
 #[derive(Debug, Drop)]
@@ -39,4 +42,45 @@ pub struct Request {
     /// The reply. While the request is pending, what stands fixed of it: all but the authorization
     /// id and the code.
     pub reply: Message,
+}
+
+impl Request {
+    /// A copy.
+    pub fn copied(&self, alloc: Global) -> Result<Request, AllocError>
+        ensures { IfOk result (λ copy. copy ≡ self.now) }
+    {
+        let essence = self.essence.copied(alloc)?;
+        let card = content_copied(alloc, &self.card)?;
+        let acquirer = content_copied(alloc, &self.acquirer)?;
+        let reply = self.reply.copied(alloc)?;
+        Ok(Request {
+            key: self.key,
+            essence,
+            day: self.day,
+            status: self.status,
+            admitted: self.admitted,
+            reference: self.reference,
+            follows: self.follows,
+            amount: self.amount,
+            leg: self.leg,
+            card,
+            acquirer,
+            hold_days: self.hold_days,
+            hold_end: self.hold_end,
+            reply,
+        })
+    }
+}
+
+/// A copy of an element's content, where it is there.
+fn content_copied(
+    alloc: Global,
+    content: &Option<ElementContent>,
+) -> Result<Option<ElementContent>, AllocError>
+    ensures { IfOk result (λ copy. copy ≡ content.now) }
+{
+    match content {
+        Some(content) => Ok(Some(content.copied(alloc)?)),
+        None => Ok(None),
+    }
 }

@@ -1,6 +1,6 @@
 -- What look-ups, counts and filters make of an edit of a list.
-use Rattle.std.proofs.Common.{◌≡◌, ℕ, ◌+◌, List, [], ◌∷◌, ◌++◌, Option, Some, None, Bool, true, false, cond, refl, sym, ap, ◌∙◌}
-use Rattle.std.specs.Prelude.{map, filter, find, option_map, option_and_then, ◌&&◌, ◌||◌, not, is_some, is_none}
+use Rattle.std.proofs.Common.{◌≡◌, ◌+◌, List, [], ◌∷◌, ◌++◌, Option, Some, None, Bool, true, false, cond, refl, sym, ap, ◌∙◌}
+use Rattle.std.specs.Prelude.{map, filter, find, option_map, option_and_then, ◌||◌, not, is_some, is_none}
 use Rattle.std.specs.Option.{option_or}
 use Rattle.std.specs.List.{list_any}
 use Rattle.std.proofs.lemmas.List.{append-nil}
@@ -12,10 +12,6 @@ use Rattle.acq_core.specs.Tables.{count}
 pub or_split : (a b : Bool) → (a || b) ≡ false → (a ≡ false) × (b ≡ false)
 or_split true b e = absurd (cc)
 or_split false b e = (refl, e)
-
-pub and_false : (b : Bool) → (b && false) ≡ false
-and_false true = refl
-and_false false = refl
 
 pub or_true : (b : Bool) → (b || true) ≡ true
 or_true true = refl
@@ -70,10 +66,6 @@ pub map_map : {X Y Z : Type 0} (f : Y → Z) (g : X → Y) (o : Option X) →
 map_map f g None = refl
 map_map f g (Some x) = refl
 
-pub or_none : {X : Type 0} (o : Option X) → option_or o None ≡ o
-or_none None = refl
-or_none (Some x) = refl
-
 -- where neither of two is there, the first isn't
 pub own_none : {X : Type 0} (o p : Option X) → option_or o p ≡ None → o ≡ None
 own_none None p e = refl
@@ -122,26 +114,6 @@ filter-map {X} p u v same like (x ∷ xs) =
 pub map_same : {X : Type 0} (xs : List X) → map (λ x. x) xs ≡ xs
 map_same [] = refl
 map_same (x ∷ xs) = ap (λ ys. x ∷ ys) (map_same xs)
-
-pub count-push : {X : Type 0} (p : X → Bool) (xs : List X) (y : X) →
-    count p (xs ++ y ∷ []) ≡ cond (p y) (1 + count p xs) (count p xs)
-count-push p [] y = refl
-count-push p (x ∷ xs) y =
-    ap (λ n. cond (p x) (1 + n) n) (count-push p xs y)
-    ∙ swap (p x) (p y) (count p xs)
-  where
-    swap : (b c : Bool) (n : ℕ) →
-        cond b (1 + cond c (1 + n) n) (cond c (1 + n) n) ≡ cond c (1 + cond b (1 + n) n) (cond b (1 + n) n)
-    swap true true n = refl
-    swap true false n = refl
-    swap false true n = refl
-    swap false false n = refl
-
--- one more, if it is there
-pub count-push_if : {X : Type 0} (p : X → Bool) (xs : List X) (y : X) (c : Bool) →
-    count p (xs ++ cond c (y ∷ []) []) ≡ cond (c && p y) (1 + count p xs) (count p xs)
-count-push_if p xs y true = count-push p xs y
-count-push_if p xs y false = ap (count p) (append-nil xs)
 
 pub any-push : {X : Type 0} (p : X → Bool) (xs : List X) (y : X) → list_any p (xs ++ y ∷ []) ≡ (p y || list_any p xs)
 any-push p [] y = refl

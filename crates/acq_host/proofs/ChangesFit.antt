@@ -13,10 +13,13 @@ use Rattle.acq_core.specs.declared.terminal.Terminal.{Terminal}
 use Rattle.acq_core.specs.declared.reply_state.ReplyState.{ReplyState}
 use Rattle.acq_core.specs.declared.reply_state.ReplyState.TheVariants.{Kept, Awaited, Late}
 use Rattle.acq_core.specs.declared.arrival.Arrival.{Arrival}
-use Rattle.acq_core.specs.declared.arrival.Arrival.TheVariants.{Undecoded, Unserved, Malformed, Requested, Answered, CutOver, RangeAdded, RangeDropped, Enrolled, TerminalAdded}
+use Rattle.acq_core.specs.declared.arrival.Arrival.TheVariants.{Undecoded, Unserved, Malformed, Requested, Answered}
+use Rattle.acq_core.specs.declared.arrival.Arrival.TheVariants.{CutOver, RangeAdded, RangeDropped, Enrolled}
+use Rattle.acq_core.specs.declared.arrival.Arrival.TheVariants.{TerminalAdded}
 use Rattle.acq_core.specs.Arrivals.{arrival_of}
 use Rattle.acq_core.specs.Changes.{answer_posting, completion_posting, reversal_posting, change_of, change_for}
-use Rattle.acq_core.specs.Decision.{Decision, Reports, DropsRange, CutsOver, repeat_of, decision, decision_of_new_range, decision_of_old_range, decision_of_enrolment, decision_of_terminal}
+use Rattle.acq_core.specs.Decision.{Decision, Reports, DropsRange, CutsOver, repeat_of, decision, decision_of_new_range}
+use Rattle.acq_core.specs.Decision.{decision_of_old_range, decision_of_enrolment, decision_of_terminal}
 use Rattle.acq_core.specs.declared.output.Output.TheVariants as output
 use Rattle.acq_core.specs.Known.{Known}
 use Rattle.acq_core.specs.Numbers.{is_used_count}
@@ -31,7 +34,8 @@ use Rattle.acq_invariants.specs.Events.{IsEvent, IsOpening}
 use Rattle.acq_invariants.specs.References.{merchant_in}
 use Rattle.acq_invariants.proofs.BooksAreSound.{books_are_sound}
 use Rattle.acq_invariants.proofs.BooksGoOn.{books_go_on}
-use Rattle.acq_host.proofs.NewRows.{any_member, unreferred_is_new, referred_is_new, has_room_for_one, has_room_for_posting}
+use Rattle.acq_host.proofs.NewRows.{any_member, unreferred_is_new, referred_is_new, has_room_for_one}
+use Rattle.acq_host.proofs.NewRows.{has_room_for_posting}
 
 -- where the tables after it are sound, what a decision changes fits
 abbrev FitsWhereSound : Opening → Tables → Known → Decision → Type 0

@@ -1,22 +1,27 @@
 -- What was looked up part by part is what the tables let an event know.
-use Rattle.std.proofs.Common.{◌≡◌, ℕ, List, [], ◌∷◌, Option, Some, None, Bool, true, false, cond, ◌⊎◌, inl, inr, refl, sym, ap, ◌∙◌, subst}
+use Rattle.std.proofs.Common.{◌≡◌, ℕ, List, [], ◌∷◌, Option, Some, None, Bool, true, false, cond, ◌⊎◌, inl, inr, refl}
+use Rattle.std.proofs.Common.{sym, ap, ◌∙◌, subst}
 use Rattle.std.specs.Prelude.{take, filter, find, option_map, option_and_then, IfSome}
 use Rattle.std.specs.Str.{bytes_eq}
 use Rattle.iso_codec.specs.Message.{IsoMessage}
 use Rattle.acq_message.specs.declared.service.Service.{Service}
-use Rattle.acq_message.specs.declared.service.Service.TheVariants.{Authorization, Financial, Completion, Reversal, ReversalAdvice, Reconciliation, NetworkManagement}
+use Rattle.acq_message.specs.declared.service.Service.TheVariants.{Authorization, Financial, Completion, Reversal}
+use Rattle.acq_message.specs.declared.service.Service.TheVariants.{ReversalAdvice, Reconciliation, NetworkManagement}
 use Rattle.acq_message.specs.declared.request_key.RequestKey.{RequestKey}
 use Rattle.acq_message.specs.Elements.{or_empty, text_at, same_key, original_key_with, original_service}
 use Rattle.acq_core.specs.declared.request.Request.{Request}
 use Rattle.acq_core.specs.declared.lookup.Wanted.{Wanted}
 use Rattle.acq_core.specs.declared.lookup.Looked.{Looked}
 use Rattle.acq_core.specs.declared.arrival.Arrival.{Arrival}
-use Rattle.acq_core.specs.declared.arrival.Arrival.TheVariants.{Undecoded, Unserved, Malformed, Requested, Answered, CutOver, RangeAdded, RangeDropped, Enrolled, TerminalAdded}
+use Rattle.acq_core.specs.declared.arrival.Arrival.TheVariants.{Undecoded, Unserved, Malformed, Requested, Answered}
+use Rattle.acq_core.specs.declared.arrival.Arrival.TheVariants.{CutOver, RangeAdded, RangeDropped, Enrolled}
+use Rattle.acq_core.specs.declared.arrival.Arrival.TheVariants.{TerminalAdded}
 use Rattle.acq_core.specs.Arrivals.{merchant_named}
 use Rattle.acq_core.specs.Known.{nothing, wanted_for, wanted_by, holds_if, number_if, totals_if, known_for}
 use Rattle.acq_core.specs.Looking.{known_of}
 use Rattle.acq_core.specs.Tables.{Tables, prior_of, requests_of, recorded_in, facts_in, known_in}
-use Rattle.acq_book.specs.Lookups.{merchant_at, has_terminal_at, range_at, overlapping_at, request_at, referred_at, admitted_at, used_at, totals_at}
+use Rattle.acq_book.specs.Lookups.{merchant_at, has_terminal_at, range_at, overlapping_at, request_at, referred_at}
+use Rattle.acq_book.specs.Lookups.{admitted_at, used_at, totals_at}
 use Rattle.acq_history.proofs.Keys.{bytes_eq_from, same_key_is}
 
 -- ---- what is wanted is of the merchant that is named

@@ -1,5 +1,6 @@
 -- Rows that a step adds are new, and there is room for what it posts.
-use Rattle.std.proofs.Common.{◌≡◌, ℕ, zero, suc, ◌+◌, ◌<◌, ◌≤◌, List, [], ◌∷◌, ◌++◌, Option, Some, None, Bool, true, false, cond, refl, sym, ap, ◌∙◌, subst, arith, leb, eqb}
+use Rattle.std.proofs.Common.{◌≡◌, ℕ, zero, suc, ◌+◌, ◌<◌, ◌≤◌, List, [], ◌∷◌, ◌++◌, Option, Some, None, Bool, true}
+use Rattle.std.proofs.Common.{false, cond, refl, sym, ap, ◌∙◌, subst, arith, leb, eqb}
 use Rattle.std.specs.Prelude.{◌&&◌, IfSome, map, filter, find, is_some}
 use Rattle.std.specs.List.{cons_option, list_any, range_with_len}
 use Rattle.std.specs.Str.{bytes_eq}
@@ -14,7 +15,8 @@ use Rattle.acq_core.specs.declared.merchant.Merchant.{Merchant}
 use Rattle.acq_core.specs.declared.posting.Posting.{Posting}
 use Rattle.acq_core.specs.declared.request.Request.{Request}
 use Rattle.acq_core.specs.Numbers.{is_used_count, is_admitted_count, greatest_limit}
-use Rattle.acq_core.specs.Tables.{Opening, Tables, requests_of, postings_of, admitted_in, used_in, totals_on, postings_before, with_next_posting}
+use Rattle.acq_core.specs.Tables.{Opening, Tables, requests_of, postings_of, admitted_in, used_in, totals_on}
+use Rattle.acq_core.specs.Tables.{postings_before, with_next_posting}
 use Rattle.acq_book.specs.Fits.{IsNew, HasRoom}
 use Rattle.acq_book.specs.Lookups.{request_at, referred_at, used_at}
 use Rattle.acq_history.proofs.FoundRows.{is_number_is}

@@ -8,7 +8,8 @@ use Rattle.acq_core.specs.declared.output.Output.{Output}
 use Rattle.acq_core.specs.declared.arrival.Arrival.TheVariants.{Requested}
 use Rattle.acq_core.specs.Arrivals.{arrival_of, merchant_named}
 use Rattle.acq_core.specs.Outcome.{outcome, output_of}
-use Rattle.acq_core.specs.Tables.{Opening, Tables, new_tables, prior_of, requests_of, postings_of, outputs, step_output, tables_after}
+use Rattle.acq_core.specs.Tables.{Opening, Tables, new_tables, prior_of, requests_of, postings_of, outputs, step_output}
+use Rattle.acq_core.specs.Tables.{tables_after}
 use Rattle.acq_history.specs.PartyHistory.{known_by, history_of, book_after}
 use Rattle.acq_isolation.specs.Isolation.{open_at}
 use Rattle.acq_isolation.proofs.IsolatedParties.{isolated}

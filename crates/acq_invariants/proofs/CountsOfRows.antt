@@ -6,7 +6,8 @@ use Rattle.acq_message.specs.declared.request_key.RequestKey.{RequestKey}
 use Rattle.acq_message.specs.Elements.{same_key}
 use Rattle.acq_core.specs.declared.request.Request.{Request}
 use Rattle.acq_core.specs.Tables.{count, is_pending, used_in}
-use Rattle.acq_history.proofs.Lookups.{count-push, count-view, count-same, filter-push_in, filter-push_out}
+use Rattle.acq_core.proofs.Counts.{count-push}
+use Rattle.acq_history.proofs.Lookups.{count-view, count-same, filter-push_in, filter-push_out}
 use Rattle.acq_history.proofs.Members.{In}
 use Rattle.acq_history.proofs.Keys.{same_key_from, eqb_itself}
 use Rattle.acq_invariants.proofs.RowsWithChanges.{changing}

@@ -2,11 +2,11 @@
 use Rattle.std.proofs.Common.{◌≡◌, ℕ, ◌+◌, ◌<◌, ◌≤◌, List, [], ◌∷◌, ◌++◌, Option, Some, None, Bool, true, false, refl, ap, ◌∙◌, subst, arith, eqb}
 use Rattle.std.specs.Prelude.{IfSome, ◌&&◌}
 use Rattle.std.specs.Str.{bytes_eq}
+use Rattle.std.proofs.Math.Bool.{and-false}
 use Rattle.acq_message.specs.declared.request_key.RequestKey.{RequestKey}
 use Rattle.acq_core.specs.declared.posting.Posting.{Posting}
 use Rattle.acq_core.specs.declared.request.Request.{Request}
 use Rattle.acq_core.specs.Tables.{count, is_pending, requests_of, postings_of, used_in, with_changed, with_next_posting, postings_before}
-use Rattle.acq_history.proofs.Lookups.{and_false}
 use Rattle.acq_history.proofs.Members.{In, In-filter}
 use Rattle.acq_history.proofs.Keys.{bytes_eq_is, eqb_is}
 use Rattle.acq_invariants.proofs.RowsWithChanges.{requests_of-changed}
@@ -67,7 +67,7 @@ within_uncounted limit rows ps row uncounted ended c = record {
         one_if (bytes_eq row.key.merchant m && (b && eqb row.day day)) ≡ 0
     nothing m day b e =
         ap (λ v. one_if (bytes_eq row.key.merchant m && (v && eqb row.day day))) e
-        ∙ ap one_if (and_false (bytes_eq row.key.merchant m))
+        ∙ ap one_if (and-false (bytes_eq row.key.merchant m))
 
 -- the day of a merchant has room for one more
 room_at : (limit : ℕ) (rows : List Request) (merchant : List ℕ) (on : ℕ) →
@@ -144,7 +144,7 @@ pub posted_on-ended : (ps : List (ℕ × Posting)) (o : Option Posting) (merchan
     ≤ posted_on m ps day + one_at merchant on m day
 posted_on-ended ps o merchant on of m day =
     let once = posted_on-next ps o merchant on of m day in
-    let none = ap one_if (and_false (bytes_eq merchant m)) in
+    let none = ap one_if (and-false (bytes_eq merchant m)) in
     omega arith
 
 -- ---- rows that were changed

@@ -15,7 +15,8 @@ use Rattle.acq_core.specs.declared.merchant.Merchant.{Merchant}
 use Rattle.acq_core.specs.declared.request.Request.{Request}
 use Rattle.acq_core.specs.Changes.{change_of}
 use Rattle.acq_core.specs.Tables.{Tables, new_tables, known_in, requests_of, admitted_in, with_changed, after_any, step_tables, tables_after}
-use Rattle.acq_history.proofs.Lookups.{count-view, count-same, count-push, filter-push_in, filter-push_out}
+use Rattle.acq_core.proofs.Counts.{count-push}
+use Rattle.acq_history.proofs.Lookups.{count-view, count-same, filter-push_in, filter-push_out}
 use Rattle.acq_history.proofs.Keys.{bytes_eq_is, bytes_eq_itself}
 use Rattle.acq_invariants.specs.References.{references_in, merchant_in, AreRowsOf, HasConsecutiveReferences, ReferencesAreConsecutive}
 use Rattle.acq_invariants.specs.Keys.{are_distinct}

@@ -32,9 +32,10 @@ use Rattle.acq_core.specs.Changes.{change_of, completion_posting, reversal_posti
 use Rattle.acq_core.specs.Tables.{Opening, Tables, prior_of, requests_of, postings_of, recorded_in, referred_in, with_changed, after_any, known_in, step_tables, used_in}
 use Rattle.acq_history.specs.Entries.{Entry, request_of}
 use Rattle.acq_history.specs.PartyHistory.{names}
-use Rattle.acq_history.proofs.Lookups.{clash, or_split, not_false, map_some, then_some, or_none, map_same, any-push, filter-map, filter-push_out, found_passes}
+use Rattle.acq_history.proofs.Lookups.{clash, or_split, not_false, map_some, then_some, map_same, any-push, filter-map, filter-push_out, found_passes}
 use Rattle.acq_history.proofs.Keys.{bytes_eq_is, same_key_is, eqb_is}
 use Rattle.acq_core.proofs.DecisionCases.{by_request, by_answer}
+use Rattle.acq_core.proofs.Counts.{or_none}
 use Rattle.acq_history.proofs.RecordableRequests.{recordable_some}
 use Rattle.acq_isolation.proofs.UnrecordedRequests.{change_of_repeat}
 use Rattle.acq_isolation.proofs.RequestsAfterNewEntry.{line}

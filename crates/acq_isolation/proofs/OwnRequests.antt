@@ -2,6 +2,7 @@
 use Rattle.std.proofs.Common.{◌≡◌, ℕ, ◌+◌, List, [], ◌∷◌, ◌++◌, Option, Some, None, Bool, true, false, cond, refl, sym, ap, ◌∙◌, subst}
 use Rattle.std.specs.Prelude.{option_map, option_and_then, ◌&&◌, ◌||◌, not, is_some, is_none}
 use Rattle.std.specs.Str.{bytes_eq}
+use Rattle.std.proofs.Math.Bool.{and-false}
 use Rattle.iso_codec.specs.Message.{IsoMessage}
 use Rattle.card_no.specs.declared.range.Range.{Range}
 use Rattle.card_no.specs.CardNumbers.{is_valid_card, prefix_of}
@@ -29,7 +30,7 @@ use Rattle.acq_history.specs.Entries.{Entry, request_of, is_code, is_asked, is_a
 use Rattle.acq_history.specs.History.{newest, recorded, referred, day_after, ranges_after, enrolled, admitted, admits, is_admission, first_reference, next_reference, prior, postings, posting_of, posting_by}
 use Rattle.acq_history.specs.PartyHistory.{known_by}
 use Rattle.acq_isolation.specs.Isolation.{recording_first}
-use Rattle.acq_history.proofs.Lookups.{and_false, clash, map_none, map_some, then_some}
+use Rattle.acq_history.proofs.Lookups.{clash, map_none, map_some, then_some}
 use Rattle.acq_history.proofs.Keys.{bytes_eq_itself}
 use Rattle.acq_isolation.proofs.RecordedInHistory.{referred_is, reference_if}
 use Rattle.acq_history.proofs.RecordableRequests.{recordable_is, wants_by_key}
@@ -95,7 +96,7 @@ admits_not : (rq : Option RequestMessage) (e : Entry) (h : List Entry) → is_as
 admits_not None e h off = refl
 admits_not (Some r) e h off =
     ap (λ b. is_admissible r.service && b && is_none (recorded (key_of r.service r.message) h)) off
-    ∙ ap (λ b. b && is_none (recorded (key_of r.service r.message) h)) (and_false (is_admissible r.service))
+    ∙ ap (λ b. b && is_none (recorded (key_of r.service r.message) h)) (and-false (is_admissible r.service))
 
 pub is_some_map : {X Y : Type 0} (f : X → Y) (o : Option X) → is_some (option_map f o) ≡ is_some o
 is_some_map f None = refl

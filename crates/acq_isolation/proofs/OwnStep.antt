@@ -4,6 +4,7 @@ use Rattle.std.specs.Prelude.{find, option_and_then, nat_lt, ◌&&◌, ◌||◌,
 use Rattle.std.specs.Option.{option_or}
 use Rattle.std.specs.Str.{bytes_eq}
 use Rattle.std.proofs.lemmas.List.Folds.{find-append}
+use Rattle.std.proofs.Math.Bool.{and-false}
 use Rattle.iso_codec.specs.Message.{IsoMessage}
 use Rattle.card_no.specs.declared.range.Range.{Range}
 use Rattle.card_no.specs.Ranges.{with_range, without_range, has_ends, is_valid_range}
@@ -33,9 +34,10 @@ use Rattle.acq_history.specs.Entries.{Entry, request_of, is_performed, is_answer
 use Rattle.acq_history.specs.History.{referred, day_after, ranges_after, enrolled, admits, prior, postings, posting_of}
 use Rattle.acq_history.specs.PartyHistory.{known_by, entry_for}
 use Rattle.acq_isolation.specs.Isolation.{recording_first}
-use Rattle.acq_history.proofs.Lookups.{and_false, some_is, map_some, then_map, or_none, any-push, found_passes}
+use Rattle.acq_history.proofs.Lookups.{some_is, map_some, then_map, any-push, found_passes}
 use Rattle.acq_history.proofs.Keys.{bytes_eq_is, bytes_eq_itself}
 use Rattle.acq_core.proofs.DecisionCases.{by_request, by_answer}
+use Rattle.acq_core.proofs.Counts.{or_none}
 use Rattle.acq_history.proofs.RecordableRequests.{recordable_some, is_admissible_true, is_reversal_true}
 use Rattle.acq_isolation.proofs.UnrecordedRequests.{IsQuiet, refusal_is, quiet_managed, quiet_unknown, quiet_duplicate, quiet_repeated, change_of_repeat}
 use Rattle.acq_isolation.proofs.RowsAgreeWithHistory.{Rows, answer_edits, without_newest_edited, without_newest_still, rows_still, referred_in_is}
@@ -182,7 +184,7 @@ module _ (opening : Opening) (m : List ℕ) (t : Tables) (h : List Entry) (g : A
       let a = Answered moment merchant n v in
       by_answer (known a) moment v (Keeps opening m t h g a)
       (record {
-        not_taken = λ o. still_step a (Reported o) refl (λ k. and_false (n == k)) refl refl;
+        not_taken = λ o. still_step a (Reported o) refl (λ k. and-false (n == k)) refl refl;
         taken = λ p draft there pending. answered_step moment merchant n v p draft there pending;
       })
       (known a).merchant

@@ -12,10 +12,11 @@ use Rattle.acq_message.specs.declared.request_message.RequestMessage.{RequestMes
 use Rattle.acq_core.specs.Outcome.{Outcome, Replied, Repeated, Asked, Performed, Reported}
 use Rattle.acq_core.specs.Tables.{count}
 use Rattle.acq_message.specs.Numbers.{is_number}
+use Rattle.acq_core.proofs.Counts.{count-push_if}
 use Rattle.acq_history.specs.Entries.{Entry, request_of, is_past_merchant, is_asked, is_admissible}
 use Rattle.acq_history.specs.History.{Found, newest, aged, recording, recorded, referring, referred, admits, is_admission, admitted, first_reference, next_reference, reference_of, enrolled}
 use Rattle.acq_isolation.specs.Isolation.{recording_first, all_recorded}
-use Rattle.acq_history.proofs.Lookups.{none_of, not_some, some_is, find-view, count-view, count-push_if, Each, each-push, each-map}
+use Rattle.acq_history.proofs.Lookups.{none_of, not_some, some_is, find-view, count-view, Each, each-push, each-map}
 use Rattle.acq_history.proofs.Keys.{same_key_itself, same_key_is, eqb_itself, eqb_is}
 
 -- the key of a recorded request

@@ -4,6 +4,7 @@ use Rattle.std.specs.Prelude.{find, option_map, option_and_then, ◌&&◌, ◌||
 use Rattle.std.specs.Option.{option_or}
 use Rattle.std.proofs.lemmas.Bool.{and_parts}
 use Rattle.std.specs.List.{list_any}
+use Rattle.std.proofs.Math.Bool.{and-false}
 use Rattle.iso_codec.specs.Message.{IsoMessage, content_of}
 use Rattle.acq_message.specs.declared.service.Service.{Service}
 use Rattle.acq_message.specs.declared.service.Service.TheVariants.{Authorization, Financial, Completion, Reversal, ReversalAdvice, Reconciliation, NetworkManagement}
@@ -27,7 +28,7 @@ use Rattle.acq_message.specs.Numbers.{is_number}
 use Rattle.acq_history.specs.Entries.{Entry, reply_in, accepts, is_acceptable, is_completion, is_reversal, is_approved, is_acceptance, is_answer, is_completing, is_reversing, completes, reverses, is_key, approval_in, approval_by, request_of}
 use Rattle.acq_history.specs.History.{Found, aged, next_reference, is_admitted, is_accepted, reference_of, reference_by, leg_by, card_by, hold_days_of, answer_to, is_completed, is_reversed, any_with, reply_state_with, reply_state_without, prior}
 use Rattle.acq_history.specs.History as history
-use Rattle.acq_history.proofs.Lookups.{and_false, not_true, or_true, own_none}
+use Rattle.acq_history.proofs.Lookups.{not_true, or_true, own_none}
 use Rattle.acq_isolation.proofs.RecordedInHistory.{key_in}
 use Rattle.acq_history.proofs.Statuses.{reply_state_of-awaited, is_approved_is}
 
@@ -426,7 +427,7 @@ prior_of_completed a f o c r is ends =
     prior_of_edited a f o o c true r r status.Completed a.reply a.hold_end is
     (sym (ap (λ s. tables.reply_state_of s a.reply) approved) ∙ ap (λ x. x.reply_state) is)
     (sym (ap (λ b. b && not r && not (is_some o && is_none (option_and_then (λ e. approval_in e.arrival) o)))
-    (and_false (is_admitted f || is_accepted f))))
+    (and-false (is_admitted f || is_accepted f))))
     ((λ i. tables.hold_end_by (at i) (record a { status = status.Completed }))
     ∙ open_by_done a f.request.service status.Completed (hold_days_of f) o true r refl refl)
 
@@ -469,7 +470,7 @@ prior_of_reversed a f o c r is reversible =
     ∙ reversible) (ap (λ x. x.reply_state) is))
     (is_reversible_reversed (prior_with o c r f).reply_state
     ∙ sym (ap (λ b. b && not (is_some o && is_none (option_and_then (λ e. approval_in e.arrival) o)))
-    (and_false ((is_admitted f || is_accepted f) && not c))))
+    (and-false ((is_admitted f || is_accepted f) && not c))))
     ((λ i. tables.hold_end_by (at i) (record a { status = s }))
     ∙ open_by_done a f.request.service s (hold_days_of f) o c true (is_approved_reversed
     (prior_with o c r f).reply_state)

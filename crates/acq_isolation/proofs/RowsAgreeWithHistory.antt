@@ -12,10 +12,11 @@ use Rattle.acq_message.specs.declared.request_message.RequestMessage.{RequestMes
 use Rattle.acq_core.specs.Known.{Prior}
 use Rattle.acq_core.specs.Tables.{count, prior_of, requests_of, recorded_in, referred_in, admitted_in, used_in, with_changed}
 use Rattle.acq_message.specs.Numbers.{is_number}
+use Rattle.acq_core.proofs.Counts.{count-push}
 use Rattle.acq_history.specs.Entries.{Entry, request_of, is_acceptance, is_past_merchant, is_answer}
 use Rattle.acq_history.specs.History.{Found, newest, aged, recorded, referred, is_admission, admitted, enrolled, used, prior}
 use Rattle.acq_isolation.specs.Isolation.{recording_first, all_recorded}
-use Rattle.acq_history.proofs.Lookups.{map_map, find-view, count-view, count-same, map-push, filter-map, filter-push_in, count-push, Each}
+use Rattle.acq_history.proofs.Lookups.{map_map, find-view, count-view, count-same, map-push, filter-map, filter-push_in, Each}
 use Rattle.acq_isolation.proofs.RecordedInHistory.{find_recorded, find_referred, count_admitted, AdmitsOnlyEnrolled, IsFoundAgain, each_found_again}
 use Rattle.acq_isolation.proofs.RequestsAfterNewEntry.{line, shown, shown_aged}
 

@@ -8,6 +8,7 @@ use Rattle.card_no.specs.declared.range.Range.{Range}
 use Rattle.card_no.specs.Ranges.{range_of_prefix, overlapped_by}
 use Rattle.day_totals.specs.declared.leg.Leg.{Leg}
 use Rattle.std.proofs.lemmas.Bool.{and_parts}
+use Rattle.std.proofs.Math.Bool.{and-false}
 use Rattle.acq_core.specs.declared.merchant.Merchant.{Merchant}
 use Rattle.acq_core.specs.declared.terminal.Terminal.{Terminal}
 use Rattle.acq_core.specs.declared.posting.Posting.{Posting}
@@ -23,10 +24,11 @@ use Rattle.acq_core.specs.Outcome.{Outcome}
 use Rattle.acq_core.specs.Changes.{answer_posting, approval_posting, reversal_posting, posting_today, reversal_leg, posted_leg}
 use Rattle.card_no.specs.Ranges.{between}
 use Rattle.acq_core.specs.Tables.{Opening, Tables, postings_of, facts_in, known_in, totals_on, with_next_posting}
+use Rattle.acq_core.proofs.Counts.{or_none}
 use Rattle.acq_history.specs.Entries.{Entry, is_cutover, is_performed, enrolment_in, terminal_in}
 use Rattle.acq_history.specs.History.{day_after, ranges_after, ranges_with, enrolled, has_terminal, is_text, postings, notions_of}
 use Rattle.acq_history.specs.PartyHistory.{names, known_by}
-use Rattle.acq_history.proofs.Lookups.{and_false, or_none, filter-push_in, filter-push_out, count-filter}
+use Rattle.acq_history.proofs.Lookups.{filter-push_in, filter-push_out, count-filter}
 use Rattle.acq_history.proofs.Keys.{bytes_eq_is, bytes_eq_itself}
 use Rattle.acq_isolation.proofs.RowsAgreeWithHistory.{Rows, recorded_in_is, referred_in_is, admitted_in_is}
 
@@ -109,7 +111,7 @@ common_still opening m bound today merchants terminals held a o h performed c =
       bounded = c.bounded;
       day =
           c.day ∙ sym (λ i.
-          cond ((ap (λ b. is_cutover a && b) performed ∙ and_false (is_cutover a)) i)
+          cond ((ap (λ b. is_cutover a && b) performed ∙ and-false (is_cutover a)) i)
           (day_after opening.first_day h + 1) (day_after opening.first_day h));
       ranges = c.ranges ∙ sym (λ i. cond (performed i) (ranges_with a (ranges_after h)) (ranges_after h));
       merchant =

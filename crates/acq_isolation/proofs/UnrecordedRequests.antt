@@ -1,6 +1,7 @@
 -- What a request results in that isn't recorded, or is refused.
 use Rattle.std.proofs.Common.{◌≡◌, Option, Some, None, true, false, refl, sym, ap, ◌∙◌}
 use Rattle.std.specs.Prelude.{◌&&◌, ◌||◌, not, is_some}
+use Rattle.std.proofs.Math.Bool.{and-false}
 use Rattle.acq_message.specs.declared.service.Service.{Service}
 use Rattle.acq_message.specs.declared.service.Service.TheVariants.{NetworkManagement}
 use Rattle.acq_message.specs.declared.response_code.ResponseCode.{ResponseCode}
@@ -15,7 +16,6 @@ use Rattle.acq_core.specs.Outcome.{Outcome, outcome_of}
 use Rattle.acq_core.specs.Changes.{change_of}
 use Rattle.acq_core.proofs.DecisionCases.{is_refusal}
 use Rattle.acq_history.specs.Entries.{is_code, is_asked, is_performed, is_approved, is_past_merchant, recordable, request_of, accepts, is_acceptable}
-use Rattle.acq_history.proofs.Lookups.{and_false}
 
 -- a code that refuses what is recorded
 abbrev pub IsRefusal : ResponseCode → Type 0
@@ -44,7 +44,7 @@ refusal_is (code.Declined text) e = (refl, refl)
 pub accepts_not : (rq : Option RequestMessage) (o : Outcome) → is_approved o ≡ false →
     accepts is_acceptable rq o ≡ false
 accepts_not None o e = refl
-accepts_not (Some r) o e = ap (λ b. is_acceptable r.service && b) e ∙ and_false (is_acceptable r.service)
+accepts_not (Some r) o e = ap (λ b. is_acceptable r.service && b) e ∙ and-false (is_acceptable r.service)
 
 -- ---- what changes nothing
 

@@ -3,7 +3,8 @@ use Rattle.std.proofs.Common.{◌∙◌, ap}
 use Rattle.std.specs.Prelude.{option_and_then}
 use Rattle.acq_message.specs.Elements.{or_empty}
 use Rattle.acq_core.specs.Known.{wanted_by, holds_if, number_if, totals_if}
-use Rattle.acq_book.specs.Lookups.{merchant_at, has_terminal_at, range_at, overlapping_at, request_at, referred_at, admitted_at, used_at, totals_at}
+use Rattle.acq_book.specs.Lookups.{merchant_at, has_terminal_at, range_at, overlapping_at, request_at, referred_at}
+use Rattle.acq_book.specs.Lookups.{admitted_at, used_at, totals_at}
 use Rattle.acq_host.proofs.LookedUp.{known_is}
 use Rattle.acq_host.proofs.looking_up.look_up.Goals as goal
 

@@ -19,7 +19,8 @@ returns-in-Err-clause-fault_alone g c = λ o.
     let makes = c.in-Err.ensures.tables in
     let first = c.loop-at.invariant in
     let between = makes.was_open o in
-    is_alone (g.B.Book.tables c.args.self.now) (g.B.Book.tables c.take_next.new.self) (take c.loop-at.at c.args.events.now)
+    is_alone (g.B.Book.tables c.args.self.now) (g.B.Book.tables c.take_next.new.self)
+    (take c.loop-at.at c.args.events.now)
     c.take_next.new.said.items
     (c.in-Err.ensures.kept ∙ first.says between)
     (makes.unmade refl o ∙ first.leads between)

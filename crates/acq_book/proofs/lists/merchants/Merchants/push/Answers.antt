@@ -27,4 +27,5 @@ invariant_of-self c =
 pub returns : goal.returns
 returns c =
     ap values_of c.put_merchant.ensures.entries
-    ∙ (values-push c.self.inside.rows.entries c.args.row.id c.args.row ∙ ap (λ s. s.rows ++ c.args.row ∷ []) c.self.view_is)
+    ∙ (values-push c.self.inside.rows.entries c.args.row.id c.args.row
+    ∙ ap (λ s. s.rows ++ c.args.row ∷ []) c.self.view_is)

@@ -13,12 +13,16 @@ returns-in-Some c =
     let s = c.self.inside in
     let r : MerchantReference = record { merchant = c.args.merchant; reference = c.args.reference } in
     c.row_at.ensures
-    ∙ (found-at r (values s.rows) _ (sym (c.self.invariant.places r) ∙ (sym c.get.ensures.value ∙ ap option_copied c.in-Some.is))
-    ∙ ap (λ t. find (λ row. is_number c.args.reference row.reference) (requests_of c.args.merchant t.rows)) c.self.view_is)
+    ∙ (found-at r (values s.rows) _ (sym (c.self.invariant.places r)
+    ∙ (sym c.get.ensures.value ∙ ap option_copied c.in-Some.is))
+    ∙ ap (λ t. find (λ row. is_number c.args.reference row.reference)
+    (requests_of c.args.merchant t.rows)) c.self.view_is)
 
 pub returns-in-None : goal.returns-in-None
 returns-in-None c =
     let s = c.self.inside in
     let r : MerchantReference = record { merchant = c.args.merchant; reference = c.args.reference } in
-    found-at r (values s.rows) _ (sym (c.self.invariant.places r) ∙ (sym c.get.ensures.value ∙ ap option_copied c.in-None.is))
-    ∙ ap (λ t. find (λ row. is_number c.args.reference row.reference) (requests_of c.args.merchant t.rows)) c.self.view_is
+    found-at r (values s.rows) _ (sym (c.self.invariant.places r)
+    ∙ (sym c.get.ensures.value ∙ ap option_copied c.in-None.is))
+    ∙ ap (λ t. find (λ row. is_number c.args.reference row.reference)
+    (requests_of c.args.merchant t.rows)) c.self.view_is

@@ -45,13 +45,27 @@ invariant_of-self c =
       keyed = subst (IsKeyedBy key_of) (sym new) (keyed-push key_of s.rows.entries y.key y refl c.self.invariant.keyed);
       places = λ r.
           referred_push _ (values_of s.rows.entries) y s.places c.put_place.new.places c.self.invariant.places
-          (subst (λ n. MatchOption y.reference (c.put_place.new.places.entries ≡ s.places.entries) (λ number. (q : MerchantReference) → get reference_eq c.put_place.new.places q ≡ (if reference_eq (record { merchant = y.key.merchant; reference = number }) q then Some n else get reference_eq s.places q))) (c.len-place.ensures.len ∙ sym (length-values_of s.rows.entries)) c.put_place.ensures.places)
-          (subst (λ rows. IfSome y.reference (λ n. find (λ old. is_number n old.reference) (requests_of y.key.merchant rows) ≡ None)) (sym (ap (λ t. t.rows) c.self.view_is)) c.requires.new.reference)
+          (subst (λ n. MatchOption y.reference (c.put_place.new.places.entries ≡ s.places.entries)
+          (λ number. (q : MerchantReference) →
+          get reference_eq c.put_place.new.places q
+          ≡ (if reference_eq (record { merchant = y.key.merchant; reference = number }) q then Some n
+          else get reference_eq s.places q)))
+          (c.len-place.ensures.len ∙ sym (length-values_of s.rows.entries)) c.put_place.ensures.places)
+          (subst (λ rows. IfSome y.reference (λ n. find (λ old. is_number n old.reference)
+          (requests_of y.key.merchant rows) ≡ None))
+          (sym (ap (λ t. t.rows) c.self.view_is)) c.requires.new.reference)
           r
           ∙ sym (ap (place (refers r)) grown);
-      used = λ k. used_more (values_of s.rows.entries) y s.used c.count_used.new.counts c.self.invariant.used c.count_used.ensures.counts k
+      used =
+          λ k. used_more (values_of s.rows.entries) y s.used c.count_used.new.counts c.self.invariant.used
+          c.count_used.ensures.counts k
           ∙ sym (ap (λ rows. used_in (requests_of k.merchant rows) k.day) grown);
-      admitted = λ m. given_more (values_of s.rows.entries) y s.admitted c.count_admitted.new.counts c.self.invariant.admitted (λ q. c.count_admitted.ensures.counts q ∙ ap (λ b. if b && merchant_eq y.key.merchant q then 1 + count_at (get merchant_eq s.admitted) y.key.merchant else count_at (get merchant_eq s.admitted) q) c.is_some.ensures) m
+      admitted =
+          λ m. given_more (values_of s.rows.entries) y s.admitted c.count_admitted.new.counts c.self.invariant.admitted
+          (λ q. c.count_admitted.ensures.counts q
+          ∙ ap (λ b. if b && merchant_eq y.key.merchant q
+          then 1 + count_at (get merchant_eq s.admitted) y.key.merchant
+          else count_at (get merchant_eq s.admitted) q) c.is_some.ensures) m
           ∙ sym (ap (λ rows. admitted_in (requests_of m rows)) grown);
       room_used = omega (arith, c.count_used.ensures.spare, c.self.invariant.room_used);
       room_admitted = omega (arith, c.count_admitted.ensures.spare, c.self.invariant.room_admitted);
