@@ -1,14 +1,18 @@
 //! Names of merchants.
 
+ghost use Rattle.std.specs.Prelude.{◌∷◌, ◌++◌, [], take, drop};
+ghost use Rattle.std.proofs.Common.{rules};
+ghost use Rattle.std.specs.Cmp.Rules.{hashing};
 ghost use Rattle.std.specs.Prelude.{◌≡◌, true, SomeIff};
 ghost use Rattle.acq_message.specs.Names.{is_merchant};
 
 use iso_codec::all_printable;
+use std::hash::{Hash, Hasher};
 use std::marker::Model;
 
 /// A merchant's name, as element 42 has it: fifteen bytes from 0x20 to 0x7E. Contracts see it as
 /// the list of these bytes. Source: ISO 8583:1987, card acceptor identification code.
-#[derive(Clone, Copy, Debug, PartialEq, Eq, Hash)]
+#[derive(Clone, Copy, Debug, PartialEq, Eq)]
 pub struct MerchantId {
     bytes: [u8; 15],
 }
@@ -46,5 +50,17 @@ impl MerchantId {
         ensures valid { is_merchant self.now ≡ true }
     {
         self.bytes
+    }
+}
+
+impl Hash for MerchantId {
+    // Whole words, which a hasher takes fastest.
+    ghost hash_input = { λ name. take 8 name ∷ drop 7 name ∷ [] };
+
+    ghost respects_eq = { Prim.search (hashing, rules) };
+
+    fn hash<H: Hasher>(&self, state: &mut H) {
+        state.write(&self.bytes[..8]);
+        state.write(&self.bytes[7..]);
     }
 }

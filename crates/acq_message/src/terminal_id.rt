@@ -1,15 +1,19 @@
 //! Names of terminals.
 
+ghost use Rattle.std.specs.Prelude.{◌∷◌, ◌++◌, [], take, drop};
+ghost use Rattle.std.proofs.Common.{rules};
+ghost use Rattle.std.specs.Cmp.Rules.{hashing};
 ghost use Rattle.std.specs.Prelude.{◌≡◌, true, SomeIff};
 ghost use Rattle.acq_message.specs.Names.{is_terminal};
 
 use iso_codec::all_printable;
+use std::hash::{Hash, Hasher};
 use std::marker::Model;
 
 /// A terminal's name, as element 41 has it: eight bytes from 0x20 to 0x7E. The same name at two
 /// merchants is two terminals. Contracts see it as the list of these bytes. Source: ISO 8583:1987,
 /// card acceptor terminal identification.
-#[derive(Clone, Copy, Debug, PartialEq, Eq, Hash)]
+#[derive(Clone, Copy, Debug, PartialEq, Eq)]
 pub struct TerminalId {
     bytes: [u8; 8],
 }
@@ -47,5 +51,16 @@ impl TerminalId {
         ensures valid { is_terminal self.now ≡ true }
     {
         self.bytes
+    }
+}
+
+impl Hash for TerminalId {
+    // Whole words, which a hasher takes fastest.
+    ghost hash_input = { λ name. name ∷ [] };
+
+    ghost respects_eq = { Prim.search (hashing, rules) };
+
+    fn hash<H: Hasher>(&self, state: &mut H) {
+        state.write(&self.bytes);
     }
 }

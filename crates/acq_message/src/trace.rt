@@ -1,14 +1,18 @@
 //! Trace numbers.
 
+ghost use Rattle.std.specs.Prelude.{◌∷◌, ◌++◌, [], take, drop};
+ghost use Rattle.std.proofs.Common.{rules};
+ghost use Rattle.std.specs.Cmp.Rules.{hashing};
 ghost use Rattle.std.specs.Prelude.{◌≡◌, true, SomeIff};
 ghost use Rattle.acq_message.specs.Names.{is_trace};
 
 use iso_codec::all_digits;
+use std::hash::{Hash, Hasher};
 use std::marker::Model;
 
 /// What a terminal numbers its messages with, as element 11 has it: six digits. Contracts see it as
 /// the list of their bytes. Source: ISO 8583:1987, systems trace audit number.
-#[derive(Clone, Copy, Debug, PartialEq, Eq, Hash)]
+#[derive(Clone, Copy, Debug, PartialEq, Eq)]
 pub struct Trace {
     bytes: [u8; 6],
 }
@@ -45,5 +49,18 @@ impl Trace {
         ensures valid { is_trace self.now ≡ true }
     {
         self.bytes
+    }
+}
+
+impl Hash for Trace {
+    // Whole words, which a hasher takes fastest.
+    ghost hash_input = { λ trace. (trace ++ 0 ∷ 0 ∷ []) ∷ [] };
+
+    ghost respects_eq = { Prim.search (hashing, rules) };
+
+    fn hash<H: Hasher>(&self, state: &mut H) {
+        let mut word = [0; 8];
+        word[..6].copy_from_slice(&self.bytes);
+        state.write(&word);
     }
 }

@@ -1,5 +1,8 @@
 //! The days on which a merchant's business is counted.
 
+ghost use Rattle.std.specs.Hash as fed;
+ghost use Rattle.std.proofs.Common.{rules};
+ghost use Rattle.std.specs.Cmp.Rules.{hashing};
 ghost use Rattle.std.specs.Prelude.{◌≡◌, ◌+◌, ◌<◌, ◌≤◌, true, pos, SomeIff, IfSome, IfNone};
 ghost use Rattle.std.specs.List.{list_all};
 ghost use Rattle.std.specs.Char.{is_ascii_digit};
@@ -10,10 +13,11 @@ ghost use Rattle.day_totals.specs.Day.{mmdd_of, date_text_of, resolved};
 
 use jiff::ToSpan;
 use jiff::civil::{Date, date};
+use std::hash::{Hash, Hasher};
 use std::marker::Model;
 
 /// A business day, from 2000-01-01 to 2099-12-31 (own profile). Contracts see its number.
-#[derive(Clone, Copy, Debug, PartialEq, Eq, PartialOrd, Ord, Hash)]
+#[derive(Clone, Copy, Debug, PartialEq, Eq, PartialOrd, Ord)]
 pub struct Day {
     number: u32,
 }
@@ -29,6 +33,17 @@ impl Model for Day {
     ghost invariant = { λ day. IsDayNumber day.number };
 
     ghost inverse = { λ number. record { number = number } };
+}
+
+impl Hash for Day {
+    // A whole word, which a hasher takes fastest.
+    ghost hash_input = { fed.u64 };
+
+    ghost respects_eq = { Prim.search (hashing, rules) };
+
+    fn hash<H: Hasher>(&self, state: &mut H) {
+        state.write_u64(self.number as u64);
+    }
 }
 
 impl Day {
