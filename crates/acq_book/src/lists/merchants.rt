@@ -73,7 +73,8 @@ impl Merchants {
     pub fn push(&mut self, row: Merchant)
         requires room { 0 < self.old.room }
         requires new { find (λ old. bytes_eq old.id row.id) self.old.rows ≡ None }
-        ensures { self.new.rows ≡ self.old.rows ++ row ∷ [] }
+        ensures rows { self.new.rows ≡ self.old.rows ++ row ∷ [] }
+        ensures room { self.old.room ≤ self.new.room + 1 }
     {
         put_merchant(&mut self.rows, row);
         self.room -= 1;

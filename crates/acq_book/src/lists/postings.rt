@@ -87,7 +87,8 @@ impl Postings {
         requires room { 0 < self.old.room }
         requires fits { IfSome posting (λ p. IsWithinLimits (with_leg_amount
             (totals_on (postings_of p.merchant self.old.rows) p.day) p.leg p.amount)) }
-        ensures { self.new.rows ≡ with_next_posting self.old.rows posting }
+        ensures rows { self.new.rows ≡ with_next_posting self.old.rows posting }
+        ensures room { self.old.room ≤ self.new.room + 1 }
     {
         if let Some(posting) = posting {
             self.push(posting);
@@ -100,7 +101,8 @@ impl Postings {
         requires fits { IsWithinLimits (with_leg_amount
             (totals_on (postings_of posting.merchant self.old.rows) posting.day)
             posting.leg posting.amount) }
-        ensures { self.new.rows ≡ with_next_posting self.old.rows (Some posting) }
+        ensures rows { self.new.rows ≡ with_next_posting self.old.rows (Some posting) }
+        ensures room { self.old.room ≤ self.new.room + 1 }
     {
         let day = MerchantDay {
             merchant: posting.merchant,

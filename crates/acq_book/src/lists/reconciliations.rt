@@ -79,7 +79,8 @@ impl Reconciliations {
     /// One more reconciliation, which gets its number.
     pub fn push(&mut self, row: &Reconciliation)
         requires { 0 < self.old.room }
-        ensures { self.new.rows ≡ with_next_reconciliation self.old.rows row.now }
+        ensures rows { self.new.rows ≡ with_next_reconciliation self.old.rows row.now }
+        ensures room { self.old.room ≤ self.new.room + 1 }
     {
         let number = put_next(&mut self.last, row);
         self.rows.push((number, *row)).unwrap();

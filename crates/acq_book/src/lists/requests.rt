@@ -147,7 +147,8 @@ impl Requests {
     pub fn push(&mut self, row: Request)
         requires room { 0 < self.old.room }
         requires new { IsNewRow self.old.rows row }
-        ensures { self.new.rows ≡ self.old.rows ++ row ∷ [] }
+        ensures rows { self.new.rows ≡ self.old.rows ++ row ∷ [] }
+        ensures room { self.old.room ≤ self.new.room + 1 }
     {
         let place = self.rows.len();
         let key = row.key;

@@ -69,7 +69,8 @@ impl Terminals {
         requires new { list_any
             (λ old. bytes_eq old.merchant row.merchant && bytes_eq old.id row.id)
             self.old.rows ≡ false }
-        ensures { self.new.rows ≡ self.old.rows ++ row ∷ [] }
+        ensures rows { self.new.rows ≡ self.old.rows ++ row ∷ [] }
+        ensures room { self.old.room ≤ self.new.room + 1 }
     {
         put_terminal(&mut self.rows, row);
         self.room -= 1;

@@ -24,8 +24,8 @@ invariant_of-self c =
       room = omega (arith, c.put_merchant.ensures.spare, c.self.invariant.room);
     }
 
-pub returns : goal.returns
-returns c =
+pub returns-clause-rows : goal.returns-clause-rows
+returns-clause-rows c =
     ap values_of c.put_merchant.ensures.entries
     ∙ (values-push c.self.inside.rows.entries c.args.row.id c.args.row
     ∙ ap (λ s. s.rows ++ c.args.row ∷ []) c.self.view_is)

@@ -30,8 +30,8 @@ invariant_of-self c =
       room = omega (arith, c.put_terminal.ensures.spare, c.self.invariant.room);
     }
 
-pub returns : goal.returns
-returns c =
+pub returns-clause-rows : goal.returns-clause-rows
+returns-clause-rows c =
     ap values_of c.put_terminal.ensures.entries
     ∙ (values-push c.self.inside.rows.entries (key_of_terminal c.args.row) c.args.row
     ∙ ap (λ s. s.rows ++ c.args.row ∷ []) c.self.view_is)
