@@ -17,8 +17,9 @@ pub enum Action {
 
 const ABOUT: &str = "An acquirer host for cards: ISO 8583:1987 frames in, reply frames out.
 
-Today it serves network management: echo tests, sign-ons and sign-offs (0800 and 0801). Every
-other type is read and gets no reply.";
+Today it answers network management (0800 and 0801: echo tests, sign-ons and sign-offs). No merchant
+is enrolled yet, so a merchant's request gets code 03, or 30 where it is malformed. Any other type
+is read and gets no reply.";
 
 const ABOUT_ONCE: &str =
     "Answers the frames on standard input with reply frames on standard output";

@@ -1,16 +1,16 @@
 //! Rows of the program: statuses, replies and printed lines; each read and each write failing in
 //! turn; and an input longer than a hundred reads.
 
-mod crowd;
 mod days;
-mod happening;
+mod expected;
 mod holds;
 mod isolation;
 mod many_merchants;
+mod other_merchant;
 mod reversals;
 mod sales;
-mod saying;
 mod script;
+mod script_event;
 mod two_days;
 mod wording;
 

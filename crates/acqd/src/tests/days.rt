@@ -1,10 +1,10 @@
 //! Business days and their reconciliations, and requests of no merchant.
 
-use super::happening::Happening::{Approve, Cutover, Frame};
+use super::expected::Expected::{Ask, Done, Refused, Reply};
 use super::reversals::REVERSAL;
 use super::sales::{SALE, SALE_APPROVED, SECOND_SALE};
-use super::saying::Saying::{Ask, Done, Refused, Reply};
 use super::script::{GREATEST_LIMIT, MAY_1, Script, run_all};
+use super::script_event::ScriptEvent::{Approve, Cutover, Frame};
 use std::hash::RandomState;
 use std::test::Fail;
 

@@ -1,9 +1,9 @@
 //! Authorizations, the holds that they open, and completions.
 
-use super::happening::Happening::{AddTerminal, Approve, Decline, Frame, FrameAt};
-use super::happening::MORNING;
-use super::saying::Saying::{Ask, Done, Refused, Reply};
+use super::expected::Expected::{Ask, Done, Refused, Reply};
 use super::script::{GREATEST_LIMIT, MAY_1, Script, run_all};
+use super::script_event::MORNING;
+use super::script_event::ScriptEvent::{AddTerminal, Approve, Decline, Frame, FrameAt};
 use std::hash::RandomState;
 use std::test::Fail;
 

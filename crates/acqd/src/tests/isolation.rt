@@ -1,10 +1,10 @@
 //! What a merchant gets, alone and among another's events.
 
-use super::happening::Happening::{Approve, Cutover, Frame, FrameAt};
+use super::expected::Expected::{Ask, Done, Reply};
 use super::holds::{HOLD, LAST_SECOND, SECOND_HOLD};
 use super::sales::{SALE, SALE_APPROVED, SECOND_SALE};
-use super::saying::Saying::{Ask, Done, Reply};
 use super::script::{GREATEST_LIMIT, MAY_1, Script, run_all, run_among};
+use super::script_event::ScriptEvent::{Approve, Cutover, Frame, FrameAt};
 use std::hash::RandomState;
 use std::test::Fail;
 

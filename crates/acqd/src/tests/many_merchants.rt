@@ -1,8 +1,8 @@
 //! Ten thousand events of fifty merchants, and what their day comes to.
 
-use super::happening::{MORNING, answer, enrolment, frame, new_terminal};
-use super::saying::text_of;
+use super::expected::text_of;
 use super::script::{GREATEST_LIMIT, MAY_1, outputs, setup};
+use super::script_event::{MORNING, answer, enrolment, frame, new_terminal};
 use super::wording::bytes_in;
 use acq_core::{Event, Verdict};
 use std::alloc::Global;

@@ -1,14 +1,14 @@
 //! Reversals, by what they find of their original.
 
-use super::happening::Happening::{
-    AddTerminal, Approve, Cutover, Decline, Frame, FrameAt, NoAnswer,
-};
+use super::expected::Expected::{Ask, Done, Refused, Reply};
 use super::holds::{
     COMPLETED, COMPLETION, COMPLETION_AGAIN, HOLD, HOLD_APPROVED, LAST_SECOND, NOT_COMPLETED_AGAIN,
 };
 use super::sales::{SALE, SALE_APPROVED, SALE_AT_B, SALE_AT_B_APPROVED};
-use super::saying::Saying::{Ask, Done, Refused, Reply};
 use super::script::{GREATEST_LIMIT, MAY_1, Script, run_all};
+use super::script_event::ScriptEvent::{
+    AddTerminal, Approve, Cutover, Decline, Frame, FrameAt, NoAnswer,
+};
 use std::hash::RandomState;
 use std::test::Fail;
 

@@ -1,10 +1,10 @@
 //! Sales and returns, what their issuers answer, and their repeats.
 
-use super::happening::Happening::{
+use super::expected::Expected::{Ask, Done, Refused, Reply};
+use super::script::{GREATEST_LIMIT, MAY_1, Script, run_all};
+use super::script_event::ScriptEvent::{
     AddRange, AddTerminal, Approve, Cutover, Decline, DropRange, Enrol, Frame, NoAnswer,
 };
-use super::saying::Saying::{Ask, Done, Refused, Reply};
-use super::script::{GREATEST_LIMIT, MAY_1, Script, run_all};
 use std::hash::RandomState;
 use std::test::Fail;
 

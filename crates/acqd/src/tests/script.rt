@@ -1,8 +1,8 @@
 //! Scripts: events, and what the host says to each.
 
-use super::crowd::add_lot;
-use super::happening::Happening;
-use super::saying::{Saying, text_of};
+use super::expected::{Expected, text_of};
+use super::other_merchant::add_lot;
+use super::script_event::ScriptEvent;
 use acq_core::{Event, Limit, Output};
 use acq_host::Host;
 use day_totals::Day;
@@ -12,7 +12,7 @@ use std::process::Abort;
 use std::test::Fail;
 
 /// An event, and what the host says to it.
-pub(super) type Step = (Happening, Saying);
+pub(super) type Step = (ScriptEvent, Expected);
 
 /// The number of 2024-05-01.
 pub(super) const MAY_1: u32 = 8887;
@@ -33,20 +33,20 @@ pub(super) struct Script {
 }
 
 /// Two issuers' ranges, and two merchants with a terminal each.
-pub(super) const SETUP: [Happening; 6] = [
-    Happening::AddRange(400_000, 499_999, "12345", 7),
-    Happening::AddRange(500_000, 599_999, "67890", 1),
-    Happening::Enrol("A", "978"),
-    Happening::AddTerminal("A", "T"),
-    Happening::Enrol("B", "978"),
-    Happening::AddTerminal("B", "T"),
+pub(super) const SETUP: [ScriptEvent; 6] = [
+    ScriptEvent::AddRange(400_000, 499_999, "12345", 7),
+    ScriptEvent::AddRange(500_000, 599_999, "67890", 1),
+    ScriptEvent::Enrol("A", "978"),
+    ScriptEvent::AddTerminal("A", "T"),
+    ScriptEvent::Enrol("B", "978"),
+    ScriptEvent::AddTerminal("B", "T"),
 ];
 
 /// The events of the setup.
 pub(super) fn setup(alloc: Global) -> Result<Vec<Event>, Fail> {
     let mut events = Vec::new(alloc);
-    for happening in &SETUP {
-        events.push(happening.event(alloc)?)?;
+    for script_event in &SETUP {
+        events.push(script_event.event(alloc)?)?;
     }
     Ok(events)
 }
@@ -74,10 +74,10 @@ pub(super) fn compare(
     places: &[usize],
 ) -> Result<(), Fail> {
     assert_eq!(rt; places.len(), script.steps.len(), "{}", script.name);
-    for (place, (happening, saying)) in places.iter().zip(script.steps) {
+    for (place, (script_event, expected)) in places.iter().zip(script.steps) {
         let output = said.get(*place).ok_or("an output")?;
-        let (found, want) = (text_of(alloc, output)?, saying.text(alloc)?);
-        assert_eq!(rt; found, want, "{}: {happening:?}", script.name);
+        let (found, want) = (text_of(alloc, output)?, expected.text(alloc)?);
+        assert_eq!(rt; found, want, "{}: {script_event:?}", script.name);
     }
     Ok(())
 }
@@ -90,12 +90,12 @@ pub(super) fn events_among(
     sales: u64,
 ) -> Result<(Vec<Event>, Vec<usize>), Fail> {
     let (mut events, mut places) = (setup(alloc)?, Vec::new(alloc));
-    for (place, (happening, _)) in (0..).zip(script.steps) {
+    for (place, (script_event, _)) in (0..).zip(script.steps) {
         if sales > 0 {
             add_lot(alloc, place, sales, &mut events)?;
         }
         places.push(events.len())?;
-        events.push(happening.event(alloc)?)?;
+        events.push(script_event.event(alloc)?)?;
     }
     Ok((events, places))
 }

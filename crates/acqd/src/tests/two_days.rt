@@ -1,11 +1,11 @@
 //! A script with a message of each kind, and a cutover.
 
-use super::happening::Happening::{Approve, Cutover, Frame, FrameAt};
+use super::expected::Expected::{Ask, Done, Reply};
 use super::holds::{HOLD, LAST_SECOND};
 use super::reversals::{REVERSAL, REVERSED};
 use super::sales::{SALE, SALE_APPROVED};
-use super::saying::Saying::{Ask, Done, Reply};
 use super::script::{GREATEST_LIMIT, MAY_1, Script, run_all};
+use super::script_event::ScriptEvent::{Approve, Cutover, Frame, FrameAt};
 use std::hash::RandomState;
 use std::test::Fail;
 

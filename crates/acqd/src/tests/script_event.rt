@@ -14,7 +14,7 @@ pub(super) const MORNING: u64 = 1_714_555_800;
 
 /// One event.
 #[derive(Clone, Copy, Debug)]
-pub(super) enum Happening {
+pub(super) enum ScriptEvent {
     /// A frame of these words comes.
     Frame(&'static str),
     /// The same at a moment.
@@ -37,33 +37,33 @@ pub(super) enum Happening {
     AddTerminal(&'static str, &'static str),
 }
 
-impl Happening {
+impl ScriptEvent {
     /// The event.
     pub(super) fn event(&self, alloc: Global) -> Result<Event, Fail> {
         match *self {
-            Happening::Frame(words) => frame(alloc, MORNING, words),
-            Happening::FrameAt(seconds, words) => frame(alloc, seconds, words),
-            Happening::Approve(merchant, reference, id) => {
+            ScriptEvent::Frame(words) => frame(alloc, MORNING, words),
+            ScriptEvent::FrameAt(seconds, words) => frame(alloc, seconds, words),
+            ScriptEvent::Approve(merchant, reference, id) => {
                 let verdict = Verdict::approved(id.as_bytes()).ok_or("an id")?;
                 answer(merchant, reference, verdict)
             }
-            Happening::Decline(merchant, reference, code) => {
+            ScriptEvent::Decline(merchant, reference, code) => {
                 let verdict = Verdict::declined(code.as_bytes()).ok_or("a code")?;
                 answer(merchant, reference, verdict)
             }
-            Happening::NoAnswer(merchant, reference) => {
+            ScriptEvent::NoAnswer(merchant, reference) => {
                 answer(merchant, reference, Verdict::NoAnswer)
             }
-            Happening::Cutover => Ok(Event::Cutover(moment(MORNING)?)),
-            Happening::AddRange(low, high, issuer, hold_days) => Ok(Event::AddRange(Range {
+            ScriptEvent::Cutover => Ok(Event::Cutover(moment(MORNING)?)),
+            ScriptEvent::AddRange(low, high, issuer, hold_days) => Ok(Event::AddRange(Range {
                 low,
                 high,
                 issuer: IssuerId::from_slice(alloc, issuer.as_bytes())?,
                 hold_days,
             })),
-            Happening::DropRange(low, high) => Ok(Event::DropRange(low, high)),
-            Happening::Enrol(merchant, currency) => enrolment(merchant, currency),
-            Happening::AddTerminal(merchant, terminal) => new_terminal(merchant, terminal),
+            ScriptEvent::DropRange(low, high) => Ok(Event::DropRange(low, high)),
+            ScriptEvent::Enrol(merchant, currency) => enrolment(merchant, currency),
+            ScriptEvent::AddTerminal(merchant, terminal) => new_terminal(merchant, terminal),
         }
     }
 }

@@ -7,7 +7,7 @@ use std::test::Fail;
 
 /// What the host is to say to one event, as scripts write it.
 #[derive(Clone, Copy, Debug)]
-pub(super) enum Saying {
+pub(super) enum Expected {
     /// A reply of these words.
     Reply(&'static str),
     /// It asks this issuer, about the request that gets this reference.
@@ -18,14 +18,16 @@ pub(super) enum Saying {
     Refused(u32),
 }
 
-impl Saying {
+impl Expected {
     /// The text that an output is to have.
     pub(super) fn text(&self, alloc: Global) -> Result<String, Fail> {
         Ok(match *self {
-            Saying::Reply(words) => String::from_utf8(bytes_in(alloc, words)?)?,
-            Saying::Ask(reference, issuer) => format!(in alloc; "asks {issuer} under {reference}")?,
-            Saying::Done => String::from_str(alloc, "done")?,
-            Saying::Refused(number) => format!(in alloc; "refuses by {number}")?,
+            Expected::Reply(words) => String::from_utf8(bytes_in(alloc, words)?)?,
+            Expected::Ask(reference, issuer) => format!(in alloc;
+                "asks {issuer} under {reference}"
+            )?,
+            Expected::Done => String::from_str(alloc, "done")?,
+            Expected::Refused(number) => format!(in alloc; "refuses by {number}")?,
         })
     }
 }

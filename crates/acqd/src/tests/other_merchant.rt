@@ -1,8 +1,8 @@
 //! Events of merchant B, to stand between those of another.
 
-use super::happening::{MORNING, answer, frame};
-use super::saying::{Saying, text_of};
+use super::expected::{Expected, text_of};
 use super::script::{GREATEST_LIMIT, MAY_1, outputs, setup};
+use super::script_event::{MORNING, answer, frame};
 use acq_core::{Event, Verdict};
 use std::alloc::Global;
 use std::hash::RandomState;
@@ -70,43 +70,47 @@ pub(super) fn add_lot(
 }
 
 /// What the host says to two lots of two sales each.
-const LOTS: [Saying; 18] = [
-    Saying::Ask(1, "12345"),
-    Saying::Ask(2, "12345"),
-    Saying::Ask(3, "67890"),
-    Saying::Reply(
+const LOTS: [Expected; 18] = [
+    Expected::Ask(1, "12345"),
+    Expected::Ask(2, "12345"),
+    Expected::Ask(3, "67890"),
+    Expected::Reply(
         "0210 722200000EC08000 16 4111111111111111 000000 000000001000 0501093000
         000001 0501 000000000001 B00001 00 T B 978",
     ),
-    Saying::Reply(
+    Expected::Reply(
         "0110 722200000EC08000 16 5500005555555559 000000 000000005000 0501093000
         000003 0501 000000000003 B00001 00 T B 978",
     ),
-    Saying::Reply("0430 122200000AC00000 000000001000 0501093100 500001 0501 000000000001 00 T B"),
-    Saying::Reply(
+    Expected::Reply(
+        "0430 122200000AC00000 000000001000 0501093100 500001 0501 000000000001 00 T B",
+    ),
+    Expected::Reply(
         "0210 722200000EC08000 16 4111111111111111 000000 000000001000 0501093000
         000001 0501 000000000001 B00001 00 T B 978",
     ),
-    Saying::Refused(32),
-    Saying::Refused(30),
-    Saying::Ask(4, "12345"),
-    Saying::Ask(5, "12345"),
-    Saying::Ask(6, "67890"),
-    Saying::Reply(
+    Expected::Refused(32),
+    Expected::Refused(30),
+    Expected::Ask(4, "12345"),
+    Expected::Ask(5, "12345"),
+    Expected::Ask(6, "67890"),
+    Expected::Reply(
         "0210 722200000EC08000 16 4111111111111111 000000 000000001000 0501093000
         000004 0501 000000000004 B00001 00 T B 978",
     ),
-    Saying::Reply(
+    Expected::Reply(
         "0110 722200000EC08000 16 5500005555555559 000000 000000005000 0501093000
         000006 0501 000000000006 B00001 00 T B 978",
     ),
-    Saying::Reply("0430 122200000AC00000 000000001000 0501093100 500004 0501 000000000004 00 T B"),
-    Saying::Reply(
+    Expected::Reply(
+        "0430 122200000AC00000 000000001000 0501093100 500004 0501 000000000004 00 T B",
+    ),
+    Expected::Reply(
         "0210 722200000EC08000 16 4111111111111111 000000 000000001000 0501093000
         000004 0501 000000000004 B00001 00 T B 978",
     ),
-    Saying::Refused(32),
-    Saying::Refused(30),
+    Expected::Refused(32),
+    Expected::Refused(30),
 ];
 
 /// Runs two lots, and compares all that the host says.
@@ -117,9 +121,9 @@ fn run_lots(rt: &impl Abort, alloc: Global, keys: RandomState) -> Result<(), Fai
     add_lot(alloc, 1, 2, &mut events)?;
     let said = outputs(alloc, keys, GREATEST_LIMIT, MAY_1, events.as_slice())?;
     assert_eq!(rt; said.len(), before.saturating_add(LOTS.len()));
-    for (output, saying) in said.iter().skip(before).zip(&LOTS) {
-        let (found, want) = (text_of(alloc, output)?, saying.text(alloc)?);
-        assert_eq!(rt; found, want, "{saying:?}");
+    for (output, expected) in said.iter().skip(before).zip(&LOTS) {
+        let (found, want) = (text_of(alloc, output)?, expected.text(alloc)?);
+        assert_eq!(rt; found, want, "{expected:?}");
     }
     Ok(())
 }
