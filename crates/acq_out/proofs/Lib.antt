@@ -1,0 +1,4 @@
+pub mod RecordFields
+pub mod RecordsRead
+pub mod PutTexts
+pub mod TwelveDigits
