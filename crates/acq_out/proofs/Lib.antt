@@ -2,3 +2,4 @@ pub mod RecordFields
 pub mod RecordsRead
 pub mod PutTexts
 pub mod TwelveDigits
+pub mod OnLiterals

@@ -4,3 +4,4 @@ pub mod EventLines
 pub mod Lines
 pub mod Reads
 pub mod OutputLines
+pub mod Worked

@@ -8,9 +8,12 @@
 mod event_line;
 mod event_lines;
 mod fields;
+pub mod laws;
 mod line_name;
 mod out_fault;
 mod output_lines;
+#[cfg(test)]
+mod tests;
 
 pub use event_lines::read_events;
 pub use out_fault::OutFault;

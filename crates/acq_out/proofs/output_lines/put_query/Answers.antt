@@ -21,6 +21,6 @@ returns c =
     let four : c.put_both-4.new.line.items ≡ c.put_both-3.new.line.items ++ (space ++ decimal query.amount) =
     rw (← c.number.ensures.value, ← c.format.ensures.text, ← c.as_bytes-2.ensures.value) c.in_ok-put_both-4.ensures in
     on_ok_weaker c.put_both-5.result (λ last.
-        let five : c.put_both-5.new.line.items ≡ c.put_both-4.new.line.items ++ (space ++ query.issuer) =
-        rw (← c.as_bytes-3.ensures) last in
-        rw (five, four, three, two, one) turn) c.put_both-5.ensures
+    let five : c.put_both-5.new.line.items ≡ c.put_both-4.new.line.items ++ (space ++ query.issuer) =
+    rw (← c.as_bytes-3.ensures) last in
+    rw (five, four, three, two, one) turn) c.put_both-5.ensures
