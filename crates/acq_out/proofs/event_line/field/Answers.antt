@@ -1,5 +1,4 @@
-use Rattle.std.proofs.Common.{◌∙◌, sym, ap}
-use Rattle.std.specs.Prelude.{option_map}
+use Rattle.std.proofs.Common.{sym}
 use Rattle.csv.specs.Records.{fields_of}
 use Rattle.acq_out.proofs.RecordFields.{field_there}
 use Rattle.acq_out.proofs.event_line.field.Goals as goal

@@ -1,4 +1,4 @@
-use Rattle.std.proofs.Common.{◌≡◌, ◌∙◌, ◌≤◌, ℕ, sym, true, length, arith}
+use Rattle.std.proofs.Common.{◌≡◌, ◌∙◌, sym, true, length}
 use Rattle.std.specs.List.{list_all}
 use Rattle.std.specs.Char.{is_ascii_digit}
 use Rattle.std.specs.Prelude.{◌&&◌, nat_le}
