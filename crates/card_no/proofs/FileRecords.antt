@@ -136,7 +136,7 @@ records-end zero s xs h = refl
 records-end (suc m) s xs h = rw h refl
 
 -- the records of a text are those reached, and more
-all_records : (text : List ℕ) (rows : List (List (List ℕ))) (state : State) (rest : List ℕ)
+pub all_records : (text : List ℕ) (rows : List (List (List ℕ))) (state : State) (rest : List ℕ)
     → Reached default_config st.StartRecord (strip_bom text) rows state rest
     → (more : List (List (List ℕ))) × (records_of text ≡ rows ++ more)
     × (next_record default_config state [] [] rest ≡ None → more ≡ [])

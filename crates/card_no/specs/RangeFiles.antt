@@ -1,6 +1,6 @@
 -- Range list files (own profile): CSV as the crate `csv` reads it, with no header line, a record of
 -- four fields for each range.
-use Rattle.std.specs.Prelude.{◌≡◌, ⊤, ℕ, ◌+◌, ◌-◌, ◌≤◌, ◌==◌, nat_le, Bool, ◌&&◌, List, [], ◌∷◌}
+use Rattle.std.specs.Prelude.{◌≡◌, ⊤, ℕ, ◌+◌, ◌-◌, ◌≤◌, nat_le, Bool, ◌&&◌, List, [], ◌∷◌}
 use Rattle.std.specs.Prelude.{length, take, Option, Some, None, Result, Ok, Err, IsOk, ◌⊎◌}
 use Rattle.std.specs.Prelude.{if◌then◌else◌}
 use Rattle.std.specs.List.{list_all}
@@ -8,17 +8,13 @@ use Rattle.std.specs.Char.{is_ascii_digit}
 use Rattle.std.specs.Str.Parse.{digits_value}
 use Rattle.csv.specs.Reading.{default_config, records, strip_bom}
 use Rattle.csv.specs.declared.error.ErrorKind as kind
-use Rattle.card_no.specs.Prefix.{prefix_digits}
+use Rattle.card_no.specs.Prefix.{is_prefix_text}
 use Rattle.card_no.specs.Ranges.{is_issuer}
 use Rattle.card_no.specs.RangeChanges.{added}
 use Rattle.card_no.specs.declared.range.Range.{Range}
 use Rattle.card_no.specs.declared.range_fault.RangeFault.{RangeFault}
 use Rattle.card_no.specs.declared.range_fault.RangeFault.TheVariants.{Memory, BadRange, Overlap}
 use Rattle.card_no.specs.declared.range_fault.RangeFault.TheVariants.{NoSuchRange, BadLine}
-
--- just as many digits as a prefix has
-abbrev pub is_prefix_text : List ℕ → Bool
-is_prefix_text text = (length text == prefix_digits) && list_all is_ascii_digit text
 
 -- one or two digits
 abbrev pub is_days_text : List ℕ → Bool

@@ -11,6 +11,7 @@ mod range;
 mod range_fault;
 mod range_file;
 mod range_list;
+mod range_text;
 mod track2;
 
 pub use card_number::CardNumber;

@@ -4,9 +4,9 @@ ghost use Rattle.std.specs.Prelude.{◌≡◌, SomeIff, length, true};
 ghost use Rattle.std.specs.List.{list_all};
 ghost use Rattle.std.specs.Char.{is_ascii_digit};
 ghost use Rattle.std.specs.Str.Parse.{digits_value};
-ghost use Rattle.card_no.specs.Prefix.{prefix_digits, IsPrefix};
+ghost use Rattle.card_no.specs.Prefix.{prefix_digits, IsPrefix, is_prefix_text, prefix_of_text};
 
-use crate::digits::number;
+use crate::digits::{all_digits, number};
 use std::marker::Model;
 
 /// The number of a card number's first digits, [`Prefix::DIGITS`] of them, which finds the card's
@@ -46,6 +46,17 @@ impl Prefix {
         Some(Prefix { number })
     }
 
+    /// The prefix that a text spells, or `None` where it isn't just [`Prefix::DIGITS`] digits. It
+    /// takes no memory.
+    pub fn read(text: &[u8]) -> Option<Prefix>
+        ensures { result ≡ prefix_of_text text.now }
+    {
+        if !is_prefix_text(text) {
+            return None;
+        }
+        Some(Prefix::of_digits(text))
+    }
+
     /// The prefix that just so many digits spell.
     pub(crate) fn of_digits(digits: &[u8]) -> Prefix
         requires each { list_all is_ascii_digit digits.now ≡ true }
@@ -65,4 +76,11 @@ impl Prefix {
         let Prefix { number } = self;
         number
     }
+}
+
+/// Whether a text is as many digits as a prefix has.
+pub(crate) fn is_prefix_text(text: &[u8]) -> bool
+    ensures { result ≡ is_prefix_text text.now }
+{
+    text.len() == Prefix::DIGITS && all_digits(text)
 }

@@ -6,15 +6,11 @@ ghost use Rattle.csv.specs.Reading.{reader_trim, source_of, strip_bom};
 ghost use Rattle.csv.specs.declared.parser.State.TheVariants as st;
 ghost use Rattle.csv.specs.declared.reader.Trim.TheVariants as trim;
 ghost use Rattle.csv.specs.Records.{fields_of};
-ghost use Rattle.card_no.specs.RangeFiles.{is_prefix_text, is_days_text, are_range_texts};
 ghost use Rattle.card_no.specs.RangeFiles.{range_of_fields, with_record, read_fault_of};
 ghost use Rattle.card_no.specs.RangeFiles.{ReadsRanges};
 ghost use Rattle.card_no.specs.declared.range_fault.RangeFault.TheVariants.{Memory, BadLine};
 
-use crate::digits::{all_digits, number};
-use crate::issuer_id::IssuerId;
-use crate::prefix::Prefix;
-use crate::range::{Range, is_issuer};
+use crate::range::Range;
 use crate::range_fault::RangeFault;
 use crate::range_list::RangeList;
 use csv::{ByteRecord, ErrorKind, Reader, ReaderBuilder};
@@ -116,34 +112,5 @@ fn range_of(alloc: Global, fields: &ByteRecord) -> Result<Option<Range>, AllocEr
     if fields.get(4).is_some() {
         return Ok(None);
     }
-    if !are_range_texts(low, high, issuer, days) {
-        return Ok(None);
-    }
-    Ok(Some(Range {
-        low: number(low),
-        high: number(high),
-        issuer: IssuerId::from_slice(alloc, issuer)?,
-        hold_days: number(days) as u8,
-    }))
-}
-
-/// Whether the four fields of a record are in their form.
-fn are_range_texts(low: &[u8], high: &[u8], issuer: &[u8], days: &[u8]) -> bool
-    ensures { result ≡ are_range_texts low.now high.now issuer.now days.now }
-{
-    is_prefix_text(low) && is_prefix_text(high) && is_issuer(issuer) && is_days_text(days)
-}
-
-/// Whether a text is as many digits as a prefix has.
-fn is_prefix_text(text: &[u8]) -> bool
-    ensures { result ≡ is_prefix_text text.now }
-{
-    text.len() == Prefix::DIGITS && all_digits(text)
-}
-
-/// Whether a text is one or two digits.
-fn is_days_text(text: &[u8]) -> bool
-    ensures { result ≡ is_days_text text.now }
-{
-    (1..=2).contains(&text.len()) && all_digits(text)
+    Range::from_texts(alloc, low, high, issuer, days)
 }

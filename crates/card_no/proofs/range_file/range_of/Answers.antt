@@ -1,6 +1,5 @@
-use Rattle.std.proofs.Common.{◌≡◌, ◌∙◌, sym, ap, refl, arith, true, false}
+use Rattle.std.proofs.Common.{◌∙◌, sym, arith}
 use Rattle.csv.specs.Records.{fields_of}
-use Rattle.card_no.specs.RangeFiles.{are_range_texts, range_of_fields}
 use Rattle.card_no.proofs.RecordFields.{fields-none, fields-more, fields-four}
 use Rattle.card_no.proofs.range_file.range_of.Goals as goal
 
@@ -23,28 +22,10 @@ pub returns-then-is_some : goal.returns-then-is_some
 returns-then-is_some c = sym (fields-more (fields_of c.args.fields.now) c.get-5.result
     (sym c.is_some.ensures ∙ c.if-is_some.true) c.get-5.ensures.value)
 
-pub returns-then-not-are_range_texts : goal.returns-then-not-are_range_texts
-returns-then-not-are_range_texts c =
-    let four = fields-four (fields_of c.args.fields.now) c.in-Some.low.now c.in-Some-get.high.now
-    c.in-Some-get-2.issuer.now c.in-Some-get-3.days.now c.get-5.result
-    c.in-Some.ensures.value c.in-Some-get.ensures.value c.in-Some-get-2.ensures.value c.in-Some-get-3.ensures.value
-    (sym c.is_some.ensures ∙ c.if-is_some.false) c.get-5.ensures.value in
-    let form : are_range_texts c.in-Some.low.now c.in-Some-get.high.now c.in-Some-get-2.issuer.now
-    c.in-Some-get-3.days.now ≡ false = sym c.are_range_texts.ensures ∙ c.if-not-are_range_texts.true in
-    sym (ap range_of_fields four ∙ rw form refl)
-
 pub returns : goal.returns
 returns c =
     let four = fields-four (fields_of c.args.fields.now) c.in-Some.low.now c.in-Some-get.high.now
     c.in-Some-get-2.issuer.now c.in-Some-get-3.days.now c.get-5.result
     c.in-Some.ensures.value c.in-Some-get.ensures.value c.in-Some-get-2.ensures.value c.in-Some-get-3.ensures.value
     (sym c.is_some.ensures ∙ c.if-is_some.false) c.get-5.ensures.value in
-    let form : are_range_texts c.in-Some.low.now c.in-Some-get.high.now c.in-Some-get-2.issuer.now
-    c.in-Some-get-3.days.now ≡ true = sym c.are_range_texts.ensures ∙ c.if-not-are_range_texts.false in
-    sym (ap range_of_fields four ∙ rw (
-      form,
-      c.number.ensures.value,
-      c.number-2.ensures.value,
-      c.in_ok-from_slice.ensures,
-      c.number-3.ensures.value,
-    ) refl)
+    rw four c.from_texts.ensures

@@ -1,0 +1,57 @@
+-- The faults' numbers and texts, and how many reads and writes failed.
+use Rattle.std.specs.Prelude.{ℕ, List, ◌++◌, [], codes, Result, Ok, Err}
+use Rattle.std.specs.Fmt.{decimal}
+use Rattle.acq_link.specs.declared.input_fault.InputFault as input
+use Rattle.acq_out.specs.declared.out_fault.OutFault.{OutFault}
+use Rattle.acq_out.specs.declared.out_fault.OutFault.TheVariants.{Memory, Read, Write, BadLine}
+
+abbrev pub number_of : OutFault → ℕ
+number_of Memory = 1
+number_of Read = 53
+number_of (Write n) = 54
+number_of (BadLine n) = 62
+
+-- a fault's name
+abbrev pub name_of : OutFault → List ℕ
+name_of Memory = codes "Memory"
+name_of Read = codes "Read"
+name_of (Write n) = codes "Write"
+name_of (BadLine n) = codes "BadLine"
+
+-- its value, behind a space
+abbrev pub values_of : OutFault → List ℕ
+values_of Memory = []
+values_of Read = []
+values_of (Write n) = codes " " ++ decimal n
+values_of (BadLine n) = codes " " ++ decimal n
+
+-- the fault as printed lines have it
+abbrev pub text_of : OutFault → List ℕ
+text_of fault = decimal (number_of fault) ++ codes " " ++ name_of fault ++ values_of fault
+
+-- what a fault of the input is
+abbrev pub of_input : input.InputFault → OutFault
+of_input input.TheVariants.Memory = Memory
+of_input input.TheVariants.Read = Read
+
+-- how many reads failed
+abbrev pub reads_failed : OutFault → ℕ
+reads_failed Memory = 0
+reads_failed Read = 1
+reads_failed (Write n) = 0
+reads_failed (BadLine n) = 0
+
+abbrev pub failed_reads : {T : Type 0} → Result T OutFault → ℕ
+failed_reads (Ok x) = 0
+failed_reads (Err fault) = reads_failed fault
+
+-- how many writes failed
+abbrev pub writes_failed : OutFault → ℕ
+writes_failed Memory = 0
+writes_failed Read = 0
+writes_failed (Write n) = 1
+writes_failed (BadLine n) = 0
+
+abbrev pub failed_writes : {T : Type 0} → Result T OutFault → ℕ
+failed_writes (Ok x) = 0
+failed_writes (Err fault) = writes_failed fault

@@ -1,0 +1,100 @@
+//! Why events were not read, or a text was not written.
+
+ghost use Rattle.std.specs.Prelude.{◌≡◌};
+
+use acq_link::InputFault;
+use std::alloc::{AllocError, AllocFailed};
+use std::error::Error;
+use std::fmt;
+
+/// Why events were not read, or a text was not written. Its text is its number, its name and its
+/// value, as printed lines have them.
+#[derive(Clone, Copy, Debug, PartialEq, Eq, Drop)]
+pub enum OutFault {
+    /// 1: memory ran out.
+    Memory,
+    /// 53: a read failed.
+    Read,
+    /// 54: a write failed, and so many bytes of the text in hand had been written.
+    Write(u64),
+    /// 62: the record with this number, counted from 1, is out of its form.
+    BadLine(u64),
+}
+
+impl OutFault {
+    ghost use Rattle.acq_out.specs.Faults.{number_of, name_of};
+
+    /// The fault's number.
+    pub fn number(&self) -> u8
+        ensures { result ≡ number_of self.now }
+    {
+        match self {
+            OutFault::Memory => 1,
+            OutFault::Read => 53,
+            OutFault::Write(_) => 54,
+            OutFault::BadLine(_) => 62,
+        }
+    }
+
+    fn name(&self) -> &'static str
+        ensures { result.now ≡ name_of self.now }
+    {
+        match self {
+            OutFault::Memory => "Memory",
+            OutFault::Read => "Read",
+            OutFault::Write(_) => "Write",
+            OutFault::BadLine(_) => "BadLine",
+        }
+    }
+}
+
+impl fmt::Display for OutFault {
+    ghost use Rattle.std.specs.Prelude.{Some};
+    ghost use Rattle.acq_out.specs.Faults.{text_of};
+
+    ghost output = { λ f. Some (text_of f) };
+
+    fn fmt<W: fmt::Write>(&self, f: &mut fmt::Formatter<W>) -> fmt::Result {
+        write!(f, "{} {}", self.number(), self.name())?;
+        match self {
+            OutFault::Write(bytes) => write!(f, " {bytes}"),
+            OutFault::BadLine(record) => write!(f, " {record}"),
+            OutFault::Memory | OutFault::Read => Ok(()),
+        }
+    }
+}
+
+impl Error for OutFault {}
+
+impl From<AllocError> for OutFault {
+    ghost use Rattle.acq_out.specs.declared.out_fault.OutFault.TheVariants.{Memory};
+
+    ghost from_gives = { λ _ f. f ≡ Memory };
+
+    fn from(_e: AllocError) -> OutFault {
+        OutFault::Memory
+    }
+}
+
+impl<T: Drop> From<AllocFailed<T>> for OutFault {
+    ghost use Rattle.acq_out.specs.declared.out_fault.OutFault.TheVariants.{Memory};
+
+    ghost from_gives = { λ _ f. f ≡ Memory };
+
+    fn from(_e: AllocFailed<T>) -> OutFault {
+        OutFault::Memory
+    }
+}
+
+impl From<InputFault> for OutFault {
+    ghost use Rattle.acq_out.specs.Faults.{of_input};
+
+    ghost from_gives = { λ e f. f ≡ of_input e };
+
+    fn from(e: InputFault) -> OutFault {
+        match e {
+            InputFault::Memory => OutFault::Memory,
+            InputFault::Read => OutFault::Read,
+        }
+    }
+}
