@@ -5,9 +5,10 @@ use Rattle.iso_codec.specs.FaultTexts.{number_of_fault, element_of_fault}
 use Rattle.acq_book.specs.declared.book_fault.BookFault as book
 use Rattle.acq_link.specs.declared.input_fault.InputFault as input
 use Rattle.acq_link.specs.declared.write_fault.WriteFault as write
+use Rattle.acq_out.specs.declared.out_fault.OutFault as out
 use Rattle.acqd.specs.declared.fault.Fault.{Fault}
 use Rattle.acqd.specs.declared.fault.Fault.TheVariants.{Memory, Store, BadLength, Ended}
-use Rattle.acqd.specs.declared.fault.Fault.TheVariants.{Undecodable, Read, Write}
+use Rattle.acqd.specs.declared.fault.Fault.TheVariants.{Undecodable, Read, Write, BadLine}
 
 abbrev pub number_of : Fault → ℕ
 number_of Memory = 1
@@ -17,6 +18,7 @@ number_of Ended = 51
 number_of (Undecodable fault) = 52
 number_of Read = 53
 number_of (Write n) = 54
+number_of (BadLine n) = 62
 
 -- a fault's name
 abbrev pub name_of : Fault → List ℕ
@@ -27,27 +29,30 @@ name_of Ended = codes "Ended"
 name_of (Undecodable fault) = codes "Undecodable"
 name_of Read = codes "Read"
 name_of (Write n) = codes "Write"
+name_of (BadLine n) = codes "BadLine"
 
 -- its values, each behind a space
 abbrev pub values_of : Fault → List ℕ
 values_of (Undecodable fault) =
     codes " " ++ decimal (number_of_fault fault) ++ codes " " ++ decimal (element_of_fault fault)
 values_of (Write n) = codes " " ++ decimal n
+values_of (BadLine n) = codes " " ++ decimal n
 values_of other = []
 
 -- the fault as printed lines have it
 abbrev pub text_of : Fault → List ℕ
 text_of fault = decimal (number_of fault) ++ codes " " ++ name_of fault ++ values_of fault
 
--- 3 where memory ran out, else 1
+-- 3 where memory ran out or the store failed, else 1
 abbrev pub status_of : Fault → ℕ
 status_of Memory = 3
-status_of Store = 1
+status_of Store = 3
 status_of BadLength = 1
 status_of Ended = 1
 status_of (Undecodable fault) = 1
 status_of Read = 1
 status_of (Write n) = 1
+status_of (BadLine n) = 1
 
 -- what a fault of a book is
 abbrev pub of_book : book.BookFault → Fault
@@ -63,6 +68,13 @@ of_input input.TheVariants.Read = Read
 abbrev pub of_write : write.WriteFault → Fault
 of_write write.TheVariants.Memory = Memory
 of_write (write.TheVariants.Write n) = Write n
+
+-- what a fault of event lines or of output lines is
+abbrev pub of_out : out.OutFault → Fault
+of_out out.TheVariants.Memory = Memory
+of_out out.TheVariants.Read = Read
+of_out (out.TheVariants.Write n) = Write n
+of_out (out.TheVariants.BadLine n) = BadLine n
 
 -- 0 where all is well
 abbrev pub status_after : Result (Unit {0}) Fault → ℕ

@@ -61,6 +61,7 @@ abbrev pub StopsAt : List ℕ → List ℕ → fault.Fault → Type 0
 StopsAt input out fault.TheVariants.Memory =
     (messages : List (List ℕ)) × (rest : List ℕ) × Answers input out messages rest
 StopsAt input out fault.TheVariants.Store = ⊥
+StopsAt input out (fault.TheVariants.BadLine n) = ⊥
 StopsAt input out fault.TheVariants.BadLength =
     (messages : List (List ℕ)) × (rest : List ℕ) × Answers input out messages rest
     × (has_bad_length rest ≡ true)

@@ -4,6 +4,7 @@ ghost use Rattle.std.specs.Prelude.{◌≡◌};
 
 use acq_book::BookFault;
 use acq_link::{InputFault, WriteFault};
+use acq_out::OutFault;
 use iso_codec::DecodeFault;
 use std::alloc::AllocError;
 use std::error::Error;
@@ -27,6 +28,8 @@ pub enum Fault {
     Read,
     /// 54: a write failed, and so many bytes of the piece in hand had been written.
     Write(u64),
+    /// 62: the record of event lines with this number, counted from 1, is out of its form.
+    BadLine(u64),
 }
 
 impl Fault {
@@ -44,6 +47,7 @@ impl Fault {
             Fault::Undecodable(_) => 52,
             Fault::Read => 53,
             Fault::Write(_) => 54,
+            Fault::BadLine(_) => 62,
         }
     }
 
@@ -52,7 +56,7 @@ impl Fault {
         ensures { result ≡ status_of self.now }
     {
         match self {
-            Fault::Memory => 3,
+            Fault::Memory | Fault::Store => 3,
             _ => 1,
         }
     }
@@ -68,6 +72,7 @@ impl Fault {
             Fault::Undecodable(_) => "Undecodable",
             Fault::Read => "Read",
             Fault::Write(_) => "Write",
+            Fault::BadLine(_) => "BadLine",
         }
     }
 }
@@ -83,6 +88,7 @@ impl fmt::Display for Fault {
         match self {
             Fault::Undecodable(fault) => write!(f, " {} {}", fault.number(), fault.element()),
             Fault::Write(bytes) => write!(f, " {bytes}"),
+            Fault::BadLine(record) => write!(f, " {record}"),
             _ => Ok(()),
         }
     }
@@ -135,6 +141,21 @@ impl From<WriteFault> for Fault {
         match e {
             WriteFault::Memory => Fault::Memory,
             WriteFault::Write(bytes) => Fault::Write(bytes),
+        }
+    }
+}
+
+impl From<OutFault> for Fault {
+    ghost use Rattle.acqd.specs.Faults.{of_out};
+
+    ghost from_gives = { λ e f. f ≡ of_out e };
+
+    fn from(e: OutFault) -> Fault {
+        match e {
+            OutFault::Memory => Fault::Memory,
+            OutFault::Read => Fault::Read,
+            OutFault::Write(bytes) => Fault::Write(bytes),
+            OutFault::BadLine(record) => Fault::BadLine(record),
         }
     }
 }

@@ -6,12 +6,14 @@ mod arguments;
 mod command;
 mod fault;
 mod once;
+mod replay;
 mod text_sink;
 
 use acq_link::{ReadSource, WriteSink};
 pub use command::command;
 pub use fault::Fault;
 pub use once::once;
+pub use replay::replay;
 use std::env::{Env, FillError};
 use std::hash::RandomState;
 use std::process::ExitCode;

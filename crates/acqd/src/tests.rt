@@ -12,6 +12,7 @@ mod sales;
 mod script;
 mod script_event;
 mod two_days;
+mod walks;
 mod wording;
 
 use crate::{command, once};
