@@ -1,3 +1,4 @@
 pub mod AnsweredFrames
 pub mod ProgramIsSimple
 pub mod FramesChangeNothing
+pub mod LinesWritten

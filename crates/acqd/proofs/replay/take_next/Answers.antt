@@ -1,9 +1,10 @@
 use Rattle.std.proofs.Common.{◌≡◌, ◌++◌, ℕ, List, take, inr, sym, ap, ◌∙◌, append-nil}
-use Rattle.std.specs.Prelude.{Result, Ok, Err, OnErr}
+use Rattle.std.specs.Prelude.{Err}
 use Rattle.acq_core.specs.declared.output.Output.{Output}
 use Rattle.acq_out.specs.OutputLines.{WritesLine, line_of}
 use Rattle.acq_out.specs.declared.out_fault.OutFault.{OutFault}
 use Rattle.acq_out.specs.declared.out_fault.OutFault.TheVariants.{Memory, Read, Write, BadLine}
+use Rattle.acqd.proofs.LinesWritten.{on_err}
 use Rattle.acqd.proofs.replay.take_next.Goals as goal
 
 -- of a line that failed, first bytes went out
@@ -13,10 +14,6 @@ first_bytes o old new Memory same = (0, same ∙ sym (append-nil old))
 first_bytes o old new (Write n) so = (n, so.1)
 first_bytes o old new Read never = absurd never
 first_bytes o old new (BadLine n) never = absurd never
-
-on_err : {A E P : Type 0} (r : Result A E) → P → OnErr r P
-on_err (Ok x) p = cc
-on_err (Err e) p = p
 
 pub returns-in_err-write_output-clause-fault : goal.returns-in_err-write_output-clause-fault
 returns-in_err-write_output-clause-fault g c =

@@ -1,0 +1,82 @@
+use Rattle.std.proofs.Common.{◌+◌, ◌++◌, ◌∷◌, [], take, length, inl, inr, ⊎_elim, refl, sym, ap, ◌∙◌}
+use Rattle.std.proofs.Common.{append_assoc, append-nil, arith}
+use Rattle.std.specs.List.{flat_map}
+use Rattle.std.proofs.lemmas.Option.{slice_get_read}
+use Rattle.acq_core.specs.Arrivals.{arrival_of}
+use Rattle.acq_core.specs.Tables.{step_output, step_tables}
+use Rattle.acq_host.proofs.Runs.{took_next, after_next}
+use Rattle.acq_out.specs.OutputLines.{line_of}
+use Rattle.acqd.specs.Replay.{lines}
+use Rattle.acqd.proofs.LinesWritten.{lines-push, on_err}
+use Rattle.acqd.proofs.replay.take_all.Goals as goal
+
+pub loop-event-preserved : goal.loop-event-preserved
+loop-event-preserved g c =
+    let so = c.loop-event.invariant.0 in
+    let e = c.event-item.result in
+    let o = step_output (g.B.Book.tables c.loop-event.host) (arrival_of e) in
+    let made = c.in_ok-take_next.ensures.made in
+    let sent = g.K.Sink.sent c.args.output.now in (
+      (
+        so.0 ++ o ∷ [],
+        took_next g.B.Book.tables g.B.Book.is_honest g.B.Book.is_open g.B.Book.may_leave g.B.Book.failures
+            c.args.host.now c.loop-event.host c.take_next.new.host c.args.events.now c.loop-event.event-index e
+            so.0 (so.0 ++ o ∷ []) (omega arith) c.event-item.is so.1 made (λ _. refl),
+        λ h opened.
+            let between = so.1.stays_open (made.was_honest h) opened in
+            c.in_ok-take_next.ensures.sent (made.stays_open refl h between)
+            ∙ (ap (λ x. x ++ line_of o) (so.2 (made.was_honest h) opened)
+            ∙ (append_assoc sent (flat_map line_of so.0) (line_of o)
+            ∙ ap (λ x. sent ++ x) (sym (lines-push so.0 o)))),
+      ),
+      omega (arith, c.in_ok-take_next.ensures.writes, c.loop-event.invariant.1),
+    )
+
+pub returns-in_err-take_next-clause-stops : goal.returns-in_err-take_next-clause-stops
+returns-in_err-take_next-clause-stops g c = λ h opened.
+    let so = c.loop-event.invariant.0 in
+    let at = c.loop-event.event-index in
+    let events = c.args.events.now in
+    let e = c.event-item.result in
+    let t = g.B.Book.tables c.args.host.now in
+    let sent = g.K.Sink.sent c.args.output.now in
+    let so_far = λ (was : g.B.Book.is_honest c.loop-event.host).
+        so.2 was opened
+        ∙ ap (λ said. sent ++ flat_map line_of said) (so.1.says (so.1.stays_open was opened)) in
+    on_err c.from_residual.result (⊎_elim
+    (λ untaken. record {
+      taken = at;
+      written = at;
+      part = [];
+      lines_sent =
+          untaken.1 ∙ (so_far (untaken.0.was_honest h)
+          ∙ ap (λ x. sent ++ x) (sym (append-nil (lines t (take at events)))));
+      next = inl (refl, refl);
+      leads = λ o. untaken.0.unmade refl o ∙ so.1.leads (untaken.0.was_open o);
+    })
+    (λ taken.
+        let made = taken.0 in
+        let was = made.was_honest h in
+        let between = so.1.stays_open was opened in
+        let part = take taken.1 (line_of (step_output (g.B.Book.tables c.loop-event.host) (arrival_of e))) in record {
+          taken = at + 1;
+          written = at;
+          part = part;
+          lines_sent =
+              taken.2 (made.stays_open refl h between)
+              ∙ (ap (λ x. x ++ part) (so_far was) ∙ append_assoc sent (lines t (take at events)) part);
+          next = inr (
+            refl,
+            (
+              e,
+              taken.1,
+              slice_get_read events (length events) at e refl (omega arith) c.event-item.is,
+              ap (λ u. take taken.1 (line_of (step_output u (arrival_of e)))) (so.1.leads between),
+            ),
+          );
+          leads = λ o.
+              made.made refl o
+              ∙ (ap (λ u. step_tables u (arrival_of e)) (so.1.leads (made.was_open o))
+              ∙ sym (after_next t events at e (omega arith) c.event-item.is));
+        })
+    (c.in_err-take_next.ensures.fault))
