@@ -1,4 +1,5 @@
--- The fields of event lines (own profile): which texts spell a number, a name, a verdict, a message.
+-- The fields of event lines (own profile): which texts spell a number, a name, a verdict, and a
+-- message.
 use Rattle.std.specs.Prelude.{ℕ, ◌-◌, ◌==◌, nat_le, Bool, not, ◌&&◌, List, ◌++◌, length, replicate}
 use Rattle.std.specs.Prelude.{codes, Option, Some, None, if◌then◌else◌}
 use Rattle.std.specs.List.{list_all}

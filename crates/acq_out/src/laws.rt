@@ -1,7 +1,6 @@
 //! Laws of event lines, and worked rows of the definitions.
 
-ghost use Rattle.std.specs.Prelude.{◌≡◌, ◌+◌, ◌<◌, ℕ, List, [], ◌∷◌, ◌++◌, Some, None, Ok, Err, map};
-ghost use Rattle.std.specs.Prelude.{codes, length, slice_get};
+ghost use Rattle.std.specs.Prelude.{◌≡◌, ℕ, List, [], ◌∷◌, None, Ok, Err, codes};
 ghost use Rattle.card_no.specs.RangeFiles.{records_of};
 ghost use Rattle.acq_core.specs.declared.event.Event.{Event};
 ghost use Rattle.acq_core.specs.declared.event.Event.TheVariants as event;
@@ -34,13 +33,16 @@ pub fn worked_event_lines()
     ensures declined { events_of_text (codes "answer,1714555801,SHOP,000,declined,51")
         ≡ Ok (event.Answer 1714555801 (codes "SHOP           ") 0
         (verdict.Declined (codes "51")) ∷ []) }
-    ensures no_answer { events_of_text (codes "answer,1714555801,MERCHANT0000001,000000000001,none,")
+    ensures no_answer { events_of_text
+        (codes "answer,1714555801,MERCHANT0000001,000000000001,none,")
         ≡ Ok (event.Answer 1714555801 (codes "MERCHANT0000001") 1 verdict.NoAnswer ∷ []) }
     ensures cutover { events_of_text (codes "cutover,4102444799,,,,\n")
         ≡ Ok (event.Cutover 4102444799 ∷ []) }
-    ensures ranges { events_of_text (codes "addrange,004999,499999,012345,07,\ndroprange,004999,499999,,,\n")
+    ensures ranges { events_of_text
+        (codes "addrange,004999,499999,012345,07,\ndroprange,004999,499999,,,\n")
         ≡ Ok (event.AddRange worked_range ∷ event.DropRange 4999 499999 ∷ []) }
-    ensures names { events_of_text (codes "enrol,SHOP,978,900000000000,,\r\nterminal,SHOP,T 1,,,\r\n")
+    ensures names { events_of_text
+        (codes "enrol,SHOP,978,900000000000,,\r\nterminal,SHOP,T 1,,,\r\n")
         ≡ Ok (event.Enrol (codes "SHOP           ") (codes "978") 900000000000
         ∷ event.AddTerminal (codes "SHOP           ") (codes "T 1     ") ∷ []) }
     ensures mark { events_of_text (0xEF ∷ 0xBB ∷ 0xBF ∷ codes "cutover,946684800,,,,\n")
