@@ -7,6 +7,7 @@ mod holds;
 mod isolation;
 mod many_merchants;
 mod other_merchant;
+mod replays;
 mod reversals;
 mod sales;
 mod script;

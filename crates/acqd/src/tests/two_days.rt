@@ -4,8 +4,12 @@ use super::expected::Expected::{Ask, Done, Reply};
 use super::holds::{HOLD, LAST_SECOND};
 use super::reversals::{REVERSAL, REVERSED};
 use super::sales::{SALE, SALE_APPROVED};
-use super::script::{GREATEST_LIMIT, MAY_1, Script, run_all};
+use super::script::{GREATEST_LIMIT, MAY_1, Script, compare, events_among, run_all};
 use super::script_event::ScriptEvent::{Approve, Cutover, Frame, FrameAt};
+use acq_book::Book;
+use acq_core::{Event, Limit, Output};
+use acq_host::Host;
+use day_totals::Day;
 use std::hash::RandomState;
 use std::test::Fail;
 
@@ -55,4 +59,37 @@ pub(super) const TWO_DAYS: Script = Script {
 #[test]
 fn two_days(rt: HostRuntime) -> Result<(), Fail> {
     run_all(&rt, rt.alloc(), RandomState::new(&rt)?, &[TWO_DAYS])
+}
+
+/// What the host says to events, where a run that stops goes on with the event at which it stopped.
+fn said_going_on<B: Book + Drop>(
+    host: &mut Host<B>,
+    events: &[Event],
+) -> Result<Vec<Output>, Fail> {
+    match host.run(events) {
+        Ok(said) => Ok(said),
+        Err(fault) => {
+            let mut said = fault.outputs;
+            let rest = events.get(fault.at..).ok_or("an event")?;
+            said.extend(host.run(rest)?)?;
+            Ok(said)
+        }
+    }
+}
+
+/// Where memory runs out once, each event still gets what it gets undisturbed.
+#[test]
+fn going_on(rt: HostRuntime) -> Result<(), Fail> {
+    let (events, places) = events_among(rt.alloc(), &TWO_DAYS, 0)?;
+    let limit = Limit::from_number(GREATEST_LIMIT).ok_or("a limit")?;
+    let first_day = Day::from_number(MAY_1).ok_or("a day")?;
+    let mut host = Host::in_memory(rt.alloc(), RandomState::new(&rt)?, limit, first_day);
+    let said = said_going_on(&mut host, events.as_slice())?;
+    compare(
+        &rt,
+        rt.alloc(),
+        &TWO_DAYS,
+        said.as_slice(),
+        places.as_slice(),
+    )
 }

@@ -145,7 +145,10 @@ fn rows_for_reports(rt: HostRuntime) -> Result<(), Fail> {
     let merchant = MerchantId::read(b"MERCHANT0000001").ok_or("a merchant")?;
     let mut book = book_after(rt.alloc(), RandomState::new(&rt)?)?;
     let whole = walked(&mut book, day, merchant, 4)?;
-    assert_eq!(rt; whole, [[2001, 3002, 1001, 0], [57, 49, 50, 0], [3, 4, 0, 0]]);
+    assert_eq!(rt;
+        whole,
+        [[2001, 3002, 1001, 0], [57, 49, 50, 0], [3, 4, 0, 0]]
+    );
     let begun = walked(&mut book, day, merchant, 1)?;
     assert_eq!(rt; begun, [[2001, 0, 0, 0], [57, 0, 0, 0], [3, 0, 0, 0]]);
     assert_eq!(rt; counted(&mut book, day, merchant)?, (1, Some(true)));

@@ -41,8 +41,8 @@ returns-in_err-take_next-clause-stops g c = λ h opened.
     let t = g.B.Book.tables c.args.host.now in
     let sent = g.K.Sink.sent c.args.output.now in
     let so_far = λ (was : g.B.Book.is_honest c.loop-event.host).
-        so.2 was opened
-        ∙ ap (λ said. sent ++ flat_map line_of said) (so.1.says (so.1.stays_open was opened)) in
+    so.2 was opened
+    ∙ ap (λ said. sent ++ flat_map line_of said) (so.1.says (so.1.stays_open was opened)) in
     on_err c.from_residual.result (⊎_elim
     (λ untaken. record {
       taken = at;
@@ -55,28 +55,28 @@ returns-in_err-take_next-clause-stops g c = λ h opened.
       leads = λ o. untaken.0.unmade refl o ∙ so.1.leads (untaken.0.was_open o);
     })
     (λ taken.
-        let made = taken.0 in
-        let was = made.was_honest h in
-        let between = so.1.stays_open was opened in
-        let part = take taken.1 (line_of (step_output (g.B.Book.tables c.loop-event.host) (arrival_of e))) in record {
-          taken = at + 1;
-          written = at;
-          part = part;
-          lines_sent =
-              taken.2 (made.stays_open refl h between)
-              ∙ (ap (λ x. x ++ part) (so_far was) ∙ append_assoc sent (lines t (take at events)) part);
-          next = inr (
-            refl,
-            (
-              e,
-              taken.1,
-              slice_get_read events (length events) at e refl (omega arith) c.event-item.is,
-              ap (λ u. take taken.1 (line_of (step_output u (arrival_of e)))) (so.1.leads between),
-            ),
-          );
-          leads = λ o.
-              made.made refl o
-              ∙ (ap (λ u. step_tables u (arrival_of e)) (so.1.leads (made.was_open o))
-              ∙ sym (after_next t events at e (omega arith) c.event-item.is));
-        })
+    let made = taken.0 in
+    let was = made.was_honest h in
+    let between = so.1.stays_open was opened in
+    let part = take taken.1 (line_of (step_output (g.B.Book.tables c.loop-event.host) (arrival_of e))) in record {
+      taken = at + 1;
+      written = at;
+      part = part;
+      lines_sent =
+          taken.2 (made.stays_open refl h between)
+          ∙ (ap (λ x. x ++ part) (so_far was) ∙ append_assoc sent (lines t (take at events)) part);
+      next = inr (
+        refl,
+        (
+          e,
+          taken.1,
+          slice_get_read events (length events) at e refl (omega arith) c.event-item.is,
+          ap (λ u. take taken.1 (line_of (step_output u (arrival_of e)))) (so.1.leads between),
+        ),
+      );
+      leads = λ o.
+          made.made refl o
+          ∙ (ap (λ u. step_tables u (arrival_of e)) (so.1.leads (made.was_open o))
+          ∙ sym (after_next t events at e (omega arith) c.event-item.is));
+    })
     (c.in_err-take_next.ensures.fault))

@@ -19,7 +19,7 @@ pub returns-in_err-write_output-clause-fault : goal.returns-in_err-write_output-
 returns-in_err-write_output-clause-fault g c =
     let old = g.K.Sink.sent c.args.output.now in
     let part = first_bytes c.in_ok-said.said old (g.K.Sink.sent c.write_output.new.writer)
-        c.in_err-write_output.field-0.0 c.in_err-write_output.ensures.sent in
+    c.in_err-write_output.field-0.0 c.in_err-write_output.ensures.sent in
     on_err c.from_residual-in_err-write_output.result (inr (
       c.in_ok-said.ensures.tables,
       part.0,
