@@ -84,7 +84,9 @@ fn going_on(rt: HostRuntime) -> Result<(), Fail> {
     let limit = Limit::from_number(GREATEST_LIMIT).ok_or("a limit")?;
     let first_day = Day::from_number(MAY_1).ok_or("a day")?;
     let mut host = Host::in_memory(rt.alloc(), RandomState::new(&rt)?, limit, first_day);
-    let said = said_going_on(&mut host, events.as_slice())?;
+    let said = said_going_on(&mut host, events.as_slice());
+    drop(host);
+    let said = said?;
     compare(
         &rt,
         rt.alloc(),

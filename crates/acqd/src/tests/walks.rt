@@ -3,7 +3,7 @@
 
 use super::script::{GREATEST_LIMIT, MAY_1, setup};
 use super::script_event::ScriptEvent::{self, Approve, Enrol, Frame};
-use acq_book::{Book, BookFault, ListBook, Visit};
+use acq_book::{Book, BookFault, Visit};
 use acq_core::{Event, Limit, Merchant, MerchantId, Posting, Request};
 use acq_host::Host;
 use day_totals::Day;
@@ -106,51 +106,70 @@ fn walked<B: Book>(
     merchant: MerchantId,
     wanted: usize,
 ) -> Result<[[u64; 4]; 3], BookFault> {
-    let mut seen = [Seen::new(wanted); 3];
-    let [postings, merchants, holds] = &mut seen;
-    book.walk_postings(day, postings)?;
-    book.walk_merchants(merchants)?;
-    book.walk_holds(merchant, holds)?;
-    Ok(seen.map(|each| each.numbers))
+    let mut postings = Seen::new(wanted);
+    let mut merchants = Seen::new(wanted);
+    let mut holds = Seen::new(wanted);
+    book.walk_postings(day, &mut postings)?;
+    book.walk_merchants(&mut merchants)?;
+    book.walk_holds(merchant, &mut holds)?;
+    Ok([postings.numbers, merchants.numbers, holds.numbers])
 }
 
-/// How many requests of a day are pending, and whether the merchant's last reconciliation of it is
-/// in balance.
-fn counted<B: Book>(
-    book: &mut B,
-    day: Day,
-    merchant: MerchantId,
-) -> Result<(u64, Option<bool>), BookFault> {
+/// What a book hands over: by its walks, the whole of them and the first row of each; how many
+/// requests of the day are pending; and whether the merchant's last reconciliation is in balance.
+#[derive(Clone, Copy)]
+struct Findings {
+    whole: [[u64; 4]; 3],
+    begun: [[u64; 4]; 3],
+    pending: u64,
+    in_balance: Option<bool>,
+}
+
+fn reports<B: Book>(book: &mut B, day: Day, merchant: MerchantId) -> Result<Findings, BookFault> {
+    let whole = walked(book, day, merchant, 4)?;
+    let begun = walked(book, day, merchant, 1)?;
     let pending = book.pending(day)?;
     let last = book.last_reconciliation(merchant, day)?;
-    Ok((pending, last.map(|row| row.in_balance)))
+    Ok(Findings {
+        whole,
+        begun,
+        pending,
+        in_balance: last.map(|row| row.in_balance),
+    })
 }
 
-/// The book of a host that took the events.
-fn book_after(alloc: Global, keys: RandomState) -> Result<ListBook, Fail> {
+/// What the book hands over after the events, behind the setup that all scripts share.
+fn reports_after(
+    alloc: Global,
+    keys: RandomState,
+    day: Day,
+    merchant: MerchantId,
+) -> Result<Findings, Fail> {
     let mut events: Vec<Event> = setup(alloc)?;
     for event in &EVENTS {
         events.push(event.event(alloc)?)?;
     }
     let limit = Limit::from_number(GREATEST_LIMIT).ok_or("a limit")?;
-    let first_day = Day::from_number(MAY_1).ok_or("a day")?;
-    let mut host = Host::in_memory(alloc, keys, limit, first_day);
-    host.run(events.as_slice())?;
-    Ok(host.into_book())
+    let mut host = Host::in_memory(alloc, keys, limit, day);
+    let has_run = host.run(events.as_slice()).is_ok();
+    let mut book = host.into_book();
+    let found = reports(&mut book, day, merchant);
+    drop(book);
+    has_run.then_some(()).ok_or("a run of all events")?;
+    Ok(found?)
 }
 
 #[test]
 fn rows_for_reports(rt: HostRuntime) -> Result<(), Fail> {
     let day = Day::from_number(MAY_1).ok_or("a day")?;
     let merchant = MerchantId::read(b"MERCHANT0000001").ok_or("a merchant")?;
-    let mut book = book_after(rt.alloc(), RandomState::new(&rt)?)?;
-    let whole = walked(&mut book, day, merchant, 4)?;
+    let found = reports_after(rt.alloc(), RandomState::new(&rt)?, day, merchant)?;
     assert_eq!(rt;
-        whole,
+        found.whole,
         [[2001, 3002, 1001, 0], [57, 49, 50, 0], [3, 4, 0, 0]]
     );
-    let begun = walked(&mut book, day, merchant, 1)?;
-    assert_eq!(rt; begun, [[2001, 0, 0, 0], [57, 0, 0, 0], [3, 0, 0, 0]]);
-    assert_eq!(rt; counted(&mut book, day, merchant)?, (1, Some(true)));
+    assert_eq!(rt; found.begun, [[2001, 0, 0, 0], [57, 0, 0, 0], [3, 0, 0, 0]]);
+    assert_eq!(rt; found.pending, 1);
+    assert_eq!(rt; found.in_balance, Some(true));
     Ok(())
 }
