@@ -15,3 +15,5 @@ pub mod Computing
 pub mod ReadingComputes
 pub mod SpellingComputes
 pub mod SelectedElements
+pub mod PlacesOfFaults
+pub mod PlacesOfPieces

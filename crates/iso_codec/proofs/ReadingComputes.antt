@@ -79,7 +79,7 @@ bits_is : (digits : List ℕ) (r : Result (List ℕ) FromHexError) → length di
 bits_is digits (Ok bytes) size h = record { bytes = bytes; size = size; decoded = h; value = refl }
 bits_is digits (Err e) size h = (refl, not_hex digits e size (sized_is digits size ∙ h))
 
-bitmap_is : (rest : List ℕ) → MatchResult (bitmap_at rest) (λ x. BeginsWithBitmap rest x.0 x.1) (BitmapFault rest)
+pub bitmap_is : (rest : List ℕ) → MatchResult (bitmap_at rest) (λ x. BeginsWithBitmap rest x.0 x.1) (BitmapFault rest)
 unfolding bitmap_at
 bitmap_is rest =
     bound (λ x. Took 16 rest x.0 x.1) (Falls 0 16 rest) (λ x. BeginsWithBitmap rest x.0 x.1) (BitmapFault rest)
@@ -160,7 +160,7 @@ length_is : (fault : DecodeFault) (o : Option ℕ) → MatchResult (or_fault fau
 length_is fault (Some n) = refl
 length_is fault None = (refl, refl)
 
-content_gives : (n : ℕ) (r : ElementFormat) (rest : List ℕ)
+pub content_gives : (n : ℕ) (r : ElementFormat) (rest : List ℕ)
     → MatchResult (content_by n (Some r) rest) (λ x. IsContent r rest x.0 x.1) (ContentFault n r rest)
 unfolding content_by
 content_gives n r rest =

@@ -6,4 +6,5 @@ pub mod FaultTexts
 pub mod Setting
 pub mod Span
 pub mod Reading
+pub mod FaultPlaces
 pub mod Examples

@@ -21,7 +21,7 @@ use crate::span::Span;
 use std::alloc::Global;
 
 /// A bitmap, and what stands after it.
-fn bitmap_at(rest: &[u8]) -> Result<(u64, &[u8]), DecodeFault>
+pub(crate) fn bitmap_at(rest: &[u8]) -> Result<(u64, &[u8]), DecodeFault>
     ensures found { IfOk result (λ x. BeginsWithBitmap rest.now x.0 x.1.now) }
     ensures fault { IfErr result (λ f. BitmapFault rest.now f) }
 {

@@ -3,6 +3,7 @@
 
 ghost use Rattle.std.specs.Prelude.{◌≡◌, ◌++◌, [], codes, take};
 ghost use Rattle.iso_codec.specs.Reading.{reading_of, spelling};
+ghost use Rattle.iso_codec.specs.FaultPlaces.{fault_place};
 ghost use Rattle.iso_codec.specs.Examples.{echo_request, echo_request_text, echo_reply};
 ghost use Rattle.iso_codec.specs.Examples.{echo_reply_text, purchase, purchase_body, purchase_text};
 ghost use Rattle.iso_codec.specs.Examples.{purchase_text_lower, reconciliation};
@@ -65,4 +66,27 @@ pub fn faults()
         ++ codes "4A")
         ≡ Err (BadContent 2) }
     ensures trailing { reading_of (echo_request_text ++ codes " ") ≡ Err Trailing }
+{}
+
+/// How many bytes stand before the piece at fault.
+#[tactic(auto, unfolding(crate::proofs::Computing::on_literals))]
+pub fn places_of_faults()
+    ensures short { fault_place (codes "08") (Truncated 0) ≡ 2 }
+    ensures kind { fault_place (codes "08A0" ++ codes "8220000000000000") BadType ≡ 0 }
+    ensures bitmap { fault_place (codes "0800" ++ codes "8220000G00000000"
+        ++ codes "0400000000000000")
+        BadBitmap ≡ 4 }
+    ensures second_bitmap { fault_place (codes "0800" ++ codes "8220000000000000"
+        ++ codes "0400000G00000000")
+        BadBitmap ≡ 20 }
+    ensures bit_65 { fault_place (codes "0800" ++ codes "8220000000000000"
+        ++ codes "8400000000000000" ++ codes "0101120000" ++ codes "000001" ++ codes "301")
+        (UnknownElement 65) ≡ 20 }
+    ensures bit_5 { fault_place (codes "0800" ++ codes "0A20000000000000")
+        (UnknownElement 5) ≡ 4 }
+    ensures length { fault_place (codes "0200" ++ codes "7220000000C08000" ++ codes "20"
+        ++ codes "41111111111111111111")
+        (BadLength 2) ≡ 20 }
+    ensures cut { fault_place (take 85 purchase_text) (Truncated 42) ≡ 80 }
+    ensures trailing { fault_place (echo_request_text ++ codes " ") Trailing ≡ 55 }
 {}

@@ -1,10 +1,13 @@
 //! Laws of the spelling: each is the contract of a function that has no code.
 
-ghost use Rattle.std.specs.Prelude.{◌≡◌, ◌↔◌, ℕ, List, [], ◌++◌};
+ghost use Rattle.std.specs.Prelude.{◌≡◌, ◌↔◌, ◌+◌, ℕ, List, [], ◌++◌, length};
 ghost use Rattle.iso_codec.specs.Message.{IsoMessage, IsMessage, Reads, Writes};
-ghost use Rattle.iso_codec.specs.Faults.{FirstFault};
+ghost use Rattle.iso_codec.specs.Faults.{FirstFault, AwaitsElement};
+ghost use Rattle.iso_codec.specs.FaultPlaces.{element_place, fault_place};
 ghost use Rattle.iso_codec.specs.Reading.{reading_of, spelling};
 ghost use Rattle.iso_codec.specs.declared.decode_fault.DecodeFault.{DecodeFault};
+ghost use Rattle.iso_codec.specs.declared.decode_fault.DecodeFault.TheVariants.{Trailing};
+ghost use Rattle.iso_codec.specs.declared.element_format.ElementFormat.{ElementFormat};
 
 /// At most one message is read from a text.
 pub fn reads_one()
@@ -50,4 +53,13 @@ pub fn spelling_computes()
 /// The spelling of a message reads as that message.
 pub fn spelling_is_read()
     ensures { (m : IsoMessage) → IsMessage m → reading_of (spelling m) ≡ Ok m }
+{}
+
+/// An element's place is where what has to be that element stands, and the place of trailing bytes
+/// is behind the message.
+pub fn faults_stand_at_their_places()
+    ensures element { (text rest : List ℕ) (n : ℕ) (format : ElementFormat)
+        → AwaitsElement text n format rest → element_place n text + length rest ≡ length text }
+    ensures trailing { (front rest : List ℕ) (m : IsoMessage) → Reads front m
+        → fault_place (front ++ rest) Trailing + length rest ≡ length (front ++ rest) }
 {}

@@ -16,6 +16,7 @@ mod decoding;
 mod element_format;
 mod encoding;
 pub mod examples;
+mod fault_places;
 mod form;
 pub mod laws;
 mod message;
@@ -26,6 +27,7 @@ pub use classes::{all_alphanumeric, all_digits, all_printable};
 pub use decode_fault::DecodeFault;
 pub use decoding::decode;
 pub use encoding::encode;
+pub use fault_places::fault_place;
 pub use message::Message;
 pub use set_fault::SetFault;
 

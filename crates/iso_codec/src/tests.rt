@@ -1,5 +1,6 @@
 use crate::{
     DecodeFault, Message, SetFault, all_alphanumeric, all_digits, all_printable, decode, encode,
+    fault_place,
 };
 use std::alloc::Global;
 use std::test::Fail;
@@ -41,6 +42,36 @@ fn prefixes_of_a_purchase(rt: HostRuntime) -> Result<(), Fail> {
     }
     assert_eq!(rt; PURCHASE.len(), 98);
     assert_eq!(rt; fault_of(rt.alloc(), PURCHASE), None);
+    Ok(())
+}
+
+#[test]
+fn places_of_faults(rt: HostRuntime) -> Result<(), Fail> {
+    let (cut, _) = PURCHASE.split_at(85);
+    let texts = [
+        (b"08".as_slice(), 2),
+        (b"08A0".as_slice(), 0),
+        // A bitmap of each that is not hexadecimal.
+        (b"08008220000G000000000400000000000000".as_slice(), 4),
+        (b"080082200000000000000400000G00000000".as_slice(), 20),
+        // Elements 5 and 65, and the end of a bitmap.
+        (b"08000A20000000000000".as_slice(), 4),
+        (b"080082200000000000008400000000000000".as_slice(), 20),
+        (b"0800822000000000000004000000".as_slice(), 28),
+        // Length and content of element 2, the end within element 42, and behind element 70.
+        (b"02007220000000C080002041111111111111111111".as_slice(), 20),
+        (b"02007220000000C08000024A".as_slice(), 20),
+        (cut, 80),
+        (
+            b"0800822000000000000004000000000000000101120000000001301 ".as_slice(),
+            55,
+        ),
+    ];
+    for (text, want) in texts {
+        let fault = fault_of(rt.alloc(), text).ok_or("a message")?;
+        assert_eq!(rt; fault_place(text, fault), want, "of {fault}");
+    }
+    assert_eq!(rt; fault_place(PURCHASE, DecodeFault::Memory), 0);
     Ok(())
 }
 
