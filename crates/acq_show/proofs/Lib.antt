@@ -1,0 +1,4 @@
+pub mod PutLines
+pub mod ElementsInTurn
+pub mod HiddenContents
+pub mod OnLiterals

@@ -1,0 +1,40 @@
+-- What is shown of an element's content (own profile).
+use Rattle.std.specs.Prelude.{ℕ, ◌==◌, nat_le, ◌||◌, List, ◌++◌, length, map, replicate, codes}
+use Rattle.std.specs.Prelude.{Option, Some, None, if◌then◌else◌}
+use Rattle.std.specs.Fmt.{decimal}
+use Rattle.iso_codec.specs.Content.{is_printable}
+use Rattle.card_no.specs.CardNumbers.{masked_of}
+use Rattle.card_no.specs.Track2.{track2_of}
+
+abbrev pub stars : ℕ → List ℕ
+stars n = replicate n 42
+
+-- A card number's mask; of one that is so short that its mask would show it nearly whole, stars.
+abbrev pub number_shown : List ℕ → List ℕ
+number_shown number =
+    if nat_le 13 (length number) then masked_of number else stars (length number)
+
+-- the card number masked, and a star for each byte behind the separator
+abbrev pub parts_shown : ℕ → Option (List ℕ × List ℕ) → List ℕ
+parts_shown size None = stars size
+parts_shown size (Some p) = number_shown p.0 ++ codes "=" ++ stars (length p.1)
+
+abbrev pub track_shown : List ℕ → List ℕ
+track_shown track = parts_shown (length track) (track2_of track)
+
+-- the length alone
+abbrev pub length_shown : ℕ → List ℕ
+length_shown size = codes "(length " ++ decimal size ++ codes ", not shown)"
+
+-- a dot for each byte that can't be printed
+abbrev pub byte_shown : ℕ → ℕ
+byte_shown b = if is_printable b then b else 46
+
+-- what is shown of element n with this content: 2 is the card number, 35 track 2, 45 track 1, 52
+-- the PIN block, 55 chip data
+abbrev pub content_shown : ℕ → List ℕ → List ℕ
+content_shown n content =
+    if n == 2 then number_shown content
+    else if n == 35 then track_shown content
+    else if n == 45 || n == 52 || n == 55 then length_shown (length content)
+    else map byte_shown content

@@ -1,0 +1,4 @@
+pub mod Names
+pub mod Contents
+pub mod Shown
+pub mod Hidden

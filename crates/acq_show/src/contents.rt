@@ -1,0 +1,93 @@
+//! What is shown of an element's content: no whole card number, and nothing else by which a card
+//! can be used.
+
+ghost use Rattle.std.specs.Prelude.{◌≡◌, ◌++◌, OnOk, replicate, map};
+ghost use Rattle.acq_show.specs.Contents.{content_shown, number_shown, track_shown};
+ghost use Rattle.acq_show.specs.Contents.{length_shown, byte_shown};
+
+use card_no::split_track2;
+use itoa::Buffer;
+use std::alloc::AllocError;
+
+/// How many digits a card number has at least where its mask is shown. A shorter one's mask would
+/// leave little of it out.
+const LEAST_MASKED: usize = 13;
+
+/// Puts what is shown of an element's content behind other bytes.
+pub(crate) fn put_content(text: &mut Vec<u8>, number: u8, content: &[u8]) -> Result<(), AllocError>
+    ensures { OnOk result (text.new.items
+        ≡ text.old.items ++ content_shown number content.now) }
+{
+    match number {
+        // the card number
+        2 => put_number(text, content),
+        // track 2
+        35 => put_track(text, content),
+        // track 1, the PIN block, chip data
+        45 | 52 | 55 => put_length(text, content.len()),
+        _ => put_printable(text, content),
+    }
+}
+
+/// Puts a card number masked: the first six digits, a `*` for each between, and the last four.
+fn put_number(text: &mut Vec<u8>, number: &[u8]) -> Result<(), AllocError>
+    ensures { OnOk result (text.new.items ≡ text.old.items ++ number_shown number.now) }
+{
+    let len = number.len();
+    if len < LEAST_MASKED {
+        return put_repeated(text, b'*', len);
+    }
+    text.extend_from_slice(&number[..6])?;
+    put_repeated(text, b'*', len - 10)?;
+    text.extend_from_slice(&number[len - 4..])
+}
+
+/// Puts track 2: its card number masked, and a `*` for each byte behind the separator.
+fn put_track(text: &mut Vec<u8>, track: &[u8]) -> Result<(), AllocError>
+    ensures { OnOk result (text.new.items ≡ text.old.items ++ track_shown track.now) }
+{
+    let Some((number, after)) = split_track2(track) else {
+        return put_repeated(text, b'*', track.len());
+    };
+    put_number(text, number)?;
+    text.extend_from_slice(b"=")?;
+    put_repeated(text, b'*', after.len())
+}
+
+/// Puts the length of what is not shown.
+fn put_length(text: &mut Vec<u8>, len: usize) -> Result<(), AllocError>
+    ensures { OnOk result (text.new.items ≡ text.old.items ++ length_shown len) }
+{
+    let mut digits = Buffer::new();
+    text.extend_from_slice(b"(length ")?;
+    text.extend_from_slice(digits.format(len).as_bytes())?;
+    text.extend_from_slice(b", not shown)")
+}
+
+/// Puts bytes, and a `.` for each that can't be printed.
+fn put_printable(text: &mut Vec<u8>, content: &[u8]) -> Result<(), AllocError>
+    ensures { OnOk result (text.new.items
+        ≡ text.old.items ++ map byte_shown content.now) }
+{
+    for b in content {
+        text.push(byte_shown(*b))?;
+    }
+    Ok(())
+}
+
+/// The byte, or a `.` where it can't be printed.
+fn byte_shown(b: u8) -> u8
+    ensures { result ≡ byte_shown b }
+{
+    if (b' '..=b'~').contains(&b) { b } else { b'.' }
+}
+
+/// Puts a byte so many times.
+pub(crate) fn put_repeated(text: &mut Vec<u8>, b: u8, count: usize) -> Result<(), AllocError>
+    ensures { OnOk result (text.new.items ≡ text.old.items ++ replicate count b) }
+{
+    for _ in 0..count {
+        text.push(b)?;
+    }
+    Ok(())
+}

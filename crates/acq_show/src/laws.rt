@@ -1,0 +1,52 @@
+//! Laws of what is shown, and worked rows of the definitions.
+
+ghost use Rattle.std.specs.Prelude.{◌≡◌, ◌++◌, ℕ, List, Ok, Err, codes};
+ghost use Rattle.iso_codec.specs.declared.decode_fault.DecodeFault.{DecodeFault};
+ghost use Rattle.iso_codec.specs.Message.{IsoMessage};
+ghost use Rattle.iso_codec.specs.Reading.{reading_of};
+ghost use Rattle.iso_codec.specs.FaultPlaces.{fault_place};
+ghost use Rattle.iso_codec.specs.Examples.{echo_request_text};
+ghost use Rattle.acq_show.specs.Contents.{content_shown};
+ghost use Rattle.acq_show.specs.Hidden.{DifferHidden, EachDiffersHidden};
+ghost use Rattle.acq_show.specs.Shown.{shown};
+
+/// What is shown depends on no more of a card number than its length, its first six and its last
+/// four digits; of track 2 on no more than that and the length behind; and of track 1, a PIN block
+/// and chip data on the length alone. Of a text that spells no message it depends on the fault and
+/// its place alone.
+pub fn no_card_is_shown()
+    ensures content { (n : ℕ) (content other : List ℕ) → DifferHidden n content other
+        → content_shown n content ≡ content_shown n other }
+    ensures message { (text other : List ℕ) (m n : IsoMessage) → reading_of text ≡ Ok m
+        → reading_of other ≡ Ok n → m.kind ≡ n.kind → EachDiffersHidden m.elements n.elements
+        → shown text ≡ shown other }
+    ensures fault { (text other : List ℕ) (f : DecodeFault) → reading_of text ≡ Err f
+        → reading_of other ≡ Err f → fault_place text f ≡ fault_place other f
+        → shown text ≡ shown other }
+{}
+
+/// What is shown of contents.
+pub fn worked_contents()
+    ensures card { content_shown 2 (codes "4111111111111111") ≡ codes "411111******1111" }
+    ensures least { content_shown 2 (codes "4222222222222") ≡ codes "422222***2222" }
+    ensures short { content_shown 2 (codes "79927398713") ≡ codes "***********" }
+    ensures track { content_shown 35 (codes "4111111111111111=2912")
+        ≡ codes "411111******1111=****" }
+    ensures no_number { content_shown 35 (codes "4111<2912") ≡ codes "*********" }
+    ensures block { content_shown 52 (codes "0123456789ABCDEF")
+        ≡ codes "(length 16, not shown)" }
+    ensures bytes { content_shown 48 (codes "a\nb~") ≡ codes "a.b~" }
+{}
+
+/// What is shown of an echo test, and of texts that are no messages.
+pub fn worked_texts()
+    ensures echo { shown echo_request_text ≡ codes "0800 network management request\n"
+        ++ codes "    7  transmission date and time        0101120000\n"
+        ++ codes "   11  trace number                      000001\n"
+        ++ codes "   70  network management code           301\n" }
+    ensures bit_65 { shown (codes "0800" ++ codes "8220000000000000"
+        ++ codes "8400000000000000" ++ codes "0101120000" ++ codes "000001" ++ codes "301")
+        ≡ codes "not a message: element 65 is not in the profile (fault 4 65), at byte 20\n" }
+    ensures short { shown (codes "08")
+        ≡ codes "not a message: the text ends in element 0 (fault 5 0), at byte 2\n" }
+{}
