@@ -1,10 +1,9 @@
 -- What is answered to frames, one after another.
 use Rattle.std.proofs.Common.{◌≡◌, ℕ, Bool, true, false, List, [], ◌∷◌, ◌++◌, length, Option, Some, None, Result, Ok, Err, refl, sym, ap, subst, ◌∙◌, arith, append_assoc, append-nil}
 use Rattle.std.specs.Prelude.{is_ok}
-use Rattle.std.specs.List.{list_all}
-use Rattle.std.proofs.lemmas.Bool.{and_parts, and_from, le-leb, lt-ltb}
+use Rattle.std.proofs.lemmas.Bool.{and_from, le-leb, lt-ltb}
 use Rattle.acq_link.specs.Frames.{frame, framed, fits_frame, fit_frames}
-use Rattle.acq_link.proofs.WrittenFrames.{framed-append, framed-push}
+use Rattle.acq_link.proofs.WrittenFrames.{framed-append}
 use Rattle.iso_codec.specs.declared.decode_fault.DecodeFault.{DecodeFault}
 use Rattle.iso_codec.specs.Message.{IsoMessage}
 use Rattle.iso_codec.specs.Reading.{reading_of}
@@ -26,6 +25,7 @@ use Rattle.acq_invariants.proofs.BooksAreSound.{books_are_sound}
 use Rattle.acq_invariants.proofs.BooksGoOn.{books_begin}
 use Rattle.acq_link.specs.declared.input_fault.InputFault as input
 use Rattle.acqd.specs.Faults.{of_input}
+use Rattle.acqd.proofs.FramesInOrder.{all_append, taken_all, taken_more, taken_none}
 use Rattle.acqd.specs.Once.{widest_opening, replies_in, replies_to, replies, is_read, Answers, ServesAll, Serves}
 
 -- ---- one frame
@@ -92,13 +92,6 @@ replies_fit message = fit_in (output_to message) (λ party text is. reply_fits m
 
 -- ---- frames in order
 
-all_append : {X : Type 0} (p : X → Bool) (xs ys : List X) → list_all p xs ≡ true → list_all p ys ≡ true →
-    list_all p (xs ++ ys) ≡ true
-all_append p [] ys h k = k
-all_append p (x ∷ xs) ys h k =
-    let parts = and_parts (p x) (list_all p xs) h in
-    and_from (p x) (list_all p (xs ++ ys)) parts.0 (all_append p xs ys parts.1 k)
-
 replies_append : (messages more : List (List ℕ)) → replies (messages ++ more) ≡ replies messages ++ replies more
 replies_append [] more = refl
 replies_append (message ∷ messages) more = ap (λ (x : List (List ℕ)). replies_to message
@@ -111,7 +104,7 @@ replies_push messages message = replies_append messages (message ∷ [])
 
 pub answers_none : (bytes : List ℕ) → Answers bytes [] [] bytes
 answers_none bytes = record {
-  taken = record { each = refl; whole = refl };
+  taken = taken_none bytes;
   read = refl;
   given = record { each = refl; whole = refl };
 }
@@ -121,13 +114,7 @@ pub answers_more : (bytes out rest message later : List ℕ) (messages : List (L
     Answers bytes out messages rest → rest ≡ frame message ++ later → fits_frame message ≡ true →
     is_read message ≡ true → Answers bytes (out ++ framed (replies_to message)) (messages ++ message ∷ []) later
 answers_more bytes out rest message later messages a front fits read = record {
-  taken = record {
-    each = all_append fits_frame messages (message ∷ []) a.taken.each (and_from
-        (fits_frame message) true fits refl);
-    whole = a.taken.whole ∙ ap (λ (x : List ℕ). framed messages ++ x) front
-        ∙ sym (append_assoc (framed messages) (frame message) later)
-        ∙ ap (λ (x : List ℕ). x ++ later) (sym (framed-push messages message));
-  };
+  taken = taken_more bytes rest message later messages a.taken front fits;
   read = all_append is_read messages (message ∷ []) a.read (and_from (is_read message) true read refl);
   given = record {
     each = subst (λ (x : List (List ℕ)). fit_frames x
@@ -144,11 +131,7 @@ pub answers_all : (bytes out rest : List ℕ) (messages : List (List ℕ)) → A
     rest ≡ [] → ServesAll bytes out
 answers_all bytes out rest messages a empty = record {
   messages = messages;
-  taken = record {
-    each = a.taken.each;
-    whole = a.taken.whole ∙ ap (λ (x : List ℕ). framed messages ++ x) empty
-        ∙ append-nil (framed messages);
-  };
+  taken = taken_all bytes rest messages a.taken empty;
   read = a.read;
   given = a.given;
 }

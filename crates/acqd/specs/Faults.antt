@@ -3,6 +3,7 @@ use Rattle.std.specs.Prelude.{ℕ, List, ◌++◌, [], codes, Result, Ok, Err}
 use Rattle.std.specs.Fmt.{decimal}
 use Rattle.iso_codec.specs.FaultTexts.{number_of_fault, element_of_fault}
 use Rattle.acq_book.specs.declared.book_fault.BookFault as book
+use Rattle.acq_hex.specs.declared.hex_fault.HexFault as hex
 use Rattle.acq_link.specs.declared.input_fault.InputFault as input
 use Rattle.acq_link.specs.declared.write_fault.WriteFault as write
 use Rattle.acq_out.specs.declared.out_fault.OutFault as out
@@ -75,6 +76,11 @@ of_out out.TheVariants.Memory = Memory
 of_out out.TheVariants.Read = Read
 of_out (out.TheVariants.Write n) = Write n
 of_out (out.TheVariants.BadLine n) = BadLine n
+
+-- what a fault of lines in hexadecimal is
+abbrev pub of_hex : hex.HexFault → Fault
+of_hex hex.TheVariants.Memory = Memory
+of_hex (hex.TheVariants.BadLine n) = BadLine n
 
 -- 0 where all is well
 abbrev pub status_after : Result (Unit {0}) Fault → ℕ

@@ -3,3 +3,4 @@ pub mod Faults
 pub mod Once
 pub mod Replay
 pub mod Runs
+pub mod Show

@@ -1,6 +1,6 @@
 -- Frames in, reply frames out, over a new book.
 use Rattle.std.specs.Prelude.{◌≡◌, ◌<◌, ℕ, Bool, true, List, [], ◌∷◌, ◌++◌, length, take}
-use Rattle.std.specs.Prelude.{Option, Some, None, Result, Ok, Err, is_ok}
+use Rattle.std.specs.Prelude.{Result, Ok, Err, is_ok}
 use Rattle.std.specs.List.{list_all, flat_map}
 use Rattle.acq_link.specs.Frames.{frame, framed, Frames, FramesThen, is_partial, has_bad_length}
 use Rattle.acq_link.specs.FramesAt.{BeginsWithFrame}
@@ -9,6 +9,7 @@ use Rattle.acq_core.specs.declared.output.Output.{Output}
 use Rattle.acq_core.specs.declared.output.Output.TheVariants.{Reply}
 use Rattle.acq_core.specs.NewBook.{output_to}
 use Rattle.acq_core.specs.Tables.{Opening}
+pub use Rattle.acq_out.specs.Reads.{TakesAll}
 use Rattle.acqd.specs.declared.fault.Fault as fault
 
 -- what a book begins with that is made for one run: the greatest limit, and the first day
@@ -86,11 +87,6 @@ pub record ServesAll (input out : List ℕ) : Type 0 where
 abbrev pub Serves : List ℕ → List ℕ → Result (Unit {0}) fault.Fault → Type 0
 Serves input out (Ok u) = ServesAll input out
 Serves input out (Err f) = StopsAt input out f
-
--- where the source's bytes are known, all of them were taken
-abbrev pub TakesAll : Option (List ℕ) → List ℕ → List ℕ → Type 0
-TakesAll None old new = Unit {0}
-TakesAll (Some bytes) old new = new ≡ old ++ bytes
 
 -- ---- what the parts say
 

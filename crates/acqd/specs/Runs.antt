@@ -1,15 +1,50 @@
--- One run over an input, and its status.
-use Rattle.std.specs.Prelude.{◌≡◌, ℕ, List, ◌++◌, Result}
+-- One run of the program over an input, and its status.
+use Rattle.std.specs.Prelude.{◌≡◌, ◌⊎◌, ℕ, List, ◌++◌, Result, Ok, Err}
+use Rattle.acq_core.specs.Tables.{Opening, Tables, new_tables}
+use Rattle.acqd.specs.declared.action.Action.{Action}
+use Rattle.acqd.specs.declared.action.Action.TheVariants.{Once, Replay, Show}
 use Rattle.acqd.specs.declared.fault.Fault.{Fault}
+use Rattle.acqd.specs.declared.option_name.OptionName.{OptionName}
+use Rattle.acqd.specs.Arguments.{AsksFor}
 use Rattle.acqd.specs.Faults.{status_after}
 use Rattle.acqd.specs.Once.{Serves}
+use Rattle.acqd.specs.Replay.{Replays}
+use Rattle.acqd.specs.Show.{RunsShow}
 
--- What was read was served so, this was written, and the status is that of how it ended.
-pub record Runs (received received_after sent sent_after : List ℕ) (status : ℕ) : Type 0 where
-  pub bytes : List ℕ
-  pub out : List ℕ
-  pub ended : Result (Unit {0}) Fault
-  pub read : received_after ≡ received ++ bytes
-  pub written : sent_after ≡ sent ++ out
-  pub served : Serves bytes out ended
-  pub status_is : status ≡ status_after ended
+-- The frames that were read were served over a new book, and this was written.
+abbrev pub RunsOnce : List ℕ → List ℕ → List ℕ → List ℕ → Result (Unit {0}) Fault → Type 0
+RunsOnce received received_after sent sent_after ended =
+    (bytes out : List ℕ) × (received_after ≡ received ++ bytes) × (sent_after ≡ sent ++ out)
+    × Serves bytes out ended
+
+-- The event lines that were read were taken over a new book, and what came of them was written.
+abbrev pub RunsReplay : Opening → List ℕ → List ℕ → List ℕ → List ℕ → Result (Unit {0}) Fault
+    → Type 0
+RunsReplay opening received received_after sent sent_after ended =
+    (text : List ℕ) × (book : Tables) × (received_after ≡ received ++ text)
+    × Replays (λ t. t) (λ t. Unit {0}) (new_tables opening) book text sent sent_after ended
+
+-- What was asked is done.
+abbrev pub Does : Action → List ℕ → List ℕ → List ℕ → List ℕ → Result (Unit {0}) Fault → Type 0
+Does Once received received_after sent sent_after ended =
+    RunsOnce received received_after sent sent_after ended
+Does (Replay limit first_day) received received_after sent sent_after ended =
+    RunsReplay (record { limit = limit; first_day = first_day }) received received_after
+    sent sent_after ended
+Does (Show form) received received_after sent sent_after ended =
+    RunsShow form received received_after sent sent_after ended
+
+-- nothing was read or written
+abbrev pub IsUntouched : List ℕ → List ℕ → List ℕ → List ℕ → Type 0
+IsUntouched received received_after sent sent_after =
+    (received_after ≡ received) × (sent_after ≡ sent)
+
+-- What the words ask for is done, and the status is that of how it ended; or an option's value is
+-- out of its form, or there was no memory for the words, and nothing is done.
+abbrev pub Runs : List (List ℕ) → List ℕ → List ℕ → List ℕ → List ℕ → ℕ → Type 0
+Runs words received received_after sent sent_after status =
+    ((action : Action) × (ended : Result (Unit {0}) Fault) × AsksFor words (Ok action)
+    × Does action received received_after sent sent_after ended × (status ≡ status_after ended))
+    ⊎ ((option : OptionName) × AsksFor words (Err option)
+    × IsUntouched received received_after sent sent_after × (status ≡ 2))
+    ⊎ (IsUntouched received received_after sent sent_after × (status ≡ 3))

@@ -1,32 +1,32 @@
 //! The program's arguments.
 
-ghost use Rattle.std.specs.Prelude.{◌≡◌, IfOk, map};
-ghost use Rattle.clap.specs.Words.{FailsBy, app_of, fault_of};
-ghost use Rattle.acqd.specs.Arguments.{program};
+ghost use Rattle.std.specs.Prelude.{◌≡◌, IfOk, codes, map};
+ghost use Rattle.clap.specs.Words.{app_of, first_value, found_of};
+ghost use Rattle.acqd.specs.Arguments.{AsksReplay, ReadsArguments, form_of_flag};
+ghost use Rattle.acqd.specs.Arguments.{program, replay, show};
 
-use clap::{Command, Error};
+use crate::action::Action;
+use crate::input_form::InputForm;
+use crate::option_name::OptionName;
+use crate::options::{first_day_of_all, greatest_limit, limit_of};
+use crate::usage_fault::UsageFault;
+use clap::{Arg, ArgAction, ArgMatches, Command, Error};
+use day_totals::Day;
 use std::alloc::{AllocError, Global};
 use std::convert::AsStr;
 
-/// What the arguments ask for.
-#[derive(Clone, Copy, Debug, PartialEq, Eq)]
-pub enum Action {
-    /// Answer the frames of the input, once.
-    Once,
-}
+const ABOUT: &str = "An acquirer host for cards: ISO 8583:1987 in, replies out.
 
-const ABOUT: &str = "An acquirer host for cards: ISO 8583:1987 frames in, reply frames out.
-
-Today it answers network management (0800 and 0801: echo tests, sign-ons and sign-offs). No merchant
-is enrolled yet, so a merchant's request gets code 03, or 30 where it is malformed. Any other type
-is read and gets no reply.";
+Each command works on a book of its own, which is kept in memory and given back at the end.";
 
 const ABOUT_ONCE: &str =
     "Answers the frames on standard input with reply frames on standard output";
 
 const MORE_OF_ONCE: &str = "\
 A frame is two bytes of length, high byte first, and then so many bytes of a message, 1 to 4,096.
-The input is read to its end, and then each frame is answered before the next is looked at.
+The input is read to its end, and then each frame is answered before the next is looked at. Nobody
+is enrolled, so network management (0800 and 0801: echo tests, sign-ons and sign-offs) is answered,
+a merchant's request gets code 03, or 30 where it is malformed, and any other type gets no reply.
 
 The status is 0 where all is well, 1 for a fault, 2 for wrong usage, 3 where memory ran out. A
 fault is one line on standard error, and what was written before it stands:
@@ -41,16 +41,100 @@ Example: an echo test
   printf '\\000\\067%s' 0800822000000000000004000000000000000101120000000001301 |
       acqd once | od -c";
 
-/// What the arguments ask for, the program's own name first, or what is to be written of them:
-/// help, the version, or what is wrong.
-pub fn action_of<W: AsStr>(alloc: Global, args: &[W]) -> Result<Action, Error>
-    // An error is one of those that clap's rules give for these arguments, or want of memory.
-    ensures { FailsBy (fault_of program (map W.text args.now)) result }
+const ABOUT_REPLAY: &str =
+    "Takes the event lines on standard input, and writes a line of what comes of each";
+
+const MORE_OF_REPLAY: &str = "\
+An event line is a record of six fields of CSV, with no header line; fields not used are empty:
+  addrange,LOW,HIGH,ISSUER,HOLD,       an issuer's card range, and how many days a hold lasts
+  droprange,LOW,HIGH,,,                no such range any more
+  enrol,MERCHANT,CURRENCY,FIRST,,      a merchant, its currency and its first reference
+  terminal,MERCHANT,TERMINAL,,,        a terminal of a merchant
+  frame,MOMENT,HEX,,,                  a terminal's message, in hexadecimal
+  answer,MOMENT,MERCHANT,REFERENCE,VERDICT,TEXT
+                                       an issuer's answer to what was asked: `approved` and an
+                                       authorization id, `declined` and a code, or `none`
+  cutover,MOMENT,,,,                   the business day ends, and the next begins
+MOMENT counts seconds since 1970-01-01 00:00:00 UTC.
+
+What comes of an event is one line:
+  reply MESSAGE                        this goes to the terminal
+  ask MERCHANT REFERENCE CARD AMOUNT ISSUER
+                                       this is asked of the issuer, whose answer is an event
+  done                                 it is in the book
+  refused NUMBER ..                    it isn't: 20 to 22 a range, 30 and 31 a message, 32 and 33 a
+                                       repeat or an answer come late, 34 and 35 an answer, 36 and 37
+                                       a merchant, 38 the last day
+
+All lines are read before the first event is taken. The status is 0 where all is well, 1 for a
+fault, 2 for wrong usage, 3 where memory ran out. A fault is one line on standard error, and what was
+written before it stands:
+  acqd: 1 Memory
+  acqd: 53 Read                        a read failed; no event was taken
+  acqd: 54 Write BYTES                 a write failed after so many bytes of a line
+  acqd: 62 BadLine RECORD              this record is out of its form; no event was taken
+
+Example:
+  acqd replay --day 2024-05-01 < examples/day.csv";
+
+const ABOUT_SHOW: &str = "Shows the messages on standard input to a person";
+
+const MORE_OF_SHOW: &str = "\
+The messages stand on standard input as frames, as `acqd once` reads and writes them, or with --hex
+as lines, each a message in hexadecimal. Each is shown by its type, and by the number, the name and
+the content of each element; card numbers and tracks are masked, PIN blocks and chip data left out.
+What spells no message is shown by what is wrong with it, and where, and the next is shown all the
+same.
+
+The status is 0 where all is well, 1 for a fault, 2 for wrong usage, 3 where memory ran out. A
+fault is one line on standard error, and what was written before it stands:
+  acqd: 1 Memory
+  acqd: 50 BadLength               a frame's length is 0 or above 4,096
+  acqd: 51 Ended                   the input ends inside a frame
+  acqd: 53 Read                    a read failed
+  acqd: 54 Write BYTES             a write failed after so many bytes of a message's text
+  acqd: 62 BadLine LINE            this line holds no message in hexadecimal; nothing is shown
+
+Example: what comes back for an echo test
+  acqd once < examples/echo.frame | acqd show";
+
+/// What the arguments ask for, the program's own name first, or what is wrong with them. A call for
+/// help or for the version is an error, too, as clap has it.
+pub fn action_of<W: AsStr>(alloc: Global, args: &[W]) -> Result<Action, UsageFault>
+    ensures { ReadsArguments (map W.text args.now) result }
 {
     let matches = program(alloc)?.try_get_matches_from(args)?;
     match matches.subcommand() {
         Some(("once", _)) => Ok(Action::Once),
-        _ => Err(Error::from(AllocError)),
+        Some(("replay", options)) => Ok(replay_of(options)?),
+        Some(("show", options)) => Ok(Action::Show(form_of(options))),
+        _ => Err(Error::from(AllocError).into()),
+    }
+}
+
+/// What `replay` is asked for by its options; the limit is looked at before the day.
+fn replay_of(options: &ArgMatches) -> Result<Action, OptionName>
+    ensures { AsksReplay (first_value (found_of options.now) (codes "limit"))
+        (first_value (found_of options.now) (codes "day")) result }
+{
+    let limit = match options.get_str("limit") {
+        Some(text) => limit_of(text).ok_or(OptionName::Limit)?,
+        None => greatest_limit(),
+    };
+    let first_day = match options.get_str("day") {
+        Some(text) => Day::read(text).ok_or(OptionName::Day)?,
+        None => first_day_of_all(),
+    };
+    Ok(Action::Replay(limit, first_day))
+}
+
+/// The form of what `show` is to show.
+fn form_of(options: &ArgMatches) -> InputForm
+    ensures { result ≡ form_of_flag (first_value (found_of options.now) (codes "hex")) }
+{
+    match options.get_str("hex") {
+        Some("true") => InputForm::HexLines,
+        _ => InputForm::Frames,
     }
 }
 
@@ -65,5 +149,40 @@ fn program<'a>(alloc: Global) -> Result<Command<'a>, AllocError>
         .about(ABOUT)
         .subcommand_required(true)
         .arg_required_else_help(false)
-        .subcommand(once)
+        .subcommand(once)?
+        .subcommand(replay_command(alloc)?)?
+        .subcommand(show_command(alloc)?)
+}
+
+fn replay_command<'a>(alloc: Global) -> Result<Command<'a>, AllocError>
+    ensures { IfOk result (λ made. app_of made ≡ replay) }
+{
+    let limit = Arg::new(alloc, "limit")
+        .long("limit")
+        .value_name("N")
+        .help("How many messages of one merchant a day admits, 1 to 999999 [default: 999999]")
+        .action(ArgAction::Set);
+    let first_day = Arg::new(alloc, "day")
+        .long("day")
+        .value_name("YYYY-MM-DD")
+        .help("The first business day, 2000-01-01 to 2099-12-31 [default: 2000-01-01]")
+        .action(ArgAction::Set);
+    Command::new(alloc, "replay")
+        .about(ABOUT_REPLAY)
+        .after_help(MORE_OF_REPLAY)
+        .arg(limit)?
+        .arg(first_day)
+}
+
+fn show_command<'a>(alloc: Global) -> Result<Command<'a>, AllocError>
+    ensures { IfOk result (λ made. app_of made ≡ show) }
+{
+    let hex = Arg::new(alloc, "hex")
+        .long("hex")
+        .help("The input is lines, each a message in hexadecimal")
+        .action(ArgAction::SetTrue);
+    Command::new(alloc, "show")
+        .about(ABOUT_SHOW)
+        .after_help(MORE_OF_SHOW)
+        .arg(hex)
 }

@@ -1,15 +1,21 @@
 //! One run of the program.
 
 ghost use Rattle.std.specs.Prelude.{◌≡◌, ◌≤◌, [], map, OnOk};
-ghost use Rattle.clap.specs.Words.{fault_of};
+ghost use Rattle.clap.specs.Words.{fault_of, kind_of};
+ghost use Rattle.clap.specs.declared.error.kind.ErrorKind.TheVariants.{OutOfMemory};
 ghost use Rattle.acqd.specs.Arguments.{program};
 ghost use Rattle.acqd.specs.Faults.{status_after};
-ghost use Rattle.acqd.specs.Runs.{Runs};
+ghost use Rattle.acqd.specs.Runs.{Does, Runs};
 
-use crate::arguments::{Action, action_of};
+use crate::action::Action;
+use crate::arguments::action_of;
 use crate::fault::Fault;
 use crate::once::once;
+use crate::progress::Progress;
+use crate::replay_in_memory::replay_in_memory;
+use crate::show::show;
 use crate::text_sink::TextSink;
+use crate::usage_fault::UsageFault;
 use acq_link::{Sink, Source};
 use clap::error::ErrorKind;
 use std::alloc::Global;
@@ -23,20 +29,21 @@ const USAGE: u8 = 2;
 /// Runs the command that the arguments name, the program's own name first, and returns the status:
 /// 0 where all is well, 1 for a fault, 2 for wrong usage, 3 where memory ran out. A fault, or what
 /// is wrong with the arguments, is written to `faults`; help goes to `output`. A book in memory
-/// finds its rows by hash, under `keys`.
-pub fn command<W: AsStr, S: Source, K: Sink, F: Sink>(
+/// finds its rows by hash, under `keys`. How far a long
+/// run is goes to `progress`.
+pub fn command<W: AsStr, S: Source, K: Sink, F: Sink, P: Progress>(
     alloc: Global,
     keys: RandomState,
     args: &[W],
     input: &mut S,
     output: &mut K,
     faults: &mut F,
+    progress: &mut P,
 ) -> u8
     ensures status { result ≤ 3 }
-    // Where nothing is wrong with the arguments, what was read was served, and the status is that
-    // of how it ended.
+    // Where nothing is wrong with the arguments, what they ask for is done.
     ensures ran { fault_of program (map W.text args.now) ≡ []
-        → Runs (S.received input.old) (S.received input.new)
+        → Runs (map W.text args.now) (S.received input.old) (S.received input.new)
         (K.sent output.old) (K.sent output.new) result }
     // Else nothing was read.
     ensures unread { ¬ (fault_of program (map W.text args.now) ≡ [])
@@ -48,18 +55,57 @@ pub fn command<W: AsStr, S: Source, K: Sink, F: Sink>(
     ensures usage_unwritten { result ≡ 2 → K.sent output.new ≡ K.sent output.old }
 {
     match action_of(alloc, args) {
-        Ok(Action::Once) => finish(once(alloc, keys, input, output), faults),
-        Err(error) if error.kind() == ErrorKind::OutOfMemory => {
-            finish(Err(Fault::Memory), faults)
+        Ok(action) => {
+            let ended = run(alloc, keys, action, input, output, progress);
+            finish(ended, faults)
         }
-        Err(error) if error.use_stderr() => {
-            let _ = write!(TextSink::new(faults), "{error}");
+        Err(UsageFault::BadValue(option)) => {
+            let _ = writeln!(TextSink::new(faults), "acqd: bad value {option}");
             USAGE
         }
-        Err(help) => match write!(TextSink::new(output), "{help}") {
-            Ok(()) => 0,
-            Err(_) => finish(Err(Fault::Write(0)), faults),
-        },
+        Err(UsageFault::Words(said)) => tell(&said, output, faults),
+    }
+}
+
+/// Does what is asked.
+fn run<S: Source, K: Sink, P: Progress>(
+    alloc: Global,
+    keys: RandomState,
+    action: Action,
+    input: &mut S,
+    output: &mut K,
+    progress: &mut P,
+) -> Result<(), Fault>
+    ensures { Does action (S.received input.old) (S.received input.new)
+        (K.sent output.old) (K.sent output.new) result }
+{
+    match action {
+        Action::Once => once(alloc, keys, input, output),
+        Action::Replay(limit, first_day) => {
+            replay_in_memory(alloc, keys, limit, first_day, input, output, progress)
+        }
+        Action::Show(form) => show(alloc, form, input, output),
+    }
+}
+
+/// Writes what clap says of the arguments, help and the version to `output`, and returns the status.
+fn tell<K: Sink, F: Sink>(said: &clap::Error, output: &mut K, faults: &mut F) -> u8
+    ensures status { result ≤ 3 }
+    ensures memory { kind_of said.now ≡ OutOfMemory
+        → (result ≡ 3) × (K.sent output.new ≡ K.sent output.old) }
+    ensures quiet { result ≡ 0 → F.sent faults.new ≡ F.sent faults.old }
+    ensures usage_unwritten { result ≡ 2 → K.sent output.new ≡ K.sent output.old }
+{
+    if said.kind() == ErrorKind::OutOfMemory {
+        return finish(Err(Fault::Memory), faults);
+    }
+    if said.use_stderr() {
+        let _ = write!(TextSink::new(faults), "{said}");
+        return USAGE;
+    }
+    match write!(TextSink::new(output), "{said}") {
+        Ok(()) => 0,
+        Err(_) => finish(Err(Fault::Write(0)), faults),
     }
 }
 

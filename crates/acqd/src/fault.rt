@@ -3,6 +3,7 @@
 ghost use Rattle.std.specs.Prelude.{◌≡◌};
 
 use acq_book::BookFault;
+use acq_hex::HexFault;
 use acq_link::{InputFault, WriteFault};
 use acq_out::OutFault;
 use iso_codec::DecodeFault;
@@ -28,7 +29,8 @@ pub enum Fault {
     Read,
     /// 54: a write failed, and so many bytes of the piece in hand had been written.
     Write(u64),
-    /// 62: the record of event lines with this number, counted from 1, is out of its form.
+    /// 62: the record of event lines, or the line of messages in hexadecimal, with this number,
+    /// counted from 1, is out of its form.
     BadLine(u64),
 }
 
@@ -156,6 +158,19 @@ impl From<OutFault> for Fault {
             OutFault::Read => Fault::Read,
             OutFault::Write(bytes) => Fault::Write(bytes),
             OutFault::BadLine(record) => Fault::BadLine(record),
+        }
+    }
+}
+
+impl From<HexFault> for Fault {
+    ghost use Rattle.acqd.specs.Faults.{of_hex};
+
+    ghost from_gives = { λ e f. f ≡ of_hex e };
+
+    fn from(e: HexFault) -> Fault {
+        match e {
+            HexFault::Memory => Fault::Memory,
+            HexFault::BadLine(line) => Fault::BadLine(line),
         }
     }
 }

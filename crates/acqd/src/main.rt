@@ -2,27 +2,44 @@
 //! and ends with a status.
 #![tactic(auto)]
 
+mod action;
 mod arguments;
 mod command;
 mod fault;
+mod input_form;
 mod once;
+mod option_name;
+mod options;
+mod progress;
 mod replay;
+mod replay_in_memory;
+mod show;
+mod terminal_progress;
 mod text_sink;
+mod usage_fault;
 
 use acq_link::{ReadSource, WriteSink};
 pub use command::command;
 pub use fault::Fault;
+pub use input_form::InputForm;
 pub use once::once;
+pub use progress::Progress;
 pub use replay::replay;
+pub use show::show;
 use std::env::{Env, FillError};
 use std::hash::RandomState;
+use std::io::IsTerminal;
 use std::process::ExitCode;
 use std::{env, io, str};
+pub use terminal_progress::TerminalProgress;
 
 fn main(rt: HostRuntime) -> ExitCode {
     let mut input = ReadSource::new(rt.stdin());
     let mut output = WriteSink::new(rt.stdout());
     let mut faults = WriteSink::new(rt.stderr());
+    let terminal = rt.stderr();
+    let terminal = terminal.is_terminal().then_some(terminal);
+    let mut progress = TerminalProgress::new(&rt, terminal);
     let status = match args(&rt) {
         Ok(args) => match RandomState::new(&rt) {
             Ok(keys) => command(
@@ -32,6 +49,7 @@ fn main(rt: HostRuntime) -> ExitCode {
                 &mut input,
                 &mut output,
                 &mut faults,
+                &mut progress,
             ),
             Err(_) => command::read_fault(&mut faults),
         },

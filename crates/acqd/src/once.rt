@@ -9,19 +9,16 @@ ghost use Rattle.acqd.specs.Once.{failed_reads, failed_writes};
 ghost use Rattle.acqd.specs.declared.fault.Fault.TheVariants.{Memory};
 
 use crate::fault::Fault;
+use crate::options::{first_day_of_all, greatest_limit};
 use acq_book::ListBook;
-use acq_core::{Event, Limit, MessageText, Moment, Output};
+use acq_core::{Event, MessageText, Moment, Output};
 use acq_host::Host;
 use acq_link::{Front, Sink, Source, frame_at, read_to_end, write_frame};
-use day_totals::Day;
 use std::alloc::Global;
 use std::hash::RandomState;
 
 /// 2000-01-01 at 00:00:00, the first moment that there is.
 const FIRST_MOMENT: u64 = 946_684_800;
-
-/// The greatest limit of a day.
-const GREATEST_LIMIT: u32 = 999_999;
 
 /// Reads the whole input, and then answers its frames over a new book, each before the next is
 /// looked at. The book's rows are found by hash, under these keys.
@@ -51,11 +48,7 @@ pub fn once<S: Source, K: Sink>(
 fn new_host(alloc: Global, keys: RandomState) -> Host<ListBook>
     ensures { result ≡ new_tables widest_opening }
 {
-    let (Some(limit), Some(first_day)) = (Limit::from_number(GREATEST_LIMIT), Day::from_number(0))
-    else {
-        unreachable!();
-    };
-    Host::in_memory(alloc, keys, limit, first_day)
+    Host::in_memory(alloc, keys, greatest_limit(), first_day_of_all())
 }
 
 /// Answers the frames that the bytes are.
@@ -81,7 +74,7 @@ fn answer_all<K: Sink>(
 }
 
 /// The message of the frame at the front of an input, and what stands behind the frame.
-fn first_frame(bytes: &[u8]) -> Result<(&[u8], &[u8]), Fault>
+pub(crate) fn first_frame(bytes: &[u8]) -> Result<(&[u8], &[u8]), Fault>
     requires { 0 < length bytes.now }
     ensures found { IfOk result (λ x. BeginsWithFrame bytes.now x.0.now x.1.now) }
     ensures fault { IfErr result (λ f. FrameFault bytes.now f) }

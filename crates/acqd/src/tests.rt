@@ -5,19 +5,24 @@ mod days;
 mod expected;
 mod holds;
 mod isolation;
+mod long_runs;
 mod many_merchants;
+mod no_progress;
 mod other_merchant;
+mod replay_command;
 mod replays;
 mod reversals;
 mod sales;
 mod script;
 mod script_event;
+mod shows;
 mod two_days;
 mod walks;
 mod wording;
 
 use crate::{command, once};
 use acq_link::{MemorySink, ReadSource, SliceSource, WriteSink};
+use no_progress::NoProgress;
 use std::alloc::Global;
 use std::hash::RandomState;
 use std::process::Abort;
@@ -133,6 +138,7 @@ fn runs_as(
         &mut source,
         &mut sink,
         &mut faults,
+        &mut NoProgress,
     );
     assert_eq!(rt; found, status, "for {input:?}");
     assert_eq!(rt; sink.as_bytes(), output, "for {input:?}");
@@ -210,6 +216,7 @@ fn each_read_fails_in_turn(rt: HostRuntime) -> Result<(), Fail> {
             &mut source,
             &mut sink,
             &mut faults,
+            &mut NoProgress,
         );
         if before < 5 {
             assert_eq!(rt; status, 1);
@@ -240,6 +247,7 @@ fn each_write_fails_in_turn(rt: HostRuntime) -> Result<(), Fail> {
             &mut source,
             &mut sink,
             &mut faults,
+            &mut NoProgress,
         );
         let want = replies.as_slice().get(..room).ok_or("177 bytes")?;
         assert_eq!(rt; sink.as_bytes(), want);
@@ -257,7 +265,7 @@ fn each_write_fails_in_turn(rt: HostRuntime) -> Result<(), Fail> {
 
 /// Arguments, the status, and a part of the text, as clap has it. Text goes to the output where the
 /// status is 0, else to the faults.
-const USAGES: [(&[&str], u8, &str); 11] = [
+const USAGES: [(&[&str], u8, &str); 16] = [
     (&["acqd"], 2, "Usage: acqd <COMMAND>"),
     (&["acqd", "twice"], 2, "unrecognized subcommand 'twice'"),
     (
@@ -272,11 +280,32 @@ const USAGES: [(&[&str], u8, &str); 11] = [
     ),
     (&["acqd", "--help"], 0, "Usage: acqd <COMMAND>"),
     (&["acqd", "-h"], 0, "Usage: acqd <COMMAND>"),
-    (&["acqd", "--help"], 0, "network management"),
+    (
+        &["acqd", "--help"],
+        0,
+        "replay  Takes the event lines on standard input",
+    ),
     (&["acqd", "--version"], 0, "acqd 0.1.0"),
     (&["acqd", "once", "--help"], 0, "Usage: acqd once"),
     (&["acqd", "once", "--help"], 0, "acqd: 54 Write BYTES"),
     (&["acqd", "help", "once"], 0, "Usage: acqd once"),
+    (&["acqd", "show", "--help"], 0, "Usage: acqd show"),
+    (
+        &["acqd", "show", "--hex=1"],
+        2,
+        "unexpected value '1' for '--hex' found",
+    ),
+    (&["acqd", "replay", "--help"], 0, "acqd: 62 BadLine RECORD"),
+    (
+        &["acqd", "replay", "--limit", "1", "--limit", "2"],
+        2,
+        "cannot be used multiple times",
+    ),
+    (
+        &["acqd", "replay", "--day"],
+        2,
+        "a value is required for '--day <YYYY-MM-DD>'",
+    ),
 ];
 
 #[test]
@@ -293,6 +322,7 @@ fn usage_and_help(rt: HostRuntime) -> Result<(), Fail> {
             &mut source,
             &mut output,
             &mut faults,
+            &mut NoProgress,
         );
         assert_eq!(rt; status, want, "for {args:?}");
         let (text_sink, quiet) = if want == 0 {

@@ -1,5 +1,6 @@
 //! Event lines in, output lines out: a sale's day, a bad line, and reads and writes that fail.
 
+use super::no_progress::NoProgress;
 use super::script::{GREATEST_LIMIT, MAY_1};
 use crate::{Fault, replay};
 use acq_core::Limit;
@@ -47,7 +48,7 @@ fn replayed<S: Source, K: Sink>(
         return Err(Fault::Memory);
     };
     let mut host = Host::in_memory(alloc, keys, limit, first_day);
-    replay(alloc, &mut host, input, output)
+    replay(alloc, &mut host, input, output, &mut NoProgress)
 }
 
 #[test]

@@ -1,4 +1,4 @@
-use Rattle.std.proofs.Common.{◌≡◌, true, List, ℕ, ap, sym, subst, ◌∙◌}
+use Rattle.std.proofs.Common.{◌≡◌, true, List, ℕ, sym, subst, ◌∙◌}
 use Rattle.acq_link.specs.Frames.{fits_frame}
 use Rattle.acqd.proofs.AnsweredFrames.{reply_fits}
 use Rattle.acqd.proofs.once.answer.Goals as goal

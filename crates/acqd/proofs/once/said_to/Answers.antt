@@ -1,4 +1,4 @@
-use Rattle.std.proofs.Common.{◌≡◌, ◌∙◌, ap}
+use Rattle.std.proofs.Common.{◌∙◌, ap}
 use Rattle.std.specs.Prelude.{is_ok}
 use Rattle.iso_codec.specs.Reading.{reading_of}
 use Rattle.acq_core.specs.Arrivals.{arrival_of_reading}

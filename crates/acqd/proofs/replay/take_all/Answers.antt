@@ -1,13 +1,15 @@
-use Rattle.std.proofs.Common.{◌+◌, ◌++◌, ◌∷◌, [], take, length, inl, inr, ⊎_elim, refl, sym, ap, ◌∙◌}
+use Rattle.std.proofs.Common.{◌+◌, ◌++◌, ◌∷◌, [], take, length, ⊎_elim, refl, sym, ap, subst, ◌∙◌}
 use Rattle.std.proofs.Common.{append_assoc, append-nil, arith}
+use Rattle.std.specs.Prelude.{Some}
 use Rattle.std.specs.List.{flat_map}
 use Rattle.std.proofs.lemmas.Option.{slice_get_read}
+use Rattle.std.proofs.lemmas.Result.{err_from_is_err_and}
 use Rattle.acq_core.specs.Arrivals.{arrival_of}
-use Rattle.acq_core.specs.Tables.{step_output, step_tables}
+use Rattle.acq_core.specs.Tables.{outputs, step_output, step_tables}
 use Rattle.acq_host.proofs.Runs.{took_next, after_next}
 use Rattle.acq_out.specs.OutputLines.{line_of}
-use Rattle.acqd.specs.Replay.{lines}
-use Rattle.acqd.proofs.LinesWritten.{lines-push, on_err}
+use Rattle.acqd.specs.Replay.{Reaches, lines}
+use Rattle.acqd.proofs.LinesWritten.{lines-push, output_next, reaches_line, reaches_untaken}
 use Rattle.acqd.proofs.replay.take_all.Goals as goal
 
 pub loop-event-preserved : goal.loop-event-preserved
@@ -39,41 +41,42 @@ returns-in_err-take_next-clause-stops g c = λ h opened.
     let events = c.args.events.now in
     let e = c.event-item.result in
     let t = g.B.Book.tables c.args.host.now in
+    let said = outputs t events in
     let sent = g.K.Sink.sent c.args.output.now in
     let so_far = λ (was : g.B.Book.is_honest c.loop-event.host).
     so.2 was opened
-    ∙ ap (λ said. sent ++ flat_map line_of said) (so.1.says (so.1.stays_open was opened)) in
-    on_err c.from_residual.result (⊎_elim
-    (λ untaken. record {
+    ∙ ap (λ x. sent ++ flat_map line_of x) (so.1.says (so.1.stays_open was opened)) in
+    let p = err_from_is_err_and c.from_residual.result c.from_residual.ensures.1 in
+    rw (p.1, p.2) (⊎_elim
+    (λ untaken.
+    let made = untaken.2 in record {
       taken = at;
       written = at;
       part = [];
       lines_sent =
-          untaken.1 ∙ (so_far (untaken.0.was_honest h)
+          untaken.3 ∙ (so_far (made.was_honest h)
           ∙ ap (λ x. sent ++ x) (sym (append-nil (lines t (take at events)))));
-      next = inl (refl, refl);
-      leads = λ o. untaken.0.unmade refl o ∙ so.1.leads (untaken.0.was_open o);
+      in_hand = omega arith;
+      next = subst (Reaches said at at []) (sym untaken.1) (reaches_untaken said at untaken.0);
+      leads = λ o. made.unmade refl o ∙ so.1.leads (made.was_open o);
     })
     (λ taken.
-    let made = taken.0 in
+    let made = taken.2 in
     let was = made.was_honest h in
     let between = so.1.stays_open was opened in
-    let part = take taken.1 (line_of (step_output (g.B.Book.tables c.loop-event.host) (arrival_of e))) in record {
+    let is = output_next t events at e
+    (slice_get_read events (length events) at e refl (omega arith) c.event-item.is)
+    ∙ ap (λ u. Some (step_output u (arrival_of e))) (sym (so.1.leads between)) in
+    let line = reaches_line said at (step_output (g.B.Book.tables c.loop-event.host) (arrival_of e)) is taken.0
+    (g.K.Sink.sent c.loop-event.output) (g.K.Sink.sent c.take_next.new.output)
+    (taken.3 (made.stays_open refl h between)) in record {
       taken = at + 1;
       written = at;
-      part = part;
+      part = line.0;
       lines_sent =
-          taken.2 (made.stays_open refl h between)
-          ∙ (ap (λ x. x ++ part) (so_far was) ∙ append_assoc sent (lines t (take at events)) part);
-      next = inr (
-        refl,
-        (
-          e,
-          taken.1,
-          slice_get_read events (length events) at e refl (omega arith) c.event-item.is,
-          ap (λ u. take taken.1 (line_of (step_output u (arrival_of e)))) (so.1.leads between),
-        ),
-      );
+          line.1 ∙ (ap (λ x. x ++ line.0) (so_far was) ∙ append_assoc sent (lines t (take at events)) line.0);
+      in_hand = omega arith;
+      next = subst (Reaches said (at + 1) at line.0) (sym taken.1) line.2;
       leads = λ o.
           made.made refl o
           ∙ (ap (λ u. step_tables u (arrival_of e)) (so.1.leads (made.was_open o))

@@ -1,0 +1,10 @@
+//! How messages stand in an input.
+
+/// How messages stand in an input.
+#[derive(Clone, Copy, Debug, PartialEq, Eq)]
+pub enum InputForm {
+    /// As frames: two bytes of length, high byte first, and the message.
+    Frames,
+    /// As lines, each a message in hexadecimal.
+    HexLines,
+}

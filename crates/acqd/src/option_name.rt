@@ -1,0 +1,26 @@
+//! Options that have a value.
+
+use std::fmt;
+
+/// An option that has a value. Its text is its name on the command line.
+#[derive(Clone, Copy, Debug, PartialEq, Eq)]
+pub enum OptionName {
+    /// How many messages of one merchant a business day admits.
+    Limit,
+    /// The first business day of a new book.
+    Day,
+}
+
+impl fmt::Display for OptionName {
+    ghost use Rattle.std.specs.Prelude.{Some};
+    ghost use Rattle.acqd.specs.Arguments.{name_of_option};
+
+    ghost output = { λ option. Some (name_of_option option) };
+
+    fn fmt<W: fmt::Write>(&self, f: &mut fmt::Formatter<W>) -> fmt::Result {
+        match self {
+            OptionName::Limit => write!(f, "--limit"),
+            OptionName::Day => write!(f, "--day"),
+        }
+    }
+}
