@@ -1,0 +1,255 @@
+-- Lines of a report, one after another, as far as they went out.
+use Rattle.std.proofs.Common.{◌≡◌, ◌⊎◌, ℕ, ◌+◌, ◌<◌, List, [], ◌∷◌, ◌++◌, take, drop, length}
+use Rattle.std.proofs.Common.{Bool, true, false, inl, inr, refl, sym, ap, ◌∙◌, subst, arith}
+use Rattle.std.proofs.Common.{append_assoc, append-nil, length-append}
+use Rattle.std.proofs.lemmas.List.{take-append-drop, take-append-le}
+use Rattle.std.proofs.Math.Seq.{take-append_seam, take-append-add}
+use Rattle.std.proofs.lemmas.Grind.{flat_map-append}
+use Rattle.std.specs.Prelude.{Some, None, Result, Ok, Err, OnOk, OnErr}
+use Rattle.std.specs.List.{flat_map}
+use Rattle.acq_book.specs.declared.book_fault.BookFault.{BookFault}
+use Rattle.acq_book.specs.declared.book_fault.BookFault as book
+use Rattle.acq_book.specs.Visits.{Saw, SawAll, SawSome}
+use Rattle.acq_reports.specs.declared.report.Report.{Report}
+use Rattle.acq_reports.specs.declared.report_fault.ReportFault.{ReportFault}
+use Rattle.acq_reports.specs.declared.stop.Stop.TheVariants as stop
+use Rattle.acq_reports.specs.Faults.{failed_writes}
+use Rattle.acq_reports.specs.Writing.{WentOut, StoppedAfter, Puts, PutsReport, Reports, Writes, end_of}
+
+module _ {K : Type 0} (sent : K → List ℕ) (failures : K → ℕ) where
+  -- nothing more, as far as it goes
+  pub went_nothing : (r : Report K) → WentOut sent failures [] r r
+  went_nothing r = record {
+    same_writer = refl;
+    stop = refl;
+    out = sym (append-nil (sent r.writer.now));
+    written = omega arith;
+    failed = refl;
+  }
+
+  -- two texts
+  pub went_more : (a b : List ℕ) (x y z : Report K) → WentOut sent failures a x y → WentOut sent failures b y z
+      → WentOut sent failures (a ++ b) x z
+  went_more a b x y z first second = record {
+    same_writer = second.same_writer ∙ first.same_writer;
+    stop = second.stop ∙ first.stop;
+    out = second.out ∙ (ap (λ s. s ++ b) first.out ∙ append_assoc (sent x.writer.now) a b);
+    written =
+        let len = length-append a b in
+        let one = first.written in
+        let two = second.written in
+        omega arith;
+    failed = second.failed ∙ first.failed;
+  }
+
+  -- a text, and not all of another
+  pub went_stopped : (a b : List ℕ) (x y z : Report K) (n : ℕ) → WentOut sent failures a x y
+      → StoppedAfter sent failures b y z n → StoppedAfter sent failures (a ++ b) x z (length a + n)
+  went_stopped a b x y z n first second = record {
+    same_writer = second.same_writer ∙ first.same_writer;
+    within =
+        let len = length-append a b in
+        let le = second.within in
+        omega arith;
+    out =
+        second.out
+        ∙ (ap (λ s. s ++ take n b) first.out
+        ∙ (append_assoc (sent x.writer.now) a (take n b)
+        ∙ ap (λ t. sent x.writer.now ++ t) (sym (take-append-add a b n))));
+    why = reason second.why;
+  }
+    where
+      reason : ((z.stop ≡ Some stop.Memory) × (failures z.writer.now ≡ failures y.writer.now))
+          ⊎ ((z.stop ≡ Some (stop.Write (y.written + n))) × (n < length b)
+          × (failures z.writer.now ≡ failures y.writer.now + 1))
+          → ((z.stop ≡ Some stop.Memory) × (failures z.writer.now ≡ failures x.writer.now))
+          ⊎ ((z.stop ≡ Some (stop.Write (x.written + (length a + n)))) × (length a + n < length (a ++ b))
+          × (failures z.writer.now ≡ failures x.writer.now + 1))
+      reason (inl memory) = inl (memory.0, memory.1 ∙ first.failed)
+      reason (inr write) =
+          let one = first.written in
+          let len = length-append a b in
+          let short = write.1 in
+          let count : y.written + n ≡ x.written + (length a + n) = omega arith in
+          inr (
+            write.0 ∙ ap (λ m. Some (stop.Write m)) count,
+            omega arith,
+            write.2 ∙ ap (λ m. m + 1) first.failed,
+          )
+
+  -- not all of a text, and so not all of a longer one
+  pub stopped_more : (a b : List ℕ) (x z : Report K) (n : ℕ) → StoppedAfter sent failures a x z n
+      → StoppedAfter sent failures (a ++ b) x z n
+  stopped_more a b x z n stopped = record {
+    same_writer = stopped.same_writer;
+    within =
+        let len = length-append a b in
+        let le = stopped.within in
+        omega arith;
+    out = stopped.out ∙ ap (λ t. sent x.writer.now ++ t) (sym (take-append-le n a b stopped.within));
+    why = reason stopped.why;
+  }
+    where
+      reason : ((z.stop ≡ Some stop.Memory) × (failures z.writer.now ≡ failures x.writer.now))
+          ⊎ ((z.stop ≡ Some (stop.Write (x.written + n))) × (n < length a)
+          × (failures z.writer.now ≡ failures x.writer.now + 1))
+          → ((z.stop ≡ Some stop.Memory) × (failures z.writer.now ≡ failures x.writer.now))
+          ⊎ ((z.stop ≡ Some (stop.Write (x.written + n))) × (n < length (a ++ b))
+          × (failures z.writer.now ≡ failures x.writer.now + 1))
+      reason (inl memory) = inl memory
+      reason (inr write) =
+          let len = length-append a b in
+          let short = write.1 in
+          inr (write.0, omega arith, write.2)
+
+  -- a text went out, or not all of it
+  abbrev pub Outcome : List ℕ → Report K → Report K → Type 0
+  Outcome text x z = WentOut sent failures text x z ⊎ ((n : ℕ) × StoppedAfter sent failures text x z n)
+
+  pub outcome_more : (a b : List ℕ) (x y z : Report K) → WentOut sent failures a x y → Outcome b y z
+      → Outcome (a ++ b) x z
+  outcome_more a b x y z first (inl went) = inl (went_more a b x y z first went)
+  outcome_more a b x y z first (inr stopped) =
+      inr (length a + stopped.0, went_stopped a b x y z stopped.0 first stopped.1)
+
+  -- what went out of a text by the end of a walk
+  abbrev pub Progress : List ℕ → Report K → Report K → Result (Unit {0}) BookFault → Type 0
+  Progress text x z w = PutsReport sent failures text x z w
+
+  pub progress_more : (a b : List ℕ) (x y z : Report K) (w : Result (Unit {0}) BookFault)
+      → WentOut sent failures a x y → Progress b y z w → Progress (a ++ b) x z w
+  progress_more a b x y z (Ok u) first rest = outcome_more a b x y z first rest
+  progress_more a b x y z (Err f) first rest = (
+    rest.0 ∙ first.same_writer,
+    (
+      length a + rest.1.0,
+      rest.1.1
+          ∙ (ap (λ s. s ++ take rest.1.0 b) first.out
+          ∙ (append_assoc (sent x.writer.now) a (take rest.1.0 b)
+          ∙ ap (λ t. sent x.writer.now ++ t) (sym (take-append-add a b rest.1.0)))),
+    ),
+    rest.2 ∙ first.failed,
+  )
+
+  pub progress_stopped : (a b : List ℕ) (x z : Report K) (n : ℕ) → StoppedAfter sent failures a x z n
+      → Progress (a ++ b) x z (Ok tt)
+  progress_stopped a b x z n stopped = inr (n, stopped_more a b x z n stopped)
+
+  -- a text went out, and nothing of what is behind it
+  pub begins_part : (a b : List ℕ) (x z : Report K) (f : BookFault) → WentOut sent failures a x z
+      → Progress (a ++ b) x z (Err f)
+  begins_part a b x z f went = (
+    went.same_writer,
+    (length a, went.out ∙ ap (λ t. sent x.writer.now ++ t) (sym (take-append_seam a b))),
+    went.failed,
+  )
+
+  -- what the report ends with
+  abbrev Tells : List ℕ → Report K → Report K → Result (Unit {0}) ReportFault → Type 0
+  Tells text x z result =
+      Reports None text (sent x.writer.now) (sent z.writer.now) result
+      × (failures z.writer.now ≡ failures x.writer.now + failed_writes result)
+
+  told-stopped : (text : List ℕ) (x z : Report K) (n : ℕ) → x.written ≡ 0
+      → sent z.writer.now ≡ sent x.writer.now ++ take n text
+      → ((z.stop ≡ Some stop.Memory) × (failures z.writer.now ≡ failures x.writer.now))
+      ⊎ ((z.stop ≡ Some (stop.Write (x.written + n))) × (n < length text)
+      × (failures z.writer.now ≡ failures x.writer.now + 1))
+      → Tells text x z (end_of (Ok tt) z.stop)
+  told-stopped text x z n fresh out (inl memory) =
+      let same = memory.1 in
+      let count : failures z.writer.now ≡ failures x.writer.now + 0 = omega arith in
+      subst (λ s. Tells text x z (end_of (Ok tt) s)) (sym memory.0) ((n, out), count)
+  told-stopped text x z n fresh out (inr write) =
+      let all : x.written + n ≡ n = omega arith in
+      subst (λ s. Tells text x z (end_of (Ok tt) s))
+      (sym (write.0 ∙ ap (λ m. Some (stop.Write m)) all)) ((refl, write.1, out), write.2)
+
+  told : (text : List ℕ) (x z : Report K) (w : Result (Unit {0}) BookFault) → x.written ≡ 0 → x.stop ≡ None
+      → Progress text x z w → Tells text x z (end_of w z.stop)
+  told text x z (Ok tt) fresh begun (inl went) =
+      let same = went.failed in
+      let count : failures z.writer.now ≡ failures x.writer.now + 0 = omega arith in
+      subst (λ s. Tells text x z (end_of (Ok tt) s)) (sym (went.stop ∙ begun)) ((refl, went.out), count)
+  told text x z (Ok tt) fresh begun (inr stopped) =
+      told-stopped text x z stopped.0 fresh stopped.1.out stopped.1.why
+  told text x z (Err book.TheVariants.Memory) fresh begun rest =
+      let same = rest.2 in
+      let count : failures z.writer.now ≡ failures x.writer.now + 0 = omega arith in
+      (rest.1, count)
+  told text x z (Err book.TheVariants.Store) fresh begun rest =
+      let same = rest.2 in
+      let count : failures z.writer.now ≡ failures x.writer.now + 0 = omega arith in
+      (rest.1, count)
+
+  same_name : (text : List ℕ) (x z : Report K) (w : Result (Unit {0}) BookFault) → Progress text x z w
+      → x.writer.ghost_name ≡ z.writer.ghost_name
+  same_name text x z (Ok u) (inl went) = sym went.same_writer
+  same_name text x z (Ok u) (inr stopped) = sym stopped.1.same_writer
+  same_name text x z (Err f) rest = sym rest.0
+
+  -- the same of what it was written to, which is `first` before and `last` after
+  pub finished : (text : List ℕ) (x z : Report K) (w : Result (Unit {0}) BookFault) (first last : K)
+      (result : Result (Unit {0}) ReportFault) → x.written ≡ 0 → x.stop ≡ None → x.writer.now ≡ first
+      → (x.writer.ghost_name ≡ z.writer.ghost_name → last ≡ z.writer.now) → result ≡ end_of w z.stop
+      → Progress text x z w
+      → Writes sent failures text first last result
+  finished text x z w first last result fresh begun starts ends is rest =
+      let tells = told text x z w fresh begun rest in
+      let same = ends (same_name text x z w rest) in
+      rw (is, same, ← starts) tells
+
+module _ {K Row V : Type 0} (sent : K → List ℕ) (failures : K → ℕ) (report : V → Report K) (line : Row → List ℕ)
+    (Keeps : V → Type 0) (sees : V → Row → Bool → V → Type 0)
+    (puts : (v : V) (row : Row) (more : Bool) (w : V) → Keeps v → sees v row more w
+    → Puts sent failures (line row) (report v) more (report w) × Keeps w) where
+  -- a visitor that wanted more after each row wrote all of their lines
+  pub all_out : (rows : List Row) (v w : V) → Keeps v → Saw sees rows v w
+      → WentOut sent failures (flat_map line rows) (report v) (report w)
+  all_out [] v w kept same =
+      subst (λ u. WentOut sent failures [] (report v) (report u)) same (went_nothing sent failures (report v))
+  all_out (row ∷ rows) v w kept (u, seen, rest) =
+      let one = puts v row true u kept seen in
+      went_more sent failures (line row) (flat_map line rows) (report v) (report u) (report w) one.0
+      (all_out rows u w one.1 rest)
+
+  -- after a whole walk the lines went out, or not all of them
+  pub walked : (rows : List Row) (v w : V) → Keeps v → SawAll sees rows v w
+      → Outcome sent failures (flat_map line rows) (report v) (report w)
+  walked [] v w kept same =
+      inl (subst (λ u. WentOut sent failures [] (report v) (report u)) same (went_nothing sent failures (report v)))
+  walked (row ∷ rows) v w kept (inl (u, seen, rest)) =
+      let one = puts v row true u kept seen in
+      outcome_more sent failures (line row) (flat_map line rows) (report v) (report u) (report w) one.0
+      (walked rows u w one.1 rest)
+  walked (row ∷ rows) v w kept (inr seen) =
+      let one = puts v row false w kept seen in
+      inr (
+        one.0.0,
+        stopped_more sent failures (line row) (flat_map line rows) (report v) (report w) one.0.0 one.0.1,
+      )
+
+  -- after a part of a walk a beginning of them did
+  begun : (rows : List Row) (v w : V) (f : BookFault) → Keeps v → SawSome sees rows v w
+      → Progress sent failures (flat_map line rows) (report v) (report w) (Err f)
+  begun rows v w f kept (n, saw) =
+      let went = all_out (take n rows) v w kept saw in
+      let front = flat_map line (take n rows) in
+      let back = flat_map line (drop n rows) in
+      let whole : flat_map line rows ≡ front ++ back =
+      ap (flat_map line) (sym (take-append-drop n rows)) ∙ flat_map-append line (take n rows) (drop n rows) in (
+        went.same_writer,
+        (
+          length front,
+          went.out
+              ∙ ap (λ t. sent (report v).writer.now ++ t)
+              (sym (take-append_seam front back) ∙ ap (take (length front)) (sym whole)),
+        ),
+        went.failed,
+      )
+
+  pub progress : (rows : List Row) (v w : V) (r : Result (Unit {0}) BookFault) → Keeps v
+      → OnOk r (SawAll sees rows v w) → OnErr r (SawSome sees rows v w)
+      → Progress sent failures (flat_map line rows) (report v) (report w) r
+  progress rows v w (Ok u) kept all some = walked rows v w kept all
+  progress rows v w (Err f) kept all some = begun rows v w f kept some

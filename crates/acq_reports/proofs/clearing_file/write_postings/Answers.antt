@@ -1,0 +1,37 @@
+use Rattle.std.proofs.Common.{◌++◌, sym, ◌∙◌}
+use Rattle.std.specs.List.{flat_map}
+use Rattle.acq_book.specs.Lookups.{postings_at}
+use Rattle.acq_reports.specs.ClearingFile.{posting_line, clearing_header}
+use Rattle.acq_reports.specs.Writing.{Puts}
+use Rattle.acq_reports.proofs.Lines.{Progress, finished, progress, progress_more, progress_stopped}
+use Rattle.acq_reports.proofs.clearing_file.write_postings.Goals.{then-put, else-put}
+use Rattle.acq_reports.proofs.clearing_file.write_postings.Goals as goal
+
+pub returns-clause-text : goal.returns-clause-text
+returns-clause-text g c = λ honest opened.
+    let sent = g.K.Sink.sent in
+    let failures = g.K.Sink.failures in
+    let rows = postings_at (g.B.Book.tables c.args.book.now) c.args.day in
+    let lines = flat_map posting_line rows in
+    let text = clearing_header ++ lines in
+    let start = c.new-report in
+    let rest : Progress sent failures text start.result c.if-put.report c.if-put.walked =
+    elim c.if-put.branch [
+      | then-put w ↦
+          let walked = w.walk_postings-walked in
+          let h = rw (w.book-is) at honest in
+          let out = progress_more sent failures clearing_header lines start.result c.put.new.self walked.new.visitor
+          walked.result w.if-put.ensures
+          (progress sent failures (λ r. r) posting_line (λ r. Unit {0})
+          (λ old row more new. Puts sent failures (posting_line row) old more new) (λ v row more u kept seen. (seen, tt))
+          rows c.put.new.self walked.new.visitor walked.result tt (walked.ensures.seen h opened)
+          (walked.ensures.begun h opened)) in
+          rw (w.report-is, w.walked-is) out
+      | else-put w ↦
+          let out = progress_stopped sent failures clearing_header lines start.result c.put.new.self w.if-put.ensures.0
+          w.if-put.ensures.1 in
+          rw (w.report-is, w.walked-is) out
+    ] in
+    finished sent failures text start.result c.if-put.report c.if-put.walked c.args.writer.now _ c.end.result
+    start.ensures.written start.ensures.stop start.ensures.writer
+    (λ same. c.writer-1.given.1 (sym start.ensures.same_writer ∙ same)) c.end.ensures rest

@@ -1,0 +1,41 @@
+use Rattle.std.proofs.Common.{◌≡◌, ◌++◌, sym, ◌∙◌, refl, subst}
+use Rattle.std.specs.List.{flat_map}
+use Rattle.acq_book.specs.Lookups.{holds_at}
+use Rattle.acq_reports.specs.OpenHolds.{hold_line, holds_header}
+use Rattle.acq_reports.specs.Writing.{Puts}
+use Rattle.acq_reports.proofs.Lines.{Progress, finished, progress, progress_more, progress_stopped}
+use Rattle.acq_reports.proofs.holds.write_holds.Goals.{then-put, else-put}
+use Rattle.acq_reports.proofs.holds.write_holds.Goals as goal
+
+pub returns-clause-text : goal.returns-clause-text
+returns-clause-text g c = λ honest opened.
+    let sent = g.K.Sink.sent in
+    let failures = g.K.Sink.failures in
+    let moment = c.args.moment in
+    let rows = holds_at (g.B.Book.tables c.args.book.now) c.args.merchant in
+    let lines = flat_map (hold_line moment) rows in
+    let text = holds_header ++ lines in
+    let start = c.new in
+    let rest : Progress sent failures text start.result c.if-put.holds.report c.if-put.walked =
+    elim c.if-put.branch [
+      | then-put w ↦
+          let walked = w.walk_holds-walked in
+          let h = rw (w.book-is) at honest in
+          let out = progress_more sent failures holds_header lines start.result c.put.new.self
+          walked.new.visitor.report walked.result w.if-put.ensures
+          (progress sent failures (λ v. v.report) (hold_line moment) (λ v. v.moment ≡ moment)
+          (λ old row more new. Puts sent failures (hold_line old.moment row) old.report more new.report
+          × (new.moment ≡ old.moment))
+          (λ v row more u kept seen.
+          (subst (λ m. Puts sent failures (hold_line m row) v.report more u.report) kept seen.0, seen.1 ∙ kept))
+          rows _ walked.new.visitor walked.result refl (walked.ensures.seen h opened)
+          (walked.ensures.begun h opened)) in
+          rw (w.holds-is, w.walked-is) out
+      | else-put w ↦
+          let out = progress_stopped sent failures holds_header lines start.result c.put.new.self w.if-put.ensures.0
+          w.if-put.ensures.1 in
+          rw (w.holds-is, w.walked-is) out
+    ] in
+    finished sent failures text start.result c.if-put.holds.report c.if-put.walked c.args.writer.now _ c.end.result
+    start.ensures.written start.ensures.stop start.ensures.writer
+    (λ same. c.writer-1.given.1 (sym start.ensures.same_writer ∙ same)) c.end.ensures rest

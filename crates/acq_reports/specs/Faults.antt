@@ -1,0 +1,64 @@
+-- The faults' numbers and texts, what a fault of the book is, and how many writes failed.
+use Rattle.std.specs.Prelude.{ℕ, List, ◌++◌, [], Bool, true, false, codes, Result, Ok, Err}
+use Rattle.std.specs.Fmt.{decimal}
+use Rattle.acq_book.specs.declared.book_fault.BookFault as book
+use Rattle.acq_reports.specs.declared.report_fault.ReportFault.{ReportFault}
+use Rattle.acq_reports.specs.declared.report_fault.ReportFault.TheVariants.{Memory, Store}
+use Rattle.acq_reports.specs.declared.report_fault.ReportFault.TheVariants.{NoSuchMerchant, Write}
+use Rattle.acq_reports.specs.declared.report_fault.ReportFault.TheVariants.{DayNotOver}
+use Rattle.acq_reports.specs.declared.report_fault.ReportFault.TheVariants.{StillPending}
+
+abbrev pub number_of : ReportFault → ℕ
+number_of Memory = 1
+number_of Store = 2
+number_of NoSuchMerchant = 37
+number_of (Write n) = 54
+number_of DayNotOver = 60
+number_of (StillPending n) = 61
+
+-- a fault's name
+abbrev pub name_of : ReportFault → List ℕ
+name_of Memory = codes "Memory"
+name_of Store = codes "Store"
+name_of NoSuchMerchant = codes "NoSuchMerchant"
+name_of (Write n) = codes "Write"
+name_of DayNotOver = codes "DayNotOver"
+name_of (StillPending n) = codes "StillPending"
+
+-- its value, behind a space
+abbrev pub values_of : ReportFault → List ℕ
+values_of Memory = []
+values_of Store = []
+values_of NoSuchMerchant = []
+values_of (Write n) = codes " " ++ decimal n
+values_of DayNotOver = []
+values_of (StillPending n) = codes " " ++ decimal n
+
+-- the fault as printed lines have it
+abbrev pub text_of : ReportFault → List ℕ
+text_of fault = decimal (number_of fault) ++ codes " " ++ name_of fault ++ values_of fault
+
+-- what a fault of the book is
+abbrev pub of_book : book.BookFault → ReportFault
+of_book book.TheVariants.Memory = Memory
+of_book book.TheVariants.Store = Store
+
+-- a fault of the store is reported only where a call of it failed
+abbrev pub IfStoreFailed : {T : Type 0} → Result T ReportFault → Type 0 → Type 0
+IfStoreFailed (Err Store) failed = failed
+IfStoreFailed _ failed = Unit {0}
+
+-- how many writes failed
+abbrev pub writes_failed : ReportFault → ℕ
+writes_failed (Write n) = 1
+writes_failed _ = 0
+
+abbrev pub failed_writes : {T : Type 0} → Result T ReportFault → ℕ
+failed_writes (Ok x) = 0
+failed_writes (Err fault) = writes_failed fault
+
+-- neither memory nor the store failed
+abbrev pub is_settled : {T : Type 0} → Result T ReportFault → Bool
+is_settled (Err Memory) = false
+is_settled (Err Store) = false
+is_settled _ = true

@@ -1,0 +1,9 @@
+pub mod Faults
+pub mod Marks
+pub mod ClearingFile
+pub mod SettlementReport
+pub mod OpenHolds
+pub mod Refusals
+pub mod Writing
+pub mod Naming
+pub mod Worked

@@ -1,0 +1,53 @@
+-- How the parts of the texts are written (own profile).
+use Rattle.std.specs.Prelude.{ℕ, ◌-◌, ◌/◌, ◌%◌, min, List, ◌++◌, length, replicate}
+use Rattle.std.specs.Prelude.{codes, Option, Some, None}
+use Rattle.csv.specs.Writing.{row_text, default_writer}
+use Rattle.day_totals.specs.Day.{date_text_of, two_digits}
+use Rattle.day_totals.specs.declared.leg.Leg.{Leg}
+use Rattle.day_totals.specs.declared.leg.Leg.TheVariants.{Credit, CreditReversal, Debit}
+use Rattle.day_totals.specs.declared.leg.Leg.TheVariants.{DebitReversal}
+
+-- a record of these fields as the crate `csv` writes it by default: a field with a comma, a quote
+-- or a line's end stands in quotes, each quote in it twice; behind the last one a line feed
+abbrev pub csv_line : List (List ℕ) → List ℕ
+csv_line fields = row_text default_writer fields
+
+abbrev pub leg_name : Leg → List ℕ
+leg_name Credit = codes "credit"
+leg_name CreditReversal = codes "credit-reversal"
+leg_name Debit = codes "debit"
+leg_name DebitReversal = codes "debit-reversal"
+
+-- a text to the right of so many places, which dots fill
+abbrev pub dotted : ℕ → List ℕ → List ℕ
+dotted places text = replicate (places - length text) 46 ++ text
+
+-- a number, 0 where there is none
+abbrev pub or_zero : Option ℕ → ℕ
+or_zero None = 0
+or_zero (Some n) = n
+
+-- ---- moments
+
+-- 2000-01-01, in days since 1970-01-01
+abbrev pub first_day : ℕ
+first_day = 10_957
+
+-- 2100-01-31 23:59:59, at or before which every hold ends
+abbrev pub last_end : ℕ
+last_end = 4_105_123_199
+
+-- hours, minutes and seconds of a day
+abbrev pub clock_text : ℕ → List ℕ
+clock_text seconds =
+    two_digits (seconds / 3600) ++ codes ":" ++ two_digits (seconds / 60 % 60) ++ codes ":"
+    ++ two_digits (seconds % 60)
+
+-- a moment in UTC, which is given in seconds since 1970-01-01 00:00:00
+abbrev pub moment_text : ℕ → List ℕ
+moment_text seconds =
+    date_text_of (seconds / 86400 - first_day) ++ codes " " ++ clock_text (seconds % 86400)
+
+-- the last second of a hold
+abbrev pub end_text : ℕ → List ℕ
+end_text seconds = moment_text (min seconds last_end)
