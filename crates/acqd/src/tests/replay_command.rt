@@ -9,7 +9,7 @@ use std::process::Abort;
 use std::random::RandomSource;
 use std::test::Fail;
 
-/// A field of event lines: as it stands, or a message that is written in hexadecimal.
+/// An event line as it stands, or a frame's message, which its line has in hexadecimal.
 #[derive(Clone, Copy)]
 enum Line {
     Text(&'static str),
