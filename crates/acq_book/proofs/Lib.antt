@@ -7,3 +7,4 @@ pub mod Days
 pub mod Edited
 pub mod Showing
 pub mod Sorting
+pub mod Chains

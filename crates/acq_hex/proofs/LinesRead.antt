@@ -5,7 +5,8 @@ use Rattle.std.specs.Prelude.{◌==◌, Bool, not, filter_map, option_to_list, �
 use Rattle.std.specs.List.{prefix_len}
 use Rattle.std.proofs.lemmas.List.{append-nil, nil_from_length, length_push, length-append}
 use Rattle.std.proofs.lemmas.List.Elements.{filter_map-append}
-use Rattle.std.proofs.lemmas.Bool.{cases_Bool, eqb-true, lt-leb, le-leb}
+use Rattle.std.proofs.lemmas.List.Folds.{prefix_len-append}
+use Rattle.std.proofs.lemmas.Bool.{cases_Bool, cond-true, eq-eqb, eqb-true, lt-leb, le-leb}
 use Rattle.std.specs.Result.{result_ok}
 use Rattle.hex.specs.Hex.{decode_of, decode_pairs}
 use Rattle.acq_link.specs.Frames.{Frames, fit_frames, fits_frame, framed}
@@ -18,19 +19,6 @@ use Rattle.acq_hex.specs.declared.hex_fault.HexFault.TheVariants.{Memory, BadLin
 
 abbrev pub is_good_line : List ℕ → Bool
 is_good_line line = not (is_bad_line line)
-
--- as many lines in front as are good
-prefix-all : (lines later : List (List ℕ)) → prefix_len is_good_line lines ≡ length lines
-    → prefix_len is_good_line (lines ++ later) ≡ length lines + prefix_len is_good_line later
-prefix-all [] later h = omega arith
-prefix-all (line ∷ lines) later h =
-    elim (cases_Bool (is_good_line line)) [
-      | inl good ↦
-          let tail : 1 + prefix_len is_good_line lines ≡ suc (length lines) = rw good at h in
-          let rest = prefix-all lines later (omega (arith, tail)) in
-          rw good (omega (arith, rest))
-      | inr bad ↦ let e : 0 ≡ suc (length lines) = rw bad at h in absurd (omega (arith, e))
-    ]
 
 -- what passes the length of a frame has it
 fit-if_fits : (message : Option (List ℕ)) → fit_frames (option_to_list (if_fits message)) ≡ true
@@ -97,7 +85,7 @@ stands-more text rest frames line after more number s first good new =
       before = s.before ++ line ∷ [];
       whole = s.whole ∙ ap (λ (l : List (List ℕ)). s.before ++ l) first
           ∙ sym (append_assoc s.before (line ∷ []) (lines_of after));
-      good = omega (arith, prefix-all s.before (line ∷ []) s.good, one, size);
+      good = omega (arith, prefix_len-append is_good_line s.before (line ∷ []) ∙ cond-true _ _ _ (eq-eqb _ _ s.good), one, size);
       made = record {
         each = ap fit_frames held ∙ fit-append (filter_map message_of_line s.before)
             (option_to_list (message_of_line line)) s.made.each
@@ -127,7 +115,7 @@ stands-bad text rest frames line after number s first bad =
     s.whole ∙ ap (λ (l : List (List ℕ)). s.before ++ l) first in
     let none : prefix_len is_good_line (line ∷ lines_of after) ≡ 0 = rw bad refl in
     let place : prefix_len is_good_line (s.before ++ (line ∷ lines_of after)) ≡ length s.before =
-    omega (arith, prefix-all s.before (line ∷ lines_of after) s.good, none) in
+    omega (arith, prefix_len-append is_good_line s.before (line ∷ lines_of after) ∙ cond-true _ _ _ (eq-eqb _ _ s.good), none) in
     let size = length-append s.before (line ∷ lines_of after) in
     let within : leb (suc (length s.before)) (length (s.before ++ (line ∷ lines_of after))) ≡ true =
     le-leb _ _ (omega (arith, size)) in

@@ -5,7 +5,8 @@ use Rattle.std.specs.Prelude.{Bool, not, filter_map, ◌⊎◌}
 use Rattle.std.specs.List.{prefix_len}
 use Rattle.std.proofs.lemmas.List.{append-nil, length_push, length-append}
 use Rattle.std.proofs.lemmas.List.Elements.{filter_map-append}
-use Rattle.std.proofs.lemmas.Bool.{cases_Bool, lt-leb, le-leb}
+use Rattle.std.proofs.lemmas.List.Folds.{prefix_len-append}
+use Rattle.std.proofs.lemmas.Bool.{cond-true, eq-eqb, lt-leb, le-leb}
 use Rattle.csv.specs.Reading.{Reached, ReadRecord, default_config, source_of, strip_bom}
 use Rattle.csv.specs.declared.reader.Reader.{Reader}
 use Rattle.csv.specs.declared.parser.State.{State}
@@ -23,19 +24,6 @@ use Rattle.acq_out.specs.declared.out_fault.OutFault.TheVariants.{Memory, BadLin
 -- whether a record spells an event
 abbrev pub is_good_line : List (List ℕ) → Bool
 is_good_line fields = not (is_bad_line fields)
-
--- as many records in front as are good
-prefix-all : (p : List (List ℕ) → Bool) (rows later : List (List (List ℕ))) → prefix_len p rows ≡ length rows
-    → prefix_len p (rows ++ later) ≡ length rows + prefix_len p later
-prefix-all p [] later h = omega arith
-prefix-all p (r ∷ rows) later h =
-    elim (cases_Bool (p r)) [
-      | inl good ↦
-          let tail : 1 + prefix_len p rows ≡ suc (length rows) = rw good at h in
-          let rest = prefix-all p rows later (omega (arith, tail)) in
-          rw good (omega (arith, rest))
-      | inr bad ↦ let e : 0 ≡ suc (length rows) = rw bad at h in absurd (omega (arith, e))
-    ]
 
 -- Where a reader stands: the records read so far spell these events, and the record at hand has this number.
 pub record Stands (text : List ℕ) (left : Option (List ℕ)) (state : State) (events : List Event) (number : ℕ) : Type 0
@@ -78,7 +66,7 @@ stands-more rem text a b events more n fields event p config read is new =
       rest = rest;
       left_is = left;
       reached = reached;
-      good = omega (arith, prefix-all is_good_line p.rows (fields ∷ []) p.good, one, size);
+      good = omega (arith, prefix_len-append is_good_line p.rows (fields ∷ []) ∙ cond-true _ _ _ (eq-eqb _ _ p.good), one, size);
       made = filter_map-append event_of_fields p.rows (fields ∷ []) ∙ rw (p.made, last) (sym new);
       count = omega (arith, p.count, size);
     }
@@ -95,7 +83,7 @@ stands-bad rem text a b events n fields p config read is =
     let whole : records_of text ≡ p.rows ++ (fields ∷ later) = all ∙ append_assoc p.rows (fields ∷ []) later in
     let none : prefix_len is_good_line (fields ∷ later) ≡ 0 = rw is refl in
     let place : prefix_len is_good_line (p.rows ++ (fields ∷ later)) ≡ length p.rows =
-    omega (arith, prefix-all is_good_line p.rows (fields ∷ later) p.good, none) in
+    omega (arith, prefix_len-append is_good_line p.rows (fields ∷ later) ∙ cond-true _ _ _ (eq-eqb _ _ p.good), none) in
     let size = length-append p.rows (fields ∷ later) in
     let before : leb (suc (length p.rows)) (length (p.rows ++ (fields ∷ later))) ≡ true =
     le-leb _ _ (omega (arith, size)) in

@@ -1,6 +1,6 @@
 -- How the parts of the texts are written (own profile).
 use Rattle.std.specs.Prelude.{ℕ, ◌-◌, ◌/◌, ◌%◌, min, List, ◌++◌, length, replicate}
-use Rattle.std.specs.Prelude.{codes, Option, Some, None}
+use Rattle.std.specs.Prelude.{codes}
 use Rattle.csv.specs.Writing.{row_text, default_writer}
 use Rattle.day_totals.specs.Day.{date_text_of, two_digits}
 use Rattle.day_totals.specs.declared.leg.Leg.{Leg}
@@ -21,11 +21,6 @@ leg_name DebitReversal = codes "debit-reversal"
 -- a text to the right of so many places, which dots fill
 abbrev pub dotted : ℕ → List ℕ → List ℕ
 dotted places text = replicate (places - length text) 46 ++ text
-
--- a number, 0 where there is none
-abbrev pub or_zero : Option ℕ → ℕ
-or_zero None = 0
-or_zero (Some n) = n
 
 -- ---- moments
 

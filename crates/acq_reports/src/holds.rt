@@ -1,11 +1,11 @@
 //! Open holds.
 
-ghost use Rattle.std.specs.Prelude.{◌≡◌, ◌+◌, IfOk};
+ghost use Rattle.std.specs.Prelude.{◌≡◌, ◌+◌, IfOk, unwrap_or};
 ghost use Rattle.day_totals.specs.Digits.{zero_padded};
 ghost use Rattle.acq_message.specs.Elements.{or_empty};
 ghost use Rattle.acq_book.specs.Promise.{HasRisen, Looks};
 ghost use Rattle.acq_reports.specs.Faults.{IfStoreFailed, failed_writes, is_settled};
-ghost use Rattle.acq_reports.specs.Marks.{csv_line, or_zero};
+ghost use Rattle.acq_reports.specs.Marks.{csv_line};
 ghost use Rattle.acq_reports.specs.OpenHolds.{holds_text, hold_fields, is_before_end};
 ghost use Rattle.acq_reports.specs.Refusals.{merchant_refusal};
 ghost use Rattle.acq_reports.specs.Writing.{Reports, Writes};
@@ -121,7 +121,7 @@ fn hold_text(alloc: Global, row: &Request) -> Result<Vec<u8>, AllocError>
     let reference = reference_text(row.reference);
     let card = masked(alloc, content_bytes(&row.card))?;
     let mut amount = Buffer::new();
-    let end = end_text(or_zero(row.hold_end));
+    let end = end_text(row.hold_end.unwrap_or(0));
     let fields: [&[u8]; 4] = [
         &reference,
         card.as_slice(),
@@ -131,18 +131,9 @@ fn hold_text(alloc: Global, row: &Request) -> Result<Vec<u8>, AllocError>
     record_text(alloc, &fields)
 }
 
-fn or_zero(seconds: Option<u64>) -> u64
-    ensures { result ≡ or_zero seconds }
-{
-    match seconds {
-        Some(seconds) => seconds,
-        None => 0,
-    }
-}
-
 /// Twelve digits, of 0 where there is no reference.
 fn reference_text(reference: Option<Reference>) -> [u8; 12]
-    ensures { result ≡ zero_padded 12 (or_zero reference) }
+    ensures { result ≡ zero_padded 12 (unwrap_or reference 0) }
 {
     let mut text = [b'0'; 12];
     match reference {

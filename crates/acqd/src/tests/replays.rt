@@ -1,4 +1,4 @@
-//! Event lines in, output lines out: a sale's day, a bad line, and reads and writes that fail.
+//! Event lines in, output lines out: reads and writes that fail.
 
 use super::no_progress::NoProgress;
 use super::script::{GREATEST_LIMIT, MAY_1};
@@ -49,27 +49,6 @@ fn replayed<S: Source, K: Sink>(
     };
     let mut host = Host::in_memory(alloc, keys, limit, first_day);
     replay(alloc, &mut host, input, output, &mut NoProgress)
-}
-
-#[test]
-fn event_lines_and_output_lines(rt: HostRuntime) -> Result<(), Fail> {
-    let mut input = SliceSource::new(DAY.as_bytes());
-    let mut output = MemorySink::new(rt.alloc());
-    let ended = replayed(rt.alloc(), RandomState::new(&rt)?, &mut input, &mut output);
-    assert_eq!(rt; ended, Ok(()));
-    assert_eq!(rt; std::str::from_utf8(output.as_bytes())?, LINES);
-    Ok(())
-}
-
-#[test]
-fn bad_lines_come_before_any_event(rt: HostRuntime) -> Result<(), Fail> {
-    let text = format!(in rt.alloc(); "{DAY}cutover,1714555800,,,x,\n")?;
-    let mut input = SliceSource::new(text.as_bytes());
-    let mut output = MemorySink::new(rt.alloc());
-    let ended = replayed(rt.alloc(), RandomState::new(&rt)?, &mut input, &mut output);
-    assert_eq!(rt; ended, Err(Fault::BadLine(7)));
-    assert_eq!(rt; output.as_bytes(), b"".as_slice());
-    Ok(())
 }
 
 #[test]

@@ -12,6 +12,6 @@ returns c =
       c.format.ensures.text,
       c.number.ensures.value,
       c.end_text-end.ensures,
-      c.or_zero.ensures,
+      c.unwrap_or.ensures,
     )
     at h
