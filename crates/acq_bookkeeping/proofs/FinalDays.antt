@@ -1,11 +1,12 @@
 -- A day that is past and has no pending request keeps its postings.
-use Rattle.std.proofs.Common.{◌≡◌, ℕ, ◌<◌, List, [], ◌∷◌, ◌++◌, Option, Some, None, false, inl, inr, refl, sym, ap, ◌∙◌, arith}
+use Rattle.std.proofs.Common.{◌≡◌, ℕ, ◌<◌, List, [], ◌∷◌, ◌++◌, Option, Some, None, Bool, false, inl, inr, refl, sym, ap, ◌∙◌, arith}
 use Rattle.std.proofs.lemmas.Bool.Decides.{nat_tests}
-use Rattle.std.specs.Prelude.{◌&&◌, ◌==◌}
+use Rattle.std.specs.Prelude.{◌&&◌, ◌||◌, ◌==◌}
 use Rattle.day_totals.specs.declared.leg.Leg.{Leg}
 use Rattle.acq_core.specs.declared.event.Event.{Event}
 use Rattle.acq_message.specs.declared.request_key.RequestKey.{RequestKey}
 use Rattle.acq_core.specs.declared.request.Request.{Request}
+use Rattle.acq_core.specs.declared.status.Status.{Status}
 use Rattle.acq_core.specs.declared.status.Status.TheVariants.{Pending}
 use Rattle.acq_core.specs.declared.posting.Posting.{Posting}
 use Rattle.acq_message.specs.declared.verdict.Verdict.{Verdict}
@@ -167,13 +168,13 @@ stays day t k (Enrols merchant) e g c = record { closed = record { past = c.past
 stays day t k (AddsTerminal terminal) e g c = record { closed = record { past = c.past; none = c.none }; same = refl }
 
 -- so do events, one after the other
-stays_after : (day : ℕ) (t : Tables) (es : List Event) → IsClosed day t →
-    postings_on day (tables_after t es).postings ≡ postings_on day t.postings
-stays_after day t [] c = refl
+stays_after : (day : ℕ) (t : Tables) (es : List Event) → IsClosed day t → StaysClosed day t (tables_after t es)
+stays_after day t [] c = record { closed = c; same = refl }
 stays_after day t (e ∷ es) c =
     let a = arrival_of e in
     let step = stays day t (known_in t a) (decision (known_in t a) a) refl (grounds t a) c in
-    stays_after day (step_tables t a) es step.closed ∙ step.same
+    let rest = stays_after day (step_tables t a) es step.closed in
+    record { closed = rest.closed; same = rest.same ∙ step.same }
 
 -- events behind others
 tables_after-append : (t : Tables) (es fs : List Event) →
@@ -196,10 +197,31 @@ is_closed day t past none = record {
         let left : (row.day == day) ≡ false = sym (ap (λ s. is_pending s && (row.day == day)) pending) ∙ h in
         grind (arith, nat_tests)
 
+-- where no row is pending on a day, none is found
+none_found : (day : ℕ) (rows : List Request) → NonePending day rows → has_pending day rows ≡ false
+none_found day [] none = refl
+none_found day (row ∷ rows) none =
+    not_either (is_pending row.status && (row.day == day)) (has_pending day rows) (not_on_day row.status refl)
+    (none_found day rows (λ x member. none x (inr member)))
+  where
+    not_either : (a b : Bool) → a ≡ false → b ≡ false → (a || b) ≡ false
+    not_either a b e f = λ i. e i || f i
+
+    not_on_day : (s : Status) → row.status ≡ s → (is_pending s && (row.day == day)) ≡ false
+    not_on_day Pending e = not_on row.day day (λ on. none row (inl refl) e on)
+    not_on_day s e = refl
+
+-- a day that is past without a pending request stays so
+pub closed_day_stays : (t : Tables) (day : ℕ) (es : List Event) → day < t.day → has_pending day t.requests ≡ false →
+    (day < (tables_after t es).day) × (has_pending day (tables_after t es).requests ≡ false)
+closed_day_stays t day es past none =
+    let closed = (stays_after day t es (is_closed day t past none)).closed in
+    (closed.past, none_found day (tables_after t es).requests closed.none)
+
 -- so its postings are final
 pub postings_of_closed_day : (t : Tables) (day : ℕ) (es more : List Event) → day < (tables_after t es).day →
     has_pending day (tables_after t es).requests ≡ false →
     postings_on day (tables_after t (es ++ more)).postings ≡ postings_on day (tables_after t es).postings
 postings_of_closed_day t day es more past none =
     ap (λ x. postings_on day x.postings) (tables_after-append t es more)
-    ∙ stays_after day (tables_after t es) more (is_closed day (tables_after t es) past none)
+    ∙ (stays_after day (tables_after t es) more (is_closed day (tables_after t es) past none)).same

@@ -4,3 +4,4 @@ pub mod NewRows
 pub mod ChangesFit
 pub mod Runs
 pub mod PartiesAlone
+pub mod Closed

@@ -6,6 +6,7 @@ ghost use Rattle.acq_core.specs.Arrivals.{arrival_of};
 ghost use Rattle.acq_core.specs.Tables.{Tables, new_tables, outputs, step_output, step_tables};
 ghost use Rattle.acq_core.specs.Tables.{tables_after};
 ghost use Rattle.acq_book.specs.Promise.{HasRisen, IfStore, Makes};
+ghost use Rattle.acq_host.specs.Clearing.{KeptItsClearing};
 ghost use Rattle.acq_host.specs.Headline.{IsAlone, KeptItsPostings};
 ghost use Rattle.acq_host.specs.Pasts.{HasPast};
 ghost use Rattle.acq_host.specs.Runs.{StopsAt, after_first};
@@ -80,6 +81,7 @@ impl<B: Book + Drop> Host<B> {
         ensures tables { Makes B.tables B.is_honest B.is_open B.may_leave B.failures
             self.old self.new (is_ok result)
             (step_tables (B.tables self.old) (arrival_of event.now)) }
+        ensures past { B.is_open self.new → HasPast (B.tables self.new) }
         ensures store { IfStore result (HasRisen (B.failures self.old) (B.failures self.new)) }
     {
         every_event(event);
@@ -109,6 +111,9 @@ impl<B: Book + Drop> Host<B> {
         // Nothing is posted or reversed twice, and closed days stay as they are.
         ensures postings { B.is_open self.new
             → KeptItsPostings (B.tables self.old) (B.tables self.new) }
+        // What clearing gave of a day it gives again, and a clearing file sums up to the totals.
+        ensures clearing { B.is_open self.new
+            → KeptItsClearing (B.tables self.old) (B.tables self.new) }
         // A stop leaves all events so far.
         ensures stop { B.is_honest self.new → B.is_open self.old
             → ((t : Tables) → B.may_leave self.old t → t ≡ B.tables self.old)
@@ -143,6 +148,7 @@ impl<B: Book + Drop> Host<B> {
         ensures tables { Makes B.tables B.is_honest B.is_open B.may_leave B.failures
             self.old self.new (is_ok result)
             (step_tables (B.tables self.old) (arrival_of event.now)) }
+        ensures past { B.is_open self.new → OnOk result (HasPast (B.tables self.new)) }
         ensures store { IfStore result (HasRisen (B.failures self.old) (B.failures self.new)) }
     {
         // Once the event is taken nothing may fail, so the place of its output is taken first.

@@ -5,3 +5,6 @@ pub mod January
 pub mod Refused
 pub mod Naming
 pub mod Settling
+pub mod ReadBack
+pub mod SumsInOrder
+pub mod Cleared

@@ -6,6 +6,7 @@ use self::rows::Rows;
 use crate::{ReportFault, clearing, open_holds, settlement};
 use acq_core::{MerchantId, Moment};
 use acq_link::MemorySink;
+use csv::{Reader, StringRecord};
 use day_totals::Day;
 use std::alloc::Global;
 use std::test::Fail;
@@ -67,6 +68,21 @@ fn a_day_that_is_over(rt: HostRuntime) -> Result<(), Fail> {
     Ok(())
 }
 
+/// The names of a record's fields, and the fields of a merchant whose name has a comma and a quote.
+const HEADER: &str = "day,merchant,number,leg,amount,reference,card,terminal,trace";
+
+const FIELDS: [&str; 9] = [
+    "2024-05-01",
+    "BOLT, 6\" PIPE  ",
+    "1",
+    "debit",
+    "1000",
+    "000000000001",
+    "4111111111111111",
+    "TERM0001",
+    "000001",
+];
+
 #[test]
 fn names_in_quotes(rt: HostRuntime) -> Result<(), Fail> {
     let alloc = rt.alloc();
@@ -80,6 +96,21 @@ fn names_in_quotes(rt: HostRuntime) -> Result<(), Fail> {
 2024-05-01,\"BOLT, 6\"\" PIPE  \",1,debit,1000,000000000001,4111111111111111,TERM0001,000001
 "
     );
+    // A spreadsheet reads back what was written.
+    let mut records = Reader::from_reader(alloc, text.as_bytes());
+    let mut names = records.headers()?.iter();
+    for name in HEADER.split(',') {
+        assert_eq!(rt; names.next(), Some(name));
+    }
+    assert_eq!(rt; names.next(), None);
+    let mut row = StringRecord::new(alloc);
+    assert!(rt; records.read_record(&mut row)?);
+    let mut fields = row.iter();
+    for field in FIELDS {
+        assert_eq!(rt; fields.next(), Some(field));
+    }
+    assert_eq!(rt; fields.next(), None);
+    assert!(rt; !records.read_record(&mut row)?);
     Ok(())
 }
 

@@ -1,23 +1,37 @@
 -- what the host took so far, and one event more
-use Rattle.std.proofs.Common.{take, refl, ap, ◌∙◌, subst, arith}
+use Rattle.std.proofs.Common.{take, [], refl, sym, ap, ◌∙◌, subst, arith}
 use Rattle.std.proofs.lemmas.List.{take_all}
 use Rattle.acq_core.specs.Tables.{outputs, tables_after}
 use Rattle.acq_host.specs.Pasts.{HasPast}
 use Rattle.acq_host.proofs.PartiesAlone.{is_alone, keeps_postings}
-use Rattle.acq_host.proofs.Runs.{took_next, may_stop_at}
+use Rattle.acq_host.proofs.Closed.{keeps_clearing}
+use Rattle.acq_host.proofs.Runs.{HasTaken, took_none, took_next, may_stop_at}
 use Rattle.acq_host.proofs.host.Host.run.Goals as goal
 
+pub loop-at-init : goal.loop-at-init
+loop-at-init g c = record {
+  took =
+      subst (HasTaken g.B.Book.tables g.B.Book.is_honest g.B.Book.is_open g.B.Book.may_leave g.B.Book.failures
+      c.args.self.now c.args.self.now []) (sym c.new-said.ensures.items)
+      (took_none g.B.Book.tables g.B.Book.is_honest g.B.Book.is_open g.B.Book.may_leave g.B.Book.failures
+      c.args.self.now);
+  past = subst (λ b. g.B.Book.is_open b → HasPast (g.B.Book.tables b)) c.self.view_is c.self.invariant;
+}
+
 pub loop-at-preserved : goal.loop-at-preserved
-loop-at-preserved g c =
-    took_next g.B.Book.tables g.B.Book.is_honest g.B.Book.is_open g.B.Book.may_leave g.B.Book.failures
-    c.args.self.now c.loop-at.self c.take_next.new.self c.args.events.now c.loop-at.at c.index-events-at.result
-    c.loop-at.said.items c.take_next.new.said.items (omega arith) c.index-events-at.is c.loop-at.invariant
-    c.in_default.ensures.tables c.in_default.ensures.said
+loop-at-preserved g c = record {
+  took =
+      took_next g.B.Book.tables g.B.Book.is_honest g.B.Book.is_open g.B.Book.may_leave g.B.Book.failures
+      c.args.self.now c.loop-at.self c.take_next.new.self c.args.events.now c.loop-at.at c.index-events-at.result
+      c.loop-at.said.items c.take_next.new.said.items (omega arith) c.index-events-at.is c.loop-at.invariant.took
+      c.in_default.ensures.tables c.in_default.ensures.said;
+  past = c.in_default.ensures.past;
+}
 
 pub returns-in-Err-clause-fault_alone : goal.returns-in-Err-clause-fault_alone
 returns-in-Err-clause-fault_alone g c = λ o.
     let makes = c.in-Err.ensures.tables in
-    let first = c.loop-at.invariant in
+    let first = c.loop-at.invariant.took in
     let between = makes.was_open o in
     is_alone (g.B.Book.tables c.args.self.now) (g.B.Book.tables c.take_next.new.self)
     (take c.loop-at.at c.args.events.now)
@@ -28,7 +42,7 @@ returns-in-Err-clause-fault_alone g c = λ o.
 pub returns-in-Err-clause-postings : goal.returns-in-Err-clause-postings
 returns-in-Err-clause-postings g c = λ o.
     let makes = c.in-Err.ensures.tables in
-    let first = c.loop-at.invariant in
+    let first = c.loop-at.invariant.took in
     let between = makes.was_open o in
     keeps_postings (g.B.Book.tables c.args.self.now) (g.B.Book.tables c.take_next.new.self)
     (take c.loop-at.at c.args.events.now)
@@ -40,14 +54,14 @@ pub returns-in-Err-clause-fault_stop : goal.returns-in-Err-clause-fault_stop
 returns-in-Err-clause-fault_stop g c =
     may_stop_at g.B.Book.tables g.B.Book.is_honest g.B.Book.is_open g.B.Book.may_leave g.B.Book.failures
     c.args.self.now c.loop-at.self c.take_next.new.self c.args.events.now c.loop-at.at c.index-events-at.result
-    c.loop-at.said.items (omega arith) c.index-events-at.is c.loop-at.invariant c.in-Err.ensures.tables
+    c.loop-at.said.items (omega arith) c.index-events-at.is c.loop-at.invariant.took c.in-Err.ensures.tables
 
 pub returns-clause-alone : goal.returns-clause-alone
 returns-clause-alone g c = λ h o.
     let all = c.args.events.now in
     let whole = take_all c.loop-at.at all c.loop-at-test.false in
     let t = g.B.Book.tables c.args.self.now in
-    let first = c.loop-at.invariant in
+    let first = c.loop-at.invariant.took in
     is_alone t (g.B.Book.tables c.loop-at.self) all c.loop-at.said.items
     (first.says (first.stays_open h o) ∙ ap (outputs t) whole)
     (first.leads (first.stays_open h o) ∙ ap (tables_after t) whole)
@@ -57,7 +71,29 @@ returns-clause-postings g c = λ o.
     let all = c.args.events.now in
     let whole = take_all c.loop-at.at all c.loop-at-test.false in
     let t = g.B.Book.tables c.args.self.now in
-    let first = c.loop-at.invariant in
+    let first = c.loop-at.invariant.took in
     keeps_postings t (g.B.Book.tables c.loop-at.self) all
     (subst (λ b. g.B.Book.is_open b → HasPast (g.B.Book.tables b)) c.self.view_is c.self.invariant (first.was_open o))
     (first.leads o ∙ ap (tables_after t) whole)
+
+pub returns-in-Err-clause-clearing : goal.returns-in-Err-clause-clearing
+returns-in-Err-clause-clearing g c = λ o.
+    let makes = c.in-Err.ensures.tables in
+    let first = c.loop-at.invariant.took in
+    let between = makes.was_open o in
+    keeps_clearing (g.B.Book.tables c.args.self.now) (g.B.Book.tables c.take_next.new.self)
+    (take c.loop-at.at c.args.events.now)
+    (subst (λ b. g.B.Book.is_open b → HasPast (g.B.Book.tables b)) c.self.view_is c.self.invariant
+    (first.was_open between))
+    (subst HasPast (sym (makes.unmade refl o)) (c.loop-at.invariant.past between))
+    (makes.unmade refl o ∙ first.leads between)
+
+pub returns-clause-clearing : goal.returns-clause-clearing
+returns-clause-clearing g c = λ o.
+    let all = c.args.events.now in
+    let whole = take_all c.loop-at.at all c.loop-at-test.false in
+    let t = g.B.Book.tables c.args.self.now in
+    let first = c.loop-at.invariant.took in
+    keeps_clearing t (g.B.Book.tables c.loop-at.self) all
+    (subst (λ b. g.B.Book.is_open b → HasPast (g.B.Book.tables b)) c.self.view_is c.self.invariant (first.was_open o))
+    (c.loop-at.invariant.past o) (first.leads o ∙ ap (tables_after t) whole)

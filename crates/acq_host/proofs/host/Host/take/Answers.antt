@@ -49,6 +49,9 @@ invariant_of-self-2 g c = λ o.
           (books_go_on past.0 t e past.1 c.every_event.ensures),
     )
 
+pub returns-clause-past : goal.returns-clause-past
+returns-clause-past g c = invariant_of-self-2 g c
+
 pub returns-clause-output : goal.returns-clause-output
 returns-clause-output g c = λ o.
     c.in_ok-output.ensures.output (c.in_ok-apply.ensures.makes.was_open o)
