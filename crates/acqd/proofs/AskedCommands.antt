@@ -1,7 +1,7 @@
 -- What the arguments ask for, by the command that clap found in them.
 use Rattle.std.proofs.Common.{◌≡◌, ◌∙◌, ap, sym, subst, codes, List, Option, Some, None, inl, inr, refl}
-use Rattle.std.specs.Prelude.{Box, Result, Ok, option_map}
-use Rattle.clap.specs.Words.{App, HasMatchesOf, Row, Text, first_of, first_value}
+use Rattle.std.specs.Prelude.{Box, Result, Ok, Err, [], option_map}
+use Rattle.clap.specs.Words.{App, HasMatchesOf, Row, Text, fault_of, first_of, first_value}
 use Rattle.clap.specs.Words.{is_simple, rows_of, subcommand_name_of, subcommand_of}
 use Rattle.clap.specs.Words.{subcommand_rows, subcommand_rows_of}
 use Rattle.clap.specs.declared.parser.matches.ArgMatches.{ArgMatches}
@@ -14,7 +14,9 @@ use Rattle.acqd.specs.declared.action.Action.{Action}
 use Rattle.acqd.specs.declared.action.Action.TheVariants.{Once, Show}
 use Rattle.acqd.specs.declared.input_form.InputForm.{InputForm}
 use Rattle.acqd.specs.declared.option_name.OptionName.{OptionName}
-use Rattle.acqd.specs.Arguments.{Asks, AsksReplay, form_of_flag, program}
+use Rattle.acqd.specs.declared.usage_fault.UsageFault.{UsageFault}
+use Rattle.acqd.specs.declared.usage_fault.UsageFault.TheVariants.{BadValue, Words}
+use Rattle.acqd.specs.Arguments.{Asks, AsksReplay, ReadsArguments, ReadsReplay, form_of_flag, program, replay_texts}
 use Rattle.acqd.proofs.ProgramIsSimple.{is_simple-program}
 
 -- an entry that is there, by its first and its second half
@@ -39,23 +41,21 @@ named m a words name rows is matches h k =
     ∙ (sym found.1
     ∙ both_halves (subcommand_rows_of m) name rows (h ∙ names_in (out-ArgMatches m).subcommand) k)
 
--- the values of options, as the rows have them
-pub values_in : (f : Found) (asked : Result Action OptionName) →
-    AsksReplay (first_value f (codes "limit")) (first_value f (codes "day")) asked →
-    AsksReplay (first_of (codes "limit") (rows_of f)) (first_of (codes "day") (rows_of f)) asked
-values_in f asked h =
-    subst (λ (x : Option Text). AsksReplay (first_of (codes "limit") (rows_of f)) x asked)
-    (first_value-rows f (codes "day"))
-    (subst (λ (x : Option Text). AsksReplay x (first_value f (codes "day")) asked)
-    (first_value-rows f (codes "limit")) h)
-
 pub asks_once : (s : Option (Text × List Row)) (rows : List Row) → s ≡ Some (codes "once", rows) → Asks s (Ok Once)
 asks_once s rows is = subst (λ x. Asks x (Ok Once)) (sym is) (inl (refl, refl))
 
 pub asks_replay : (s : Option (Text × List Row)) (f : Found) (asked : Result Action OptionName) →
-    s ≡ Some (codes "replay", rows_of f) →
-    AsksReplay (first_value f (codes "limit")) (first_value f (codes "day")) asked → Asks s asked
-asks_replay s f asked is h = subst (λ x. Asks x asked) (sym is) (inr (inl (refl, values_in f asked h)))
+    s ≡ Some (codes "replay", rows_of f) → AsksReplay (replay_texts (rows_of f)) asked → Asks s asked
+asks_replay s f asked is h = subst (λ x. Asks x asked) (sym is) (inr (inl (refl, h)))
+
+-- what the options were read as is what the arguments are read as
+pub reads_replay : (words : List Text) (f : Found) (read : Result Action UsageFault) → fault_of program words ≡ [] →
+    subcommand_of program words ≡ Some (codes "replay", rows_of f) → ReadsReplay (replay_texts (rows_of f)) read →
+    ReadsArguments words read
+reads_replay words f (Ok action) well is h = (well, asks_replay (subcommand_of program words) f (Ok action) is h)
+reads_replay words f (Err (BadValue name)) well is h =
+    (well, asks_replay (subcommand_of program words) f (Err name) is h)
+reads_replay words f (Err (Words error)) well is h = inl h
 
 pub asks_show : (s : Option (Text × List Row)) (f : Found) (form : InputForm) → s ≡ Some (codes "show", rows_of f) →
     form ≡ form_of_flag (first_value f (codes "hex")) → Asks s (Ok (Show form))

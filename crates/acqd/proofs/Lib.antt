@@ -5,3 +5,7 @@ pub mod LinesWritten
 pub mod AskedCommands
 pub mod FramesInOrder
 pub mod ShownFrames
+pub mod ReportsWritten
+pub mod WantedReports
+pub mod ReplayAsked
+pub mod ReportsEnd

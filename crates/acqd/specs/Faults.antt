@@ -7,29 +7,37 @@ use Rattle.acq_hex.specs.declared.hex_fault.HexFault as hex
 use Rattle.acq_link.specs.declared.input_fault.InputFault as input
 use Rattle.acq_link.specs.declared.write_fault.WriteFault as write
 use Rattle.acq_out.specs.declared.out_fault.OutFault as out
+use Rattle.acq_reports.specs.declared.report_fault.ReportFault as report
 use Rattle.acqd.specs.declared.fault.Fault.{Fault}
-use Rattle.acqd.specs.declared.fault.Fault.TheVariants.{Memory, Store, BadLength, Ended}
-use Rattle.acqd.specs.declared.fault.Fault.TheVariants.{Undecodable, Read, Write, BadLine}
+use Rattle.acqd.specs.declared.fault.Fault.TheVariants.{Memory, Store, NoSuchMerchant, BadLength}
+use Rattle.acqd.specs.declared.fault.Fault.TheVariants.{Ended, Undecodable, Read, Write, DayNotOver}
+use Rattle.acqd.specs.declared.fault.Fault.TheVariants.{StillPending, BadLine}
 
 abbrev pub number_of : Fault → ℕ
 number_of Memory = 1
 number_of Store = 2
+number_of NoSuchMerchant = 37
 number_of BadLength = 50
 number_of Ended = 51
 number_of (Undecodable fault) = 52
 number_of Read = 53
 number_of (Write n) = 54
+number_of DayNotOver = 60
+number_of (StillPending n) = 61
 number_of (BadLine n) = 62
 
 -- a fault's name
 abbrev pub name_of : Fault → List ℕ
 name_of Memory = codes "Memory"
 name_of Store = codes "Store"
+name_of NoSuchMerchant = codes "NoSuchMerchant"
 name_of BadLength = codes "BadLength"
 name_of Ended = codes "Ended"
 name_of (Undecodable fault) = codes "Undecodable"
 name_of Read = codes "Read"
 name_of (Write n) = codes "Write"
+name_of DayNotOver = codes "DayNotOver"
+name_of (StillPending n) = codes "StillPending"
 name_of (BadLine n) = codes "BadLine"
 
 -- its values, each behind a space
@@ -37,6 +45,7 @@ abbrev pub values_of : Fault → List ℕ
 values_of (Undecodable fault) =
     codes " " ++ decimal (number_of_fault fault) ++ codes " " ++ decimal (element_of_fault fault)
 values_of (Write n) = codes " " ++ decimal n
+values_of (StillPending n) = codes " " ++ decimal n
 values_of (BadLine n) = codes " " ++ decimal n
 values_of other = []
 
@@ -48,11 +57,14 @@ text_of fault = decimal (number_of fault) ++ codes " " ++ name_of fault ++ value
 abbrev pub status_of : Fault → ℕ
 status_of Memory = 3
 status_of Store = 3
+status_of NoSuchMerchant = 1
 status_of BadLength = 1
 status_of Ended = 1
 status_of (Undecodable fault) = 1
 status_of Read = 1
 status_of (Write n) = 1
+status_of DayNotOver = 1
+status_of (StillPending n) = 1
 status_of (BadLine n) = 1
 
 -- what a fault of a book is
@@ -81,6 +93,15 @@ of_out (out.TheVariants.BadLine n) = BadLine n
 abbrev pub of_hex : hex.HexFault → Fault
 of_hex hex.TheVariants.Memory = Memory
 of_hex (hex.TheVariants.BadLine n) = BadLine n
+
+-- what a fault of a report is
+abbrev pub of_report : report.ReportFault → Fault
+of_report report.TheVariants.Memory = Memory
+of_report report.TheVariants.Store = Store
+of_report report.TheVariants.NoSuchMerchant = NoSuchMerchant
+of_report (report.TheVariants.Write n) = Write n
+of_report report.TheVariants.DayNotOver = DayNotOver
+of_report (report.TheVariants.StillPending n) = StillPending n
 
 -- 0 where all is well
 abbrev pub status_after : Result (Unit {0}) Fault → ℕ

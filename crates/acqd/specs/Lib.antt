@@ -1,4 +1,5 @@
 pub mod Arguments
+pub mod DayReports
 pub mod Faults
 pub mod Once
 pub mod Replay

@@ -61,8 +61,6 @@ pub record Breaks (input out : List ℕ) (messages : List (List ℕ)) (message :
 abbrev pub StopsAt : List ℕ → List ℕ → fault.Fault → Type 0
 StopsAt input out fault.TheVariants.Memory =
     (messages : List (List ℕ)) × (rest : List ℕ) × Answers input out messages rest
-StopsAt input out fault.TheVariants.Store = ⊥
-StopsAt input out (fault.TheVariants.BadLine n) = ⊥
 StopsAt input out fault.TheVariants.BadLength =
     (messages : List (List ℕ)) × (rest : List ℕ) × Answers input out messages rest
     × (has_bad_length rest ≡ true)
@@ -75,6 +73,7 @@ StopsAt input out (fault.TheVariants.Undecodable f) =
 StopsAt input out fault.TheVariants.Read = out ≡ []
 StopsAt input out (fault.TheVariants.Write n) =
     (messages : List (List ℕ)) × (message : List ℕ) × Breaks input out messages message n
+StopsAt input out other = ⊥
 
 -- All of the input is frames that read, and what went out is the frames of their replies.
 pub record ServesAll (input out : List ℕ) : Type 0 where

@@ -1,15 +1,21 @@
 //! The program's arguments.
 
-ghost use Rattle.std.specs.Prelude.{◌≡◌, IfOk, codes, map};
-ghost use Rattle.clap.specs.Words.{app_of, first_value, found_of};
-ghost use Rattle.acqd.specs.Arguments.{AsksReplay, ReadsArguments, form_of_flag};
-ghost use Rattle.acqd.specs.Arguments.{program, replay, show};
+ghost use Rattle.std.specs.Prelude.{◌≡◌, false, IfErr, IfOk, codes, map};
+ghost use Rattle.clap.specs.Words.{app_of, first_value, found_of, rows_of, rule_of};
+ghost use Rattle.acqd.specs.Arguments.{GivesDay, GivesLimit, GivesNoDay, GivesNoLimit};
+ghost use Rattle.acqd.specs.Arguments.{ReadsArguments, ReadsReplay, form_of_flag};
+ghost use Rattle.acqd.specs.Arguments.{option_with_value, program, replay, replay_texts, show};
+ghost use Rattle.acqd.specs.declared.option_name.OptionName.TheVariants as option;
 
 use crate::action::Action;
 use crate::input_form::InputForm;
 use crate::option_name::OptionName;
 use crate::options::{first_day_of_all, greatest_limit, limit_of};
+use crate::replay_options::ReplayOptions;
+use crate::report_kind::ReportKind;
 use crate::usage_fault::UsageFault;
+use crate::wanted_reports::add_reports;
+use acq_core::Limit;
 use clap::{Arg, ArgAction, ArgMatches, Command, Error};
 use day_totals::Day;
 use std::alloc::{AllocError, Global};
@@ -66,16 +72,22 @@ What comes of an event is one line:
                                        repeat or an answer come late, 34 and 35 an answer, 36 and 37
                                        a merchant, 38 the last day
 
+With --clearing or --report these texts are written in place of the lines, once all events are
+taken: first the clearing files in the order given, then the settlement reports.
+
 All lines are read before the first event is taken. The status is 0 where all is well, 1 for a
 fault, 2 for wrong usage, 3 where memory ran out. A fault is one line on standard error, and what was
 written before it stands:
   acqd: 1 Memory
   acqd: 53 Read                        a read failed; no event was taken
-  acqd: 54 Write BYTES                 a write failed after so many bytes of a line
+  acqd: 54 Write BYTES                 a write failed after so many bytes of a line or a report
+  acqd: 60 DayNotOver                  the business day of this report isn't over
+  acqd: 61 StillPending REQUESTS       so many requests of that day have no answer yet
   acqd: 62 BadLine RECORD              this record is out of its form; no event was taken
 
-Example:
-  acqd replay --day 2024-05-01 < examples/day.csv";
+Examples:
+  acqd replay --day 2024-05-01 < examples/day.csv
+  acqd replay --day 2024-05-01 --clearing 2024-05-01 < examples/day.csv";
 
 const ABOUT_SHOW: &str = "Shows the messages on standard input to a person";
 
@@ -106,26 +118,58 @@ pub fn action_of<W: AsStr>(alloc: Global, args: &[W]) -> Result<Action, UsageFau
     let matches = program(alloc)?.try_get_matches_from(args)?;
     match matches.subcommand() {
         Some(("once", _)) => Ok(Action::Once),
-        Some(("replay", options)) => Ok(replay_of(options)?),
+        Some(("replay", options)) => replay_of(alloc, options),
         Some(("show", options)) => Ok(Action::Show(form_of(options))),
         _ => Err(Error::from(AllocError).into()),
     }
 }
 
-/// What `replay` is asked for by its options; the limit is looked at before the day.
-fn replay_of(options: &ArgMatches) -> Result<Action, OptionName>
-    ensures { AsksReplay (first_value (found_of options.now) (codes "limit"))
-        (first_value (found_of options.now) (codes "day")) result }
+/// What `replay` is asked for by its options, which are looked at in the order of help.
+fn replay_of(alloc: Global, options: &ArgMatches) -> Result<Action, UsageFault>
+    ensures { ReadsReplay (replay_texts (rows_of (found_of options.now))) result }
 {
-    let limit = match options.get_str("limit") {
-        Some(text) => limit_of(text).ok_or(OptionName::Limit)?,
-        None => greatest_limit(),
-    };
-    let first_day = match options.get_str("day") {
-        Some(text) => Day::read(text).ok_or(OptionName::Day)?,
-        None => first_day_of_all(),
-    };
-    Ok(Action::Replay(limit, first_day))
+    let limit = limit_option(options)?;
+    let first_day = day_option(options)?;
+    let mut reports = Vec::new(alloc);
+    add_reports(
+        &mut reports,
+        ReportKind::Clearing,
+        options.get_strs("clearing"),
+    )?;
+    add_reports(
+        &mut reports,
+        ReportKind::Settlement,
+        options.get_strs("report"),
+    )?;
+    Ok(Action::Replay(ReplayOptions {
+        limit,
+        first_day,
+        reports,
+    }))
+}
+
+/// The limit that is asked for.
+fn limit_option(options: &ArgMatches) -> Result<Limit, OptionName>
+    ensures given { IfOk result (GivesLimit (first_value (found_of options.now) (codes "limit"))) }
+    ensures refused { IfErr result (λ name. (name ≡ option.Limit)
+        × GivesNoLimit (first_value (found_of options.now) (codes "limit"))) }
+{
+    match options.get_str("limit") {
+        Some(text) => limit_of(text).ok_or(OptionName::Limit),
+        None => Ok(greatest_limit()),
+    }
+}
+
+/// The first day that is asked for.
+fn day_option(options: &ArgMatches) -> Result<Day, OptionName>
+    ensures given { IfOk result (GivesDay (first_value (found_of options.now) (codes "day"))) }
+    ensures refused { IfErr result (λ name. (name ≡ option.Day)
+        × GivesNoDay (first_value (found_of options.now) (codes "day"))) }
+{
+    match options.get_str("day") {
+        Some(text) => Day::read(text).ok_or(OptionName::Day),
+        None => Ok(first_day_of_all()),
+    }
 }
 
 /// The form of what `show` is to show.
@@ -157,21 +201,59 @@ fn program<'a>(alloc: Global) -> Result<Command<'a>, AllocError>
 fn replay_command<'a>(alloc: Global) -> Result<Command<'a>, AllocError>
     ensures { IfOk result (λ made. app_of made ≡ replay) }
 {
-    let limit = Arg::new(alloc, "limit")
-        .long("limit")
-        .value_name("N")
-        .help("How many messages of one merchant a day admits, 1 to 999999 [default: 999999]")
-        .action(ArgAction::Set);
-    let first_day = Arg::new(alloc, "day")
-        .long("day")
-        .value_name("YYYY-MM-DD")
-        .help("The first business day, 2000-01-01 to 2099-12-31 [default: 2000-01-01]")
-        .action(ArgAction::Set);
+    let limit = option_with_value(
+        alloc,
+        "limit",
+        "N",
+        "How many messages of one merchant a day admits, 1 to 999999 [default: 999999]",
+        ArgAction::Set,
+    );
+    let first_day = option_with_value(
+        alloc,
+        "day",
+        "YYYY-MM-DD",
+        "The first business day, 2000-01-01 to 2099-12-31 [default: 2000-01-01]",
+        ArgAction::Set,
+    );
+    let clearing = option_with_value(
+        alloc,
+        "clearing",
+        "YYYY-MM-DD",
+        "In place of the lines: the clearing file of a day that is over; may be repeated",
+        ArgAction::Append,
+    );
+    let report = option_with_value(
+        alloc,
+        "report",
+        "YYYY-MM-DD",
+        "In place of the lines: the settlement report of such a day; may be repeated",
+        ArgAction::Append,
+    );
     Command::new(alloc, "replay")
         .about(ABOUT_REPLAY)
         .after_help(MORE_OF_REPLAY)
         .arg(limit)?
-        .arg(first_day)
+        .arg(first_day)?
+        .arg(clearing)?
+        .arg(report)
+}
+
+/// An option with a value, as `--name VALUE`.
+fn option_with_value<'a>(
+    alloc: Global,
+    name: &'a str,
+    value: &'a str,
+    help: &'a str,
+    action: ArgAction,
+) -> Arg<'a>
+    ensures rule { rule_of result ≡ option_with_value name.now action }
+    ensures own { result.global ≡ false }
+{
+    Arg::new(alloc, name)
+        .long(name)
+        .value_name(value)
+        .help(help)
+        .action(action)
 }
 
 fn show_command<'a>(alloc: Global) -> Result<Command<'a>, AllocError>

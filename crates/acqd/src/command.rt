@@ -81,8 +81,8 @@ fn run<S: Source, K: Sink, P: Progress>(
 {
     match action {
         Action::Once => once(alloc, keys, input, output),
-        Action::Replay(limit, first_day) => {
-            replay_in_memory(alloc, keys, limit, first_day, input, output, progress)
+        Action::Replay(options) => {
+            replay_in_memory(alloc, keys, &options, input, output, progress)
         }
         Action::Show(form) => show(alloc, form, input, output),
     }

@@ -6,6 +6,7 @@ use acq_book::BookFault;
 use acq_hex::HexFault;
 use acq_link::{InputFault, WriteFault};
 use acq_out::OutFault;
+use acq_reports::ReportFault;
 use iso_codec::DecodeFault;
 use std::alloc::AllocError;
 use std::error::Error;
@@ -19,6 +20,8 @@ pub enum Fault {
     Memory,
     /// 2: a call of the store failed, or gave rows that break the bounds of their columns.
     Store,
+    /// 37: the merchant isn't enrolled.
+    NoSuchMerchant,
     /// 50: a frame's length is 0 or above 4,096.
     BadLength,
     /// 51: the input ended inside a frame.
@@ -29,6 +32,10 @@ pub enum Fault {
     Read,
     /// 54: a write failed, and so many bytes of the piece in hand had been written.
     Write(u64),
+    /// 60: the day that a report was asked for isn't over.
+    DayNotOver,
+    /// 61: so many requests of that day are pending.
+    StillPending(u64),
     /// 62: the record of event lines, or the line of messages in hexadecimal, with this number,
     /// counted from 1, is out of its form.
     BadLine(u64),
@@ -44,11 +51,14 @@ impl Fault {
         match self {
             Fault::Memory => 1,
             Fault::Store => 2,
+            Fault::NoSuchMerchant => 37,
             Fault::BadLength => 50,
             Fault::Ended => 51,
             Fault::Undecodable(_) => 52,
             Fault::Read => 53,
             Fault::Write(_) => 54,
+            Fault::DayNotOver => 60,
+            Fault::StillPending(_) => 61,
             Fault::BadLine(_) => 62,
         }
     }
@@ -69,11 +79,14 @@ impl Fault {
         match self {
             Fault::Memory => "Memory",
             Fault::Store => "Store",
+            Fault::NoSuchMerchant => "NoSuchMerchant",
             Fault::BadLength => "BadLength",
             Fault::Ended => "Ended",
             Fault::Undecodable(_) => "Undecodable",
             Fault::Read => "Read",
             Fault::Write(_) => "Write",
+            Fault::DayNotOver => "DayNotOver",
+            Fault::StillPending(_) => "StillPending",
             Fault::BadLine(_) => "BadLine",
         }
     }
@@ -90,6 +103,7 @@ impl fmt::Display for Fault {
         match self {
             Fault::Undecodable(fault) => write!(f, " {} {}", fault.number(), fault.element()),
             Fault::Write(bytes) => write!(f, " {bytes}"),
+            Fault::StillPending(requests) => write!(f, " {requests}"),
             Fault::BadLine(record) => write!(f, " {record}"),
             _ => Ok(()),
         }
@@ -171,6 +185,23 @@ impl From<HexFault> for Fault {
         match e {
             HexFault::Memory => Fault::Memory,
             HexFault::BadLine(line) => Fault::BadLine(line),
+        }
+    }
+}
+
+impl From<ReportFault> for Fault {
+    ghost use Rattle.acqd.specs.Faults.{of_report};
+
+    ghost from_gives = { λ e f. f ≡ of_report e };
+
+    fn from(e: ReportFault) -> Fault {
+        match e {
+            ReportFault::Memory => Fault::Memory,
+            ReportFault::Store => Fault::Store,
+            ReportFault::NoSuchMerchant => Fault::NoSuchMerchant,
+            ReportFault::Write(bytes) => Fault::Write(bytes),
+            ReportFault::DayNotOver => Fault::DayNotOver,
+            ReportFault::StillPending(requests) => Fault::StillPending(requests),
         }
     }
 }

@@ -5,6 +5,8 @@
 mod action;
 mod arguments;
 mod command;
+mod day_report;
+mod day_reports;
 mod fault;
 mod input_form;
 mod once;
@@ -13,24 +15,32 @@ mod options;
 mod progress;
 mod replay;
 mod replay_in_memory;
+mod replay_options;
+mod report_kind;
 mod show;
+mod take_events;
 mod terminal_progress;
 mod text_sink;
 mod usage_fault;
+mod wanted_reports;
 
 use acq_link::{ReadSource, WriteSink};
 pub use command::command;
+pub use day_report::DayReport;
+pub use day_reports::write_reports;
 pub use fault::Fault;
 pub use input_form::InputForm;
 pub use once::once;
 pub use progress::Progress;
 pub use replay::replay;
+pub use report_kind::ReportKind;
 pub use show::show;
 use std::env::{Env, FillError};
 use std::hash::RandomState;
 use std::io::IsTerminal;
 use std::process::ExitCode;
 use std::{env, io, str};
+pub use take_events::take_events;
 pub use terminal_progress::TerminalProgress;
 
 fn main(rt: HostRuntime) -> ExitCode {

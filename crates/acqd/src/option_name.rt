@@ -1,5 +1,6 @@
 //! Options that have a value.
 
+use crate::report_kind::ReportKind;
 use std::fmt;
 
 /// An option that has a value. Its text is its name on the command line.
@@ -9,6 +10,8 @@ pub enum OptionName {
     Limit,
     /// The first business day of a new book.
     Day,
+    /// A day of which a report is asked for.
+    Report(ReportKind),
 }
 
 impl fmt::Display for OptionName {
@@ -21,6 +24,8 @@ impl fmt::Display for OptionName {
         match self {
             OptionName::Limit => write!(f, "--limit"),
             OptionName::Day => write!(f, "--day"),
+            OptionName::Report(ReportKind::Clearing) => write!(f, "--clearing"),
+            OptionName::Report(ReportKind::Settlement) => write!(f, "--report"),
         }
     }
 }

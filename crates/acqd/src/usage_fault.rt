@@ -1,7 +1,7 @@
 //! What is wrong with the arguments.
 
 use crate::option_name::OptionName;
-use std::alloc::AllocError;
+use std::alloc::{AllocError, AllocFailed};
 
 /// What is wrong with the arguments, or what is asked of the program itself.
 #[derive(Debug, Drop)]
@@ -42,5 +42,15 @@ impl From<AllocError> for UsageFault {
 
     fn from(e: AllocError) -> UsageFault {
         UsageFault::Words(clap::Error::from(e))
+    }
+}
+
+impl<T: Drop> From<AllocFailed<T>> for UsageFault {
+    ghost use Rattle.acqd.specs.Arguments.{IsNoMemory};
+
+    ghost from_gives = { λ _ fault. IsNoMemory fault };
+
+    fn from(_e: AllocFailed<T>) -> UsageFault {
+        UsageFault::from(AllocError)
     }
 }

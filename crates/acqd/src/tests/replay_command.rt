@@ -11,7 +11,7 @@ use std::test::Fail;
 
 /// An event line as it stands, or a frame's message, which its line has in hexadecimal.
 #[derive(Clone, Copy)]
-enum Line {
+pub(super) enum Line {
     Text(&'static str),
     Frame(&'static str),
 }
@@ -90,13 +90,13 @@ const EVERY_OUTPUT: [(Line, &str); 22] = [
 
 /// Arguments of the program, and an input.
 #[derive(Clone, Copy)]
-struct Run<'a> {
-    args: &'a [&'a str],
-    input: &'a [u8],
+pub(super) struct Run<'a> {
+    pub args: &'a [&'a str],
+    pub input: &'a [u8],
 }
 
 /// Runs the program, and compares all that it writes.
-fn runs_as(
+pub(super) fn runs_as(
     rt: &(impl Abort + RandomSource),
     alloc: Global,
     run: Run<'_>,
@@ -132,7 +132,7 @@ fn runs_as(
 }
 
 /// Puts an event line behind others.
-fn put_line(text: &mut String, line: Line) -> Result<(), Fail> {
+pub(super) fn put_line(text: &mut String, line: Line) -> Result<(), Fail> {
     match line {
         Line::Text(words) => text.push_str(words)?,
         Line::Frame(message) => {
@@ -203,7 +203,7 @@ fn bad_lines(rt: HostRuntime) -> Result<(), Fail> {
 }
 
 /// Options, and what is wrong with them; nothing, where nothing is.
-const OPTIONS: [(&[&str], &str); 20] = [
+const OPTIONS: [(&[&str], &str); 24] = [
     (&["--limit", "1"], ""),
     (&["--limit", "000001"], ""),
     (&["--limit=999999", "--day=2000-01-01"], ""),
@@ -224,6 +224,13 @@ const OPTIONS: [(&[&str], &str); 20] = [
     (&["--day", "20240501"], "--day"),
     (&["--day", ""], "--day"),
     (&["--day", "2100-01-01", "--limit", "0"], "--limit"),
+    (
+        &["--clearing", "2024-05-01", "--clearing", "20240501"],
+        "--clearing",
+    ),
+    (&["--report", "2024-05-01", "--report="], "--report"),
+    (&["--report", "2024-5-1", "--clearing=x"], "--clearing"),
+    (&["--clearing=x", "--day", ""], "--day"),
 ];
 
 #[test]

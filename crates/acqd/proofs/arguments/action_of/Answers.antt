@@ -1,8 +1,7 @@
-use Rattle.std.proofs.Common.{◌≡◌, ◌∙◌, map, Some, Ok, Err, [], codes, ap, sym, subst}
-use Rattle.std.proofs.lemmas.Result.{err_from_is_err_and}
+use Rattle.std.proofs.Common.{◌≡◌, ◌∙◌, map, Some, [], codes, ap, sym, subst}
 use Rattle.clap.specs.Words.{App, app_of, fault_of, found_of, is_simple_and_free, rows_of, subcommand_of}
 use Rattle.acqd.specs.Arguments.{program}
-use Rattle.acqd.proofs.AskedCommands.{asks_once, asks_replay, asks_show, named}
+use Rattle.acqd.proofs.AskedCommands.{asks_once, asks_show, named, reads_replay}
 use Rattle.acqd.proofs.ProgramIsSimple.{is_simple_and_free-program}
 use Rattle.acqd.proofs.arguments.action_of.Goals as goal
 
@@ -24,32 +23,13 @@ returns-in-Some-replay-default g c =
     let made = c.in_ok-program.ensures in
     let words = map g.W.AsStr.text c.args.args.now in
     let it = c.in-Some-replay-default in
-    let found = found_of it.options.now in (
-      subst (λ (a : App). fault_of a words ≡ []) made
-          (c.in_ok-matches.ensures.kinds (ap is_simple_and_free made ∙ is_simple_and_free-program)),
-      asks_replay (subcommand_of program words) found (Ok c.in_ok-replay_of-in-Some-replay-default.field-0)
-          (named c.in_ok-matches.matches (app_of c.in_ok-program.field-0) words (codes "replay") (rows_of found)
-          made c.in_ok-matches.ensures.matches (ap Some (sym it.is-replay) ∙ it.ensures.name) it.ensures.rows)
-          c.in_ok-replay_of-in-Some-replay-default.ensures,
-    )
-
-pub returns-in_err-replay_of-in-Some-replay-default : goal.returns-in_err-replay_of-in-Some-replay-default
-returns-in_err-replay_of-in-Some-replay-default g c =
-    let made = c.in_ok-program.ensures in
-    let words = map g.W.AsStr.text c.args.args.now in
-    let it = c.in-Some-replay-default in
     let found = found_of it.options.now in
-    let bad = c.in_err-replay_of-in-Some-replay-default in
-    let turned = c.from_residual-in_err-replay_of-in-Some-replay-default in
-    let p = err_from_is_err_and turned.result turned.ensures.1 in
-    rw (p.1, p.2) (
-      subst (λ (a : App). fault_of a words ≡ []) made
-          (c.in_ok-matches.ensures.kinds (ap is_simple_and_free made ∙ is_simple_and_free-program)),
-      asks_replay (subcommand_of program words) found (Err bad.field-0.0)
-          (named c.in_ok-matches.matches (app_of c.in_ok-program.field-0) words (codes "replay") (rows_of found)
-          made c.in_ok-matches.ensures.matches (ap Some (sym it.is-replay) ∙ it.ensures.name) it.ensures.rows)
-          bad.ensures,
-    )
+    reads_replay words found c.replay_of.result
+    (subst (λ (a : App). fault_of a words ≡ []) made
+    (c.in_ok-matches.ensures.kinds (ap is_simple_and_free made ∙ is_simple_and_free-program)))
+    (named c.in_ok-matches.matches (app_of c.in_ok-program.field-0) words (codes "replay") (rows_of found) made
+    c.in_ok-matches.ensures.matches (ap Some (sym it.is-replay) ∙ it.ensures.name) it.ensures.rows)
+    c.replay_of.ensures
 
 pub returns-in-Some-show-default : goal.returns-in-Some-show-default
 returns-in-Some-show-default g c =

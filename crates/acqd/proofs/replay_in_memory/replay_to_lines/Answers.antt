@@ -1,7 +1,7 @@
 use Rattle.std.proofs.Common.{subst}
 use Rattle.acq_core.specs.Tables.{Tables}
 use Rattle.acqd.specs.Replay.{Replays}
-use Rattle.acqd.proofs.replay_in_memory.replay_in_memory.Goals as goal
+use Rattle.acqd.proofs.replay_in_memory.replay_to_lines.Goals as goal
 
 pub returns : goal.returns
 returns g c =

@@ -1,0 +1,16 @@
+//! What a replay is asked for.
+
+use crate::day_report::DayReport;
+use acq_core::Limit;
+use day_totals::Day;
+
+/// What a replay is asked for.
+#[derive(Debug, Drop)]
+pub struct ReplayOptions {
+    /// How many messages of one merchant a business day admits.
+    pub limit: Limit,
+    /// The first business day.
+    pub first_day: Day,
+    /// The reports that are written in place of a line of what comes of each event, if any.
+    pub reports: Vec<DayReport>,
+}
