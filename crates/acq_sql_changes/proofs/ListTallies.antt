@@ -1,0 +1,189 @@
+-- What a merchant's day comes to when a row comes, and that the running totals stay those of the
+-- lists.
+use Rattle.std.proofs.Common.{◌≡◌, ◌+◌, ◌&&◌, ◌==◌, ℕ, Bool, true, false, cond, List, [], ◌∷◌, ◌++◌}
+use Rattle.std.proofs.Common.{if◌then◌else◌, refl, sym, ap, ◌∙◌, arith}
+use Rattle.std.specs.Str.{bytes_eq}
+use Rattle.day_totals.specs.declared.leg.Leg.{Leg}
+use Rattle.day_totals.specs.declared.leg.Leg.TheVariants.{Credit, CreditReversal, Debit, DebitReversal}
+use Rattle.day_totals.specs.declared.leg_total.LegTotal.{LegTotal}
+use Rattle.day_totals.specs.Totals.{DayTotals, zero_totals, with_leg_amount, with_amount}
+use Rattle.acq_message.specs.declared.request_key.RequestKey.{RequestKey}
+use Rattle.acq_message.specs.Elements.{same_key}
+use Rattle.acq_core.specs.declared.request.Request.{Request}
+use Rattle.acq_core.specs.declared.posting.Posting.{Posting}
+use Rattle.acq_core.specs.Tables.{Tables, requests_of, postings_of, used_in, totals_on, with_changed}
+use Rattle.acq_book.specs.declared.lists.day_sums.DaySums.{DaySums}
+use Rattle.acq_book.specs.declared.lists.merchant_day.MerchantDay.{MerchantDay}
+use Rattle.acq_book.specs.Sums.{sums_in, with_one}
+use Rattle.acq_book.proofs.Days.{sums-push}
+use Rattle.acq_book.proofs.Counting.{count-filter-push, count-filter-map}
+use Rattle.acq_sql_rows.specs.Tallies.{Tally, Running, Tallies, no_tally, plus, leg_plus, tally_of, raised, request_tally}
+use Rattle.acq_sql_rows.specs.Tallies.{posting_tally}
+use Rattle.acq_sql_writes.specs.Written.{with_request, with_posting}
+use Rattle.acq_sql_writes.proofs.RunningTotals.{is_key, tally_raised}
+
+no_more : (n : ℕ) → n + 0 ≡ n
+no_more n = omega arith
+
+pub none_more : (a : LegTotal) → leg_plus a (record { count = 0; amount = 0 }) ≡ a
+none_more a = λ i. record { count = no_more a.count i; amount = no_more a.amount i }
+
+none_first : (n : ℕ) → 0 + n ≡ n
+none_first n = omega arith
+
+one_more : (a : LegTotal) (amount : ℕ) → leg_plus a (with_amount (record { count = 0; amount = 0 }) amount) ≡ with_amount a amount
+one_more a amount = λ i. record { count = a.count + 1; amount = a.amount + none_first amount i }
+
+-- ---- a posting
+
+-- one posting more is its own totals more
+pub totals_plus : (a : Tally) (leg : Leg) (amount : ℕ)
+    → plus a (record no_tally { totals = with_leg_amount zero_totals leg amount })
+    ≡ record a { totals = with_leg_amount a.totals leg amount }
+totals_plus a Credit amount = λ i. record {
+  used = no_more a.used i;
+  totals =
+      record {
+        credits = one_more a.totals.credits amount i;
+        credit_reversals = none_more a.totals.credit_reversals i;
+        debits = none_more a.totals.debits i;
+        debit_reversals = none_more a.totals.debit_reversals i;
+      };
+}
+totals_plus a CreditReversal amount = λ i. record {
+  used = no_more a.used i;
+  totals =
+      record {
+        credits = none_more a.totals.credits i;
+        credit_reversals = one_more a.totals.credit_reversals amount i;
+        debits = none_more a.totals.debits i;
+        debit_reversals = none_more a.totals.debit_reversals i;
+      };
+}
+totals_plus a Debit amount = λ i. record {
+  used = no_more a.used i;
+  totals =
+      record {
+        credits = none_more a.totals.credits i;
+        credit_reversals = none_more a.totals.credit_reversals i;
+        debits = one_more a.totals.debits amount i;
+        debit_reversals = none_more a.totals.debit_reversals i;
+      };
+}
+totals_plus a DebitReversal amount = λ i. record {
+  used = no_more a.used i;
+  totals =
+      record {
+        credits = none_more a.totals.credits i;
+        credit_reversals = none_more a.totals.credit_reversals i;
+        debits = none_more a.totals.debits i;
+        debit_reversals = one_more a.totals.debit_reversals amount i;
+      };
+}
+
+module _ (t : Tables) (n : ℕ) (p : Posting) (m : List ℕ) (d : ℕ) where
+  abbrev key : MerchantDay
+  key = record { merchant = m; day = d }
+
+  abbrev was : DayTotals
+  was = totals_on (postings_of m t.postings) d
+
+  posted : totals_on (postings_of m (t.postings ++ (n, p) ∷ [])) d
+      ≡ cond (is_key p.merchant p.day m d) (with_leg_amount was p.leg p.amount) was
+  posted =
+      ap (λ (s : DaySums). s.totals) (sums-push t.postings (n, p) key)
+      ∙ elim (is_key p.merchant p.day m d)
+      as (λ b. (cond b (with_one (sums_in t.postings key) p.leg p.amount) (sums_in t.postings key)).totals
+      ≡ cond b (with_leg_amount was p.leg p.amount) was) [ true ↦ refl | false ↦ refl ]
+
+  -- what a posting makes of a day
+  pub tally_posted : tally_of (with_posting n p t) m d
+      ≡ cond (is_key p.merchant p.day m d) (plus (tally_of t m d) (posting_tally p)) (tally_of t m d)
+  tally_posted =
+      (λ i. record (tally_of t m d) { totals = posted i }) ∙ split (is_key p.merchant p.day m d)
+    where
+      split : (b : Bool) → record (tally_of t m d) { totals = cond b (with_leg_amount was p.leg p.amount) was }
+          ≡ cond b (plus (tally_of t m d) (posting_tally p)) (tally_of t m d)
+      split true = sym (totals_plus (tally_of t m d) p.leg p.amount)
+      split false = refl
+
+-- ---- a request
+
+used_plus : (a : Tally) (n : ℕ) → plus a (record no_tally { used = n }) ≡ record a { used = a.used + n }
+used_plus a n = λ i. record {
+  used = a.used + n;
+  totals =
+      record {
+        credits = none_more a.totals.credits i;
+        credit_reversals = none_more a.totals.credit_reversals i;
+        debits = none_more a.totals.debits i;
+        debit_reversals = none_more a.totals.debit_reversals i;
+      };
+}
+
+module _ (t : Tables) (r : Request) (m : List ℕ) (d : ℕ) where
+  abbrev used : ℕ
+  used = used_in (requests_of m t.requests) d
+
+  came : used_in (requests_of m (t.requests ++ r ∷ [])) d
+      ≡ cond (bytes_eq r.key.merchant m && (r.admitted && (r.day == d))) (1 + used) used
+  came =
+      count-filter-push (λ row. row.admitted && (row.day == d)) (λ row. bytes_eq row.key.merchant m) t.requests r
+
+  -- what a request makes of a day
+  pub tally_requested : tally_of (with_request r t) m d
+      ≡ cond (is_key r.key.merchant r.day m d) (plus (tally_of t m d) (request_tally r)) (tally_of t m d)
+  tally_requested =
+      (λ i. record (tally_of t m d) { used = came i }) ∙ split (bytes_eq r.key.merchant m) r.admitted (r.day == d)
+    where
+      turn : 1 + used ≡ used + 1
+      turn = omega arith
+
+      split : (a b c : Bool) → record (tally_of t m d) { used = cond (a && (b && c)) (1 + used) used }
+          ≡ cond (a && c) (plus (tally_of t m d) (record no_tally { used = if b then 1 else 0 })) (tally_of t m d)
+      split true true true =
+          (λ i. record (tally_of t m d) { used = turn i }) ∙ sym (used_plus (tally_of t m d) 1)
+      split true false true =
+          (λ i. record (tally_of t m d) { used = sym (no_more used) i }) ∙ sym (used_plus (tally_of t m d) 0)
+      split true true false = refl
+      split true false false = refl
+      split false b c = refl
+
+-- ---- the running totals stay those of the lists
+
+pub posting_tallied : (t : Tables) (runs : List Running) (n : ℕ) (p : Posting) → Tallies runs t
+    → Tallies (raised p.merchant p.day (posting_tally p) runs) (with_posting n p t)
+posting_tallied t runs n p h m d =
+    tally_raised p.merchant p.day (posting_tally p) m d runs
+    ∙ ap (λ x. cond (is_key p.merchant p.day m d) (plus x (posting_tally p)) x) (h m d) ∙ sym (tally_posted t n p m d)
+
+pub request_tallied : (t : Tables) (runs : List Running) (r : Request) → Tallies runs t
+    → Tallies (raised r.key.merchant r.day (request_tally r) runs) (with_request r t)
+request_tallied t runs r h m d =
+    tally_raised r.key.merchant r.day (request_tally r) m d runs
+    ∙ ap (λ x. cond (is_key r.key.merchant r.day m d) (plus x (request_tally r)) x) (h m d)
+    ∙ sym (tally_requested t r m d)
+
+-- a change of a request that leaves its key, its day and whether it counts
+abbrev pub LeavesDay : (Request → Request) → Type 0
+LeavesDay f =
+    (row : Request) → ((f row).key ≡ row.key) × ((f row).admitted ≡ row.admitted) × ((f row).day ≡ row.day)
+
+pub changed_tally : (t : Tables) (of : RequestKey) (f : Request → Request) → LeavesDay f → (m : List ℕ) (d : ℕ)
+    → tally_of (record t { requests = with_changed of f t.requests }) m d ≡ tally_of t m d
+changed_tally t of f same m d =
+    λ i. record (tally_of t m d) {
+      used = count-filter-map (λ row. row.admitted && (row.day == d)) (λ row. bytes_eq row.key.merchant m)
+          (λ row. if same_key row.key of then f row else row)
+          (kept (λ row. row.admitted && (row.day == d)) (λ row i. (same row).1 i && ((same row).2 i == d)))
+          (kept (λ row. bytes_eq row.key.merchant m) (λ row i. bytes_eq ((same row).0 i).merchant m)) t.requests i;
+    }
+  where
+    kept : (p : Request → Bool) → ((row : Request) → p (f row) ≡ p row) → (row : Request)
+        → p (if same_key row.key of then f row else row) ≡ p row
+    kept p stays row =
+        elim (same_key row.key of) as (λ b. p (if b then f row else row) ≡ p row) [ true ↦ stays row | false ↦ refl ]
+
+pub changed_tallied : (t : Tables) (runs : List Running) (of : RequestKey) (f : Request → Request) → LeavesDay f
+    → Tallies runs t → Tallies runs (record t { requests = with_changed of f t.requests })
+changed_tallied t runs of f same h m d = h m d ∙ sym (changed_tally t of f same m d)

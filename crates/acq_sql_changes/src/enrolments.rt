@@ -1,0 +1,40 @@
+//! Enrolments.
+
+ghost use Rattle.std.specs.Prelude.{◌≡◌, false};
+ghost use Rattle.sqlite.specs.Held.{state};
+ghost use Rattle.acq_sql_writes.specs.Written.{with_merchant, with_terminal};
+ghost use Rattle.acq_sql_changes.specs.Changed.{LeadsTo, LeavesTables, StopsWithin};
+
+use acq_core::{Merchant, Terminal};
+use acq_sql_writes::{add_merchant, add_terminal};
+use sqlite::{Alter, Connection, Error};
+
+/// Enrols a merchant.
+pub fn enrol<S: Alter>(conn: &mut Connection<S>, merchant: &Merchant) -> Result<(), Error>
+    requires settled { conn.old.in_transaction ≡ false }
+    ensures settled { conn.new.in_transaction ≡ false }
+    ensures done { LeadsTo (state S.Store conn.old) (state S.Store conn.new) result
+        (with_merchant merchant.now) }
+    ensures undone { LeavesTables (state S.Store conn.old) (state S.Store conn.new) result }
+    ensures crash { StopsWithin (state S.Store conn.old) (state S.Store conn.new)
+        (with_merchant merchant.now) }
+{
+    let mut tx = conn.transaction();
+    add_merchant(&mut tx, merchant)?;
+    tx.commit()
+}
+
+/// Adds a terminal.
+pub fn enrol_terminal<S: Alter>(conn: &mut Connection<S>, terminal: &Terminal) -> Result<(), Error>
+    requires settled { conn.old.in_transaction ≡ false }
+    ensures settled { conn.new.in_transaction ≡ false }
+    ensures done { LeadsTo (state S.Store conn.old) (state S.Store conn.new) result
+        (with_terminal terminal.now) }
+    ensures undone { LeavesTables (state S.Store conn.old) (state S.Store conn.new) result }
+    ensures crash { StopsWithin (state S.Store conn.old) (state S.Store conn.new)
+        (with_terminal terminal.now) }
+{
+    let mut tx = conn.transaction();
+    add_terminal(&mut tx, terminal)?;
+    tx.commit()
+}

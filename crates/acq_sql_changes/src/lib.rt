@@ -1,0 +1,20 @@
+//! Each change of a book in SQL, in one transaction.
+//!
+//! A change that succeeded leads to the tables with the whole of it, one that failed leaves them as
+//! they were, and a stop leaves either, never a part (`specs/Changed.antt`). The running totals stay
+//! those of the lists.
+#![tactic(auto)]
+
+mod answers;
+mod cutover;
+mod enrolments;
+mod posted_answers;
+mod ranges;
+mod requests;
+
+pub use answers::answer;
+pub use cutover::cut_over;
+pub use enrolments::{enrol, enrol_terminal};
+pub use posted_answers::answer_and_post;
+pub use ranges::{add_range, drop_range};
+pub use requests::record_request;

@@ -1,0 +1,48 @@
+//! Requests that are recorded with nothing beside them.
+
+ghost use Rattle.std.specs.Prelude.{◌≡◌, ◌≤◌, false};
+ghost use Rattle.sqlite.specs.Held.{state};
+ghost use Rattle.iso_codec.specs.Message.{IsMessage};
+ghost use Rattle.iso_codec.specs.Reading.{spelling};
+ghost use Rattle.acq_sql_rows.specs.Tallies.{request_tally};
+ghost use Rattle.acq_sql_writes.specs.Written.{with_request, IsShortEnd};
+ghost use Rattle.acq_sql_changes.specs.Changed.{LeadsToWhere, LeavesTables, StopsWithinWhere};
+ghost use Rattle.acq_sql_changes.specs.Changed.{HasRoomFor};
+
+use acq_core::Request;
+use acq_sql_writes::{add_request, raise};
+use day_totals::Totals;
+use sqlite::{Alter, Connection, Error};
+
+/// Records a request, whose reply is spelled so, and counts it against its day.
+pub fn record_request<'x, S: Alter>(
+    conn: &mut Connection<S>,
+    request: &'x Request,
+    reply: &'x [u8],
+) -> Result<(), Error>
+    requires settled { conn.old.in_transaction ≡ false }
+    requires whole { IsMessage request.now.reply }
+    requires spelled { reply.now ≡ spelling request.now.reply }
+    requires hold_end { IsShortEnd request.now.hold_end }
+    ensures settled { conn.new.in_transaction ≡ false }
+    ensures done { LeadsToWhere (state S.Store conn.old) (state S.Store conn.new) result
+        (HasRoomFor request.now) (with_request request.now) }
+    ensures undone { LeavesTables (state S.Store conn.old) (state S.Store conn.new) result }
+    ensures crash { StopsWithinWhere (state S.Store conn.old) (state S.Store conn.new)
+        (HasRoomFor request.now) (with_request request.now) }
+{
+    let used = used_by(request);
+    let none = Totals::zero();
+    let mut tx = conn.transaction();
+    add_request(&mut tx, request, reply)?;
+    raise(&mut tx, request.key.merchant, request.day, used, &none)?;
+    tx.commit()
+}
+
+/// How many messages a request counts for against its day.
+fn used_by(request: &Request) -> u64
+    ensures value { result ≡ (request_tally request.now).used }
+    ensures few { result ≤ 1 }
+{
+    if request.admitted { 1 } else { 0 }
+}

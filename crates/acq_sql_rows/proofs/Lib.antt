@@ -1,0 +1,2 @@
+pub mod SchemaLemmas
+pub mod TextLemmas

@@ -1,0 +1,6 @@
+pub mod Schema
+pub mod Tallies
+pub mod Rows
+pub mod Relation
+pub mod Queries
+pub mod Texts

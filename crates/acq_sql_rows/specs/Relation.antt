@@ -1,0 +1,48 @@
+-- What a database says of the host's tables.
+use Rattle.std.specs.Prelude.{◌≡◌, ℕ, ◌<◌, List, [], ◌∷◌, map}
+use Rattle.std.specs.List.{AllByRecursion}
+use Rattle.iso_codec.specs.Message.{IsMessage}
+use Rattle.card_no.specs.declared.range.Range.{Range}
+use Rattle.sqlite_trees.specs.Tree.{IsAscending}
+use Rattle.sqlite_schema.specs.Rules.{Fits}
+use Rattle.sqlite.specs.Effect.{Database}
+use Rattle.row_lemmas.specs.Numbered.{numbered_from, rows_of}
+use Rattle.acq_core.specs.declared.request.Request.{Request}
+use Rattle.acq_core.specs.Tables.{Tables}
+use Rattle.acq_sql_rows.specs.Schema.{book_schema}
+use Rattle.acq_sql_rows.specs.Tallies.{Running, AreApart, Tallies, FitsTally, tally_of}
+use Rattle.acq_sql_rows.specs.Rows.{book_row, merchant_row, terminal_row, range_row, request_row}
+use Rattle.acq_sql_rows.specs.Rows.{posting_row, reconciliation_row, running_row}
+
+-- in order of low
+abbrev pub AreRising : List Range → Type 0
+AreRising = IsAscending (λ a b. a.low < b.low)
+
+-- each reply is a message, so its spelling reads as that message alone
+abbrev pub AreRecorded : List Request → Type 0
+AreRecorded = AllByRecursion (λ row. IsMessage row.reply)
+
+-- each table has the rows of its list, in the list's order
+pub record HoldsRows (db : Database) (t : Tables) (runs : List Running) : Type 0 where
+  pub schema : db.schema ≡ book_schema
+  -- no key comes twice
+  pub fits : Fits book_schema db.trees
+  pub book : db.trees 0 ≡ numbered_from 1 (book_row t.limit t.day ∷ [])
+  pub merchants : db.trees 1 ≡ rows_of merchant_row t.merchants
+  pub terminals : db.trees 3 ≡ rows_of terminal_row t.terminals
+  pub ranges : db.trees 5 ≡ map range_row t.ranges
+  pub rising : AreRising t.ranges
+  pub requests : db.trees 6 ≡ rows_of request_row t.requests
+  pub recorded : AreRecorded t.requests
+  pub postings : db.trees 9 ≡ rows_of posting_row t.postings
+  pub reconciliations : db.trees 11 ≡ rows_of reconciliation_row t.reconciliations
+  pub running : db.trees 13 ≡ rows_of running_row runs
+  pub apart : AreApart runs
+
+-- the database holds the tables, and its running totals are those of the lists
+pub record Holds (db : Database) (t : Tables) : Type 0 where
+  pub runs : List Running
+  pub rows : HoldsRows db t runs
+  pub tallied : Tallies runs t
+  -- what a day comes to stays within its columns
+  pub short : (merchant : List ℕ) (day : ℕ) → FitsTally (tally_of t merchant day)

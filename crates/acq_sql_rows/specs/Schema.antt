@@ -1,0 +1,220 @@
+-- The tables of the file, and the texts that make them.
+use Rattle.std.specs.Prelude.{Bool, true, false, [], ◌∷◌, ◌++◌, List, ℕ, Option, Some, None, codes}
+use Rattle.sqlite_value.specs.declared.keys.Collation.TheVariants.{Binary}
+use Rattle.sqlite_value.specs.declared.value.Value.TheVariants.{Null}
+use Rattle.sqlite_value.specs.Keys.{plain}
+use Rattle.sqlite_value.specs.declared.keys.Order.{Order}
+use Rattle.sqlite_schema.specs.declared.schema.Column.{Column}
+use Rattle.sqlite_schema.specs.declared.schema.Table.{Table}
+use Rattle.sqlite_schema.specs.declared.schema.Schema.{Schema}
+use Rattle.sqlite_schema.specs.declared.schema.Kind.{Kind}
+use Rattle.sqlite_schema.specs.declared.schema.Kind.TheVariants.{Integer, Text}
+use Rattle.sqlite_catalog.specs.Change.{created}
+
+-- ---- columns and tables
+
+abbrev pub column_of : Bool → List ℕ → Kind → Column
+column_of not_null name kind =
+    record {
+      name = name;
+      kind = kind;
+      is_strict = true;
+      not_null = not_null;
+      default = Null;
+      collation = Binary;
+    }
+
+-- a column that has a value in each row, and one that may have none
+abbrev pub need : List ℕ → Kind → Column
+need = column_of true
+
+abbrev pub may : List ℕ → Kind → Column
+may = column_of false
+
+-- a STRICT table whose columns alone make it
+abbrev pub table_of :
+    List ℕ → List Column → Option ℕ → List ℕ → List (List ℕ) → List Order → Table
+table_of name columns key primary uniques orders =
+    record {
+      name = name;
+      tree = 0;
+      columns = columns;
+      key = key;
+      primary = primary;
+      uniques = uniques;
+      orders = orders;
+      checks = [];
+      references = [];
+      computed = [];
+      stamps = record { places = []; terms = []; formats = [] };
+      is_counted = false;
+    }
+
+-- ---- the book: one row
+
+abbrev pub book_text : List ℕ
+book_text =
+    codes "CREATE TABLE book (version INTEGER NOT NULL, max_a_day INTEGER NOT NULL, "
+    ++ codes "day INTEGER NOT NULL) STRICT"
+
+abbrev pub book : Table
+book =
+    table_of (codes "book")
+    (need (codes "version") Integer ∷ need (codes "max_a_day") Integer
+    ∷ need (codes "day") Integer ∷ [])
+    None [] [] []
+
+-- ---- merchants
+
+abbrev pub merchants_text : List ℕ
+merchants_text =
+    codes "CREATE TABLE merchants (merchant TEXT PRIMARY KEY, currency TEXT NOT NULL, "
+    ++ codes "first INTEGER NOT NULL) STRICT"
+
+abbrev pub merchants : Table
+merchants =
+    table_of (codes "merchants")
+    (need (codes "merchant") Text ∷ need (codes "currency") Text
+    ∷ need (codes "first") Integer ∷ [])
+    None (1 ∷ []) ((1 ∷ []) ∷ []) (plain ∷ [])
+
+-- ---- terminals
+
+abbrev pub terminals_text : List ℕ
+terminals_text =
+    codes "CREATE TABLE terminals (merchant TEXT, terminal TEXT, "
+    ++ codes "PRIMARY KEY (merchant, terminal)) STRICT"
+
+abbrev pub terminals : Table
+terminals =
+    table_of (codes "terminals")
+    (need (codes "merchant") Text ∷ need (codes "terminal") Text ∷ [])
+    None (1 ∷ 2 ∷ []) ((1 ∷ 2 ∷ []) ∷ []) (plain ∷ [])
+
+-- ---- ranges: low is the rowid, whose column stands empty
+
+abbrev pub ranges_text : List ℕ
+ranges_text =
+    codes "CREATE TABLE ranges (low INTEGER PRIMARY KEY, high INTEGER NOT NULL, "
+    ++ codes "issuer TEXT NOT NULL, hold_days INTEGER NOT NULL) STRICT"
+
+abbrev pub ranges : Table
+ranges =
+    table_of (codes "ranges")
+    (may (codes "low") Integer ∷ need (codes "high") Integer ∷ need (codes "issuer") Text
+    ∷ need (codes "hold_days") Integer ∷ [])
+    (Some 0) (0 ∷ []) [] []
+
+-- ---- requests
+
+abbrev pub requests_text : List ℕ
+requests_text =
+    codes "CREATE TABLE requests (merchant TEXT, terminal TEXT, kind TEXT, trace TEXT, "
+    ++ codes "stamp TEXT, essence TEXT NOT NULL, day INTEGER NOT NULL, "
+    ++ codes "status INTEGER NOT NULL, admitted INTEGER NOT NULL, reference INTEGER, "
+    ++ codes "follows INTEGER, amount INTEGER NOT NULL, leg INTEGER NOT NULL, card TEXT, "
+    ++ codes "acquirer TEXT, hold_days INTEGER, until INTEGER, reply TEXT NOT NULL, "
+    ++ codes "PRIMARY KEY (merchant, terminal, kind, trace, stamp), "
+    ++ codes "UNIQUE (merchant, reference)) STRICT"
+
+abbrev pub requests : Table
+requests =
+    table_of (codes "requests")
+    (need (codes "merchant") Text ∷ need (codes "terminal") Text ∷ need (codes "kind") Text
+    ∷ need (codes "trace") Text ∷ need (codes "stamp") Text ∷ need (codes "essence") Text
+    ∷ need (codes "day") Integer ∷ need (codes "status") Integer
+    ∷ need (codes "admitted") Integer ∷ may (codes "reference") Integer
+    ∷ may (codes "follows") Integer ∷ need (codes "amount") Integer ∷ need (codes "leg") Integer
+    ∷ may (codes "card") Text ∷ may (codes "acquirer") Text ∷ may (codes "hold_days") Integer
+    ∷ may (codes "until") Integer ∷ need (codes "reply") Text ∷ [])
+    None (1 ∷ 2 ∷ 3 ∷ 4 ∷ 5 ∷ []) ((1 ∷ 2 ∷ 3 ∷ 4 ∷ 5 ∷ []) ∷ (1 ∷ 10 ∷ []) ∷ [])
+    (plain ∷ plain ∷ [])
+
+-- ---- postings
+
+abbrev pub postings_text : List ℕ
+postings_text =
+    codes "CREATE TABLE postings (merchant TEXT, day INTEGER, number INTEGER, "
+    ++ codes "leg INTEGER NOT NULL, amount INTEGER NOT NULL, reference INTEGER NOT NULL, "
+    ++ codes "card TEXT NOT NULL, terminal TEXT NOT NULL, trace TEXT NOT NULL, "
+    ++ codes "PRIMARY KEY (day, merchant, number)) STRICT"
+
+abbrev pub postings : Table
+postings =
+    table_of (codes "postings")
+    (need (codes "merchant") Text ∷ need (codes "day") Integer ∷ need (codes "number") Integer
+    ∷ need (codes "leg") Integer ∷ need (codes "amount") Integer
+    ∷ need (codes "reference") Integer ∷ need (codes "card") Text ∷ need (codes "terminal") Text
+    ∷ need (codes "trace") Text ∷ [])
+    None (2 ∷ 1 ∷ 3 ∷ []) ((2 ∷ 1 ∷ 3 ∷ []) ∷ []) (plain ∷ [])
+
+-- ---- reconciliations
+
+abbrev pub reconciliations_text : List ℕ
+reconciliations_text =
+    codes "CREATE TABLE reconciliations (merchant TEXT, day INTEGER, number INTEGER, "
+    ++ codes "in_balance INTEGER NOT NULL, PRIMARY KEY (day, merchant, number)) STRICT"
+
+abbrev pub reconciliations : Table
+reconciliations =
+    table_of (codes "reconciliations")
+    (need (codes "merchant") Text ∷ need (codes "day") Integer ∷ need (codes "number") Integer
+    ∷ need (codes "in_balance") Integer ∷ [])
+    None (2 ∷ 1 ∷ 3 ∷ []) ((2 ∷ 1 ∷ 3 ∷ []) ∷ []) (plain ∷ [])
+
+-- ---- running totals of each merchant and day
+
+abbrev pub running_text : List ℕ
+running_text =
+    codes "CREATE TABLE running (merchant TEXT, day INTEGER, used INTEGER NOT NULL, "
+    ++ codes "credits INTEGER NOT NULL, credit_reversals INTEGER NOT NULL, "
+    ++ codes "debits INTEGER NOT NULL, debit_reversals INTEGER NOT NULL, "
+    ++ codes "credit_amount INTEGER NOT NULL, credit_reversal_amount INTEGER NOT NULL, "
+    ++ codes "debit_amount INTEGER NOT NULL, debit_reversal_amount INTEGER NOT NULL, "
+    ++ codes "PRIMARY KEY (merchant, day)) STRICT"
+
+abbrev pub running : Table
+running =
+    table_of (codes "running")
+    (need (codes "merchant") Text ∷ need (codes "day") Integer ∷ need (codes "used") Integer
+    ∷ need (codes "credits") Integer ∷ need (codes "credit_reversals") Integer
+    ∷ need (codes "debits") Integer ∷ need (codes "debit_reversals") Integer
+    ∷ need (codes "credit_amount") Integer ∷ need (codes "credit_reversal_amount") Integer
+    ∷ need (codes "debit_amount") Integer ∷ need (codes "debit_reversal_amount") Integer ∷ [])
+    None (1 ∷ 2 ∷ []) ((1 ∷ 2 ∷ []) ∷ []) (plain ∷ [])
+
+-- ---- all eight, one after the other
+
+abbrev pub no_schema : Schema
+no_schema = record { tables = []; indexes = []; views = [] }
+
+unfoldable pub up_to_book : Schema
+up_to_book = created no_schema book
+
+unfoldable pub up_to_merchants : Schema
+unfolding up_to_book
+up_to_merchants = created up_to_book merchants
+
+unfoldable pub up_to_terminals : Schema
+unfolding up_to_merchants
+up_to_terminals = created up_to_merchants terminals
+
+unfoldable pub up_to_ranges : Schema
+unfolding up_to_terminals
+up_to_ranges = created up_to_terminals ranges
+
+unfoldable pub up_to_requests : Schema
+unfolding up_to_ranges
+up_to_requests = created up_to_ranges requests
+
+unfoldable pub up_to_postings : Schema
+unfolding up_to_requests
+up_to_postings = created up_to_requests postings
+
+unfoldable pub up_to_reconciliations : Schema
+unfolding up_to_postings
+up_to_reconciliations = created up_to_postings reconciliations
+
+unfoldable pub book_schema : Schema
+unfolding up_to_reconciliations
+book_schema = created up_to_reconciliations running

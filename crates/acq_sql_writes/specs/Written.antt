@@ -1,0 +1,91 @@
+-- What a write inside a transaction does, and what each write makes of the tables.
+use Rattle.std.specs.Prelude.{ℕ, ◌<◌, ◌^◌, true, List, [], ◌∷◌, ◌++◌, Option, IfSome, Result, OnOk}
+use Rattle.std.specs.Prelude.{IsTrue}
+use Rattle.sqlite.specs.declared.error.Error.{Error}
+use Rattle.sqlite.specs.State.{State, HasCleanDisk, KeepsCommit, Shows, Survives}
+use Rattle.iso_codec.specs.Message.{IsoMessage}
+use Rattle.card_no.specs.declared.range.Range.{Range}
+use Rattle.day_totals.specs.Totals.{DayTotals}
+use Rattle.acq_message.specs.declared.request_key.RequestKey.{RequestKey}
+use Rattle.acq_core.specs.declared.merchant.Merchant.{Merchant}
+use Rattle.acq_core.specs.declared.terminal.Terminal.{Terminal}
+use Rattle.acq_core.specs.declared.request.Request.{Request}
+use Rattle.acq_core.specs.declared.status.Status.{Status}
+use Rattle.acq_core.specs.declared.posting.Posting.{Posting}
+use Rattle.acq_core.specs.declared.reconciliation.Reconciliation.{Reconciliation}
+use Rattle.acq_core.specs.declared.change.Change.TheVariants as change
+use Rattle.acq_core.specs.Tables.{Tables, after, with_changed, answered_row, followed_row}
+use Rattle.acq_sql_rows.specs.Tallies.{Tally, Running, FitsTally, plus, tally_in, raised}
+use Rattle.acq_sql_rows.specs.Relation.{HoldsRows}
+
+-- ---- one write
+
+-- a write that succeeded changes the tables so, and no running total
+abbrev pub Changes : State → State → Result ℕ Error → (Tables → Tables) → Type 0
+Changes old new result changed =
+    HasCleanDisk new → IsTrue old.in_transaction → (t : Tables) (runs : List Running)
+    → HoldsRows old.now t runs → OnOk result (HoldsRows new.now (changed t) runs)
+
+-- a write that succeeded adds this to the running totals of a merchant and day, where there is room
+abbrev pub Raises : State → State → Result ℕ Error → List ℕ → ℕ → Tally → Type 0
+Raises old new result merchant day more =
+    HasCleanDisk new → IsTrue old.in_transaction → (t : Tables) (runs : List Running)
+    → HoldsRows old.now t runs → FitsTally (plus (tally_in runs merchant day) more)
+    → OnOk result (HoldsRows new.now t (raised merchant day more runs))
+
+-- a write that succeeded leaves its transaction open, and shows what it made
+abbrev pub StaysInside : State → State → Result ℕ Error → Type 0
+StaysInside old new result =
+    HasCleanDisk new → IsTrue old.in_transaction
+    → OnOk result (Shows old new new.now old.committed true)
+
+-- what was committed stays as it was
+abbrev pub KeepsCommitted : State → State → Type 0
+KeepsCommitted old new = HasCleanDisk new → IsTrue old.in_transaction → KeepsCommit old new
+
+-- a stop leaves nothing of it
+abbrev pub CommitsNothing : State → State → Type 0
+CommitsNothing old new = Survives old new (λ _. ⊥)
+
+-- ---- what each makes of the tables
+
+abbrev pub with_merchant : Merchant → Tables → Tables
+with_merchant merchant t = after t (change.AddMerchant merchant)
+
+abbrev pub with_terminal : Terminal → Tables → Tables
+with_terminal terminal t = after t (change.AddTerminal terminal)
+
+abbrev pub with_added_range : Range → Tables → Tables
+with_added_range range t = after t (change.AddRange range)
+
+abbrev pub with_dropped_range : ℕ → ℕ → Tables → Tables
+with_dropped_range low high t = after t (change.DropRange low high)
+
+abbrev pub on_day : ℕ → Tables → Tables
+on_day day t = after t (change.SetDay day)
+
+abbrev pub with_request : Request → Tables → Tables
+with_request row t = after t (change.AddRequest row)
+
+abbrev pub with_answer : RequestKey → Status → IsoMessage → Option ℕ → Tables → Tables
+with_answer key status reply hold_end t =
+    record t { requests = with_changed key (answered_row status reply hold_end) t.requests }
+
+abbrev pub with_status : RequestKey → Status → Tables → Tables
+with_status key status t =
+    record t { requests = with_changed key (followed_row status) t.requests }
+
+abbrev pub with_posting : ℕ → Posting → Tables → Tables
+with_posting number p t = record t { postings = t.postings ++ (number, p) ∷ [] }
+
+abbrev pub with_reconciliation : ℕ → Reconciliation → Tables → Tables
+with_reconciliation number r t =
+    record t { reconciliations = t.reconciliations ++ (number, r) ∷ [] }
+
+-- a column can keep the end of a hold
+abbrev pub IsShortEnd : Option ℕ → Type 0
+IsShortEnd hold_end = IfSome hold_end (λ n. n < 2 ^ 63)
+
+-- so many messages that count, and these totals
+abbrev pub tally_from : ℕ → DayTotals → Tally
+tally_from used totals = record { used = used; totals = totals }
