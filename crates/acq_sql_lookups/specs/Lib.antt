@@ -1,0 +1,4 @@
+pub mod Texts
+pub mod Queries
+pub mod Looked
+pub mod Recorded
