@@ -177,7 +177,7 @@ stays_after day t (e ∷ es) c =
     record { closed = rest.closed; same = rest.same ∙ step.same }
 
 -- events behind others
-tables_after-append : (t : Tables) (es fs : List Event) →
+pub tables_after-append : (t : Tables) (es fs : List Event) →
     tables_after t (es ++ fs) ≡ tables_after (tables_after t es) fs
 tables_after-append t [] fs = refl
 tables_after-append t (e ∷ es) fs = tables_after-append (step_tables t (arrival_of e)) es fs

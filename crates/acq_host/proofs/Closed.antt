@@ -22,9 +22,9 @@ use Rattle.acq_host.specs.Pasts.{HasPast}
 -- ---- when a day is given
 
 -- none is found exactly where none is counted
-none_found : {X : Type 0} (p : X → Bool) (xs : List X) → count p xs ≡ 0 → list_any p xs ≡ false
-none_found p [] e = refl
-none_found {X} p (x ∷ xs) e = step (p x) (none_found p xs) e
+none_passes : {X : Type 0} (p : X → Bool) (xs : List X) → count p xs ≡ 0 → list_any p xs ≡ false
+none_passes p [] e = refl
+none_passes {X} p (x ∷ xs) e = step (p x) (none_passes p xs) e
   where
     step : (b : Bool) → (count p xs ≡ 0 → list_any p xs ≡ false) → cond b (1 + count p xs) (count p xs) ≡ 0 →
         (b || list_any p xs) ≡ false
@@ -58,7 +58,7 @@ is_given t day e =
     let parts = given_parts (nat_lt day t.day) (pending_at t day) e in
     record {
       over = let before = parts.0 in grind (arith, nat_tests);
-      none = none_found (λ row. is_pending row.status && (row.day == day)) t.requests parts.1;
+      none = none_passes (λ row. is_pending row.status && (row.day == day)) t.requests parts.1;
     }
 
 not_refused : (t : Tables) (day : ℕ) → day < t.day → has_pending day t.requests ≡ false → day_refusal t day ≡ None

@@ -22,7 +22,8 @@ use Rattle.acq_bookkeeping.proofs.ConservationStep.{conserved}
 use Rattle.acq_bookkeeping.proofs.FinalDays.{postings_of_closed_day}
 use Rattle.acq_host.specs.Headline.{AreBalanced, RanAlone, IsAlone, KeptItsPostings}
 use Rattle.acq_host.specs.Pasts.{HasPast}
-use Rattle.acq_host.proofs.Runs.{tables_after-append, output_at}
+use Rattle.acq_bookkeeping.proofs.FinalDays.{tables_after-append}
+use Rattle.acq_host.proofs.Runs.{output_at}
 
 -- ---- from a past that is known
 

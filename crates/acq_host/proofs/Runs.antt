@@ -9,6 +9,7 @@ use Rattle.acq_core.specs.declared.output.Output.{Output}
 use Rattle.acq_core.specs.Arrivals.{arrival_of}
 use Rattle.acq_core.specs.Tables.{Tables, outputs, tables_after, step_output, step_tables}
 use Rattle.acq_book.specs.Promise.{Makes}
+use Rattle.acq_bookkeeping.proofs.FinalDays.{tables_after-append}
 use Rattle.acq_host.specs.Runs.{after_first}
 
 -- ---- outputs and tables
@@ -18,11 +19,6 @@ outputs-push : (t : Tables) (es : List Event) (e : Event) →
 outputs-push t [] e = refl
 outputs-push t (x ∷ es) e =
     ap (λ os. step_output t (arrival_of x) ∷ os) (outputs-push (step_tables t (arrival_of x)) es e)
-
-pub tables_after-append : (t : Tables) (es fs : List Event) →
-    tables_after t (es ++ fs) ≡ tables_after (tables_after t es) fs
-tables_after-append t [] fs = refl
-tables_after-append t (x ∷ es) fs = tables_after-append (step_tables t (arrival_of x)) es fs
 
 -- the output at the place of an event
 pub output_at : (t : Tables) (before later : List Event) (e : Event) →
