@@ -27,6 +27,11 @@ HasRoom t posting =
     IfSome posting
     (λ p. IsWithinLimits (with_leg_amount (totals_at t p.merchant p.day) p.leg p.amount))
 
+-- it is posted to the row's own merchant and day
+pub record IsPostedBy (row : Request) (p : Posting) : Type 0 where
+  pub merchant : p.merchant ≡ row.key.merchant
+  pub day : p.day ≡ row.day
+
 -- a change whose keys are new, or of a row that is there, and for which there is room
 abbrev pub Fits : Tables → Change → Type 0
 Fits t (change.AddMerchant merchant) = merchant_at t merchant.id ≡ None
@@ -36,5 +41,6 @@ Fits t (change.DropRange low high) = remove_fault t.ranges low high ≡ None
 Fits t (change.SetDay day) = Unit {0}
 Fits t (change.AddRequest row) = IsNew t row
 Fits t (change.Answered key status reply hold_end posting) = HasRoom t posting
-Fits t (change.Follow row original status posting) = IsNew t row × HasRoom t posting
+Fits t (change.Follow row original status posting) =
+    IsNew t row × HasRoom t posting × IfSome posting (IsPostedBy row)
 Fits t (change.Reconciled row reconciliation) = IsNew t row

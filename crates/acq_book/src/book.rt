@@ -2,6 +2,7 @@
 
 ghost use Rattle.std.specs.Prelude.{◌≡◌, ℕ, IfOk, OnOk, OnErr, is_ok};
 ghost use Rattle.acq_core.specs.Tables.{Tables, after};
+ghost use Rattle.acq_core.specs.Pasts.{HasPast};
 ghost use Rattle.acq_book.specs.Fits.{Fits};
 ghost use Rattle.acq_book.specs.Lookups.{merchant_at, has_terminal_at, range_at, overlapping_at};
 ghost use Rattle.acq_book.specs.Lookups.{request_at, referred_at, admitted_at, used_at, totals_at};
@@ -189,9 +190,10 @@ pub trait Book {
         ensures store { IfStore result (HasRisen (failures self.old) (failures self.new)) };
 
     /// Makes all of a change, or none of it. The change fits: its keys are new, and there is room
-    /// for it.
+    /// for it; and it leads to tables that events lead to.
     fn apply(&mut self, change: &Change) -> Result<(), BookFault>
         requires fits { is_open self.old → Fits (tables self.old) change.now }
+        requires past { is_open self.old → HasPast (after (tables self.old) change.now) }
         ensures makes { Makes tables is_honest is_open may_leave failures
             self.old self.new (is_ok result) (after (tables self.old) change.now) }
         ensures store { IfStore result (HasRisen (failures self.old) (failures self.new)) };

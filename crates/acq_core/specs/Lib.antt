@@ -6,6 +6,8 @@ pub mod Decision
 pub mod Outcome
 pub mod Changes
 pub mod Tables
+pub mod Events
+pub mod Pasts
 pub mod Looking
 pub mod NewBook
 pub mod Meaning

@@ -18,24 +18,37 @@ use Rattle.acq_core.specs.declared.arrival.Arrival.TheVariants.{CutOver, RangeAd
 use Rattle.acq_core.specs.declared.arrival.Arrival.TheVariants.{TerminalAdded}
 use Rattle.acq_core.specs.Arrivals.{arrival_of}
 use Rattle.acq_core.specs.Changes.{answer_posting, completion_posting, reversal_posting, change_of, change_for}
+use Rattle.acq_core.specs.Changes.{posted_leg, posting_today, reversal_leg, reversal_row}
 use Rattle.acq_core.specs.Decision.{Decision, Reports, DropsRange, CutsOver, repeat_of, decision, decision_of_new_range}
 use Rattle.acq_core.specs.Decision.{decision_of_old_range, decision_of_enrolment, decision_of_terminal}
 use Rattle.acq_core.specs.declared.output.Output.TheVariants as output
-use Rattle.acq_core.specs.Known.{Known}
+use Rattle.acq_core.specs.Known.{Prior, Known}
 use Rattle.acq_core.specs.Numbers.{is_used_count}
 use Rattle.acq_core.specs.Tables.{Opening, Tables, prior_of, requests_of, used_in, known_in, after_any, step_tables}
 use Rattle.acq_core.proofs.DecisionCases.{by_request, by_answer}
-use Rattle.acq_book.specs.Fits.{Fits}
+use Rattle.acq_book.specs.Fits.{Fits, IsPostedBy}
 use Rattle.acq_book.specs.Lookups.{used_at}
 use Rattle.acq_history.proofs.Members.{In-find}
 use Rattle.acq_history.proofs.StepCases.{by_step}
-use Rattle.acq_invariants.specs.Books.{IsBook, IsSound}
-use Rattle.acq_invariants.specs.Events.{IsEvent, IsOpening}
+use Rattle.acq_core.specs.Pasts.{IsBook}
+use Rattle.acq_invariants.specs.Books.{IsSound}
+use Rattle.acq_core.specs.Events.{IsEvent, IsOpening}
 use Rattle.acq_invariants.specs.References.{merchant_in}
 use Rattle.acq_invariants.proofs.BooksAreSound.{books_are_sound}
 use Rattle.acq_invariants.proofs.BooksGoOn.{books_go_on}
 use Rattle.acq_host.proofs.NewRows.{any_member, unreferred_is_new, referred_is_new, has_room_for_one}
 use Rattle.acq_host.proofs.NewRows.{has_room_for_posting}
+
+-- what a reversal posts, if anything, is of its own merchant and day
+reversal_posted_by : (today : ℕ) (r : RequestMessage) (p : Prior) →
+    IfSome (reversal_posting today r p) (IsPostedBy (reversal_row today r p))
+reversal_posted_by today r p =
+    elim (posted_leg p.reply_state p.leg) as (λ o.
+    IfSome (option_map (λ leg. posting_today today r (reversal_leg leg) p.amount p) o)
+    (IsPostedBy (reversal_row today r p))) [
+      | None ↦ tt
+      | Some leg ↦ record { merchant = refl; day = refl }
+    ]
 
 -- where the tables after it are sound, what a decision changes fits
 abbrev FitsWhereSound : Opening → Tables → Known → Decision → Type 0
@@ -70,11 +83,13 @@ module _ (opening : Opening) (t : Tables) (opens : IsOpening opening) (sound : I
           unreferred_is_new t _ g.new refl (λ e. room (text_at r.message 42) t.day free),
           has_room_for_posting t (Some (completion_posting t.day r (prior_of hold)))
               (λ m day. (later.numbers.merchants m).totals day),
+          record { merchant = refl; day = refl },
         );
         reversed = λ r came merchant g service free row own later. (
           unreferred_is_new t _ g.new refl (λ e. room (text_at r.message 42) t.day free),
           has_room_for_posting t (reversal_posting t.day r (prior_of row))
               (λ m day. (later.numbers.merchants m).totals day),
+          reversal_posted_by t.day r (prior_of row),
         );
         reconciled = λ r came merchant g service day is later. unreferred_is_new t _ g.new refl (λ e. absurd cc);
         answered = λ moment merchant reference v came row member pending n under later.

@@ -17,7 +17,7 @@ use Rattle.acq_reports.specs.ClearingFile.{clearing_header, clearing_text, posti
 use Rattle.acq_reports.specs.Refusals.{day_refusal, pending_refusal}
 use Rattle.acq_reports.proofs.Cleared.{clears}
 use Rattle.acq_host.specs.Clearing.{GivesAgain, KeptItsClearing}
-use Rattle.acq_host.specs.Pasts.{HasPast}
+use Rattle.acq_core.specs.Pasts.{HasPast}
 
 -- ---- when a day is given
 

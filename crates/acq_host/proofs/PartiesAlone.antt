@@ -21,7 +21,7 @@ use Rattle.acq_bookkeeping.proofs.BalanceOfReconciliation.{balanced}
 use Rattle.acq_bookkeeping.proofs.ConservationStep.{conserved}
 use Rattle.acq_bookkeeping.proofs.FinalDays.{postings_of_closed_day}
 use Rattle.acq_host.specs.Headline.{AreBalanced, RanAlone, IsAlone, KeptItsPostings}
-use Rattle.acq_host.specs.Pasts.{HasPast}
+use Rattle.acq_core.specs.Pasts.{HasPast}
 use Rattle.acq_bookkeeping.proofs.FinalDays.{tables_after-append}
 use Rattle.acq_host.proofs.Runs.{output_at}
 

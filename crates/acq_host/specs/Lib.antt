@@ -1,4 +1,3 @@
-pub mod Pasts
 pub mod Runs
 pub mod Headline
 pub mod Clearing

@@ -4,6 +4,7 @@ ghost use Rattle.std.specs.Prelude.{◌≡◌, is_ok, IfOk, IfSome};
 ghost use Rattle.acq_core.specs.Arrivals.{arrival_of};
 ghost use Rattle.acq_core.specs.Changes.{change_for};
 ghost use Rattle.acq_core.specs.Tables.{after_any, known_in, step_output};
+ghost use Rattle.acq_core.specs.Pasts.{HasPast};
 ghost use Rattle.acq_book.specs.Fits.{Fits};
 ghost use Rattle.acq_book.specs.Promise.{HasRisen, IfStore, Looks, Makes};
 
@@ -35,6 +36,7 @@ pub(crate) fn decide<B: Book>(
 /// Makes a change, if there is one.
 pub(crate) fn apply<B: Book>(book: &mut B, change: Option<Change>) -> Result<(), BookFault>
     requires fits { B.is_open book.old → IfSome change (Fits (B.tables book.old)) }
+    requires past { B.is_open book.old → HasPast (after_any (B.tables book.old) change) }
     ensures makes { Makes B.tables B.is_honest B.is_open B.may_leave B.failures
         book.old book.new (is_ok result) (after_any (B.tables book.old) change) }
     ensures store { IfStore result (HasRisen (B.failures book.old) (B.failures book.new)) }

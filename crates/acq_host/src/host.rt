@@ -8,7 +8,7 @@ ghost use Rattle.acq_core.specs.Tables.{tables_after};
 ghost use Rattle.acq_book.specs.Promise.{HasRisen, IfStore, Makes};
 ghost use Rattle.acq_host.specs.Clearing.{KeptItsClearing};
 ghost use Rattle.acq_host.specs.Headline.{IsAlone, KeptItsPostings};
-ghost use Rattle.acq_host.specs.Pasts.{HasPast};
+ghost use Rattle.acq_core.specs.Pasts.{HasPast};
 ghost use Rattle.acq_host.specs.Runs.{StopsAt, after_first};
 
 use crate::deciding::{apply, decide};
@@ -30,7 +30,7 @@ pub struct Host<B: Book + Drop> {
 }
 
 impl<B: Book + Drop> Model for Host<B> {
-    ghost use Rattle.acq_host.specs.Pasts.{HasPast};
+    ghost use Rattle.acq_core.specs.Pasts.{HasPast};
 
     ghost Value = { B };
 

@@ -18,7 +18,7 @@ use Rattle.acq_core.specs.Arrivals.{arrival_of, arrival_of_message, arrival_of_r
 use Rattle.acq_core.specs.Tables.{Tables, step_tables, tables_after}
 use Rattle.acq_message.specs.Moments.{is_moment}
 use Rattle.acq_invariants.specs.Rows.{FitsMerchant, FitsTerminal}
-use Rattle.acq_invariants.specs.Events.{IsVerdict, IsEvent, AreEvents}
+use Rattle.acq_core.specs.Events.{IsVerdict, IsEvent, AreEvents}
 
 -- a message that the first check passes
 pub record IsWhole (r : RequestMessage) : Type 0 where

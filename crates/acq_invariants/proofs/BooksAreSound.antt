@@ -2,7 +2,7 @@
 use Rattle.std.proofs.Common.{List, sym, subst}
 use Rattle.acq_core.specs.declared.event.Event.{Event}
 use Rattle.acq_core.specs.Tables.{Opening, new_tables, tables_after}
-use Rattle.acq_invariants.specs.Events.{AreEvents, IsOpening}
+use Rattle.acq_core.specs.Events.{AreEvents, IsOpening}
 use Rattle.acq_invariants.specs.Books.{IsSound, BooksAreSound}
 use Rattle.acq_invariants.proofs.RangesStayApart.{ranges_stay_apart}
 use Rattle.acq_invariants.proofs.KeysStayUnique.{keys_stay_unique}

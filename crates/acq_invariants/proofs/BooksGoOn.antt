@@ -4,8 +4,9 @@ use Rattle.std.proofs.lemmas.List.Elements.{All-nil, All-push, All-head, All-tai
 use Rattle.acq_core.specs.declared.event.Event.{Event}
 use Rattle.acq_core.specs.Arrivals.{arrival_of}
 use Rattle.acq_core.specs.Tables.{Opening, Tables, new_tables, step_tables, tables_after}
-use Rattle.acq_invariants.specs.Events.{IsEvent, AreEvents, IsOpening}
-use Rattle.acq_invariants.specs.Books.{IsBook, BooksBegin, BooksGoOn}
+use Rattle.acq_core.specs.Events.{IsEvent, AreEvents, IsOpening}
+use Rattle.acq_core.specs.Pasts.{IsBook}
+use Rattle.acq_invariants.specs.Books.{BooksBegin, BooksGoOn}
 
 -- after one event more
 tables_after-push : (t : Tables) (es : List Event) (e : Event) →

@@ -31,7 +31,7 @@ use Rattle.acq_core.specs.Tables.{Opening, Tables, new_tables, count, is_pending
 use Rattle.acq_history.specs.Entries.{is_reversal}
 use Rattle.acq_history.proofs.Lookups.{map_some}
 use Rattle.acq_history.proofs.Members.{In-find, from_In}
-use Rattle.acq_invariants.specs.Events.{IsOpening}
+use Rattle.acq_core.specs.Events.{IsOpening}
 use Rattle.acq_invariants.specs.Bounds.{IsBoundedRow, IsBoundedPosting, IsWithinLimit, NumbersStayBounded}
 use Rattle.acq_history.proofs.StepCases.{next_reference, by_step}
 use Rattle.acq_invariants.proofs.Arrivals.{IsArrival, kept_by_events}

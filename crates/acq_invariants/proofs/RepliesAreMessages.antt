@@ -26,7 +26,7 @@ use Rattle.acq_core.specs.Outcome.{Outcome, Replied, Repeated, Asked, Performed,
 use Rattle.acq_core.specs.Changes.{change_of}
 use Rattle.acq_core.specs.Tables.{Opening, Tables, new_tables, known_in, after_any, step_output, step_tables, outputs, tables_after}
 use Rattle.acq_history.proofs.Members.{In-find, In-mapped}
-use Rattle.acq_invariants.specs.Events.{IsVerdict, IsEvent, AreEvents, IsOpening}
+use Rattle.acq_core.specs.Events.{IsVerdict, IsEvent, AreEvents, IsOpening}
 use Rattle.acq_invariants.specs.Replies.{IsReply, IsReplyText, HasReplies, GivesReplies, AreReplies, RepliesAreMessages}
 use Rattle.acq_history.proofs.StepCases.{is_reply, by_step}
 use Rattle.acq_invariants.proofs.Arrivals.{IsArrival, of_event, kept_by_events}

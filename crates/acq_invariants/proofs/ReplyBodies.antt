@@ -24,7 +24,7 @@ use Rattle.acq_message.specs.declared.verdict.Verdict.TheVariants as verdict
 use Rattle.acq_message.specs.IssuerTexts.{is_decline_code}
 use Rattle.acq_message.specs.Services.{reply_kind, echoed}
 use Rattle.acq_message.specs.Reply.{echo, with_contents, day_element, reference_element, code_element, totals_elements, verdict_elements}
-use Rattle.acq_invariants.specs.Events.{IsVerdict}
+use Rattle.acq_core.specs.Events.{IsVerdict}
 use Rattle.acq_invariants.specs.Replies.{reply_elements, IsReply}
 use Rattle.acq_invariants.proofs.DayTexts.{mmdd_of-digits}
 use Rattle.acq_history.proofs.StepCases.{is_hosts}

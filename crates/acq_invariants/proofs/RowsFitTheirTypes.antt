@@ -32,12 +32,12 @@ use Rattle.acq_core.specs.Tables.{Opening, Tables, new_tables, count, prior_of, 
 use Rattle.acq_history.proofs.Members.{In}
 use Rattle.acq_history.proofs.Keys.{bytes_eq_itself, eqb_itself}
 use Rattle.acq_history.proofs.StepCases.{by_step}
-use Rattle.acq_invariants.specs.Events.{AreEvents, IsOpening}
+use Rattle.acq_core.specs.Events.{AreEvents, IsOpening}
 use Rattle.acq_invariants.specs.Ranges.{HasRangesApart}
 use Rattle.acq_invariants.specs.CardData.{KeepsNoSensitiveData, HasNoSensitiveData}
 use Rattle.acq_invariants.specs.Bounds.{IsBounded}
 use Rattle.acq_invariants.specs.Rows.{AreHoldDays, greatest_hold_end, FitsMerchant, FitsTerminal, FitsKey, FitsReconciliation, RowsFitTheirTypes}
-use Rattle.acq_invariants.specs.Books.{IsBook}
+use Rattle.acq_core.specs.Pasts.{IsBook}
 use Rattle.acq_invariants.proofs.Arrivals.{IsWhole, IsArrival, of_event}
 use Rattle.acq_invariants.proofs.RowsWithChanges.{All-with_changed, All-member}
 use Rattle.acq_invariants.proofs.CountsOfRows.{one_if, count-filter_push}

@@ -1,9 +1,9 @@
 -- All that a run of events keeps, under one name.
-use Rattle.std.specs.Prelude.{◌≡◌, List}
 use Rattle.acq_core.specs.declared.event.Event.{Event}
 use Rattle.acq_core.specs.Arrivals.{arrival_of}
-use Rattle.acq_core.specs.Tables.{Opening, Tables, new_tables, step_tables, tables_after}
-use Rattle.acq_invariants.specs.Events.{IsEvent, AreEvents, IsOpening}
+use Rattle.acq_core.specs.Tables.{Opening, Tables, new_tables, step_tables}
+use Rattle.acq_core.specs.Pasts.{IsBook}
+use Rattle.acq_core.specs.Events.{IsEvent, IsOpening}
 use Rattle.acq_invariants.specs.Ranges.{HasRangesApart}
 use Rattle.acq_invariants.specs.Keys.{HasUniqueKeys}
 use Rattle.acq_invariants.specs.References.{HasConsecutiveReferences, HasUniqueReferences}
@@ -11,13 +11,6 @@ use Rattle.acq_invariants.specs.Replies.{HasReplies, GivesReplies}
 use Rattle.acq_invariants.specs.CardData.{HasNoSensitiveData}
 use Rattle.acq_invariants.specs.Bounds.{IsBounded}
 use Rattle.acq_invariants.specs.Rows.{HasFittingRows}
-
--- a book that began so has these tables after some events
-pub record IsBook (opening : Opening) (t : Tables) : Type 0 where
-  pub opens : IsOpening opening
-  pub events : List Event
-  pub are_events : AreEvents events
-  pub after : t ≡ tables_after (new_tables opening) events
 
 -- all that holds of its tables
 pub record IsSound (opening : Opening) (t : Tables) : Type 0 where

@@ -9,7 +9,7 @@ use Rattle.acq_core.specs.declared.request.Request.{Request}
 use Rattle.acq_core.specs.Numbers.{is_admitted_count}
 use Rattle.acq_core.specs.Tables.{Opening, Tables, new_tables, tables_after, count}
 use Rattle.acq_core.specs.Tables.{requests_of, postings_of, admitted_in, used_in, totals_on}
-use Rattle.acq_invariants.specs.Events.{AreEvents, IsOpening}
+use Rattle.acq_core.specs.Events.{AreEvents, IsOpening}
 
 -- a row of no later day than this one, whose references are some
 pub record IsBoundedRow (today : ℕ) (row : Request) : Type 0 where

@@ -13,7 +13,7 @@ use Rattle.acq_core.specs.declared.request.Request.{Request}
 use Rattle.acq_core.specs.declared.output.Output.{Output}
 use Rattle.acq_core.specs.declared.output.Output.TheVariants.{Reply}
 use Rattle.acq_core.specs.Tables.{Opening, Tables, new_tables, outputs, tables_after}
-use Rattle.acq_invariants.specs.Events.{AreEvents, IsOpening}
+use Rattle.acq_core.specs.Events.{AreEvents, IsOpening}
 
 -- the elements of tracks 2 and 1, of the PIN block, and of the chip
 abbrev pub sensitive_elements : List ℕ

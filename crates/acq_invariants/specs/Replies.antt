@@ -13,7 +13,7 @@ use Rattle.acq_core.specs.declared.output.Output.TheVariants.{Reply}
 use Rattle.acq_core.specs.Arrivals.{arrival_of}
 use Rattle.acq_core.specs.Tables.{Opening, Tables, new_tables, step_output, outputs}
 use Rattle.acq_core.specs.Tables.{tables_after}
-use Rattle.acq_invariants.specs.Events.{IsEvent, AreEvents, IsOpening}
+use Rattle.acq_core.specs.Events.{IsEvent, AreEvents, IsOpening}
 
 -- the elements that a reply may have
 abbrev pub reply_elements : List ℕ

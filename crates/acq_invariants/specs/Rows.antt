@@ -16,7 +16,7 @@ use Rattle.acq_core.specs.declared.posting.Posting.{Posting}
 use Rattle.acq_core.specs.declared.reconciliation.Reconciliation.{Reconciliation}
 use Rattle.acq_core.specs.Numbers.{is_first_reference}
 use Rattle.acq_core.specs.Tables.{Opening, Tables, new_tables, tables_after}
-use Rattle.acq_invariants.specs.Events.{AreEvents, IsOpening}
+use Rattle.acq_core.specs.Events.{AreEvents, IsOpening}
 use Rattle.acq_invariants.specs.CardData.{may_be_acquirer}
 
 -- how many days a hold may last

@@ -1,7 +1,7 @@
 //! What the host's types hold: every value is such as the laws take it.
 
 ghost use Rattle.acq_core.specs.Tables.{Opening};
-ghost use Rattle.acq_invariants.specs.Events.{IsVerdict, IsEvent, IsOpening};
+ghost use Rattle.acq_core.specs.Events.{IsVerdict, IsEvent, IsOpening};
 
 use acq_core::{Event, Limit, Verdict};
 use day_totals::Day;

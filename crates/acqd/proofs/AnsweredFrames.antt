@@ -20,7 +20,7 @@ use Rattle.acq_core.specs.declared.event.Event.TheVariants.{Frame}
 use Rattle.acq_core.specs.Arrivals.{arrival_of_message, arrival_of_reading}
 use Rattle.acq_core.specs.NewBook.{output_to}
 use Rattle.acq_core.specs.Tables.{new_tables, step_output}
-use Rattle.acq_invariants.specs.Events.{IsOpening}
+use Rattle.acq_core.specs.Events.{IsOpening}
 use Rattle.acq_invariants.proofs.BooksAreSound.{books_are_sound}
 use Rattle.acq_invariants.proofs.BooksGoOn.{books_begin}
 use Rattle.acq_link.specs.declared.input_fault.InputFault as input

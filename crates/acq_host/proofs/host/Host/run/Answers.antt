@@ -2,7 +2,7 @@
 use Rattle.std.proofs.Common.{take, [], refl, sym, ap, ◌∙◌, subst, arith}
 use Rattle.std.proofs.lemmas.List.{take_all}
 use Rattle.acq_core.specs.Tables.{outputs, tables_after}
-use Rattle.acq_host.specs.Pasts.{HasPast}
+use Rattle.acq_core.specs.Pasts.{HasPast}
 use Rattle.acq_host.proofs.PartiesAlone.{is_alone, keeps_postings}
 use Rattle.acq_host.proofs.Closed.{keeps_clearing}
 use Rattle.acq_host.proofs.Runs.{HasTaken, took_none, took_next, may_stop_at}

@@ -1,6 +1,6 @@
 -- the host took the events so far, and its book is one that some events led to
 use Rattle.std.proofs.Common.{take}
-use Rattle.acq_host.specs.Pasts.{HasPast}
+use Rattle.acq_core.specs.Pasts.{HasPast}
 use Rattle.acq_host.proofs.Runs.{HasTaken}
 use Rattle.acq_host.proofs.host.Host.run.Given as goal
 

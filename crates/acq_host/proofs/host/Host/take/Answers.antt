@@ -5,7 +5,7 @@ use Rattle.acq_core.specs.Arrivals.{arrival_of}
 use Rattle.acq_core.specs.Tables.{after_any, step_output, step_tables}
 use Rattle.acq_book.specs.Fits.{Fits}
 use Rattle.acq_book.specs.Promise.{Makes}
-use Rattle.acq_invariants.specs.Books.{IsBook}
+use Rattle.acq_core.specs.Pasts.{IsBook, HasPast}
 use Rattle.acq_invariants.proofs.BooksGoOn.{books_go_on}
 use Rattle.acq_host.proofs.Chains.{makes_after}
 use Rattle.acq_host.proofs.ChangesFit.{changes_fit}
@@ -20,6 +20,12 @@ apply-requires g c = record {
       subst (λ t. IfSome c.in_ok-output.change (Fits t)) (sym (looks.same o))
       (subst (λ x. IfSome x (Fits (g.B.Book.tables c.self.inside.book))) (sym (c.in_ok-output.ensures.change o))
       (changes_fit past.0 (g.B.Book.tables c.self.inside.book) e past.1 c.every_event.ensures));
+  past = λ o.
+      let looks = c.in_ok-output.ensures.looks in
+      let past = c.self.invariant (looks.was_open o) in
+      let t = g.B.Book.tables c.self.inside.book in
+      subst HasPast (sym (λ i. after_any (looks.same o i) (c.in_ok-output.ensures.change o i)))
+      (past.0, books_go_on past.0 t c.args.event.now past.1 c.every_event.ensures);
 }
 
 pub returns-in_err-apply-clause-tables : goal.returns-in_err-apply-clause-tables
