@@ -1,6 +1,7 @@
 -- What every call of a book promises of its tables, its faults, and what a stop may leave.
 use Rattle.std.specs.Prelude.{◌≡◌, ◌⊎◌, ℕ, ◌+◌, ◌<◌, ◌≤◌, ◌^◌, Bool, true, false, Result, Ok, Err}
 use Rattle.acq_core.specs.Tables.{Tables}
+use Rattle.acq_core.specs.Pasts.{HasPast}
 use Rattle.acq_book.specs.declared.book_fault.BookFault.{BookFault}
 use Rattle.acq_book.specs.declared.book_fault.BookFault.TheVariants.{Memory, Store}
 
@@ -28,15 +29,16 @@ pub record Looks {S : Type 0} (tables : S → Tables) (is_honest is_open : S →
 
 -- A change leads to these tables, or is not made. At any moment a stop leaves what it might before,
 -- or the tables with the whole change; after a change that was made only these, where before it
--- only the tables themselves might be left.
+-- only the tables themselves might be left. A book that is open was so before, or its tables are
+-- such as events lead to.
 pub record Makes {S : Type 0} (tables : S → Tables) (is_honest is_open : S → Type 0)
     (may_leave : S → Tables → Type 0) (failures : S → ℕ) (old new : S)
     (succeeded : Bool) (changed : Tables) : Type 0 where
   pub was_honest : is_honest new → is_honest old
-  pub was_open : is_open new → is_open old
+  pub was_open : is_open new → is_open old ⊎ HasPast (tables new)
   pub stays_open : succeeded ≡ true → is_honest new → is_open old → is_open new
-  pub made : succeeded ≡ true → is_open new → tables new ≡ changed
-  pub unmade : succeeded ≡ false → is_open new → tables new ≡ tables old
+  pub made : succeeded ≡ true → is_open old → is_open new → tables new ≡ changed
+  pub unmade : succeeded ≡ false → is_open old → is_open new → tables new ≡ tables old
   pub leaves : is_open old → is_honest new → (t : Tables) → may_leave new t →
       may_leave old t ⊎ (t ≡ changed)
   pub settled : succeeded ≡ true → is_open old → is_honest new →

@@ -197,4 +197,7 @@ pub trait Book {
         ensures makes { Makes tables is_honest is_open may_leave failures
             self.old self.new (is_ok result) (after (tables self.old) change.now) }
         ensures store { IfStore result (HasRisen (failures self.old) (failures self.new)) };
+
+    /// The store of an open book is honest.
+    ghost honest: { (book : Self) → is_open book → is_honest book };
 }

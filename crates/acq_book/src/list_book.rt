@@ -203,6 +203,8 @@ impl Book for ListBook {
 
     ghost failures = { λ t. 0 };
 
+    ghost honest = { λ t is. is };
+
     fn limit(&mut self) -> Result<Limit, BookFault> {
         Ok(self.limit)
     }

@@ -6,16 +6,20 @@ pub use Rattle.acq_book.proofs.Chains.{looks_more}
 
 -- look-ups that succeeded, and a change then
 pub makes_after : {S : Type 0} (tables : S → Tables) (is_honest is_open : S → Type 0)
-    (may_leave : S → Tables → Type 0) (failures : S → ℕ) (a b c : S) (succeeded : Bool) (made changed : Tables) →
-    (is_open b → made ≡ changed) → Looks tables is_honest is_open may_leave failures a b true →
+    (may_leave : S → Tables → Type 0) (failures : S → ℕ) (honest : (s : S) → is_open s → is_honest s) (a b c : S)
+    (succeeded : Bool) (made changed : Tables) → (is_open b → made ≡ changed) → Looks tables is_honest is_open may_leave failures a b true →
     Makes tables is_honest is_open may_leave failures b c succeeded made →
     Makes tables is_honest is_open may_leave failures a c succeeded changed
-makes_after tables is_honest is_open may_leave failures a b c succeeded made changed same first second = record {
+makes_after tables is_honest is_open may_leave failures honest a b c succeeded made changed same first second = record {
   was_honest = λ h. first.was_honest (second.was_honest h);
-  was_open = λ o. first.was_open (second.was_open o);
+  was_open = λ end. ⊎_elim (λ between. inl (first.was_open between)) inr (second.was_open end);
   stays_open = λ s h o. second.stays_open s h (first.stays_open refl (second.was_honest h) o);
-  made = λ s o. second.made s o ∙ same (second.was_open o);
-  unmade = λ s o. second.unmade s o ∙ first.same (second.was_open o);
+  made = λ s o end.
+      let between = first.stays_open refl (second.was_honest (honest c end)) o in
+      second.made s between end ∙ same between;
+  unmade = λ s o end.
+      let between = first.stays_open refl (second.was_honest (honest c end)) o in
+      second.unmade s between end ∙ first.same between;
   leaves = λ o h t l.
       let between = first.stays_open refl (second.was_honest h) o in
       ⊎_elim (λ was. inl (first.leaves (second.was_honest h) t was)) (λ is. inr (is ∙ same between))

@@ -46,10 +46,9 @@ pub record HasTaken {S : Type 0} (tables : S → Tables) (is_honest is_open : S 
     (may_leave : S → Tables → Type 0) (failures : S → ℕ) (old new : S) (events : List Event)
     (said : List Output) : Type 0 where
   pub was_honest : is_honest new → is_honest old
-  pub was_open : is_open new → is_open old
   pub stays_open : is_honest new → is_open old → is_open new
-  pub says : is_open new → said ≡ outputs (tables old) events
-  pub leads : is_open new → tables new ≡ tables_after (tables old) events
+  pub says : is_honest new → is_open old → said ≡ outputs (tables old) events
+  pub leads : is_honest new → is_open old → tables new ≡ tables_after (tables old) events
   pub settled : is_honest new → is_open old → ((t : Tables) → may_leave old t → t ≡ tables old) →
       (t : Tables) → may_leave new t → t ≡ tables new
   pub rise : failures old ≤ failures new
@@ -59,10 +58,9 @@ module _ {S : Type 0} (tables : S → Tables) (is_honest is_open : S → Type 0)
   pub took_none : (a : S) → HasTaken tables is_honest is_open may_leave failures a a [] []
   took_none a = record {
     was_honest = λ h. h;
-    was_open = λ o. o;
     stays_open = λ h o. o;
-    says = λ o. refl;
-    leads = λ o. refl;
+    says = λ h o. refl;
+    leads = λ h o. refl;
     settled = λ h o only. only;
     rise = omega arith;
   }
@@ -71,26 +69,27 @@ module _ {S : Type 0} (tables : S → Tables) (is_honest is_open : S → Type 0)
       at < length events → e ≡ get_or events at e →
       HasTaken tables is_honest is_open may_leave failures a b (take at events) said →
       Makes tables is_honest is_open may_leave failures b c true (step_tables (tables b) (arrival_of e)) →
-      (is_open c → now ≡ said ++ step_output (tables b) (arrival_of e) ∷ []) →
+      (is_honest c → is_open b → now ≡ said ++ step_output (tables b) (arrival_of e) ∷ []) →
       HasTaken tables is_honest is_open may_leave failures a c (take (at + 1) events) now
   took_next a b c events at e said now within is first next adds = record {
     was_honest = λ h. first.was_honest (next.was_honest h);
-    was_open = λ o. first.was_open (next.was_open o);
     stays_open = λ h o. next.stays_open refl h (first.stays_open (next.was_honest h) o);
-    says = λ o.
-        let between = next.was_open o in
-        adds o
-        ∙ ((λ i. first.says between i ++ step_output (first.leads between i) (arrival_of e) ∷ [])
+    says = λ h o.
+        let before = next.was_honest h in
+        adds h (first.stays_open before o)
+        ∙ ((λ i. first.says before o i ++ step_output (first.leads before o i) (arrival_of e) ∷ [])
         ∙ (sym (outputs-push (tables a) (take at events) e)
         ∙ sym (ap (outputs (tables a)) (first_and_next events at e within is))));
-    leads = λ o.
-        next.made refl o
-        ∙ (ap (λ t. step_tables t (arrival_of e)) (first.leads (next.was_open o))
+    leads = λ h o.
+        let before = next.was_honest h in
+        let between = first.stays_open before o in
+        next.made refl between (next.stays_open refl h between)
+        ∙ (ap (λ t. step_tables t (arrival_of e)) (first.leads before o)
         ∙ sym (after_next (tables a) events at e within is));
     settled = λ h o only t l.
         let between = first.stays_open (next.was_honest h) o in
         next.settled refl between h (first.settled (next.was_honest h) o only) t l
-        ∙ sym (next.made refl (next.stays_open refl h between));
+        ∙ sym (next.made refl between (next.stays_open refl h between));
     rise = let one = first.rise in let more = next.rise in omega arith;
   }
 
@@ -106,7 +105,7 @@ module _ {S : Type 0} (tables : S → Tables) (is_honest is_open : S → Type 0)
   may_stop_at a b c events at e said within is first next h o only t l =
       let before = next.was_honest h in
       let between = first.stays_open before o in
-      ⊎_elim (λ was. inl (first.settled before o only t was ∙ first.leads between))
-      (λ now. inr (now ∙ (ap (λ u. step_tables u (arrival_of e)) (first.leads between)
+      ⊎_elim (λ was. inl (first.settled before o only t was ∙ first.leads before o))
+      (λ now. inr (now ∙ (ap (λ u. step_tables u (arrival_of e)) (first.leads before o)
       ∙ sym (after_next (tables a) events at e within is))))
       (next.leaves between h t l)

@@ -75,7 +75,7 @@ impl<B: Book + Drop> Host<B> {
 
     /// Takes one event whole, or not at all, and returns what the host says to it.
     pub fn take(&mut self, event: &Event) -> Result<Output, BookFault>
-        ensures output { B.is_open self.new → IfOk result (λ output.
+        ensures output { B.is_honest self.new → B.is_open self.old → IfOk result (λ output.
             output ≡ step_output (B.tables self.old) (arrival_of event.now)) }
         // The tables after it, and what a stop at any moment may leave.
         ensures tables { Makes B.tables B.is_honest B.is_open B.may_leave B.failures
@@ -100,19 +100,19 @@ impl<B: Book + Drop> Host<B> {
         // After a fault so it is of the events before it.
         ensures fault { B.is_honest self.new → B.is_open self.old → IfErr result (λ fault.
             StopsAt (B.tables self.old) events.now fault.at fault.outputs.items) }
-        ensures fault_tables { B.is_open self.new → IfErr result (λ fault.
+        ensures fault_tables { B.is_open self.old → B.is_open self.new → IfErr result (λ fault.
             B.tables self.new ≡ after_first fault.at (B.tables self.old) events.now) }
         // Each party got what its own events alone give.
         ensures alone { B.is_honest self.new → B.is_open self.old → IfOk result (λ said.
             IsAlone (B.tables self.old) events.now said.items (B.tables self.new)) }
-        ensures fault_alone { B.is_open self.new → IfErr result (λ fault.
+        ensures fault_alone { B.is_open self.old → B.is_open self.new → IfErr result (λ fault.
             IsAlone (B.tables self.old) (take fault.at events.now) fault.outputs.items
             (B.tables self.new)) }
         // Nothing is posted or reversed twice, and closed days stay as they are.
-        ensures postings { B.is_open self.new
+        ensures postings { B.is_open self.old → B.is_open self.new
             → KeptItsPostings (B.tables self.old) (B.tables self.new) }
         // What clearing gave of a day it gives again, and a clearing file sums up to the totals.
-        ensures clearing { B.is_open self.new
+        ensures clearing { B.is_open self.old → B.is_open self.new
             → KeptItsClearing (B.tables self.old) (B.tables self.new) }
         // A stop leaves all events so far.
         ensures stop { B.is_honest self.new → B.is_open self.old
@@ -142,7 +142,7 @@ impl<B: Book + Drop> Host<B> {
 
     /// Takes one event, and puts what the host says to it behind what it said so far.
     fn take_next(&mut self, said: &mut Vec<Output>, event: &Event) -> Result<(), BookFault>
-        ensures said { B.is_open self.new → OnOk result (said.new.items
+        ensures said { B.is_honest self.new → B.is_open self.old → OnOk result (said.new.items
             ≡ said.old.items ++ step_output (B.tables self.old) (arrival_of event.now) ∷ []) }
         ensures kept { OnErr result (said.new.items ≡ said.old.items) }
         ensures tables { Makes B.tables B.is_honest B.is_open B.may_leave B.failures

@@ -91,7 +91,8 @@ fn take_next<B: Book + Drop, K: Sink>(
 ) -> Result<(), Fault>
     ensures made { OnOk result (Makes B.tables B.is_honest B.is_open B.may_leave B.failures
         host.old host.new true (step_tables (B.tables host.old) (arrival_of event.now))) }
-    ensures sent { B.is_open host.new → OnOk result (K.sent output.new ≡ K.sent output.old
+    ensures sent { B.is_honest host.new → B.is_open host.old → OnOk result
+        (K.sent output.new ≡ K.sent output.old
         ++ line_of (step_output (B.tables host.old) (arrival_of event.now))) }
     // With a fault of the book it was not taken, with one of its line it was.
     ensures fault { IfErr result (λ fault.
@@ -102,7 +103,7 @@ fn take_next<B: Book + Drop, K: Sink>(
         ⊎ ((f : OutFault) × (fault ≡ of_out f)
         × Makes B.tables B.is_honest B.is_open B.may_leave B.failures host.old host.new true
         (step_tables (B.tables host.old) (arrival_of event.now))
-        × (B.is_open host.new → WritesLine
+        × (B.is_honest host.new → B.is_open host.old → WritesLine
         (step_output (B.tables host.old) (arrival_of event.now))
         (K.sent output.old) (K.sent output.new) (Err f)))) }
     ensures which { IfErr result StopsEvents }

@@ -112,6 +112,8 @@ impl Book for Rows {
 
     ghost failures = { λ rows. 0 };
 
+    ghost honest = { λ rows is. is };
+
     fn limit(&mut self) -> Result<Limit, BookFault> {
         Limit::from_number(1).ok_or(BookFault::Memory)
     }

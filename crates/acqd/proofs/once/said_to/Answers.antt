@@ -9,13 +9,13 @@ use Rattle.acqd.proofs.once.said_to.Goals as goal
 
 pub returns-clause-said : goal.returns-clause-said
 returns-clause-said c =
-    c.in_ok-take.ensures.output tt
+    c.in_ok-take.ensures.output tt tt
     ∙ (λ i. step_output (c.requires i)
     (arrival_of_reading (c.in-Some.ensures.1 i) (reading_of (c.in_ok-from_slice.ensures i))))
 
 pub returns-clause-unchanged : goal.returns-clause-unchanged
 returns-clause-unchanged c =
-    c.take.ensures.tables.made (ap is_ok c.in_ok-take.was) tt
+    c.take.ensures.tables.made (ap is_ok c.in_ok-take.was) tt tt
     ∙ (λ i. step_tables (c.requires i)
     (arrival_of_reading (c.in-Some.ensures.1 i) (reading_of (c.in_ok-from_slice.ensures i))))
     ∙ frames_change_nothing widest_opening 946684800 c.args.message.now

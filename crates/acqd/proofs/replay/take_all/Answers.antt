@@ -23,10 +23,10 @@ loop-event-preserved g c =
         so.0 ++ o ∷ [],
         took_next g.B.Book.tables g.B.Book.is_honest g.B.Book.is_open g.B.Book.may_leave g.B.Book.failures
             c.args.host.now c.loop-event.host c.take_next.new.host c.args.events.now c.loop-event.event-index e
-            so.0 (so.0 ++ o ∷ []) (omega arith) c.event-item.is so.1 made (λ _. refl),
+            so.0 (so.0 ++ o ∷ []) (omega arith) c.event-item.is so.1 made (λ _ _. refl),
         λ h opened.
             let between = so.1.stays_open (made.was_honest h) opened in
-            c.in_ok-take_next.ensures.sent (made.stays_open refl h between)
+            c.in_ok-take_next.ensures.sent h between
             ∙ (ap (λ x. x ++ line_of o) (so.2 (made.was_honest h) opened)
             ∙ (append_assoc sent (flat_map line_of so.0) (line_of o)
             ∙ ap (λ x. sent ++ x) (sym (lines-push so.0 o)))),
@@ -45,7 +45,7 @@ returns-in_err-take_next-clause-stops g c = λ h opened.
     let sent = g.K.Sink.sent c.args.output.now in
     let so_far = λ (was : g.B.Book.is_honest c.loop-event.host).
     so.2 was opened
-    ∙ ap (λ x. sent ++ flat_map line_of x) (so.1.says (so.1.stays_open was opened)) in
+    ∙ ap (λ x. sent ++ flat_map line_of x) (so.1.says was opened) in
     let p = err_from_is_err_and c.from_residual.result c.from_residual.ensures.1 in
     rw (p.1, p.2) (⊎_elim
     (λ untaken.
@@ -58,7 +58,9 @@ returns-in_err-take_next-clause-stops g c = λ h opened.
           ∙ ap (λ x. sent ++ x) (sym (append-nil (lines t (take at events)))));
       in_hand = omega arith;
       next = subst (Reaches said at at []) (sym untaken.1) (reaches_untaken said at untaken.0);
-      leads = λ o. made.unmade refl o ∙ so.1.leads (made.was_open o);
+      leads = λ o.
+          let was = made.was_honest h in
+          made.unmade refl (so.1.stays_open was opened) o ∙ so.1.leads was opened;
     })
     (λ taken.
     let made = taken.2 in
@@ -66,10 +68,10 @@ returns-in_err-take_next-clause-stops g c = λ h opened.
     let between = so.1.stays_open was opened in
     let is = output_next t events at e
     (slice_get_read events (length events) at e refl (omega arith) c.event-item.is)
-    ∙ ap (λ u. Some (step_output u (arrival_of e))) (sym (so.1.leads between)) in
+    ∙ ap (λ u. Some (step_output u (arrival_of e))) (sym (so.1.leads was opened)) in
     let line = reaches_line said at (step_output (g.B.Book.tables c.loop-event.host) (arrival_of e)) is taken.0
     (g.K.Sink.sent c.loop-event.output) (g.K.Sink.sent c.take_next.new.output)
-    (taken.3 (made.stays_open refl h between)) in record {
+    (taken.3 h between) in record {
       taken = at + 1;
       written = at;
       part = line.0;
@@ -78,8 +80,8 @@ returns-in_err-take_next-clause-stops g c = λ h opened.
       in_hand = omega arith;
       next = subst (Reaches said (at + 1) at line.0) (sym taken.1) line.2;
       leads = λ o.
-          made.made refl o
-          ∙ (ap (λ u. step_tables u (arrival_of e)) (so.1.leads (made.was_open o))
+          made.made refl between o
+          ∙ (ap (λ u. step_tables u (arrival_of e)) (so.1.leads was opened)
           ∙ sym (after_next t events at e (omega arith) c.event-item.is));
     })
     (c.in_err-take_next.ensures.fault))

@@ -29,26 +29,25 @@ loop-at-preserved g c = record {
 }
 
 pub returns-in-Err-clause-fault_alone : goal.returns-in-Err-clause-fault_alone
-returns-in-Err-clause-fault_alone g c = λ o.
+returns-in-Err-clause-fault_alone g c = λ o end.
     let makes = c.in-Err.ensures.tables in
     let first = c.loop-at.invariant.took in
-    let between = makes.was_open o in
+    let before = makes.was_honest (g.met.B.Book.honest c.take_next.new.self end) in
     is_alone (g.B.Book.tables c.args.self.now) (g.B.Book.tables c.take_next.new.self)
     (take c.loop-at.at c.args.events.now)
     c.take_next.new.said.items
-    (c.in-Err.ensures.kept ∙ first.says between)
-    (makes.unmade refl o ∙ first.leads between)
+    (c.in-Err.ensures.kept ∙ first.says before o)
+    (makes.unmade refl (first.stays_open before o) end ∙ first.leads before o)
 
 pub returns-in-Err-clause-postings : goal.returns-in-Err-clause-postings
-returns-in-Err-clause-postings g c = λ o.
+returns-in-Err-clause-postings g c = λ o end.
     let makes = c.in-Err.ensures.tables in
     let first = c.loop-at.invariant.took in
-    let between = makes.was_open o in
+    let before = makes.was_honest (g.met.B.Book.honest c.take_next.new.self end) in
     keeps_postings (g.B.Book.tables c.args.self.now) (g.B.Book.tables c.take_next.new.self)
     (take c.loop-at.at c.args.events.now)
-    (subst (λ b. g.B.Book.is_open b → HasPast (g.B.Book.tables b)) c.self.view_is c.self.invariant
-    (first.was_open between))
-    (makes.unmade refl o ∙ first.leads between)
+    (subst (λ b. g.B.Book.is_open b → HasPast (g.B.Book.tables b)) c.self.view_is c.self.invariant o)
+    (makes.unmade refl (first.stays_open before o) end ∙ first.leads before o)
 
 pub returns-in-Err-clause-fault_stop : goal.returns-in-Err-clause-fault_stop
 returns-in-Err-clause-fault_stop g c =
@@ -63,37 +62,36 @@ returns-clause-alone g c = λ h o.
     let t = g.B.Book.tables c.args.self.now in
     let first = c.loop-at.invariant.took in
     is_alone t (g.B.Book.tables c.loop-at.self) all c.loop-at.said.items
-    (first.says (first.stays_open h o) ∙ ap (outputs t) whole)
-    (first.leads (first.stays_open h o) ∙ ap (tables_after t) whole)
+    (first.says h o ∙ ap (outputs t) whole) (first.leads h o ∙ ap (tables_after t) whole)
 
 pub returns-clause-postings : goal.returns-clause-postings
-returns-clause-postings g c = λ o.
+returns-clause-postings g c = λ o end.
     let all = c.args.events.now in
     let whole = take_all c.loop-at.at all c.loop-at-test.false in
     let t = g.B.Book.tables c.args.self.now in
     let first = c.loop-at.invariant.took in
     keeps_postings t (g.B.Book.tables c.loop-at.self) all
-    (subst (λ b. g.B.Book.is_open b → HasPast (g.B.Book.tables b)) c.self.view_is c.self.invariant (first.was_open o))
-    (first.leads o ∙ ap (tables_after t) whole)
+    (subst (λ b. g.B.Book.is_open b → HasPast (g.B.Book.tables b)) c.self.view_is c.self.invariant o)
+    (first.leads (g.met.B.Book.honest c.loop-at.self end) o ∙ ap (tables_after t) whole)
 
 pub returns-in-Err-clause-clearing : goal.returns-in-Err-clause-clearing
-returns-in-Err-clause-clearing g c = λ o.
+returns-in-Err-clause-clearing g c = λ o end.
     let makes = c.in-Err.ensures.tables in
     let first = c.loop-at.invariant.took in
-    let between = makes.was_open o in
+    let before = makes.was_honest (g.met.B.Book.honest c.take_next.new.self end) in
+    let between = first.stays_open before o in
     keeps_clearing (g.B.Book.tables c.args.self.now) (g.B.Book.tables c.take_next.new.self)
     (take c.loop-at.at c.args.events.now)
-    (subst (λ b. g.B.Book.is_open b → HasPast (g.B.Book.tables b)) c.self.view_is c.self.invariant
-    (first.was_open between))
-    (subst HasPast (sym (makes.unmade refl o)) (c.loop-at.invariant.past between))
-    (makes.unmade refl o ∙ first.leads between)
+    (subst (λ b. g.B.Book.is_open b → HasPast (g.B.Book.tables b)) c.self.view_is c.self.invariant o)
+    (subst HasPast (sym (makes.unmade refl between end)) (c.loop-at.invariant.past between))
+    (makes.unmade refl between end ∙ first.leads before o)
 
 pub returns-clause-clearing : goal.returns-clause-clearing
-returns-clause-clearing g c = λ o.
+returns-clause-clearing g c = λ o end.
     let all = c.args.events.now in
     let whole = take_all c.loop-at.at all c.loop-at-test.false in
     let t = g.B.Book.tables c.args.self.now in
     let first = c.loop-at.invariant.took in
     keeps_clearing t (g.B.Book.tables c.loop-at.self) all
-    (subst (λ b. g.B.Book.is_open b → HasPast (g.B.Book.tables b)) c.self.view_is c.self.invariant (first.was_open o))
-    (c.loop-at.invariant.past o) (first.leads o ∙ ap (tables_after t) whole)
+    (subst (λ b. g.B.Book.is_open b → HasPast (g.B.Book.tables b)) c.self.view_is c.self.invariant o)
+    (c.loop-at.invariant.past end) (first.leads (g.met.B.Book.honest c.loop-at.self end) o ∙ ap (tables_after t) whole)

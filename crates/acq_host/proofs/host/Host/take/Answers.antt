@@ -1,5 +1,5 @@
 -- an event of a book changes what fits, and its tables stay those of a book
-use Rattle.std.proofs.Common.{◌≡◌, refl, ◌∙◌, sym, ap, subst, rules}
+use Rattle.std.proofs.Common.{◌≡◌, ⊎_elim, refl, ◌∙◌, sym, ap, subst, rules}
 use Rattle.std.specs.Prelude.{true, false, is_ok, IfSome}
 use Rattle.acq_core.specs.Arrivals.{arrival_of}
 use Rattle.acq_core.specs.Tables.{after_any, step_output, step_tables}
@@ -38,7 +38,7 @@ returns-in_err-apply-clause-tables g c =
     (subst (λ b. Makes g.B.Book.tables g.B.Book.is_honest g.B.Book.is_open g.B.Book.may_leave g.B.Book.failures b
     c.apply.new.book false (step_tables (g.B.Book.tables b) (arrival_of c.args.event.now))) c.self.view_is
     (makes_after g.B.Book.tables g.B.Book.is_honest g.B.Book.is_open g.B.Book.may_leave g.B.Book.failures
-    c.self.inside.book c.decide.new.book c.apply.new.book _ _ _
+    g.met.B.Book.honest c.self.inside.book c.decide.new.book c.apply.new.book _ _ _
     (λ o i. after_any (looks.same o i) (c.in_ok-output.ensures.change o i)) looks c.in_err-apply.ensures.makes))
 
 pub invariant_of-self-2 : goal.invariant_of-self-2
@@ -46,21 +46,25 @@ invariant_of-self-2 g c = λ o.
     let e = c.args.event.now in
     let looks = c.in_ok-output.ensures.looks in
     let makes = c.in_ok-apply.ensures.makes in
-    let between = makes.was_open o in
-    let past = c.self.invariant (looks.was_open between) in
-    let t = g.B.Book.tables c.self.inside.book in (
+    let t = g.B.Book.tables c.self.inside.book in
+    let went_on : g.B.Book.is_open c.decide.new.book → HasPast (g.B.Book.tables c.apply.new.book) = λ between.
+    let past = c.self.invariant (looks.was_open between) in (
       past.0,
       subst (IsBook past.0)
-          (sym (makes.made refl o ∙ (λ i. after_any (looks.same between i) (c.in_ok-output.ensures.change between i))))
+          (sym (makes.made refl between o
+          ∙ (λ i. after_any (looks.same between i) (c.in_ok-output.ensures.change between i))))
           (books_go_on past.0 t e past.1 c.every_event.ensures),
-    )
+    ) in
+    ⊎_elim went_on (λ past. past) (makes.was_open o)
 
 pub returns-clause-past : goal.returns-clause-past
 returns-clause-past g c = invariant_of-self-2 g c
 
 pub returns-clause-output : goal.returns-clause-output
-returns-clause-output g c = λ o.
-    c.in_ok-output.ensures.output (c.in_ok-apply.ensures.makes.was_open o)
+returns-clause-output g c = λ h o.
+    let looks = c.in_ok-output.ensures.looks in
+    let was_open = subst g.B.Book.is_open (sym c.self.view_is) o in
+    c.in_ok-output.ensures.output (looks.stays_open refl (c.in_ok-apply.ensures.makes.was_honest h) was_open)
     ∙ ap (λ b. step_output (g.B.Book.tables b) (arrival_of c.args.event.now)) c.self.view_is
 
 pub returns-clause-tables : goal.returns-clause-tables
@@ -69,5 +73,5 @@ returns-clause-tables g c =
     subst (λ b. Makes g.B.Book.tables g.B.Book.is_honest g.B.Book.is_open g.B.Book.may_leave g.B.Book.failures b
     c.apply.new.book true (step_tables (g.B.Book.tables b) (arrival_of c.args.event.now))) c.self.view_is
     (makes_after g.B.Book.tables g.B.Book.is_honest g.B.Book.is_open g.B.Book.may_leave g.B.Book.failures
-    c.self.inside.book c.decide.new.book c.apply.new.book _ _ _
+    g.met.B.Book.honest c.self.inside.book c.decide.new.book c.apply.new.book _ _ _
     (λ o i. after_any (looks.same o i) (c.in_ok-output.ensures.change o i)) looks c.in_ok-apply.ensures.makes)
