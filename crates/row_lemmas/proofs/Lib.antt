@@ -22,3 +22,4 @@ pub mod OpenedStores
 pub mod UpsertsSucceed
 pub mod ListReads
 pub mod ListUpsertsSucceed
+pub mod BareQueries
