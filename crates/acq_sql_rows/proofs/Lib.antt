@@ -1,2 +1,3 @@
 pub mod SchemaLemmas
 pub mod TextLemmas
+pub mod TablesReadBack

@@ -4,7 +4,7 @@ use Rattle.std.specs.List.{AllByRecursion}
 use Rattle.iso_codec.specs.Message.{IsMessage}
 use Rattle.card_no.specs.declared.range.Range.{Range}
 use Rattle.sqlite_trees.specs.Tree.{IsAscending}
-use Rattle.sqlite_schema.specs.Rules.{Fits}
+use Rattle.sqlite_catalog.specs.Listing.{IsSound}
 use Rattle.sqlite.specs.Effect.{Database}
 use Rattle.row_lemmas.specs.Numbered.{numbered_from, rows_of}
 use Rattle.acq_core.specs.declared.request.Request.{Request}
@@ -25,8 +25,8 @@ AreRecorded = AllByRecursion (λ row. IsMessage row.reply)
 -- each table has the rows of its list, in the list's order
 pub record HoldsRows (db : Database) (t : Tables) (runs : List Running) : Type 0 where
   pub schema : db.schema ≡ book_schema
-  -- no key comes twice
-  pub fits : Fits book_schema db.trees
+  -- the trees list the schema and obey it, so an open finds it, and no key comes twice
+  pub sound : IsSound book_schema db.trees
   pub book : db.trees 0 ≡ numbered_from 1 (book_row t.limit t.day ∷ [])
   pub merchants : db.trees 1 ≡ rows_of merchant_row t.merchants
   pub terminals : db.trees 3 ≡ rows_of terminal_row t.terminals

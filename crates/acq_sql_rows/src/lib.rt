@@ -2,8 +2,9 @@
 //!
 //! `specs` has the tables and the texts that make them (`Schema.antt`), the row of each element of
 //! a list (`Rows.antt`), the running totals (`Tallies.antt`), what a database says of the host's
-//! tables (`Relation.antt`), and the texts of the writes with their meaning (`Texts.antt`,
-//! `Queries.antt`). The functions give the values that a row is written as.
+//! tables (`Relation.antt`), the tables that a database stands for (`ReadBack.antt`), and the texts
+//! of the writes with their meaning (`Texts.antt`, `Queries.antt`). The functions give the values
+//! that a row is written as.
 #![tactic(auto)]
 
 mod values;
