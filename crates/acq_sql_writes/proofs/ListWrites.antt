@@ -7,9 +7,10 @@ use Rattle.sqlite_schema.specs.declared.command.Command.TheVariants.{Insert, Upd
 use Rattle.sqlite_schema.specs.declared.command.Source.TheVariants.{Values}
 use Rattle.sqlite_rules.specs.Cast.{cast_row}
 use Rattle.sqlite.specs.declared.run.Mode.{Mode}
-use Rattle.sqlite.specs.Effect.{Database}
+use Rattle.sqlite.specs.Effect.{Database, IsDatabase}
 use Rattle.sqlite.specs.Does.{Tally as Noted, Does}
 use Rattle.row_lemmas.specs.Values.{number, number_or_null}
+use Rattle.row_lemmas.specs.Created.{IsBlank}
 use Rattle.row_lemmas.specs.Queries.{alone}
 use Rattle.row_lemmas.proofs.ColumnTests.{text_test, and_true, cast_int, cast_null, cast_number, cast_text}
 use Rattle.row_lemmas.proofs.QueryRows.{picked}
@@ -26,8 +27,9 @@ use Rattle.acq_core.specs.declared.request.Request.{Request}
 use Rattle.acq_core.specs.declared.status.Status.{Status}
 use Rattle.acq_core.specs.declared.posting.Posting.{Posting}
 use Rattle.acq_core.specs.declared.reconciliation.Reconciliation.{Reconciliation}
-use Rattle.acq_core.specs.Tables.{Tables, answered_row, followed_row}
+use Rattle.acq_core.specs.Tables.{Tables, Opening, new_tables, answered_row, followed_row}
 use Rattle.acq_sql_rows.specs.Schema.{book_schema}
+use Rattle.acq_sql_rows.specs.Schema as schema
 use Rattle.acq_sql_rows.specs.Tallies.{Running}
 use Rattle.acq_sql_rows.specs.Rows.{book_row, merchant_row, terminal_row, key_row, request_row, posting_row}
 use Rattle.acq_sql_rows.specs.Rows.{reconciliation_row, status_number, leg_number, bit_of}
@@ -125,8 +127,26 @@ laid_book : (limit id day : ℕ)
     → cast_row at.the_book (Int (pos id) ∷ book_row limit day) ≡ Int (pos id) ∷ book_row limit day
 laid_book limit id day = rw (cast_int (pos id), cast_int (pos 1), cast_int (pos limit), cast_int (pos day))
 
+laid_new_book : (limit day : ℕ) → cast_row at.the_book (Null ∷ book_row limit day) ≡ Null ∷ book_row limit day
+laid_new_book limit day = rw (cast_null, cast_int (pos 1), cast_int (pos limit), cast_int (pos day))
+
+-- INSERT of the book's row
+pub book_added : (limit : Option ℕ) (mode : Mode) (old new : Database) (text : List ℕ) (noted : Noted)
+    (opening : Opening) → IsBlank book_schema old → IsDatabase new
+    → Does limit mode (book_row opening.limit opening.first_day) old text None (Insert 0 (Values (new_row 3) 4))
+    (Ok (noted, new))
+    → HoldsRows new (new_tables opening) []
+unfolding book_schema schema.up_to_reconciliations schema.up_to_postings schema.up_to_requests schema.up_to_ranges schema.up_to_terminals schema.up_to_merchants schema.up_to_book
+book_added limit mode old new text noted opening blank sound does =
+    let row = book_row opening.limit opening.first_day in
+    let w = inserted book_schema 0 at.the_book at.book_placed (at.lone 0) limit mode old new blank.schema_is text
+    row noted (new_row 3) 4 does in
+    let added = numbered_added (λ (o : Opening). book_row o.limit o.first_day) book_schema mode.keys old.trees new.trees
+    at.the_book (Null ∷ row) [] opening blank.blank.0 (laid_new_book opening.limit opening.first_day) w.1 in
+    at.book_begun old new blank w.0 sound (at.others_of mode.keys old.trees new.trees _ w.1) opening added
+
 module _ (limit : Option ℕ) (mode : Mode) (old new : Database) (text : List ℕ) (noted : Noted) (t : Tables)
-    (runs : List Running) (has : HoldsRows old t runs) where
+    (runs : List Running) (has : HoldsRows old t runs) (sound : IsDatabase new) where
   -- ---- INSERT
 
   pub merchant_added : (m : Merchant)
@@ -137,7 +157,7 @@ module _ (limit : Option ℕ) (mode : Mode) (old new : Database) (text : List �
       (merchant_row m) noted (new_row 3) 4 does in
       let added = numbered_added merchant_row book_schema mode.keys old.trees new.trees at.the_merchants
       (Null ∷ merchant_row m) t.merchants m has.merchants (laid_merchant m) w.1 in
-      at.merchants_turned old new t runs has w.0 w.1.fits (at.others_of mode.keys old.trees new.trees _ w.1) _ added
+      at.merchants_turned old new t runs has w.0 sound (at.others_of mode.keys old.trees new.trees _ w.1) _ added
 
   pub terminal_added : (x : Terminal)
       → Does limit mode (terminal_row x) old text None (Insert 2 (Values (new_row 2) 3)) (Ok (noted, new))
@@ -147,7 +167,7 @@ module _ (limit : Option ℕ) (mode : Mode) (old new : Database) (text : List �
       (terminal_row x) noted (new_row 2) 3 does in
       let added = numbered_added terminal_row book_schema mode.keys old.trees new.trees at.the_terminals
       (Null ∷ terminal_row x) t.terminals x has.terminals (laid_terminal x) w.1 in
-      at.terminals_turned old new t runs has w.0 w.1.fits (at.others_of mode.keys old.trees new.trees _ w.1) _ added
+      at.terminals_turned old new t runs has w.0 sound (at.others_of mode.keys old.trees new.trees _ w.1) _ added
 
   pub request_added : (r : Request) → IsMessage r.reply
       → Does limit mode (request_row r) old text None (Insert 4 (Values (new_row 18) 19)) (Ok (noted, new))
@@ -157,7 +177,7 @@ module _ (limit : Option ℕ) (mode : Mode) (old new : Database) (text : List �
       (request_row r) noted (new_row 18) 19 does in
       let added = numbered_added request_row book_schema mode.keys old.trees new.trees at.the_requests
       (Null ∷ request_row r) t.requests r has.requests (laid_request r) w.1 in
-      at.requests_turned old new t runs has w.0 w.1.fits (at.others_of mode.keys old.trees new.trees _ w.1) _ added
+      at.requests_turned old new t runs has w.0 sound (at.others_of mode.keys old.trees new.trees _ w.1) _ added
       (recorded_more t.requests r has.recorded whole)
 
   pub posting_added : (n : ℕ) (p : Posting)
@@ -168,7 +188,7 @@ module _ (limit : Option ℕ) (mode : Mode) (old new : Database) (text : List �
       (posting_row (n, p)) noted (new_row 9) 10 does in
       let added = numbered_added posting_row book_schema mode.keys old.trees new.trees at.the_postings
       (Null ∷ posting_row (n, p)) t.postings (n, p) has.postings (laid_posting (n, p)) w.1 in
-      at.postings_turned old new t runs has w.0 w.1.fits (at.others_of mode.keys old.trees new.trees _ w.1) _ added
+      at.postings_turned old new t runs has w.0 sound (at.others_of mode.keys old.trees new.trees _ w.1) _ added
 
   pub reconciliation_added : (n : ℕ) (r : Reconciliation)
       → Does limit mode (reconciliation_row (n, r)) old text None (Insert 6 (Values (new_row 4) 5)) (Ok (noted, new))
@@ -178,7 +198,7 @@ module _ (limit : Option ℕ) (mode : Mode) (old new : Database) (text : List �
       has.schema text (reconciliation_row (n, r)) noted (new_row 4) 5 does in
       let added = numbered_added reconciliation_row book_schema mode.keys old.trees new.trees at.the_reconciliations
       (Null ∷ reconciliation_row (n, r)) t.reconciliations (n, r) has.reconciliations (laid_reconciliation (n, r)) w.1 in
-      at.reconciliations_turned old new t runs has w.0 w.1.fits (at.others_of mode.keys old.trees new.trees _ w.1) _ added
+      at.reconciliations_turned old new t runs has w.0 sound (at.others_of mode.keys old.trees new.trees _ w.1) _ added
 
   -- ---- UPDATE of the book's row
 
@@ -192,7 +212,7 @@ module _ (limit : Option ℕ) (mode : Mode) (old new : Database) (text : List �
       let set = numbered_updated (book_row t.limit) book_schema mode.keys old.trees new.trees at.the_book (t.day ∷ [])
       has.book [] (drop 1 set_day_query.project) params w.1.0 (w.1.1.answer Null)
       (λ d. true) (λ d. day) (λ id d here among. refl) (λ id d here among is. laid_book t.limit id day) w.1.2 in
-      at.book_turned old new t runs has w.0 w.1.2.fits (at.others_of mode.keys old.trees new.trees _ w.1.2) day set
+      at.book_turned old new t runs has w.0 sound (at.others_of mode.keys old.trees new.trees _ w.1.2) day set
 
   -- ---- UPDATE of the request with a key
 
@@ -223,7 +243,7 @@ module _ (limit : Option ℕ) (mode : Mode) (old new : Database) (text : List �
         let changed = numbered_updated request_row book_schema mode.keys old.trees new.trees at.the_requests t.requests
         has.requests key_is (drop 1 answer_query.project) params w.1.0 (w.1.1.answer Null)
         (λ x. same_key x.key key) u (λ id x here among. key_test more id x) (λ id x here among is. laid_number id (u x)) w.1.2 in
-        at.requests_turned old new t runs has w.0 w.1.2.fits (at.others_of mode.keys old.trees new.trees _ w.1.2) _ changed
+        at.requests_turned old new t runs has w.0 sound (at.others_of mode.keys old.trees new.trees _ w.1.2) _ changed
         (recorded_changed (λ x. same_key x.key key) u (λ row is. whole) t.requests has.recorded)
 
     pub request_followed : (status : Status)
@@ -238,5 +258,5 @@ module _ (limit : Option ℕ) (mode : Mode) (old new : Database) (text : List �
         let changed = numbered_updated request_row book_schema mode.keys old.trees new.trees at.the_requests t.requests
         has.requests key_is (drop 1 follow_query.project) params w.1.0 (w.1.1.answer Null)
         (λ x. same_key x.key key) u (λ id x here among. key_test more id x) (λ id x here among is. laid_number id (u x)) w.1.2 in
-        at.requests_turned old new t runs has w.0 w.1.2.fits (at.others_of mode.keys old.trees new.trees _ w.1.2) _ changed
+        at.requests_turned old new t runs has w.0 sound (at.others_of mode.keys old.trees new.trees _ w.1.2) _ changed
         (recorded_changed (λ x. same_key x.key key) u (λ row is. is) t.requests has.recorded)

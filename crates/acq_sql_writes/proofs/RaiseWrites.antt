@@ -12,7 +12,6 @@ use Rattle.sqlite_trees.specs.Tree.{rowid, put_row}
 use Rattle.sqlite_schema.specs.declared.command.Command.TheVariants.{InsertOr}
 use Rattle.sqlite_schema.specs.declared.command.Conflict.TheVariants.{Abort}
 use Rattle.sqlite_schema.specs.declared.command.Source.TheVariants.{Values}
-use Rattle.sqlite_schema.specs.Rules.{Fits}
 use Rattle.sqlite_rules.specs.Lists.{Has}
 use Rattle.sqlite_rules.specs.Calls.{ids_of}
 use Rattle.sqlite_rules.specs.Cast.{cast_row}
@@ -21,7 +20,7 @@ use Rattle.sqlite_rules.specs.declared.error.Rowids.TheVariants.{Chosen, Given}
 use Rattle.sqlite_rules.specs.Edit.{with_rowid, next_rowid, edit_of, Applies}
 use Rattle.sqlite_rules.proofs.ListLemmas.{all_has}
 use Rattle.sqlite.specs.declared.run.Mode.{Mode}
-use Rattle.sqlite.specs.Effect.{Database, Answers}
+use Rattle.sqlite.specs.Effect.{Database, IsDatabase, Answers}
 use Rattle.sqlite.specs.Rows.{shown}
 use Rattle.sqlite.specs.Does.{Tally as Noted, Does}
 use Rattle.row_lemmas.specs.Numbered.{numbered_from, rows_of}
@@ -128,7 +127,8 @@ module _ (merchant : List ℕ) (day : ℕ) (more : Tally) where
   one_hit new n (x ∷ xs) r s apart (inr later) (inr too) h k = one_hit new (suc n) xs r s apart.1 later too h k
 
   module _ (limit : Option ℕ) (mode : Mode) (old new : Database) (text : List ℕ) (noted : Noted) (t : Tables)
-      (runs : List Running) (has : HoldsRows old t runs) (room : FitsTally (plus (tally_in runs merchant day) more)) where
+      (runs : List Running) (has : HoldsRows old t runs) (room : FitsTally (plus (tally_in runs merchant day) more))
+      (sound : IsDatabase new) where
     abbrev rows : List Row
     rows = rows_of running_row runs
 
@@ -244,17 +244,17 @@ module _ (merchant : List ℕ) (day : ℕ) (more : Tally) where
         let conflict : Row → Type 0 = λ r. AreConflicts (Some (1 ∷ 2 ∷ [])) book_schema.indexes (bare at.the_running) (old.trees 13) r w.1.0 in
         go w.1.0 (subst conflict laid w.1.1) (subst (λ r. Lands r w.1.0) laid w.1.2) w.0
       where
-        whole : new.schema ≡ book_schema → Fits book_schema new.trees → at.Others old.trees new.trees 13
+        whole : new.schema ≡ book_schema → at.Others old.trees new.trees 13
             → new.trees 13 ≡ rows_of running_row (raised merchant day more runs)
             → HoldsRows new t (raised merchant day more runs)
-        whole schema_is fits rest all =
-            at.running_turned old new t runs has schema_is fits rest (raised merchant day more runs) all
+        whole schema_is rest all =
+            at.running_turned old new t runs has schema_is sound rest (raised merchant day more runs) all
             (raised_apart merchant day more runs has.apart)
 
         go : (found : List Row) → Meets found → Lands row found → new.schema ≡ book_schema
             → HoldsRows new t (raised merchant day more runs)
         go [] none applied schema_is =
-            whole schema_is applied.fits (at.others_of mode.keys old.trees new.trees _ applied)
+            whole schema_is (at.others_of mode.keys old.trees new.trees _ applied)
             (appended applied
             ∙ ap (λ o. rows_of running_row (raised_at runs merchant day more o)) (sym (absent none)))
         go (there ∷ others) conflict (answers, answer, applied) schema_is =
@@ -265,7 +265,7 @@ module _ (merchant : List ℕ) (day : ℕ) (more : Tally) where
             let id : rowid there ≡ Int (pos e.0) = ap rowid s.3 ∙ ap rowid e.3 in
             let answered = subst (λ v. Answers (record { schema = book_schema; trees = old.trees }) (alone raise_query)
             (running_row it ++ v ∷ shown (bare at.the_running) row) answers) id answer in
-            whole schema_is applied.fits (at.others_of mode.keys old.trees new.trees _ applied)
+            whole schema_is (at.others_of mode.keys old.trees new.trees _ applied)
             (changed e.0 e.1 e.2 passes held answers answered applied
             ∙ ap (λ o. rows_of running_row (raised_at runs merchant day more o))
             (sym (found_first merchant day more runs e.1 has.apart e.2 passes)))

@@ -19,7 +19,7 @@ use Rattle.sqlite_rules.specs.Cast.{cast_row}
 use Rattle.sqlite_rules.specs.declared.error.Rowids.TheVariants.{Chosen}
 use Rattle.sqlite_rules.specs.Edit.{is_taken, are_fresh, with_rowid}
 use Rattle.sqlite.specs.declared.run.Mode.{Mode}
-use Rattle.sqlite.specs.Effect.{Database}
+use Rattle.sqlite.specs.Effect.{Database, IsDatabase}
 use Rattle.sqlite.specs.Does.{Tally as Noted, Does}
 use Rattle.row_lemmas.specs.Values.{number}
 use Rattle.row_lemmas.specs.Queries.{alone}
@@ -113,7 +113,7 @@ abbrev pub range_params : Range → Row
 range_params r = number r.low ∷ number r.high ∷ Text r.issuer ∷ number r.hold_days ∷ []
 
 module _ (limit : Option ℕ) (mode : Mode) (old new : Database) (text : List ℕ) (noted : Noted) (t : Tables)
-    (runs : List Running) (has : HoldsRows old t runs) where
+    (runs : List Running) (has : HoldsRows old t runs) (sound : IsDatabase new) where
   pub range_added : (r : Range)
       → Does limit mode (range_params r) old text None (Insert 3 (Values new_range 5)) (Ok (noted, new))
       → HoldsRows new (with_added_range r t) runs
@@ -129,7 +129,7 @@ module _ (limit : Option ℕ) (mode : Mode) (old new : Database) (text : List �
       let free = free_of t.ranges r (subst (λ l. is_taken l (range_row r) ≡ false) has.ranges taken) in
       let added = w.1.rows ∙ ap (λ (row : Row). put_row row (old.trees 5)) laid ∙ ap (put_row (range_row r)) has.ranges
       ∙ range_put t.ranges r free in
-      at.ranges_turned old new t runs has w.0 w.1.fits (at.others_of mode.keys old.trees new.trees _ w.1) _ added
+      at.ranges_turned old new t runs has w.0 sound (at.others_of mode.keys old.trees new.trees _ w.1) _ added
       (still_rising t.ranges r has.rising free)
 
   pub range_dropped : (low high : ℕ)
@@ -145,5 +145,5 @@ module _ (limit : Option ℕ) (mode : Mode) (old new : Database) (text : List �
       w.1.0 (w.1.1.answer Null) w.1.2 in
       let left = gone ∙ ap (filter (λ r. not (p r))) has.ranges ∙ filter-map (λ r. not (p r)) range_row t.ranges
       ∙ (λ i. range_rows (filter (λ x. not (ends_test low high x i)) t.ranges)) in
-      at.ranges_turned old new t runs has w.0 w.1.2.fits (at.others_of mode.keys old.trees new.trees _ w.1.2) _ left
+      at.ranges_turned old new t runs has w.0 sound (at.others_of mode.keys old.trees new.trees _ w.1.2) _ left
       (ascending-filter (λ (a b : Range). a.low < b.low) (λ x. not (has_ends low high x)) t.ranges has.rising)

@@ -1,14 +1,15 @@
 -- The tables in the schema, and that a write of one leaves the others.
-use Rattle.std.proofs.Common.{◌≡◌, ◌≢◌, ℕ, List, [], ◌∷◌, map, slice_get, Some, refl, sym, ◌∙◌, arith}
+use Rattle.std.proofs.Common.{◌≡◌, ◌≢◌, ℕ, List, [], ◌∷◌, map, slice_get, Some, refl, sym, subst, ◌∙◌, arith}
 use Rattle.sqlite_value.specs.Order.{Row}
 use Rattle.sqlite_trees.specs.Tree.{Trees}
 use Rattle.sqlite_schema.specs.declared.schema.Table.{Table}
 use Rattle.sqlite_schema.specs.declared.schema.Keys.{Keys}
-use Rattle.sqlite_schema.specs.Rules.{Fits}
+use Rattle.sqlite_catalog.specs.Listing.{IsSound}
 use Rattle.sqlite_rules.specs.Action.{works}
 use Rattle.sqlite_rules.specs.Edit.{Edit, Applies}
-use Rattle.sqlite.specs.Effect.{Database}
+use Rattle.sqlite.specs.Effect.{Database, IsDatabase}
 use Rattle.row_lemmas.specs.Numbered.{numbered_from, rows_of}
+use Rattle.row_lemmas.specs.Created.{IsBlank}
 use Rattle.row_lemmas.proofs.StatementEffects.{bare}
 use Rattle.card_no.specs.declared.range.Range.{Range}
 use Rattle.acq_core.specs.declared.merchant.Merchant.{Merchant}
@@ -16,7 +17,7 @@ use Rattle.acq_core.specs.declared.terminal.Terminal.{Terminal}
 use Rattle.acq_core.specs.declared.request.Request.{Request}
 use Rattle.acq_core.specs.declared.posting.Posting.{Posting}
 use Rattle.acq_core.specs.declared.reconciliation.Reconciliation.{Reconciliation}
-use Rattle.acq_core.specs.Tables.{Tables}
+use Rattle.acq_core.specs.Tables.{Tables, Opening, new_tables}
 use Rattle.acq_sql_rows.specs.Schema.{book_schema}
 use Rattle.acq_sql_rows.specs.Schema as schema
 use Rattle.acq_sql_rows.specs.Tallies.{Running, AreApart}
@@ -116,8 +117,35 @@ others_of keys db next edit applied =
       running = λ other. all.1.1.1.1.1.1.1.0 (λ e. other (sym e));
     }
 
+same_schema : (db : Database) → db.schema ≡ book_schema → IsDatabase db → IsSound book_schema db.trees
+same_schema db is sound = subst (λ s. IsSound s db.trees) is sound
+
+-- the book's row, and no other
+pub book_begun : (db next : Database) → IsBlank book_schema db → next.schema ≡ book_schema
+    → IsDatabase next → Others db.trees next.trees 0 → (opening : Opening)
+    → next.trees 0 ≡ numbered_from 1 (book_row opening.limit opening.first_day ∷ [])
+    → HoldsRows next (new_tables opening) []
+unfolding book_schema schema.up_to_reconciliations schema.up_to_postings schema.up_to_requests schema.up_to_ranges schema.up_to_terminals schema.up_to_merchants schema.up_to_book
+book_begun db next none schema_is sound rest opening now =
+    let blank = none.blank in
+    record {
+      schema = schema_is;
+      sound = same_schema next schema_is sound;
+      book = now;
+      merchants = rest.merchants (λ e. omega (arith, e)) ∙ blank.1.0;
+      terminals = rest.terminals (λ e. omega (arith, e)) ∙ blank.1.1.0;
+      ranges = rest.ranges (λ e. omega (arith, e)) ∙ blank.1.1.1.0;
+      rising = tt;
+      requests = rest.requests (λ e. omega (arith, e)) ∙ blank.1.1.1.1.0;
+      recorded = tt;
+      postings = rest.postings (λ e. omega (arith, e)) ∙ blank.1.1.1.1.1.0;
+      reconciliations = rest.reconciliations (λ e. omega (arith, e)) ∙ blank.1.1.1.1.1.1.0;
+      running = rest.running (λ e. omega (arith, e)) ∙ blank.1.1.1.1.1.1.1.0;
+      apart = tt;
+    }
+
 module _ (db next : Database) (t : Tables) (runs : List Running) (has : HoldsRows db t runs)
-    (schema_is : next.schema ≡ book_schema) (fits : Fits book_schema next.trees) where
+    (schema_is : next.schema ≡ book_schema) (sound : IsDatabase next) where
   -- another day
   pub book_turned : Others db.trees next.trees 0 → (day : ℕ)
       → next.trees 0 ≡ numbered_from 1 (book_row t.limit day ∷ [])
@@ -125,7 +153,7 @@ module _ (db next : Database) (t : Tables) (runs : List Running) (has : HoldsRow
   book_turned rest day now =
       record {
         schema = schema_is;
-        fits = fits;
+        sound = same_schema next schema_is sound;
         book = now;
         merchants = rest.merchants (λ e. omega (arith, e)) ∙ has.merchants;
         terminals = rest.terminals (λ e. omega (arith, e)) ∙ has.terminals;
@@ -145,7 +173,7 @@ module _ (db next : Database) (t : Tables) (runs : List Running) (has : HoldsRow
   merchants_turned rest rows now =
       record {
         schema = schema_is;
-        fits = fits;
+        sound = same_schema next schema_is sound;
         book = rest.book (λ e. omega (arith, e)) ∙ has.book;
         merchants = now;
         terminals = rest.terminals (λ e. omega (arith, e)) ∙ has.terminals;
@@ -165,7 +193,7 @@ module _ (db next : Database) (t : Tables) (runs : List Running) (has : HoldsRow
   terminals_turned rest rows now =
       record {
         schema = schema_is;
-        fits = fits;
+        sound = same_schema next schema_is sound;
         book = rest.book (λ e. omega (arith, e)) ∙ has.book;
         merchants = rest.merchants (λ e. omega (arith, e)) ∙ has.merchants;
         terminals = now;
@@ -185,7 +213,7 @@ module _ (db next : Database) (t : Tables) (runs : List Running) (has : HoldsRow
   ranges_turned rest rows now then =
       record {
         schema = schema_is;
-        fits = fits;
+        sound = same_schema next schema_is sound;
         book = rest.book (λ e. omega (arith, e)) ∙ has.book;
         merchants = rest.merchants (λ e. omega (arith, e)) ∙ has.merchants;
         terminals = rest.terminals (λ e. omega (arith, e)) ∙ has.terminals;
@@ -205,7 +233,7 @@ module _ (db next : Database) (t : Tables) (runs : List Running) (has : HoldsRow
   requests_turned rest rows now then =
       record {
         schema = schema_is;
-        fits = fits;
+        sound = same_schema next schema_is sound;
         book = rest.book (λ e. omega (arith, e)) ∙ has.book;
         merchants = rest.merchants (λ e. omega (arith, e)) ∙ has.merchants;
         terminals = rest.terminals (λ e. omega (arith, e)) ∙ has.terminals;
@@ -225,7 +253,7 @@ module _ (db next : Database) (t : Tables) (runs : List Running) (has : HoldsRow
   postings_turned rest rows now =
       record {
         schema = schema_is;
-        fits = fits;
+        sound = same_schema next schema_is sound;
         book = rest.book (λ e. omega (arith, e)) ∙ has.book;
         merchants = rest.merchants (λ e. omega (arith, e)) ∙ has.merchants;
         terminals = rest.terminals (λ e. omega (arith, e)) ∙ has.terminals;
@@ -245,7 +273,7 @@ module _ (db next : Database) (t : Tables) (runs : List Running) (has : HoldsRow
   reconciliations_turned rest rows now =
       record {
         schema = schema_is;
-        fits = fits;
+        sound = same_schema next schema_is sound;
         book = rest.book (λ e. omega (arith, e)) ∙ has.book;
         merchants = rest.merchants (λ e. omega (arith, e)) ∙ has.merchants;
         terminals = rest.terminals (λ e. omega (arith, e)) ∙ has.terminals;
@@ -265,7 +293,7 @@ module _ (db next : Database) (t : Tables) (runs : List Running) (has : HoldsRow
   running_turned rest rows now then =
       record {
         schema = schema_is;
-        fits = fits;
+        sound = same_schema next schema_is sound;
         book = rest.book (λ e. omega (arith, e)) ∙ has.book;
         merchants = rest.merchants (λ e. omega (arith, e)) ∙ has.merchants;
         terminals = rest.terminals (λ e. omega (arith, e)) ∙ has.terminals;

@@ -3,6 +3,7 @@ use Rattle.std.specs.Prelude.{ℕ, ◌<◌, ◌^◌, true, List, [], ◌∷◌, 
 use Rattle.std.specs.Prelude.{IsTrue}
 use Rattle.sqlite.specs.declared.error.Error.{Error}
 use Rattle.sqlite.specs.State.{State, HasCleanDisk, KeepsCommit, Shows, Survives}
+use Rattle.row_lemmas.specs.Created.{IsBlank}
 use Rattle.iso_codec.specs.Message.{IsoMessage}
 use Rattle.card_no.specs.declared.range.Range.{Range}
 use Rattle.day_totals.specs.Totals.{DayTotals}
@@ -14,7 +15,9 @@ use Rattle.acq_core.specs.declared.status.Status.{Status}
 use Rattle.acq_core.specs.declared.posting.Posting.{Posting}
 use Rattle.acq_core.specs.declared.reconciliation.Reconciliation.{Reconciliation}
 use Rattle.acq_core.specs.declared.change.Change.TheVariants as change
-use Rattle.acq_core.specs.Tables.{Tables, after, with_changed, answered_row, followed_row}
+use Rattle.acq_core.specs.Tables.{Tables, Opening, new_tables, after, with_changed}
+use Rattle.acq_core.specs.Tables.{answered_row, followed_row}
+use Rattle.acq_sql_rows.specs.Schema.{book_schema}
 use Rattle.acq_sql_rows.specs.Tallies.{Tally, Running, FitsTally, plus, tally_in, raised}
 use Rattle.acq_sql_rows.specs.Relation.{HoldsRows}
 
@@ -33,8 +36,14 @@ Raises old new result merchant day more =
     → HoldsRows old.now t runs → FitsTally (plus (tally_in runs merchant day) more)
     → OnOk result (HoldsRows new.now t (raised merchant day more runs))
 
+-- a write that succeeded begins a book, where the tables had no rows
+abbrev pub BeginsBook : State → State → Result ℕ Error → Opening → Type 0
+BeginsBook old new result opening =
+    HasCleanDisk new → IsTrue old.in_transaction → IsBlank book_schema old.now
+    → OnOk result (HoldsRows new.now (new_tables opening) [])
+
 -- a write that succeeded leaves its transaction open, and shows what it made
-abbrev pub StaysInside : State → State → Result ℕ Error → Type 0
+abbrev pub StaysInside : {T : Type 0} → State → State → Result T Error → Type 0
 StaysInside old new result =
     HasCleanDisk new → IsTrue old.in_transaction
     → OnOk result (Shows old new new.now old.committed true)
