@@ -1,3 +1,3 @@
 pub mod ListTallies
-pub mod Commits
 pub mod Room
+pub mod Commits

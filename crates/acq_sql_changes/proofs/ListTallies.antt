@@ -1,7 +1,7 @@
 -- What a merchant's day comes to when a row comes, and that the running totals stay those of the
 -- lists.
 use Rattle.std.proofs.Common.{◌≡◌, ◌+◌, ◌&&◌, ◌==◌, ℕ, Bool, true, false, cond, List, [], ◌∷◌, ◌++◌}
-use Rattle.std.proofs.Common.{if◌then◌else◌, refl, sym, ap, ◌∙◌, arith}
+use Rattle.std.proofs.Common.{if◌then◌else◌, refl, sym, ap, ap₂, ◌∙◌, arith}
 use Rattle.std.specs.Str.{bytes_eq}
 use Rattle.day_totals.specs.declared.leg.Leg.{Leg}
 use Rattle.day_totals.specs.declared.leg.Leg.TheVariants.{Credit, CreditReversal, Debit, DebitReversal}
@@ -17,9 +17,10 @@ use Rattle.acq_book.specs.declared.lists.merchant_day.MerchantDay.{MerchantDay}
 use Rattle.acq_book.specs.Sums.{sums_in, with_one}
 use Rattle.acq_book.proofs.Days.{sums-push}
 use Rattle.acq_book.proofs.Counting.{count-filter-push, count-filter-map}
-use Rattle.acq_sql_rows.specs.Tallies.{Tally, Running, Tallies, no_tally, plus, leg_plus, tally_of, raised, request_tally}
-use Rattle.acq_sql_rows.specs.Tallies.{posting_tally}
-use Rattle.acq_sql_writes.specs.Written.{with_request, with_posting}
+use Rattle.acq_sql_rows.specs.Tallies.{Tally, Running, Tallies, no_tally, plus, leg_plus, tally_of, raised}
+use Rattle.acq_sql_rows.specs.Tallies.{request_tally, posting_tally}
+use Rattle.acq_book.specs.Fits.{IsPostedBy}
+use Rattle.acq_sql_writes.specs.Written.{with_request, with_posting, tally_from}
 use Rattle.acq_sql_writes.proofs.RunningTotals.{is_key, tally_raised}
 
 no_more : (n : ℕ) → n + 0 ≡ n
@@ -31,7 +32,8 @@ none_more a = λ i. record { count = no_more a.count i; amount = no_more a.amoun
 none_first : (n : ℕ) → 0 + n ≡ n
 none_first n = omega arith
 
-one_more : (a : LegTotal) (amount : ℕ) → leg_plus a (with_amount (record { count = 0; amount = 0 }) amount) ≡ with_amount a amount
+one_more : (a : LegTotal) (amount : ℕ)
+    → leg_plus a (with_amount (record { count = 0; amount = 0 }) amount) ≡ with_amount a amount
 one_more a amount = λ i. record { count = a.count + 1; amount = a.amount + none_first amount i }
 
 -- ---- a posting
@@ -149,20 +151,57 @@ module _ (t : Tables) (r : Request) (m : List ℕ) (d : ℕ) where
       split true false false = refl
       split false b c = refl
 
+-- ---- a request and a posting
+
+-- so many messages that count, and this posting
+abbrev pub request_and_posting_tally : Request → Posting → Tally
+request_and_posting_tally r p = tally_from (request_tally r).used (posting_tally p).totals
+
+plus_request_and_posting : (a : Tally) (r : Request) (p : Posting)
+    → plus (plus a (request_tally r)) (posting_tally p) ≡ plus a (request_and_posting_tally r p)
+plus_request_and_posting a r p = λ i. record {
+  used = no_more (a.used + (request_tally r).used) i;
+  totals =
+      record {
+        credits = leg_plus (none_more a.totals.credits i) (posting_tally p).totals.credits;
+        credit_reversals = leg_plus (none_more a.totals.credit_reversals i) (posting_tally p).totals.credit_reversals;
+        debits = leg_plus (none_more a.totals.debits i) (posting_tally p).totals.debits;
+        debit_reversals = leg_plus (none_more a.totals.debit_reversals i) (posting_tally p).totals.debit_reversals;
+      };
+}
+
+-- what a request and a posting to its own merchant and day make of a day
+module _ (t : Tables) (n : ℕ) (r : Request) (p : Posting) (own : IsPostedBy r p) (m : List ℕ) (d : ℕ) where
+  abbrev is_own : Bool
+  is_own = is_key r.key.merchant r.day m d
+
+  pub tally_followed : tally_of (with_posting n p (with_request r t)) m d
+      ≡ cond is_own (plus (tally_of t m d) (request_and_posting_tally r p)) (tally_of t m d)
+  tally_followed =
+      tally_posted (with_request r t) n p m d
+      ∙ ap₂ (λ x y. with_its x y) (ap₂ (λ x y. is_key x y m d) own.merchant own.day) (tally_requested t r m d)
+      ∙ split is_own
+    where
+      with_its : Bool → Tally → Tally
+      with_its b x = cond b (plus x (posting_tally p)) x
+
+      split : (b : Bool) → with_its b (cond b (plus (tally_of t m d) (request_tally r)) (tally_of t m d))
+          ≡ cond b (plus (tally_of t m d) (request_and_posting_tally r p)) (tally_of t m d)
+      split true = plus_request_and_posting (tally_of t m d) r p
+      split false = refl
+
 -- ---- the running totals stay those of the lists
 
-pub posting_tallied : (t : Tables) (runs : List Running) (n : ℕ) (p : Posting) → Tallies runs t
-    → Tallies (raised p.merchant p.day (posting_tally p) runs) (with_posting n p t)
-posting_tallied t runs n p h m d =
-    tally_raised p.merchant p.day (posting_tally p) m d runs
-    ∙ ap (λ x. cond (is_key p.merchant p.day m d) (plus x (posting_tally p)) x) (h m d) ∙ sym (tally_posted t n p m d)
+-- the later tables come to so much more on the merchant's day, and to the same on the others
+abbrev pub ComesToMore : Tables → Tables → List ℕ → ℕ → Tally → Type 0
+ComesToMore t u merchant day more =
+    (m : List ℕ) (d : ℕ) → tally_of u m d ≡ cond (is_key merchant day m d) (plus (tally_of t m d) more) (tally_of t m d)
 
-pub request_tallied : (t : Tables) (runs : List Running) (r : Request) → Tallies runs t
-    → Tallies (raised r.key.merchant r.day (request_tally r) runs) (with_request r t)
-request_tallied t runs r h m d =
-    tally_raised r.key.merchant r.day (request_tally r) m d runs
-    ∙ ap (λ x. cond (is_key r.key.merchant r.day m d) (plus x (request_tally r)) x) (h m d)
-    ∙ sym (tally_requested t r m d)
+pub more_tallied : (t u : Tables) (runs : List Running) (merchant : List ℕ) (day : ℕ) (more : Tally)
+    → ComesToMore t u merchant day more → Tallies runs t → Tallies (raised merchant day more runs) u
+more_tallied t u runs merchant day more come h m d =
+    tally_raised merchant day more m d runs
+    ∙ ap (λ x. cond (is_key merchant day m d) (plus x more) x) (h m d) ∙ sym (come m d)
 
 -- a change of a request that leaves its key, its day and whether it counts
 abbrev pub LeavesDay : (Request → Request) → Type 0
@@ -184,6 +223,13 @@ changed_tally t of f same m d =
     kept p stays row =
         elim (same_key row.key of) as (λ b. p (if b then f row else row) ≡ p row) [ true ↦ stays row | false ↦ refl ]
 
-pub changed_tallied : (t : Tables) (runs : List Running) (of : RequestKey) (f : Request → Request) → LeavesDay f
-    → Tallies runs t → Tallies runs (record t { requests = with_changed of f t.requests })
-changed_tallied t runs of f same h m d = h m d ∙ sym (changed_tally t of f same m d)
+-- no day comes to anything else
+abbrev pub LeavesTallies : (Tables → Tables) → Type 0
+LeavesTallies changed = (t : Tables) (m : List ℕ) (d : ℕ) → tally_of (changed t) m d ≡ tally_of t m d
+
+-- where a first change leaves the tallies
+pub comes_after : (t s u : Tables) (merchant : List ℕ) (day : ℕ) (more : Tally)
+    → ((m : List ℕ) (d : ℕ) → tally_of s m d ≡ tally_of t m d) → ComesToMore s u merchant day more
+    → ComesToMore t u merchant day more
+comes_after t s u merchant day more same come m d =
+    come m d ∙ ap (λ a. cond (is_key merchant day m d) (plus a more) a) (same m d)

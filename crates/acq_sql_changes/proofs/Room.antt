@@ -1,21 +1,27 @@
 -- A day that has room for a row stays within its columns.
 use Rattle.std.proofs.Common.{◌≡◌, ◌+◌, ◌<◌, ◌^◌, ℕ, nat_le, Bool, true, false, cond, List}
-use Rattle.std.proofs.Common.{if◌then◌else◌, refl, sym, ap₂, subst, arith}
+use Rattle.std.proofs.Common.{if◌then◌else◌, refl, sym, ap, ap₂, subst, arith}
 use Rattle.std.proofs.lemmas.Bool.{and_parts}
 use Rattle.std.proofs.lemmas.Bool.Decides.{nat_tests}
 use Rattle.day_totals.specs.declared.leg_total.LegTotal.{LegTotal}
 use Rattle.day_totals.specs.Totals.{DayTotals, IsWithinLimits, with_leg_amount}
+use Rattle.acq_message.specs.declared.request_key.RequestKey.{RequestKey}
 use Rattle.acq_core.specs.Numbers.{is_used_count}
 use Rattle.acq_core.specs.declared.posting.Posting.{Posting}
 use Rattle.acq_core.specs.declared.request.Request.{Request}
-use Rattle.acq_core.specs.Tables.{Tables}
+use Rattle.acq_core.specs.Tables.{Tables, with_changed}
 use Rattle.acq_book.specs.Lookups.{used_at, totals_at}
 use Rattle.acq_sql_rows.specs.Tallies.{Tally, FitsTally, IsShortLeg, plus, leg_plus, tally_of, request_tally}
 use Rattle.acq_sql_rows.specs.Tallies.{posting_tally}
 use Rattle.acq_sql_writes.specs.Written.{with_request, with_posting}
 use Rattle.acq_sql_writes.proofs.RunningTotals.{is_key, bytes_same, number_same}
 use Rattle.acq_sql_changes.specs.Changed.{HasRoomFor}
-use Rattle.acq_sql_changes.proofs.ListTallies.{tally_requested, tally_posted, totals_plus, none_more}
+use Rattle.acq_sql_changes.proofs.ListTallies.{LeavesDay, tally_requested, tally_posted, totals_plus, none_more}
+use Rattle.acq_sql_changes.proofs.ListTallies.{changed_tally}
+
+-- each day's columns can keep what it comes to
+abbrev pub HasShortDays : Tables → Type 0
+HasShortDays t = (m : List ℕ) (d : ℕ) → FitsTally (tally_of t m d)
 
 used_low : (n : ℕ) → nat_le (1 + n) 999999 ≡ true → n + 1 < 2 ^ 63
 used_low n h = grind (arith, nat_tests, h)
@@ -40,8 +46,7 @@ request_fits t r a fits room =
     go true room = used_low a.used (room refl)
     go false room = omega (arith, fits.used)
 
-pub request_short : (t : Tables) (r : Request) → ((m : List ℕ) (d : ℕ) → FitsTally (tally_of t m d)) → HasRoomFor r t
-    → (m : List ℕ) (d : ℕ) → FitsTally (tally_of (with_request r t) m d)
+pub request_short : (t : Tables) (r : Request) → HasShortDays t → HasRoomFor r t → HasShortDays (with_request r t)
 request_short t r short room m d =
     subst FitsTally (sym (tally_requested t r m d)) (go (is_key r.key.merchant r.day m d) refl)
   where
@@ -73,9 +78,8 @@ posting_fits p a fits room =
     subst FitsTally (sym (totals_plus a p.leg p.amount))
     (limits_short a.used (with_leg_amount a.totals p.leg p.amount) fits.used room)
 
-pub posting_short : (t : Tables) (n : ℕ) (p : Posting) → ((m : List ℕ) (d : ℕ) → FitsTally (tally_of t m d))
-    → IsWithinLimits (with_leg_amount (totals_at t p.merchant p.day) p.leg p.amount)
-    → (m : List ℕ) (d : ℕ) → FitsTally (tally_of (with_posting n p t) m d)
+pub posting_short : (t : Tables) (n : ℕ) (p : Posting) → HasShortDays t
+    → IsWithinLimits (with_leg_amount (totals_at t p.merchant p.day) p.leg p.amount) → HasShortDays (with_posting n p t)
 posting_short t n p short room m d =
     subst FitsTally (sym (tally_posted t n p m d)) (go (is_key p.merchant p.day m d) refl)
   where
@@ -87,3 +91,15 @@ posting_short t n p short room m d =
         let same = ap₂ (λ x y. totals_at t x y) (bytes_same p.merchant m parts.0) (number_same p.day d parts.1) in
         posting_fits p (tally_of t m d) (short m d)
         (subst (λ x. IsWithinLimits (with_leg_amount x p.leg p.amount)) same room)
+
+-- ---- a change of a request that leaves its day
+
+module _ (t : Tables) (of : RequestKey) (f : Request → Request) (same : LeavesDay f) where
+  pub changed_short : HasShortDays t → HasShortDays (record t { requests = with_changed of f t.requests })
+  changed_short short m d = subst FitsTally (sym (changed_tally t of f same m d)) (short m d)
+
+  pub changed_room : (r : Request) → HasRoomFor r t
+      → HasRoomFor r (record t { requests = with_changed of f t.requests })
+  changed_room r room counts =
+      subst (λ n. is_used_count (1 + n) ≡ true)
+      (sym (ap (λ (a : Tally). a.used) (changed_tally t of f same r.key.merchant r.day))) (room counts)

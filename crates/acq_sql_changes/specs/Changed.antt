@@ -6,18 +6,20 @@ use Rattle.sqlite_trees.specs.Tree.{Trees}
 use Rattle.acq_core.specs.declared.request.Request.{Request}
 use Rattle.acq_core.specs.declared.status.Status.{Status}
 use Rattle.acq_core.specs.declared.posting.Posting.{Posting}
+use Rattle.acq_core.specs.declared.reconciliation.Reconciliation.{Reconciliation}
 use Rattle.acq_core.specs.declared.change.Change.TheVariants as change
 use Rattle.acq_message.specs.declared.request_key.RequestKey.{RequestKey}
 use Rattle.iso_codec.specs.Message.{IsoMessage}
 use Rattle.acq_core.specs.Numbers.{is_used_count}
-use Rattle.acq_core.specs.Tables.{Tables, after, postings_before}
+use Rattle.acq_core.specs.Tables.{Tables, after, postings_before, reconciliations_before}
 use Rattle.acq_book.specs.Lookups.{used_at}
-use Rattle.acq_book.specs.Fits.{HasRoom}
+use Rattle.acq_book.specs.Fits.{HasRoom, IsPostedBy}
 use Rattle.acq_sql_rows.specs.Schema.{book_schema}
 use Rattle.acq_sql_rows.specs.Relation.{Holds}
 
--- the connection stands between two transactions, and its database holds these tables
+-- the connection is open and stands between two transactions, and its database holds these tables
 pub record IsAt (s : State) (t : Tables) : Type 0 where
+  pub is_open : IsTrue s.is_open
   pub settled : s.in_transaction ≡ false
   pub same : s.now ≡ s.committed
   pub holds : Holds s.now t
@@ -39,7 +41,18 @@ LeavesTables old new result =
 -- a stop leaves what it might before, or the tables with the whole change
 abbrev pub StopsWithin : State → State → (Tables → Tables) → Type 0
 StopsWithin old new changed =
-    (t : Tables) → IsAt old t → Survives old new (HoldsAfter (changed t))
+    Survives old new (λ trees. (t : Tables) → IsAt old t → HoldsAfter (changed t) trees)
+
+-- of tables of which this is so, a change that succeeded leads to these
+abbrev pub LeadsToWhere : {T : Type 0} →
+    State → State → Result T Error → (Tables → Type 0) → (Tables → Tables) → Type 0
+LeadsToWhere old new result fits changed =
+    HasCleanDisk new → (t : Tables) → IsAt old t → fits t → OnOk result (IsAt new (changed t))
+
+-- of such tables, a stop leaves what it might before, or the tables with the whole change
+abbrev pub StopsWithinWhere : State → State → (Tables → Type 0) → (Tables → Tables) → Type 0
+StopsWithinWhere old new fits changed =
+    Survives old new (λ trees. (t : Tables) → IsAt old t → fits t → HoldsAfter (changed t) trees)
 
 -- ---- a request that counts against its day
 
@@ -47,17 +60,6 @@ StopsWithin old new changed =
 abbrev pub HasRoomFor : Request → Tables → Type 0
 HasRoomFor row t =
     row.admitted ≡ true → is_used_count (1 + used_at t row.key.merchant row.day) ≡ true
-
--- with room for the row, a change that succeeded leads to these tables
-abbrev pub LeadsToWhere : {T : Type 0} →
-    State → State → Result T Error → (Tables → Type 0) → (Tables → Tables) → Type 0
-LeadsToWhere old new result fits changed =
-    HasCleanDisk new → (t : Tables) → IsAt old t → fits t → OnOk result (IsAt new (changed t))
-
--- with room for the row, a stop leaves what it might before, or the tables with the whole change
-abbrev pub StopsWithinWhere : State → State → (Tables → Type 0) → (Tables → Tables) → Type 0
-StopsWithinWhere old new fits changed =
-    (t : Tables) → IsAt old t → fits t → Survives old new (HoldsAfter (changed t))
 
 -- ---- a posting beside an answer
 
@@ -71,3 +73,26 @@ with_whole_answer key status reply hold_end posting t =
 abbrev pub HasRoomToPost : ℕ → Posting → Tables → Type 0
 HasRoomToPost number p t =
     HasRoom t (Some p) × (number ≡ postings_before t.postings p + 1)
+
+-- ---- a request that follows another
+
+-- the tables after a completion or a reversal, with the posting that it makes, if any
+abbrev pub with_follow :
+    Request → RequestKey → Status → Option Posting → Tables → Tables
+with_follow row original status posting t =
+    after t (change.Follow row original status posting)
+
+-- the day has room for the row, and for a posting to the same merchant and day, which gets its next
+-- number
+abbrev pub HasRoomToFollow : Request → ℕ → Posting → Tables → Type 0
+HasRoomToFollow row number p t = HasRoomFor row t × HasRoomToPost number p t × IsPostedBy row p
+
+-- ---- a request that reconciles
+
+abbrev pub with_reconciled : Request → Reconciliation → Tables → Tables
+with_reconciled row r t = after t (change.Reconciled row r)
+
+-- the day has room for the row, and the number is the reconciliation's next of its merchant and day
+abbrev pub HasRoomToReconcile : Request → ℕ → Reconciliation → Tables → Type 0
+HasRoomToReconcile row number r t =
+    HasRoomFor row t × (number ≡ reconciliations_before t.reconciliations r + 1)

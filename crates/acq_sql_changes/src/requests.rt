@@ -1,14 +1,14 @@
 //! Requests that are recorded with nothing beside them.
 
-ghost use Rattle.std.specs.Prelude.{◌≡◌, ◌≤◌, false};
+ghost use Rattle.std.specs.Prelude.{◌≡◌, false};
 ghost use Rattle.sqlite.specs.Held.{state};
 ghost use Rattle.iso_codec.specs.Message.{IsMessage};
 ghost use Rattle.iso_codec.specs.Reading.{spelling};
-ghost use Rattle.acq_sql_rows.specs.Tallies.{request_tally};
 ghost use Rattle.acq_sql_writes.specs.Written.{with_request, IsShortEnd};
 ghost use Rattle.acq_sql_changes.specs.Changed.{LeadsToWhere, LeavesTables, StopsWithinWhere};
 ghost use Rattle.acq_sql_changes.specs.Changed.{HasRoomFor};
 
+use crate::tallies::used_by;
 use acq_core::Request;
 use acq_sql_writes::{add_request, raise};
 use day_totals::Totals;
@@ -37,12 +37,4 @@ pub fn record_request<'x, S: Alter>(
     add_request(&mut tx, request, reply)?;
     raise(&mut tx, request.key.merchant, request.day, used, &none)?;
     tx.commit()
-}
-
-/// How many messages a request counts for against its day.
-fn used_by(request: &Request) -> u64
-    ensures value { result ≡ (request_tally request.now).used }
-    ensures few { result ≤ 1 }
-{
-    if request.admitted { 1 } else { 0 }
 }

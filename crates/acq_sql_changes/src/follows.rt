@@ -1,0 +1,79 @@
+//! Requests that complete or reverse an earlier one.
+
+ghost use Rattle.std.specs.Prelude.{◌≡◌, ◌<◌, ◌^◌, false, None, Some};
+ghost use Rattle.sqlite.specs.Held.{state};
+ghost use Rattle.iso_codec.specs.Message.{IsMessage};
+ghost use Rattle.iso_codec.specs.Reading.{spelling};
+ghost use Rattle.acq_sql_writes.specs.Written.{IsShortEnd};
+ghost use Rattle.acq_sql_changes.specs.Changed.{LeadsToWhere, LeavesTables, StopsWithinWhere};
+ghost use Rattle.acq_sql_changes.specs.Changed.{HasRoomFor, HasRoomToFollow, with_follow};
+
+use crate::tallies::{totals_of_posting, used_by};
+use acq_core::{Posting, Request, RequestKey, Status};
+use acq_sql_writes::{add_posting, add_request, follow_request, raise};
+use day_totals::Totals;
+use sqlite::{Alter, Connection, Error};
+
+/// Records a request, whose reply is spelled so, counts it against its day, and gives the request
+/// that it follows a status. Nothing is posted.
+pub fn follow<'x, S: Alter>(
+    conn: &mut Connection<S>,
+    request: &'x Request,
+    reply: &'x [u8],
+    original: RequestKey,
+    status: Status,
+) -> Result<(), Error>
+    requires settled { conn.old.in_transaction ≡ false }
+    requires whole { IsMessage request.now.reply }
+    requires spelled { reply.now ≡ spelling request.now.reply }
+    requires hold_end { IsShortEnd request.now.hold_end }
+    ensures settled { conn.new.in_transaction ≡ false }
+    ensures done { LeadsToWhere (state S.Store conn.old) (state S.Store conn.new) result
+        (HasRoomFor request.now) (with_follow request.now original status None) }
+    ensures undone { LeavesTables (state S.Store conn.old) (state S.Store conn.new) result }
+    ensures crash { StopsWithinWhere (state S.Store conn.old) (state S.Store conn.new)
+        (HasRoomFor request.now) (with_follow request.now original status None) }
+{
+    let used = used_by(request);
+    let none = Totals::zero();
+    let mut tx = conn.transaction();
+    follow_request(&mut tx, original, status)?;
+    add_request(&mut tx, request, reply)?;
+    raise(&mut tx, request.key.merchant, request.day, used, &none)?;
+    tx.commit()
+}
+
+/// Records a request, whose reply is spelled so, counts it against its day, gives the request that
+/// it follows a status, and posts to the request's merchant and day.
+pub fn follow_and_post<'x, S: Alter>(
+    conn: &mut Connection<S>,
+    request: &'x Request,
+    reply: &'x [u8],
+    original: RequestKey,
+    status: Status,
+    number: u64,
+    posting: &'x Posting,
+) -> Result<(), Error>
+    requires settled { conn.old.in_transaction ≡ false }
+    requires whole { IsMessage request.now.reply }
+    requires spelled { reply.now ≡ spelling request.now.reply }
+    requires hold_end { IsShortEnd request.now.hold_end }
+    requires number { number < 2 ^ 63 }
+    ensures settled { conn.new.in_transaction ≡ false }
+    ensures done { LeadsToWhere (state S.Store conn.old) (state S.Store conn.new) result
+        (HasRoomToFollow request.now number posting.now)
+        (with_follow request.now original status (Some posting.now)) }
+    ensures undone { LeavesTables (state S.Store conn.old) (state S.Store conn.new) result }
+    ensures crash { StopsWithinWhere (state S.Store conn.old) (state S.Store conn.new)
+        (HasRoomToFollow request.now number posting.now)
+        (with_follow request.now original status (Some posting.now)) }
+{
+    let used = used_by(request);
+    let posted = totals_of_posting(posting);
+    let mut tx = conn.transaction();
+    follow_request(&mut tx, original, status)?;
+    add_request(&mut tx, request, reply)?;
+    add_posting(&mut tx, number, posting)?;
+    raise(&mut tx, request.key.merchant, request.day, used, &posted)?;
+    tx.commit()
+}

@@ -1,0 +1,47 @@
+//! Requests that reconcile a day.
+
+ghost use Rattle.std.specs.Prelude.{◌≡◌, ◌<◌, ◌^◌, false};
+ghost use Rattle.sqlite.specs.Held.{state};
+ghost use Rattle.iso_codec.specs.Message.{IsMessage};
+ghost use Rattle.iso_codec.specs.Reading.{spelling};
+ghost use Rattle.acq_sql_writes.specs.Written.{IsShortEnd};
+ghost use Rattle.acq_sql_changes.specs.Changed.{LeadsToWhere, LeavesTables, StopsWithinWhere};
+ghost use Rattle.acq_sql_changes.specs.Changed.{HasRoomToReconcile, with_reconciled};
+
+use crate::tallies::used_by;
+use acq_core::{Reconciliation, Request};
+use acq_sql_writes::{add_reconciliation, add_request, raise};
+use day_totals::Totals;
+use sqlite::{Alter, Connection, Error};
+
+/// Records a request, whose reply is spelled so, counts it against its day, and keeps the
+/// reconciliation that it made, with its number of the merchant and day.
+pub fn reconcile<'x, S: Alter>(
+    conn: &mut Connection<S>,
+    request: &'x Request,
+    reply: &'x [u8],
+    number: u64,
+    reconciliation: &'x Reconciliation,
+) -> Result<(), Error>
+    requires settled { conn.old.in_transaction ≡ false }
+    requires whole { IsMessage request.now.reply }
+    requires spelled { reply.now ≡ spelling request.now.reply }
+    requires hold_end { IsShortEnd request.now.hold_end }
+    requires number { number < 2 ^ 63 }
+    ensures settled { conn.new.in_transaction ≡ false }
+    ensures done { LeadsToWhere (state S.Store conn.old) (state S.Store conn.new) result
+        (HasRoomToReconcile request.now number reconciliation.now)
+        (with_reconciled request.now reconciliation.now) }
+    ensures undone { LeavesTables (state S.Store conn.old) (state S.Store conn.new) result }
+    ensures crash { StopsWithinWhere (state S.Store conn.old) (state S.Store conn.new)
+        (HasRoomToReconcile request.now number reconciliation.now)
+        (with_reconciled request.now reconciliation.now) }
+{
+    let used = used_by(request);
+    let none = Totals::zero();
+    let mut tx = conn.transaction();
+    add_request(&mut tx, request, reply)?;
+    add_reconciliation(&mut tx, number, reconciliation)?;
+    raise(&mut tx, request.key.merchant, request.day, used, &none)?;
+    tx.commit()
+}
