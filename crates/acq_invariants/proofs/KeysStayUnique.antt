@@ -70,8 +70,8 @@ unique_with_row rows later row same new h =
 
 -- ---- steps
 
-step : (t : Tables) (a : Arrival) → HasUniqueKeys t → HasUniqueKeys (step_tables t a)
-step t a h =
+pub unique_after_step : (t : Tables) (a : Arrival) → HasUniqueKeys t → HasUniqueKeys (step_tables t a)
+unique_after_step t a h =
     by_step t a (λ d. HasUniqueKeys (after_any t (change_of (known_in t a) d)))
     (record {
       reported = λ o is. h;
@@ -118,4 +118,4 @@ step t a h =
 
 pub keys_stay_unique : KeysStayUnique
 keys_stay_unique opening es =
-    kept HasUniqueKeys step (new_tables opening) es (record { requests = refl; merchants = refl; terminals = refl })
+    kept HasUniqueKeys unique_after_step (new_tables opening) es (record { requests = refl; merchants = refl; terminals = refl })

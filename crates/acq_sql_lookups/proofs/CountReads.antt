@@ -34,7 +34,7 @@ pending_is status.Reversed = refl
 pending_is status.ReversedPending = refl
 pending_is status.Reconciled = refl
 
-counted : {X : Type 0} (p : X → Bool) (xs : List X) → length (filter p xs) ≡ tables.count p xs
+pub counted : {X : Type 0} (p : X → Bool) (xs : List X) → length (filter p xs) ≡ tables.count p xs
 counted p [] = refl
 counted p (x ∷ xs) =
     let rest = counted p xs in

@@ -1,6 +1,6 @@
 -- What a SELECT by a key of its table answers.
 use Rattle.std.proofs.Common.{◌≡◌, ◌==◌, ◌&&◌, ℕ, pos, Bool, inl, inr, true, List, [], ◌∷◌, find}
-use Rattle.std.proofs.Common.{option_map, refl, ap, ◌∙◌, arith}
+use Rattle.std.proofs.Common.{option_map, filter, length, ◌≤◌, refl, ap, subst, ◌∙◌, arith}
 use Rattle.std.specs.Str.{bytes_eq}
 use Rattle.std.specs.Option.{option_to_list}
 use Rattle.std.proofs.lemmas.Bool.{and_parts}
@@ -10,15 +10,19 @@ use Rattle.sqlite_value.specs.declared.value.Value.TheVariants.{Int, Text}
 use Rattle.sqlite_value.specs.Order.{Row}
 use Rattle.sqlite_value.specs.Keys.{first_key}
 use Rattle.sqlite_schema.specs.declared.schema.Index.{Index}
-use Rattle.sqlite_schema.specs.Rules.{agree}
+use Rattle.sqlite_trees.specs.Tree.{Trees}
+use Rattle.sqlite_schema.specs.Rules.{Fits, agree}
 use Rattle.sqlite_catalog.specs.Listing.{automatic}
 use Rattle.sqlite_rules.specs.Lists.{Has}
 use Rattle.sqlite.specs.State.{State, Shown}
 use Rattle.sqlite.proofs.Callers.{one_permutation}
 use Rattle.row_lemmas.specs.Values.{number}
+use Rattle.row_lemmas.proofs.UniqueKeys.{fits_of}
 use Rattle.row_lemmas.proofs.ColumnTests.{text_test, number_test, and_true}
+use Rattle.row_lemmas.specs.Numbered.{rows_of}
+use Rattle.row_lemmas.proofs.CountedRows.{numbered_counted}
 use Rattle.row_lemmas.proofs.QueryRows.{picked}
-use Rattle.row_lemmas.proofs.ListReads.{one_passes, shows_one, shows_all}
+use Rattle.row_lemmas.proofs.ListReads.{one_passes, few_pass_key, shows_one, shows_all}
 use Rattle.row_lemmas.proofs.StatementEffects.{bare}
 use Rattle.acq_core.specs.declared.merchant.Merchant.{Merchant}
 use Rattle.acq_core.specs.declared.terminal.Terminal.{Terminal}
@@ -90,8 +94,18 @@ module _ (id : List ℕ) where
       shows_one merchant_row book_schema 1 t.merchants old new has.schema has.merchants text.merchant_text
       (Text id ∷ []) _ ask.plain ask.unlisted rows shown test query.merchant_query.project q tested merchant_row
       (λ k x. refl) ask.is
-      (one_passes merchant_row book_schema old.now.trees (bare at.the_merchants) merchant_key has.fits merchant_keyed.0
+      (one_passes merchant_row book_schema old.now.trees (bare at.the_merchants) merchant_key (fits_of book_schema old.now.trees has.sound) merchant_keyed.0
       merchant_keyed.1 refl t.merchants has.merchants test (Text id ∷ []) q tested keyed)
+
+  -- no two merchants have one name
+  pub one_merchant : (db : Trees) (xs : List Merchant) → Fits book_schema db → db 1 ≡ rows_of merchant_row xs
+      → length (filter q xs) ≤ 1
+  one_merchant db xs fits held =
+      let test = query.merchant_query.filter in
+      let count = numbered_counted merchant_row (picked test (Text id ∷ [])) q xs tested in
+      subst (λ n. n ≤ 1) (ap (λ l. length (filter (picked test (Text id ∷ [])) l)) held ∙ count)
+      (few_pass_key merchant_row book_schema db (bare at.the_merchants) merchant_key fits merchant_keyed.0
+      merchant_keyed.1 refl xs held test (Text id ∷ []) q tested keyed)
 
 -- ---- terminals
 
@@ -139,7 +153,7 @@ module _ (merchant id : List ℕ) where
       let are = shows_one terminal_row book_schema 3 t.terminals old new has.schema has.terminals text.terminal_text
       names _ ask.plain ask.unlisted rows shown query.two_are query.terminal_query.project is_it named terminal_row
       (λ k x. refl) ask.is
-      (one_passes terminal_row book_schema old.now.trees (bare at.the_terminals) terminal_key has.fits
+      (one_passes terminal_row book_schema old.now.trees (bare at.the_terminals) terminal_key (fits_of book_schema old.now.trees has.sound)
       terminal_keyed.0 terminal_keyed.1 refl t.terminals has.terminals query.two_are names is_it named one_name) in
       ap is_any are ∙ any_found terminal_row is_it t.terminals
 
@@ -192,6 +206,6 @@ module _ (merchant : List ℕ) (day : ℕ) where
       let are = shows_one running_row book_schema 13 runs old new has.schema has.running text.running_text day_row _
       ask.plain ask.unlisted rows shown query.two_are query.running_query.project of_day day_tested cells
       (λ k x. refl) ask.is
-      (one_passes running_row book_schema old.now.trees (bare at.the_running) running_key has.fits running_keyed.0
+      (one_passes running_row book_schema old.now.trees (bare at.the_running) running_key (fits_of book_schema old.now.trees has.sound) running_keyed.0
       running_keyed.1 refl runs has.running query.two_are day_row of_day day_tested one_day) in
       tally_shown (find of_day runs) rows (tally_of t merchant day) are (holds.tallied merchant day)

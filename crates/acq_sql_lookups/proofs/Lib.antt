@@ -6,3 +6,6 @@ pub mod RangeReads
 pub mod CountReads
 pub mod RequestRows
 pub mod RequestReads
+pub mod ReconciliationNumbers
+pub mod ReconciliationReads
+pub mod GreatestReads

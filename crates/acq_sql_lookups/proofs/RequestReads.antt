@@ -1,6 +1,6 @@
 -- What the look-ups of requests answer.
 use Rattle.std.proofs.Common.{◌≡◌, ◌&&◌, ℕ, pos, Bool, inl, inr, true, false, true≢false, cond, List, [], ◌∷◌}
-use Rattle.std.proofs.Common.{filter, find, option_map, Option, None, Some, refl, sym, ap}
+use Rattle.std.proofs.Common.{filter, find, length, ◌≤◌, option_map, Option, None, Some, refl, sym, ap, subst, ◌∙◌}
 use Rattle.std.specs.Str.{bytes_eq}
 use Rattle.std.specs.Option.{option_to_list}
 use Rattle.std.proofs.lemmas.Bool.{and_parts}
@@ -12,15 +12,19 @@ use Rattle.sqlite_sql.specs.declared.ops.BinaryOp.TheVariants.{Compare}
 use Rattle.sqlite_sql.specs.declared.ops.CompareOp.TheVariants.{Eq}
 use Rattle.sqlite_sql.specs.Ops.{binary, is_true}
 use Rattle.sqlite_schema.specs.declared.schema.Index.{Index}
-use Rattle.sqlite_schema.specs.Rules.{agree}
+use Rattle.sqlite_trees.specs.Tree.{Trees}
+use Rattle.sqlite_schema.specs.Rules.{Fits, agree}
 use Rattle.sqlite_catalog.specs.Listing.{automatic}
 use Rattle.sqlite_rules.specs.Lists.{Has}
 use Rattle.sqlite_rules.proofs.ListLemmas.{all_has, has_found}
 use Rattle.sqlite.specs.State.{State, Shown}
 use Rattle.row_lemmas.specs.Values.{number, number_or_null}
+use Rattle.row_lemmas.proofs.UniqueKeys.{fits_of}
 use Rattle.row_lemmas.proofs.ColumnTests.{text_test, number_test, and_true}
+use Rattle.row_lemmas.specs.Numbered.{rows_of}
+use Rattle.row_lemmas.proofs.CountedRows.{numbered_counted}
 use Rattle.row_lemmas.proofs.QueryRows.{picked}
-use Rattle.row_lemmas.proofs.ListReads.{one_passes, shows_one}
+use Rattle.row_lemmas.proofs.ListReads.{one_passes, few_pass_key, shows_one}
 use Rattle.row_lemmas.proofs.StatementEffects.{bare}
 use Rattle.acq_message.specs.declared.request_key.RequestKey.{RequestKey}
 use Rattle.acq_message.specs.Numbers.{is_number}
@@ -145,7 +149,7 @@ module _ (key : RequestKey) where
       (shows_one request_row book_schema 6 t.requests old new has.schema has.requests text.request_text (key_row key) _
       ask.plain ask.unlisted rows shown key_is query.request_query.project has_key tested request_row (λ k x. refl)
       ask.is
-      (one_passes request_row book_schema old.now.trees (bare at.the_requests) request_key has.fits request_keyed.0
+      (one_passes request_row book_schema old.now.trees (bare at.the_requests) request_key (fits_of book_schema old.now.trees has.sound) request_keyed.0
       request_keyed.1 refl t.requests has.requests key_is (key_row key) has_key tested keyed))
 
 -- ---- by reference
@@ -215,7 +219,17 @@ module _ (merchant : List ℕ) (reference : ℕ) where
       (shows_one request_row book_schema 6 t.requests old new has.schema has.requests text.reference_text sought _
       ask.plain ask.unlisted rows shown test query.reference_query.project is_it refers request_row (λ k x. refl)
       ask.is
-      (one_passes request_row book_schema old.now.trees (bare at.the_requests) reference_key has.fits request_keyed.0
+      (one_passes request_row book_schema old.now.trees (bare at.the_requests) reference_key (fits_of book_schema old.now.trees has.sound) request_keyed.0
       reference_keyed refl t.requests has.requests test sought is_it refers one_refers)) in
       rw (find_filtered (λ (x : Request). bytes_eq x.key.merchant merchant)
       (λ (x : Request). is_number reference x.reference) t.requests) at found
+
+  -- no two requests of the merchant have one reference
+  pub one_reference : (db : Trees) (xs : List Request) → Fits book_schema db → db 6 ≡ rows_of request_row xs
+      → length (filter is_it xs) ≤ 1
+  one_reference db xs fits held =
+      let test = query.reference_query.filter in
+      let count = numbered_counted request_row (picked test sought) is_it xs refers in
+      subst (λ n. n ≤ 1) (ap (λ l. length (filter (picked test sought) l)) held ∙ count)
+      (few_pass_key request_row book_schema db (bare at.the_requests) reference_key fits request_keyed.0
+      reference_keyed refl xs held test sought is_it refers one_refers)

@@ -24,10 +24,10 @@ use Rattle.iso_codec.proofs.SpellingComputes.{spelling_writes}
 
 -- ---- a value has one number or text
 
-text_same : (a b : List ℕ) → Text a ≡ Text b → a ≡ b
+pub text_same : (a b : List ℕ) → Text a ≡ Text b → a ≡ b
 text_same a b h = cc
 
-number_same : (a b : ℕ) → number a ≡ number b → a ≡ b
+pub number_same : (a b : ℕ) → number a ≡ number b → a ≡ b
 number_same a b h = cc
 
 number_if_same : (a b : Option ℕ) → number_or_null a ≡ number_or_null b → a ≡ b
@@ -42,7 +42,7 @@ text_if_same None (Some b) h = absurd (cc)
 text_if_same (Some a) None h = absurd (cc)
 text_if_same (Some a) (Some b) h = ap Some (text_same a b h)
 
-bit_same : (a b : Bool) → bit_of a ≡ bit_of b → a ≡ b
+pub bit_same : (a b : Bool) → bit_of a ≡ bit_of b → a ≡ b
 bit_same true true h = refl
 bit_same false false h = refl
 bit_same true false h = absurd (omega (arith, h))
@@ -77,7 +77,7 @@ leg_back CreditReversal = refl
 leg_back Debit = refl
 leg_back DebitReversal = refl
 
-leg_same : (a b : Leg) → leg_number a ≡ leg_number b → a ≡ b
+pub leg_same : (a b : Leg) → leg_number a ≡ leg_number b → a ≡ b
 leg_same a b h = sym (leg_back a) ∙ ap leg_with h ∙ leg_back b
 
 -- the service with these digits
@@ -111,7 +111,7 @@ spelling_read m whole = reads_as (spelling m) m (is_read (spelling m) m (spellin
 same_message : (text : List ℕ) (m n : IsoMessage) → reading_of text ≡ Ok m → reading_of text ≡ Ok n → m ≡ n
 same_message text m n h k = cc
 
-same_request : (a x : Request) (reply : List ℕ) → reading_of reply ≡ Ok a.reply → IsMessage x.reply
+pub same_request : (a x : Request) (reply : List ℕ) → reading_of reply ≡ Ok a.reply → IsMessage x.reply
     → request_cells a reply ≡ request_row x → a ≡ x
 same_request a x reply reads whole h =
     let at = λ (n : ℕ). ap (λ r. column r n) h in

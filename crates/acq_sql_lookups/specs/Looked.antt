@@ -1,20 +1,23 @@
 -- What a look-up says of the tables, and what it leaves.
-use Rattle.std.specs.Prelude.{◌≡◌, ◌⊎◌, ℕ, Bool, true, false, List, [], ◌∷◌, Result, IfOk, IsTrue}
-use Rattle.std.specs.Prelude.{Option, Some, None, if◌then◌else◌}
+use Rattle.std.specs.Prelude.{◌≡◌, ◌⊎◌, ℕ, ◌+◌, ◌-◌, ◌==◌, Bool, true, false, ◌&&◌, List, []}
+use Rattle.std.specs.Prelude.{◌∷◌, map, filter, length, Result, IfOk, IsTrue, Option, Some, None}
+use Rattle.std.specs.Prelude.{if◌then◌else◌}
+use Rattle.std.specs.List.{range_with_len}
+use Rattle.std.specs.Str.{bytes_eq}
 use Rattle.sqlite_value.specs.declared.value.Value.TheVariants.{Text}
 use Rattle.sqlite_value.specs.Order.{Row}
 use Rattle.sqlite.specs.declared.error.Error.{Error}
-use Rattle.sqlite.specs.State.{State, HasCleanDisk, IsUnchanged, Survives}
-use Rattle.row_lemmas.specs.Values.{number}
+use Rattle.sqlite.specs.State.{State, HasCleanDisk, IsUnchanged, IsRolledBack, Survives}
+use Rattle.row_lemmas.specs.Values.{number, number_or_null}
 use Rattle.card_no.specs.declared.range.Range.{Range}
 use Rattle.card_no.specs.Ranges.{holds_prefix, range_of_prefix}
 use Rattle.day_totals.specs.Totals.{DayTotals}
+use Rattle.acq_core.specs.declared.reconciliation.Reconciliation.{Reconciliation}
 use Rattle.acq_core.specs.Tables.{Tables}
-use Rattle.acq_sql_rows.specs.Schema.{book_schema}
-use Rattle.acq_sql_rows.specs.Rows.{tally_row}
+use Rattle.acq_book.specs.Order.{last_of}
+use Rattle.acq_sql_rows.specs.Rows.{tally_row, bit_of}
 use Rattle.acq_sql_rows.specs.Tallies.{Tally, no_tally}
 use Rattle.acq_sql_rows.specs.Relation.{Holds}
-use Rattle.acq_sql_changes.specs.Changed.{IsAt}
 
 -- where it succeeded, the answer is what the look-up gives of the tables
 abbrev pub Answers : {T : Type 0} → State → State → Result T Error → (Tables → T) → Type 0
@@ -27,13 +30,14 @@ abbrev pub AnswersWhere : {T : Type 0} →
 AnswersWhere old new result fits look =
     HasCleanDisk new → (t : Tables) → Holds old.now t → fits t → IfOk result (λ x. x ≡ look t)
 
--- A look-up leaves the connection as it was where it succeeded, and the tables as they were where
--- it failed and the store is still open. A stop leaves what it might before.
+-- A look-up leaves an open connection as it was, or where it failed at most rolled back, and
+-- outside a transaction if it was so. A stop leaves what it might before.
 pub record LooksOnly (old new : State) (succeeded : Bool) : Type 0 where
-  pub same : HasCleanDisk new → old.now.schema ≡ book_schema → succeeded ≡ true →
-      IsUnchanged old new
-  pub kept : HasCleanDisk new → IsTrue new.is_open → (t : Tables) → IsAt old t → IsAt new t
-  pub stop : old.now.schema ≡ book_schema → Survives old new (λ _. ⊥)
+  pub same : HasCleanDisk new → succeeded ≡ true → IsUnchanged old new
+  pub undone : HasCleanDisk new → IsTrue new.is_open →
+      IsUnchanged old new ⊎ IsRolledBack old new
+  pub settled : old.in_transaction ≡ false → new.in_transaction ≡ false
+  pub stop : Survives old new (λ _. ⊥)
 
 -- a row was found
 abbrev pub is_any : List Row → Bool
@@ -67,3 +71,46 @@ IsNearest prefix ranges rows =
     ((rows ≡ []) × (range_of_prefix ranges prefix ≡ None))
     ⊎ ((r : Range) × (rows ≡ range_cells r ∷ [])
     × (range_of_prefix ranges prefix ≡ if_holds prefix r))
+
+-- ---- reconciliations
+
+-- the merchant's reconciliations of a day, in the order in which they came
+abbrev pub reconciliations_of :
+    List ℕ → ℕ → List (ℕ × Reconciliation) → List (ℕ × Reconciliation)
+reconciliations_of m day rows =
+    filter (λ row. bytes_eq row.1.merchant m && (row.1.day == day)) rows
+
+-- the last of them, with its number
+abbrev pub last_numbered_at : Tables → List ℕ → ℕ → Option (ℕ × Reconciliation)
+last_numbered_at t m day = last_of (reconciliations_of m day t.reconciliations)
+
+-- its number, or 0 where there is none
+abbrev pub number_or_zero : Option (ℕ × Reconciliation) → ℕ
+number_or_zero None = 0
+number_or_zero (Some row) = row.0
+
+-- rows whose numbers count up from this one
+abbrev pub CountsUpFrom : ℕ → List (ℕ × Reconciliation) → Type 0
+CountsUpFrom n rows = map (λ row. row.0) rows ≡ range_with_len n (length rows)
+
+-- the numbers of each merchant's reconciliations of a day count up from 1
+abbrev pub HasNumberedReconciliations : Tables → Type 0
+HasNumberedReconciliations t =
+    (m : List ℕ) (day : ℕ) → CountsUpFrom 1 (reconciliations_of m day t.reconciliations)
+
+-- what a look-up shows of one
+abbrev pub balance_cells : ℕ × Reconciliation → Row
+balance_cells r = number r.0 ∷ number (bit_of r.1.in_balance) ∷ []
+
+-- ---- references
+
+-- how many references there are from the first up to the greatest, if one was given
+abbrev pub count_up_to : ℕ → Option ℕ → ℕ
+count_up_to first None = 0
+count_up_to first (Some greatest) = greatest + 1 - first
+
+-- of so many references from the first on, the row of the greatest; none where there is no request
+abbrev pub ShowsGreatest : ℕ → ℕ → List Row → Type 0
+ShowsGreatest first many rows =
+    ((rows ≡ []) × (many ≡ 0))
+    ⊎ ((o : Option ℕ) × (rows ≡ (number_or_null o ∷ []) ∷ []) × (many ≡ count_up_to first o))

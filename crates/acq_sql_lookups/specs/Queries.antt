@@ -61,3 +61,14 @@ request_query = plain_query 6 key_is (columns 1 18) []
 
 abbrev pub reference_query : Query
 reference_query = plain_query 6 (is_param 1 0 ∷ is_param 10 1 ∷ []) (columns 1 18) []
+
+abbrev pub greatest_query : Query
+greatest_query =
+    table_query 6 (is_param 1 0 ∷ []) None (column 10 ∷ []) ((column 10, falling) ∷ []) one
+
+-- ---- reconciliations
+
+abbrev pub reconciliation_query : Query
+reconciliation_query =
+    table_query 11 (is_param 2 0 ∷ is_param 1 1 ∷ []) None (column 3 ∷ column 4 ∷ [])
+    ((column 3, falling) ∷ []) one

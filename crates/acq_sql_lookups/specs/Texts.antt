@@ -30,6 +30,11 @@ overlapping_text =
 abbrev pub pending_text : List ℕ
 pending_text = codes "SELECT count(*) FROM requests WHERE status = 1 AND day = ?1"
 
+abbrev pub reconciliation_text : List ℕ
+reconciliation_text =
+    codes "SELECT number, in_balance FROM reconciliations "
+    ++ codes "WHERE day = ?1 AND merchant = ?2 ORDER BY number DESC LIMIT 1"
+
 -- the eighteen columns of a request
 abbrev pub select_request : List ℕ
 select_request =
@@ -44,3 +49,7 @@ request_text =
 
 abbrev pub reference_text : List ℕ
 reference_text = select_request ++ codes "merchant = ?1 AND reference = ?2"
+
+abbrev pub greatest_text : List ℕ
+greatest_text =
+    codes "SELECT reference FROM requests WHERE merchant = ?1 ORDER BY reference DESC LIMIT 1"

@@ -46,7 +46,8 @@ fn merchant_rows<S: Alter>(conn: &mut Connection<S>, id: MerchantId) -> Result<V
     )
 }
 
-fn read_merchant(row: &Row) -> Result<Merchant, Error>
+/// The merchant of a row with the three columns.
+pub fn read_merchant(row: &Row) -> Result<Merchant, Error>
     ensures { IfOk result (λ m. length row.now ≡ 3 → row.now ≡ merchant_row m) }
 {
     Ok(Merchant {

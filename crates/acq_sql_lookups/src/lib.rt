@@ -1,22 +1,25 @@
 //! The look-ups of a book in SQL.
 //!
-//! Each look-up is one SELECT, and says what it gives of the tables that the rows hold
-//! (`specs/Looked.antt`). All but `pending` and `overlapping` read by a key that an index has. A row
-//! that the host can't have written is reported as a corrupt database.
+//! Each look-up is one SELECT or two, and says what it gives of the tables that the rows hold
+//! (`specs/Looked.antt`). All but `pending` and `overlapping` read by a key that an index has. A
+//! row that the host can't have written is reported as a corrupt database.
 #![tactic(auto)]
 
 mod book_row;
-mod columns;
+pub mod columns;
 mod counts;
 mod enrolments;
 mod ranges;
+mod reconciliations;
 mod request_row;
 mod requests;
 mod running;
 
 pub use book_row::limit_and_day;
-pub use counts::pending;
-pub use enrolments::{has_terminal, merchant};
+pub use counts::{admitted, pending};
+pub use enrolments::{has_terminal, merchant, read_merchant};
 pub use ranges::{overlapping, range};
+pub use reconciliations::last_reconciliation;
+pub use request_row::read_request;
 pub use requests::{by_reference, request};
 pub use running::{totals, used};

@@ -6,23 +6,23 @@ ghost use Rattle.sqlite_value.specs.Order.{column};
 ghost use Rattle.row_lemmas.specs.Values.{number, number_or_null, text_or_null};
 ghost use Rattle.iso_codec.specs.Reading.{reading_of};
 ghost use Rattle.acq_message.specs.Services.{digits_of};
-ghost use Rattle.acq_sql_rows.specs.Rows.{status_number, leg_number, bit_of};
+ghost use Rattle.acq_sql_rows.specs.Rows.{status_number};
 ghost use Rattle.acq_sql_lookups.specs.Recorded.{HasKey, IsRowOf};
 
-use crate::columns::{day_at, hold_days_at, merchant_at, read, text_at};
+use crate::columns::{
+    amount_at, bit_at, day_at, hold_days_at, leg_at, merchant_at, read, reference_if_at, text_at,
+};
 use acq_core::{Request, Status};
 use acq_message::{
-    Amount, ElementContent, MessageText, Reference, RequestKey, Service, TerminalId, Trace,
-    Transmission,
+    ElementContent, MessageText, RequestKey, Service, TerminalId, Trace, Transmission,
 };
-use day_totals::Leg;
 use iso_codec::{DecodeFault, Message, decode};
 use sqlite::types::ValueRef;
 use sqlite::{Error, ErrorCode, Row};
 use std::alloc::Global;
 
 /// The request of a row with the eighteen columns.
-pub(crate) fn read_request(alloc: Global, row: &Row) -> Result<Request, Error>
+pub fn read_request(alloc: Global, row: &Row) -> Result<Request, Error>
     ensures { IfOk result (λ r. length row.now ≡ 18 → IsRowOf row.now r) }
 {
     let key = read_key(row)?;
@@ -110,51 +110,6 @@ fn status_at(row: &Row, at: usize) -> Result<Status, Error>
         6 => Ok(Status::ReversedPending),
         7 => Ok(Status::Reconciled),
         _ => Err(Error::SqliteFailure(ErrorCode::DatabaseCorrupt)),
-    }
-}
-
-fn leg_at(row: &Row, at: usize) -> Result<Leg, Error>
-    ensures { IfOk result (λ leg. column row.now at ≡ number (leg_number leg)) }
-{
-    let n: u32 = row.get(at)?;
-    match n {
-        0 => Ok(Leg::Credit),
-        1 => Ok(Leg::CreditReversal),
-        2 => Ok(Leg::Debit),
-        3 => Ok(Leg::DebitReversal),
-        _ => Err(Error::SqliteFailure(ErrorCode::DatabaseCorrupt)),
-    }
-}
-
-fn bit_at(row: &Row, at: usize) -> Result<bool, Error>
-    ensures { IfOk result (λ bit. column row.now at ≡ number (bit_of bit)) }
-{
-    let n: u32 = row.get(at)?;
-    match n {
-        0 => Ok(false),
-        1 => Ok(true),
-        _ => Err(Error::SqliteFailure(ErrorCode::DatabaseCorrupt)),
-    }
-}
-
-fn amount_at(row: &Row, at: usize) -> Result<Amount, Error>
-    ensures { IfOk result (λ amount. column row.now at ≡ number amount) }
-{
-    read(Amount::from_number(row.get(at)?))
-}
-
-fn reference_at(row: &Row, at: usize) -> Result<Reference, Error>
-    ensures { IfOk result (λ reference. column row.now at ≡ number reference) }
-{
-    read(Reference::from_number(row.get(at)?))
-}
-
-fn reference_if_at(row: &Row, at: usize) -> Result<Option<Reference>, Error>
-    ensures { IfOk result (λ reference. column row.now at ≡ number_or_null reference) }
-{
-    match row.get_ref(at)? {
-        ValueRef::Null => Ok(None),
-        _ => Ok(Some(reference_at(row, at)?)),
     }
 }
 

@@ -16,5 +16,5 @@ returns-clause-answers g c clean t holds =
 
 pub returns-clause-looks : goal.returns-clause-looks
 returns-clause-looks g c =
-    looks business_text [] (state g.S.Store c.args.conn.now) (state g.S.Store c.query_all.new.self) business_asks.plain
-    (λ rows. rows.items) c.query_all.result c.query_all.ensures.ok c.query_all.ensures.err c.query_all.ensures.survives
+    looks business_text [] (state g.S.Store c.args.conn.now) (state g.S.Store c.query_all.new.self) business_asks.begins
+    (λ rows. rows.items) c.query_all.result c.query_all.ensures.ok c.query_all.ensures.err c.query_all.ensures.mode c.query_all.ensures.survives

@@ -19,5 +19,5 @@ pub returns-clause-looks : goal.returns-clause-looks
 returns-clause-looks g c =
     looks merchant_text (Text c.to_bytes-id.result ∷ [])
     (state g.S.Store c.args.conn.now) (state g.S.Store c.query_all.new.self)
-    merchant_asks.plain (λ rows. rows.items) c.query_all.result c.query_all.ensures.ok c.query_all.ensures.err
+    merchant_asks.begins (λ rows. rows.items) c.query_all.result c.query_all.ensures.ok c.query_all.ensures.err c.query_all.ensures.mode
     c.query_all.ensures.survives

@@ -21,5 +21,5 @@ pub returns-clause-looks : goal.returns-clause-looks
 returns-clause-looks g c =
     looks overlapping_text (bound_value (owned c.short_value.result) ∷ bound_value (owned c.short_value-2.result) ∷ [])
     (state g.S.Store c.args.conn.now) (state g.S.Store c.query_all.new.self)
-    overlapping_asks.plain (λ rows. rows.items) c.query_all.result c.query_all.ensures.ok c.query_all.ensures.err
+    overlapping_asks.begins (λ rows. rows.items) c.query_all.result c.query_all.ensures.ok c.query_all.ensures.err c.query_all.ensures.mode
     c.query_all.ensures.survives

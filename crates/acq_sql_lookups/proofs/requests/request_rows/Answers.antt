@@ -28,5 +28,5 @@ returns-clause-looks g c =
     (Text c.to_bytes-merchant.result ∷ Text c.to_bytes-terminal.result ∷ Text c.digits-kind.result
     ∷ Text c.to_bytes-trace.result ∷ Text c.to_bytes-stamp.result ∷ [])
     (state g.S.Store c.args.conn.now) (state g.S.Store c.query_all.new.self)
-    request_asks.plain (λ rows. rows.items) c.query_all.result c.query_all.ensures.ok c.query_all.ensures.err
+    request_asks.begins (λ rows. rows.items) c.query_all.result c.query_all.ensures.ok c.query_all.ensures.err c.query_all.ensures.mode
     c.query_all.ensures.survives
