@@ -1,0 +1,4 @@
+pub mod Texts
+pub mod Queries
+pub mod Shown
+pub mod Walked

@@ -1,0 +1,28 @@
+-- What the walks mean: which columns of which rows they show, and in which order.
+use Rattle.std.specs.Prelude.{List, [], ◌∷◌, pos, codes}
+use Rattle.sqlite_value.specs.declared.keys.Collation.TheVariants.{Binary}
+use Rattle.sqlite_value.specs.declared.value.Value.TheVariants.{Int, Text}
+use Rattle.sqlite_sql.specs.declared.ops.BinaryOp.TheVariants.{Compare}
+use Rattle.sqlite_sql.specs.declared.ops.CompareOp.TheVariants.{Eq}
+use Rattle.sqlite_sql.specs.Term.{Term, lit, op2}
+use Rattle.sqlite_sql.specs.Query.{Query}
+use Rattle.row_lemmas.specs.Queries.{plain_query, column, is_param, rising}
+use Rattle.acq_sql_rows.specs.Queries.{columns}
+
+abbrev pub postings_query : Query
+postings_query =
+    plain_query 9 (is_param 2 0 ∷ []) (columns 1 9)
+    ((column 1, rising) ∷ (column 3, rising) ∷ [])
+
+abbrev pub merchants_query : Query
+merchants_query = plain_query 1 [] (columns 1 3) ((column 1, rising) ∷ [])
+
+-- an approved authorization
+abbrev pub is_hold : List Term
+is_hold =
+    op2 (Compare Eq Binary) (column 3) (lit (Text (codes "010")))
+    ∷ op2 (Compare Eq Binary) (column 8) (lit (Int (pos 3))) ∷ []
+
+abbrev pub holds_query : Query
+holds_query =
+    plain_query 6 (is_param 1 0 ∷ is_hold) (columns 1 18) ((column 10, rising) ∷ [])
