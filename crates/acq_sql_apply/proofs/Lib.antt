@@ -1,0 +1,2 @@
+pub mod PostedByLegs
+pub mod LooksFirst
