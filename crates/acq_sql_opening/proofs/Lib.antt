@@ -1,0 +1,6 @@
+pub mod TablesMade
+pub mod NewBook
+pub mod OpenedBooks
+pub mod AllPlain
+pub mod Versions
+pub mod PlainBook

@@ -1,0 +1,14 @@
+//! What an open finds of a book.
+
+ghost use Rattle.sqlite.specs.Held.{state};
+ghost use Rattle.sqlite.specs.State.{Opens, IsLive};
+ghost use Rattle.acq_core.specs.Tables.{Tables};
+ghost use Rattle.acq_sql_changes.specs.Changed.{IsAt, HoldsAfter};
+
+use sqlite::{Alter, Connection};
+
+/// A connection that was just opened over what a stop left of a book is at the book's tables.
+pub fn an_open_finds_the_book<S: Alter>(conn: &Connection<S>)
+    ensures { (t : Tables) → Opens (state S.Store conn.now) → IsLive (state S.Store conn.now)
+        → HoldsAfter t (state S.Store conn.now).committed.trees → IsAt (state S.Store conn.now) t }
+{}

@@ -1,0 +1,72 @@
+use crate::{OpeningFault, check_book, make_book};
+use acq_core::Limit;
+use acq_sql_lookups::limit_and_day;
+use day_totals::Day;
+use sqlite::Connection;
+use std::test::Fail;
+
+/// A book that was made is one of this version, and no other is made over it.
+#[test]
+fn a_book_is_made_once(rt: HostRuntime) -> Result<(), Fail> {
+    let limit = Limit::from_number(20).ok_or("a limit")?;
+    let day = Day::from_number(8887).ok_or("a day")?;
+    let mut conn = Connection::open_in_memory(rt.alloc())?;
+    assert_eq!(rt;
+        check_book(&mut conn, rt.alloc()),
+        Err(OpeningFault::NotABook)
+    );
+    assert_eq!(rt; make_book(&mut conn, limit, day), Ok(()));
+    assert_eq!(rt; check_book(&mut conn, rt.alloc()), Ok(()));
+    assert_eq!(rt;
+        make_book(&mut conn, limit, day),
+        Err(OpeningFault::NotABook)
+    );
+    assert_eq!(rt; limit_and_day(&mut conn)?, (limit, day));
+    Ok(())
+}
+
+/// A book of another version, one without its row, and one with a table more are refused.
+#[test]
+fn other_books_are_refused(rt: HostRuntime) -> Result<(), Fail> {
+    let limit = Limit::from_number(20).ok_or("a limit")?;
+    let day = Day::from_number(8887).ok_or("a day")?;
+    let mut conn = Connection::open_in_memory(rt.alloc())?;
+    make_book(&mut conn, limit, day)?;
+    conn.execute("UPDATE book SET version = 7", &[])?;
+    assert_eq!(rt;
+        check_book(&mut conn, rt.alloc()),
+        Err(OpeningFault::OtherVersion(7))
+    );
+    conn.execute("UPDATE book SET version = 1", &[])?;
+    assert_eq!(rt; check_book(&mut conn, rt.alloc()), Ok(()));
+    conn.execute("CREATE TABLE notes (note TEXT) STRICT", &[])?;
+    assert_eq!(rt;
+        check_book(&mut conn, rt.alloc()),
+        Err(OpeningFault::NotABook)
+    );
+    conn.execute("DROP TABLE notes", &[])?;
+    assert_eq!(rt; check_book(&mut conn, rt.alloc()), Ok(()));
+    conn.execute("DELETE FROM book", &[])?;
+    assert_eq!(rt;
+        check_book(&mut conn, rt.alloc()),
+        Err(OpeningFault::NotABook)
+    );
+    Ok(())
+}
+
+/// The texts of the faults.
+#[test]
+fn texts_of_faults(rt: HostRuntime) -> Result<(), Fail> {
+    let texts = format!(in rt.alloc();
+        "{}, {}, {}, {}",
+        OpeningFault::Memory,
+        OpeningFault::Store,
+        OpeningFault::NotABook,
+        OpeningFault::OtherVersion(7)
+    )?;
+    assert_eq!(rt;
+        texts.as_str(),
+        "1 Memory, 2 Store, 40 NotABook, 41 OtherVersion 7"
+    );
+    Ok(())
+}
