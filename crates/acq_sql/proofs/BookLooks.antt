@@ -1,0 +1,153 @@
+-- A look-up over a connection is one of its book.
+use Rattle.std.proofs.Common.{true≢false, Result, Ok, Err, IfOk, OnOk, OnErr, is_ok, ◌≡◌, ◌≤◌}
+use Rattle.std.proofs.Common.{Bool, true, false, IsTrue, ⊎_elim, sym, ap, subst, ◌∙◌, arith}
+use Rattle.sqlite_trees.specs.declared.store.Store.{Ghosts}
+use Rattle.sqlite.specs.Effect.{Database}
+use Rattle.sqlite.specs.declared.error.Error.{Error}
+use Rattle.sqlite.specs.State.{State, HasCleanDisk, IsUnchanged}
+use Rattle.sqlite.specs.Held.{state}
+use Rattle.acq_core.specs.Pasts.{HasPast}
+use Rattle.acq_core.specs.Tables.{Tables}
+use Rattle.std.specs.List.{list_all}
+use Rattle.std.proofs.lemmas.Bool.{and_parts}
+use Rattle.card_no.specs.Ranges.{are_apart, is_valid_range}
+use Rattle.acq_invariants.proofs.BooksAreSound.{books_are_sound}
+use Rattle.acq_book.specs.declared.book_fault.BookFault.{BookFault}
+use Rattle.acq_book.specs.Promise.{Looks}
+use Rattle.acq_sql_rows.specs.Relation.{Holds}
+use Rattle.acq_sql_rows.specs.ReadBack.{tables_of}
+use Rattle.acq_sql_changes.specs.Changed.{IsAt}
+use Rattle.acq_sql_lookups.specs.Looked.{LooksOnly}
+use Rattle.acq_sql_lookups.proofs.Leaves.{at_unchanged}
+use Rattle.acq_sql.specs.Kept.{Kept}
+use Rattle.acq_sql.specs.Opened.{tables, is_honest, is_open, may_leave}
+
+-- ---- what a book answers of what its database answered
+
+relay : {T : Type 0} (answer : Result T Error) (result : Result T BookFault) (P : T → Type 0)
+    → IfOk answer (λ x. result ≡ Ok x) → is_ok result ≡ is_ok answer → IfOk answer P → IfOk result P
+relay (Ok x) result P same ok is = subst (λ r. IfOk r P) (sym same) is
+relay (Err e) (Ok x) P same ok is = absurd (true≢false ok)
+relay (Err e) (Err f) P same ok is = tt
+
+pub relay_ok : {T : Type 0} (P : Type 0) (answer : Result T Error) (result : Result T BookFault)
+    → is_ok result ≡ is_ok answer → OnOk answer P → OnOk result P
+relay_ok P (Ok x) (Ok y) same is = is
+relay_ok P (Ok x) (Err f) same is = tt
+relay_ok P (Err e) (Ok y) same is = absurd (true≢false same)
+relay_ok P (Err e) (Err f) same is = tt
+
+pub relay_err : {T : Type 0} (P : Type 0) (answer : Result T Error) (result : Result T BookFault)
+    → is_ok result ≡ is_ok answer → OnErr answer P → OnErr result P
+relay_err P (Ok x) (Ok y) same is = tt
+relay_err P (Ok x) (Err f) same is = absurd (true≢false (sym same))
+relay_err P (Err e) (Ok y) same is = tt
+relay_err P (Err e) (Err f) same is = is
+
+-- the ranges of tables that events led to lie apart
+pub apart_of : (t : Tables) → HasPast t → are_apart t.ranges ≡ true
+apart_of t (opening, book) =
+    (and_parts (list_all is_valid_range t.ranges) _ (books_are_sound opening t book).ranges).1
+
+-- ---- look-ups
+
+-- what is seen is what was committed
+abbrev pub IsSettled : {S : Type 0} → Ghosts S → Kept S → Type 0
+IsSettled g book =
+    IsTrue (state g book.connection).is_open → (state g book.connection).now ≡ (state g book.connection).committed
+
+module _ {S : Type 0} (g : Ghosts S) (old new : Kept S) (succeeded : Bool)
+    (looks : LooksOnly (state g old.connection) (state g new.connection) succeeded)
+    (out : old.connection.in_transaction ≡ false)
+    (settled : IsSettled g old) where
+  abbrev before : State
+  before = state g old.connection
+
+  abbrev after : State
+  after = state g new.connection
+
+  was_honest : HasCleanDisk after → HasCleanDisk before
+  was_honest clean = let up = looks.stop.clean in omega (arith, up, clean)
+
+  was_open : HasCleanDisk after → IsTrue after.is_open → IsTrue before.is_open
+  was_open clean opened =
+      ⊎_elim (λ (same : IsUnchanged before after). same.0.was_open) (λ back. back.was_open opened)
+      (looks.undone clean opened)
+
+  -- what is seen stays, where the store is still open
+  now_kept : HasCleanDisk after → IsTrue after.is_open → after.now ≡ before.now
+  now_kept clean opened =
+      ⊎_elim (λ (same : IsUnchanged before after). same.0.now_is)
+      (λ back. (back.undone opened).0 ∙ sym (settled (was_open clean opened))) (looks.undone clean opened)
+
+  opened_before : is_open g new → is_open g old
+  opened_before o =
+      let was = was_open o.clean o.at.is_open in
+      let kept = now_kept o.clean o.at.is_open in
+      record {
+        clean = was_honest o.clean;
+        at = record {
+          is_open = was;
+          settled = out;
+          same = settled was;
+          holds = subst (λ (d : Database). Holds d (tables_of d)) kept o.at.holds;
+        };
+        past = subst (λ (d : Database). HasPast (tables_of d)) kept o.past;
+      }
+
+  stays_open : succeeded ≡ true → HasCleanDisk after → is_open g old → is_open g new
+  stays_open is clean o =
+      let same = looks.same clean is in
+      let kept = sym same.0.now_is in
+      record {
+        clean = clean;
+        at = at_unchanged before after (tables g new) same
+            (subst (λ (d : Database). IsAt before (tables_of d)) kept o.at);
+        past = subst (λ (d : Database). HasPast (tables_of d)) kept o.past;
+      }
+
+  -- what a look-up over the connection leaves, a look-up of the book leaves
+  pub looks_at : old.failures ≤ new.failures
+      → Looks (tables g) (is_honest g) (is_open g) (may_leave g) (λ (b : Kept S). b.failures) old new succeeded
+  looks_at rise = record {
+    was_honest = was_honest;
+    was_open = opened_before;
+    stays_open = stays_open;
+    same = λ o. ap tables_of (now_kept o.clean o.at.is_open);
+    leaves = λ clean t left. (
+      left.0,
+      ⊎_elim (λ (was : before.may_leave left.0). was) (λ none. absurd none)
+          (looks.stop.crash clean left.0 left.1),
+      left.2,
+    );
+    rise = rise;
+  }
+
+  -- an answer over the tables that the database holds is one over the book's
+  value_at : {T : Type 0} (seen : Kept S) → old ≡ seen → (answer : Result T Error) (result : Result T BookFault)
+      (look : Tables → T)
+      → (HasCleanDisk after → (t : Tables) → Holds before.now t → HasPast t → IfOk answer (λ x. x ≡ look t))
+      → IfOk answer (λ x. result ≡ Ok x) → is_ok result ≡ is_ok answer → is_open g new
+      → IfOk result (λ x. x ≡ look (tables g seen))
+  value_at seen is answer result look says same ok o =
+      let was = opened_before o in
+      subst (λ (k : Kept S). IfOk result (λ x. x ≡ look (tables g k))) is
+      (relay answer result _ same ok (says o.clean (tables g old) was.at.holds was.past))
+
+-- the same of the book as it is seen
+pub value_of : {S T : Type 0} (g : Ghosts S) (old seen new : Kept S) → old ≡ seen → (answer : Result T Error)
+    (result : Result T BookFault) → LooksOnly (state g old.connection) (state g new.connection) (is_ok answer)
+    → old.connection.in_transaction ≡ false → IsSettled g seen → IfOk answer (λ x. result ≡ Ok x)
+    → is_ok result ≡ is_ok answer → (look : Tables → T)
+    → (HasCleanDisk (state g new.connection) → (t : Tables) → Holds (state g old.connection).now t → HasPast t
+    → IfOk answer (λ x. x ≡ look t))
+    → is_open g new → IfOk result (λ x. x ≡ look (tables g seen))
+value_of g old seen new is answer result looks out settled same ok look says o =
+    value_at g old new (is_ok answer) looks out (subst (IsSettled g) (sym is) settled) seen is answer result look says
+    same ok o
+
+-- what the database of an open book holds
+pub held_by : {S : Type 0} (g : Ghosts S) (old seen : Kept S) → old ≡ seen → is_open g seen
+    → Holds (state g old.connection).now (tables g seen)
+held_by g old seen is o =
+    subst (λ (k : Kept _). Holds (state g k.connection).now (tables g seen)) (sym is) o.at.holds

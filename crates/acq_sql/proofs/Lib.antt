@@ -1,0 +1,2 @@
+pub mod BookLooks
+pub mod BookMakes

@@ -1,0 +1,13 @@
+use Rattle.std.proofs.Common.{ap}
+use Rattle.acq_sql.proofs.BookLooks.{value_of}
+use Rattle.acq_sql.proofs.sql_book.SqlBookBook.day.Goals as goal
+
+pub returns-clause-value : goal.returns-clause-value
+returns-clause-value g c o =
+    ap (λ p. p.1)
+    (rw c.in_ok-day.was at
+    (value_of g.S.Store _ _
+    (record { connection = c.limit_and_day-answer.new.conn; failures = c.counted.new.failures }) c.self.view_is
+    c.limit_and_day-answer.result c.counted.result c.limit_and_day-answer.ensures.looks
+    c.self.invariant c.settled.ensures c.counted.ensures.same c.counted.ensures.succeeds (λ t. (t.limit, t.day))
+    (λ clean t holds past. c.limit_and_day-answer.ensures.answers clean t holds) o))

@@ -1,0 +1,16 @@
+use Rattle.std.proofs.Common.{◌∙◌, ap}
+use Rattle.acq_sql_lookups.specs.Looked.{last_numbered_at}
+use Rattle.std.specs.Prelude.{option_map}
+use Rattle.acq_sql.proofs.BookLooks.{value_of}
+use Rattle.acq_sql.proofs.sql_book.SqlBookBook.last_reconciliation.Goals as goal
+
+pub returns-clause-value : goal.returns-clause-value
+returns-clause-value g c o =
+    c.without_number.ensures ∙ ap (option_map (λ row. row.1))
+    (rw c.in_ok-last.was at
+    (value_of g.S.Store _ _
+    (record { connection = c.last_reconciliation-answer.new.conn; failures = c.counted.new.failures }) c.self.view_is
+    c.last_reconciliation-answer.result c.counted.result c.last_reconciliation-answer.ensures.looks
+    c.self.invariant c.settled.ensures c.counted.ensures.same c.counted.ensures.succeeds
+    (λ t. last_numbered_at t c.args.merchant c.args.day)
+    c.last_reconciliation-answer.ensures.answers o))

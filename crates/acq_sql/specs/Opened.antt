@@ -1,0 +1,40 @@
+-- What a book in SQL says of its connection.
+use Rattle.std.specs.Prelude.{◌≡◌}
+use Rattle.sqlite_trees.specs.Tree.{Trees}
+use Rattle.sqlite_trees.specs.declared.store.Store.{Ghosts}
+use Rattle.sqlite.specs.State.{State, HasCleanDisk}
+use Rattle.sqlite.specs.Held.{state}
+use Rattle.acq_core.specs.Pasts.{HasPast}
+use Rattle.acq_core.specs.Tables.{Tables}
+use Rattle.acq_sql_rows.specs.Schema.{book_schema}
+use Rattle.acq_sql_rows.specs.ReadBack.{tables_of}
+use Rattle.acq_sql_changes.specs.Changed.{IsAt}
+use Rattle.acq_sql.specs.Kept.{Kept}
+
+-- the tables that trees of a book stand for
+abbrev pub tables_left : Trees → Tables
+tables_left trees = tables_of (record { schema = book_schema; trees = trees })
+
+-- the disk gave back what was written, and the connection is at tables that events led to
+pub record IsOpenAt (s : State) (t : Tables) : Type 0 where
+  pub clean : HasCleanDisk s
+  pub at : IsAt s t
+  pub past : HasPast t
+
+module _ {S : Type 0} (g : Ghosts S) where
+  -- the tables
+  abbrev pub tables : Kept S → Tables
+  tables book = tables_of (state g book.connection).now
+
+  -- the store gave back what was written
+  abbrev pub is_honest : Kept S → Type 0
+  is_honest book = HasCleanDisk (state g book.connection)
+
+  -- its database holds tables that events led to
+  abbrev pub is_open : Kept S → Type 0
+  is_open book = IsOpenAt (state g book.connection) (tables book)
+
+  -- the tables in what a stop may leave
+  abbrev pub may_leave : Kept S → Tables → Type 0
+  may_leave book t =
+      (trees : Trees) × (state g book.connection).may_leave trees × (t ≡ tables_left trees)

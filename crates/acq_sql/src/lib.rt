@@ -1,0 +1,14 @@
+//! A book in a database of SQL, behind the trait of all books.
+//!
+//! [`SqlBook`] keeps the tables in a connection of the kit's `sqlite`. Each look-up reads the rows
+//! that it needs, each change is one transaction, and a stop leaves the tables from before or those
+//! with the whole change.
+#![tactic(auto)]
+
+mod answers;
+mod refusal;
+mod sql_book;
+
+pub use acq_sql_opening::OpeningFault;
+pub use refusal::Refusal;
+pub use sql_book::SqlBook;

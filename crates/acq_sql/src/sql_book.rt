@@ -1,0 +1,264 @@
+//! A book in a database.
+
+ghost use Rattle.std.specs.Prelude.{◌≡◌, ◌≢◌, ◌↔◌, IfErr, IfOk, IsTrue, false, option_map};
+ghost use Rattle.sqlite.specs.Held.{state};
+ghost use Rattle.sqlite.specs.State.{HasCleanDisk};
+ghost use Rattle.acq_core.specs.Pasts.{HasPast};
+ghost use Rattle.acq_core.specs.Tables.{Tables, new_tables};
+ghost use Rattle.acq_sql_rows.specs.Schema.{no_schema};
+ghost use Rattle.acq_sql_changes.specs.Changed.{IsAt};
+ghost use Rattle.acq_sql_opening.specs.Checked.{IsFailure};
+ghost use Rattle.acq_sql_opening.specs.declared.opening_fault.OpeningFault.TheVariants.{NotABook};
+ghost use Rattle.acq_sql.specs.Opened.{IsOpenAt};
+
+use crate::answers::counted;
+use crate::refusal::Refusal;
+use acq_book::{Book, BookFault, Visit};
+use acq_core::{
+    AdmittedCount, Change, Limit, Merchant, MerchantId, Posting, Reconciliation, Reference,
+    Request, RequestKey, TerminalId, UsedCount,
+};
+use acq_invariants::every_opening;
+use acq_sql_opening::{check_book, make_book};
+use card_no::{Prefix, Range};
+use day_totals::{Day, Totals};
+use sqlite::{Alter, Connection};
+use std::alloc::Global;
+use std::marker::Model;
+
+/// A book in a database. Contracts see its connection, and how many of its calls failed for another
+/// cause than memory.
+#[derive(Drop)]
+pub struct SqlBook<S: Alter> {
+    alloc: Global,
+    connection: Connection<S>,
+    failures: u64,
+}
+
+impl<S: Alter> Model for SqlBook<S> {
+    ghost use Rattle.std.specs.Prelude.{◌≡◌, false};
+    ghost use Rattle.acq_sql.specs.Kept.{Kept, kept_code};
+
+    ghost Value = { Kept S };
+
+    ghost coded = { kept_code S.code };
+
+    ghost view = { λ book. record { connection = book.connection; failures = book.failures } };
+
+    ghost invariant = { λ book. book.connection.in_transaction ≡ false };
+}
+
+impl<S: Alter> SqlBook<S> {
+    /// Makes a new book in an empty database, of a connection outside a transaction.
+    pub fn create(
+        alloc: Global,
+        mut connection: Connection<S>,
+        limit: Limit,
+        first_day: Day,
+    ) -> Result<SqlBook<S>, Refusal<S>>
+        requires settled { connection.in_transaction ≡ false }
+        ensures new { IfOk result (λ book. HasCleanDisk (state S.Store book.connection)
+            → IsOpenAt (state S.Store book.connection)
+            (new_tables (record { limit = limit; first_day = first_day }))) }
+        ensures refused { IfErr result (λ refusal.
+            (refusal.fault ≡ NotABook) ↔ (connection.schema ≢ no_schema)) }
+    {
+        every_opening(limit, first_day);
+        match make_book(&mut connection, limit, first_day) {
+            Ok(()) => Ok(SqlBook {
+                alloc,
+                connection,
+                failures: 0,
+            }),
+            Err(fault) => Err(Refusal { fault, connection }),
+        }
+    }
+
+    /// Takes the database of a connection outside a transaction for the book that it holds.
+    pub fn adopt(alloc: Global, mut connection: Connection<S>) -> Result<SqlBook<S>, Refusal<S>>
+        requires settled { connection.in_transaction ≡ false }
+        ensures same { IfOk result (λ book. HasCleanDisk (state S.Store book.connection)
+            → (t : Tables) → IsAt (state S.Store connection) t → HasPast t
+            → IsOpenAt (state S.Store book.connection) t) }
+        ensures accepts { IfErr result (λ refusal.
+            HasCleanDisk (state S.Store refusal.connection) → (t : Tables)
+            → IsAt (state S.Store connection) t → IsFailure refusal.fault) }
+    {
+        match check_book(&mut connection, alloc) {
+            Ok(()) => Ok(SqlBook {
+                alloc,
+                connection,
+                failures: 0,
+            }),
+            Err(fault) => Err(Refusal { fault, connection }),
+        }
+    }
+
+    /// The connection.
+    pub fn release(self) -> Connection<S>
+        ensures connection { result ≡ self.connection }
+        ensures settled { result.in_transaction ≡ false }
+    {
+        self.connection
+    }
+
+    /// Outside a transaction the connection shows what was committed.
+    fn settled(&self)
+        ensures { IsTrue (state S.Store self.now.connection).is_open
+            → (state S.Store self.now.connection).now
+            ≡ (state S.Store self.now.connection).committed }
+    {
+        self.connection.is_autocommit();
+    }
+}
+
+impl<S: Alter> Book for SqlBook<S> {
+    ghost use Rattle.acq_sql.specs.Opened as opened;
+
+    ghost tables = { opened.tables S.Store };
+
+    ghost is_honest = { opened.is_honest S.Store };
+
+    ghost is_open = { opened.is_open S.Store };
+
+    ghost may_leave = { opened.may_leave S.Store };
+
+    ghost failures = { λ book. book.failures };
+
+    ghost honest = { λ book is. is.clean };
+
+    fn limit(&mut self) -> Result<Limit, BookFault> {
+        self.settled();
+        let answer = acq_sql_lookups::limit_and_day(&mut self.connection);
+        let (limit, _) = counted(&mut self.failures, answer)?;
+        Ok(limit)
+    }
+
+    fn day(&mut self) -> Result<Day, BookFault> {
+        self.settled();
+        let answer = acq_sql_lookups::limit_and_day(&mut self.connection);
+        let (_, day) = counted(&mut self.failures, answer)?;
+        Ok(day)
+    }
+
+    fn merchant(&mut self, id: MerchantId) -> Result<Option<Merchant>, BookFault> {
+        self.settled();
+        let answer = acq_sql_lookups::merchant(&mut self.connection, id);
+        counted(&mut self.failures, answer)
+    }
+
+    fn has_terminal(&mut self, merchant: MerchantId, id: TerminalId) -> Result<bool, BookFault> {
+        self.settled();
+        let answer = acq_sql_lookups::has_terminal(&mut self.connection, merchant, id);
+        counted(&mut self.failures, answer)
+    }
+
+    fn range(&mut self, prefix: Prefix) -> Result<Option<Range>, BookFault> {
+        self.settled();
+        let answer = acq_sql_lookups::range(&mut self.connection, self.alloc, prefix);
+        counted(&mut self.failures, answer)
+    }
+
+    fn overlapping(&mut self, low: u32, high: u32) -> Result<Option<Range>, BookFault> {
+        self.settled();
+        let answer = acq_sql_lookups::overlapping(&mut self.connection, self.alloc, low, high);
+        counted(&mut self.failures, answer)
+    }
+
+    fn request(&mut self, key: RequestKey) -> Result<Option<Request>, BookFault> {
+        self.settled();
+        let answer = acq_sql_lookups::request(&mut self.connection, self.alloc, key);
+        counted(&mut self.failures, answer)
+    }
+
+    fn by_reference(
+        &mut self,
+        merchant: MerchantId,
+        reference: Reference,
+    ) -> Result<Option<Request>, BookFault> {
+        self.settled();
+        let answer = acq_sql_lookups::by_reference(
+            &mut self.connection,
+            self.alloc,
+            merchant,
+            reference,
+        );
+        counted(&mut self.failures, answer)
+    }
+
+    fn admitted(&mut self, merchant: MerchantId) -> Result<AdmittedCount, BookFault> {
+        self.settled();
+        let answer = acq_sql_lookups::admitted(&mut self.connection, merchant);
+        counted(&mut self.failures, answer)
+    }
+
+    fn used(&mut self, merchant: MerchantId, day: Day) -> Result<UsedCount, BookFault> {
+        self.settled();
+        let answer = acq_sql_lookups::used(&mut self.connection, merchant, day);
+        counted(&mut self.failures, answer)
+    }
+
+    fn totals(&mut self, merchant: MerchantId, day: Day) -> Result<Totals, BookFault> {
+        self.settled();
+        let answer = acq_sql_lookups::totals(&mut self.connection, merchant, day);
+        counted(&mut self.failures, answer)
+    }
+
+    fn pending(&mut self, day: Day) -> Result<u64, BookFault> {
+        self.settled();
+        let answer = acq_sql_lookups::pending(&mut self.connection, day);
+        counted(&mut self.failures, answer)
+    }
+
+    fn last_reconciliation(
+        &mut self,
+        merchant: MerchantId,
+        day: Day,
+    ) -> Result<Option<Reconciliation>, BookFault> {
+        self.settled();
+        let answer = acq_sql_lookups::last_reconciliation(&mut self.connection, merchant, day);
+        let last = counted(&mut self.failures, answer)?;
+        Ok(without_number(last))
+    }
+
+    fn walk_postings<V: Visit<(u64, Posting)>>(
+        &mut self,
+        day: Day,
+        visitor: &mut V,
+    ) -> Result<(), BookFault> {
+        self.settled();
+        let walked = acq_sql_walks::walk_postings(&mut self.connection, self.alloc, day, visitor);
+        counted(&mut self.failures, walked)
+    }
+
+    fn walk_merchants<V: Visit<Merchant>>(&mut self, visitor: &mut V) -> Result<(), BookFault> {
+        self.settled();
+        let walked = acq_sql_walks::walk_merchants(&mut self.connection, visitor);
+        counted(&mut self.failures, walked)
+    }
+
+    fn walk_holds<V: Visit<Request>>(
+        &mut self,
+        merchant: MerchantId,
+        visitor: &mut V,
+    ) -> Result<(), BookFault> {
+        self.settled();
+        let walked = acq_sql_walks::walk_holds(&mut self.connection, self.alloc, merchant, visitor);
+        counted(&mut self.failures, walked)
+    }
+
+    fn apply(&mut self, change: &Change) -> Result<(), BookFault> {
+        let made = acq_sql_apply::apply(&mut self.connection, self.alloc, change);
+        counted(&mut self.failures, made)
+    }
+}
+
+/// A reconciliation without its number.
+fn without_number(last: Option<(u64, Reconciliation)>) -> Option<Reconciliation>
+    ensures { result ≡ option_map (λ row. row.1) last }
+{
+    match last {
+        Some((_, reconciliation)) => Some(reconciliation),
+        None => None,
+    }
+}
