@@ -4,12 +4,12 @@ use super::days::TOO_MUCH_CLAIMED;
 use super::holds::{HOLD, LAST_SECOND, SECOND_HOLD};
 use super::reversals::{NOTHING_CLAIMED, REVERSAL};
 use super::sales::{SALE, SALE_AT_B};
-use super::script::{GREATEST_LIMIT, MAY_1, setup};
+use super::script::{GREATEST_LIMIT, MAY_1, host_in_sql, setup};
 use super::script_event::ScriptEvent::{Approve, Cutover, Frame};
 use super::script_event::{MORNING, ScriptEvent};
 use super::wording::spelled;
-use acq_book::ListBook;
-use acq_core::{Limit, MerchantId, Moment};
+use acq_book::{Book, ListBook};
+use acq_core::{Event, Limit, MerchantId, Moment};
 use acq_host::Host;
 use acq_link::MemorySink;
 use acq_reports::{ReportFault, clearing, open_holds, settlement};
@@ -192,29 +192,40 @@ MERCHANTS 2
     },
 ];
 
-/// The book of a host that took these events behind the setup, on the first of May.
-fn book_after(
-    alloc: Global,
-    keys: RandomState,
-    script_events: &[ScriptEvent],
-) -> Result<ListBook, Fail> {
+/// These events behind the setup that all scripts share.
+fn events_of(alloc: Global, script_events: &[ScriptEvent]) -> Result<Vec<Event>, Fail> {
     let mut events = setup(alloc)?;
     for script_event in script_events {
         events.push(script_event.event(alloc)?)?;
     }
-    let limit = Limit::from_number(GREATEST_LIMIT).ok_or("a limit")?;
-    let first_day = Day::from_number(MAY_1).ok_or("a day")?;
-    let mut host = Host::in_memory(alloc, keys, limit, first_day);
-    let ran = host.run(events.as_slice());
+    Ok(events)
+}
+
+/// The book of a host that took all events.
+fn book_of<B: Book + Drop>(mut host: Host<B>, events: &[Event]) -> Result<B, Fail> {
+    let ran = host.run(events);
     let book = host.into_book();
     match ran {
         Ok(_) => Ok(book),
-        // A book in memory stops a run only where memory ran out.
+        // These events fail only where memory runs out.
         Err(_) => {
             drop(book);
             Err(AllocError.into())
         }
     }
+}
+
+/// The book in memory of a host that took these events behind the setup, on the first of May.
+fn book_after(
+    alloc: Global,
+    keys: RandomState,
+    script_events: &[ScriptEvent],
+) -> Result<ListBook, Fail> {
+    let events = events_of(alloc, script_events)?;
+    let limit = Limit::from_number(GREATEST_LIMIT).ok_or("a limit")?;
+    let first_day = Day::from_number(MAY_1).ok_or("a day")?;
+    let host = Host::in_memory(alloc, keys, limit, first_day);
+    book_of(host, events.as_slice())
 }
 
 /// What is asked of a book, in the types that it takes.
@@ -238,9 +249,9 @@ fn typed(asked: Asked) -> Result<Wanted, Fail> {
 }
 
 /// Writes what is asked for.
-fn write(
+fn write<B: Book>(
     alloc: Global,
-    book: &mut ListBook,
+    book: &mut B,
     wanted: Wanted,
     text: &mut MemorySink,
 ) -> Result<(), ReportFault> {
@@ -251,26 +262,51 @@ fn write(
     }
 }
 
+/// Compares what is written of a book.
+fn check<B: Book + Drop>(
+    rt: &impl Abort,
+    alloc: Global,
+    mut book: B,
+    wanted: Wanted,
+    report: &Report,
+) -> Result<(), Fail> {
+    let mut text = MemorySink::new(alloc);
+    let written = write(alloc, &mut book, wanted, &mut text);
+    drop(book);
+    let (ended, out) = match report.text {
+        Ok(out) => (Ok(()), out),
+        Err(fault) => (Err(fault), ""),
+    };
+    assert_eq!(rt; written, ended, "for {:?}", report.asked);
+    assert_eq!(rt;
+        std::str::from_utf8(text.as_bytes())?,
+        out,
+        "for {:?}",
+        report.asked
+    );
+    Ok(())
+}
+
 #[test]
 fn reports(rt: HostRuntime) -> Result<(), Fail> {
     let alloc = rt.alloc();
     for report in REPORTS {
         let wanted = typed(report.asked)?;
-        let mut text = MemorySink::new(alloc);
-        let mut book = book_after(alloc, RandomState::new(&rt)?, report.events)?;
-        let written = write(alloc, &mut book, wanted, &mut text);
-        drop(book);
-        let (ended, out) = match report.text {
-            Ok(out) => (Ok(()), out),
-            Err(fault) => (Err(fault), ""),
-        };
-        assert_eq!(rt; written, ended, "for {:?}", report.asked);
-        assert_eq!(rt;
-            std::str::from_utf8(text.as_bytes())?,
-            out,
-            "for {:?}",
-            report.asked
-        );
+        let book = book_after(alloc, RandomState::new(&rt)?, report.events)?;
+        check(&rt, alloc, book, wanted, &report)?;
+    }
+    Ok(())
+}
+
+#[test]
+fn reports_in_sql(rt: HostRuntime) -> Result<(), Fail> {
+    let alloc = rt.alloc();
+    for report in REPORTS {
+        let wanted = typed(report.asked)?;
+        let events = events_of(alloc, report.events)?;
+        let host = host_in_sql(alloc, GREATEST_LIMIT, MAY_1)?;
+        let book = book_of(host, events.as_slice())?;
+        check(&rt, alloc, book, wanted, &report)?;
     }
     Ok(())
 }

@@ -5,7 +5,9 @@ use super::other_merchant::add_lot;
 use super::script_event::ScriptEvent;
 use acq_core::{Event, Limit, Output};
 use acq_host::Host;
+use acq_sql::SqlBook;
 use day_totals::Day;
+use sqlite::{Connection, MemStore};
 use std::alloc::Global;
 use std::hash::RandomState;
 use std::process::Abort;
@@ -68,6 +70,34 @@ pub(super) fn outputs(
     Ok(said?)
 }
 
+/// A host over a new book in SQL, which is kept in memory.
+pub(super) fn host_in_sql(
+    alloc: Global,
+    limit: u32,
+    first_day: u32,
+) -> Result<Host<SqlBook<MemStore>>, Fail> {
+    let limit = Limit::from_number(limit).ok_or("a limit")?;
+    let first_day = Day::from_number(first_day).ok_or("a day")?;
+    let connection = Connection::open_in_memory(alloc)?;
+    let Ok(book) = SqlBook::create(alloc, connection, limit, first_day) else {
+        return Err("a new book")?;
+    };
+    Ok(Host::new(alloc, book))
+}
+
+/// What such a host says to events.
+fn outputs_in_sql(
+    alloc: Global,
+    limit: u32,
+    first_day: u32,
+    events: &[Event],
+) -> Result<Vec<Output>, Fail> {
+    let mut host = host_in_sql(alloc, limit, first_day)?;
+    let said = host.run(events);
+    drop(host);
+    Ok(said?)
+}
+
 /// Compares what the host said at the steps of a script, which stand at these places.
 pub(super) fn compare(
     rt: &impl Abort,
@@ -103,8 +133,8 @@ pub(super) fn events_among(
     Ok((events, places))
 }
 
-/// Runs a script among so many sales of another merchant, and compares what the host says at its
-/// steps.
+/// Runs a script among so many sales of another merchant, over a book in memory and over one in SQL,
+/// and compares what the host says at its steps.
 pub(super) fn run_among(
     rt: &impl Abort,
     alloc: Global,
@@ -121,6 +151,8 @@ pub(super) fn run_among(
         events.as_slice(),
     )?;
     assert_eq!(rt; said.len(), events.len(), "{}", script.name);
+    compare(rt, alloc, script, said.as_slice(), places.as_slice())?;
+    let said = outputs_in_sql(alloc, script.limit, script.first_day, events.as_slice())?;
     compare(rt, alloc, script, said.as_slice(), places.as_slice())
 }
 

@@ -4,11 +4,12 @@ use super::expected::Expected::{Ask, Done, Reply};
 use super::holds::{HOLD, LAST_SECOND};
 use super::reversals::{REVERSAL, REVERSED};
 use super::sales::{SALE, SALE_APPROVED};
-use super::script::{GREATEST_LIMIT, MAY_1, Script, compare, events_among, run_all};
+use super::script::{GREATEST_LIMIT, MAY_1, Script, compare, events_among, host_in_sql, run_all};
 use super::script_event::ScriptEvent::{Approve, Cutover, Frame, FrameAt};
 use acq_book::Book;
 use acq_core::{Event, Limit, Output};
 use acq_host::Host;
+use acq_sql::SqlBook;
 use day_totals::Day;
 use std::hash::RandomState;
 use std::test::Fail;
@@ -94,4 +95,23 @@ fn going_on(rt: HostRuntime) -> Result<(), Fail> {
         said.as_slice(),
         places.as_slice(),
     )
+}
+
+/// A book in SQL that is handed back at the half, and taken again, has lost nothing.
+#[test]
+fn taken_again(rt: HostRuntime) -> Result<(), Fail> {
+    let alloc = rt.alloc();
+    let (events, places) = events_among(alloc, &TWO_DAYS, 0)?;
+    let (first, later) = events.split_at(events.len() / 2);
+    let mut host = host_in_sql(alloc, GREATEST_LIMIT, MAY_1)?;
+    let begun = host.run(first);
+    let Ok(book) = SqlBook::adopt(alloc, host.into_book().release()) else {
+        return Err("a book")?;
+    };
+    let mut host = Host::new(alloc, book);
+    let ended = host.run(later);
+    drop(host);
+    let mut said = begun?;
+    said.extend(ended?)?;
+    compare(&rt, alloc, &TWO_DAYS, said.as_slice(), places.as_slice())
 }

@@ -1,7 +1,7 @@
 //! What a book hands over to reports: the rows of its walks, the pending requests of a day, and a
 //! merchant's last reconciliation.
 
-use super::script::{GREATEST_LIMIT, MAY_1, setup};
+use super::script::{GREATEST_LIMIT, MAY_1, host_in_sql, setup};
 use super::script_event::ScriptEvent::{self, Approve, Enrol, Frame};
 use acq_book::{Book, BookFault, Visit};
 use acq_core::{Event, Limit, Merchant, MerchantId, Posting, Request};
@@ -9,6 +9,7 @@ use acq_host::Host;
 use day_totals::Day;
 use std::alloc::Global;
 use std::hash::RandomState;
+use std::process::Abort;
 use std::test::Fail;
 
 /// A merchant whose name is before all others; a sale of merchant B, and then one of A; two holds
@@ -138,20 +139,23 @@ fn reports<B: Book>(book: &mut B, day: Day, merchant: MerchantId) -> Result<Find
     })
 }
 
-/// What the book hands over after the events, behind the setup that all scripts share.
-fn reports_after(
-    alloc: Global,
-    keys: RandomState,
-    day: Day,
-    merchant: MerchantId,
-) -> Result<Findings, Fail> {
+/// The events behind the setup that all scripts share.
+fn events_of_a_day(alloc: Global) -> Result<Vec<Event>, Fail> {
     let mut events: Vec<Event> = setup(alloc)?;
     for event in &EVENTS {
         events.push(event.event(alloc)?)?;
     }
-    let limit = Limit::from_number(GREATEST_LIMIT).ok_or("a limit")?;
-    let mut host = Host::in_memory(alloc, keys, limit, day);
-    let has_run = host.run(events.as_slice()).is_ok();
+    Ok(events)
+}
+
+/// What the book of a host hands over after events.
+fn found_after<B: Book + Drop>(
+    mut host: Host<B>,
+    events: &[Event],
+    day: Day,
+    merchant: MerchantId,
+) -> Result<Findings, Fail> {
+    let has_run = host.run(events).is_ok();
     let mut book = host.into_book();
     let found = reports(&mut book, day, merchant);
     drop(book);
@@ -159,11 +163,7 @@ fn reports_after(
     Ok(found?)
 }
 
-#[test]
-fn rows_for_reports(rt: HostRuntime) -> Result<(), Fail> {
-    let day = Day::from_number(MAY_1).ok_or("a day")?;
-    let merchant = MerchantId::read(b"MERCHANT0000001").ok_or("a merchant")?;
-    let found = reports_after(rt.alloc(), RandomState::new(&rt)?, day, merchant)?;
+fn check(rt: &impl Abort, found: &Findings) {
     assert_eq!(rt;
         found.whole,
         [[2001, 3002, 1001, 0], [57, 49, 50, 0], [3, 4, 0, 0]]
@@ -171,5 +171,19 @@ fn rows_for_reports(rt: HostRuntime) -> Result<(), Fail> {
     assert_eq!(rt; found.begun, [[2001, 0, 0, 0], [57, 0, 0, 0], [3, 0, 0, 0]]);
     assert_eq!(rt; found.pending, 1);
     assert_eq!(rt; found.in_balance, Some(true));
+}
+
+#[test]
+fn rows_for_reports(rt: HostRuntime) -> Result<(), Fail> {
+    let alloc = rt.alloc();
+    let day = Day::from_number(MAY_1).ok_or("a day")?;
+    let limit = Limit::from_number(GREATEST_LIMIT).ok_or("a limit")?;
+    let merchant = MerchantId::read(b"MERCHANT0000001").ok_or("a merchant")?;
+    let events = events_of_a_day(alloc)?;
+    let keys = RandomState::new(&rt)?;
+    let host = Host::in_memory(alloc, keys, limit, day);
+    check(&rt, &found_after(host, events.as_slice(), day, merchant)?);
+    let host = host_in_sql(alloc, GREATEST_LIMIT, MAY_1)?;
+    check(&rt, &found_after(host, events.as_slice(), day, merchant)?);
     Ok(())
 }
