@@ -1,13 +1,14 @@
 //! A book in a database.
 
-ghost use Rattle.std.specs.Prelude.{◌≡◌, ◌≢◌, ◌↔◌, IfErr, IfOk, IsTrue, false, option_map};
+ghost use Rattle.std.specs.Prelude.{◌≡◌, ◌≢◌, ◌↔◌, Err, IfErr, IfOk, IsTrue, Ok, false};
+ghost use Rattle.std.specs.Prelude.{option_map};
 ghost use Rattle.sqlite.specs.Held.{state};
-ghost use Rattle.sqlite.specs.State.{HasCleanDisk};
+ghost use Rattle.sqlite.specs.State.{HasCleanDisk, Survives};
 ghost use Rattle.acq_core.specs.Pasts.{HasPast};
 ghost use Rattle.acq_core.specs.Tables.{Tables, new_tables};
 ghost use Rattle.acq_sql_rows.specs.Schema.{no_schema};
-ghost use Rattle.acq_sql_changes.specs.Changed.{IsAt};
-ghost use Rattle.acq_sql_opening.specs.Checked.{IsFailure};
+ghost use Rattle.acq_sql_changes.specs.Changed.{HoldsAfter, IsAt};
+ghost use Rattle.acq_sql_opening.specs.Checked.{IsFailure, Judges};
 ghost use Rattle.acq_sql_opening.specs.declared.opening_fault.OpeningFault.TheVariants.{NotABook};
 ghost use Rattle.acq_sql.specs.Opened.{IsOpenAt};
 
@@ -62,6 +63,15 @@ impl<S: Alter> SqlBook<S> {
             (new_tables (record { limit = limit; first_day = first_day }))) }
         ensures refused { IfErr result (λ refusal.
             (refusal.fault ≡ NotABook) ↔ (connection.schema ≢ no_schema)) }
+        ensures unchanged { IfErr result (λ refusal.
+            refusal.fault ≡ NotABook → refusal.connection ≡ connection) }
+        // A stop leaves what it might before, or the whole new book.
+        ensures stop { IfOk result (λ book.
+            Survives (state S.Store connection) (state S.Store book.connection)
+            (HoldsAfter (new_tables (record { limit = limit; first_day = first_day })))) }
+        ensures refused_stop { IfErr result (λ refusal.
+            Survives (state S.Store connection) (state S.Store refusal.connection)
+            (HoldsAfter (new_tables (record { limit = limit; first_day = first_day })))) }
     {
         every_opening(limit, first_day);
         match make_book(&mut connection, limit, first_day) {
@@ -83,6 +93,11 @@ impl<S: Alter> SqlBook<S> {
         ensures accepts { IfErr result (λ refusal.
             HasCleanDisk (state S.Store refusal.connection) → (t : Tables)
             → IsAt (state S.Store connection) t → IsFailure refusal.fault) }
+        // It is taken only where it has the tables and the row of a book of this version.
+        ensures taken { IfOk result (λ book. HasCleanDisk (state S.Store book.connection)
+            → Judges {T = Unit {0}} (state S.Store connection).now (Ok tt)) }
+        ensures told { IfErr result (λ refusal. HasCleanDisk (state S.Store refusal.connection)
+            → Judges {T = Unit {0}} (state S.Store connection).now (Err refusal.fault)) }
     {
         match check_book(&mut connection, alloc) {
             Ok(()) => Ok(SqlBook {
