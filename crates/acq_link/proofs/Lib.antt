@@ -1,4 +1,5 @@
 pub mod EmptyStruct
 pub mod FramesReadOnce
+pub mod RestKept
 pub mod WholeTransfers
 pub mod WrittenFrames

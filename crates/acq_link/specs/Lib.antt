@@ -1,4 +1,5 @@
 pub mod Call
+pub mod Deframing
 pub mod FaultTexts
 pub mod Frames
 pub mod FramesAt

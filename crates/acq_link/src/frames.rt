@@ -19,6 +19,9 @@ const HEADER: usize = 2;
 /// The most bytes of a message.
 const LONGEST: usize = 4096;
 
+/// The most bytes of a frame.
+pub(crate) const LONGEST_FRAME: usize = HEADER + LONGEST;
+
 /// What stands at the front of these bytes. It takes no memory.
 pub fn frame_at(bytes: &[u8]) -> Front<'_>
     ensures { IsFront bytes.now result }

@@ -2,6 +2,8 @@
 #![tactic(auto)]
 
 mod call;
+mod deframe_fault;
+mod deframer;
 mod failed;
 mod frames;
 mod front;
@@ -18,6 +20,8 @@ mod write_fault;
 mod write_sink;
 
 pub use call::Call;
+pub use deframe_fault::DeframeFault;
+pub use deframer::Deframer;
 pub use failed::Failed;
 pub use frames::{frame_at, write_frame};
 pub use front::Front;

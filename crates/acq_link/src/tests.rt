@@ -1,6 +1,6 @@
 use crate::{
-    Failed, Front, InputFault, MemorySink, ReadSource, Sink, SliceSource, Source, WriteFault,
-    WriteSink, frame_at, read_to_end, write_frame, write_out,
+    DeframeFault, Deframer, Failed, Front, InputFault, MemorySink, ReadSource, Sink, SliceSource,
+    Source, WriteFault, WriteSink, frame_at, read_to_end, write_frame, write_out,
 };
 use std::io;
 use std::io::{ErrorKind, Read, Write};
@@ -146,6 +146,8 @@ fn faults_have_texts(rt: HostRuntime) -> Result<(), Fail> {
     assert_eq!(rt; failed.as_str(), "a read or a write failed");
     let faults = format!(in rt.alloc(); "{}, {}", InputFault::Memory, InputFault::Read)?;
     assert_eq!(rt; faults.as_str(), "out of memory, a read failed");
+    let faults = format!(in rt.alloc(); "{}, {}", DeframeFault::Memory, DeframeFault::BadLength)?;
+    assert_eq!(rt; faults.as_str(), "out of memory, a frame of a bad length");
     Ok(())
 }
 
@@ -171,5 +173,38 @@ fn frames_are_found_and_written(rt: HostRuntime) -> Result<(), Fail> {
     let fault = write_frame(rt.alloc(), b"ab", &mut short);
     assert_eq!(rt; fault, Err(WriteFault::Write(3)));
     assert_eq!(rt; short.as_bytes(), b"\x00\x02a".as_slice());
+    Ok(())
+}
+
+/// Takes in a piece that there is room for.
+fn feed(stream: &mut Deframer, piece: &[u8]) -> Result<(), Fail> {
+    if stream.room() < piece.len() {
+        return Err(Fail::from("no room"));
+    }
+    stream.feed(piece);
+    Ok(())
+}
+
+/// The messages of a stream that is cut anywhere, and what is held between the pieces.
+#[test]
+fn messages_are_taken_out_of_pieces(rt: HostRuntime) -> Result<(), Fail> {
+    let mut stream = Deframer::new();
+    assert!(rt; stream.is_empty());
+    assert_eq!(rt; stream.room(), 4098);
+    for part in [b"\x00".as_slice(), b"\x03a", b"b"] {
+        feed(&mut stream, part)?;
+        assert_eq!(rt; stream.take_message(rt.alloc()).err(), None);
+    }
+    assert_eq!(rt; stream.room(), 4094);
+    feed(&mut stream, b"c\x00\x01d\x00\x00")?;
+    for expected in [b"abc".as_slice(), b"d"] {
+        match stream.take_message(rt.alloc())? {
+            Some(message) => assert_eq!(rt; message.as_slice(), expected),
+            None => return Err(Fail::from("no message")),
+        }
+    }
+    let fault = stream.take_message(rt.alloc()).err();
+    assert_eq!(rt; fault, Some(DeframeFault::BadLength));
+    assert_eq!(rt; stream.room(), 4096);
     Ok(())
 }

@@ -1,0 +1,92 @@
+//! Frames out of a stream that comes in pieces.
+
+ghost use Rattle.std.specs.Prelude.{◌≡◌, ◌==◌, ◌+◌, ◌<◌, ◌≤◌, ◌++◌, [], length, true};
+ghost use Rattle.std.specs.Prelude.{IfOk, IfSome, IfNone, IsErrOf, OnErr};
+ghost use Rattle.acq_link.specs.Frames.{has_bad_length};
+ghost use Rattle.acq_link.specs.FramesAt.{BeginsWithFrame, MayBecomeFrame};
+ghost use Rattle.acq_link.specs.Deframing.{longest_frame};
+
+use crate::deframe_fault::DeframeFault;
+use crate::frames::{LONGEST_FRAME, frame_at};
+use crate::front::Front;
+use std::alloc::Global;
+use std::marker::Model;
+
+/// Takes messages out of a stream that comes in pieces. It neither reads nor writes: it is fed, and
+/// holds what belongs to no message yet, at most one frame's bytes. Contracts see the list of them.
+#[derive(Drop)]
+pub struct Deframer {
+    bytes: [u8; LONGEST_FRAME],
+    held: usize,
+}
+
+impl Model for Deframer {
+    ghost use Rattle.std.specs.Prelude.{◌≤◌, ℕ, List, take};
+    ghost use Rattle.acq_link.specs.Deframing.{longest_frame};
+
+    ghost Value = { List ℕ };
+
+    ghost view = { λ d. take d.held d.bytes };
+
+    ghost invariant = { λ d. d.held ≤ longest_frame };
+}
+
+impl Deframer {
+    /// No byte yet. It takes no memory.
+    pub fn new() -> Deframer
+        ensures { result ≡ [] }
+    {
+        Deframer {
+            bytes: [0; LONGEST_FRAME],
+            held: 0,
+        }
+    }
+
+    /// Whether it holds nothing.
+    pub fn is_empty(&self) -> bool
+        ensures { result ≡ (length self.now == 0) }
+    {
+        self.held == 0
+    }
+
+    /// How many bytes it has room for: some, where what it holds may become a frame.
+    pub fn room(&self) -> usize
+        ensures room { result + length self.now ≡ longest_frame }
+        ensures some { MayBecomeFrame self.now → 0 < result }
+    {
+        LONGEST_FRAME - self.held
+    }
+
+    /// Takes in the next piece of the stream.
+    pub fn feed(&mut self, piece: &[u8])
+        requires { length self.old + length piece.now ≤ longest_frame }
+        ensures { self.new ≡ self.old ++ piece.now }
+    {
+        let end = self.held + piece.len();
+        self.bytes[self.held..end].copy_from_slice(piece);
+        self.held = end;
+    }
+
+    /// Takes out the message in front, if its frame is whole. A bad length is told as soon as its
+    /// two bytes are there. After an `Err` nothing has changed.
+    pub fn take_message(&mut self, alloc: Global) -> Result<Option<Vec<u8>>, DeframeFault>
+        ensures some { IfOk result (λ o. IfSome o (λ message.
+            BeginsWithFrame self.old message.items self.new)) }
+        ensures none { IfOk result (λ o. IfNone o
+            ((self.new ≡ self.old) × MayBecomeFrame self.old)) }
+        ensures bad { IsErrOf result DeframeFault.BadLength → has_bad_length self.old ≡ true }
+        ensures kept { OnErr result (self.new ≡ self.old) }
+    {
+        match frame_at(&self.bytes[..self.held]) {
+            Front::BadLength => Err(DeframeFault::BadLength),
+            Front::Partial => Ok(None),
+            Front::Frame { message, rest } => {
+                let message = Vec::from_slice(alloc, message)?;
+                let left = rest.len();
+                self.bytes.copy_within(self.held - left..self.held, 0);
+                self.held = left;
+                Ok(Some(message))
+            }
+        }
+    }
+}
