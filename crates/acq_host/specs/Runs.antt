@@ -1,8 +1,15 @@
 -- What a run of events leaves: the outputs and the tables of those that were taken.
-use Rattle.std.specs.Prelude.{◌≡◌, ℕ, ◌<◌, List, length, take}
+use Rattle.std.specs.Prelude.{◌≡◌, ℕ, ◌<◌, List, length, take, Option}
 use Rattle.acq_core.specs.declared.event.Event.{Event}
 use Rattle.acq_core.specs.declared.output.Output.{Output}
+use Rattle.acq_core.specs.declared.output.Output.TheVariants.{Reply}
 use Rattle.acq_core.specs.Tables.{Tables, outputs, tables_after}
+use Rattle.acq_invariants.specs.Replies.{IsReplyText}
+
+-- what the host says, if it is a reply, is the text of one
+abbrev pub IsWellSaid : Output → Type 0
+IsWellSaid output =
+    (party : Option (List ℕ)) (text : List ℕ) → output ≡ Reply party text → IsReplyText text
 
 -- the tables after the first events
 abbrev pub after_first : ℕ → Tables → List Event → Tables

@@ -9,7 +9,7 @@ ghost use Rattle.acq_book.specs.Promise.{HasRisen, IfStore, Makes};
 ghost use Rattle.acq_host.specs.Clearing.{KeptItsClearing};
 ghost use Rattle.acq_host.specs.Headline.{IsAlone, KeptItsPostings};
 ghost use Rattle.acq_core.specs.Pasts.{HasPast};
-ghost use Rattle.acq_host.specs.Runs.{StopsAt, after_first};
+ghost use Rattle.acq_host.specs.Runs.{IsWellSaid, StopsAt, after_first};
 
 use crate::deciding::{apply, decide};
 use crate::run_fault::RunFault;
@@ -77,6 +77,8 @@ impl<B: Book + Drop> Host<B> {
     pub fn take(&mut self, event: &Event) -> Result<Output, BookFault>
         ensures output { B.is_honest self.new → B.is_open self.old → IfOk result (λ output.
             output ≡ step_output (B.tables self.old) (arrival_of event.now)) }
+        // A reply is the text of one, and so fits a frame.
+        ensures reply { B.is_honest self.new → B.is_open self.old → IfOk result IsWellSaid }
         // The tables after it, and what a stop at any moment may leave.
         ensures tables { Makes B.tables B.is_honest B.is_open B.may_leave B.failures
             self.old self.new (is_ok result)

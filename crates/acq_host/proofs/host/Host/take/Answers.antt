@@ -6,6 +6,7 @@ use Rattle.acq_core.specs.Tables.{after_any, step_output, step_tables}
 use Rattle.acq_book.specs.Fits.{Fits}
 use Rattle.acq_book.specs.Promise.{Makes}
 use Rattle.acq_core.specs.Pasts.{IsBook, HasPast}
+use Rattle.acq_invariants.proofs.BooksAreSound.{books_are_sound}
 use Rattle.acq_invariants.proofs.BooksGoOn.{books_go_on}
 use Rattle.acq_host.proofs.Chains.{makes_after}
 use Rattle.acq_host.proofs.ChangesFit.{changes_fit}
@@ -66,6 +67,15 @@ returns-clause-output g c = λ h o.
     let was_open = subst g.B.Book.is_open (sym c.self.view_is) o in
     c.in_ok-output.ensures.output (looks.stays_open refl (c.in_ok-apply.ensures.makes.was_honest h) was_open)
     ∙ ap (λ b. step_output (g.B.Book.tables b) (arrival_of c.args.event.now)) c.self.view_is
+
+pub returns-clause-reply : goal.returns-clause-reply
+returns-clause-reply g c = λ h o party text is.
+    let t = g.B.Book.tables c.self.inside.book in
+    let looks = c.in_ok-output.ensures.looks in
+    let was_open = subst g.B.Book.is_open (sym c.self.view_is) o in
+    let past = c.self.invariant was_open in
+    let output = c.in_ok-output.ensures.output (looks.stays_open refl (c.in_ok-apply.ensures.makes.was_honest h) was_open) in
+    (books_are_sound past.0 t past.1).next_reply c.args.event.now party text c.every_event.ensures (sym output ∙ is)
 
 pub returns-clause-tables : goal.returns-clause-tables
 returns-clause-tables g c =

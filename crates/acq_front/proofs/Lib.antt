@@ -1,0 +1,7 @@
+pub mod GivenInOrder
+pub mod MessagesTaken
+pub mod Reading
+pub mod Served
+pub mod StreamRead
+pub mod TalkGoesOn
+pub mod Turned

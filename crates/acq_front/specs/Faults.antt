@@ -1,0 +1,78 @@
+-- The faults' numbers and texts, what faults of the parts are to a connection, and how many reads
+-- and writes failed.
+use Rattle.std.specs.Prelude.{ℕ, List, ◌++◌, [], codes, Result, Ok, Err}
+use Rattle.std.specs.Fmt.{decimal}
+use Rattle.acq_link.specs.declared.deframe_fault.DeframeFault as deframe
+use Rattle.iso_codec.specs.FaultTexts.{number_of_fault, element_of_fault}
+use Rattle.acq_book.specs.declared.book_fault.BookFault as book
+use Rattle.acq_front.specs.declared.front_fault.FrontFault.{FrontFault}
+use Rattle.acq_front.specs.declared.front_fault.FrontFault.TheVariants.{Memory, Store}
+use Rattle.acq_front.specs.declared.front_fault.FrontFault.TheVariants.{BadLength, Ended}
+use Rattle.acq_front.specs.declared.front_fault.FrontFault.TheVariants.{Undecodable, Read, Write}
+
+abbrev pub number_of : FrontFault → ℕ
+number_of Memory = 1
+number_of Store = 2
+number_of BadLength = 50
+number_of Ended = 51
+number_of (Undecodable fault) = 52
+number_of Read = 53
+number_of (Write n) = 54
+
+-- a fault's name
+abbrev pub name_of : FrontFault → List ℕ
+name_of Memory = codes "Memory"
+name_of Store = codes "Store"
+name_of BadLength = codes "BadLength"
+name_of Ended = codes "Ended"
+name_of (Undecodable fault) = codes "Undecodable"
+name_of Read = codes "Read"
+name_of (Write n) = codes "Write"
+
+-- its values, each behind a space
+abbrev pub values_of : FrontFault → List ℕ
+values_of (Undecodable fault) =
+    codes " " ++ decimal (number_of_fault fault) ++ codes " " ++ decimal (element_of_fault fault)
+values_of (Write n) = codes " " ++ decimal n
+values_of other = []
+
+-- the fault as printed lines have it
+abbrev pub text_of : FrontFault → List ℕ
+text_of fault = decimal (number_of fault) ++ codes " " ++ name_of fault ++ values_of fault
+
+-- what a book's fault is
+abbrev pub of_book : book.BookFault → FrontFault
+of_book book.TheVariants.Memory = Memory
+of_book book.TheVariants.Store = Store
+
+-- what a fault of the stream of frames is
+abbrev pub of_stream : deframe.DeframeFault → FrontFault
+of_stream deframe.TheVariants.Memory = Memory
+of_stream deframe.TheVariants.BadLength = BadLength
+
+-- how many reads failed
+abbrev pub failed_reads : Result (Unit {0}) FrontFault → ℕ
+failed_reads (Err Read) = 1
+failed_reads other = 0
+
+-- how many writes failed
+abbrev pub failed_writes : Result (Unit {0}) FrontFault → ℕ
+failed_writes (Err (Write n)) = 1
+failed_writes other = 0
+
+-- this holds where the store's fault is told
+abbrev pub IfStore : Result (Unit {0}) FrontFault → Type 0 → Type 0
+IfStore (Err Store) p = p
+IfStore other p = Unit {0}
+
+-- this holds where neither memory nor the store stopped it
+abbrev pub UnlessRefused : Result (Unit {0}) FrontFault → Type 0 → Type 0
+UnlessRefused (Err Memory) p = Unit {0}
+UnlessRefused (Err Store) p = Unit {0}
+UnlessRefused other p = p
+
+-- this holds where the input ended
+abbrev pub AtEnd : Result (Unit {0}) FrontFault → Type 0 → Type 0
+AtEnd (Ok u) p = p
+AtEnd (Err Ended) p = p
+AtEnd other p = Unit {0}

@@ -1,0 +1,120 @@
+-- What one message makes of a host, and what goes out for it.
+use Rattle.std.specs.Prelude.{◌≡◌, ◌<◌, ℕ, List, [], ◌∷◌, ◌++◌, ◌⊎◌, length, take, true}
+use Rattle.std.specs.Prelude.{Bool, Result, Ok, Err, is_ok}
+use Rattle.acq_link.specs.Frames.{frame, Frames, fits_frame}
+use Rattle.iso_codec.specs.Reading.{reading_of}
+use Rattle.acq_message.specs.declared.verdict.Verdict.{Verdict}
+use Rattle.acq_core.specs.declared.event.Event.{Event}
+use Rattle.acq_core.specs.declared.event.Event.TheVariants.{Answer}
+use Rattle.acq_core.specs.declared.output.Output.{Output}
+use Rattle.acq_core.specs.declared.output.Output.TheVariants.{Reply}
+use Rattle.acq_core.specs.Tables.{Tables, tables_after}
+use Rattle.acq_front.specs.declared.front_fault.FrontFault as fault
+use Rattle.acq_front.specs.Talk.{Taking, taking, replies, queries, Saying, AreSaid}
+
+-- whether a message reads
+abbrev pub is_read : List ℕ → Bool
+is_read message = is_ok (reading_of message)
+
+-- whether an event is an issuer's answer
+abbrev pub IsAnswer : Event → Type 0
+IsAnswer (Answer moment merchant reference verdict) = Unit {0}
+IsAnswer other = ⊥
+
+-- by these moments and verdicts a message makes these events, whatever comes later
+abbrev pub Makes : Tables → List ℕ → List ℕ → List Verdict → List Event → Type 0
+Makes t message moments verdicts events =
+    (later : List ℕ) (others : List Verdict) →
+    let made : Taking = record {
+      events = events;
+      tables = tables_after t events;
+      moments = later;
+      verdicts = others;
+    } in
+    taking t message (moments ++ later) (verdicts ++ others) ≡ made
+
+-- the host took the events that a message makes
+pub record TookMessage (may_say : Saying) (old new : Tables) (message moments : List ℕ)
+    (verdicts : List Verdict) (events : List Event) : Type 0 where
+  pub makes : Makes old message moments verdicts events
+  pub tables : new ≡ tables_after old events
+  pub said : AreSaid may_say (queries old events) verdicts
+
+-- and what went out are the frames of their replies
+pub record Answered (may_say : Saying) (old new : Tables) (message out moments : List ℕ)
+    (verdicts : List Verdict) : Type 0 where
+  pub events : List Event
+  pub took : TookMessage may_say old new message moments verdicts events
+  pub written : Frames out (replies old events)
+
+-- the message was taken, and the answer behind it was not
+pub record TookAllButAnswer (may_say : Saying) (old : Tables) (stays_open : Type 0) (new : Tables)
+    (message moments : List ℕ) (verdicts : List Verdict) : Type 0 where
+  pub came : Event
+  pub answer : Event
+  pub is_answer : IsAnswer answer
+  pub reads : is_read message ≡ true
+  pub makes : Makes old message moments verdicts (came ∷ answer ∷ [])
+  pub tables : stays_open → new ≡ tables_after old (came ∷ [])
+  pub said : AreSaid may_say (queries old (came ∷ [])) verdicts
+  pub silent : replies old (came ∷ []) ≡ []
+
+-- the message was not taken, or the answer behind it was not; and nothing went out
+abbrev pub Refused : Saying → Tables → Type 0 → Tables → List ℕ → List ℕ → List ℕ →
+    List Verdict → Type 0
+Refused may_say old stays_open new message out moments verdicts =
+    (out ≡ [])
+    × (((stays_open → new ≡ old) × (verdicts ≡ []))
+    ⊎ TookAllButAnswer may_say old stays_open new message moments verdicts)
+
+-- the message was taken, and of its reply's frame the first n bytes went out
+pub record CutShort (may_say : Saying) (old new : Tables) (message out moments : List ℕ)
+    (verdicts : List Verdict) (n : ℕ) : Type 0 where
+  pub events : List Event
+  pub reply : List ℕ
+  pub took : TookMessage may_say old new message moments verdicts events
+  pub reads : is_read message ≡ true
+  pub replied : replies old events ≡ reply ∷ []
+  pub short : n < length (frame reply)
+  pub written : out ≡ take n (frame reply)
+
+-- how one message was taken and answered
+abbrev pub Turns : Saying → Tables → Type 0 → Tables → List ℕ → List ℕ → List ℕ → List Verdict →
+    Result (Unit {0}) fault.FrontFault → Type 0
+Turns may_say old stays_open new message out moments verdicts (Ok u) =
+    Answered may_say old new message out moments verdicts × (is_read message ≡ true)
+Turns may_say old stays_open new message out moments verdicts (Err fault.TheVariants.Memory) =
+    Refused may_say old stays_open new message out moments verdicts
+Turns may_say old stays_open new message out moments verdicts (Err fault.TheVariants.Store) =
+    Refused may_say old stays_open new message out moments verdicts
+Turns may_say old stays_open new message out moments verdicts
+    (Err (fault.TheVariants.Undecodable f)) =
+    Answered may_say old new message out moments verdicts × (reading_of message ≡ Err f)
+Turns may_say old stays_open new message out moments verdicts
+    (Err (fault.TheVariants.Write n)) =
+    CutShort may_say old new message out moments verdicts n
+Turns may_say old stays_open new message out moments verdicts (Err other) = ⊥
+
+-- a reply, if there is one, fits a frame
+abbrev pub ReplyFits : Output → Type 0
+ReplyFits output = (party : _) (text : List ℕ) → output ≡ Reply party text → fits_frame text ≡ true
+
+-- a text's frame went out, or its first n bytes
+abbrev pub Sends : List ℕ → List ℕ → List ℕ → Result (Unit {0}) fault.FrontFault → Type 0
+Sends text old new (Ok u) = new ≡ old ++ frame text
+Sends text old new (Err (fault.TheVariants.Write n)) =
+    (n < length (frame text)) × (new ≡ old ++ take n (frame text))
+Sends text old new (Err other) = ⊥
+
+-- where the host's output is a reply, its frame went out, or its first n bytes
+abbrev pub SendsReply : Output → List ℕ → List ℕ → Result (Unit {0}) fault.FrontFault → Type 0
+SendsReply (Reply party text) old new result = Sends text old new result
+SendsReply other old new (Ok u) = new ≡ old
+SendsReply other old new (Err f) = ⊥
+
+-- it is no fault of the input
+abbrev pub OfMessage : Result (Unit {0}) fault.FrontFault → Type 0
+OfMessage (Err fault.TheVariants.BadLength) = ⊥
+OfMessage (Err fault.TheVariants.Ended) = ⊥
+OfMessage (Err fault.TheVariants.Read) = ⊥
+OfMessage other = Unit {0}

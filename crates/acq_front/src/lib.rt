@@ -1,0 +1,19 @@
+//! The front of the host: frames of a connection in, reply frames out, issuers asked in between.
+#![tactic(auto)]
+
+mod clock;
+mod front_fault;
+mod issuer;
+mod serving;
+mod slice_clock;
+mod slice_issuer;
+
+pub use clock::Clock;
+pub use front_fault::FrontFault;
+pub use issuer::Issuer;
+pub use serving::serve;
+pub use slice_clock::SliceClock;
+pub use slice_issuer::SliceIssuer;
+
+#[cfg(test)]
+mod tests;

@@ -1,0 +1,159 @@
+//! One connection, from its first byte on.
+
+ghost use Rattle.std.specs.Prelude.{◌≡◌, ◌⊎◌, ◌+◌, ◌≤◌, ◌++◌, ℕ, List, true};
+ghost use Rattle.acq_link.specs.Frames.{fits_frame};
+ghost use Rattle.acq_book.specs.Promise.{HasRisen};
+ghost use Rattle.acq_front.specs.Coming.{GivesAll};
+ghost use Rattle.acq_front.specs.Talk.{first_moment};
+ghost use Rattle.acq_front.specs.Faults.{AtEnd, IfStore, UnlessRefused, failed_reads};
+ghost use Rattle.acq_front.specs.Faults.{failed_writes};
+ghost use Rattle.acq_front.specs.Turns.{OfMessage, ReplyFits, Sends, SendsReply, Turns};
+ghost use Rattle.acq_front.specs.Serving.{Connection, Serves, TakesAll};
+
+use crate::clock::Clock;
+use crate::front_fault::FrontFault;
+use crate::issuer::Issuer;
+use acq_book::Book;
+use acq_core::{Event, MessageText, Output, Query, Verdict};
+use acq_host::Host;
+use acq_link::{Deframer, Sink, Source, write_out};
+use std::alloc::Global;
+
+/// The bytes of a length.
+const HEADER: usize = 2;
+
+/// The most bytes of a message.
+const LONGEST: usize = 4096;
+
+/// The most bytes of a frame.
+const LONGEST_FRAME: usize = HEADER + LONGEST;
+
+/// Serves one connection: takes each message as soon as its frame is whole, asks the issuer where
+/// the host says so, and reads on only once the reply, if there is one, is written.
+pub fn serve<B: Book + Drop, S: Source, K: Sink, C: Clock, I: Issuer>(
+    alloc: Global,
+    host: &mut Host<B>,
+    source: &mut S,
+    sink: &mut K,
+    clock: &mut C,
+    issuer: &mut I,
+) -> Result<(), FrontFault>
+    // What came and what went out, and how it was served.
+    ensures served { B.is_honest host.new → B.is_open host.old → (c : Connection)
+        × (S.received source.new ≡ S.received source.old ++ c.input)
+        × (K.sent sink.new ≡ K.sent sink.old ++ c.output)
+        × GivesAll first_moment (C.coming clock.old) (C.coming clock.new) c.moments
+        × GivesAll Verdict.NoAnswer (I.coming issuer.old) (I.coming issuer.new) c.verdicts
+        × Serves (I.may_say issuer.old) (B.tables host.old) (B.is_open host.new)
+        (B.tables host.new) c result }
+    ensures was_honest { B.is_honest host.new → B.is_honest host.old }
+    // The book stays open, save where memory or the store refused a call.
+    ensures stays_open { B.is_honest host.new → B.is_open host.old
+        → UnlessRefused result (B.is_open host.new) }
+    // Where the input ended, it was read to its end.
+    ensures whole { AtEnd result
+        (TakesAll (S.remaining source.old) (S.received source.old) (S.received source.new)) }
+    // A fault of reading or writing comes only where a read or a write failed.
+    ensures reads { S.failures source.new ≡ S.failures source.old + failed_reads result }
+    ensures writes { K.failures sink.new ≡ K.failures sink.old + failed_writes result }
+    // The store's fault comes only where a call of it failed, or gave what no host wrote.
+    ensures store { IfStore result (HasRisen (B.failures host.old) (B.failures host.new)
+        ⊎ (B.is_honest host.new → B.is_open host.old → ⊥)) }
+{
+    let mut input = Deframer::new();
+    let mut piece = [0; LONGEST_FRAME];
+    loop {
+        if let Some(message) = input.take_message(alloc)? {
+            answer_message(message, host, sink, clock, issuer)?;
+            continue;
+        }
+        let room = input.room();
+        let n = source.read(&mut piece[..room])?;
+        if n == 0 {
+            return if input.is_empty() {
+                Ok(())
+            } else {
+                Err(FrontFault::Ended)
+            };
+        }
+        input.feed(&piece[..n]);
+    }
+}
+
+/// Takes one message, and the issuer's answer where it is asked, and writes the reply.
+fn answer_message<B: Book + Drop, K: Sink, C: Clock, I: Issuer>(
+    message: Vec<u8>,
+    host: &mut Host<B>,
+    sink: &mut K,
+    clock: &mut C,
+    issuer: &mut I,
+) -> Result<(), FrontFault>
+    ensures turns { B.is_honest host.new → B.is_open host.old → (out moments : List ℕ)
+        × (verdicts : List Verdict)
+        × (K.sent sink.new ≡ K.sent sink.old ++ out)
+        × GivesAll first_moment (C.coming clock.old) (C.coming clock.new) moments
+        × GivesAll Verdict.NoAnswer (I.coming issuer.old) (I.coming issuer.new) verdicts
+        × Turns (I.may_say issuer.old) (B.tables host.old) (B.is_open host.new)
+        (B.tables host.new) message.items out moments verdicts result }
+    ensures was_honest { B.is_honest host.new → B.is_honest host.old }
+    ensures stays_open { B.is_honest host.new → B.is_open host.old
+        → UnlessRefused result (B.is_open host.new) }
+    ensures later { (q : Query) (v : Verdict) → I.may_say issuer.new q v
+        → I.may_say issuer.old q v }
+    ensures fault { OfMessage result }
+    ensures writes { K.failures sink.new ≡ K.failures sink.old + failed_writes result }
+    ensures rise { B.failures host.old ≤ B.failures host.new }
+    ensures store { IfStore result (HasRisen (B.failures host.old) (B.failures host.new)
+        ⊎ (B.is_honest host.new → B.is_open host.old → ⊥)) }
+{
+    let came = Event::Frame(clock.now(), MessageText::from_vec(message));
+    let said = host.take(&came)?;
+    match &said {
+        Output::Undecodable(fault) => Err(FrontFault::Undecodable(*fault)),
+        Output::Ask(query) => {
+            let verdict = issuer.answer(query);
+            let answer = Event::Answer(clock.now(), query.merchant, query.reference, verdict);
+            let said = host.take(&answer)?;
+            send_reply(&said, sink)
+        }
+        _ => send_reply(&said, sink),
+    }
+}
+
+/// Writes what the host said, if it is a reply, as a frame. A reply that fits no frame can only come
+/// of rows that no host wrote.
+fn send_reply<K: Sink>(said: &Output, sink: &mut K) -> Result<(), FrontFault>
+    ensures sent { ReplyFits said.now
+        → SendsReply said.now (K.sent sink.old) (K.sent sink.new) result }
+    ensures fault { OfMessage result }
+    ensures writes { K.failures sink.new ≡ K.failures sink.old + failed_writes result }
+    ensures store { IfStore result (ReplyFits said.now → ⊥) }
+{
+    match said {
+        Output::Reply(_, reply) => {
+            let text = reply.as_bytes();
+            if text.is_empty() || text.len() > LONGEST {
+                return Err(FrontFault::Store);
+            }
+            send(text, sink)
+        }
+        _ => Ok(()),
+    }
+}
+
+/// Writes a text as a frame. It takes no memory, so nothing can fail between an event that was taken
+/// and its reply's first byte.
+fn send<K: Sink>(text: &[u8], sink: &mut K) -> Result<(), FrontFault>
+    requires { fits_frame text.now ≡ true }
+    ensures sent { Sends text.now (K.sent sink.old) (K.sent sink.new) result }
+    ensures writes { K.failures sink.new ≡ K.failures sink.old + failed_writes result }
+{
+    let mut frame = [0; LONGEST_FRAME];
+    let end = HEADER + text.len();
+    frame[..HEADER].copy_from_slice(&(text.len() as u16).to_be_bytes());
+    frame[HEADER..end].copy_from_slice(text);
+    match write_out(sink, &frame[..end]) {
+        Ok(()) => Ok(()),
+        Err(bytes) => Err(FrontFault::Write(bytes)),
+    }
+}
