@@ -63,6 +63,7 @@ impl<S: Alter> SqlBook<S> {
             (new_tables (record { limit = limit; first_day = first_day }))) }
         ensures refused { IfErr result (λ refusal.
             (refusal.fault ≡ NotABook) ↔ (connection.schema ≢ no_schema)) }
+        ensures empty { IfOk result (λ book. connection.schema ≡ no_schema) }
         ensures unchanged { IfErr result (λ refusal.
             refusal.fault ≡ NotABook → refusal.connection ≡ connection) }
         // A stop leaves what it might before, or the whole new book.
@@ -98,6 +99,11 @@ impl<S: Alter> SqlBook<S> {
             → Judges {T = Unit {0}} (state S.Store connection).now (Ok tt)) }
         ensures told { IfErr result (λ refusal. HasCleanDisk (state S.Store refusal.connection)
             → Judges {T = Unit {0}} (state S.Store connection).now (Err refusal.fault)) }
+        // A stop leaves what it might before.
+        ensures stop { IfOk result (λ book.
+            Survives (state S.Store connection) (state S.Store book.connection) (λ _. ⊥)) }
+        ensures refused_stop { IfErr result (λ refusal.
+            Survives (state S.Store connection) (state S.Store refusal.connection) (λ _. ⊥)) }
     {
         match check_book(&mut connection, alloc) {
             Ok(()) => Ok(SqlBook {

@@ -30,6 +30,7 @@ pub fn make_book<S: Alter>(
     requires settled { conn.old.in_transaction ≡ false }
     ensures settled { conn.new.in_transaction ≡ false }
     ensures refused { (result ≡ Err NotABook) ↔ (conn.old.schema ≢ no_schema) }
+    ensures empty { OnOk result (conn.old.schema ≡ no_schema) }
     ensures unchanged { result ≡ Err NotABook → conn.new ≡ conn.old }
     ensures done { HasCleanDisk (state S.Store conn.new) → OnOk result
         (IsAt (state S.Store conn.new)

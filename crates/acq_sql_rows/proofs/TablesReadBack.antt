@@ -32,25 +32,25 @@ use Rattle.acq_sql_rows.specs.Relation.{Holds}
 
 -- ---- values
 
-text_back : (t : Option (List ℕ)) → text_if (text_or_null t) ≡ t
+pub text_back : (t : Option (List ℕ)) → text_if (text_or_null t) ≡ t
 text_back None = refl
 text_back (Some t) = refl
 
-number_back : (n : Option ℕ) → number_if (number_or_null n) ≡ n
+pub number_back : (n : Option ℕ) → number_if (number_or_null n) ≡ n
 number_back None = refl
 number_back (Some n) = refl
 
-bit_back : (b : Bool) → (bit_of b == 1) ≡ b
+pub bit_back : (b : Bool) → (bit_of b == 1) ≡ b
 bit_back true = refl
 bit_back false = refl
 
-leg_back : (l : Leg) → slice_index_or all_legs (leg_number l) Credit ≡ l
+pub leg_back : (l : Leg) → slice_index_or all_legs (leg_number l) Credit ≡ l
 leg_back Credit = refl
 leg_back CreditReversal = refl
 leg_back Debit = refl
 leg_back DebitReversal = refl
 
-status_back : (s : Status) → slice_index_or all_statuses (status_number s) status.Refused ≡ s
+pub status_back : (s : Status) → slice_index_or all_statuses (status_number s) status.Refused ≡ s
 status_back status.Refused = refl
 status_back status.Pending = refl
 status_back status.Declined = refl
@@ -60,7 +60,7 @@ status_back status.Reversed = refl
 status_back status.ReversedPending = refl
 status_back status.Reconciled = refl
 
-service_back : (s : Service)
+pub service_back : (s : Service)
     → unwrap_or (find (λ x. bytes_eq (digits_of x) (digits_of s)) all_services) Authorization ≡ s
 service_back Authorization = refl
 service_back Financial = refl
@@ -75,7 +75,7 @@ message_back m whole = ap message_read (reads_as (spelling m) m (is_read (spelli
 
 -- ---- rows
 
-request_back : (id : ℕ) (r : Request) → IsMessage r.reply → request_at (Int (pos id) ∷ request_row r) ≡ r
+pub request_back : (id : ℕ) (r : Request) → IsMessage r.reply → request_at (Int (pos id) ∷ request_row r) ≡ r
 request_back id r whole =
     rw (
       service_back r.key.service,
