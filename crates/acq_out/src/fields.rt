@@ -44,7 +44,7 @@ fn number_of(text: &[u8]) -> Option<u64>
 }
 
 /// A moment, as seconds since 1970-01-01 00:00:00 UTC.
-pub(crate) fn moment_of(text: &[u8]) -> Option<Moment>
+pub fn moment_of(text: &[u8]) -> Option<Moment>
     ensures { result ≡ moment_of_text text.now }
 {
     Moment::from_seconds(number_of(text)?)
@@ -65,7 +65,7 @@ pub(crate) fn first_reference_of(text: &[u8]) -> Option<FirstReference>
 }
 
 /// A merchant's name, filled on the right with spaces.
-pub(crate) fn merchant_of(text: &[u8]) -> Option<MerchantId>
+pub fn merchant_of(text: &[u8]) -> Option<MerchantId>
     ensures { result ≡ merchant_of_text text.now }
 {
     if text.is_empty() || text.len() > MERCHANT_LEN {

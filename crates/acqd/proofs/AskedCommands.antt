@@ -1,7 +1,7 @@
 -- What the arguments ask for, by the command that clap found in them.
-use Rattle.std.proofs.Common.{◌≡◌, ◌∙◌, ap, sym, subst, codes, List, Option, Some, None, inl, inr, refl}
+use Rattle.std.proofs.Common.{◌≡◌, ◌∙◌, ap, sym, subst, codes, List, Option, Some, None, inl, refl}
 use Rattle.std.specs.Prelude.{Box, Result, Ok, Err, [], option_map}
-use Rattle.clap.specs.Words.{App, HasMatchesOf, Row, Text, fault_of, first_of, first_value}
+use Rattle.clap.specs.Words.{App, HasMatchesOf, Row, Text, fault_of}
 use Rattle.clap.specs.Words.{is_simple, rows_of, subcommand_name_of, subcommand_of}
 use Rattle.clap.specs.Words.{subcommand_rows, subcommand_rows_of}
 use Rattle.clap.specs.declared.parser.matches.ArgMatches.{ArgMatches}
@@ -9,14 +9,13 @@ use Rattle.clap.specs.declared.parser.matches.ArgMatches.TheViews.{out-ArgMatche
 use Rattle.clap.specs.declared.parser.matches.SubCommand.{SubCommand}
 use Rattle.clap.specs.declared.parser.matches.Found.{Found}
 use Rattle.std.specs.Box.{box_value}
-use Rattle.clap.proofs.WalkLemmas.{first_value-rows}
 use Rattle.acqd.specs.declared.action.Action.{Action}
-use Rattle.acqd.specs.declared.action.Action.TheVariants.{Once, Show}
-use Rattle.acqd.specs.declared.input_form.InputForm.{InputForm}
 use Rattle.acqd.specs.declared.option_name.OptionName.{OptionName}
 use Rattle.acqd.specs.declared.usage_fault.UsageFault.{UsageFault}
 use Rattle.acqd.specs.declared.usage_fault.UsageFault.TheVariants.{BadValue, Words}
-use Rattle.acqd.specs.Arguments.{Asks, AsksReplay, ReadsArguments, ReadsReplay, form_of_flag, program, replay_texts}
+use Rattle.acqd.specs.Arguments.{Asks, Names, OptionTexts, Reads, ReadsArguments, found_texts}
+use Rattle.acqd.specs.Program.{program}
+use Rattle.acqd.proofs.OptionsRead.{found_texts-rows}
 use Rattle.acqd.proofs.ProgramIsSimple.{is_simple-program}
 
 -- an entry that is there, by its first and its second half
@@ -41,26 +40,18 @@ named m a words name rows is matches h k =
     ∙ (sym found.1
     ∙ both_halves (subcommand_rows_of m) name rows (h ∙ names_in (out-ArgMatches m).subcommand) k)
 
-pub asks_once : (s : Option (Text × List Row)) (rows : List Row) → s ≡ Some (codes "once", rows) → Asks s (Ok Once)
-asks_once s rows is = subst (λ x. Asks x (Ok Once)) (sym is) (inl (refl, refl))
+module _ (name : Text) (Asked : OptionTexts → Result Action OptionName → Type 0)
+    (place : (command : Text × List Row) (asked : Result Action OptionName) → Names name Asked command asked
+    → Asks (Some command) asked)
+    (words : List Text) (f : Found) (well : fault_of program words ≡ [])
+    (is : subcommand_of program words ≡ Some (name, rows_of f)) where
+  asks : (asked : Result Action OptionName) → Asked (found_texts f) asked → Asks (subcommand_of program words) asked
+  asks asked h =
+      subst (λ o. Asks o asked) (sym is)
+      (place (name, rows_of f) asked (refl, subst (λ texts. Asked texts asked) (found_texts-rows f) h))
 
-pub asks_replay : (s : Option (Text × List Row)) (f : Found) (asked : Result Action OptionName) →
-    s ≡ Some (codes "replay", rows_of f) → AsksReplay (replay_texts (rows_of f)) asked → Asks s asked
-asks_replay s f asked is h = subst (λ x. Asks x asked) (sym is) (inr (inl (refl, h)))
-
--- what the options were read as is what the arguments are read as
-pub reads_replay : (words : List Text) (f : Found) (read : Result Action UsageFault) → fault_of program words ≡ [] →
-    subcommand_of program words ≡ Some (codes "replay", rows_of f) → ReadsReplay (replay_texts (rows_of f)) read →
-    ReadsArguments words read
-reads_replay words f (Ok action) well is h = (well, asks_replay (subcommand_of program words) f (Ok action) is h)
-reads_replay words f (Err (BadValue name)) well is h =
-    (well, asks_replay (subcommand_of program words) f (Err name) is h)
-reads_replay words f (Err (Words error)) well is h = inl h
-
-pub asks_show : (s : Option (Text × List Row)) (f : Found) (form : InputForm) → s ≡ Some (codes "show", rows_of f) →
-    form ≡ form_of_flag (first_value f (codes "hex")) → Asks s (Ok (Show form))
-asks_show s f form is h =
-    let asked : Result Action OptionName = Ok (Show form) in
-    let same : asked ≡ Ok (Show (form_of_flag (first_of (codes "hex") (rows_of f)))) =
-    ap (λ (x : InputForm). Ok (Show x)) (h ∙ ap form_of_flag (first_value-rows f (codes "hex"))) in
-    subst (λ x. Asks x asked) (sym is) (inr (inr (refl, same)))
+  -- what the options were read as is what the arguments are read as
+  pub reads_command : (read : Result Action UsageFault) → Reads (Asked (found_texts f)) read → ReadsArguments words read
+  reads_command (Ok action) h = (well, asks (Ok action) h)
+  reads_command (Err (BadValue name)) h = (well, asks (Err name) h)
+  reads_command (Err (Words error)) h = inl h

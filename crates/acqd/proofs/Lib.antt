@@ -7,5 +7,5 @@ pub mod FramesInOrder
 pub mod ShownFrames
 pub mod ReportsWritten
 pub mod WantedReports
-pub mod ReplayAsked
+pub mod OptionsRead
 pub mod ReportsEnd

@@ -2,7 +2,7 @@
 use Rattle.std.proofs.Common.{◌≡◌, true, refl}
 use Rattle.clap.specs.Words.{is_simple, is_simple_and_free}
 use Rattle.clap.proofs.OnLiterals.{clap_on_literals}
-use Rattle.acqd.specs.Arguments.{program}
+use Rattle.acqd.specs.Program.{program}
 
 pub is_simple-program : is_simple program ≡ true
 unfolding clap_on_literals

@@ -9,7 +9,8 @@ use Rattle.clap.specs.Words.{Text}
 use Rattle.day_totals.specs.Day.{date_text_of}
 use Rattle.acqd.specs.declared.day_report.DayReport.{DayReport}
 use Rattle.acqd.specs.declared.report_kind.ReportKind.{ReportKind}
-use Rattle.acqd.specs.Arguments.{each_text, report_on}
+use Rattle.acqd.specs.Arguments.{report_on}
+use Rattle.acqd.specs.WantedReports.{each_text}
 
 pub was_none : {T E : Type 0} (o : Option T) (e name : E) → Err name ≡ ok_or o e → (name ≡ e) × (o ≡ None)
 was_none None e name is = (cc, refl)

@@ -3,20 +3,23 @@ use Rattle.std.specs.Prelude.{ℕ, List, ◌++◌, [], codes, Result, Ok, Err}
 use Rattle.std.specs.Fmt.{decimal}
 use Rattle.iso_codec.specs.FaultTexts.{number_of_fault, element_of_fault}
 use Rattle.acq_book.specs.declared.book_fault.BookFault as book
+use Rattle.acq_sql_opening.specs.declared.opening_fault.OpeningFault as opening
 use Rattle.acq_hex.specs.declared.hex_fault.HexFault as hex
 use Rattle.acq_link.specs.declared.input_fault.InputFault as input
 use Rattle.acq_link.specs.declared.write_fault.WriteFault as write
 use Rattle.acq_out.specs.declared.out_fault.OutFault as out
 use Rattle.acq_reports.specs.declared.report_fault.ReportFault as report
 use Rattle.acqd.specs.declared.fault.Fault.{Fault}
-use Rattle.acqd.specs.declared.fault.Fault.TheVariants.{Memory, Store, NoSuchMerchant, BadLength}
-use Rattle.acqd.specs.declared.fault.Fault.TheVariants.{Ended, Undecodable, Read, Write, DayNotOver}
-use Rattle.acqd.specs.declared.fault.Fault.TheVariants.{StillPending, BadLine}
+use Rattle.acqd.specs.declared.fault.Fault.TheVariants.{Memory, Store, NoSuchMerchant, NotABook}
+use Rattle.acqd.specs.declared.fault.Fault.TheVariants.{OtherVersion, BadLength, Ended, Undecodable, Read, Write}
+use Rattle.acqd.specs.declared.fault.Fault.TheVariants.{DayNotOver, StillPending, BadLine}
 
 abbrev pub number_of : Fault → ℕ
 number_of Memory = 1
 number_of Store = 2
 number_of NoSuchMerchant = 37
+number_of NotABook = 40
+number_of (OtherVersion v) = 41
 number_of BadLength = 50
 number_of Ended = 51
 number_of (Undecodable fault) = 52
@@ -31,6 +34,8 @@ abbrev pub name_of : Fault → List ℕ
 name_of Memory = codes "Memory"
 name_of Store = codes "Store"
 name_of NoSuchMerchant = codes "NoSuchMerchant"
+name_of NotABook = codes "NotABook"
+name_of (OtherVersion v) = codes "OtherVersion"
 name_of BadLength = codes "BadLength"
 name_of Ended = codes "Ended"
 name_of (Undecodable fault) = codes "Undecodable"
@@ -44,6 +49,7 @@ name_of (BadLine n) = codes "BadLine"
 abbrev pub values_of : Fault → List ℕ
 values_of (Undecodable fault) =
     codes " " ++ decimal (number_of_fault fault) ++ codes " " ++ decimal (element_of_fault fault)
+values_of (OtherVersion v) = codes " " ++ decimal v
 values_of (Write n) = codes " " ++ decimal n
 values_of (StillPending n) = codes " " ++ decimal n
 values_of (BadLine n) = codes " " ++ decimal n
@@ -58,6 +64,8 @@ abbrev pub status_of : Fault → ℕ
 status_of Memory = 3
 status_of Store = 3
 status_of NoSuchMerchant = 1
+status_of NotABook = 1
+status_of (OtherVersion v) = 1
 status_of BadLength = 1
 status_of Ended = 1
 status_of (Undecodable fault) = 1
@@ -71,6 +79,13 @@ status_of (BadLine n) = 1
 abbrev pub of_book : book.BookFault → Fault
 of_book book.TheVariants.Memory = Memory
 of_book book.TheVariants.Store = Store
+
+-- what the refusal of a book is
+abbrev pub of_opening : opening.OpeningFault → Fault
+of_opening opening.TheVariants.Memory = Memory
+of_opening opening.TheVariants.Store = Store
+of_opening opening.TheVariants.NotABook = NotABook
+of_opening (opening.TheVariants.OtherVersion v) = OtherVersion v
 
 -- what a fault of the input is
 abbrev pub of_input : input.InputFault → Fault

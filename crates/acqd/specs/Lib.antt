@@ -1,7 +1,10 @@
 pub mod Arguments
+pub mod BookFiles
 pub mod DayReports
 pub mod Faults
 pub mod Once
+pub mod Program
 pub mod Replay
 pub mod Runs
 pub mod Show
+pub mod WantedReports

@@ -1,9 +1,11 @@
 -- One run of the program over an input, and its status.
-use Rattle.std.specs.Prelude.{◌≡◌, ◌⊎◌, ℕ, List, [], ◌∷◌, ◌++◌, Result, Ok, Err}
+use Rattle.std.specs.Prelude.{◌≡◌, ◌⊎◌, ℕ, List, [], ◌∷◌, ◌++◌, Option, None, Some}
+use Rattle.std.specs.Prelude.{Result, Ok, Err, String}
+use Rattle.std.specs.declared.alloc.Global.{Global}
 use Rattle.acq_core.specs.Tables.{Opening, Tables, new_tables}
 use Rattle.acq_reports.specs.declared.report_fault.ReportFault.{ReportFault}
 use Rattle.acqd.specs.declared.action.Action.{Action}
-use Rattle.acqd.specs.declared.action.Action.TheVariants.{Once, Replay, Show}
+use Rattle.acqd.specs.declared.action.Action.TheVariants.{Init, Once, Replay, Report, Holds, Show}
 use Rattle.acqd.specs.declared.day_report.DayReport.{DayReport}
 use Rattle.acqd.specs.declared.fault.Fault.{Fault}
 use Rattle.acqd.specs.declared.option_name.OptionName.{OptionName}
@@ -64,18 +66,30 @@ RunsEither opening [] received received_after sent sent_after ended =
 RunsEither opening (r ∷ rs) received received_after sent sent_after ended =
     RunsReports opening (r ∷ rs) received received_after sent sent_after ended
 
+-- over a new book where there is no file; what is done to the book of a file is said by the calls
+-- that open it and take the events
+abbrev pub RunsIn : Option (String Global) → Opening → List DayReport → List ℕ → List ℕ → List ℕ → List ℕ
+    → Result (Unit {0}) Fault → Type 0
+RunsIn None opening reports received received_after sent sent_after ended =
+    RunsEither opening reports received received_after sent sent_after ended
+RunsIn (Some path) opening reports received received_after sent sent_after ended = Unit {0}
+
 abbrev pub RunsReplay : ReplayOptions → List ℕ → List ℕ → List ℕ → List ℕ
     → Result (Unit {0}) Fault → Type 0
 RunsReplay options received received_after sent sent_after ended =
-    RunsEither (record { limit = options.limit; first_day = options.first_day })
+    RunsIn options.book (record { limit = options.limit; first_day = options.first_day })
     options.reports.items received received_after sent sent_after ended
 
 -- What was asked is done.
 abbrev pub Does : Action → List ℕ → List ℕ → List ℕ → List ℕ → Result (Unit {0}) Fault → Type 0
+Does (Init new) received received_after sent sent_after ended =
+    (received_after ≡ received) × (sent_after ≡ sent)
 Does Once received received_after sent sent_after ended =
     RunsOnce received received_after sent sent_after ended
 Does (Replay options) received received_after sent sent_after ended =
     RunsReplay options received received_after sent sent_after ended
+Does (Report options) received received_after sent sent_after ended = received_after ≡ received
+Does (Holds options) received received_after sent sent_after ended = received_after ≡ received
 Does (Show form) received received_after sent sent_after ended =
     RunsShow form received received_after sent sent_after ended
 

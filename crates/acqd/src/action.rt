@@ -1,15 +1,24 @@
 //! What the program is asked to do.
 
+use crate::book_report::BookReport;
+use crate::holds_options::HoldsOptions;
 use crate::input_form::InputForm;
+use crate::new_book::NewBook;
 use crate::replay_options::ReplayOptions;
 
 /// What the program is asked to do.
 #[derive(Debug, Drop)]
 pub enum Action {
+    /// Make a new book in a file.
+    Init(NewBook),
     /// Answer the frames of the input, once.
     Once,
-    /// Take the event lines of the input, over a new book.
+    /// Take the event lines of the input, over a new book or the one in a file.
     Replay(ReplayOptions),
+    /// Write a report on the book in a file.
+    Report(BookReport),
+    /// Write the open holds of a merchant.
+    Holds(HoldsOptions),
     /// Show the messages of the input, which stand there in this form, to a person.
     Show(InputForm),
 }

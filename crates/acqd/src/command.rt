@@ -1,23 +1,29 @@
 //! One run of the program.
 
-ghost use Rattle.std.specs.Prelude.{◌≡◌, ◌≤◌, [], map, OnOk};
+ghost use Rattle.std.specs.Prelude.{◌≡◌, ◌≤◌, [], map, IfErr, OnOk};
 ghost use Rattle.clap.specs.Words.{fault_of, kind_of};
 ghost use Rattle.clap.specs.declared.error.kind.ErrorKind.TheVariants.{OutOfMemory};
-ghost use Rattle.acqd.specs.Arguments.{program};
+ghost use Rattle.acqd.specs.Program.{program};
+ghost use Rattle.acqd.specs.BookFiles.{IsOpening};
 ghost use Rattle.acqd.specs.Faults.{status_after};
 ghost use Rattle.acqd.specs.Runs.{Does, Runs};
 
 use crate::action::Action;
 use crate::arguments::action_of;
+use crate::book_commands::{holds_of, replay_on, report_on};
+use crate::book_file::BookFile;
 use crate::fault::Fault;
+use crate::new_book::NewBook;
 use crate::once::once;
 use crate::progress::Progress;
 use crate::replay_in_memory::replay_in_memory;
+use crate::replay_options::ReplayOptions;
 use crate::show::show;
 use crate::text_sink::TextSink;
 use crate::usage_fault::UsageFault;
 use acq_link::{Sink, Source};
 use clap::error::ErrorKind;
+use sqlite::Alter;
 use std::alloc::Global;
 use std::convert::AsStr;
 use std::fmt::Write;
@@ -29,12 +35,21 @@ const USAGE: u8 = 2;
 /// Runs the command that the arguments name, the program's own name first, and returns the status:
 /// 0 where all is well, 1 for a fault, 2 for wrong usage, 3 where memory ran out. A fault, or what
 /// is wrong with the arguments, is written to `faults`; help goes to `output`. A book in memory
-/// finds its rows by hash, under `keys`. How far a long
+/// finds its rows by hash, under `keys`; one in a file is opened, or made, by `file`. How far a long
 /// run is goes to `progress`.
-pub fn command<W: AsStr, S: Source, K: Sink, F: Sink, P: Progress>(
+pub fn command<
+    W: AsStr,
+    T: Alter + Drop,
+    O: BookFile<T> + Drop,
+    S: Source,
+    K: Sink,
+    F: Sink,
+    P: Progress,
+>(
     alloc: Global,
     keys: RandomState,
     args: &[W],
+    file: O,
     input: &mut S,
     output: &mut K,
     faults: &mut F,
@@ -56,7 +71,7 @@ pub fn command<W: AsStr, S: Source, K: Sink, F: Sink, P: Progress>(
 {
     match action_of(alloc, args) {
         Ok(action) => {
-            let ended = run(alloc, keys, action, input, output, progress);
+            let ended = run(alloc, keys, action, file, input, output, progress);
             finish(ended, faults)
         }
         Err(UsageFault::BadValue(option)) => {
@@ -68,10 +83,11 @@ pub fn command<W: AsStr, S: Source, K: Sink, F: Sink, P: Progress>(
 }
 
 /// Does what is asked.
-fn run<S: Source, K: Sink, P: Progress>(
+fn run<T: Alter + Drop, O: BookFile<T> + Drop, S: Source, K: Sink, P: Progress>(
     alloc: Global,
     keys: RandomState,
     action: Action,
+    file: O,
     input: &mut S,
     output: &mut K,
     progress: &mut P,
@@ -80,12 +96,51 @@ fn run<S: Source, K: Sink, P: Progress>(
         (K.sent output.old) (K.sent output.new) result }
 {
     match action {
+        Action::Init(new) => init(file, &new),
         Action::Once => once(alloc, keys, input, output),
-        Action::Replay(options) => {
-            replay_in_memory(alloc, keys, &options, input, output, progress)
+        Action::Replay(options) => match &options.book {
+            Some(path) => replay_in_file(alloc, file, path, &options, input, output, progress),
+            None => replay_in_memory(alloc, keys, &options, input, output, progress),
+        },
+        Action::Report(options) => {
+            let book = file.open_book(options.path.as_str())?;
+            report_on(alloc, book, &options, output)
+        }
+        Action::Holds(options) => {
+            let book = file.open_book(options.path.as_str())?;
+            holds_of(alloc, book, &options, output)
         }
         Action::Show(form) => show(alloc, form, input, output),
     }
+}
+
+/// Makes a new book, which is given back at once.
+fn init<T: Alter + Drop, O: BookFile<T>>(file: O, new: &NewBook) -> Result<(), Fault>
+    ensures { IfErr result IsOpening }
+{
+    drop(file.make_book(new.path.as_str(), new.limit, new.first_day)?);
+    Ok(())
+}
+
+/// Replays an input over the book in a file.
+fn replay_in_file<T: Alter + Drop, O: BookFile<T> + Drop, S: Source, K: Sink, P: Progress>(
+    alloc: Global,
+    file: O,
+    path: &String,
+    options: &ReplayOptions,
+    input: &mut S,
+    output: &mut K,
+    progress: &mut P,
+) -> Result<(), Fault> {
+    let book = file.open_book(path.as_str())?;
+    replay_on(
+        alloc,
+        book,
+        options.reports.as_slice(),
+        input,
+        output,
+        progress,
+    )
 }
 
 /// Writes what clap says of the arguments, help and the version to `output`, and returns the status.

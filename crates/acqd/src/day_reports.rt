@@ -1,13 +1,15 @@
 //! Reports on days, one after the other.
 
-ghost use Rattle.std.specs.Prelude.{◌≡◌, ◌+◌};
+ghost use Rattle.std.specs.Prelude.{◌≡◌, ◌+◌, Err, IfErr, OnOk, Result};
 ghost use Rattle.acq_book.specs.Promise.{HasRisen, Looks};
 ghost use Rattle.acq_reports.specs.Faults.{IfStoreFailed, failed_writes, is_settled};
 ghost use Rattle.acq_reports.specs.Refusals.{day_refusal};
 ghost use Rattle.acq_reports.specs.Writing.{Reports};
-ghost use Rattle.acqd.specs.DayReports.{WritesReports, report_text};
+ghost use Rattle.acq_reports.specs.declared.report_fault.ReportFault as report_fault;
+ghost use Rattle.acqd.specs.DayReports.{WritesReports, report_text, told};
 
 use crate::day_report::DayReport;
+use crate::fault::Fault;
 use crate::report_kind::ReportKind;
 use acq_book::Book;
 use acq_link::Sink;
@@ -56,5 +58,29 @@ fn write_report<B: Book, K: Sink>(
     match report.kind {
         ReportKind::Clearing => clearing(alloc, book, report.day, output),
         ReportKind::Settlement => settlement(alloc, book, report.day, output),
+    }
+}
+
+/// Writes reports on a book, where all events before them were taken.
+pub(crate) fn report_if_taken<B: Book, K: Sink>(
+    alloc: Global,
+    taken: Result<(), Fault>,
+    book: &mut B,
+    reports: &[DayReport],
+    output: &mut K,
+) -> Result<(), Fault>
+    ensures stopped { IfErr taken (λ cause. (result ≡ Err cause)
+        × (K.sent output.new ≡ K.sent output.old)) }
+    ensures written { OnOk taken (B.is_honest book.new → B.is_open book.old
+        → (written : Result (Unit {0}) report_fault.ReportFault) × (result ≡ told written)
+        × WritesReports (B.tables book.old) reports.now (K.sent output.old) (K.sent output.new)
+        written) }
+{
+    match taken {
+        Ok(()) => match write_reports(alloc, book, reports, output) {
+            Ok(()) => Ok(()),
+            Err(fault) => Err(Fault::from(fault)),
+        },
+        Err(fault) => Err(fault),
     }
 }

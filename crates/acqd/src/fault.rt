@@ -7,6 +7,7 @@ use acq_hex::HexFault;
 use acq_link::{InputFault, WriteFault};
 use acq_out::OutFault;
 use acq_reports::ReportFault;
+use acq_sql::OpeningFault;
 use iso_codec::DecodeFault;
 use std::alloc::AllocError;
 use std::error::Error;
@@ -22,6 +23,11 @@ pub enum Fault {
     Store,
     /// 37: the merchant isn't enrolled.
     NoSuchMerchant,
+    /// 40: the file is no book: for a new book it isn't empty, and for an old one it lacks the
+    /// book's tables or its row.
+    NotABook,
+    /// 41: the book's tables are of this version.
+    OtherVersion(u64),
     /// 50: a frame's length is 0 or above 4,096.
     BadLength,
     /// 51: the input ended inside a frame.
@@ -52,6 +58,8 @@ impl Fault {
             Fault::Memory => 1,
             Fault::Store => 2,
             Fault::NoSuchMerchant => 37,
+            Fault::NotABook => 40,
+            Fault::OtherVersion(_) => 41,
             Fault::BadLength => 50,
             Fault::Ended => 51,
             Fault::Undecodable(_) => 52,
@@ -80,6 +88,8 @@ impl Fault {
             Fault::Memory => "Memory",
             Fault::Store => "Store",
             Fault::NoSuchMerchant => "NoSuchMerchant",
+            Fault::NotABook => "NotABook",
+            Fault::OtherVersion(_) => "OtherVersion",
             Fault::BadLength => "BadLength",
             Fault::Ended => "Ended",
             Fault::Undecodable(_) => "Undecodable",
@@ -101,6 +111,7 @@ impl fmt::Display for Fault {
     fn fmt<W: fmt::Write>(&self, f: &mut fmt::Formatter<W>) -> fmt::Result {
         write!(f, "{} {}", self.number(), self.name())?;
         match self {
+            Fault::OtherVersion(version) => write!(f, " {version}"),
             Fault::Undecodable(fault) => write!(f, " {} {}", fault.number(), fault.element()),
             Fault::Write(bytes) => write!(f, " {bytes}"),
             Fault::StillPending(requests) => write!(f, " {requests}"),
@@ -131,6 +142,21 @@ impl From<BookFault> for Fault {
         match e {
             BookFault::Memory => Fault::Memory,
             BookFault::Store => Fault::Store,
+        }
+    }
+}
+
+impl From<OpeningFault> for Fault {
+    ghost use Rattle.acqd.specs.Faults.{of_opening};
+
+    ghost from_gives = { λ e f. f ≡ of_opening e };
+
+    fn from(e: OpeningFault) -> Fault {
+        match e {
+            OpeningFault::Memory => Fault::Memory,
+            OpeningFault::Store => Fault::Store,
+            OpeningFault::NotABook => Fault::NotABook,
+            OpeningFault::OtherVersion(version) => Fault::OtherVersion(version),
         }
     }
 }

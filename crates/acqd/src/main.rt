@@ -2,16 +2,26 @@
 //! and ends with a status.
 #![tactic(auto)]
 
+ghost use Rattle.std.specs.Prelude.{◌≤◌};
+
 mod action;
 mod arguments;
+mod book_commands;
+mod book_file;
+mod book_report;
 mod command;
 mod day_report;
 mod day_reports;
 mod fault;
+mod file_at_path;
+mod holds_options;
 mod input_form;
+mod new_book;
 mod once;
+mod open_book;
 mod option_name;
 mod options;
+mod program;
 mod progress;
 mod replay;
 mod replay_in_memory;
@@ -24,17 +34,22 @@ mod text_sink;
 mod usage_fault;
 mod wanted_reports;
 
-use acq_link::{ReadSource, WriteSink};
+use acq_link::{ReadSource, Sink, Source, WriteSink};
+pub use book_file::BookFile;
 pub use command::command;
 pub use day_report::DayReport;
 pub use day_reports::write_reports;
 pub use fault::Fault;
+pub use file_at_path::FileAtPath;
 pub use input_form::InputForm;
 pub use once::once;
+pub use open_book::{make_book, open_book};
 pub use progress::Progress;
 pub use replay::replay;
 pub use report_kind::ReportKind;
 pub use show::show;
+use sqlite::Alter;
+use sqlite_disk::{Start, Unknown};
 use std::env::{Env, FillError};
 use std::hash::RandomState;
 use std::io::IsTerminal;
@@ -44,31 +59,70 @@ pub use take_events::take_events;
 pub use terminal_progress::TerminalProgress;
 
 fn main(rt: HostRuntime) -> ExitCode {
-    let mut input = ReadSource::new(rt.stdin());
-    let mut output = WriteSink::new(rt.stdout());
-    let mut faults = WriteSink::new(rt.stderr());
+    ExitCode::from(run(&rt, Unknown))
+}
+
+/// Runs the program over the streams and the files of this machine; `D` says what the file that is
+/// opened holds before.
+fn run<D: Start>(rt: &HostRuntime, start: D) -> u8 {
     let terminal = rt.stderr();
     let terminal = terminal.is_terminal().then_some(terminal);
-    let mut progress = TerminalProgress::new(&rt, terminal);
-    let status = match args(&rt) {
-        Ok(args) => match RandomState::new(&rt) {
+    run_over_files(
+        rt,
+        start,
+        &mut ReadSource::new(rt.stdin()),
+        &mut WriteSink::new(rt.stdout()),
+        &mut WriteSink::new(rt.stderr()),
+        &mut TerminalProgress::new(rt, terminal),
+    )
+}
+
+/// Runs the program over the files of this machine. It is apart from the streams, since a proof
+/// that holds both types at once grows too large.
+fn run_over_files<D: Start, S: Source, K: Sink, F: Sink, P: Progress>(
+    rt: &HostRuntime,
+    start: D,
+    input: &mut S,
+    output: &mut K,
+    faults: &mut F,
+    progress: &mut P,
+) -> u8
+    ensures { result ≤ 3 }
+{
+    let file = FileAtPath::new(rt, start);
+    run_over(rt, file, input, output, faults, progress)
+}
+
+/// Runs the program with the arguments of this process.
+fn run_over<T: Alter + Drop, O: BookFile<T> + Drop, S: Source, K: Sink, F: Sink, P: Progress>(
+    rt: &HostRuntime,
+    file: O,
+    input: &mut S,
+    output: &mut K,
+    faults: &mut F,
+    progress: &mut P,
+) -> u8
+    ensures { result ≤ 3 }
+{
+    match args(rt) {
+        Ok(args) => match RandomState::new(rt) {
             Ok(keys) => command(
                 rt.alloc(),
                 keys,
                 args.as_slice(),
-                &mut input,
-                &mut output,
-                &mut faults,
-                &mut progress,
+                file,
+                input,
+                output,
+                faults,
+                progress,
             ),
-            Err(_) => command::read_fault(&mut faults),
+            Err(_) => command::read_fault(faults),
         },
-        Err(_) => match first_not_text(&rt) {
-            Some(place) => command::usage_fault(place, &mut faults),
-            None => command::memory_fault(&mut faults),
+        Err(_) => match first_not_text(rt) {
+            Some(place) => command::usage_fault(place, faults),
+            None => command::memory_fault(faults),
         },
-    };
-    ExitCode::from(status)
+    }
 }
 
 /// The program's own name and the arguments behind it.

@@ -1,18 +1,13 @@
 //! A replay over a new book in memory.
 
-ghost use Rattle.std.specs.Prelude.{◌≡◌, Err, IfErr, OnOk, Result};
-ghost use Rattle.acq_reports.specs.declared.report_fault.ReportFault.{ReportFault};
-ghost use Rattle.acqd.specs.DayReports.{WritesReports, told};
 ghost use Rattle.acqd.specs.Runs.{RunsLines, RunsReplay, RunsReports};
 
-use crate::day_report::DayReport;
-use crate::day_reports::write_reports;
+use crate::day_reports::report_if_taken;
 use crate::fault::Fault;
 use crate::progress::Progress;
 use crate::replay::replay;
 use crate::replay_options::ReplayOptions;
 use crate::take_events::take_events;
-use acq_book::Book;
 use acq_host::Host;
 use acq_link::{Sink, Source};
 use std::alloc::Global;
@@ -77,28 +72,4 @@ fn replay_to_reports<S: Source, K: Sink, P: Progress>(
     let ended = report_if_taken(alloc, taken, &mut book, options.reports.as_slice(), output);
     drop(book);
     ended
-}
-
-/// Writes reports on a book, where all events before them were taken.
-fn report_if_taken<B: Book, K: Sink>(
-    alloc: Global,
-    taken: Result<(), Fault>,
-    book: &mut B,
-    reports: &[DayReport],
-    output: &mut K,
-) -> Result<(), Fault>
-    ensures stopped { IfErr taken (λ cause. (result ≡ Err cause)
-        × (K.sent output.new ≡ K.sent output.old)) }
-    ensures written { OnOk taken (B.is_honest book.new → B.is_open book.old
-        → (written : Result (Unit {0}) ReportFault) × (result ≡ told written)
-        × WritesReports (B.tables book.old) reports.now (K.sent output.old) (K.sent output.new)
-        written) }
-{
-    match taken {
-        Ok(()) => match write_reports(alloc, book, reports, output) {
-            Ok(()) => Ok(()),
-            Err(fault) => Err(Fault::from(fault)),
-        },
-        Err(fault) => Err(fault),
-    }
 }

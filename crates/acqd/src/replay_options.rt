@@ -7,9 +7,11 @@ use day_totals::Day;
 /// What a replay is asked for.
 #[derive(Debug, Drop)]
 pub struct ReplayOptions {
-    /// How many messages of one merchant a business day admits.
+    /// The path of the book's file; a new book in memory where there is none.
+    pub book: Option<String>,
+    /// How many messages of one merchant a business day of the new book admits.
     pub limit: Limit,
-    /// The first business day.
+    /// The first business day of the new book.
     pub first_day: Day,
     /// The reports that are written in place of a line of what comes of each event, if any.
     pub reports: Vec<DayReport>,

@@ -1,8 +1,10 @@
 //! Rows of the program: statuses, replies and printed lines; each read and each write failing in
 //! turn; and an input longer than a hundred reads.
 
+mod book_at_hand;
 mod days;
 mod expected;
+mod file_commands;
 mod holds;
 mod isolation;
 mod long_runs;
@@ -22,9 +24,9 @@ mod two_days;
 mod walks;
 mod wording;
 
-use crate::{command, once};
+use crate::once;
 use acq_link::{MemorySink, ReadSource, SliceSource, WriteSink};
-use no_progress::NoProgress;
+use book_at_hand::{no_file, run_program};
 use std::alloc::Global;
 use std::hash::RandomState;
 use std::process::Abort;
@@ -133,15 +135,14 @@ fn runs_as(
     let mut source = SliceSource::new(input);
     let mut sink = MemorySink::new(alloc);
     let mut faults = MemorySink::new(alloc);
-    let found = command(
+    let found = run_program(
+        rt,
         alloc,
-        RandomState::new(rt)?,
         &["acqd", "once"],
+        no_file(),
         &mut source,
-        &mut sink,
-        &mut faults,
-        &mut NoProgress,
-    );
+        (&mut sink, &mut faults),
+    )?;
     assert_eq!(rt; found, status, "for {input:?}");
     assert_eq!(rt; sink.as_bytes(), output, "for {input:?}");
     assert_eq!(rt; faults.as_bytes(), line, "for {input:?}");
@@ -211,15 +212,14 @@ fn each_read_fails_in_turn(rt: HostRuntime) -> Result<(), Fail> {
         let mut source = SliceSource::failing_after(input.as_slice(), 50, before);
         let mut sink = MemorySink::new(alloc);
         let mut faults = MemorySink::new(alloc);
-        let status = command(
+        let status = run_program(
+            &rt,
             alloc,
-            RandomState::new(&rt)?,
             &["acqd", "once"],
+            no_file(),
             &mut source,
-            &mut sink,
-            &mut faults,
-            &mut NoProgress,
-        );
+            (&mut sink, &mut faults),
+        )?;
         if before < 5 {
             assert_eq!(rt; status, 1);
             assert_eq!(rt; sink.as_bytes(), b"".as_slice());
@@ -242,15 +242,14 @@ fn each_write_fails_in_turn(rt: HostRuntime) -> Result<(), Fail> {
         let mut source = SliceSource::in_pieces(input.as_slice(), 7);
         let mut sink = MemorySink::failing_after(alloc, 10, room);
         let mut faults = MemorySink::new(alloc);
-        let status = command(
+        let status = run_program(
+            &rt,
             alloc,
-            RandomState::new(&rt)?,
             &["acqd", "once"],
+            no_file(),
             &mut source,
-            &mut sink,
-            &mut faults,
-            &mut NoProgress,
-        );
+            (&mut sink, &mut faults),
+        )?;
         let want = replies.as_slice().get(..room).ok_or("177 bytes")?;
         assert_eq!(rt; sink.as_bytes(), want);
         let written = room % 59;
@@ -267,7 +266,7 @@ fn each_write_fails_in_turn(rt: HostRuntime) -> Result<(), Fail> {
 
 /// Arguments, the status, and a part of the text, as clap has it. Text goes to the output where the
 /// status is 0, else to the faults.
-const USAGES: [(&[&str], u8, &str); 16] = [
+const USAGES: [(&[&str], u8, &str); 18] = [
     (&["acqd"], 2, "Usage: acqd <COMMAND>"),
     (&["acqd", "twice"], 2, "unrecognized subcommand 'twice'"),
     (
@@ -285,7 +284,7 @@ const USAGES: [(&[&str], u8, &str); 16] = [
     (
         &["acqd", "--help"],
         0,
-        "replay  Takes the event lines on standard input",
+        "replay    Takes the event lines on standard input",
     ),
     (&["acqd", "--version"], 0, "acqd 0.1.0"),
     (&["acqd", "once", "--help"], 0, "Usage: acqd once"),
@@ -304,6 +303,12 @@ const USAGES: [(&[&str], u8, &str); 16] = [
         "cannot be used multiple times",
     ),
     (
+        &["acqd", "init", "--limit", "1", "--day", "2024-05-01"],
+        2,
+        "the following required arguments were not provided",
+    ),
+    (&["acqd", "holds", "--help"], 0, "acqd: 37 NoSuchMerchant"),
+    (
         &["acqd", "replay", "--day"],
         2,
         "a value is required for '--day <YYYY-MM-DD>'",
@@ -317,15 +322,14 @@ fn usage_and_help(rt: HostRuntime) -> Result<(), Fail> {
         let mut source = SliceSource::new(ECHO.as_bytes());
         let mut output = MemorySink::new(alloc);
         let mut faults = MemorySink::new(alloc);
-        let status = command(
+        let status = run_program(
+            &rt,
             alloc,
-            RandomState::new(&rt)?,
             args,
+            no_file(),
             &mut source,
-            &mut output,
-            &mut faults,
-            &mut NoProgress,
-        );
+            (&mut output, &mut faults),
+        )?;
         assert_eq!(rt; status, want, "for {args:?}");
         let (text_sink, quiet) = if want == 0 {
             (&output, &faults)

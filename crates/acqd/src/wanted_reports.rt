@@ -1,7 +1,8 @@
 //! The reports that the options of `replay` ask for.
 
 ghost use Rattle.std.specs.Prelude.{◌≡◌, ◌++◌, List, IfErr, OnOk};
-ghost use Rattle.acqd.specs.Arguments.{GivesReports, MayRefuse, each_text, texts_in};
+ghost use Rattle.acqd.specs.Arguments.{GivesReports};
+ghost use Rattle.acqd.specs.WantedReports.{MayRefuse, each_text, texts_in};
 
 use crate::day_report::DayReport;
 use crate::option_name::OptionName;

@@ -1,10 +1,8 @@
 //! `acqd replay`: its lines, its bad lines and its options, through `command`.
 
-use super::no_progress::NoProgress;
-use crate::command;
+use super::book_at_hand::{BookAtHand, no_file, run_program};
 use acq_link::{MemorySink, SliceSource};
 use std::alloc::Global;
-use std::hash::RandomState;
 use std::process::Abort;
 use std::random::RandomSource;
 use std::test::Fail;
@@ -95,7 +93,7 @@ pub(super) struct Run<'a> {
     pub input: &'a [u8],
 }
 
-/// Runs the program, and compares all that it writes.
+/// Runs the program without a file, and compares all that it writes.
 pub(super) fn runs_as(
     rt: &(impl Abort + RandomSource),
     alloc: Global,
@@ -104,18 +102,29 @@ pub(super) fn runs_as(
     output: &str,
     line: &str,
 ) -> Result<(), Fail> {
+    runs_over(rt, alloc, no_file(), run, (status, output, line))
+}
+
+/// Runs the program over a book that stands ready, and compares its status, its output and its fault
+/// line.
+pub(super) fn runs_over(
+    rt: &(impl Abort + RandomSource),
+    alloc: Global,
+    file: BookAtHand,
+    run: Run<'_>,
+    (status, output, line): (u8, &str, &str),
+) -> Result<(), Fail> {
     let mut source = SliceSource::in_pieces(run.input, 97);
     let mut sink = MemorySink::new(alloc);
     let mut faults = MemorySink::new(alloc);
-    let found = command(
+    let found = run_program(
+        rt,
         alloc,
-        RandomState::new(rt)?,
         run.args,
+        file,
         &mut source,
-        &mut sink,
-        &mut faults,
-        &mut NoProgress,
-    );
+        (&mut sink, &mut faults),
+    )?;
     let args = run.args;
     assert_eq!(rt;
         std::str::from_utf8(faults.as_bytes())?,

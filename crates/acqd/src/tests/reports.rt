@@ -13,7 +13,9 @@ use acq_core::{Event, Limit, MerchantId, Moment};
 use acq_host::Host;
 use acq_link::MemorySink;
 use acq_reports::{ReportFault, clearing, open_holds, settlement};
+use acq_sql::SqlBook;
 use day_totals::Day;
+use sqlite::MemStore;
 use std::alloc::{AllocError, Global};
 use std::hash::RandomState;
 use std::process::Abort;
@@ -39,14 +41,15 @@ struct Report {
 }
 
 /// A sale and its reversal on one day, which is over.
-const REVERSED_SALE: &[ScriptEvent] = &[
+pub(super) const REVERSED_SALE: &[ScriptEvent] = &[
     Frame(SALE),
     Approve("A", 1, "A1B2C3"),
     Frame(REVERSAL),
     Cutover,
 ];
 
-const REVERSED_CLEARED: &str = "day,merchant,number,leg,amount,reference,card,terminal,trace
+pub(super) const REVERSED_CLEARED: &str =
+    "day,merchant,number,leg,amount,reference,card,terminal,trace
 2024-05-01,MERCHANT0000001,1,debit,1000,000000000001,4111111111111111,TERM0001,000001
 2024-05-01,MERCHANT0000001,2,debit-reversal,1000,000000000001,4111111111111111,TERM0001,000003
 ";
@@ -57,7 +60,7 @@ const SALE_CLEARED: &str = "day,merchant,number,leg,amount,reference,card,termin
 ";
 
 /// Two holds.
-const TWO_HOLDS: &[ScriptEvent] = &[
+pub(super) const TWO_HOLDS: &[ScriptEvent] = &[
     Frame(HOLD),
     Frame(SECOND_HOLD),
     Approve("A", 1, "H00001"),
@@ -228,6 +231,16 @@ fn book_after(
     book_of(host, events.as_slice())
 }
 
+/// The same of a book in SQL, which is kept in memory.
+pub(super) fn book_in_sql_after(
+    alloc: Global,
+    script_events: &[ScriptEvent],
+) -> Result<SqlBook<MemStore>, Fail> {
+    let events = events_of(alloc, script_events)?;
+    let host = host_in_sql(alloc, GREATEST_LIMIT, MAY_1)?;
+    book_of(host, events.as_slice())
+}
+
 /// What is asked of a book, in the types that it takes.
 #[derive(Clone, Copy)]
 enum Wanted {
@@ -303,9 +316,7 @@ fn reports_in_sql(rt: HostRuntime) -> Result<(), Fail> {
     let alloc = rt.alloc();
     for report in REPORTS {
         let wanted = typed(report.asked)?;
-        let events = events_of(alloc, report.events)?;
-        let host = host_in_sql(alloc, GREATEST_LIMIT, MAY_1)?;
-        let book = book_of(host, events.as_slice())?;
+        let book = book_in_sql_after(alloc, report.events)?;
         check(&rt, alloc, book, wanted, &report)?;
     }
     Ok(())

@@ -1,9 +1,7 @@
 //! `acqd show`: messages as frames and as lines in hexadecimal, through `command`.
 
-use super::no_progress::NoProgress;
-use crate::command;
+use super::book_at_hand::{no_file, run_program};
 use acq_link::{MemorySink, SliceSource};
-use std::hash::RandomState;
 use std::test::Fail;
 
 /// What is shown of an echo test.
@@ -100,15 +98,14 @@ fn messages_are_shown(rt: HostRuntime) -> Result<(), Fail> {
         let mut source = SliceSource::in_pieces(input.as_bytes(), 7);
         let mut sink = MemorySink::in_pieces(alloc, 50);
         let mut faults = MemorySink::new(alloc);
-        let found = command(
+        let found = run_program(
+            &rt,
             alloc,
-            RandomState::new(&rt)?,
             args.as_slice(),
+            no_file(),
             &mut source,
-            &mut sink,
-            &mut faults,
-            &mut NoProgress,
-        );
+            (&mut sink, &mut faults),
+        )?;
         assert_eq!(rt;
             std::str::from_utf8(faults.as_bytes())?,
             line,
@@ -133,15 +130,14 @@ fn each_write_fails_in_turn(rt: HostRuntime) -> Result<(), Fail> {
         let mut source = SliceSource::new(input.as_bytes());
         let mut sink = MemorySink::failing_after(alloc, 50, room);
         let mut faults = MemorySink::new(alloc);
-        let status = command(
+        let status = run_program(
+            &rt,
             alloc,
-            RandomState::new(&rt)?,
             &["acqd", "show"],
+            no_file(),
             &mut source,
-            &mut sink,
-            &mut faults,
-            &mut NoProgress,
-        );
+            (&mut sink, &mut faults),
+        )?;
         let line = format!(in alloc; "acqd: 54 Write {room}\n")?;
         assert_eq!(rt; status, 1);
         assert_eq!(rt;

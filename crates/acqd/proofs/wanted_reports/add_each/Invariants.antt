@@ -1,7 +1,8 @@
 -- the reports on the days that the texts so far spell stand behind those that were there
 use Rattle.std.proofs.Common.{◌≡◌, ◌++◌, List, ℕ, map, take}
 use Rattle.day_totals.specs.Day.{date_text_of}
-use Rattle.acqd.specs.Arguments.{each_text, report_on}
+use Rattle.acqd.specs.Arguments.{report_on}
+use Rattle.acqd.specs.WantedReports.{each_text}
 use Rattle.acqd.proofs.wanted_reports.add_each.Given as goal
 
 abbrev pub invariant-loop-text : goal.invariant-loop-text

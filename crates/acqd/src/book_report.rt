@@ -1,0 +1,12 @@
+//! A report on the book in a file.
+
+use crate::day_report::DayReport;
+
+/// A report on the book in a file.
+#[derive(Debug, Drop)]
+pub struct BookReport {
+    /// The path of the book's file.
+    pub path: String,
+    /// The report.
+    pub report: DayReport,
+}

@@ -1,0 +1,85 @@
+//! Books in files.
+
+ghost use Rattle.std.specs.Prelude.{◌≡◌, IfOk, false};
+ghost use Rattle.sqlite_wal.specs.Files.{image_at};
+ghost use Rattle.sqlite.specs.Files.{IsOpened, file_state};
+ghost use Rattle.sqlite.specs.Start.{FindsIn};
+ghost use Rattle.sqlite.specs.State.{HasCleanDisk};
+ghost use Rattle.acq_core.specs.Pasts.{HasPast};
+ghost use Rattle.acq_core.specs.Tables.{Tables, new_tables};
+ghost use Rattle.acq_sql.specs.Opened.{IsOpenAt};
+ghost use Rattle.acqd.specs.BookFiles.{FilesHold};
+
+use acq_core::Limit;
+use acq_sql::{OpeningFault, Refusal, SqlBook};
+use acq_sql_opening::an_open_finds_the_book;
+use day_totals::Day;
+use sqlite::Connection;
+use sqlite_disk::Start;
+use sqlite_std_file::FileFrom;
+use sqlite_store::FileStore;
+
+/// Opens the book in the file at a path and its log, of which `D` says what they hold before it.
+/// Where they hold a book, this is it, at the tables that the last whole change led to.
+pub fn open_book<D: Start>(
+    rt: &HostRuntime,
+    path: &str,
+    start: D,
+) -> Result<SqlBook<FileStore<FileFrom<D>>>, OpeningFault>
+    ensures { IfOk result (λ book. HasCleanDisk (file_state book.connection) → (t : Tables)
+        → FilesHold (image_at D.Start) t → HasPast t → IsOpenAt (file_state book.connection) t) }
+{
+    let connection = connect(rt, path, start)?;
+    an_open_finds_the_book(&connection);
+    match SqlBook::adopt(rt.alloc(), connection) {
+        Ok(book) => Ok(book),
+        Err(refusal) => Err(fault_of(refusal)),
+    }
+}
+
+/// Makes a new book in the file at a path. A file that holds a book, or another database that isn't
+/// empty, is left as it is.
+pub fn make_book<D: Start>(
+    rt: &HostRuntime,
+    path: &str,
+    start: D,
+    limit: Limit,
+    first_day: Day,
+) -> Result<SqlBook<FileStore<FileFrom<D>>>, OpeningFault>
+    ensures { IfOk result (λ book. HasCleanDisk (file_state book.connection)
+        → IsOpenAt (file_state book.connection)
+        (new_tables (record { limit = limit; first_day = first_day }))) }
+{
+    let connection = connect(rt, path, start)?;
+    match SqlBook::create(rt.alloc(), connection, limit, first_day) {
+        Ok(book) => Ok(book),
+        Err(refusal) => Err(fault_of(refusal)),
+    }
+}
+
+/// Why a database was refused; its files are closed.
+fn fault_of<D: Start>(refusal: Refusal<FileStore<FileFrom<D>>>) -> OpeningFault
+    ensures { result ≡ refusal.fault }
+{
+    let Refusal { fault, connection } = refusal;
+    drop(connection);
+    fault
+}
+
+/// Opens the files at a path.
+fn connect<D: Start>(
+    rt: &HostRuntime,
+    path: &str,
+    start: D,
+) -> Result<Connection<FileStore<FileFrom<D>>>, OpeningFault>
+    ensures opened { IfOk result (λ connection. HasCleanDisk (file_state connection)
+        → IsOpened connection) }
+    ensures found { IfOk result (λ connection. HasCleanDisk (file_state connection)
+        → FindsIn (image_at D.Start) (file_state connection)) }
+    ensures settled { IfOk result (λ connection. connection.in_transaction ≡ false) }
+{
+    match Connection::open_from(rt, path, false, start) {
+        Ok(connection) => Ok(connection),
+        Err((error, _)) => Err(OpeningFault::from(error)),
+    }
+}

@@ -1,0 +1,227 @@
+//! Commands over the book of a file, through `command`: what they write of a book that stands ready,
+//! what they say where there is none, and their options.
+
+use super::book_at_hand::BookAtHand;
+use super::replay_command::{Run, runs_as, runs_over};
+use super::reports::{REVERSED_CLEARED, REVERSED_SALE, TWO_HOLDS, book_in_sql_after};
+use super::script_event::ScriptEvent;
+use acq_sql::OpeningFault;
+use std::test::Fail;
+
+const INIT: &[&str] = &[
+    "acqd",
+    "init",
+    "--db",
+    "book.db",
+    "--limit",
+    "9",
+    "--day",
+    "2024-05-01",
+];
+
+const REPLAY: &[&str] = &["acqd", "replay", "--db", "book.db"];
+
+const CLEARING: &[&str] = &["acqd", "clearing", "--db", "book.db", "--day", "2024-05-01"];
+
+const REPORT: &[&str] = &["acqd", "report", "--db", "book.db", "--day", "2024-05-01"];
+
+const HOLDS: &[&str] = &[
+    "acqd",
+    "holds",
+    "--db",
+    "book.db",
+    "--merchant",
+    "MERCHANT0000001",
+    "--at",
+    "1714555800",
+];
+
+/// Each command over a file.
+const COMMANDS: [&[&str]; 5] = [INIT, REPLAY, CLEARING, REPORT, HOLDS];
+
+/// Why a book isn't opened or made, and how the program ends then.
+const REFUSALS: [(OpeningFault, u8, &str); 4] = [
+    (OpeningFault::Memory, 3, "acqd: 1 Memory\n"),
+    (OpeningFault::Store, 3, "acqd: 2 Store\n"),
+    (OpeningFault::NotABook, 1, "acqd: 40 NotABook\n"),
+    (
+        OpeningFault::OtherVersion(2),
+        1,
+        "acqd: 41 OtherVersion 2\n",
+    ),
+];
+
+/// The book's fault comes before any of the input, which has a bad line.
+#[test]
+fn books_are_refused(rt: HostRuntime) -> Result<(), Fail> {
+    let alloc = rt.alloc();
+    for args in COMMANDS {
+        for (fault, status, line) in REFUSALS {
+            let file = BookAtHand { book: Err(fault) };
+            let run = Run { args, input: b"x" };
+            runs_over(&rt, alloc, file, run, (status, "", line))?;
+        }
+    }
+    Ok(())
+}
+
+/// What happened to the book, the command and its input, and the status, the output and the fault
+/// line.
+const OVER_BOOKS: [(&[ScriptEvent], &[&str], &str, (u8, &str, &str)); 9] = [
+    (&[], INIT, "", (0, "", "")),
+    (REVERSED_SALE, CLEARING, "", (0, REVERSED_CLEARED, "")),
+    (
+        REVERSED_SALE,
+        REPORT,
+        "",
+        (
+            0,
+            "SETTLEMENT 2024-05-01
+MERCHANT0000001 .....0 ...............0 .....0 ...............0 .....1 ............1000 \
+.....1 ............1000 C0000000000000000 none
+MERCHANT0000002 .....0 ...............0 .....0 ...............0 .....0 ...............0 \
+.....0 ...............0 C0000000000000000 none
+MERCHANTS 2
+",
+            "",
+        ),
+    ),
+    (&[], CLEARING, "", (1, "", "acqd: 60 DayNotOver\n")),
+    (
+        TWO_HOLDS,
+        HOLDS,
+        "",
+        (
+            0,
+            "reference,card,amount,until
+000000000001,550000******5559,5000,2024-05-02 09:30:00
+000000000002,550000******5559,5000,2024-05-02 09:30:00
+",
+            "",
+        ),
+    ),
+    (
+        &[],
+        &[
+            "acqd",
+            "holds",
+            "--db",
+            "book.db",
+            "--merchant",
+            "C",
+            "--at",
+            "1714555800",
+        ],
+        "",
+        (1, "", "acqd: 37 NoSuchMerchant\n"),
+    ),
+    // The setup has these ranges and merchants already.
+    (
+        &[],
+        REPLAY,
+        "addrange,400000,400000,12345,7,\nenrol,MERCHANT0000002,978,1,,\nenrol,C,978,1,,\n",
+        (0, "refused 21 400000 499999\nrefused 36\ndone\n", ""),
+    ),
+    (
+        &[],
+        REPLAY,
+        "enrol,C,978,1,,\nenrol,C,978,0,,\n",
+        (1, "", "acqd: 62 BadLine 2\n"),
+    ),
+    (
+        &[],
+        &[
+            "acqd",
+            "replay",
+            "--db",
+            "book.db",
+            "--clearing",
+            "2024-05-01",
+        ],
+        "cutover,1714555800,,,,\n",
+        (
+            0,
+            "day,merchant,number,leg,amount,reference,card,terminal,trace\n",
+            "",
+        ),
+    ),
+];
+
+#[test]
+fn commands_over_books(rt: HostRuntime) -> Result<(), Fail> {
+    let alloc = rt.alloc();
+    for (events, args, input, ended) in OVER_BOOKS {
+        let file = BookAtHand {
+            book: Ok(book_in_sql_after(alloc, events)?),
+        };
+        let run = Run {
+            args,
+            input: input.as_bytes(),
+        };
+        runs_over(&rt, alloc, file, run, ended)?;
+    }
+    Ok(())
+}
+
+/// Arguments with a value out of its form, and the option that is told, before any file is opened.
+const BAD_VALUES: [(&[&str], &str); 9] = [
+    (
+        &["init", "--db", "b", "--limit", "0", "--day", "x"],
+        "--limit",
+    ),
+    (
+        &["init", "--db", "b", "--limit", "1", "--day", "x"],
+        "--day",
+    ),
+    (&["replay", "--db", "b", "--limit", "0"], "--limit"),
+    (&["clearing", "--db", "b", "--day", "2024-02-30"], "--day"),
+    (&["report", "--db", "b", "--day", "20240501"], "--day"),
+    (
+        &["holds", "--db", "b", "--merchant", "", "--at", "x"],
+        "--merchant",
+    ),
+    (
+        &[
+            "holds",
+            "--db",
+            "b",
+            "--merchant",
+            "MERCHANT00000001",
+            "--at",
+            "x",
+        ],
+        "--merchant",
+    ),
+    (
+        &["holds", "--db", "b", "--merchant", "C", "--at", "946684799"],
+        "--at",
+    ),
+    (
+        &[
+            "holds",
+            "--db",
+            "b",
+            "--merchant",
+            "C",
+            "--at",
+            "+1714555800",
+        ],
+        "--at",
+    ),
+];
+
+#[test]
+fn bad_values(rt: HostRuntime) -> Result<(), Fail> {
+    let alloc = rt.alloc();
+    for (options, bad) in BAD_VALUES {
+        let mut args = Vec::from_slice(alloc, &["acqd"])?;
+        args.extend_from_slice(options)?;
+        let run = Run {
+            args: args.as_slice(),
+            input: b"x",
+        };
+        let line = format!(in alloc; "acqd: bad value {bad}\n")?;
+        runs_as(&rt, alloc, run, 2, "", line.as_str())?;
+    }
+    Ok(())
+}
