@@ -1,6 +1,5 @@
-//! The least and greatest values that the readers take, and worked rows.
+//! The least and greatest values that the readers take, and what is looked up for events.
 
-mod decisions;
 mod look_ups;
 
 use crate::{AdmittedCount, FirstReference, Limit, Output, UsedCount};
