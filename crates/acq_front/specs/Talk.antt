@@ -1,6 +1,6 @@
 -- The events of one connection: each frame that comes, and behind it, where its issuer is to be
 -- asked, the issuer's answer. And what is replied to them.
-use Rattle.std.specs.Prelude.{ℕ, List, [], ◌∷◌, ◌++◌}
+use Rattle.std.specs.Prelude.{◌≡◌, ℕ, List, [], ◌∷◌, ◌++◌}
 use Rattle.std.specs.List.{flat_map}
 use Rattle.acq_message.specs.declared.verdict.Verdict.{Verdict}
 use Rattle.acq_message.specs.declared.verdict.Verdict.TheVariants.{NoAnswer}
@@ -40,7 +40,12 @@ taking_said t came (Ask query) moments verdicts =
     }
 taking_said t came other moments verdicts =
     let events = came ∷ [] in
-    record { events = events; tables = tables_after t events; moments = moments; verdicts = verdicts }
+    record {
+      events = events;
+      tables = tables_after t events;
+      moments = moments;
+      verdicts = verdicts;
+    }
 
 -- one message, by the moments and verdicts to come
 abbrev pub taking : Tables → List ℕ → List ℕ → List Verdict → Taking
@@ -78,6 +83,10 @@ queries t (e ∷ es) =
 -- what an issuer may say to a query
 abbrev pub Saying : Type 1
 Saying = Query → Verdict → Type 0
+
+-- no answer to any
+abbrev pub says_nothing : Saying
+says_nothing query verdict = verdict ≡ NoAnswer
 
 -- to each query one of these verdicts was said, in order, and might be
 abbrev pub AreSaid : Saying → List Query → List Verdict → Type 0

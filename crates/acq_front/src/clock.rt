@@ -12,7 +12,12 @@ pub trait Clock {
     // is.
     ghost coming: { Self → Option (List ℕ) } = { λ _. None };
 
+    // The moments that it may give, now or later.
+    ghost may_give: { Self → ℕ → Type 0 } = { λ _ _. Unit {0} };
+
     /// The moment.
     fn now(&mut self) -> Moment
-        ensures { GivesNext first_moment (coming self.old) (coming self.new) result };
+        ensures coming { GivesNext first_moment (coming self.old) (coming self.new) result }
+        ensures given { may_give self.old result }
+        ensures later { (m : ℕ) → may_give self.new m → may_give self.old m };
 }

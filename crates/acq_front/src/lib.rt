@@ -2,15 +2,19 @@
 #![tactic(auto)]
 
 mod clock;
+mod fixed_clock;
 mod front_fault;
 mod issuer;
+mod no_issuer;
 mod serving;
 mod slice_clock;
 mod slice_issuer;
 
 pub use clock::Clock;
+pub use fixed_clock::FixedClock;
 pub use front_fault::FrontFault;
 pub use issuer::Issuer;
+pub use no_issuer::NoIssuer;
 pub use serving::serve;
 pub use slice_clock::SliceClock;
 pub use slice_issuer::SliceIssuer;

@@ -1,6 +1,7 @@
 //! One connection, from its first byte on.
 
 ghost use Rattle.std.specs.Prelude.{◌≡◌, ◌⊎◌, ◌+◌, ◌≤◌, ◌++◌, ℕ, List, true};
+ghost use Rattle.std.specs.List.{All};
 ghost use Rattle.acq_link.specs.Frames.{fits_frame};
 ghost use Rattle.acq_book.specs.Promise.{HasRisen};
 ghost use Rattle.acq_front.specs.Coming.{GivesAll};
@@ -43,6 +44,7 @@ pub fn serve<B: Book + Drop, S: Source, K: Sink, C: Clock, I: Issuer>(
         × (S.received source.new ≡ S.received source.old ++ c.input)
         × (K.sent sink.new ≡ K.sent sink.old ++ c.output)
         × GivesAll first_moment (C.coming clock.old) (C.coming clock.new) c.moments
+        × All (C.may_give clock.old) c.moments
         × GivesAll Verdict.NoAnswer (I.coming issuer.old) (I.coming issuer.new) c.verdicts
         × Serves (I.may_say issuer.old) (B.tables host.old) (B.is_open host.new)
         (B.tables host.new) c result }
@@ -92,6 +94,7 @@ fn answer_message<B: Book + Drop, K: Sink, C: Clock, I: Issuer>(
         × (verdicts : List Verdict)
         × (K.sent sink.new ≡ K.sent sink.old ++ out)
         × GivesAll first_moment (C.coming clock.old) (C.coming clock.new) moments
+        × All (C.may_give clock.old) moments
         × GivesAll Verdict.NoAnswer (I.coming issuer.old) (I.coming issuer.new) verdicts
         × Turns (I.may_say issuer.old) (B.tables host.old) (B.is_open host.new)
         (B.tables host.new) message.items out moments verdicts result }
@@ -100,6 +103,7 @@ fn answer_message<B: Book + Drop, K: Sink, C: Clock, I: Issuer>(
         → UnlessRefused result (B.is_open host.new) }
     ensures later { (q : Query) (v : Verdict) → I.may_say issuer.new q v
         → I.may_say issuer.old q v }
+    ensures moments_later { (m : ℕ) → C.may_give clock.new m → C.may_give clock.old m }
     ensures fault { OfMessage result }
     ensures writes { K.failures sink.new ≡ K.failures sink.old + failed_writes result }
     ensures rise { B.failures host.old ≤ B.failures host.new }

@@ -1,6 +1,7 @@
 use Rattle.std.proofs.Common.{[], ◌∷◌, refl, sym, ◌∙◌, append-nil, inl, inr}
 use Rattle.std.proofs.lemmas.Result.{err_from_is_err_and}
-use Rattle.acq_front.proofs.GivenInOrder.{gives_none, gives_one, gives_append}
+use Rattle.std.proofs.lemmas.List.Elements.{All-nil, All-cons}
+use Rattle.acq_front.proofs.GivenInOrder.{gives_none, gives_one, gives_append, two_moments}
 use Rattle.acq_front.proofs.Turned.{reply_fits, if_store, book_stops, unread, plain_sent, answer_refused, answer_sent}
 use Rattle.acq_front.proofs.serving.answer_message.Goals as goal
 
@@ -12,7 +13,8 @@ returns-in_err-said-clause-turns g c = λ h o.
       c.now.result ∷ [],
       [],
       sym (append-nil _),
-      gives_one _ _ _ _ c.now.ensures,
+      gives_one _ _ _ _ c.now.ensures.coming,
+      All-cons (g.C.Clock.may_give c.args.clock.now) c.now.result [] c.now.ensures.given (All-nil _),
       gives_none _ _,
       rw (p.1, p.2) (book_stops may_say c.in_err-said.field-0.0 _ _ _ c.args.message.items [] (c.now.result ∷ []) []
           (refl, inl ((λ still. c.in_err-said.ensures.tables.unmade refl o still), refl))),
@@ -25,7 +27,8 @@ returns-in-Undecodable-clause-turns g c = λ h o.
       c.now.result ∷ [],
       [],
       sym (append-nil _),
-      gives_one _ _ _ _ c.now.ensures,
+      gives_one _ _ _ _ c.now.ensures.coming,
+      All-cons (g.C.Clock.may_give c.args.clock.now) c.now.result [] c.now.ensures.given (All-nil _),
       gives_none _ _,
       unread (g.I.Issuer.may_say c.args.issuer.now) (g.B.Book.tables c.args.host.now) c.now.result c.from_vec.result c.args.message.items
           c.from_vec.ensures (g.B.Book.is_open c.take.new.self) _ _
@@ -43,7 +46,9 @@ returns-in_err-said-in-Ask-clause-turns g c = λ h o.
       c.now.result ∷ c.now-in-Ask.result ∷ [],
       c.answer-verdict.result ∷ [],
       sym (append-nil _),
-      gives_append _ _ _ _ _ _ (gives_one _ _ _ _ c.now.ensures) (gives_one _ _ _ _ c.now-in-Ask.ensures),
+      gives_append _ _ _ _ _ _ (gives_one _ _ _ _ c.now.ensures.coming) (gives_one _ _ _ _ c.now-in-Ask.ensures.coming),
+      two_moments (g.C.Clock.may_give c.args.clock.now) c.now.result c.now-in-Ask.result c.now.ensures.given
+          (c.now.ensures.later c.now-in-Ask.result c.now-in-Ask.ensures.given),
       gives_one _ _ _ _ c.answer-verdict.ensures.coming,
       rw (p.1, p.2) (book_stops may_say c.in_err-said-in-Ask.field-0.0 _ _ _ c.args.message.items []
           (c.now.result ∷ c.now-in-Ask.result ∷ []) (c.answer-verdict.result ∷ [])
@@ -74,7 +79,9 @@ returns-in-Ask-clause-turns g c = λ h o.
       c.now.result ∷ c.now-in-Ask.result ∷ [],
       c.answer-verdict.result ∷ [],
       sent.1,
-      gives_append _ _ _ _ _ _ (gives_one _ _ _ _ c.now.ensures) (gives_one _ _ _ _ c.now-in-Ask.ensures),
+      gives_append _ _ _ _ _ _ (gives_one _ _ _ _ c.now.ensures.coming) (gives_one _ _ _ _ c.now-in-Ask.ensures.coming),
+      two_moments (g.C.Clock.may_give c.args.clock.now) c.now.result c.now-in-Ask.result c.now.ensures.given
+          (c.now.ensures.later c.now-in-Ask.result c.now-in-Ask.ensures.given),
       gives_one _ _ _ _ c.answer-verdict.ensures.coming,
       sent.2,
     )
@@ -100,7 +107,8 @@ returns-clause-turns g c = λ h o.
       c.now.result ∷ [],
       [],
       sent.1,
-      gives_one _ _ _ _ c.now.ensures,
+      gives_one _ _ _ _ c.now.ensures.coming,
+      All-cons (g.C.Clock.may_give c.args.clock.now) c.now.result [] c.now.ensures.given (All-nil _),
       gives_none _ _,
       sent.2,
     )

@@ -3,7 +3,8 @@ use Rattle.std.proofs.lemmas.Result.{err_from_is_err_and}
 use Rattle.std.proofs.lemmas.List.{take-append-le}
 use Rattle.acq_message.specs.declared.verdict.Verdict.TheVariants.{NoAnswer}
 use Rattle.acq_front.specs.Talk.{first_moment}
-use Rattle.acq_front.proofs.GivenInOrder.{gives_none, gives_append, gives_along}
+use Rattle.std.proofs.lemmas.List.Elements.{All-nil}
+use Rattle.acq_front.proofs.GivenInOrder.{gives_none, gives_append, gives_along, may_append}
 use Rattle.acq_front.proofs.StreamRead.{consumes_none, consumes_append, received_more, received_none, empty_of, not_empty_of}
 use Rattle.acq_front.proofs.Served.{nothing_yet, going_none, going_held, with_piece, going_read, with_message, going_more, stream_stops, read_stops, ends_well, ends_inside, stopped, turns_weaker}
 use Rattle.acq_front.proofs.serving.serve.Goals as goal
@@ -16,6 +17,7 @@ loop-message-init g c =
         sym (append-nil _),
         sym (append-nil _),
         gives_none _ _,
+        All-nil _,
         gives_none _ _,
         going_held may_say (going_none may_say (g.B.Book.tables c.args.host.now)) c.new-input.ensures,
         o,
@@ -25,6 +27,7 @@ loop-message-init g c =
       refl,
       refl,
       (λ q v said. said),
+      (λ m given. given),
       omega arith,
     )
 
@@ -37,8 +40,9 @@ returns-in_err-message-clause-served g c = λ h o.
       i.2,
       i.3,
       i.4,
+      i.5,
       rw (p.1, p.2) (stream_stops (g.I.Issuer.may_say c.args.issuer.now) c.in_err-message.field-0.0
-          (g.B.Book.is_open c.loop-message.host) i.5 (λ is. c.in_err-message.ensures.bad (ap Err is))),
+          (g.B.Book.is_open c.loop-message.host) i.6 (λ is. c.in_err-message.ensures.bad (ap Err is))),
     )
 
 pub returns-in_err-answer_message-clause-served : goal.returns-in_err-answer_message-clause-served
@@ -46,7 +50,7 @@ returns-in_err-answer_message-clause-served g c = λ h o.
     let may_say = g.I.Issuer.may_say c.args.issuer.now in
     let p = err_from_is_err_and c.from_residual-in_err-answer_message.result c.from_residual-in_err-answer_message.ensures.1 in
     let i = c.loop-message.invariant.0 (c.in_err-answer_message.ensures.was_honest h) o in
-    let e = c.in_err-answer_message.ensures.turns h i.6 in
+    let e = c.in_err-answer_message.ensures.turns h i.7 in
     let begins = rw c.in-Some.is at c.in_ok-message.ensures.some in
     let fault = c.in_err-answer_message.field-0.0 in
     let old = g.B.Book.tables c.args.host.now in
@@ -54,14 +58,16 @@ returns-in_err-answer_message-clause-served g c = λ h o.
     let new = g.B.Book.tables c.answer_message.new.host in
     let still = g.B.Book.is_open c.answer_message.new.host in
     let message = c.in-Some.message.items in
-    let w = turns_weaker (g.I.Issuer.may_say c.loop-message.issuer) may_say c.loop-message.invariant.5 mid still new message e.0 e.1 e.2 (Err fault) e.6 in
-    let x = stopped may_say old mid still new i.0 c.loop-message.input message c.take_message.new.self e.0 e.1 e.2 i.5 begins fault w in (
+    let w = turns_weaker (g.I.Issuer.may_say c.loop-message.issuer) may_say c.loop-message.invariant.5 mid still new message e.0 e.1 e.2 (Err fault) e.7 in
+    let x = stopped may_say old mid still new i.0 c.loop-message.input message c.take_message.new.self e.0 e.1 e.2 i.6 begins fault w in (
       x.0,
       i.1 ∙ ap (λ (l : List ℕ). g.S.Source.received c.args.source.now ++ l) (sym x.1.input),
       received_more (g.K.Sink.sent c.args.sink.now) _ _ i.0.output e.0 i.2 e.3
           ∙ ap (λ (l : List ℕ). g.K.Sink.sent c.args.sink.now ++ l) (sym x.1.output),
       gives_along first_moment _ _ _ i.0.moments e.1 _ x.1.moments_are i.3 e.4,
-      gives_along NoAnswer _ _ _ i.0.verdicts e.2 _ x.1.verdicts_are i.4 e.5,
+      may_append (g.C.Clock.may_give c.args.clock.now) (g.C.Clock.may_give c.loop-message.clock) i.0.moments e.1 _
+          x.1.moments_are c.loop-message.invariant.6 i.4 e.5,
+      gives_along NoAnswer _ _ _ i.0.verdicts e.2 _ x.1.verdicts_are i.5 e.6,
       rw (p.1, p.2) x.2,
     )
 
@@ -71,28 +77,31 @@ loop-message-preserved-in-Some g c =
     let may_say = g.I.Issuer.may_say c.args.issuer.now in (
       (λ h o.
           let i = c.loop-message.invariant.0 (before h) o in
-          let e = c.in_ok-answer_message.ensures.turns h i.6 in
+          let e = c.in_ok-answer_message.ensures.turns h i.7 in
           let begins = rw c.in-Some.is at c.in_ok-message.ensures.some in
           let mid = g.B.Book.tables c.loop-message.host in
           let new = g.B.Book.tables c.answer_message.new.host in
           let still = g.B.Book.is_open c.answer_message.new.host in
           let message = c.in-Some.message.items in
-          let w = turns_weaker (g.I.Issuer.may_say c.loop-message.issuer) may_say c.loop-message.invariant.5 mid still new message e.0 e.1 e.2 (Ok tt) e.6 in
-          let so = going_more may_say message e.0 e.1 c.take_message.new.self e.2 i.5 begins w.1 w.0 in (
+          let w = turns_weaker (g.I.Issuer.may_say c.loop-message.issuer) may_say c.loop-message.invariant.5 mid still new message e.0 e.1 e.2 (Ok tt) e.7 in
+          let so = going_more may_say message e.0 e.1 c.take_message.new.self e.2 i.6 begins w.1 w.0 in (
             with_message i.0 message e.0 e.1 e.2 c.take_message.new.self,
             i.1,
             received_more (g.K.Sink.sent c.args.sink.now) _ _ i.0.output e.0 i.2 e.3,
             gives_append first_moment _ _ _ i.0.moments e.1 i.3 e.4,
-            gives_append NoAnswer _ _ _ i.0.verdicts e.2 i.4 e.5,
+            may_append (g.C.Clock.may_give c.args.clock.now) (g.C.Clock.may_give c.loop-message.clock) i.0.moments e.1 _
+                refl c.loop-message.invariant.6 i.4 e.5,
+            gives_append NoAnswer _ _ _ i.0.verdicts e.2 i.5 e.6,
             so,
-            c.in_ok-answer_message.ensures.stays_open h i.6,
+            c.in_ok-answer_message.ensures.stays_open h i.7,
           )),
       (λ h. c.loop-message.invariant.1 (before h)),
       c.loop-message.invariant.2,
       c.loop-message.invariant.3,
       omega (arith, c.in_ok-answer_message.ensures.writes, c.loop-message.invariant.4),
       (λ q v said. c.loop-message.invariant.5 q v (c.in_ok-answer_message.ensures.later q v said)),
-      omega (arith, c.in_ok-answer_message.ensures.rise, c.loop-message.invariant.6),
+      (λ m given. c.loop-message.invariant.6 m (c.in_ok-answer_message.ensures.moments_later m given)),
+      omega (arith, c.in_ok-answer_message.ensures.rise, c.loop-message.invariant.7),
     )
 
 pub returns-in_err-n-clause-served : goal.returns-in_err-n-clause-served
@@ -105,7 +114,8 @@ returns-in_err-n-clause-served g c = λ h o.
       i.2,
       i.3,
       i.4,
-      rw (p.1, p.2) (read_stops (g.I.Issuer.may_say c.args.issuer.now) (g.B.Book.is_open c.loop-message.host) i.5 begun.1),
+      i.5,
+      rw (p.1, p.2) (read_stops (g.I.Issuer.may_say c.args.issuer.now) (g.B.Book.is_open c.loop-message.host) i.6 begun.1),
     )
 
 pub returns-then-is_empty-clause-served : goal.returns-then-is_empty-clause-served
@@ -118,7 +128,8 @@ returns-then-is_empty-clause-served g c = λ h o.
       i.2,
       i.3,
       i.4,
-      ends_well (g.I.Issuer.may_say c.args.issuer.now) (g.B.Book.is_open c.loop-message.host) i.5 none,
+      i.5,
+      ends_well (g.I.Issuer.may_say c.args.issuer.now) (g.B.Book.is_open c.loop-message.host) i.6 none,
     )
 
 pub returns-else-is_empty-clause-served : goal.returns-else-is_empty-clause-served
@@ -130,7 +141,8 @@ returns-else-is_empty-clause-served g c = λ h o.
       i.2,
       i.3,
       i.4,
-      ends_inside (g.I.Issuer.may_say c.args.issuer.now) (g.B.Book.is_open c.loop-message.host) i.5 begun.1
+      i.5,
+      ends_inside (g.I.Issuer.may_say c.args.issuer.now) (g.B.Book.is_open c.loop-message.host) i.6 begun.1
           (λ none. not_empty_of c.take_message.new.self (sym c.is_empty.ensures ∙ c.if-is_empty.false) (begun.0 ∙ none)),
     )
 
@@ -151,8 +163,9 @@ loop-message-preserved g c =
             i.2,
             i.3,
             i.4,
-            going_held may_say (going_read may_say piece i.5) fed,
-            i.6,
+            i.5,
+            going_held may_say (going_read may_say piece i.6) fed,
+            i.7,
           )),
       c.loop-message.invariant.1,
       (read.0 ++ piece, received_more _ _ _ _ piece read.1 c.in_ok-n.ensures.received, consumes_append _ _ _ _ piece read.2 c.in_ok-n.ensures.remaining.0),
@@ -160,4 +173,5 @@ loop-message-preserved g c =
       c.loop-message.invariant.4,
       c.loop-message.invariant.5,
       c.loop-message.invariant.6,
+      c.loop-message.invariant.7,
     )

@@ -1,5 +1,6 @@
 -- what the connection is so far, and what every call keeps
 use Rattle.std.proofs.Common.{◌≡◌, ◌≤◌, ◌+◌, ◌*◌, ◌++◌, List, ℕ, length}
+use Rattle.std.specs.List.{All}
 use Rattle.std.specs.Io.KnownBytes.{Consumes}
 use Rattle.acq_core.specs.declared.query.Query.{Query}
 use Rattle.acq_message.specs.declared.verdict.Verdict.{Verdict}
@@ -15,6 +16,7 @@ invariant-loop-message g l = (g.B.Book.is_honest l.host → g.B.Book.is_open l.f
     × (g.S.Source.received l.source ≡ g.S.Source.received l.fn.source ++ c.input)
     × (g.K.Sink.sent l.sink ≡ g.K.Sink.sent l.fn.sink ++ c.output)
     × GivesAll first_moment (g.C.Clock.coming l.fn.clock) (g.C.Clock.coming l.clock) c.moments
+    × All (g.C.Clock.may_give l.fn.clock) c.moments
     × GivesAll NoAnswer (g.I.Issuer.coming l.fn.issuer) (g.I.Issuer.coming l.issuer) c.verdicts
     × Going (g.I.Issuer.may_say l.fn.issuer) (g.B.Book.tables l.fn.host) (g.B.Book.tables l.host) c l.input
     × g.B.Book.is_open l.host)
@@ -23,6 +25,7 @@ invariant-loop-message g l = (g.B.Book.is_honest l.host → g.B.Book.is_open l.f
     × (g.S.Source.failures l.source ≡ g.S.Source.failures l.fn.source)
     × (g.K.Sink.failures l.sink ≡ g.K.Sink.failures l.fn.sink)
     × ((q : Query) (v : Verdict) → g.I.Issuer.may_say l.issuer q v → g.I.Issuer.may_say l.fn.issuer q v)
+    × ((m : ℕ) → g.C.Clock.may_give l.clock m → g.C.Clock.may_give l.fn.clock m)
     × (g.B.Book.failures l.fn.host ≤ g.B.Book.failures l.host)
 
 abbrev pub decreases-loop-message : goal.decreases-loop-message
