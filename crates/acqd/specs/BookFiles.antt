@@ -6,18 +6,21 @@ use Rattle.sqlite.specs.Files.{HoldsDatabase}
 use Rattle.acq_core.specs.Tables.{Tables}
 use Rattle.acq_sql_changes.specs.Changed.{HoldsAfter}
 use Rattle.acq_sql_opening.specs.declared.opening_fault.OpeningFault.{OpeningFault}
-use Rattle.acq_reports.specs.declared.report_fault.ReportFault.{ReportFault}
-use Rattle.acqd.specs.Faults.{of_opening, of_report}
-use Rattle.acqd.specs.declared.fault.Fault.{Fault}
+use Rattle.acq_sql_opening.specs.declared.opening_fault.OpeningFault.TheVariants as opening
+use Rattle.acq_commands.specs.declared.fault.Fault.{Fault}
+use Rattle.acq_commands.specs.declared.fault.Fault.TheVariants.{Memory, Store, NotABook, OtherVersion}
 
 -- The database file and its log hold a book at these tables.
 abbrev pub FilesHold : Image → Tables → Type 0
 FilesHold image t = (db : Trees) × HoldsDatabase image db × HoldsAfter t db
 
+-- what the refusal of a book is
+abbrev pub of_opening : OpeningFault → Fault
+of_opening opening.Memory = Memory
+of_opening opening.Store = Store
+of_opening opening.NotABook = NotABook
+of_opening (opening.OtherVersion v) = OtherVersion v
+
 -- why a book was not opened, as the command tells it
 abbrev pub IsOpening : Fault → Type 0
 IsOpening fault = (cause : OpeningFault) × (fault ≡ of_opening cause)
-
--- why a report was not written whole, as the command tells it
-abbrev pub IsReporting : Fault → Type 0
-IsReporting fault = (cause : ReportFault) × (fault ≡ of_report cause)

@@ -1,10 +1,3 @@
-pub mod Arguments
 pub mod BookFiles
-pub mod DayReports
-pub mod Faults
-pub mod Once
-pub mod Program
-pub mod Replay
+pub mod Moments
 pub mod Runs
-pub mod Show
-pub mod WantedReports

@@ -1,8 +1,11 @@
 //! Where a command has the book of a file from.
 
-use crate::fault::Fault;
+ghost use Rattle.std.specs.Prelude.{◌≡◌};
+ghost use Rattle.acqd.specs.BookFiles.{of_opening};
+
+use acq_commands::Fault;
 use acq_core::Limit;
-use acq_sql::SqlBook;
+use acq_sql::{OpeningFault, SqlBook};
 use day_totals::Day;
 use sqlite::Alter;
 
@@ -19,4 +22,16 @@ pub trait BookFile<S: Alter>: Sized {
     /// Makes a new book in the file at a path, where there is none yet.
     fn make_book(self, path: &str, limit: Limit, first_day: Day) -> Result<SqlBook<S>, Fault>
         ensures { IfErr result IsOpening };
+}
+
+/// The refusal of a book, as the command tells it.
+pub fn fault_of_opening(cause: OpeningFault) -> Fault
+    ensures { result ≡ of_opening cause }
+{
+    match cause {
+        OpeningFault::Memory => Fault::Memory,
+        OpeningFault::Store => Fault::Store,
+        OpeningFault::NotABook => Fault::NotABook,
+        OpeningFault::OtherVersion(version) => Fault::OtherVersion(version),
+    }
 }

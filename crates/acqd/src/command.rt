@@ -3,24 +3,19 @@
 ghost use Rattle.std.specs.Prelude.{◌≡◌, ◌≤◌, [], map, IfErr, OnOk};
 ghost use Rattle.clap.specs.Words.{fault_of, kind_of};
 ghost use Rattle.clap.specs.declared.error.kind.ErrorKind.TheVariants.{OutOfMemory};
-ghost use Rattle.acqd.specs.Program.{program};
+ghost use Rattle.acq_arguments.specs.Program.{program};
 ghost use Rattle.acqd.specs.BookFiles.{IsOpening};
-ghost use Rattle.acqd.specs.Faults.{status_after};
-ghost use Rattle.acqd.specs.Runs.{Does, Runs};
+ghost use Rattle.acq_commands.specs.Faults.{status_after};
+ghost use Rattle.acqd.specs.Runs.{Does, Runs, ServesIn};
 
-use crate::action::Action;
-use crate::arguments::action_of;
-use crate::book_commands::{holds_of, replay_on, report_on};
 use crate::book_file::BookFile;
-use crate::fault::Fault;
-use crate::new_book::NewBook;
-use crate::once::once;
-use crate::progress::Progress;
-use crate::replay_in_memory::replay_in_memory;
-use crate::replay_options::ReplayOptions;
-use crate::show::show;
 use crate::text_sink::TextSink;
-use crate::usage_fault::UsageFault;
+use acq_arguments::{Action, UsageFault, action_of};
+use acq_commands::{
+    Fault, NewBook, Progress, ReplayOptions, holds_of, once_in_memory, once_on, replay_in_memory,
+    replay_on, report_on, show,
+};
+use acq_front::{Clock, FixedClock};
 use acq_link::{Sink, Source};
 use clap::error::ErrorKind;
 use sqlite::Alter;
@@ -35,12 +30,13 @@ const USAGE: u8 = 2;
 /// Runs the command that the arguments name, the program's own name first, and returns the status:
 /// 0 where all is well, 1 for a fault, 2 for wrong usage, 3 where memory ran out. A fault, or what
 /// is wrong with the arguments, is written to `faults`; help goes to `output`. A book in memory
-/// finds its rows by hash, under `keys`; one in a file is opened, or made, by `file`. How far a long
-/// run is goes to `progress`.
+/// finds its rows by hash, under `keys`; one in a file is opened, or made, by `file`. The moments at
+/// which frames come are told by `clock`. How far a long run is goes to `progress`.
 pub fn command<
     W: AsStr,
     T: Alter + Drop,
     O: BookFile<T> + Drop,
+    C: Clock,
     S: Source,
     K: Sink,
     F: Sink,
@@ -50,6 +46,7 @@ pub fn command<
     keys: RandomState,
     args: &[W],
     file: O,
+    clock: &mut C,
     input: &mut S,
     output: &mut K,
     faults: &mut F,
@@ -71,7 +68,7 @@ pub fn command<
 {
     match action_of(alloc, args) {
         Ok(action) => {
-            let ended = run(alloc, keys, action, file, input, output, progress);
+            let ended = run(alloc, keys, action, file, clock, input, output, progress);
             finish(ended, faults)
         }
         Err(UsageFault::BadValue(option)) => {
@@ -83,11 +80,12 @@ pub fn command<
 }
 
 /// Does what is asked.
-fn run<T: Alter + Drop, O: BookFile<T> + Drop, S: Source, K: Sink, P: Progress>(
+fn run<T: Alter + Drop, O: BookFile<T> + Drop, C: Clock, S: Source, K: Sink, P: Progress>(
     alloc: Global,
     keys: RandomState,
     action: Action,
     file: O,
+    clock: &mut C,
     input: &mut S,
     output: &mut K,
     progress: &mut P,
@@ -97,7 +95,13 @@ fn run<T: Alter + Drop, O: BookFile<T> + Drop, S: Source, K: Sink, P: Progress>(
 {
     match action {
         Action::Init(new) => init(file, &new),
-        Action::Once => once(alloc, keys, input, output),
+        Action::Once(asked) => match asked.moment {
+            Some(moment) => {
+                let mut clock = FixedClock::new(moment);
+                once_over(alloc, keys, file, &asked.book, &mut clock, input, output)
+            }
+            None => once_over(alloc, keys, file, &asked.book, clock, input, output),
+        },
         Action::Replay(options) => match &options.book {
             Some(path) => replay_in_file(alloc, file, path, &options, input, output, progress),
             None => replay_in_memory(alloc, keys, &options, input, output, progress),
@@ -120,6 +124,28 @@ fn init<T: Alter + Drop, O: BookFile<T>>(file: O, new: &NewBook) -> Result<(), F
 {
     drop(file.make_book(new.path.as_str(), new.limit, new.first_day)?);
     Ok(())
+}
+
+/// Answers the frames of the input over the book in a file, or without one over a new book.
+fn once_over<T: Alter + Drop, O: BookFile<T> + Drop, C: Clock, S: Source, K: Sink>(
+    alloc: Global,
+    keys: RandomState,
+    file: O,
+    path: &Option<String>,
+    clock: &mut C,
+    input: &mut S,
+    output: &mut K,
+) -> Result<(), Fault>
+    ensures { ServesIn path.now (C.may_give clock.old) (S.received input.old)
+        (S.received input.new) (K.sent output.old) (K.sent output.new) result }
+{
+    match path {
+        Some(path) => {
+            let book = file.open_book(path.as_str())?;
+            once_on(alloc, book, clock, input, output)
+        }
+        None => once_in_memory(alloc, keys, clock, input, output),
+    }
 }
 
 /// Replays an input over the book in a file.

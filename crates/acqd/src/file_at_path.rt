@@ -1,8 +1,8 @@
 //! Files of this machine.
 
-use crate::book_file::BookFile;
-use crate::fault::Fault;
+use crate::book_file::{BookFile, fault_of_opening};
 use crate::open_book::{make_book, open_book};
+use acq_commands::Fault;
 use acq_core::Limit;
 use acq_sql::SqlBook;
 use day_totals::Day;
@@ -26,7 +26,10 @@ impl<'a, D: Start> FileAtPath<'a, D> {
 
 impl<D: Start> BookFile<FileStore<FileFrom<D>>> for FileAtPath<'_, D> {
     fn open_book(self, path: &str) -> Result<SqlBook<FileStore<FileFrom<D>>>, Fault> {
-        Ok(open_book(self.rt, path, self.start)?)
+        match open_book(self.rt, path, self.start) {
+            Ok(book) => Ok(book),
+            Err(cause) => Err(fault_of_opening(cause)),
+        }
     }
 
     fn make_book(
@@ -35,6 +38,9 @@ impl<D: Start> BookFile<FileStore<FileFrom<D>>> for FileAtPath<'_, D> {
         limit: Limit,
         first_day: Day,
     ) -> Result<SqlBook<FileStore<FileFrom<D>>>, Fault> {
-        Ok(make_book(self.rt, path, self.start, limit, first_day)?)
+        match make_book(self.rt, path, self.start, limit, first_day) {
+            Ok(book) => Ok(book),
+            Err(cause) => Err(fault_of_opening(cause)),
+        }
     }
 }

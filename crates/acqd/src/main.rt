@@ -4,50 +4,21 @@
 
 ghost use Rattle.std.specs.Prelude.{◌≤◌};
 
-mod action;
-mod arguments;
-mod book_commands;
 mod book_file;
-mod book_report;
 mod command;
-mod day_report;
-mod day_reports;
-mod fault;
 mod file_at_path;
-mod holds_options;
-mod input_form;
-mod new_book;
-mod once;
 mod open_book;
-mod option_name;
-mod options;
-mod program;
-mod progress;
-mod replay;
-mod replay_in_memory;
-mod replay_options;
-mod report_kind;
-mod show;
-mod take_events;
+mod system_clock;
 mod terminal_progress;
 mod text_sink;
-mod usage_fault;
-mod wanted_reports;
 
+use acq_commands::Progress;
+use acq_front::Clock;
 use acq_link::{ReadSource, Sink, Source, WriteSink};
-pub use book_file::BookFile;
+pub use book_file::{BookFile, fault_of_opening};
 pub use command::command;
-pub use day_report::DayReport;
-pub use day_reports::write_reports;
-pub use fault::Fault;
 pub use file_at_path::FileAtPath;
-pub use input_form::InputForm;
-pub use once::once;
 pub use open_book::{make_book, open_book};
-pub use progress::Progress;
-pub use replay::replay;
-pub use report_kind::ReportKind;
-pub use show::show;
 use sqlite::Alter;
 use sqlite_disk::{Start, Unknown};
 use std::env::{Env, FillError};
@@ -55,7 +26,7 @@ use std::hash::RandomState;
 use std::io::IsTerminal;
 use std::process::ExitCode;
 use std::{env, io, str};
-pub use take_events::take_events;
+pub use system_clock::{SystemClock, moment_near};
 pub use terminal_progress::TerminalProgress;
 
 fn main(rt: HostRuntime) -> ExitCode {
@@ -111,6 +82,7 @@ fn run_over<T: Alter + Drop, O: BookFile<T> + Drop, S: Source, K: Sink, F: Sink,
                 keys,
                 args.as_slice(),
                 file,
+                &mut SystemClock::new(rt),
                 input,
                 output,
                 faults,

@@ -2,6 +2,7 @@
 //! turn; and an input longer than a hundred reads.
 
 mod book_at_hand;
+mod clocks;
 mod days;
 mod expected;
 mod file_commands;
@@ -24,7 +25,8 @@ mod two_days;
 mod walks;
 mod wording;
 
-use crate::once;
+use acq_commands::once_in_memory;
+use acq_front::SliceClock;
 use acq_link::{MemorySink, ReadSource, SliceSource, WriteSink};
 use book_at_hand::{no_file, run_program};
 use std::alloc::Global;
@@ -207,8 +209,9 @@ fn frames_and_their_replies(rt: HostRuntime) -> Result<(), Fail> {
 fn each_read_fails_in_turn(rt: HostRuntime) -> Result<(), Fail> {
     let alloc = rt.alloc();
     let input = repeated(alloc, ECHO.as_bytes(), 3)?;
-    // 171 bytes in pieces of 50 are four reads, and a fifth finds the end.
-    for before in 0..6 {
+    // 171 bytes in pieces of 50 are four reads, and a fifth finds the end. What came whole before a
+    // read that fails is answered.
+    for (before, answered) in [(0, 0), (1, 0), (2, 1), (3, 2), (4, 3), (5, 3)] {
         let mut source = SliceSource::failing_after(input.as_slice(), 50, before);
         let mut sink = MemorySink::new(alloc);
         let mut faults = MemorySink::new(alloc);
@@ -220,15 +223,11 @@ fn each_read_fails_in_turn(rt: HostRuntime) -> Result<(), Fail> {
             &mut source,
             (&mut sink, &mut faults),
         )?;
-        if before < 5 {
-            assert_eq!(rt; status, 1);
-            assert_eq!(rt; sink.as_bytes(), b"".as_slice());
-            assert_eq!(rt; faults.as_bytes(), b"acqd: 53 Read\n".as_slice());
-        } else {
-            assert_eq!(rt; status, 0);
-            let want = repeated(alloc, ECHO_REPLY.as_bytes(), 3)?;
-            assert_eq!(rt; sink.as_bytes(), want.as_slice());
-        }
+        let want = repeated(alloc, ECHO_REPLY.as_bytes(), answered)?;
+        assert_eq!(rt; sink.as_bytes(), want.as_slice());
+        let line = if before < 5 { "acqd: 53 Read\n" } else { "" };
+        assert_eq!(rt; faults.as_bytes(), line.as_bytes());
+        assert_eq!(rt; status, u8::from(before < 5));
     }
     Ok(())
 }
@@ -353,7 +352,14 @@ fn a_long_input_is_answered_whole(rt: HostRuntime) -> Result<(), Fail> {
     assert!(rt; input.len() > 6_553_600);
     let mut source = ReadSource::new(input.as_slice());
     let mut sink = WriteSink::new(Vec::new(alloc));
-    once(alloc, RandomState::new(&rt)?, &mut source, &mut sink)?;
+    let mut clock = SliceClock::new(&[]);
+    once_in_memory(
+        alloc,
+        RandomState::new(&rt)?,
+        &mut clock,
+        &mut source,
+        &mut sink,
+    )?;
     let written = sink.into_inner();
     let replies = repeated(alloc, ECHO_REPLY.as_bytes(), count)?;
     assert_eq!(rt; written.len(), replies.len());

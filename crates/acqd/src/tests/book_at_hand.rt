@@ -1,8 +1,10 @@
 //! A book that stands ready, in place of one in a file.
 
 use super::no_progress::NoProgress;
-use crate::{BookFile, Fault, command};
+use crate::{BookFile, command, fault_of_opening};
+use acq_commands::Fault;
 use acq_core::Limit;
+use acq_front::SliceClock;
 use acq_link::{MemorySink, SliceSource};
 use acq_sql::{OpeningFault, SqlBook};
 use day_totals::Day;
@@ -27,7 +29,7 @@ pub(super) fn no_file() -> BookAtHand {
 
 impl BookFile<MemStore> for BookAtHand {
     fn open_book(self, _path: &str) -> Result<SqlBook<MemStore>, Fault> {
-        Ok(self.book?)
+        self.book.map_err(fault_of_opening)
     }
 
     fn make_book(
@@ -36,7 +38,7 @@ impl BookFile<MemStore> for BookAtHand {
         _limit: Limit,
         _first_day: Day,
     ) -> Result<SqlBook<MemStore>, Fault> {
-        Ok(self.book?)
+        self.book.map_err(fault_of_opening)
     }
 }
 
@@ -51,6 +53,8 @@ pub(super) fn run_program(
     (sink, faults): (&mut MemorySink, &mut MemorySink),
 ) -> Result<u8, Fail> {
     let keys = RandomState::new(rt)?;
-    let progress = &mut NoProgress;
-    Ok(command(alloc, keys, args, file, source, sink, faults, progress))
+    let (clock, progress) = (&mut SliceClock::new(&[]), &mut NoProgress);
+    Ok(command(
+        alloc, keys, args, file, clock, source, sink, faults, progress,
+    ))
 }

@@ -19,6 +19,8 @@ const INIT: &[&str] = &[
     "2024-05-01",
 ];
 
+const ONCE: &[&str] = &["acqd", "once", "--db", "book.db"];
+
 const REPLAY: &[&str] = &["acqd", "replay", "--db", "book.db"];
 
 const CLEARING: &[&str] = &["acqd", "clearing", "--db", "book.db", "--day", "2024-05-01"];
@@ -36,8 +38,34 @@ const HOLDS: &[&str] = &[
     "1714555800",
 ];
 
+/// A sale as a frame, and the frame that answers it where no issuer can be reached.
+const SALE: &str = "\x00\x6202007220000000C0800016411111111111111100000000000000100005010930000000\
+01TERM0001MERCHANT0000001978";
+
+const NOT_ANSWERED: &str = "\x00\x740210722200000AC08000164111111111111111000000000000001000050109\
+3000000001050100000000000191TERM0001MERCHANT0000001978";
+
+/// The completion of the first hold, and its reply.
+const COMPLETION: &str = "\x00\x5C02203220000008C0800000000000000000500005020930000000210000000000\
+01TERM0001MERCHANT0000001978";
+
+const COMPLETED: &str = "\x00\x620230322200000AC08000000000000000005000050209300000002105010000000\
+0000100TERM0001MERCHANT0000001978";
+
+/// The completion of the second, and the reply where that has expired.
+const SECOND_COMPLETION: &str = "\x00\x5C02203220000008C08000000000000000005000050209300000003100\
+0000000002TERM0001MERCHANT0000001978";
+
+const SECOND_EXPIRED: &str = "\x00\x620230322200000AC0800000000000000000500005020930000000310501\
+00000000000225TERM0001MERCHANT0000001978";
+
+/// The last second of the holds, and the one behind it.
+const AT_LAST: &[&str] = &["acqd", "once", "--db", "book.db", "--at", "1714642200"];
+
+const BEHIND_IT: &[&str] = &["acqd", "once", "--db", "book.db", "--at", "1714642201"];
+
 /// Each command over a file.
-const COMMANDS: [&[&str]; 5] = [INIT, REPLAY, CLEARING, REPORT, HOLDS];
+const COMMANDS: [&[&str]; 6] = [INIT, ONCE, REPLAY, CLEARING, REPORT, HOLDS];
 
 /// Why a book isn't opened or made, and how the program ends then.
 const REFUSALS: [(OpeningFault, u8, &str); 4] = [
@@ -67,8 +95,16 @@ fn books_are_refused(rt: HostRuntime) -> Result<(), Fail> {
 
 /// What happened to the book, the command and its input, and the status, the output and the fault
 /// line.
-const OVER_BOOKS: [(&[ScriptEvent], &[&str], &str, (u8, &str, &str)); 9] = [
+const OVER_BOOKS: [(&[ScriptEvent], &[&str], &str, (u8, &str, &str)); 12] = [
     (&[], INIT, "", (0, "", "")),
+    (&[], ONCE, SALE, (0, NOT_ANSWERED, "")),
+    (TWO_HOLDS, AT_LAST, COMPLETION, (0, COMPLETED, "")),
+    (
+        TWO_HOLDS,
+        BEHIND_IT,
+        SECOND_COMPLETION,
+        (0, SECOND_EXPIRED, ""),
+    ),
     (REVERSED_SALE, CLEARING, "", (0, REVERSED_CLEARED, "")),
     (
         REVERSED_SALE,
@@ -164,7 +200,9 @@ fn commands_over_books(rt: HostRuntime) -> Result<(), Fail> {
 }
 
 /// Arguments with a value out of its form, and the option that is told, before any file is opened.
-const BAD_VALUES: [(&[&str], &str); 9] = [
+const BAD_VALUES: [(&[&str], &str); 11] = [
+    (&["once", "--at", "946684799"], "--at"),
+    (&["once", "--db", "b", "--at", "x"], "--at"),
     (
         &["init", "--db", "b", "--limit", "0", "--day", "x"],
         "--limit",

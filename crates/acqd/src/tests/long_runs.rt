@@ -1,6 +1,7 @@
 //! How far a long run is, on a terminal.
 
-use crate::{Progress, TerminalProgress};
+use crate::TerminalProgress;
+use acq_commands::Progress;
 use std::cell::Cell;
 use std::io;
 use std::test::Fail;

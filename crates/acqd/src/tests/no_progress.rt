@@ -1,6 +1,6 @@
 //! Runs that tell nobody how far they are.
 
-use crate::Progress;
+use acq_commands::Progress;
 
 /// Tells nobody how far a run is.
 #[derive(Clone, Copy, Debug)]

@@ -2,7 +2,7 @@
 
 use super::no_progress::NoProgress;
 use super::script::{GREATEST_LIMIT, MAY_1};
-use crate::{Fault, replay};
+use acq_commands::{Fault, replay};
 use acq_core::Limit;
 use acq_host::Host;
 use acq_link::{MemorySink, Sink, SliceSource, Source};

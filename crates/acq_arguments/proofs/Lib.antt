@@ -1,0 +1,4 @@
+pub mod AskedCommands
+pub mod OptionsRead
+pub mod ProgramIsSimple
+pub mod WantedReports

@@ -1,0 +1,33 @@
+use Rattle.std.proofs.Common.{refl}
+use Rattle.std.proofs.lemmas.Result.{err_from_is_err_and}
+use Rattle.std.specs.Prelude.{Err, Ok, Result}
+use Rattle.clap.specs.Words.{found_of}
+use Rattle.acq_arguments.specs.declared.action.Action.{Action}
+use Rattle.acq_arguments.specs.declared.action.Action.TheVariants.{Once}
+use Rattle.acq_arguments.specs.declared.usage_fault.UsageFault.{UsageFault}
+use Rattle.acq_arguments.specs.Arguments.{AsksOnce, IsOnce, MomentIfThere, found_texts}
+use Rattle.acq_arguments.proofs.OptionsRead.{first_fails, no_memory, then_rest}
+use Rattle.acq_arguments.proofs.arguments.once_of.Goals as goal
+
+pub returns-in_err-moment : goal.returns-in_err-moment
+returns-in_err-moment c =
+    let texts = found_texts (found_of c.args.options.now) in
+    let p = err_from_is_err_and c.from_residual.result c.from_residual.ensures.1 in
+    rw (p.1, p.2)
+    (first_fails (MomentIfThere texts) (IsOnce texts.db) c.in_err-moment.field-0.0 c.in_err-moment.ensures)
+
+pub returns-in_err-book : goal.returns-in_err-book
+returns-in_err-book c =
+    let texts = found_texts (found_of c.args.options.now) in
+    let p = err_from_is_err_and c.from_residual-in_err-book.result c.from_residual-in_err-book.ensures.1 in
+    rw (p.1, p.2) (no_memory (AsksOnce texts) c.in_err-book.field-0.0 c.in_err-book.ensures.refused)
+
+pub returns : goal.returns
+returns c =
+    let texts = found_texts (found_of c.args.options.now) in
+    let read : Result Action UsageFault = Ok (Once (record {
+      book = c.in_ok-book.book;
+      moment = c.in_ok-moment.moment;
+    })) in
+    then_rest (MomentIfThere texts) (IsOnce texts.db) c.in_ok-moment.moment read c.in_ok-moment.ensures
+    (c.in_ok-book.ensures.given, refl)

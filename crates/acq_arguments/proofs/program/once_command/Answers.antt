@@ -1,0 +1,13 @@
+use Rattle.std.proofs.Common.{◌≡◌, ◌∙◌, ap₂, rules, codes}
+use Rattle.std.proofs.lemmas.Result.{IfOk-weaker}
+use Rattle.clap.specs.Words.{app_of, new_app, with_rule}
+use Rattle.acq_arguments.proofs.program.once_command.Goals as goal
+
+pub returns : goal.returns
+returns c =
+    let db = c.option_with_value-db.ensures in
+    let moment = c.option_with_value-moment.ensures in
+    let named : app_of c.after_help.result ≡ new_app (codes "once") = search rules in
+    let with_db = c.in_ok-arg.ensures.shape db.own ∙ ap₂ with_rule named db.rule in
+    IfOk-weaker c.arg-2.result _ _ (λ made added. added.shape moment.own ∙ ap₂ with_rule with_db moment.rule)
+    c.arg-2.ensures

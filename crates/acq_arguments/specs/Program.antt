@@ -1,0 +1,73 @@
+-- The program, as the crate `clap` reads its arguments: its commands and their options.
+use Rattle.std.specs.Prelude.{true, codes, Some}
+use Rattle.clap.specs.Words.{App, Rule, Text, new_app, new_rule, with_rule, with_subcommand}
+use Rattle.clap.specs.declared.builder.action.ArgAction.{ArgAction}
+use Rattle.clap.specs.declared.builder.action.ArgAction.TheVariants.{Append, Set, SetTrue}
+
+-- an option with a value, `--name VALUE`, and what a use of it does: `Set` gives the value, and
+-- `Append` gives it behind those of earlier uses
+abbrev pub option_with_value : Text → ArgAction → Rule
+option_with_value name action =
+    record (new_rule name) { long = Some name; action = Some action; value_names = 1 }
+
+-- such an option, which may be there once
+abbrev pub option : Text → Rule
+option name = option_with_value name Set
+
+-- such an option, which has to be there
+abbrev pub required : Text → Rule
+required name = record (option name) { required = true }
+
+-- an option without a value, `--name`
+abbrev pub flag : Text → Rule
+flag name = record (new_rule name) { long = Some name; action = Some SetTrue }
+
+-- `init --db FILE --limit N --day DAY`
+abbrev pub init : App
+init =
+    with_rule (with_rule (with_rule (new_app (codes "init"))
+    (required (codes "db"))) (required (codes "limit"))) (required (codes "day"))
+
+-- `once [--db FILE] [--at MOMENT]`
+abbrev pub once : App
+once = with_rule (with_rule (new_app (codes "once")) (option (codes "db"))) (option (codes "at"))
+
+-- `replay [--db FILE] [--limit N] [--day DAY] [--clearing DAY].. [--report DAY]..`
+abbrev pub replay : App
+replay =
+    with_rule (with_rule (with_rule (with_rule (with_rule (new_app (codes "replay"))
+    (option (codes "db"))) (option (codes "limit"))) (option (codes "day")))
+    (option_with_value (codes "clearing") Append)) (option_with_value (codes "report") Append)
+
+-- `clearing --db FILE --day DAY`, or `report` with the same options
+abbrev pub on_a_day : Text → App
+on_a_day name =
+    with_rule (with_rule (new_app name) (required (codes "db"))) (required (codes "day"))
+
+-- `holds --db FILE --merchant MERCHANT --at MOMENT`
+abbrev pub holds : App
+holds =
+    with_rule (with_rule (with_rule (new_app (codes "holds"))
+    (required (codes "db"))) (required (codes "merchant"))) (required (codes "at"))
+
+-- `show [--hex]`
+abbrev pub show : App
+show = with_rule (new_app (codes "show")) (flag (codes "hex"))
+
+-- the program: it has a version, and one of its commands must be named
+abbrev pub acqd : App
+acqd =
+    record (new_app (codes "acqd")) {
+      top = record (new_app (codes "acqd")).top { has_version = true; subcommand_required = true };
+    }
+
+-- with the commands that make a book, or take what comes in
+abbrev pub making : App
+making =
+    with_subcommand (with_subcommand (with_subcommand acqd init.top) once.top) replay.top
+
+-- the program and its commands
+abbrev pub program : App
+program =
+    with_subcommand (with_subcommand (with_subcommand (with_subcommand making
+    (on_a_day (codes "clearing")).top) (on_a_day (codes "report")).top) holds.top) show.top

@@ -1,0 +1,20 @@
+//! What the program is asked to do.
+
+use acq_commands::{BookReport, HoldsOptions, InputForm, NewBook, OnceOptions, ReplayOptions};
+
+/// What the program is asked to do.
+#[derive(Debug, Drop)]
+pub enum Action {
+    /// Make a new book in a file.
+    Init(NewBook),
+    /// Answer the frames of the input, once, over a new book or the one in a file.
+    Once(OnceOptions),
+    /// Take the event lines of the input, over a new book or the one in a file.
+    Replay(ReplayOptions),
+    /// Write a report on the book in a file.
+    Report(BookReport),
+    /// Write the open holds of a merchant.
+    Holds(HoldsOptions),
+    /// Show the messages of the input, which stand there in this form, to a person.
+    Show(InputForm),
+}

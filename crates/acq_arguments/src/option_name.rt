@@ -1,0 +1,40 @@
+//! Options that have a value.
+
+use acq_commands::ReportKind;
+use std::fmt;
+
+/// An option that has a value. Its text is its name on the command line.
+#[derive(Clone, Copy, Debug, PartialEq, Eq)]
+pub enum OptionName {
+    /// The file of the book.
+    Db,
+    /// How many messages of one merchant a business day admits.
+    Limit,
+    /// The first business day of a new book, or the day of a report.
+    Day,
+    /// The merchant whose open holds are asked for.
+    Merchant,
+    /// The moment at which something is.
+    At,
+    /// A day of which a report is asked for.
+    Report(ReportKind),
+}
+
+impl fmt::Display for OptionName {
+    ghost use Rattle.std.specs.Prelude.{Some};
+    ghost use Rattle.acq_arguments.specs.Arguments.{name_of_option};
+
+    ghost output = { λ option. Some (name_of_option option) };
+
+    fn fmt<W: fmt::Write>(&self, f: &mut fmt::Formatter<W>) -> fmt::Result {
+        match self {
+            OptionName::Db => write!(f, "--db"),
+            OptionName::Limit => write!(f, "--limit"),
+            OptionName::Day => write!(f, "--day"),
+            OptionName::Merchant => write!(f, "--merchant"),
+            OptionName::At => write!(f, "--at"),
+            OptionName::Report(ReportKind::Clearing) => write!(f, "--clearing"),
+            OptionName::Report(ReportKind::Settlement) => write!(f, "--report"),
+        }
+    }
+}

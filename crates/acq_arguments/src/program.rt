@@ -1,0 +1,337 @@
+//! The program's commands and their options, with their help.
+
+ghost use Rattle.std.specs.Prelude.{◌≡◌, false, IfOk};
+ghost use Rattle.clap.specs.Words.{app_of, rule_of};
+ghost use Rattle.acq_arguments.specs.Program.{holds, init, making, on_a_day, once, option_with_value};
+ghost use Rattle.acq_arguments.specs.Program.{program, replay, required, show};
+
+use clap::{Arg, ArgAction, Command};
+use std::alloc::{AllocError, Global};
+
+const ABOUT: &str = "An acquirer host for cards: ISO 8583:1987 in, replies out.
+
+A book holds merchants, terminals, card ranges, requests, holds, postings and reconciliations. It is
+kept in a file, which `acqd init` makes; `once` and `replay` without a file work on a book of their
+own, which is kept in memory and given back at the end.";
+
+const ABOUT_INIT: &str = "Makes a new book in a file";
+
+const MORE_OF_INIT: &str = "\
+The file is a database of SQLite; its log stands beside it, under the same name with -wal behind it,
+and the two are one: move and copy them together. Where the file holds a book already, or another
+database that isn't empty, it is left as it is.
+
+The status is 0 where all is well, 1 for a fault, 2 for wrong usage, 3 where memory ran out or the
+file can't be used. A fault is one line on standard error:
+  acqd: 1 Memory
+  acqd: 2 Store                    the file can't be opened or written
+  acqd: 40 NotABook                the file isn't empty
+
+Example:
+  acqd init --db book.db --limit 999999 --day 2024-05-01";
+
+const ABOUT_ONCE: &str =
+    "Answers the frames on standard input with reply frames on standard output";
+
+const MORE_OF_ONCE: &str = "\
+A frame is two bytes of length, high byte first, and then so many bytes of a message, 1 to 4,096.
+Each is answered as soon as it is whole, and its reply is out before more is read. With --db they
+are taken over the book in this file, where what they change is in the file before the reply goes
+out; no issuer can be reached, so what one is asked for gets code 91. Without it nobody is enrolled:
+network management (0800 and 0801: echo tests, sign-ons and sign-offs) is answered, a merchant's
+request gets code 03, or 30 where it is malformed, and any other type gets no reply. MOMENT counts
+seconds since 1970-01-01 00:00:00 UTC.
+
+The status is 0 where all is well, 1 for a fault, 2 for wrong usage, 3 where memory ran out or the
+file failed. A fault is one line on standard error, and what was written before it stands:
+  acqd: 1 Memory
+  acqd: 2 Store                    the file can't be opened, read or written
+  acqd: 40 NotABook                the file holds no book
+  acqd: 41 OtherVersion VERSION    the file holds a book of this other version
+  acqd: 50 BadLength               a frame's length is 0 or above 4,096
+  acqd: 51 Ended                   the input ends inside a frame
+  acqd: 52 Undecodable FAULT ELEMENT   a frame spells no message
+  acqd: 53 Read                    a read failed
+  acqd: 54 Write BYTES             a write failed after so many bytes of a reply's frame
+
+Example: an echo test
+  printf '\\000\\067%s' 0800822000000000000004000000000000000101120000000001301 |
+      acqd once | od -c";
+
+const ABOUT_REPLAY: &str =
+    "Takes the event lines on standard input, and writes a line of what comes of each";
+
+const MORE_OF_REPLAY: &str = "\
+An event line is a record of six fields of CSV, with no header line; fields not used are empty:
+  addrange,LOW,HIGH,ISSUER,HOLD,       an issuer's card range, and how many days a hold lasts
+  droprange,LOW,HIGH,,,                no such range any more
+  enrol,MERCHANT,CURRENCY,FIRST,,      a merchant, its currency and its first reference
+  terminal,MERCHANT,TERMINAL,,,        a terminal of a merchant
+  frame,MOMENT,HEX,,,                  a terminal's message, in hexadecimal
+  answer,MOMENT,MERCHANT,REFERENCE,VERDICT,TEXT
+                                       an issuer's answer to what was asked: `approved` and an
+                                       authorization id, `declined` and a code, or `none`
+  cutover,MOMENT,,,,                   the business day ends, and the next begins
+MOMENT counts seconds since 1970-01-01 00:00:00 UTC.
+
+What comes of an event is one line:
+  reply MESSAGE                        this goes to the terminal
+  ask MERCHANT REFERENCE CARD AMOUNT ISSUER
+                                       this is asked of the issuer, whose answer is an event
+  done                                 it is in the book
+  refused NUMBER ..                    it isn't: 20 to 22 a range, 30 and 31 a message, 32 and 33 a
+                                       repeat or an answer come late, 34 and 35 an answer, 36 and 37
+                                       a merchant, 38 the last day
+
+With --db the book is the one in this file, and --limit and --day are not used. Each event is in the
+file, whole, before its line is written; a stop at any moment leaves all events so far.
+
+With --clearing or --report these texts are written in place of the lines, once all events are
+taken: first the clearing files in the order given, then the settlement reports.
+
+All lines are read before the first event is taken. The status is 0 where all is well, 1 for a
+fault, 2 for wrong usage, 3 where memory ran out or the file failed. A fault is one line on standard
+error, and what was written before it stands:
+  acqd: 1 Memory
+  acqd: 2 Store                        the file can't be opened, read or written
+  acqd: 40 NotABook                    the file holds no book
+  acqd: 41 OtherVersion VERSION        the file holds a book of this other version
+  acqd: 53 Read                        a read failed; no event was taken
+  acqd: 54 Write BYTES                 a write failed after so many bytes of a line or a report
+  acqd: 60 DayNotOver                  the business day of this report isn't over
+  acqd: 61 StillPending REQUESTS       so many requests of that day have no answer yet
+  acqd: 62 BadLine RECORD              this record is out of its form; no event was taken
+
+Examples:
+  acqd replay --day 2024-05-01 < examples/day.csv
+  acqd replay --day 2024-05-01 --clearing 2024-05-01 < examples/day.csv
+  acqd replay --db book.db < examples/day.csv";
+
+const ABOUT_CLEARING: &str = "Writes the clearing file of a business day that is over";
+
+const ABOUT_REPORT: &str = "Writes the settlement report of a business day that is over";
+
+const MORE_OF_REPORTS: &str = "\
+The text goes to standard output. Nothing in the book is changed.
+
+The status is 0 where all is well, 1 for a fault, 2 for wrong usage, 3 where memory ran out or the
+file failed. A fault is one line on standard error, and what was written before it stands:
+  acqd: 1 Memory
+  acqd: 2 Store                    the file can't be opened or read
+  acqd: 40 NotABook                the file holds no book
+  acqd: 41 OtherVersion VERSION    the file holds a book of this other version
+  acqd: 54 Write BYTES             a write failed after so many bytes of the text
+  acqd: 60 DayNotOver              the business day isn't over
+  acqd: 61 StillPending REQUESTS   so many requests of that day have no answer yet";
+
+const ABOUT_HOLDS: &str = "Writes the open holds of a merchant at a moment";
+
+const MORE_OF_HOLDS: &str = "\
+A hold is an approved authorization that was neither completed nor reversed, up to its last second.
+They are CSV with a header line, in order of reference, the card numbers masked. MOMENT counts
+seconds since 1970-01-01 00:00:00 UTC. Nothing in the book is changed.
+
+The status is 0 where all is well, 1 for a fault, 2 for wrong usage, 3 where memory ran out or the
+file failed. A fault is one line on standard error, and what was written before it stands:
+  acqd: 1 Memory
+  acqd: 2 Store                    the file can't be opened or read
+  acqd: 37 NoSuchMerchant          the merchant isn't enrolled
+  acqd: 40 NotABook                the file holds no book
+  acqd: 41 OtherVersion VERSION    the file holds a book of this other version
+  acqd: 54 Write BYTES             a write failed after so many bytes of the text
+
+Example:
+  acqd holds --db book.db --merchant MERCHANT0000001 --at 1714555800";
+
+const ABOUT_SHOW: &str = "Shows the messages on standard input to a person";
+
+const MORE_OF_SHOW: &str = "\
+The messages stand on standard input as frames, as `acqd once` reads and writes them, or with --hex
+as lines, each a message in hexadecimal. Each is shown by its type, and by the number, the name and
+the content of each element; card numbers and tracks are masked, PIN blocks and chip data left out.
+What spells no message is shown by what is wrong with it, and where, and the next is shown all the
+same.
+
+The status is 0 where all is well, 1 for a fault, 2 for wrong usage, 3 where memory ran out. A
+fault is one line on standard error, and what was written before it stands:
+  acqd: 1 Memory
+  acqd: 50 BadLength               a frame's length is 0 or above 4,096
+  acqd: 51 Ended                   the input ends inside a frame
+  acqd: 53 Read                    a read failed
+  acqd: 54 Write BYTES             a write failed after so many bytes of a message's text
+  acqd: 62 BadLine LINE            this line holds no message in hexadecimal; nothing is shown
+
+Example: what comes back for an echo test
+  acqd once < examples/echo.frame | acqd show";
+
+const FILE_OR_MEMORY: &str = "The file of the book [default: a new book in memory]";
+
+pub(crate) fn program<'a>(alloc: Global) -> Result<Command<'a>, AllocError>
+    ensures { IfOk result (λ made. app_of made ≡ program) }
+{
+    let clearing = day_command(alloc, "clearing", ABOUT_CLEARING)?;
+    let report = day_command(alloc, "report", ABOUT_REPORT)?;
+    own_books(alloc)?
+        .subcommand(clearing)?
+        .subcommand(report)?
+        .subcommand(holds_command(alloc)?)?
+        .subcommand(show_command(alloc)?)
+}
+
+/// The program with the commands that make a book, or take what comes in.
+fn own_books<'a>(alloc: Global) -> Result<Command<'a>, AllocError>
+    ensures { IfOk result (λ made. app_of made ≡ making) }
+{
+    Command::new(alloc, "acqd")
+        .version("0.1.0")
+        .about(ABOUT)
+        .subcommand_required(true)
+        .arg_required_else_help(false)
+        .subcommand(init_command(alloc)?)?
+        .subcommand(once_command(alloc)?)?
+        .subcommand(replay_command(alloc)?)
+}
+
+fn init_command<'a>(alloc: Global) -> Result<Command<'a>, AllocError>
+    ensures { IfOk result (λ made. app_of made ≡ init) }
+{
+    let limit = required(
+        alloc,
+        "limit",
+        "N",
+        "How many messages of one merchant a day admits, 1 to 999999",
+    );
+    let first_day = required(
+        alloc,
+        "day",
+        "YYYY-MM-DD",
+        "The first business day, 2000-01-01 to 2099-12-31",
+    );
+    Command::new(alloc, "init")
+        .about(ABOUT_INIT)
+        .after_help(MORE_OF_INIT)
+        .arg(required(alloc, "db", "FILE", "The file of the new book"))?
+        .arg(limit)?
+        .arg(first_day)
+}
+
+fn once_command<'a>(alloc: Global) -> Result<Command<'a>, AllocError>
+    ensures { IfOk result (λ made. app_of made ≡ once) }
+{
+    let db = option_with_value(alloc, "db", "FILE", FILE_OR_MEMORY, ArgAction::Set);
+    let moment = option_with_value(
+        alloc,
+        "at",
+        "MOMENT",
+        "The moment at which all frames come, 946684800 to 4102444799 [default: the clock's]",
+        ArgAction::Set,
+    );
+    Command::new(alloc, "once")
+        .about(ABOUT_ONCE)
+        .after_help(MORE_OF_ONCE)
+        .arg(db)?
+        .arg(moment)
+}
+
+fn replay_command<'a>(alloc: Global) -> Result<Command<'a>, AllocError>
+    ensures { IfOk result (λ made. app_of made ≡ replay) }
+{
+    let db = option_with_value(alloc, "db", "FILE", FILE_OR_MEMORY, ArgAction::Set);
+    let limit = option_with_value(
+        alloc,
+        "limit",
+        "N",
+        "How many messages of one merchant a day admits, 1 to 999999 [default: 999999]",
+        ArgAction::Set,
+    );
+    let first_day = option_with_value(
+        alloc,
+        "day",
+        "YYYY-MM-DD",
+        "The first business day, 2000-01-01 to 2099-12-31 [default: 2000-01-01]",
+        ArgAction::Set,
+    );
+    let clearing = option_with_value(
+        alloc,
+        "clearing",
+        "YYYY-MM-DD",
+        "In place of the lines: the clearing file of a day that is over; may be repeated",
+        ArgAction::Append,
+    );
+    let report = option_with_value(
+        alloc,
+        "report",
+        "YYYY-MM-DD",
+        "In place of the lines: the settlement report of such a day; may be repeated",
+        ArgAction::Append,
+    );
+    Command::new(alloc, "replay")
+        .about(ABOUT_REPLAY)
+        .after_help(MORE_OF_REPLAY)
+        .arg(db)?
+        .arg(limit)?
+        .arg(first_day)?
+        .arg(clearing)?
+        .arg(report)
+}
+
+/// A command that writes a report on a day.
+fn day_command<'a>(alloc: Global, name: &'a str, about: &'a str) -> Result<Command<'a>, AllocError>
+    ensures { IfOk result (λ made. app_of made ≡ on_a_day name.now) }
+{
+    Command::new(alloc, name)
+        .about(about)
+        .after_help(MORE_OF_REPORTS)
+        .arg(required(alloc, "db", "FILE", "The file of the book"))?
+        .arg(required(alloc, "day", "YYYY-MM-DD", "The business day"))
+}
+
+fn holds_command<'a>(alloc: Global) -> Result<Command<'a>, AllocError>
+    ensures { IfOk result (λ made. app_of made ≡ holds) }
+{
+    Command::new(alloc, "holds")
+        .about(ABOUT_HOLDS)
+        .after_help(MORE_OF_HOLDS)
+        .arg(required(alloc, "db", "FILE", "The file of the book"))?
+        .arg(required(alloc, "merchant", "MERCHANT", "The merchant, 1 to 15 bytes"))?
+        .arg(required(alloc, "at", "MOMENT", "The moment, 946684800 to 4102444799"))
+}
+
+/// An option with a value that has to be there.
+fn required<'a>(alloc: Global, name: &'a str, value: &'a str, help: &'a str) -> Arg<'a>
+    ensures rule { rule_of result ≡ required name.now }
+    ensures own { result.global ≡ false }
+{
+    option_with_value(alloc, name, value, help, ArgAction::Set).required(true)
+}
+
+/// An option with a value, as `--name VALUE`.
+fn option_with_value<'a>(
+    alloc: Global,
+    name: &'a str,
+    value: &'a str,
+    help: &'a str,
+    action: ArgAction,
+) -> Arg<'a>
+    ensures rule { rule_of result ≡ option_with_value name.now action }
+    ensures own { result.global ≡ false }
+{
+    Arg::new(alloc, name)
+        .long(name)
+        .value_name(value)
+        .help(help)
+        .action(action)
+}
+
+fn show_command<'a>(alloc: Global) -> Result<Command<'a>, AllocError>
+    ensures { IfOk result (λ made. app_of made ≡ show) }
+{
+    let hex = Arg::new(alloc, "hex")
+        .long("hex")
+        .help("The input is lines, each a message in hexadecimal")
+        .action(ArgAction::SetTrue);
+    Command::new(alloc, "show")
+        .about(ABOUT_SHOW)
+        .after_help(MORE_OF_SHOW)
+        .arg(hex)
+}

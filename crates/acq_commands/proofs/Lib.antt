@@ -1,0 +1,5 @@
+pub mod FramesInOrder
+pub mod LinesWritten
+pub mod ReportsEnd
+pub mod ReportsWritten
+pub mod ShownFrames

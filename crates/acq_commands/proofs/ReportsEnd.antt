@@ -1,0 +1,21 @@
+-- Reports behind the events of a text, by how these ended.
+use Rattle.std.proofs.Common.{◌≡◌, List, ℕ, inl, inr}
+use Rattle.std.specs.Prelude.{Result, Ok, Err, IfErr, OnOk}
+use Rattle.acq_core.specs.Tables.{Opening, Tables, new_tables}
+use Rattle.acq_reports.specs.declared.report_fault.ReportFault.{ReportFault}
+use Rattle.acq_commands.specs.declared.day_report.DayReport.{DayReport}
+use Rattle.acq_commands.specs.declared.fault.Fault.{Fault}
+use Rattle.acq_commands.specs.DayReports.{Takes, WritesReports, told}
+use Rattle.acq_commands.specs.Runs.{EndsReports}
+
+pub ends_reports : (opening : Opening) (book : Tables) (reports : List DayReport) (text sent after : List ℕ)
+    (taken ended : Result (Unit {0}) Fault)
+    → Takes (λ t. t) (λ t. Unit {0}) (new_tables opening) book text taken
+    → IfErr taken (λ cause. (ended ≡ Err cause) × (after ≡ sent))
+    → OnOk taken (Unit {0} → Unit {0} → (written : Result (Unit {0}) ReportFault) × (ended ≡ told written)
+    × WritesReports book reports sent after written)
+    → EndsReports opening reports text sent after ended
+ends_reports opening book reports text sent after (Ok u) ended takes stopped written =
+    let so = written tt tt in inr (so.0, so.1, (book, takes, so.2))
+ends_reports opening book reports text sent after (Err cause) ended takes (is, same) written =
+    inl (cause, is, (book, takes, same))

@@ -1,0 +1,13 @@
+use Rattle.std.proofs.Common.{◌≡◌, ◌∙◌, ap₂, subst}
+use Rattle.acq_core.specs.Tables.{Tables, new_tables}
+use Rattle.acq_commands.specs.Once.{ServesOnce, widest_opening}
+use Rattle.acq_commands.proofs.once.once_in_memory.Goals as goal
+
+pub returns-clause-served : goal.returns-clause-served
+returns-clause-served g c =
+    let book : c.into_book.result ≡ new_tables widest_opening =
+    c.into_book.ensures.book ∙ c.in_memory-host.ensures
+    ∙ ap₂ (λ limit day. new_tables (record { limit = limit; first_day = day })) c.greatest_limit.ensures
+    c.first_day_of_all.ensures in
+    let s = (rw book at c.once_on.ensures.served) in
+    (s.0, s.1 tt tt)

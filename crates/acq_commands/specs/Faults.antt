@@ -1,0 +1,136 @@
+-- The faults' numbers and texts, and the statuses that the program ends with.
+use Rattle.std.specs.Prelude.{◌≡◌, ℕ, List, ◌++◌, [], codes, Result, Ok, Err}
+use Rattle.std.specs.Fmt.{decimal}
+use Rattle.iso_codec.specs.FaultTexts.{number_of_fault, element_of_fault}
+use Rattle.acq_book.specs.declared.book_fault.BookFault as book
+use Rattle.acq_front.specs.declared.front_fault.FrontFault as front
+use Rattle.acq_hex.specs.declared.hex_fault.HexFault as hex
+use Rattle.acq_link.specs.declared.input_fault.InputFault as input
+use Rattle.acq_out.specs.declared.out_fault.OutFault as out
+use Rattle.acq_reports.specs.declared.report_fault.ReportFault as report
+use Rattle.acq_commands.specs.declared.fault.Fault.{Fault}
+use Rattle.acq_commands.specs.declared.fault.Fault.TheVariants.{Memory, Store, NoSuchMerchant}
+use Rattle.acq_commands.specs.declared.fault.Fault.TheVariants.{NotABook, OtherVersion, BadLength}
+use Rattle.acq_commands.specs.declared.fault.Fault.TheVariants.{Ended, Undecodable, Read, Write}
+use Rattle.acq_commands.specs.declared.fault.Fault.TheVariants.{DayNotOver, StillPending, BadLine}
+
+abbrev pub number_of : Fault → ℕ
+number_of Memory = 1
+number_of Store = 2
+number_of NoSuchMerchant = 37
+number_of NotABook = 40
+number_of (OtherVersion v) = 41
+number_of BadLength = 50
+number_of Ended = 51
+number_of (Undecodable fault) = 52
+number_of Read = 53
+number_of (Write n) = 54
+number_of DayNotOver = 60
+number_of (StillPending n) = 61
+number_of (BadLine n) = 62
+
+-- a fault's name
+abbrev pub name_of : Fault → List ℕ
+name_of Memory = codes "Memory"
+name_of Store = codes "Store"
+name_of NoSuchMerchant = codes "NoSuchMerchant"
+name_of NotABook = codes "NotABook"
+name_of (OtherVersion v) = codes "OtherVersion"
+name_of BadLength = codes "BadLength"
+name_of Ended = codes "Ended"
+name_of (Undecodable fault) = codes "Undecodable"
+name_of Read = codes "Read"
+name_of (Write n) = codes "Write"
+name_of DayNotOver = codes "DayNotOver"
+name_of (StillPending n) = codes "StillPending"
+name_of (BadLine n) = codes "BadLine"
+
+-- its values, each behind a space
+abbrev pub values_of : Fault → List ℕ
+values_of (Undecodable fault) =
+    codes " " ++ decimal (number_of_fault fault) ++ codes " " ++ decimal (element_of_fault fault)
+values_of (OtherVersion v) = codes " " ++ decimal v
+values_of (Write n) = codes " " ++ decimal n
+values_of (StillPending n) = codes " " ++ decimal n
+values_of (BadLine n) = codes " " ++ decimal n
+values_of other = []
+
+-- the fault as printed lines have it
+abbrev pub text_of : Fault → List ℕ
+text_of fault = decimal (number_of fault) ++ codes " " ++ name_of fault ++ values_of fault
+
+-- 3 where memory ran out or the store failed, else 1
+abbrev pub status_of : Fault → ℕ
+status_of Memory = 3
+status_of Store = 3
+status_of NoSuchMerchant = 1
+status_of NotABook = 1
+status_of (OtherVersion v) = 1
+status_of BadLength = 1
+status_of Ended = 1
+status_of (Undecodable fault) = 1
+status_of Read = 1
+status_of (Write n) = 1
+status_of DayNotOver = 1
+status_of (StillPending n) = 1
+status_of (BadLine n) = 1
+
+-- what a fault of a book is
+abbrev pub of_book : book.BookFault → Fault
+of_book book.TheVariants.Memory = Memory
+of_book book.TheVariants.Store = Store
+
+-- what a connection's fault is
+abbrev pub of_front : front.FrontFault → Fault
+of_front front.TheVariants.Memory = Memory
+of_front front.TheVariants.Store = Store
+of_front front.TheVariants.BadLength = BadLength
+of_front front.TheVariants.Ended = Ended
+of_front (front.TheVariants.Undecodable f) = Undecodable f
+of_front front.TheVariants.Read = Read
+of_front (front.TheVariants.Write n) = Write n
+
+-- what a fault of the input is
+abbrev pub of_input : input.InputFault → Fault
+of_input input.TheVariants.Memory = Memory
+of_input input.TheVariants.Read = Read
+
+-- what a fault of event lines or of output lines is
+abbrev pub of_out : out.OutFault → Fault
+of_out out.TheVariants.Memory = Memory
+of_out out.TheVariants.Read = Read
+of_out (out.TheVariants.Write n) = Write n
+of_out (out.TheVariants.BadLine n) = BadLine n
+
+-- what a fault of lines in hexadecimal is
+abbrev pub of_hex : hex.HexFault → Fault
+of_hex hex.TheVariants.Memory = Memory
+of_hex (hex.TheVariants.BadLine n) = BadLine n
+
+-- what a fault of a report is
+abbrev pub of_report : report.ReportFault → Fault
+of_report report.TheVariants.Memory = Memory
+of_report report.TheVariants.Store = Store
+of_report report.TheVariants.NoSuchMerchant = NoSuchMerchant
+of_report (report.TheVariants.Write n) = Write n
+of_report report.TheVariants.DayNotOver = DayNotOver
+of_report (report.TheVariants.StillPending n) = StillPending n
+
+-- 0 where all is well
+abbrev pub status_after : Result (Unit {0}) Fault → ℕ
+status_after (Ok u) = 0
+status_after (Err fault) = status_of fault
+
+-- why a report was not written whole, as the command tells it
+abbrev pub IsReporting : Fault → Type 0
+IsReporting fault = (cause : report.ReportFault) × (fault ≡ of_report cause)
+
+-- how many writes failed
+abbrev pub failed_writes : Result (Unit {0}) Fault → ℕ
+failed_writes (Err (Write n)) = 1
+failed_writes _ = 0
+
+-- how many reads failed
+abbrev pub failed_reads : Result (Unit {0}) Fault → ℕ
+failed_reads (Err Read) = 1
+failed_reads _ = 0

@@ -1,0 +1,6 @@
+pub mod DayReports
+pub mod Faults
+pub mod Once
+pub mod Replay
+pub mod Runs
+pub mod Show

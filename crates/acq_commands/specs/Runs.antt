@@ -1,0 +1,68 @@
+-- The commands over the input that was read and what was written, by how they ended.
+use Rattle.std.specs.Prelude.{◌≡◌, ◌⊎◌, ℕ, List, [], ◌∷◌, ◌++◌, Option, None, Some}
+use Rattle.std.specs.Prelude.{Result, Err, String}
+use Rattle.std.specs.declared.alloc.Global.{Global}
+use Rattle.acq_core.specs.Tables.{Opening, Tables, new_tables}
+use Rattle.acq_reports.specs.declared.report_fault.ReportFault.{ReportFault}
+use Rattle.acq_commands.specs.declared.day_report.DayReport.{DayReport}
+use Rattle.acq_commands.specs.declared.fault.Fault.{Fault}
+use Rattle.acq_commands.specs.declared.replay_options.ReplayOptions.{ReplayOptions}
+use Rattle.acq_commands.specs.DayReports.{StopsTaking, TakesEvents, WritesReports, told}
+use Rattle.acq_commands.specs.Replay.{Replays}
+
+-- The event lines that were read were taken over a new book, and what came of them was written.
+abbrev pub RunsLines : Opening → List ℕ → List ℕ → List ℕ → List ℕ → Result (Unit {0}) Fault
+    → Type 0
+RunsLines opening received received_after sent sent_after ended =
+    (text : List ℕ) × (book : Tables) × (received_after ≡ received ++ text)
+    × Replays (λ t. t) (λ t. Unit {0}) (new_tables opening) book text sent sent_after ended
+
+-- what stops the event lines before any report is begun: nothing goes out
+abbrev pub StopsBefore : Opening → List ℕ → List ℕ → List ℕ → Fault → Type 0
+StopsBefore opening text sent sent_after cause =
+    (book : Tables) × StopsTaking (λ t. t) (λ t. Unit {0}) (new_tables opening) book text cause
+    × (sent_after ≡ sent)
+
+-- Over the tables after all events of a text, these reports went out by the result.
+abbrev pub ReportsAfter : Opening → List DayReport → List ℕ → List ℕ → List ℕ
+    → Result (Unit {0}) ReportFault → Type 0
+ReportsAfter opening reports text sent sent_after written =
+    (book : Tables) × TakesEvents (new_tables opening) book text
+    × WritesReports book reports sent sent_after written
+
+-- The event lines of a text were stopped, or all were taken over a new book, and reports on it were
+-- written then.
+abbrev pub EndsReports : Opening → List DayReport → List ℕ → List ℕ → List ℕ
+    → Result (Unit {0}) Fault → Type 0
+EndsReports opening reports text sent sent_after ended =
+    ((cause : Fault) × (ended ≡ Err cause) × StopsBefore opening text sent sent_after cause)
+    ⊎ ((written : Result (Unit {0}) ReportFault) × (ended ≡ told written)
+    × ReportsAfter opening reports text sent sent_after written)
+
+abbrev pub RunsReports : Opening → List DayReport → List ℕ → List ℕ → List ℕ → List ℕ
+    → Result (Unit {0}) Fault → Type 0
+RunsReports opening reports received received_after sent sent_after ended =
+    (text : List ℕ) × (received_after ≡ received ++ text)
+    × EndsReports opening reports text sent sent_after ended
+
+-- lines of what came of the events, or reports where some are asked for
+abbrev pub RunsEither : Opening → List DayReport → List ℕ → List ℕ → List ℕ → List ℕ
+    → Result (Unit {0}) Fault → Type 0
+RunsEither opening [] received received_after sent sent_after ended =
+    RunsLines opening received received_after sent sent_after ended
+RunsEither opening (r ∷ rs) received received_after sent sent_after ended =
+    RunsReports opening (r ∷ rs) received received_after sent sent_after ended
+
+-- over a new book where there is no file; what is done to the book of a file is said by the calls
+-- that open it and take the events
+abbrev pub RunsIn : Option (String Global) → Opening → List DayReport → List ℕ → List ℕ → List ℕ
+    → List ℕ → Result (Unit {0}) Fault → Type 0
+RunsIn None opening reports received received_after sent sent_after ended =
+    RunsEither opening reports received received_after sent sent_after ended
+RunsIn (Some path) opening reports received received_after sent sent_after ended = Unit {0}
+
+abbrev pub RunsReplay : ReplayOptions → List ℕ → List ℕ → List ℕ → List ℕ
+    → Result (Unit {0}) Fault → Type 0
+RunsReplay options received received_after sent sent_after ended =
+    RunsIn options.book (record { limit = options.limit; first_day = options.first_day })
+    options.reports.items received received_after sent sent_after ended

@@ -1,0 +1,74 @@
+//! What commands do with the book of a file.
+
+ghost use Rattle.std.specs.Prelude.{IfErr};
+ghost use Rattle.acq_core.specs.Pasts.{HasPast};
+ghost use Rattle.acq_commands.specs.Faults.{IsReporting};
+
+use crate::book_report::BookReport;
+use crate::day_report::DayReport;
+use crate::day_reports::{report_if_taken, write_reports};
+use crate::fault::Fault;
+use crate::holds_options::HoldsOptions;
+use crate::progress::Progress;
+use crate::replaying::replay;
+use crate::taking_events::take_events;
+use acq_book::Book;
+use acq_host::Host;
+use acq_link::{Sink, Source};
+use acq_reports::open_holds;
+use std::alloc::Global;
+
+/// Replays an input over a book, which is given back at the end, and writes a line of what comes of
+/// each event, or where reports are asked for, these.
+pub fn replay_on<B: Book + Drop, S: Source, K: Sink, P: Progress>(
+    alloc: Global,
+    book: B,
+    reports: &[DayReport],
+    input: &mut S,
+    output: &mut K,
+    progress: &mut P,
+) -> Result<(), Fault>
+    requires past { B.is_open book → HasPast (B.tables book) }
+{
+    let mut host = Host::new(alloc, book);
+    if reports.is_empty() {
+        let ended = replay(alloc, &mut host, input, output, progress);
+        progress.end();
+        drop(host);
+        return ended;
+    }
+    let taken = take_events(alloc, &mut host, input, progress);
+    progress.end();
+    let mut book = host.into_book();
+    let ended = report_if_taken(alloc, taken, &mut book, reports, output);
+    drop(book);
+    ended
+}
+
+/// Writes a report on a book, which is given back.
+pub fn report_on<B: Book + Drop, K: Sink>(
+    alloc: Global,
+    mut book: B,
+    options: &BookReport,
+    output: &mut K,
+) -> Result<(), Fault>
+    ensures fault { IfErr result IsReporting }
+{
+    let written = write_reports(alloc, &mut book, &[options.report], output);
+    drop(book);
+    Ok(written?)
+}
+
+/// Writes the open holds of a merchant of a book, which is given back.
+pub fn holds_of<B: Book + Drop, K: Sink>(
+    alloc: Global,
+    mut book: B,
+    options: &HoldsOptions,
+    output: &mut K,
+) -> Result<(), Fault>
+    ensures fault { IfErr result IsReporting }
+{
+    let written = open_holds(alloc, &mut book, options.merchant, options.moment, output);
+    drop(book);
+    Ok(written?)
+}

@@ -1,0 +1,86 @@
+//! Reports on days, one after the other.
+
+ghost use Rattle.std.specs.Prelude.{◌≡◌, ◌+◌, Err, IfErr, OnOk, Result};
+ghost use Rattle.acq_book.specs.Promise.{HasRisen, Looks};
+ghost use Rattle.acq_reports.specs.Faults.{IfStoreFailed, failed_writes, is_settled};
+ghost use Rattle.acq_reports.specs.Refusals.{day_refusal};
+ghost use Rattle.acq_reports.specs.Writing.{Reports};
+ghost use Rattle.acq_reports.specs.declared.report_fault.ReportFault as report_fault;
+ghost use Rattle.acq_commands.specs.DayReports.{WritesReports, report_text, told};
+
+use crate::day_report::DayReport;
+use crate::fault::Fault;
+use crate::report_kind::ReportKind;
+use acq_book::Book;
+use acq_link::Sink;
+use acq_reports::{ReportFault, clearing, settlement};
+use std::alloc::Global;
+
+/// Writes reports on a book, one after the other. It ends at the first that is refused, or that
+/// doesn't go out whole; `Write` counts the bytes of that one.
+pub fn write_reports<B: Book, K: Sink>(
+    alloc: Global,
+    book: &mut B,
+    reports: &[DayReport],
+    output: &mut K,
+) -> Result<(), ReportFault>
+    ensures texts { B.is_honest book.new → B.is_open book.old
+        → WritesReports (B.tables book.old) reports.now (K.sent output.old) (K.sent output.new)
+        result }
+    ensures writes { B.is_honest book.new → B.is_open book.old
+        → K.failures output.new ≡ K.failures output.old + failed_writes result }
+    ensures looks { Looks B.tables B.is_honest B.is_open B.may_leave B.failures
+        book.old book.new (is_settled result) }
+    ensures store { IfStoreFailed result (HasRisen (B.failures book.old) (B.failures book.new)) }
+{
+    for report in reports.iter() {
+        write_report(alloc, book, *report, output)?;
+    }
+    Ok(())
+}
+
+/// Writes a report.
+fn write_report<B: Book, K: Sink>(
+    alloc: Global,
+    book: &mut B,
+    report: DayReport,
+    output: &mut K,
+) -> Result<(), ReportFault>
+    ensures text { B.is_honest book.new → B.is_open book.old → Reports
+        (day_refusal (B.tables book.old) report.day) (report_text (B.tables book.old) report)
+        (K.sent output.old) (K.sent output.new) result }
+    ensures writes { B.is_honest book.new → B.is_open book.old
+        → K.failures output.new ≡ K.failures output.old + failed_writes result }
+    ensures looks { Looks B.tables B.is_honest B.is_open B.may_leave B.failures
+        book.old book.new (is_settled result) }
+    ensures store { IfStoreFailed result (HasRisen (B.failures book.old) (B.failures book.new)) }
+{
+    match report.kind {
+        ReportKind::Clearing => clearing(alloc, book, report.day, output),
+        ReportKind::Settlement => settlement(alloc, book, report.day, output),
+    }
+}
+
+/// Writes reports on a book, where all events before them were taken.
+pub(crate) fn report_if_taken<B: Book, K: Sink>(
+    alloc: Global,
+    taken: Result<(), Fault>,
+    book: &mut B,
+    reports: &[DayReport],
+    output: &mut K,
+) -> Result<(), Fault>
+    ensures stopped { IfErr taken (λ cause. (result ≡ Err cause)
+        × (K.sent output.new ≡ K.sent output.old)) }
+    ensures written { OnOk taken (B.is_honest book.new → B.is_open book.old
+        → (written : Result (Unit {0}) report_fault.ReportFault) × (result ≡ told written)
+        × WritesReports (B.tables book.old) reports.now (K.sent output.old) (K.sent output.new)
+        written) }
+{
+    match taken {
+        Ok(()) => match write_reports(alloc, book, reports, output) {
+            Ok(()) => Ok(()),
+            Err(fault) => Err(Fault::from(fault)),
+        },
+        Err(fault) => Err(fault),
+    }
+}

@@ -1,0 +1,223 @@
+//! Why a command stopped.
+
+ghost use Rattle.std.specs.Prelude.{◌≡◌};
+
+use acq_book::BookFault;
+use acq_front::FrontFault;
+use acq_hex::HexFault;
+use acq_link::InputFault;
+use acq_out::OutFault;
+use acq_reports::ReportFault;
+use iso_codec::DecodeFault;
+use std::alloc::AllocError;
+use std::error::Error;
+use std::fmt;
+
+/// Why a command stopped. Its text is its number, its name and its values, as printed lines have
+/// them.
+#[derive(Clone, Copy, Debug, PartialEq, Eq)]
+pub enum Fault {
+    /// 1: memory ran out.
+    Memory,
+    /// 2: a call of the store failed, or gave rows that break the bounds of their columns.
+    Store,
+    /// 37: the merchant isn't enrolled.
+    NoSuchMerchant,
+    /// 40: the file is no book: for a new book it isn't empty, and for an old one it lacks the
+    /// book's tables or its row.
+    NotABook,
+    /// 41: the book's tables are of this version.
+    OtherVersion(u64),
+    /// 50: a frame's length is 0 or above 4,096.
+    BadLength,
+    /// 51: the input ended inside a frame.
+    Ended,
+    /// 52: a frame spells no message, for this reason.
+    Undecodable(DecodeFault),
+    /// 53: a read failed.
+    Read,
+    /// 54: a write failed, and so many bytes of the piece in hand had been written.
+    Write(u64),
+    /// 60: the day that a report was asked for isn't over.
+    DayNotOver,
+    /// 61: so many requests of that day are pending.
+    StillPending(u64),
+    /// 62: the record of event lines, or the line of messages in hexadecimal, with this number,
+    /// counted from 1, is out of its form.
+    BadLine(u64),
+}
+
+impl Fault {
+    ghost use Rattle.acq_commands.specs.Faults.{number_of, status_of, name_of};
+
+    /// The fault's number.
+    pub fn number(&self) -> u8
+        ensures { result ≡ number_of self.now }
+    {
+        match self {
+            Fault::Memory => 1,
+            Fault::Store => 2,
+            Fault::NoSuchMerchant => 37,
+            Fault::NotABook => 40,
+            Fault::OtherVersion(_) => 41,
+            Fault::BadLength => 50,
+            Fault::Ended => 51,
+            Fault::Undecodable(_) => 52,
+            Fault::Read => 53,
+            Fault::Write(_) => 54,
+            Fault::DayNotOver => 60,
+            Fault::StillPending(_) => 61,
+            Fault::BadLine(_) => 62,
+        }
+    }
+
+    /// The status that the program ends with.
+    pub fn status(&self) -> u8
+        ensures { result ≡ status_of self.now }
+    {
+        match self {
+            Fault::Memory | Fault::Store => 3,
+            _ => 1,
+        }
+    }
+
+    fn name(&self) -> &'static str
+        ensures { result.now ≡ name_of self.now }
+    {
+        match self {
+            Fault::Memory => "Memory",
+            Fault::Store => "Store",
+            Fault::NoSuchMerchant => "NoSuchMerchant",
+            Fault::NotABook => "NotABook",
+            Fault::OtherVersion(_) => "OtherVersion",
+            Fault::BadLength => "BadLength",
+            Fault::Ended => "Ended",
+            Fault::Undecodable(_) => "Undecodable",
+            Fault::Read => "Read",
+            Fault::Write(_) => "Write",
+            Fault::DayNotOver => "DayNotOver",
+            Fault::StillPending(_) => "StillPending",
+            Fault::BadLine(_) => "BadLine",
+        }
+    }
+}
+
+impl fmt::Display for Fault {
+    ghost use Rattle.std.specs.Prelude.{Some};
+    ghost use Rattle.acq_commands.specs.Faults.{text_of};
+
+    ghost output = { λ f. Some (text_of f) };
+
+    fn fmt<W: fmt::Write>(&self, f: &mut fmt::Formatter<W>) -> fmt::Result {
+        write!(f, "{} {}", self.number(), self.name())?;
+        match self {
+            Fault::OtherVersion(version) => write!(f, " {version}"),
+            Fault::Undecodable(fault) => write!(f, " {} {}", fault.number(), fault.element()),
+            Fault::Write(bytes) => write!(f, " {bytes}"),
+            Fault::StillPending(requests) => write!(f, " {requests}"),
+            Fault::BadLine(record) => write!(f, " {record}"),
+            _ => Ok(()),
+        }
+    }
+}
+
+impl Error for Fault {}
+
+impl From<AllocError> for Fault {
+    ghost use Rattle.acq_commands.specs.declared.fault.Fault.TheVariants.{Memory};
+
+    ghost from_gives = { λ _ f. f ≡ Memory };
+
+    fn from(_e: AllocError) -> Fault {
+        Fault::Memory
+    }
+}
+
+impl From<BookFault> for Fault {
+    ghost use Rattle.acq_commands.specs.Faults.{of_book};
+
+    ghost from_gives = { λ e f. f ≡ of_book e };
+
+    fn from(e: BookFault) -> Fault {
+        match e {
+            BookFault::Memory => Fault::Memory,
+            BookFault::Store => Fault::Store,
+        }
+    }
+}
+
+impl From<InputFault> for Fault {
+    ghost use Rattle.acq_commands.specs.Faults.{of_input};
+
+    ghost from_gives = { λ e f. f ≡ of_input e };
+
+    fn from(e: InputFault) -> Fault {
+        match e {
+            InputFault::Memory => Fault::Memory,
+            InputFault::Read => Fault::Read,
+        }
+    }
+}
+
+impl From<FrontFault> for Fault {
+    ghost use Rattle.acq_commands.specs.Faults.{of_front};
+
+    ghost from_gives = { λ e f. f ≡ of_front e };
+
+    fn from(e: FrontFault) -> Fault {
+        match e {
+            FrontFault::Memory => Fault::Memory,
+            FrontFault::Store => Fault::Store,
+            FrontFault::BadLength => Fault::BadLength,
+            FrontFault::Ended => Fault::Ended,
+            FrontFault::Undecodable(fault) => Fault::Undecodable(fault),
+            FrontFault::Read => Fault::Read,
+            FrontFault::Write(bytes) => Fault::Write(bytes),
+        }
+    }
+}
+
+impl From<OutFault> for Fault {
+    ghost use Rattle.acq_commands.specs.Faults.{of_out};
+
+    ghost from_gives = { λ e f. f ≡ of_out e };
+
+    fn from(e: OutFault) -> Fault {
+        match e {
+            OutFault::Memory => Fault::Memory,
+            OutFault::Read => Fault::Read,
+            OutFault::Write(bytes) => Fault::Write(bytes),
+            OutFault::BadLine(record) => Fault::BadLine(record),
+        }
+    }
+}
+
+impl From<HexFault> for Fault {
+    ghost use Rattle.acq_commands.specs.Faults.{of_hex};
+
+    ghost from_gives = { λ e f. f ≡ of_hex e };
+
+    fn from(e: HexFault) -> Fault {
+        match e {
+            HexFault::Memory => Fault::Memory,
+            HexFault::BadLine(line) => Fault::BadLine(line),
+        }
+    }
+}
+
+impl From<ReportFault> for Fault {
+    ghost use Rattle.acq_commands.specs.Faults.{of_report};
+
+    ghost from_gives = { λ e f. f ≡ of_report e };
+
+    fn from(e: ReportFault) -> Fault {
+        match e {
+            ReportFault::Memory => Fault::Memory,
+            ReportFault::Store => Fault::Store,
+            ReportFault::NoSuchMerchant => Fault::NoSuchMerchant,
+            ReportFault::Write(bytes) => Fault::Write(bytes),
+            ReportFault::DayNotOver => Fault::DayNotOver,
+            ReportFault::StillPending(requests) => Fault::StillPending(requests),
+        }
+    }
+}

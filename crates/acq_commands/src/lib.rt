@@ -1,0 +1,41 @@
+//! The commands of the host over any book: event lines in, output lines or reports out; frames in,
+//! reply frames out; messages shown to a person.
+#![tactic(auto)]
+
+mod book_commands;
+mod book_report;
+mod day_report;
+mod day_reports;
+mod fault;
+mod holds_options;
+mod input_form;
+mod new_book;
+mod once;
+mod once_options;
+mod progress;
+mod replay_options;
+mod replaying;
+mod replaying_in_memory;
+mod report_kind;
+mod showing;
+mod taking_events;
+mod widest_opening;
+
+pub use book_commands::{holds_of, replay_on, report_on};
+pub use book_report::BookReport;
+pub use day_report::DayReport;
+pub use day_reports::write_reports;
+pub use fault::Fault;
+pub use holds_options::HoldsOptions;
+pub use input_form::InputForm;
+pub use new_book::NewBook;
+pub use once::{once_in_memory, once_on};
+pub use once_options::OnceOptions;
+pub use progress::Progress;
+pub use replay_options::ReplayOptions;
+pub use replaying::replay;
+pub use replaying_in_memory::replay_in_memory;
+pub use report_kind::ReportKind;
+pub use showing::show;
+pub use taking_events::take_events;
+pub use widest_opening::{first_day_of_all, greatest_limit};

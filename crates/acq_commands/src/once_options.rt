@@ -1,0 +1,12 @@
+//! What is asked of frames that are answered once.
+
+use acq_core::Moment;
+
+/// Frames that are answered over a book.
+#[derive(Debug, Drop)]
+pub struct OnceOptions {
+    /// The path of the book's file; without one the book is new, in memory.
+    pub book: Option<String>,
+    /// The moment at which all of them come; without one it is the clock's.
+    pub moment: Option<Moment>,
+}

@@ -1,0 +1,66 @@
+//! Event lines in, and nothing out.
+
+ghost use Rattle.std.specs.Prelude.{◌≡◌, ◌+◌, ◌++◌, ℕ, List, is_ok, IfErr, IsErrOf, OnOk};
+ghost use Rattle.acq_core.specs.Tables.{tables_after};
+ghost use Rattle.acq_book.specs.Promise.{HasRisen, IfStore};
+ghost use Rattle.acq_host.specs.Runs.{after_first};
+ghost use Rattle.acq_out.specs.Reads.{TakesAll};
+ghost use Rattle.acq_commands.specs.DayReports.{Takes};
+ghost use Rattle.acq_commands.specs.Faults.{failed_reads};
+ghost use Rattle.acq_commands.specs.Replay.{AfterReading};
+ghost use Rattle.acq_commands.specs.declared.fault.Fault.TheVariants.{Store};
+
+use crate::fault::Fault;
+use crate::progress::Progress;
+use acq_book::{Book, BookFault};
+use acq_core::Event;
+use acq_host::Host;
+use acq_link::Source;
+use acq_out::read_events;
+use std::alloc::Global;
+
+/// Reads all event lines, and then takes one event after the other. How many are done is told after
+/// each.
+pub fn take_events<B: Book + Drop, S: Source, P: Progress>(
+    alloc: Global,
+    host: &mut Host<B>,
+    input: &mut S,
+    progress: &mut P,
+) -> Result<(), Fault>
+    // What was read, and what the book took of it.
+    ensures takes { B.is_honest host.new → B.is_open host.old → (text : List ℕ)
+        × (S.received input.new ≡ S.received input.old ++ text)
+        × Takes B.tables B.is_open host.old host.new text result }
+    // Unless memory ran out or a read failed, the whole input was read.
+    ensures whole { AfterReading result
+        (TakesAll (S.remaining input.old) (S.received input.old) (S.received input.new)) }
+    // A fault of reading or of the store comes only where a call of it failed.
+    ensures reads { S.failures input.new ≡ S.failures input.old + failed_reads result }
+    ensures store { IsErrOf result Store
+        → HasRisen (B.failures host.old) (B.failures host.new) }
+{
+    let events = read_events(alloc, input)?;
+    take_each(host, events.as_slice(), progress)?;
+    Ok(())
+}
+
+/// Takes events in order.
+fn take_each<B: Book + Drop, P: Progress>(
+    host: &mut Host<B>,
+    events: &[Event],
+    progress: &mut P,
+) -> Result<(), BookFault>
+    ensures taken { B.is_honest host.new → B.is_open host.old → OnOk result
+        (B.tables host.new ≡ tables_after (B.tables host.old) events.now) }
+    ensures stopped { B.is_honest host.new → B.is_open host.old → IfErr result (λ fault.
+        (taken : ℕ) × (B.is_open host.new
+        → B.tables host.new ≡ after_first taken (B.tables host.old) events.now)) }
+    ensures store { IfStore result (HasRisen (B.failures host.old) (B.failures host.new)) }
+{
+    progress.begin(events.len());
+    for event in events.iter() {
+        host.take(event)?;
+        progress.done();
+    }
+    Ok(())
+}
