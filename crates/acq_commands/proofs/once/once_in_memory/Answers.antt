@@ -1,6 +1,6 @@
-use Rattle.std.proofs.Common.{◌≡◌, ◌∙◌, ap₂, subst}
-use Rattle.acq_core.specs.Tables.{Tables, new_tables}
-use Rattle.acq_commands.specs.Once.{ServesOnce, widest_opening}
+use Rattle.std.proofs.Common.{◌≡◌, ◌∙◌, ap₂}
+use Rattle.acq_core.specs.Tables.{new_tables}
+use Rattle.acq_commands.specs.Once.{widest_opening}
 use Rattle.acq_commands.proofs.once.once_in_memory.Goals as goal
 
 pub returns-clause-served : goal.returns-clause-served
