@@ -1,11 +1,13 @@
 -- Reports behind the events of a text, by how these ended.
-use Rattle.std.proofs.Common.{◌≡◌, List, ℕ, inl, inr}
+use Rattle.std.proofs.Common.{◌≡◌, List, ℕ, inl, inr, subst, sym}
 use Rattle.std.specs.Prelude.{Result, Ok, Err, IfErr, OnOk}
 use Rattle.acq_core.specs.Tables.{Opening, Tables, new_tables}
 use Rattle.acq_reports.specs.declared.report_fault.ReportFault.{ReportFault}
 use Rattle.acq_commands.specs.declared.day_report.DayReport.{DayReport}
 use Rattle.acq_commands.specs.declared.fault.Fault.{Fault}
+use Rattle.acq_commands.specs.declared.fault.Fault.TheVariants.{Memory, Read}
 use Rattle.acq_commands.specs.DayReports.{Takes, WritesReports, told}
+use Rattle.acq_commands.specs.Replay.{AfterReading}
 use Rattle.acq_commands.specs.Runs.{EndsReports}
 
 pub ends_reports : (opening : Opening) (book : Tables) (reports : List DayReport) (text sent after : List ℕ)
@@ -19,3 +21,16 @@ ends_reports opening book reports text sent after (Ok u) ended takes stopped wri
     let so = written tt tt in inr (so.0, so.1, (book, takes, so.2))
 ends_reports opening book reports text sent after (Err cause) ended takes (is, same) written =
     inl (cause, is, (book, takes, same))
+
+-- ---- what was read before the reports
+
+any_end : (result : Result (Unit {0}) Fault) (whole : Type 0) → whole → AfterReading result whole
+any_end (Err Memory) whole h = tt
+any_end (Err Read) whole h = tt
+any_end result whole h = h
+
+-- what is said of how the events ended is said of how the reports did
+pub still_after : (taken result : Result (Unit {0}) Fault) (whole Unwritten : Type 0) →
+    AfterReading taken whole → IfErr taken (λ cause. (result ≡ Err cause) × Unwritten) → AfterReading result whole
+still_after (Ok u) result whole Unwritten after stopped = any_end result whole after
+still_after (Err cause) result whole Unwritten after stopped = subst (λ r. AfterReading r whole) (sym stopped.0) after

@@ -2,7 +2,9 @@
 
 ghost use Rattle.std.specs.Prelude.{IfErr};
 ghost use Rattle.acq_core.specs.Pasts.{HasPast};
+ghost use Rattle.acq_out.specs.Reads.{TakesAll};
 ghost use Rattle.acq_commands.specs.Faults.{IsReporting};
+ghost use Rattle.acq_commands.specs.Replay.{AfterReading};
 
 use crate::book_report::BookReport;
 use crate::day_report::DayReport;
@@ -29,6 +31,9 @@ pub fn replay_on<B: Book + Drop, S: Source, K: Sink, P: Progress>(
     progress: &mut P,
 ) -> Result<(), Fault>
     requires past { B.is_open book → HasPast (B.tables book) }
+    // Unless memory ran out or a read failed, the whole input was read.
+    ensures whole { AfterReading result
+        (TakesAll (S.remaining input.old) (S.received input.old) (S.received input.new)) }
 {
     let mut host = Host::new(alloc, book);
     if reports.is_empty() {

@@ -1,5 +1,7 @@
 //! A replay over a new book in memory.
 
+ghost use Rattle.acq_out.specs.Reads.{TakesAll};
+ghost use Rattle.acq_commands.specs.Replay.{AfterReading};
 ghost use Rattle.acq_commands.specs.Runs.{RunsLines, RunsReplay, RunsReports};
 
 use crate::day_reports::report_if_taken;
@@ -23,8 +25,10 @@ pub fn replay_in_memory<S: Source, K: Sink, P: Progress>(
     output: &mut K,
     progress: &mut P,
 ) -> Result<(), Fault>
-    ensures { RunsReplay options.now (S.received input.old) (S.received input.new)
+    ensures runs { RunsReplay options.now (S.received input.old) (S.received input.new)
         (K.sent output.old) (K.sent output.new) result }
+    ensures whole { AfterReading result
+        (TakesAll (S.remaining input.old) (S.received input.old) (S.received input.new)) }
 {
     if options.reports.is_empty() {
         replay_to_lines(alloc, keys, options, input, output, progress)
@@ -42,9 +46,11 @@ fn replay_to_lines<S: Source, K: Sink, P: Progress>(
     output: &mut K,
     progress: &mut P,
 ) -> Result<(), Fault>
-    ensures { RunsLines (record { limit = options.now.limit; first_day = options.now.first_day })
+    ensures runs { RunsLines (record { limit = options.now.limit; first_day = options.now.first_day })
         (S.received input.old) (S.received input.new)
         (K.sent output.old) (K.sent output.new) result }
+    ensures whole { AfterReading result
+        (TakesAll (S.remaining input.old) (S.received input.old) (S.received input.new)) }
 {
     let mut host = Host::in_memory(alloc, keys, options.limit, options.first_day);
     let ended = replay(alloc, &mut host, input, output, progress);
@@ -61,9 +67,11 @@ fn replay_to_reports<S: Source, K: Sink, P: Progress>(
     output: &mut K,
     progress: &mut P,
 ) -> Result<(), Fault>
-    ensures { RunsReports (record { limit = options.now.limit; first_day = options.now.first_day })
+    ensures runs { RunsReports (record { limit = options.now.limit; first_day = options.now.first_day })
         options.now.reports.items (S.received input.old) (S.received input.new)
         (K.sent output.old) (K.sent output.new) result }
+    ensures whole { AfterReading result
+        (TakesAll (S.remaining input.old) (S.received input.old) (S.received input.new)) }
 {
     let mut host = Host::in_memory(alloc, keys, options.limit, options.first_day);
     let taken = take_events(alloc, &mut host, input, progress);

@@ -1,6 +1,7 @@
 -- One run of the program over an input, and its status.
-use Rattle.std.specs.Prelude.{◌≡◌, ◌⊎◌, ℕ, List, Option, None, Some, Result, Ok, Err, String}
+use Rattle.std.specs.Prelude.{◌≡◌, ◌⊎◌, ℕ, List, Option, None, Some, Result, Ok, Err, OnOk, String}
 use Rattle.std.specs.declared.alloc.Global.{Global}
+use Rattle.acq_out.specs.Reads.{TakesAll}
 use Rattle.acq_arguments.specs.declared.action.Action.{Action}
 use Rattle.acq_arguments.specs.declared.action.Action.TheVariants.{Init, Once, Replay, Report, Holds, Show}
 use Rattle.acq_arguments.specs.declared.option_name.OptionName.{OptionName}
@@ -24,18 +25,29 @@ abbrev pub MayCome : Option ℕ → ℕ → Type 0
 MayCome None moment = Unit {0}
 MayCome (Some at) moment = moment ≡ at
 
+-- Where all is well, the whole input was read, where it is known what was to come.
+abbrev pub ReadsWhole : Option (List ℕ) → List ℕ → List ℕ → Result (Unit {0}) Fault → Type 0
+ReadsWhole remaining received received_after ended =
+    OnOk ended (TakesAll remaining received received_after)
+
 -- What was asked is done.
-abbrev pub Does : Action → List ℕ → List ℕ → List ℕ → List ℕ → Result (Unit {0}) Fault → Type 0
-Does (Init new) received received_after sent sent_after ended =
+abbrev pub Does : Action → Option (List ℕ) → List ℕ → List ℕ → List ℕ → List ℕ
+    → Result (Unit {0}) Fault → Type 0
+Does (Init new) remaining received received_after sent sent_after ended =
     (received_after ≡ received) × (sent_after ≡ sent)
-Does (Once asked) received received_after sent sent_after ended =
+Does (Once asked) remaining received received_after sent sent_after ended =
     ServesIn asked.book (MayCome asked.moment) received received_after sent sent_after ended
-Does (Replay options) received received_after sent sent_after ended =
+    × ReadsWhole remaining received received_after ended
+Does (Replay options) remaining received received_after sent sent_after ended =
     RunsReplay options received received_after sent sent_after ended
-Does (Report options) received received_after sent sent_after ended = received_after ≡ received
-Does (Holds options) received received_after sent sent_after ended = received_after ≡ received
-Does (Show form) received received_after sent sent_after ended =
+    × ReadsWhole remaining received received_after ended
+Does (Report options) remaining received received_after sent sent_after ended =
+    received_after ≡ received
+Does (Holds options) remaining received received_after sent sent_after ended =
+    received_after ≡ received
+Does (Show form) remaining received received_after sent sent_after ended =
     RunsShow form received received_after sent sent_after ended
+    × ReadsWhole remaining received received_after ended
 
 -- nothing was read or written
 abbrev pub IsUntouched : List ℕ → List ℕ → List ℕ → List ℕ → Type 0
@@ -44,10 +56,12 @@ IsUntouched received received_after sent sent_after =
 
 -- What the words ask for is done, and the status is that of how it ended; or an option's value is
 -- out of its form, or there was no memory for the words, and nothing is done.
-abbrev pub Runs : List (List ℕ) → List ℕ → List ℕ → List ℕ → List ℕ → ℕ → Type 0
-Runs words received received_after sent sent_after status =
+abbrev pub Runs : List (List ℕ) → Option (List ℕ) → List ℕ → List ℕ → List ℕ → List ℕ → ℕ
+    → Type 0
+Runs words remaining received received_after sent sent_after status =
     ((action : Action) × (ended : Result (Unit {0}) Fault) × AsksFor words (Ok action)
-    × Does action received received_after sent sent_after ended × (status ≡ status_after ended))
+    × Does action remaining received received_after sent sent_after ended
+    × (status ≡ status_after ended))
     ⊎ ((option : OptionName) × AsksFor words (Err option)
     × IsUntouched received received_after sent sent_after × (status ≡ 2))
     ⊎ (IsUntouched received received_after sent sent_after × (status ≡ 3))

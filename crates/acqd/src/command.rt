@@ -6,7 +6,7 @@ ghost use Rattle.clap.specs.declared.error.kind.ErrorKind.TheVariants.{OutOfMemo
 ghost use Rattle.acq_arguments.specs.Program.{program};
 ghost use Rattle.acqd.specs.BookFiles.{IsOpening};
 ghost use Rattle.acq_commands.specs.Faults.{status_after};
-ghost use Rattle.acqd.specs.Runs.{Does, Runs, ServesIn};
+ghost use Rattle.acqd.specs.Runs.{Does, ReadsWhole, Runs, ServesIn};
 
 use crate::book_file::BookFile;
 use crate::text_sink::TextSink;
@@ -55,8 +55,8 @@ pub fn command<
     ensures status { result ≤ 3 }
     // Where nothing is wrong with the arguments, what they ask for is done.
     ensures ran { fault_of program (map W.text args.now) ≡ []
-        → Runs (map W.text args.now) (S.received input.old) (S.received input.new)
-        (K.sent output.old) (K.sent output.new) result }
+        → Runs (map W.text args.now) (S.remaining input.old) (S.received input.old)
+        (S.received input.new) (K.sent output.old) (K.sent output.new) result }
     // Else nothing was read.
     ensures unread { ¬ (fault_of program (map W.text args.now) ≡ [])
         → S.received input.new ≡ S.received input.old }
@@ -90,7 +90,7 @@ fn run<T: Alter + Drop, O: BookFile<T> + Drop, C: Clock, S: Source, K: Sink, P: 
     output: &mut K,
     progress: &mut P,
 ) -> Result<(), Fault>
-    ensures { Does action (S.received input.old) (S.received input.new)
+    ensures { Does action (S.remaining input.old) (S.received input.old) (S.received input.new)
         (K.sent output.old) (K.sent output.new) result }
 {
     match action {
@@ -136,8 +136,10 @@ fn once_over<T: Alter + Drop, O: BookFile<T> + Drop, C: Clock, S: Source, K: Sin
     input: &mut S,
     output: &mut K,
 ) -> Result<(), Fault>
-    ensures { ServesIn path.now (C.may_give clock.old) (S.received input.old)
+    ensures served { ServesIn path.now (C.may_give clock.old) (S.received input.old)
         (S.received input.new) (K.sent output.old) (K.sent output.new) result }
+    ensures whole { ReadsWhole
+        (S.remaining input.old) (S.received input.old) (S.received input.new) result }
 {
     match path {
         Some(path) => {
@@ -157,7 +159,10 @@ fn replay_in_file<T: Alter + Drop, O: BookFile<T> + Drop, S: Source, K: Sink, P:
     input: &mut S,
     output: &mut K,
     progress: &mut P,
-) -> Result<(), Fault> {
+) -> Result<(), Fault>
+    ensures { ReadsWhole
+        (S.remaining input.old) (S.received input.old) (S.received input.new) result }
+{
     let book = file.open_book(path.as_str())?;
     replay_on(
         alloc,

@@ -3,8 +3,8 @@ use Rattle.acq_core.specs.Tables.{Tables}
 use Rattle.acq_commands.specs.Replay.{Replays}
 use Rattle.acq_commands.proofs.replaying_in_memory.replay_to_lines.Goals as goal
 
-pub returns : goal.returns
-returns g c =
+pub returns-clause-runs : goal.returns-clause-runs
+returns-clause-runs g c =
     let so = c.replay-ended.ensures.replays tt tt in (
       so.0,
       c.replay-ended.new.host,

@@ -4,11 +4,12 @@ use Rattle.acq_reports.specs.declared.report_fault.ReportFault.{ReportFault}
 use Rattle.acq_core.specs.Tables.{Tables}
 use Rattle.acq_commands.specs.declared.day_report.DayReport.{DayReport}
 use Rattle.acq_commands.specs.DayReports.{Takes, WritesReports, told}
-use Rattle.acq_commands.proofs.ReportsEnd.{ends_reports}
+use Rattle.acq_commands.proofs.ReportsEnd.{ends_reports, still_after}
+use Rattle.acq_out.specs.Reads.{TakesAll}
 use Rattle.acq_commands.proofs.replaying_in_memory.replay_to_reports.Goals as goal
 
-pub returns : goal.returns
-returns g c =
+pub returns-clause-runs : goal.returns-clause-runs
+returns-clause-runs g c =
     let so = c.take_events-taken.ensures.takes tt tt in
     let book = c.take_events-taken.new.host in
     let reports = c.args.options.now.reports.items in
@@ -29,3 +30,10 @@ returns g c =
           × WritesReports t c.as_slice.result.now (g.K.Sink.sent c.args.output.now) (g.K.Sink.sent ended.new.output)
           written)) c.into_book-book.ensures.book ended.ensures.written)),
     )
+
+pub returns-clause-whole : goal.returns-clause-whole
+returns-clause-whole g c =
+    let ended = c.report_if_taken-ended in
+    still_after c.take_events-taken.result ended.result
+    (TakesAll (g.S.Source.remaining c.args.input.now) (g.S.Source.received c.args.input.now)
+    (g.S.Source.received c.take_events-taken.new.input)) _ c.take_events-taken.ensures.whole ended.ensures.stopped
