@@ -46,7 +46,8 @@ fn replay_to_lines<S: Source, K: Sink, P: Progress>(
     output: &mut K,
     progress: &mut P,
 ) -> Result<(), Fault>
-    ensures runs { RunsLines (record { limit = options.now.limit; first_day = options.now.first_day })
+    ensures runs { RunsLines
+        (record { limit = options.now.limit; first_day = options.now.first_day })
         (S.received input.old) (S.received input.new)
         (K.sent output.old) (K.sent output.new) result }
     ensures whole { AfterReading result
@@ -67,7 +68,8 @@ fn replay_to_reports<S: Source, K: Sink, P: Progress>(
     output: &mut K,
     progress: &mut P,
 ) -> Result<(), Fault>
-    ensures runs { RunsReports (record { limit = options.now.limit; first_day = options.now.first_day })
+    ensures runs { RunsReports
+        (record { limit = options.now.limit; first_day = options.now.first_day })
         options.now.reports.items (S.received input.old) (S.received input.new)
         (K.sent output.old) (K.sent output.new) result }
     ensures whole { AfterReading result

@@ -3,10 +3,8 @@
 use super::expected::Expected::{Ask, Done, Refused, Reply};
 use super::reversals::REVERSAL;
 use super::sales::{SALE, SALE_APPROVED, SECOND_SALE};
-use super::script::{GREATEST_LIMIT, MAY_1, Script, run_all};
+use super::script::{GREATEST_LIMIT, MAY_1, Script};
 use super::script_event::ScriptEvent::{Approve, Cutover, Frame};
-use std::hash::RandomState;
-use std::test::Fail;
 
 /// The numbers of 2000-01-05, 2024-01-10, 2024-03-01, 2025-03-01 and 2099-12-31.
 const JANUARY_5: u32 = 4;
@@ -39,7 +37,7 @@ const OUT_OF_BALANCE: &str = "0510 8222000002C00000 4078078080000000 0501100000 
     0000000000001000 0000000000000000 D0000000000001000";
 
 /// Scripts of cutovers and reconciliations.
-const DAYS: [Script; 7] = [
+pub(super) const DAYS: [Script; 7] = [
     Script {
         name: "sale_approved_after_cutover",
         limit: GREATEST_LIMIT,
@@ -234,7 +232,7 @@ const DAYS: [Script; 7] = [
 ];
 
 /// Scripts of days that a date names.
-const DATES: [Script; 4] = [
+pub(super) const DATES: [Script; 4] = [
     Script {
         name: "leap_day_in_its_year",
         limit: GREATEST_LIMIT,
@@ -298,7 +296,7 @@ const DATES: [Script; 4] = [
 ];
 
 /// Scripts of echo tests, and of frames that nobody answers.
-const FRAMES: [Script; 2] = [
+pub(super) const FRAMES: [Script; 2] = [
     Script {
         name: "network_management",
         limit: GREATEST_LIMIT,
@@ -355,18 +353,3 @@ const FRAMES: [Script; 2] = [
         ],
     },
 ];
-
-#[test]
-fn days(rt: HostRuntime) -> Result<(), Fail> {
-    run_all(&rt, rt.alloc(), RandomState::new(&rt)?, &DAYS)
-}
-
-#[test]
-fn dates(rt: HostRuntime) -> Result<(), Fail> {
-    run_all(&rt, rt.alloc(), RandomState::new(&rt)?, &DATES)
-}
-
-#[test]
-fn frames(rt: HostRuntime) -> Result<(), Fail> {
-    run_all(&rt, rt.alloc(), RandomState::new(&rt)?, &FRAMES)
-}

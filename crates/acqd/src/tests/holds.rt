@@ -1,11 +1,9 @@
 //! Authorizations, the holds that they open, and completions.
 
 use super::expected::Expected::{Ask, Done, Refused, Reply};
-use super::script::{GREATEST_LIMIT, MAY_1, Script, run_all};
+use super::script::{GREATEST_LIMIT, MAY_1, Script};
 use super::script_event::MORNING;
 use super::script_event::ScriptEvent::{AddTerminal, Approve, Decline, Frame, FrameAt};
-use std::hash::RandomState;
-use std::test::Fail;
 
 /// The last second of a hold of one day that was approved in the morning.
 pub(super) const LAST_SECOND: u64 = MORNING + 86_400;
@@ -56,7 +54,7 @@ pub(super) const NOT_COMPLETED_AGAIN: &str = "0230 322200000AC08000 000000 00000
     0502093000 000022 0501 000000000001 25 T A 978";
 
 /// Scripts of holds and their completions.
-const HOLDS: [Script; 9] = [
+pub(super) const HOLDS: [Script; 9] = [
     Script {
         name: "holds_completed_in_the_last_second_and_past_it",
         limit: GREATEST_LIMIT,
@@ -249,8 +247,3 @@ const HOLDS: [Script; 9] = [
         ],
     },
 ];
-
-#[test]
-fn holds(rt: HostRuntime) -> Result<(), Fail> {
-    run_all(&rt, rt.alloc(), RandomState::new(&rt)?, &HOLDS)
-}

@@ -3,15 +3,13 @@
 use super::expected::Expected::{Ask, Done, Reply};
 use super::holds::{HOLD, LAST_SECOND, SECOND_HOLD};
 use super::sales::{SALE, SALE_APPROVED, SECOND_SALE};
-use super::script::{GREATEST_LIMIT, MAY_1, Script, run_all, run_among};
+use super::script::{GREATEST_LIMIT, MAY_1, Script};
 use super::script_event::ScriptEvent::{Approve, Cutover, Frame, FrameAt};
-use std::hash::RandomState;
-use std::test::Fail;
 
 /// A sale; one that is reversed; two holds, one of which has expired; one that is completed by
 /// three frames; a sale that is reversed on the next day; and on that day a sale, and a
 /// reconciliation that is out of balance.
-const OF_ONE_MERCHANT: Script = Script {
+pub(super) const OF_ONE_MERCHANT: Script = Script {
     name: "of_one_merchant",
     limit: GREATEST_LIMIT,
     first_day: MAY_1,
@@ -171,7 +169,7 @@ const THREEFOLD_REPLY: &str = "0230 322200000AC08000 000000 000000005000 0502093
     000000000005 00 T A 978";
 
 /// A sale, and another that gets the next reference.
-const TWO_SALES: Script = Script {
+pub(super) const TWO_SALES: Script = Script {
     name: "two_sales",
     limit: GREATEST_LIMIT,
     first_day: MAY_1,
@@ -187,25 +185,3 @@ const TWO_SALES: Script = Script {
         ),
     ],
 };
-
-#[test]
-fn alone(rt: HostRuntime) -> Result<(), Fail> {
-    let keys = RandomState::new(&rt)?;
-    run_all(&rt, rt.alloc(), keys, &[OF_ONE_MERCHANT, TWO_SALES])
-}
-
-#[test]
-fn among_another(rt: HostRuntime) -> Result<(), Fail> {
-    run_among(
-        &rt,
-        rt.alloc(),
-        RandomState::new(&rt)?,
-        &OF_ONE_MERCHANT,
-        42,
-    )
-}
-
-#[test]
-fn a_thousand_sales_between_two(rt: HostRuntime) -> Result<(), Fail> {
-    run_among(&rt, rt.alloc(), RandomState::new(&rt)?, &TWO_SALES, 1000)
-}

@@ -5,12 +5,10 @@ use super::holds::{
     COMPLETED, COMPLETION, COMPLETION_AGAIN, HOLD, HOLD_APPROVED, LAST_SECOND, NOT_COMPLETED_AGAIN,
 };
 use super::sales::{SALE, SALE_APPROVED, SALE_AT_B, SALE_AT_B_APPROVED};
-use super::script::{GREATEST_LIMIT, MAY_1, Script, run_all};
+use super::script::{GREATEST_LIMIT, MAY_1, Script};
 use super::script_event::ScriptEvent::{
     AddTerminal, Approve, Cutover, Decline, Frame, FrameAt, NoAnswer,
 };
-use std::hash::RandomState;
-use std::test::Fail;
 
 /// A reversal of the sale, accepted and refused.
 pub(super) const REVERSAL: &str = "0420 9220000000C00000 0000004000000000 000000001000
@@ -62,7 +60,7 @@ const NOTHING_POSTED: &str = "0510 8222000002C00000 4078078080000000 0501100000 
     0000000000000000 0000000000000000 C0000000000000000";
 
 /// Scripts of reversals that are accepted.
-const ACCEPTED: [Script; 8] = [
+pub(super) const ACCEPTED: [Script; 8] = [
     Script {
         name: "sale_reversed",
         limit: GREATEST_LIMIT,
@@ -255,7 +253,7 @@ const ACCEPTED: [Script; 8] = [
 ];
 
 /// Scripts of reversals that are refused.
-const REFUSED: [Script; 9] = [
+pub(super) const REFUSED: [Script; 9] = [
     Script {
         name: "declined_sale_not_reversed",
         limit: GREATEST_LIMIT,
@@ -465,13 +463,3 @@ const REFUSED: [Script; 9] = [
         ],
     },
 ];
-
-#[test]
-fn accepted_reversals(rt: HostRuntime) -> Result<(), Fail> {
-    run_all(&rt, rt.alloc(), RandomState::new(&rt)?, &ACCEPTED)
-}
-
-#[test]
-fn refused_reversals(rt: HostRuntime) -> Result<(), Fail> {
-    run_all(&rt, rt.alloc(), RandomState::new(&rt)?, &REFUSED)
-}

@@ -1,12 +1,10 @@
 //! Sales and returns, what their issuers answer, and their repeats.
 
 use super::expected::Expected::{Ask, Done, Refused, Reply};
-use super::script::{GREATEST_LIMIT, MAY_1, Script, run_all};
+use super::script::{GREATEST_LIMIT, MAY_1, Script};
 use super::script_event::ScriptEvent::{
     AddRange, AddTerminal, Approve, Cutover, Decline, DropRange, Enrol, Frame, NoAnswer,
 };
-use std::hash::RandomState;
-use std::test::Fail;
 
 /// A sale of 10.00, and what it gives where it is approved under the first reference.
 pub(super) const SALE: &str = "0200 7220000000C08000 16 4111111111111111 000000 000000001000
@@ -50,7 +48,7 @@ pub(super) const SALE_AT_B_APPROVED: &str = "0210 722200000EC08000 16 4111111111
     000000001000 0501093000 000001 0501 000000000001 A1B2C3 00 T B 978";
 
 /// Scripts of sales.
-const SALES: [Script; 8] = [
+pub(super) const SALES: [Script; 8] = [
     Script {
         name: "sale_approved",
         limit: GREATEST_LIMIT,
@@ -229,7 +227,7 @@ const SALES: [Script; 8] = [
 ];
 
 /// Scripts of repeats.
-const REPEATS: [Script; 3] = [
+pub(super) const REPEATS: [Script; 3] = [
     Script {
         name: "sale_repeated_before_its_answer_and_after",
         limit: GREATEST_LIMIT,
@@ -281,7 +279,7 @@ const REPEATS: [Script; 3] = [
 ];
 
 /// Scripts of what a merchant and its day admit.
-const ADMISSIONS: [Script; 4] = [
+pub(super) const ADMISSIONS: [Script; 4] = [
     Script {
         name: "day_of_three_messages",
         limit: 3,
@@ -389,18 +387,3 @@ const ADMISSIONS: [Script; 4] = [
         ],
     },
 ];
-
-#[test]
-fn sales(rt: HostRuntime) -> Result<(), Fail> {
-    run_all(&rt, rt.alloc(), RandomState::new(&rt)?, &SALES)
-}
-
-#[test]
-fn repeats(rt: HostRuntime) -> Result<(), Fail> {
-    run_all(&rt, rt.alloc(), RandomState::new(&rt)?, &REPEATS)
-}
-
-#[test]
-fn admissions(rt: HostRuntime) -> Result<(), Fail> {
-    run_all(&rt, rt.alloc(), RandomState::new(&rt)?, &ADMISSIONS)
-}

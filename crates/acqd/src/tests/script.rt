@@ -11,6 +11,7 @@ use sqlite::{Connection, MemStore};
 use std::alloc::Global;
 use std::hash::RandomState;
 use std::process::Abort;
+use std::random::RandomSource;
 use std::test::Fail;
 
 /// An event, and what the host says to it.
@@ -136,16 +137,15 @@ pub(super) fn events_among(
 /// Runs a script among so many sales of another merchant, over a book in memory and over one in SQL,
 /// and compares what the host says at its steps.
 pub(super) fn run_among(
-    rt: &impl Abort,
+    rt: &(impl Abort + RandomSource),
     alloc: Global,
-    keys: RandomState,
     script: &Script,
     sales: u64,
 ) -> Result<(), Fail> {
     let (events, places) = events_among(alloc, script, sales)?;
     let said = outputs(
         alloc,
-        keys,
+        RandomState::new(rt)?,
         script.limit,
         script.first_day,
         events.as_slice(),
@@ -158,13 +158,12 @@ pub(super) fn run_among(
 
 /// Runs scripts, each over a book of its own.
 pub(super) fn run_all(
-    rt: &impl Abort,
+    rt: &(impl Abort + RandomSource),
     alloc: Global,
-    keys: RandomState,
     scripts: &[Script],
 ) -> Result<(), Fail> {
     for script in scripts {
-        run_among(rt, alloc, keys, script, 0)?;
+        run_among(rt, alloc, script, 0)?;
     }
     Ok(())
 }

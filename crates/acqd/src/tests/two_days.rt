@@ -4,13 +4,14 @@ use super::expected::Expected::{Ask, Done, Reply};
 use super::holds::{HOLD, LAST_SECOND};
 use super::reversals::{REVERSAL, REVERSED};
 use super::sales::{SALE, SALE_APPROVED};
-use super::script::{GREATEST_LIMIT, MAY_1, Script, compare, events_among, host_in_sql, run_all};
+use super::script::{GREATEST_LIMIT, MAY_1, Script, compare, events_among, host_in_sql};
 use super::script_event::ScriptEvent::{Approve, Cutover, Frame, FrameAt};
 use acq_book::Book;
 use acq_core::{Event, Limit, Output};
 use acq_host::Host;
 use acq_sql::SqlBook;
 use day_totals::Day;
+use std::alloc::Global;
 use std::hash::RandomState;
 use std::test::Fail;
 
@@ -56,11 +57,6 @@ pub(super) const TWO_DAYS: Script = Script {
         ),
     ],
 };
-
-#[test]
-fn two_days(rt: HostRuntime) -> Result<(), Fail> {
-    run_all(&rt, rt.alloc(), RandomState::new(&rt)?, &[TWO_DAYS])
-}
 
 /// What the host says to events, where a run that stops goes on with the event at which it stopped.
 fn said_going_on<B: Book + Drop>(
@@ -113,5 +109,22 @@ fn taken_again(rt: HostRuntime) -> Result<(), Fail> {
     drop(host);
     let mut said = begun?;
     said.extend(ended?)?;
+    compare(&rt, alloc, &TWO_DAYS, said.as_slice(), places.as_slice())
+}
+
+/// What a host over a book in SQL says to events, where a run that stops goes on.
+fn said_in_sql(alloc: Global, events: &[Event]) -> Result<Vec<Output>, Fail> {
+    let mut host = host_in_sql(alloc, GREATEST_LIMIT, MAY_1)?;
+    let said = said_going_on(&mut host, events);
+    drop(host);
+    said
+}
+
+/// The same over a book in SQL.
+#[test]
+fn going_on_in_sql(rt: HostRuntime) -> Result<(), Fail> {
+    let alloc = rt.alloc();
+    let (events, places) = events_among(alloc, &TWO_DAYS, 0)?;
+    let said = said_in_sql(alloc, events.as_slice())?;
     compare(&rt, alloc, &TWO_DAYS, said.as_slice(), places.as_slice())
 }
