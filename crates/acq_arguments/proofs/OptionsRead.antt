@@ -24,6 +24,10 @@ found_texts-rows f =
       first_value-rows f (codes "merchant"),
       first_value-rows f (codes "at"),
       first_value-rows f (codes "hex"),
+      first_value-rows f (codes "issuers"),
+      first_value-rows f (codes "port"),
+      first_value-rows f (codes "count"),
+      first_value-rows f (codes "idle"),
       values_found-rows f (codes "clearing"),
       values_found-rows f (codes "report"),
     ) refl

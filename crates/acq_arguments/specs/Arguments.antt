@@ -1,5 +1,6 @@
 -- What the arguments ask for, by the values of their options.
-use Rattle.std.specs.Prelude.{◌≡◌, ◌⊎◌, ℕ, Bool, ◌&&◌, nat_le, List, [], ◌++◌, length, codes}
+use Rattle.std.specs.Prelude.{◌≡◌, ◌⊎◌, ◌-◌, ◌^◌, ℕ, Bool, ◌&&◌, nat_le, List, [], ◌++◌, length}
+use Rattle.std.specs.Prelude.{codes}
 use Rattle.std.specs.Prelude.{map, Option, Some, None, unwrap_or, option_map, option_and_then, ok_or, Result, Ok, Err}
 use Rattle.std.specs.Prelude.{if◌then◌else◌}
 use Rattle.std.specs.Prelude.{slice_get, String, string_bytes}
@@ -17,7 +18,8 @@ use Rattle.acq_core.specs.Numbers.{is_limit}
 use Rattle.acq_out.specs.Fields.{merchant_of_text, moment_of_text}
 use Rattle.acq_arguments.specs.Program.{program}
 use Rattle.acq_arguments.specs.declared.action.Action.{Action}
-use Rattle.acq_arguments.specs.declared.action.Action.TheVariants.{Init, Once, Replay, Report, Holds, Show}
+use Rattle.acq_arguments.specs.declared.action.Action.TheVariants.{Init, Once, Listen}
+use Rattle.acq_arguments.specs.declared.action.Action.TheVariants.{Replay, Report, Holds, Show}
 use Rattle.acq_commands.specs.declared.day_report.DayReport.{DayReport}
 use Rattle.acq_commands.specs.declared.input_form.InputForm.{InputForm}
 use Rattle.acq_commands.specs.declared.input_form.InputForm.TheVariants as form
@@ -35,6 +37,9 @@ name_of_option option.Limit = codes "--limit"
 name_of_option option.Day = codes "--day"
 name_of_option option.Merchant = codes "--merchant"
 name_of_option option.At = codes "--at"
+name_of_option option.Port = codes "--port"
+name_of_option option.Count = codes "--count"
+name_of_option option.Idle = codes "--idle"
 name_of_option (option.Report kinds.Clearing) = codes "--clearing"
 name_of_option (option.Report kinds.Settlement) = codes "--report"
 
@@ -48,6 +53,10 @@ pub record OptionTexts : Type 0 where
   pub clearing : List Text
   pub report : List Text
   pub hex : Option Text
+  pub issuers : Option Text
+  pub port : Option Text
+  pub count : Option Text
+  pub idle : Option Text
 
 -- all values of an option
 abbrev pub values_of : Text → List Row → List Text
@@ -64,6 +73,10 @@ option_texts rows = record {
   clearing = values_of (codes "clearing") rows;
   report = values_of (codes "report") rows;
   hex = first_of (codes "hex") rows;
+  issuers = first_of (codes "issuers") rows;
+  port = first_of (codes "port") rows;
+  count = first_of (codes "count") rows;
+  idle = first_of (codes "idle") rows;
 }
 
 -- all values of an option, as they were found
@@ -81,6 +94,10 @@ found_texts found = record {
   clearing = values_found found (codes "clearing");
   report = values_found found (codes "report");
   hex = first_value found (codes "hex");
+  issuers = first_value found (codes "issuers");
+  port = first_value found (codes "port");
+  count = first_value found (codes "count");
+  idle = first_value found (codes "idle");
 }
 
 -- ---- the value of an option, or the name of the option where it has none in its form
@@ -95,6 +112,28 @@ abbrev pub limit_of_text : Text → Option ℕ
 limit_of_text text =
     if is_limit_text text && is_limit (digits_value 10 text) then Some (digits_value 10 text)
     else None
+
+-- a number of 1 to so many digits, leading zeros allowed, from the least to the greatest
+abbrev pub is_number_text : ℕ → ℕ → ℕ → Text → Bool
+is_number_text digits least greatest text =
+    nat_le 1 (length text) && nat_le (length text) digits && list_all is_ascii_digit text
+    && nat_le least (digits_value 10 text) && nat_le (digits_value 10 text) greatest
+
+abbrev pub number_of_text : ℕ → ℕ → ℕ → Text → Option ℕ
+number_of_text digits least greatest text =
+    if is_number_text digits least greatest text then Some (digits_value 10 text) else None
+
+-- a port of TCP, 1 to 65,535
+abbrev pub port_of_text : Text → Option ℕ
+port_of_text text = number_of_text 5 1 65535 text
+
+-- a number of connections, 1 to 999,999
+abbrev pub count_of_text : Text → Option ℕ
+count_of_text text = number_of_text 6 1 999999 text
+
+-- a number of seconds, 0 to 999,999
+abbrev pub seconds_of_text : Text → Option ℕ
+seconds_of_text text = number_of_text 6 0 999999 text
 
 -- the path of a book's file
 abbrev pub FileIs : OptionTexts → Result (String Global) OptionName → Type 0
@@ -137,6 +176,26 @@ MomentIs texts read = read ≡ ok_or (option_and_then moment_of_text texts.momen
 -- such a moment, where the option is there
 abbrev pub MomentIfThere : OptionTexts → Result (Option ℕ) OptionName → Type 0
 MomentIfThere texts read = read ≡ moment_if_there texts.moment
+
+-- a port
+abbrev pub PortIs : OptionTexts → Result ℕ OptionName → Type 0
+PortIs texts read = read ≡ ok_or (option_and_then port_of_text texts.port) option.Port
+
+-- so many connections: without the option, as many as can be counted
+abbrev pub count_if_there : Option Text → Result ℕ OptionName
+count_if_there None = Ok (2 ^ 64 - 1)
+count_if_there (Some text) = ok_or (count_of_text text) option.Count
+
+abbrev pub CountIs : OptionTexts → Result ℕ OptionName → Type 0
+CountIs texts read = read ≡ count_if_there texts.count
+
+-- so many seconds of silence: without the option 60
+abbrev pub idle_if_there : Option Text → Result ℕ OptionName
+idle_if_there None = Ok 60
+idle_if_there (Some text) = ok_or (seconds_of_text text) option.Idle
+
+abbrev pub IdleIs : OptionTexts → Result ℕ OptionName → Type 0
+IdleIs texts read = read ≡ idle_if_there texts.idle
 
 -- a report of a kind on a day
 abbrev pub report_on : ReportKind → ℕ → DayReport
@@ -187,15 +246,46 @@ InitIn texts path = Then (LimitIs texts) (InitWith texts path)
 abbrev pub AsksInit : OptionTexts → Result Action OptionName → Type 0
 AsksInit texts = Then (FileIs texts) (InitIn texts)
 
--- frames over this book, at this moment
-abbrev pub IsOnce : Option Text → Option ℕ → Result Action OptionName → Type 0
-IsOnce book moment (Ok (Once asked)) =
-    (option_map string_bytes asked.book ≡ book) × (asked.moment ≡ moment)
-IsOnce book moment other = ⊥
+-- frames over this book, with this file of issuers' answers, at this moment
+abbrev pub IsOnce : Option Text → Option Text → Option ℕ → Result Action OptionName → Type 0
+IsOnce book issuers moment (Ok (Once asked)) =
+    (option_map string_bytes asked.book ≡ book)
+    × (option_map string_bytes asked.issuers ≡ issuers) × (asked.moment ≡ moment)
+IsOnce book issuers moment other = ⊥
 
 -- what `once` is asked for
 abbrev pub AsksOnce : OptionTexts → Result Action OptionName → Type 0
-AsksOnce texts = Then (MomentIfThere texts) (IsOnce texts.db)
+AsksOnce texts = Then (MomentIfThere texts) (IsOnce texts.db texts.issuers)
+
+-- so many connections on this port over this book, with this file of issuers' answers, at this
+-- moment, each closed after so many seconds of silence
+abbrev pub IsListen
+    : String Global → ℕ → ℕ → Option Text → Option ℕ → ℕ → Result Action OptionName → Type 0
+IsListen path port count issuers moment idle (Ok (Listen asked)) =
+    (asked.path ≡ path) × (asked.port ≡ port) × (asked.count ≡ count)
+    × (option_map string_bytes asked.issuers ≡ issuers) × (asked.moment ≡ moment)
+    × (asked.idle ≡ idle)
+IsListen path port count issuers moment idle other = ⊥
+
+abbrev pub ListenAt
+    : OptionTexts → String Global → ℕ → ℕ → Option ℕ → Result Action OptionName → Type 0
+ListenAt texts path port count moment =
+    Then (IdleIs texts) (IsListen path port count texts.issuers moment)
+
+abbrev pub ListenFor
+    : OptionTexts → String Global → ℕ → ℕ → Result Action OptionName → Type 0
+ListenFor texts path port count = Then (MomentIfThere texts) (ListenAt texts path port count)
+
+abbrev pub ListenOn : OptionTexts → String Global → ℕ → Result Action OptionName → Type 0
+ListenOn texts path port = Then (CountIs texts) (ListenFor texts path port)
+
+abbrev pub ListenIn : OptionTexts → String Global → Result Action OptionName → Type 0
+ListenIn texts path = Then (PortIs texts) (ListenOn texts path)
+
+-- what `listen` is asked for: the file first, then the port, how many connections, the moment and
+-- the seconds of silence
+abbrev pub AsksListen : OptionTexts → Result Action OptionName → Type 0
+AsksListen texts = Then (FileIs texts) (ListenIn texts)
 
 -- a replay over this book, with these reports
 abbrev pub IsReplay
@@ -276,6 +366,7 @@ Asks (Some command) asked =
     ⊎ Names (codes "report") (AsksReport kinds.Settlement) command asked
     ⊎ Names (codes "holds") AsksHolds command asked
     ⊎ Names (codes "show") AsksShow command asked
+    ⊎ Names (codes "listen") AsksListen command asked
 
 -- nothing is wrong with the words by clap's rules, and they ask for this
 abbrev pub AsksFor : List Text → Result Action OptionName → Type 0

@@ -28,9 +28,18 @@ init =
     with_rule (with_rule (with_rule (new_app (codes "init"))
     (required (codes "db"))) (required (codes "limit"))) (required (codes "day"))
 
--- `once [--db FILE] [--at MOMENT]`
+-- `once [--db FILE] [--issuers FILE] [--at MOMENT]`
 abbrev pub once : App
-once = with_rule (with_rule (new_app (codes "once")) (option (codes "db"))) (option (codes "at"))
+once =
+    with_rule (with_rule (with_rule (new_app (codes "once"))
+    (option (codes "db"))) (option (codes "issuers"))) (option (codes "at"))
+
+-- `listen --db FILE --port P [--count N] [--issuers FILE] [--at MOMENT] [--idle SECONDS]`
+abbrev pub listen : App
+listen =
+    with_rule (with_rule (with_rule (with_rule (with_rule (with_rule (new_app (codes "listen"))
+    (required (codes "db"))) (required (codes "port"))) (option (codes "count")))
+    (option (codes "issuers"))) (option (codes "at"))) (option (codes "idle"))
 
 -- `replay [--db FILE] [--limit N] [--day DAY] [--clearing DAY].. [--report DAY]..`
 abbrev pub replay : App
@@ -64,7 +73,8 @@ acqd =
 -- with the commands that make a book, or take what comes in
 abbrev pub making : App
 making =
-    with_subcommand (with_subcommand (with_subcommand acqd init.top) once.top) replay.top
+    with_subcommand (with_subcommand (with_subcommand (with_subcommand acqd init.top) once.top)
+    listen.top) replay.top
 
 -- the program and its commands
 abbrev pub program : App

@@ -1,6 +1,8 @@
 //! What the program is asked to do.
 
-use acq_commands::{BookReport, HoldsOptions, InputForm, NewBook, OnceOptions, ReplayOptions};
+use acq_commands::{
+    BookReport, HoldsOptions, InputForm, ListenOptions, NewBook, OnceOptions, ReplayOptions,
+};
 
 /// What the program is asked to do.
 #[derive(Debug, Drop)]
@@ -9,6 +11,8 @@ pub enum Action {
     Init(NewBook),
     /// Answer the frames of the input, once, over a new book or the one in a file.
     Once(OnceOptions),
+    /// Answer the frames of connections over the book in a file.
+    Listen(ListenOptions),
     /// Take the event lines of the input, over a new book or the one in a file.
     Replay(ReplayOptions),
     /// Write a report on the book in a file.

@@ -2,20 +2,21 @@
 
 ghost use Rattle.std.specs.Prelude.{◌≡◌, IfErr, IfOk, codes, map, option_map, string_bytes};
 ghost use Rattle.clap.specs.Words.{first_value, found_of};
-ghost use Rattle.acq_arguments.specs.Arguments.{AsksHolds, AsksInit, AsksOnce, AsksReplay};
-ghost use Rattle.acq_arguments.specs.Arguments.{AsksReport, DayIs, FileIs, IsNoMemory, LimitIs};
-ghost use Rattle.acq_arguments.specs.Arguments.{MerchantIs, MomentIfThere, MomentIs, Reads};
+ghost use Rattle.acq_arguments.specs.Arguments.{AsksHolds, AsksInit, AsksListen, AsksOnce};
+ghost use Rattle.acq_arguments.specs.Arguments.{AsksReplay, AsksReport, CountIs, DayIs, FileIs};
+ghost use Rattle.acq_arguments.specs.Arguments.{IdleIs, IsNoMemory, LimitIs, MerchantIs};
+ghost use Rattle.acq_arguments.specs.Arguments.{MomentIfThere, MomentIs, PortIs, Reads};
 ghost use Rattle.acq_arguments.specs.Arguments.{ReadsArguments, form_of_flag, found_texts};
 
 use crate::action::Action;
 use crate::option_name::OptionName;
-use crate::options::limit_of;
+use crate::options::{count_of, limit_of, port_of, seconds_of};
 use crate::program::program;
 use crate::usage_fault::UsageFault;
 use crate::wanted_reports::add_reports;
 use acq_commands::{
-    BookReport, DayReport, HoldsOptions, InputForm, NewBook, OnceOptions, ReplayOptions,
-    ReportKind, first_day_of_all, greatest_limit,
+    BookReport, DayReport, HoldsOptions, InputForm, ListenOptions, NewBook, OnceOptions,
+    ReplayOptions, ReportKind, first_day_of_all, greatest_limit,
 };
 use acq_core::{Limit, MerchantId, Moment};
 use acq_out::{merchant_of, moment_of};
@@ -23,6 +24,9 @@ use clap::{ArgMatches, Error};
 use day_totals::Day;
 use std::alloc::{AllocError, Global};
 use std::convert::AsStr;
+
+/// For how many seconds a connection may be silent, where nothing else is asked for.
+const USUAL_IDLE: u64 = 60;
 
 /// What the arguments ask for, the program's own name first, or what is wrong with them. A call for
 /// help or for the version is an error, too, as clap has it.
@@ -33,6 +37,7 @@ pub fn action_of<W: AsStr>(alloc: Global, args: &[W]) -> Result<Action, UsageFau
     match matches.subcommand() {
         Some(("init", options)) => init_of(alloc, options),
         Some(("once", options)) => once_of(alloc, options),
+        Some(("listen", options)) => listen_of(alloc, options),
         Some(("replay", options)) => replay_of(alloc, options),
         Some(("clearing", options)) => report_of(alloc, ReportKind::Clearing, options),
         Some(("report", options)) => report_of(alloc, ReportKind::Settlement, options),
@@ -62,7 +67,32 @@ fn once_of(alloc: Global, options: &ArgMatches) -> Result<Action, UsageFault>
 {
     let moment = moment_if_there(options)?;
     let book = book_option(alloc, options)?;
-    Ok(Action::Once(OnceOptions { book, moment }))
+    let issuers = issuers_option(alloc, options)?;
+    Ok(Action::Once(OnceOptions {
+        book,
+        issuers,
+        moment,
+    }))
+}
+
+/// What `listen` is asked for.
+fn listen_of(alloc: Global, options: &ArgMatches) -> Result<Action, UsageFault>
+    ensures { Reads (AsksListen (found_texts (found_of options.now))) result }
+{
+    let path = file_option(alloc, options)?;
+    let port = port_option(options)?;
+    let count = count_option(options)?;
+    let moment = moment_if_there(options)?;
+    let idle = idle_option(options)?;
+    let issuers = issuers_option(alloc, options)?;
+    Ok(Action::Listen(ListenOptions {
+        path,
+        port,
+        count,
+        idle,
+        issuers,
+        moment,
+    }))
 }
 
 /// What `replay` is asked for.
@@ -137,6 +167,18 @@ fn book_option(alloc: Global, options: &ArgMatches) -> Result<Option<String>, Us
     }
 }
 
+/// The path of the file of issuers' answers, where the option is there.
+fn issuers_option(alloc: Global, options: &ArgMatches) -> Result<Option<String>, UsageFault>
+    ensures given { IfOk result (λ issuers. option_map string_bytes issuers
+        ≡ (found_texts (found_of options.now)).issuers) }
+    ensures refused { IfErr result IsNoMemory }
+{
+    match options.get_str("issuers") {
+        Some(path) => Ok(Some(String::from_str(alloc, path)?)),
+        None => Ok(None),
+    }
+}
+
 /// The limit that is asked for.
 fn limit_option(options: &ArgMatches) -> Result<Limit, UsageFault>
     ensures { Reads (LimitIs (found_texts (found_of options.now))) result }
@@ -187,6 +229,36 @@ fn moment_if_there(options: &ArgMatches) -> Result<Option<Moment>, UsageFault>
     match moment_of(text.as_bytes()) {
         Some(moment) => Ok(Some(moment)),
         None => Err(UsageFault::BadValue(OptionName::At)),
+    }
+}
+
+/// The port that is asked for.
+fn port_option(options: &ArgMatches) -> Result<u16, UsageFault>
+    ensures { Reads (PortIs (found_texts (found_of options.now))) result }
+{
+    options
+        .get_str("port")
+        .and_then(port_of)
+        .ok_or(UsageFault::BadValue(OptionName::Port))
+}
+
+/// How many connections are asked for: without the option, as many as can be counted.
+fn count_option(options: &ArgMatches) -> Result<u64, UsageFault>
+    ensures { Reads (CountIs (found_texts (found_of options.now))) result }
+{
+    match options.get_str("count") {
+        Some(text) => count_of(text).ok_or(UsageFault::BadValue(OptionName::Count)),
+        None => Ok(u64::MAX),
+    }
+}
+
+/// How many seconds of silence are asked for: without the option 60.
+fn idle_option(options: &ArgMatches) -> Result<u64, UsageFault>
+    ensures { Reads (IdleIs (found_texts (found_of options.now))) result }
+{
+    match options.get_str("idle") {
+        Some(text) => seconds_of(text).ok_or(UsageFault::BadValue(OptionName::Idle)),
+        None => Ok(USUAL_IDLE),
     }
 }
 

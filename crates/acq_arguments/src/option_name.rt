@@ -16,6 +16,12 @@ pub enum OptionName {
     Merchant,
     /// The moment at which something is.
     At,
+    /// The port that is listened on.
+    Port,
+    /// How many connections are served.
+    Count,
+    /// For how many seconds a connection may be silent.
+    Idle,
     /// A day of which a report is asked for.
     Report(ReportKind),
 }
@@ -33,6 +39,9 @@ impl fmt::Display for OptionName {
             OptionName::Day => write!(f, "--day"),
             OptionName::Merchant => write!(f, "--merchant"),
             OptionName::At => write!(f, "--at"),
+            OptionName::Port => write!(f, "--port"),
+            OptionName::Count => write!(f, "--count"),
+            OptionName::Idle => write!(f, "--idle"),
             OptionName::Report(ReportKind::Clearing) => write!(f, "--clearing"),
             OptionName::Report(ReportKind::Settlement) => write!(f, "--report"),
         }

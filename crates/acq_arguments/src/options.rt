@@ -1,7 +1,8 @@
-//! The value of a limit.
+//! The values of a limit, a port, and numbers of connections and seconds.
 
-ghost use Rattle.std.specs.Prelude.{◌≡◌};
-ghost use Rattle.acq_arguments.specs.Arguments.{limit_of_text};
+ghost use Rattle.std.specs.Prelude.{◌≡◌, ◌≤◌, IfSome};
+ghost use Rattle.acq_arguments.specs.Arguments.{count_of_text, limit_of_text, number_of_text};
+ghost use Rattle.acq_arguments.specs.Arguments.{port_of_text, seconds_of_text};
 
 use acq_core::Limit;
 use acq_message::digits_value;
@@ -9,6 +10,18 @@ use iso_codec::all_digits;
 
 /// The most digits of a limit.
 const MOST_LIMIT_DIGITS: usize = 6;
+
+/// The most digits of a port.
+const MOST_PORT_DIGITS: usize = 5;
+
+/// The most digits of a number of connections, or of seconds.
+const MOST_COUNT_DIGITS: usize = 6;
+
+/// The greatest port.
+const GREATEST_PORT: u64 = 65_535;
+
+/// The greatest number of connections, or of seconds.
+const GREATEST_COUNT: u64 = 999_999;
 
 /// The limit that a text spells: one to six digits, 1 to 999,999 (own profile).
 pub(crate) fn limit_of(text: &str) -> Option<Limit>
@@ -19,4 +32,43 @@ pub(crate) fn limit_of(text: &str) -> Option<Limit>
         return None;
     }
     Limit::from_number(u32::try_from(digits_value(digits)).ok()?)
+}
+
+/// The port that a text spells: one to five digits, 1 to 65,535 (own profile).
+pub(crate) fn port_of(text: &str) -> Option<u16>
+    ensures { result ≡ port_of_text text.now }
+{
+    let number = number_of(text, MOST_PORT_DIGITS, 1, GREATEST_PORT)?;
+    Some(number as u16)
+}
+
+/// The number of connections that a text spells: one to six digits, 1 to 999,999 (own profile).
+pub(crate) fn count_of(text: &str) -> Option<u64>
+    ensures { result ≡ count_of_text text.now }
+{
+    number_of(text, MOST_COUNT_DIGITS, 1, GREATEST_COUNT)
+}
+
+/// The number of seconds that a text spells: one to six digits, 0 to 999,999 (own profile).
+pub(crate) fn seconds_of(text: &str) -> Option<u64>
+    ensures { result ≡ seconds_of_text text.now }
+{
+    number_of(text, MOST_COUNT_DIGITS, 0, GREATEST_COUNT)
+}
+
+/// The number that a text spells in so many digits at most, from the least to the greatest.
+fn number_of(text: &str, most_digits: usize, least: u64, greatest: u64) -> Option<u64>
+    requires { most_digits ≤ 16 }
+    ensures value { result ≡ number_of_text most_digits least greatest text.now }
+    ensures bound { IfSome result (λ number. number ≤ greatest) }
+{
+    let digits = text.as_bytes();
+    if digits.is_empty() || digits.len() > most_digits || !all_digits(digits) {
+        return None;
+    }
+    let number = digits_value(digits);
+    if number < least || number > greatest {
+        return None;
+    }
+    Some(number)
 }

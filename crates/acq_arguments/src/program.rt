@@ -2,8 +2,8 @@
 
 ghost use Rattle.std.specs.Prelude.{◌≡◌, false, IfOk};
 ghost use Rattle.clap.specs.Words.{app_of, rule_of};
-ghost use Rattle.acq_arguments.specs.Program.{holds, init, making, on_a_day, once, option_with_value};
-ghost use Rattle.acq_arguments.specs.Program.{program, replay, required, show};
+ghost use Rattle.acq_arguments.specs.Program.{holds, init, listen, making, on_a_day, once};
+ghost use Rattle.acq_arguments.specs.Program.{option_with_value, program, replay, required, show};
 
 use clap::{Arg, ArgAction, Command};
 use std::alloc::{AllocError, Global};
@@ -37,26 +37,57 @@ const MORE_OF_ONCE: &str = "\
 A frame is two bytes of length, high byte first, and then so many bytes of a message, 1 to 4,096.
 Each is answered as soon as it is whole, and its reply is out before more is read. With --db they
 are taken over the book in this file, where what they change is in the file before the reply goes
-out; no issuer can be reached, so what one is asked for gets code 91. Without it nobody is enrolled:
-network management (0800 and 0801: echo tests, sign-ons and sign-offs) is answered, a merchant's
-request gets code 03, or 30 where it is malformed, and any other type gets no reply. MOMENT counts
-seconds since 1970-01-01 00:00:00 UTC.
+out. Without it nobody is enrolled: network management (0800 and 0801: echo tests, sign-ons and
+sign-offs) is answered, a merchant's request gets code 03, or 30 where it is malformed, and any
+other type gets no reply. MOMENT counts seconds since 1970-01-01 00:00:00 UTC.
+
+With --issuers this file stands in for the cards' issuers: a record of three fields of CSV for each
+card, `CARD,approved,ID`, `CARD,declined,CODE` or `CARD,none,`, of which the first with a card
+decides. Without it, and for a card that isn't there, no issuer can be reached, so what one is asked
+for gets code 91.
 
 The status is 0 where all is well, 1 for a fault, 2 for wrong usage, 3 where memory ran out or the
 file failed. A fault is one line on standard error, and what was written before it stands:
   acqd: 1 Memory
   acqd: 2 Store                    the file can't be opened, read or written
+  acqd: 23 BadLine RECORD          this record of the issuers' file is out of its form
   acqd: 40 NotABook                the file holds no book
   acqd: 41 OtherVersion VERSION    the file holds a book of this other version
   acqd: 50 BadLength               a frame's length is 0 or above 4,096
   acqd: 51 Ended                   the input ends inside a frame
   acqd: 52 Undecodable FAULT ELEMENT   a frame spells no message
-  acqd: 53 Read                    a read failed
+  acqd: 53 Read                    a read failed, of the input or the issuers' file
   acqd: 54 Write BYTES             a write failed after so many bytes of a reply's frame
 
 Example: an echo test
   printf '\\000\\067%s' 0800822000000000000004000000000000000101120000000001301 |
       acqd once | od -c";
+
+const ABOUT_LISTEN: &str = "Answers the frames of connections over TCP, one after the other";
+
+const MORE_OF_LISTEN: &str = "\
+Connections are taken on 127.0.0.1 at this port, so that a proxy on the same machine can stand in
+front. The frames of each are answered as `once` answers those on standard input; then the next one
+is served. What they change is in the file before the reply goes out; a stop at any moment leaves
+all events so far.
+
+A connection that is silent for SECONDS, or takes nothing of a reply for so long, is closed as one
+whose read or write failed. A connection's fault is one line on standard error, and the next one is
+served; 1 and 2 end the program. The status is 0 where all connections were served, 1 for another fault, 2 for wrong usage,
+3 where memory ran out or the file failed:
+  acqd: 1 Memory
+  acqd: 2 Store                    the file can't be opened, read or written
+  acqd: 23 BadLine RECORD          this record of the issuers' file is out of its form
+  acqd: 40 NotABook                the file holds no book
+  acqd: 41 OtherVersion VERSION    the file holds a book of this other version
+  acqd: 50 BadLength               a frame's length is 0 or above 4,096
+  acqd: 51 Ended                   a connection ends inside a frame
+  acqd: 52 Undecodable FAULT ELEMENT   a frame spells no message
+  acqd: 53 Read                    a read failed, or the port or a connection can't be had
+  acqd: 54 Write BYTES             a write failed after so many bytes of a reply's frame
+
+Example:
+  acqd listen --db book.db --port 8583 --issuers issuers.csv";
 
 const ABOUT_REPLAY: &str =
     "Takes the event lines on standard input, and writes a line of what comes of each";
@@ -166,6 +197,11 @@ Example: what comes back for an echo test
 
 const FILE_OR_MEMORY: &str = "The file of the book [default: a new book in memory]";
 
+const ISSUERS: &str = "The file of issuers' answers [default: no issuer can be reached]";
+
+const COMING_AT: &str =
+    "The moment at which all frames come, 946684800 to 4102444799 [default: the clock's]";
+
 pub(crate) fn program<'a>(alloc: Global) -> Result<Command<'a>, AllocError>
     ensures { IfOk result (λ made. app_of made ≡ program) }
 {
@@ -189,6 +225,7 @@ fn own_books<'a>(alloc: Global) -> Result<Command<'a>, AllocError>
         .arg_required_else_help(false)
         .subcommand(init_command(alloc)?)?
         .subcommand(once_command(alloc)?)?
+        .subcommand(listen_command(alloc)?)?
         .subcommand(replay_command(alloc)?)
 }
 
@@ -219,18 +256,44 @@ fn once_command<'a>(alloc: Global) -> Result<Command<'a>, AllocError>
     ensures { IfOk result (λ made. app_of made ≡ once) }
 {
     let db = option_with_value(alloc, "db", "FILE", FILE_OR_MEMORY, ArgAction::Set);
-    let moment = option_with_value(
-        alloc,
-        "at",
-        "MOMENT",
-        "The moment at which all frames come, 946684800 to 4102444799 [default: the clock's]",
-        ArgAction::Set,
-    );
+    let issuers = option_with_value(alloc, "issuers", "FILE", ISSUERS, ArgAction::Set);
+    let moment = option_with_value(alloc, "at", "MOMENT", COMING_AT, ArgAction::Set);
     Command::new(alloc, "once")
         .about(ABOUT_ONCE)
         .after_help(MORE_OF_ONCE)
         .arg(db)?
+        .arg(issuers)?
         .arg(moment)
+}
+
+fn listen_command<'a>(alloc: Global) -> Result<Command<'a>, AllocError>
+    ensures { IfOk result (λ made. app_of made ≡ listen) }
+{
+    let count = option_with_value(
+        alloc,
+        "count",
+        "N",
+        "How many connections are served, 1 to 999999 [default: all that come]",
+        ArgAction::Set,
+    );
+    let issuers = option_with_value(alloc, "issuers", "FILE", ISSUERS, ArgAction::Set);
+    let moment = option_with_value(alloc, "at", "MOMENT", COMING_AT, ArgAction::Set);
+    let idle = option_with_value(
+        alloc,
+        "idle",
+        "SECONDS",
+        "How long a connection may be silent, 0 to 999999, 0 for ever [default: 60]",
+        ArgAction::Set,
+    );
+    Command::new(alloc, "listen")
+        .about(ABOUT_LISTEN)
+        .after_help(MORE_OF_LISTEN)
+        .arg(required(alloc, "db", "FILE", "The file of the book"))?
+        .arg(required(alloc, "port", "P", "The port, 1 to 65535"))?
+        .arg(count)?
+        .arg(issuers)?
+        .arg(moment)?
+        .arg(idle)
 }
 
 fn replay_command<'a>(alloc: Global) -> Result<Command<'a>, AllocError>

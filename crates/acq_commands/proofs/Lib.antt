@@ -1,3 +1,4 @@
+pub mod ConnectionsServed
 pub mod FramesInOrder
 pub mod LinesWritten
 pub mod ReportsEnd

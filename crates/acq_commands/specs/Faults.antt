@@ -7,9 +7,11 @@ use Rattle.acq_front.specs.declared.front_fault.FrontFault as front
 use Rattle.acq_hex.specs.declared.hex_fault.HexFault as hex
 use Rattle.acq_link.specs.declared.input_fault.InputFault as input
 use Rattle.acq_out.specs.declared.out_fault.OutFault as out
+use Rattle.acq_records.specs.declared.record_fault.RecordFault as records
 use Rattle.acq_reports.specs.declared.report_fault.ReportFault as report
 use Rattle.acq_commands.specs.declared.fault.Fault.{Fault}
-use Rattle.acq_commands.specs.declared.fault.Fault.TheVariants.{Memory, Store, NoSuchMerchant}
+use Rattle.acq_commands.specs.declared.fault.Fault.TheVariants.{Memory, Store, BadAnswer}
+use Rattle.acq_commands.specs.declared.fault.Fault.TheVariants.{NoSuchMerchant}
 use Rattle.acq_commands.specs.declared.fault.Fault.TheVariants.{NotABook, OtherVersion, BadLength}
 use Rattle.acq_commands.specs.declared.fault.Fault.TheVariants.{Ended, Undecodable, Read, Write}
 use Rattle.acq_commands.specs.declared.fault.Fault.TheVariants.{DayNotOver, StillPending, BadLine}
@@ -17,6 +19,7 @@ use Rattle.acq_commands.specs.declared.fault.Fault.TheVariants.{DayNotOver, Stil
 abbrev pub number_of : Fault → ℕ
 number_of Memory = 1
 number_of Store = 2
+number_of (BadAnswer n) = 23
 number_of NoSuchMerchant = 37
 number_of NotABook = 40
 number_of (OtherVersion v) = 41
@@ -33,6 +36,7 @@ number_of (BadLine n) = 62
 abbrev pub name_of : Fault → List ℕ
 name_of Memory = codes "Memory"
 name_of Store = codes "Store"
+name_of (BadAnswer n) = codes "BadLine"
 name_of NoSuchMerchant = codes "NoSuchMerchant"
 name_of NotABook = codes "NotABook"
 name_of (OtherVersion v) = codes "OtherVersion"
@@ -49,6 +53,7 @@ name_of (BadLine n) = codes "BadLine"
 abbrev pub values_of : Fault → List ℕ
 values_of (Undecodable fault) =
     codes " " ++ decimal (number_of_fault fault) ++ codes " " ++ decimal (element_of_fault fault)
+values_of (BadAnswer n) = codes " " ++ decimal n
 values_of (OtherVersion v) = codes " " ++ decimal v
 values_of (Write n) = codes " " ++ decimal n
 values_of (StillPending n) = codes " " ++ decimal n
@@ -63,6 +68,7 @@ text_of fault = decimal (number_of fault) ++ codes " " ++ name_of fault ++ value
 abbrev pub status_of : Fault → ℕ
 status_of Memory = 3
 status_of Store = 3
+status_of (BadAnswer n) = 1
 status_of NoSuchMerchant = 1
 status_of NotABook = 1
 status_of (OtherVersion v) = 1
@@ -106,6 +112,16 @@ of_out (out.TheVariants.BadLine n) = BadLine n
 abbrev pub of_hex : hex.HexFault → Fault
 of_hex hex.TheVariants.Memory = Memory
 of_hex (hex.TheVariants.BadLine n) = BadLine n
+
+-- what a fault of the file of issuers' answers is
+abbrev pub of_answers : records.RecordFault → Fault
+of_answers records.TheVariants.Memory = Memory
+of_answers records.TheVariants.Read = Read
+of_answers (records.TheVariants.BadRecord n) = BadAnswer n
+
+-- why that file gave no answers, as the command tells it
+abbrev pub IsOfAnswers : Fault → Type 0
+IsOfAnswers fault = (cause : records.RecordFault) × (fault ≡ of_answers cause)
 
 -- what a fault of a report is
 abbrev pub of_report : report.ReportFault → Fault

@@ -1,5 +1,6 @@
 pub mod DayReports
 pub mod Faults
+pub mod Listening
 pub mod Once
 pub mod Replay
 pub mod Runs

@@ -1,9 +1,9 @@
--- Frames in, reply frames out: one connection over a book, where no issuer can be reached.
+-- Frames in, reply frames out: one connection over a book.
 use Rattle.std.specs.Prelude.{◌≡◌, ℕ, List, ◌++◌, Result, Ok, Err}
 use Rattle.std.specs.List.{All}
 use Rattle.acq_core.specs.Tables.{Opening, Tables, new_tables}
 use Rattle.acq_front.specs.Serving.{Connection, Serves}
-use Rattle.acq_front.specs.Talk.{says_nothing}
+use Rattle.acq_front.specs.Talk.{Saying}
 use Rattle.acq_front.specs.declared.front_fault.FrontFault.{FrontFault}
 use Rattle.acq_commands.specs.Faults.{of_front}
 use Rattle.acq_commands.specs.declared.fault.Fault.{Fault}
@@ -17,19 +17,19 @@ abbrev pub told_of : Result (Unit {0}) FrontFault → Result (Unit {0}) Fault
 told_of (Ok u) = Ok u
 told_of (Err cause) = Err (of_front cause)
 
--- Over a book at the old tables one connection was served, at moments that may be given, and no
--- issuer answered. The book that was left, where it stays open, is at the new tables.
-abbrev pub ServesOnce : (ℕ → Type 0) → (old : Tables) → Type 0 → (new : Tables) → List ℕ → List ℕ
-    → List ℕ → List ℕ → Result (Unit {0}) Fault → Type 0
-ServesOnce may_give old stays_open new received received_after sent sent_after ended =
+-- Over a book at the old tables one connection was served, at moments that may be given, with what
+-- issuers may say. The book that was left, where it stays open, is at the new tables.
+abbrev pub ServesOnce : (ℕ → Type 0) → Saying → (old : Tables) → Type 0 → (new : Tables)
+    → List ℕ → List ℕ → List ℕ → List ℕ → Result (Unit {0}) Fault → Type 0
+ServesOnce may_give may_say old stays_open new received received_after sent sent_after ended =
     (c : Connection) × (served : Result (Unit {0}) FrontFault)
     × (received_after ≡ received ++ c.input) × (sent_after ≡ sent ++ c.output)
-    × All may_give c.moments × Serves says_nothing old stays_open new c served
+    × All may_give c.moments × Serves may_say old stays_open new c served
     × (ended ≡ told_of served)
 
 -- so over a new book in memory
-abbrev pub ServesInMemory : (ℕ → Type 0) → List ℕ → List ℕ → List ℕ → List ℕ
+abbrev pub ServesInMemory : (ℕ → Type 0) → Saying → List ℕ → List ℕ → List ℕ → List ℕ
     → Result (Unit {0}) Fault → Type 0
-ServesInMemory may_give received received_after sent sent_after ended =
-    (left : Tables) × ServesOnce may_give (new_tables widest_opening) (Unit {0}) left
+ServesInMemory may_give may_say received received_after sent sent_after ended =
+    (left : Tables) × ServesOnce may_give may_say (new_tables widest_opening) (Unit {0}) left
     received received_after sent sent_after ended

@@ -2,7 +2,7 @@
 
 ghost use Rattle.std.specs.Prelude.{IfErr};
 ghost use Rattle.acq_core.specs.Pasts.{HasPast};
-ghost use Rattle.acq_out.specs.Reads.{TakesAll};
+ghost use Rattle.acq_link.specs.Moves.{TakesAll};
 ghost use Rattle.acq_commands.specs.Faults.{IsReporting};
 ghost use Rattle.acq_commands.specs.Replay.{AfterReading};
 

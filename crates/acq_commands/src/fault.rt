@@ -7,6 +7,7 @@ use acq_front::FrontFault;
 use acq_hex::HexFault;
 use acq_link::InputFault;
 use acq_out::OutFault;
+use acq_records::RecordFault;
 use acq_reports::ReportFault;
 use iso_codec::DecodeFault;
 use std::alloc::AllocError;
@@ -21,6 +22,9 @@ pub enum Fault {
     Memory,
     /// 2: a call of the store failed, or gave rows that break the bounds of their columns.
     Store,
+    /// 23: the record of the file of issuers' answers with this number, counted from 1, is out of its
+    /// form.
+    BadAnswer(u64),
     /// 37: the merchant isn't enrolled.
     NoSuchMerchant,
     /// 40: the file is no book: for a new book it isn't empty, and for an old one it lacks the
@@ -57,6 +61,7 @@ impl Fault {
         match self {
             Fault::Memory => 1,
             Fault::Store => 2,
+            Fault::BadAnswer(_) => 23,
             Fault::NoSuchMerchant => 37,
             Fault::NotABook => 40,
             Fault::OtherVersion(_) => 41,
@@ -87,6 +92,7 @@ impl Fault {
         match self {
             Fault::Memory => "Memory",
             Fault::Store => "Store",
+            Fault::BadAnswer(_) => "BadLine",
             Fault::NoSuchMerchant => "NoSuchMerchant",
             Fault::NotABook => "NotABook",
             Fault::OtherVersion(_) => "OtherVersion",
@@ -115,7 +121,7 @@ impl fmt::Display for Fault {
             Fault::Undecodable(fault) => write!(f, " {} {}", fault.number(), fault.element()),
             Fault::Write(bytes) => write!(f, " {bytes}"),
             Fault::StillPending(requests) => write!(f, " {requests}"),
-            Fault::BadLine(record) => write!(f, " {record}"),
+            Fault::BadAnswer(record) | Fault::BadLine(record) => write!(f, " {record}"),
             _ => Ok(()),
         }
     }
@@ -201,6 +207,20 @@ impl From<HexFault> for Fault {
         match e {
             HexFault::Memory => Fault::Memory,
             HexFault::BadLine(line) => Fault::BadLine(line),
+        }
+    }
+}
+
+impl From<RecordFault> for Fault {
+    ghost use Rattle.acq_commands.specs.Faults.{of_answers};
+
+    ghost from_gives = { λ e f. f ≡ of_answers e };
+
+    fn from(e: RecordFault) -> Fault {
+        match e {
+            RecordFault::Memory => Fault::Memory,
+            RecordFault::Read => Fault::Read,
+            RecordFault::BadRecord(record) => Fault::BadAnswer(record),
         }
     }
 }

@@ -1,5 +1,5 @@
 //! The commands of the host over any book: event lines in, output lines or reports out; frames in,
-//! reply frames out; messages shown to a person.
+//! reply frames out, of one connection or of many; messages shown to a person.
 #![tactic(auto)]
 
 mod book_commands;
@@ -9,6 +9,8 @@ mod day_reports;
 mod fault;
 mod holds_options;
 mod input_form;
+mod listen_options;
+mod listening;
 mod new_book;
 mod once;
 mod once_options;
@@ -19,6 +21,7 @@ mod replaying_in_memory;
 mod report_kind;
 mod showing;
 mod taking_events;
+mod text_sink;
 mod widest_opening;
 
 pub use book_commands::{holds_of, replay_on, report_on};
@@ -28,6 +31,8 @@ pub use day_reports::write_reports;
 pub use fault::Fault;
 pub use holds_options::HoldsOptions;
 pub use input_form::InputForm;
+pub use listen_options::ListenOptions;
+pub use listening::listen_on;
 pub use new_book::NewBook;
 pub use once::{once_in_memory, once_on};
 pub use once_options::OnceOptions;
@@ -38,4 +43,5 @@ pub use replaying_in_memory::replay_in_memory;
 pub use report_kind::ReportKind;
 pub use showing::show;
 pub use taking_events::take_events;
+pub use text_sink::TextSink;
 pub use widest_opening::{first_day_of_all, greatest_limit};

@@ -2,34 +2,36 @@
 
 ghost use Rattle.std.specs.Prelude.{◌≡◌, ◌+◌, OnOk};
 ghost use Rattle.acq_core.specs.Pasts.{HasPast};
-ghost use Rattle.acq_out.specs.Reads.{TakesAll};
+ghost use Rattle.acq_link.specs.Moves.{TakesAll};
 ghost use Rattle.acq_commands.specs.Faults.{failed_reads, failed_writes};
 ghost use Rattle.acq_commands.specs.Once.{ServesInMemory, ServesOnce};
 
 use crate::fault::Fault;
 use crate::widest_opening::{first_day_of_all, greatest_limit};
 use acq_book::{Book, ListBook};
-use acq_front::{Clock, NoIssuer, serve};
+use acq_front::{Clock, Issuer, serve};
 use acq_host::Host;
 use acq_link::{Sink, Source};
 use std::alloc::Global;
 use std::hash::RandomState;
 
 /// Serves the input as one connection over a book, which is given back at the end: each message is
-/// taken as soon as its frame is whole, and its reply is out before more is read.
-pub fn once_on<B: Book + Drop, C: Clock, S: Source, K: Sink>(
+/// taken as soon as its frame is whole, the issuer is asked in between, and its reply is out before
+/// more is read.
+pub fn once_on<B: Book + Drop, C: Clock, I: Issuer, S: Source, K: Sink>(
     alloc: Global,
     book: B,
     clock: &mut C,
+    issuer: &mut I,
     input: &mut S,
     output: &mut K,
 ) -> Result<(), Fault>
     requires past { B.is_open book → HasPast (B.tables book) }
     // How what came was served, over the book that is left.
     ensures served { (left : B) × (B.is_honest left → B.is_open book
-        → ServesOnce (C.may_give clock.old) (B.tables book) (B.is_open left) (B.tables left)
-        (S.received input.old) (S.received input.new) (K.sent output.old) (K.sent output.new)
-        result) }
+        → ServesOnce (C.may_give clock.old) (I.may_say issuer.old) (B.tables book)
+        (B.is_open left) (B.tables left) (S.received input.old) (S.received input.new)
+        (K.sent output.old) (K.sent output.new) result) }
     // Where all is well, the whole input was read.
     ensures whole { OnOk result
         (TakesAll (S.remaining input.old) (S.received input.old) (S.received input.new)) }
@@ -38,27 +40,29 @@ pub fn once_on<B: Book + Drop, C: Clock, S: Source, K: Sink>(
     ensures writes { K.failures output.new ≡ K.failures output.old + failed_writes result }
 {
     let mut host = Host::new(alloc, book);
-    let served = serve(alloc, &mut host, input, output, clock, &mut NoIssuer);
+    let served = serve(alloc, &mut host, input, output, clock, issuer);
     drop(host);
     Ok(served?)
 }
 
 /// Serves the input as one connection over a new book in memory, where nobody is enrolled. The
 /// book's rows are found by hash, under these keys.
-pub fn once_in_memory<C: Clock, S: Source, K: Sink>(
+pub fn once_in_memory<C: Clock, I: Issuer, S: Source, K: Sink>(
     alloc: Global,
     keys: RandomState,
     clock: &mut C,
+    issuer: &mut I,
     input: &mut S,
     output: &mut K,
 ) -> Result<(), Fault>
-    ensures served { ServesInMemory (C.may_give clock.old) (S.received input.old)
-        (S.received input.new) (K.sent output.old) (K.sent output.new) result }
+    ensures served { ServesInMemory (C.may_give clock.old) (I.may_say issuer.old)
+        (S.received input.old) (S.received input.new) (K.sent output.old) (K.sent output.new)
+        result }
     ensures whole { OnOk result
         (TakesAll (S.remaining input.old) (S.received input.old) (S.received input.new)) }
     ensures reads { S.failures input.new ≡ S.failures input.old + failed_reads result }
     ensures writes { K.failures output.new ≡ K.failures output.old + failed_writes result }
 {
     let host = Host::in_memory(alloc, keys, greatest_limit(), first_day_of_all());
-    once_on(alloc, host.into_book(), clock, input, output)
+    once_on(alloc, host.into_book(), clock, issuer, input, output)
 }

@@ -7,6 +7,8 @@ use acq_core::Moment;
 pub struct OnceOptions {
     /// The path of the book's file; without one the book is new, in memory.
     pub book: Option<String>,
+    /// The path of the file that says what issuers answer; without one no issuer can be reached.
+    pub issuers: Option<String>,
     /// The moment at which all of them come; without one it is the clock's.
     pub moment: Option<Moment>,
 }

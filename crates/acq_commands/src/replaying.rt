@@ -7,7 +7,7 @@ ghost use Rattle.acq_core.specs.Tables.{step_output, step_tables, tables_after};
 ghost use Rattle.acq_book.specs.Promise.{HasRisen, Makes};
 ghost use Rattle.acq_book.specs.declared.book_fault.BookFault.{BookFault};
 ghost use Rattle.acq_out.specs.OutputLines.{WritesLine, line_of};
-ghost use Rattle.acq_out.specs.Reads.{TakesAll};
+ghost use Rattle.acq_link.specs.Moves.{TakesAll};
 ghost use Rattle.acq_out.specs.declared.out_fault.OutFault.{OutFault};
 ghost use Rattle.acq_commands.specs.Faults.{failed_reads, failed_writes, of_book, of_out};
 ghost use Rattle.acq_commands.specs.Replay.{AfterReading, Replays, Stops, StopsEvents, lines};

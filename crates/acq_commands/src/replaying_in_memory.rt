@@ -1,6 +1,6 @@
 //! A replay over a new book in memory.
 
-ghost use Rattle.acq_out.specs.Reads.{TakesAll};
+ghost use Rattle.acq_link.specs.Moves.{TakesAll};
 ghost use Rattle.acq_commands.specs.Replay.{AfterReading};
 ghost use Rattle.acq_commands.specs.Runs.{RunsLines, RunsReplay, RunsReports};
 

@@ -2,7 +2,7 @@
 
 ghost use Rattle.std.specs.Prelude.{◌≡◌, ◌+◌, ◌<◌, ◌++◌, ℕ, List, length, IfErr, IfOk};
 ghost use Rattle.acq_link.specs.FramesAt.{BeginsWithFrame};
-ghost use Rattle.acq_out.specs.Reads.{TakesAll};
+ghost use Rattle.acq_link.specs.Moves.{TakesAll};
 ghost use Rattle.acq_commands.specs.Faults.{failed_reads, failed_writes};
 ghost use Rattle.acq_commands.specs.Replay.{AfterReading};
 ghost use Rattle.acq_commands.specs.Show.{FrameFault, RunsShow, Shows, ShowsHex, ShowsOne, entry};

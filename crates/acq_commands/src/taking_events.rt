@@ -4,7 +4,7 @@ ghost use Rattle.std.specs.Prelude.{◌≡◌, ◌+◌, ◌++◌, ℕ, List, is_
 ghost use Rattle.acq_core.specs.Tables.{tables_after};
 ghost use Rattle.acq_book.specs.Promise.{HasRisen, IfStore};
 ghost use Rattle.acq_host.specs.Runs.{after_first};
-ghost use Rattle.acq_out.specs.Reads.{TakesAll};
+ghost use Rattle.acq_link.specs.Moves.{TakesAll};
 ghost use Rattle.acq_commands.specs.DayReports.{Takes};
 ghost use Rattle.acq_commands.specs.Faults.{failed_reads};
 ghost use Rattle.acq_commands.specs.Replay.{AfterReading};

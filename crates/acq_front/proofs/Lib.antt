@@ -5,3 +5,4 @@ pub mod Served
 pub mod StreamRead
 pub mod TalkGoesOn
 pub mod Turned
+pub mod ServedWeaker

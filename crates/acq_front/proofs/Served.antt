@@ -10,8 +10,10 @@ use Rattle.acq_link.proofs.FramesReadOnce.{partial_is}
 use Rattle.acq_message.specs.declared.verdict.Verdict.{Verdict}
 use Rattle.acq_core.specs.declared.event.Event.{Event}
 use Rattle.acq_core.specs.declared.query.Query.{Query}
-use Rattle.acq_core.specs.Tables.{Tables, tables_after}
+use Rattle.acq_core.specs.Tables.{Tables, outputs, tables_after}
 use Rattle.acq_bookkeeping.proofs.FinalDays.{tables_after-append}
+use Rattle.acq_host.specs.Headline.{IsAlone}
+use Rattle.acq_host.proofs.PartiesAlone.{is_alone}
 use Rattle.acq_front.specs.declared.front_fault.FrontFault as fault
 use Rattle.acq_front.specs.Faults.{of_stream}
 use Rattle.acq_front.specs.Talk.{talk, replies, queries, Saying, AreSaid}
@@ -85,6 +87,10 @@ with_nothing_taken c out moments verdicts = record c {
   verdicts = c.verdicts ++ verdicts;
 }
 
+-- each party got what its own events alone give
+ran_alone : (old now : Tables) (events : List Event) → now ≡ tables_after old events → IsAlone old events (outputs old events) now
+ran_alone old now events so = is_alone old now events (outputs old events) refl so
+
 module _ (S : Saying) where
   pub going_none : (t : Tables) → Going S t t nothing_yet []
   going_none t = record {
@@ -152,9 +158,11 @@ module _ (S : Saying) where
   all_answered : {old now : Tables} {c : Connection} (events : List Event) → TookAll S old now c events → Frames c.output (replies old events) → AllAnswered S old now c
   all_answered {old = old} {now = now} {c = c} events took written =
       let talked = talk_ends old c.messages c.moments c.verdicts events took.goes in
+      let led = took.tables ∙ ap (tables_after old) (sym talked) in
       record {
         came = took.came;
-        tables = took.tables ∙ ap (tables_after old) (sym talked);
+        tables = led;
+        alone = ran_alone old now (talk old c.messages c.moments c.verdicts) led;
         said = subst (λ (es : List Event). AreSaid S (queries old es) c.verdicts) (sym talked) took.said;
         written = subst (λ (es : List Event). Frames c.output (replies old es)) (sym talked) written;
       }
@@ -166,7 +174,7 @@ module _ (S : Saying) where
   pub stream_stops : (e : deframe.DeframeFault) {old now : Tables} (stays_open : Type 0) {c : Connection} {held : List ℕ} → Going S old now c held →
       (e ≡ deframe.TheVariants.BadLength → has_bad_length held ≡ true) → Serves S old stays_open now c (Err (of_stream e))
   stream_stops deframe.TheVariants.BadLength stays_open so bad = (answers_all so, so.read, ap has_bad_length so.rest ∙ bad refl)
-  stream_stops deframe.TheVariants.Memory {old = old} stays_open {c = c} so bad = record {
+  stream_stops deframe.TheVariants.Memory {old = old} {now = now} stays_open {c = c} so bad = record {
     came = so.took.came;
     read = so.read;
     events = so.events;
@@ -174,6 +182,7 @@ module _ (S : Saying) where
     at_most_one = inl refl;
     all = talk_ends old c.messages c.moments c.verdicts so.events so.took.goes ∙ sym (append-nil so.events);
     tables = λ still. so.took.tables;
+    alone = λ still. ran_alone old now so.events so.took.tables;
     said = so.took.said;
     written = so.written;
   }
@@ -186,6 +195,10 @@ module _ (S : Saying) where
   pub read_stops : {old now : Tables} (stays_open : Type 0) {c : Connection} {held : List ℕ} → Going S old now c held → MayBecomeFrame held →
       Serves S old stays_open now c (Err fault.TheVariants.Read)
   read_stops stays_open {held = held} so may = (answers_all so, so.read, ap has_frame so.rest ∙ no_frame held may)
+
+  -- no connection was had
+  pub none_served : (t : Tables) (stays_open : Type 0) → Serves S t stays_open t nothing_yet (Err fault.TheVariants.Read)
+  none_served t stays_open = read_stops stays_open (going_none t) (inl refl)
 
   -- the input ended
   pub ends_well : {old now : Tables} (stays_open : Type 0) {c : Connection} {held : List ℕ} → Going S old now c held → held ≡ [] →
@@ -227,6 +240,7 @@ module _ (S : Saying) where
           all = ap (λ (l : List Verdict). talk old c.messages (c.moments ++ moments) l) same
               ∙ talk_is old c.messages c.moments moments c.verdicts so.events so.took.goes ∙ sym (append-nil so.events);
           tables = λ still. kept still ∙ so.took.tables;
+          alone = λ still. ran_alone old new so.events (kept still ∙ so.took.tables);
           said = subst (AreSaid S (queries old so.events)) (sym same) so.took.said;
           written = frames_and_no_more c.output out (replies old so.events) none so.written;
         }
@@ -235,6 +249,8 @@ module _ (S : Saying) where
     refused_answer : out ≡ [] → TookAllButAnswer S mid stays_open new message moments verdicts → LeavesOff S old stays_open new with_it
     refused_answer none most =
         let first = most.came ∷ [] in
+        let led : stays_open → new ≡ tables_after old (so.events ++ first) =
+        λ still. most.tables still ∙ ap (λ (t : Tables). tables_after t first) so.took.tables ∙ sym (tables_after-append old so.events first) in
         let goes = goes_on_more old c.messages message c.moments moments c.verdicts verdicts so.events (most.came ∷ most.answer ∷ []) so.took.goes
         (subst (λ (t : Tables). Makes t message moments verdicts (most.came ∷ most.answer ∷ [])) so.took.tables most.makes) in
         record {
@@ -245,7 +261,8 @@ module _ (S : Saying) where
           at_most_one = inr (most.answer, most.is_answer, refl);
           all = talk_ends old with_it.messages with_it.moments with_it.verdicts (so.events ++ most.came ∷ most.answer ∷ []) goes
               ∙ sym (append_assoc so.events first (most.answer ∷ []));
-          tables = λ still. most.tables still ∙ ap (λ (t : Tables). tables_after t first) so.took.tables ∙ sym (tables_after-append old so.events first);
+          tables = led;
+          alone = λ still. ran_alone old new (so.events ++ first) (led still);
           said = said_more S old mid so.events first c.verdicts verdicts so.took.tables so.took.said most.said;
           written = written_more old mid so.events first c.output out so.took.tables so.written
               (record { each = ap (list_all fits_frame) most.silent; whole = none ∙ ap framed (sym most.silent) });
@@ -256,10 +273,12 @@ module _ (S : Saying) where
     cuts_last n cut =
         let took = took_more old mid new c held cut.events message out moments left verdicts so begins cut.took in
         let talked = talk_ends old with_it.messages with_it.moments with_it.verdicts (so.events ++ cut.events) took.goes in
+        let led = took.tables ∙ ap (tables_after old) (sym talked) in
         record {
           came = took.came;
           read = all_read c.messages message so.read cut.reads;
-          tables = took.tables ∙ ap (tables_after old) (sym talked);
+          tables = led;
+          alone = ran_alone old new (talk old with_it.messages with_it.moments with_it.verdicts) led;
           said = subst (λ (es : List Event). AreSaid S (queries old es) with_it.verdicts) (sym talked) took.said;
           earlier = replies old so.events;
           last = cut.reply;

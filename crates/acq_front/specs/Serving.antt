@@ -1,6 +1,6 @@
 -- One connection, from its first byte on.
 use Rattle.std.specs.Prelude.{◌≡◌, ◌<◌, ℕ, true, false, List, [], ◌∷◌, ◌++◌, ◌⊎◌, length, take}
-use Rattle.std.specs.Prelude.{Option, Some, None, Result, Ok, Err}
+use Rattle.std.specs.Prelude.{Result, Ok, Err}
 use Rattle.std.specs.List.{list_all}
 use Rattle.acq_link.specs.Frames.{frame, framed, Frames, FramesThen, has_frame, has_bad_length}
 use Rattle.acq_link.specs.Frames.{is_partial}
@@ -8,7 +8,8 @@ use Rattle.iso_codec.specs.Reading.{reading_of}
 use Rattle.iso_codec.specs.declared.decode_fault.DecodeFault.{DecodeFault}
 use Rattle.acq_message.specs.declared.verdict.Verdict.{Verdict}
 use Rattle.acq_core.specs.declared.event.Event.{Event}
-use Rattle.acq_core.specs.Tables.{Tables, tables_after}
+use Rattle.acq_core.specs.Tables.{Tables, outputs, tables_after}
+use Rattle.acq_host.specs.Headline.{IsAlone}
 use Rattle.acq_front.specs.declared.front_fault.FrontFault as fault
 use Rattle.acq_front.specs.Talk.{talk, replies, queries, Saying, AreSaid}
 use Rattle.acq_front.specs.Turns.{is_read, IsAnswer}
@@ -32,10 +33,12 @@ abbrev pub AllRead : List (List ℕ) → Type 0
 AllRead messages = list_all is_read messages ≡ true
 
 -- What came are the frames of the messages and then the rest. The host took the messages' events,
--- asking the issuer for each answer, and what went out are the frames of the replies to them.
+-- asking the issuer for each answer, and what went out are the frames of the replies to them: to
+-- each merchant, and to nobody, what its own events alone give.
 pub record AllAnswered (may_say : Saying) (old new : Tables) (c : Connection) : Type 0 where
   pub came : FramesThen c.input c.messages c.rest
   pub tables : new ≡ tables_after old (events_of old c)
+  pub alone : IsAlone old (events_of old c) (outputs old (events_of old c)) new
   pub said : AreSaid may_say (queries old (events_of old c)) c.verdicts
   pub written : Frames c.output (replies old (events_of old c))
 
@@ -44,6 +47,7 @@ pub record CutsLast (may_say : Saying) (old new : Tables) (c : Connection) (n : 
   pub came : FramesThen c.input c.messages c.rest
   pub read : AllRead c.messages
   pub tables : new ≡ tables_after old (events_of old c)
+  pub alone : IsAlone old (events_of old c) (outputs old (events_of old c)) new
   pub said : AreSaid may_say (queries old (events_of old c)) c.verdicts
   pub earlier : List (List ℕ)
   pub last : List ℕ
@@ -62,6 +66,7 @@ pub record LeavesOff (may_say : Saying) (old : Tables) (stays_open : Type 0) (ne
   pub at_most_one : (missing ≡ []) ⊎ ((e : Event) × IsAnswer e × (missing ≡ e ∷ []))
   pub all : events_of old c ≡ events ++ missing
   pub tables : stays_open → new ≡ tables_after old events
+  pub alone : stays_open → IsAlone old events (outputs old events) new
   pub said : AreSaid may_say (queries old events) c.verdicts
   pub written : Frames c.output (replies old events)
 
@@ -92,8 +97,3 @@ Serves may_say old stays_open new c (Err fault.TheVariants.Read) =
     AllAnswered may_say old new c × AllRead c.messages × (has_frame c.rest ≡ false)
 Serves may_say old stays_open new c (Err (fault.TheVariants.Write n)) =
     CutsLast may_say old new c n
-
--- where it is known what was to come, all of it came
-abbrev pub TakesAll : Option (List ℕ) → List ℕ → List ℕ → Type 0
-TakesAll None old new = Unit {0}
-TakesAll (Some bytes) old new = new ≡ old ++ bytes

@@ -2,6 +2,7 @@
 #![tactic(auto)]
 
 mod clock;
+mod connections;
 mod fixed_clock;
 mod front_fault;
 mod issuer;
@@ -11,11 +12,12 @@ mod slice_clock;
 mod slice_issuer;
 
 pub use clock::Clock;
+pub use connections::{Connections, serve_ends};
 pub use fixed_clock::FixedClock;
 pub use front_fault::FrontFault;
 pub use issuer::Issuer;
 pub use no_issuer::NoIssuer;
-pub use serving::serve;
+pub use serving::{answer_message, serve};
 pub use slice_clock::SliceClock;
 pub use slice_issuer::SliceIssuer;
 

@@ -3,13 +3,14 @@
 ghost use Rattle.std.specs.Prelude.{◌≡◌, ◌⊎◌, ◌+◌, ◌≤◌, ◌++◌, ℕ, List, true};
 ghost use Rattle.std.specs.List.{All};
 ghost use Rattle.acq_link.specs.Frames.{fits_frame};
+ghost use Rattle.acq_link.specs.Moves.{TakesAll};
 ghost use Rattle.acq_book.specs.Promise.{HasRisen};
 ghost use Rattle.acq_front.specs.Coming.{GivesAll};
 ghost use Rattle.acq_front.specs.Talk.{first_moment};
 ghost use Rattle.acq_front.specs.Faults.{AtEnd, IfStore, UnlessRefused, failed_reads};
 ghost use Rattle.acq_front.specs.Faults.{failed_writes};
 ghost use Rattle.acq_front.specs.Turns.{OfMessage, ReplyFits, Sends, SendsReply, Turns};
-ghost use Rattle.acq_front.specs.Serving.{Connection, Serves, TakesAll};
+ghost use Rattle.acq_front.specs.Serving.{Connection, Serves};
 
 use crate::clock::Clock;
 use crate::front_fault::FrontFault;
@@ -49,6 +50,10 @@ pub fn serve<B: Book + Drop, S: Source, K: Sink, C: Clock, I: Issuer>(
         × Serves (I.may_say issuer.old) (B.tables host.old) (B.is_open host.new)
         (B.tables host.new) c result }
     ensures was_honest { B.is_honest host.new → B.is_honest host.old }
+    // Clock and issuer give nothing later that they might not have given at first.
+    ensures said_later { (q : Query) (v : Verdict) → I.may_say issuer.new q v
+        → I.may_say issuer.old q v }
+    ensures given_later { (m : ℕ) → C.may_give clock.new m → C.may_give clock.old m }
     // The book stays open, save where memory or the store refused a call.
     ensures stays_open { B.is_honest host.new → B.is_open host.old
         → UnlessRefused result (B.is_open host.new) }
@@ -83,7 +88,7 @@ pub fn serve<B: Book + Drop, S: Source, K: Sink, C: Clock, I: Issuer>(
 }
 
 /// Takes one message, and the issuer's answer where it is asked, and writes the reply.
-fn answer_message<B: Book + Drop, K: Sink, C: Clock, I: Issuer>(
+pub fn answer_message<B: Book + Drop, K: Sink, C: Clock, I: Issuer>(
     message: Vec<u8>,
     host: &mut Host<B>,
     sink: &mut K,

@@ -1,13 +1,12 @@
 -- Event lines (own profile): CSV as the crate `csv` reads it, with no header line, a record of six
 -- fields for each event. Fields that a line doesn't use are empty.
-use Rattle.std.specs.Prelude.{◌≡◌, ℕ, ◌+◌, Bool, List, [], ◌∷◌, ◌++◌, length, codes, map}
-use Rattle.std.specs.Prelude.{filter_map}
-use Rattle.std.specs.Prelude.{Option, Some, None, is_none, option_map, Result, Ok, Err}
+use Rattle.std.specs.Prelude.{ℕ, List, [], ◌∷◌, codes, Option, Some, None, option_map, Result}
 use Rattle.std.specs.Prelude.{if◌then◌else◌}
-use Rattle.std.specs.List.{list_all, position}
+use Rattle.std.specs.List.{list_all}
 use Rattle.std.specs.Str.{bytes_eq}
 use Rattle.card_no.specs.Prefix.{prefix_of_text}
-use Rattle.card_no.specs.RangeFiles.{range_of_fields, records_of}
+use Rattle.card_no.specs.RangeFiles.{range_of_fields}
+use Rattle.acq_records.specs.Records.{values_of_text}
 use Rattle.acq_message.specs.declared.verdict.Verdict.{Verdict}
 use Rattle.acq_core.specs.declared.event.Event.{Event}
 use Rattle.acq_core.specs.declared.event.Event.TheVariants as event
@@ -89,41 +88,6 @@ event_of_fields _ = None
 
 -- ---- texts
 
--- the record spells no event
-abbrev pub is_bad_line : List (List ℕ) → Bool
-is_bad_line fields = is_none (event_of_fields fields)
-
--- the place of the first record that spells no event
-abbrev pub first_bad_line : List (List (List ℕ)) → Option ℕ
-first_bad_line records = position is_bad_line records
-
--- these events, or the number of the record at a place, counted from 1
-abbrev pub events_unless : List Event → Option ℕ → Result (List Event) ℕ
-events_unless events None = Ok events
-events_unless events (Some place) = Err (place + 1)
-
--- the events of records, or the number of the first record that spells none
-abbrev pub events_of_records : List (List (List ℕ)) → Result (List Event) ℕ
-events_of_records records =
-    events_unless (filter_map event_of_fields records) (first_bad_line records)
-
 -- The events of a text's records, or the number of the first record that spells none.
 abbrev pub events_of_text : List ℕ → Result (List Event) ℕ
-events_of_text text = events_of_records (records_of text)
-
--- ---- the same as relations
-
--- the records spell these events, one each, in order
-abbrev pub Spell : List (List (List ℕ)) → List Event → Type 0
-Spell records events = map event_of_fields records ≡ map Some events
-
--- Record n, counted from 1, spells no event, and each record before it spells one.
-pub record IsFirstBad (records : List (List (List ℕ))) (n : ℕ) : Type 0 where
-  pub before : List (List (List ℕ))
-  pub bad : List (List ℕ)
-  pub after : List (List (List ℕ))
-  pub events : List Event
-  pub whole : records ≡ before ++ bad ∷ after
-  pub number : n ≡ length before + 1
-  pub none : event_of_fields bad ≡ None
-  pub spelled : Spell before events
+events_of_text text = values_of_text event_of_fields text

@@ -1,7 +1,7 @@
 -- The faults' numbers and texts, and how many reads and writes failed.
 use Rattle.std.specs.Prelude.{ℕ, List, ◌++◌, [], codes, Result, Ok, Err}
 use Rattle.std.specs.Fmt.{decimal}
-use Rattle.acq_link.specs.declared.input_fault.InputFault as input
+use Rattle.acq_records.specs.declared.record_fault.RecordFault as records
 use Rattle.acq_out.specs.declared.out_fault.OutFault.{OutFault}
 use Rattle.acq_out.specs.declared.out_fault.OutFault.TheVariants.{Memory, Read, Write, BadLine}
 
@@ -29,10 +29,11 @@ values_of (BadLine n) = codes " " ++ decimal n
 abbrev pub text_of : OutFault → List ℕ
 text_of fault = decimal (number_of fault) ++ codes " " ++ name_of fault ++ values_of fault
 
--- what a fault of the input is
-abbrev pub of_input : input.InputFault → OutFault
-of_input input.TheVariants.Memory = Memory
-of_input input.TheVariants.Read = Read
+-- what a fault of reading records is
+abbrev pub of_records : records.RecordFault → OutFault
+of_records records.TheVariants.Memory = Memory
+of_records records.TheVariants.Read = Read
+of_records (records.TheVariants.BadRecord n) = BadLine n
 
 -- how many reads failed
 abbrev pub reads_failed : OutFault → ℕ

@@ -1,5 +1,5 @@
 -- What reading event lines results in.
-use Rattle.std.specs.Prelude.{◌≡◌, ℕ, List, ◌++◌, Option, Some, None, Result, Ok, Err}
+use Rattle.std.specs.Prelude.{◌≡◌, ℕ, List, Result, Ok, Err}
 use Rattle.acq_core.specs.declared.event.Event.{Event}
 use Rattle.acq_out.specs.EventLines.{events_of_text}
 use Rattle.acq_out.specs.declared.out_fault.OutFault.{OutFault}
@@ -13,8 +13,3 @@ ReadsEvents text (Err (BadLine n)) = events_of_text text ≡ Err n
 ReadsEvents text (Err Memory) = Unit {0}
 ReadsEvents text (Err Read) = Unit {0}
 ReadsEvents text (Err (Write n)) = ⊥
-
--- where the source's bytes are known, all of them were taken
-abbrev pub TakesAll : Option (List ℕ) → List ℕ → List ℕ → Type 0
-TakesAll None old new = Unit {0}
-TakesAll (Some bytes) old new = new ≡ old ++ bytes

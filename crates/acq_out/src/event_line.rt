@@ -1,7 +1,7 @@
 //! One event line.
 
-ghost use Rattle.std.specs.Prelude.{◌≡◌, ◌≢◌, ◌<◌, Some, length, IfOk, IfSome, IfNone};
-ghost use Rattle.csv.specs.Records.{fields_of, field_at};
+ghost use Rattle.std.specs.Prelude.{◌≡◌, ◌≢◌, length, IfOk, IfSome, IfNone};
+ghost use Rattle.csv.specs.Records.{fields_of};
 ghost use Rattle.acq_out.specs.EventLines.{event_of_fields};
 ghost use Rattle.acq_out.specs.Lines.{event_by, texts_of, ends_at_second};
 
@@ -11,6 +11,7 @@ use crate::fields::{
 };
 use crate::line_name::LineName;
 use acq_core::Event;
+use acq_records::field;
 use card_no::{Prefix, Range};
 use csv::ByteRecord;
 use std::alloc::{AllocError, Global};
@@ -156,15 +157,4 @@ impl<'a> EventLine<'a> {
         let terminal = terminal_of(self.second)?;
         Some(Event::AddTerminal(merchant, terminal))
     }
-}
-
-/// The field of a record at a place.
-fn field(fields: &ByteRecord, place: usize) -> &[u8]
-    requires { place < length (fields_of fields.now) }
-    ensures { field_at (fields_of fields.now) place ≡ Some result.now }
-{
-    let Some(text) = fields.get(place) else {
-        unreachable!();
-    };
-    text
 }

@@ -107,7 +107,7 @@ pub(crate) fn message_of(alloc: Global, text: &[u8]) -> Result<Option<MessageTex
 }
 
 /// What an issuer says: `approved` with an authorization id, `declined` with a code, or `none`.
-pub(crate) fn verdict_of(word: &[u8], text: &[u8]) -> Option<Verdict>
+pub fn verdict_of(word: &[u8], text: &[u8]) -> Option<Verdict>
     ensures { result ≡ verdict_of_texts word.now text.now }
 {
     if word == b"approved".as_slice() {

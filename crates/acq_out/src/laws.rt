@@ -1,24 +1,13 @@
-//! Laws of event lines, and worked rows of the definitions.
+//! Worked rows of the definitions.
 
-ghost use Rattle.std.specs.Prelude.{◌≡◌, ℕ, List, [], ◌∷◌, None, Ok, Err, codes};
-ghost use Rattle.card_no.specs.RangeFiles.{records_of};
-ghost use Rattle.acq_core.specs.declared.event.Event.{Event};
+ghost use Rattle.std.specs.Prelude.{◌≡◌, [], ◌∷◌, None, Ok, Err, codes};
 ghost use Rattle.acq_core.specs.declared.event.Event.TheVariants as event;
 ghost use Rattle.acq_core.specs.declared.output.Output.TheVariants as output;
 ghost use Rattle.acq_message.specs.declared.verdict.Verdict.TheVariants as verdict;
 ghost use Rattle.iso_codec.specs.declared.decode_fault.DecodeFault.TheVariants as fault;
-ghost use Rattle.acq_out.specs.EventLines.{events_of_text, Spell, IsFirstBad};
+ghost use Rattle.acq_out.specs.EventLines.{events_of_text};
 ghost use Rattle.acq_out.specs.OutputLines.{line_of};
 ghost use Rattle.acq_out.specs.Worked.{worked_query, worked_range};
-
-/// The events of a text are those of its records, one each, in order; and a record is told as bad
-/// just where it spells no event and each one before it spells one.
-pub fn each_record_is_an_event()
-    ensures events { (text : List ℕ) (events : List Event) → events_of_text text ≡ Ok events
-        → Spell (records_of text) events }
-    ensures bad { (text : List ℕ) (n : ℕ) → events_of_text text ≡ Err n
-        → IsFirstBad (records_of text) n }
-{}
 
 /// Event lines, computed.
 pub fn worked_event_lines()

@@ -16,6 +16,6 @@ mod output_lines;
 mod tests;
 
 pub use event_lines::read_events;
-pub use fields::{merchant_of, moment_of};
+pub use fields::{merchant_of, moment_of, verdict_of};
 pub use out_fault::OutFault;
 pub use output_lines::write_output;

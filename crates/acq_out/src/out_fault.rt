@@ -2,7 +2,7 @@
 
 ghost use Rattle.std.specs.Prelude.{◌≡◌};
 
-use acq_link::InputFault;
+use acq_records::RecordFault;
 use std::alloc::{AllocError, AllocFailed};
 use std::error::Error;
 use std::fmt;
@@ -86,15 +86,16 @@ impl<T: Drop> From<AllocFailed<T>> for OutFault {
     }
 }
 
-impl From<InputFault> for OutFault {
-    ghost use Rattle.acq_out.specs.Faults.{of_input};
+impl From<RecordFault> for OutFault {
+    ghost use Rattle.acq_out.specs.Faults.{of_records};
 
-    ghost from_gives = { λ e f. f ≡ of_input e };
+    ghost from_gives = { λ e f. f ≡ of_records e };
 
-    fn from(e: InputFault) -> OutFault {
+    fn from(e: RecordFault) -> OutFault {
         match e {
-            InputFault::Memory => OutFault::Memory,
-            InputFault::Read => OutFault::Read,
+            RecordFault::Memory => OutFault::Memory,
+            RecordFault::Read => OutFault::Read,
+            RecordFault::BadRecord(record) => OutFault::BadLine(record),
         }
     }
 }

@@ -1,29 +1,59 @@
 -- One run of the program over an input, and its status.
 use Rattle.std.specs.Prelude.{◌≡◌, ◌⊎◌, ℕ, List, Option, None, Some, Result, Ok, Err, OnOk, String}
 use Rattle.std.specs.declared.alloc.Global.{Global}
-use Rattle.acq_out.specs.Reads.{TakesAll}
+use Rattle.acq_link.specs.Moves.{TakesAll}
 use Rattle.acq_arguments.specs.declared.action.Action.{Action}
-use Rattle.acq_arguments.specs.declared.action.Action.TheVariants.{Init, Once, Replay, Report, Holds, Show}
+use Rattle.acq_arguments.specs.declared.action.Action.TheVariants.{Init, Once, Listen, Replay}
+use Rattle.acq_arguments.specs.declared.action.Action.TheVariants.{Report, Holds, Show}
 use Rattle.acq_arguments.specs.declared.option_name.OptionName.{OptionName}
 use Rattle.acq_arguments.specs.Arguments.{AsksFor}
+use Rattle.acq_front.specs.Talk.{Saying, says_nothing}
 use Rattle.acq_commands.specs.declared.fault.Fault.{Fault}
+use Rattle.acq_commands.specs.declared.listen_options.ListenOptions.{ListenOptions}
+use Rattle.acq_commands.specs.declared.once_options.OnceOptions.{OnceOptions}
 use Rattle.acq_commands.specs.Faults.{status_after}
 use Rattle.acq_commands.specs.Once.{ServesInMemory}
 use Rattle.acq_commands.specs.Runs.{RunsReplay}
 use Rattle.acq_commands.specs.Show.{RunsShow}
+use Rattle.acq_stand_in.specs.Answers.{says_by}
+use Rattle.acq_stand_in.specs.declared.card_answer.CardAnswer.{CardAnswer}
 
--- Frames were served over a new book where there is no file, at moments that may be given; what is
--- done to the book of a file is said by the calls that open it and serve them.
-abbrev pub ServesIn : Option (String Global) → (ℕ → Type 0) → List ℕ → List ℕ → List ℕ → List ℕ
-    → Result (Unit {0}) Fault → Type 0
-ServesIn None may_give received received_after sent sent_after ended =
-    ServesInMemory may_give received received_after sent sent_after ended
-ServesIn (Some path) may_give received received_after sent sent_after ended = Unit {0}
+-- Frames were served over a new book where there is no file, at moments that may be given, with
+-- what issuers may say; what is done to the book of a file is said by the calls that open it and
+-- serve them.
+abbrev pub ServesIn : Option (String Global) → (ℕ → Type 0) → Saying → List ℕ → List ℕ → List ℕ
+    → List ℕ → Result (Unit {0}) Fault → Type 0
+ServesIn None may_give may_say received received_after sent sent_after ended =
+    ServesInMemory may_give may_say received received_after sent sent_after ended
+ServesIn (Some path) may_give may_say received received_after sent sent_after ended = Unit {0}
 
 -- the moments at which frames may come: this one, or where none is asked for, any
 abbrev pub MayCome : Option ℕ → ℕ → Type 0
 MayCome None moment = Unit {0}
 MayCome (Some at) moment = moment ≡ at
+
+-- nothing was read or written
+abbrev pub IsUntouched : List ℕ → List ℕ → List ℕ → List ℕ → Type 0
+IsUntouched received received_after sent sent_after =
+    (received_after ≡ received) × (sent_after ≡ sent)
+
+-- Frames were served: without a file of issuers' answers no issuer answered, and with one its
+-- answers did, or it gave none, and nothing was read or written.
+abbrev pub ServesBy : Option (String Global) → OnceOptions → List ℕ → List ℕ → List ℕ → List ℕ
+    → Result (Unit {0}) Fault → Type 0
+ServesBy None asked received received_after sent sent_after ended =
+    ServesIn asked.book (MayCome asked.moment) says_nothing received received_after sent sent_after
+    ended
+ServesBy (Some path) asked received received_after sent sent_after ended =
+    ((answers : List CardAnswer)
+    × ServesIn asked.book (MayCome asked.moment) (says_by answers) received received_after sent
+    sent_after ended)
+    ⊎ IsUntouched received received_after sent sent_after
+
+abbrev pub ServesAsked : OnceOptions → List ℕ → List ℕ → List ℕ → List ℕ
+    → Result (Unit {0}) Fault → Type 0
+ServesAsked asked received received_after sent sent_after ended =
+    ServesBy asked.issuers asked received received_after sent sent_after ended
 
 -- Where all is well, the whole input was read, where it is known what was to come.
 abbrev pub ReadsWhole : Option (List ℕ) → List ℕ → List ℕ → Result (Unit {0}) Fault → Type 0
@@ -36,8 +66,10 @@ abbrev pub Does : Action → Option (List ℕ) → List ℕ → List ℕ → Lis
 Does (Init new) remaining received received_after sent sent_after ended =
     (received_after ≡ received) × (sent_after ≡ sent)
 Does (Once asked) remaining received received_after sent sent_after ended =
-    ServesIn asked.book (MayCome asked.moment) received received_after sent sent_after ended
+    ServesAsked asked received received_after sent sent_after ended
     × ReadsWhole remaining received received_after ended
+Does (Listen asked) remaining received received_after sent sent_after ended =
+    (received_after ≡ received) × (sent_after ≡ sent)
 Does (Replay options) remaining received received_after sent sent_after ended =
     RunsReplay options received received_after sent sent_after ended
     × ReadsWhole remaining received received_after ended
@@ -49,10 +81,15 @@ Does (Show form) remaining received received_after sent sent_after ended =
     RunsShow form received received_after sent sent_after ended
     × ReadsWhole remaining received received_after ended
 
--- nothing was read or written
-abbrev pub IsUntouched : List ℕ → List ℕ → List ℕ → List ℕ → Type 0
-IsUntouched received received_after sent sent_after =
-    (received_after ≡ received) × (sent_after ≡ sent)
+-- faults are told in between only where connections are served
+abbrev pub Tells : Action → List ℕ → List ℕ → Type 0
+Tells (Listen asked) told told_after = Unit {0}
+Tells other told told_after = told_after ≡ told
+
+-- Where all is well, no fault was told, but those of connections.
+abbrev pub IsQuiet : List (List ℕ) → List ℕ → List ℕ → Type 0
+IsQuiet words told told_after =
+    (told_after ≡ told) ⊎ ((asked : ListenOptions) × AsksFor words (Ok (Listen asked)))
 
 -- What the words ask for is done, and the status is that of how it ended; or an option's value is
 -- out of its form, or there was no memory for the words, and nothing is done.

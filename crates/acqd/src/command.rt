@@ -1,21 +1,21 @@
 //! One run of the program.
 
-ghost use Rattle.std.specs.Prelude.{◌≡◌, ◌≤◌, [], map, IfErr, OnOk};
+ghost use Rattle.std.specs.Prelude.{◌≡◌, ◌≤◌, [], map, IfErr, MatchResult, OnOk};
 ghost use Rattle.clap.specs.Words.{fault_of, kind_of};
 ghost use Rattle.clap.specs.declared.error.kind.ErrorKind.TheVariants.{OutOfMemory};
 ghost use Rattle.acq_arguments.specs.Program.{program};
 ghost use Rattle.acqd.specs.BookFiles.{IsOpening};
 ghost use Rattle.acq_commands.specs.Faults.{status_after};
-ghost use Rattle.acqd.specs.Runs.{Does, ReadsWhole, Runs, ServesIn};
+ghost use Rattle.acqd.specs.Runs.{Does, IsQuiet, IsUntouched, MayCome, ReadsWhole, Runs};
+ghost use Rattle.acqd.specs.Runs.{ServesAsked, ServesIn, Tells};
 
-use crate::book_file::BookFile;
-use crate::text_sink::TextSink;
+use crate::machine::Machine;
 use acq_arguments::{Action, UsageFault, action_of};
 use acq_commands::{
-    Fault, NewBook, Progress, ReplayOptions, holds_of, once_in_memory, once_on, replay_in_memory,
-    replay_on, report_on, show,
+    Fault, ListenOptions, NewBook, OnceOptions, Progress, ReplayOptions, TextSink, holds_of,
+    listen_on, once_in_memory, once_on, replay_in_memory, replay_on, report_on, show,
 };
-use acq_front::{Clock, FixedClock};
+use acq_front::{Clock, FixedClock, Issuer, NoIssuer};
 use acq_link::{Sink, Source};
 use clap::error::ErrorKind;
 use sqlite::Alter;
@@ -30,12 +30,12 @@ const USAGE: u8 = 2;
 /// Runs the command that the arguments name, the program's own name first, and returns the status:
 /// 0 where all is well, 1 for a fault, 2 for wrong usage, 3 where memory ran out. A fault, or what
 /// is wrong with the arguments, is written to `faults`; help goes to `output`. A book in memory
-/// finds its rows by hash, under `keys`; one in a file is opened, or made, by `file`. The moments at
+/// finds its rows by hash, under `keys`; files and ports are those of `machine`. The moments at
 /// which frames come are told by `clock`. How far a long run is goes to `progress`.
 pub fn command<
     W: AsStr,
     T: Alter + Drop,
-    O: BookFile<T> + Drop,
+    O: Machine<T> + Drop,
     C: Clock,
     S: Source,
     K: Sink,
@@ -45,7 +45,7 @@ pub fn command<
     alloc: Global,
     keys: RandomState,
     args: &[W],
-    file: O,
+    machine: O,
     clock: &mut C,
     input: &mut S,
     output: &mut K,
@@ -60,15 +60,18 @@ pub fn command<
     // Else nothing was read.
     ensures unread { ¬ (fault_of program (map W.text args.now) ≡ [])
         → S.received input.new ≡ S.received input.old }
-    // Where all is well, no fault is written.
-    ensures quiet { result ≡ 0 → F.sent faults.new ≡ F.sent faults.old }
+    // Where all is well, no fault is written, but those of connections.
+    ensures quiet { result ≡ 0
+        → IsQuiet (map W.text args.now) (F.sent faults.old) (F.sent faults.new) }
     // After wrong usage nothing was read, and nothing written but what is wrong.
     ensures usage_unread { result ≡ 2 → S.received input.new ≡ S.received input.old }
     ensures usage_unwritten { result ≡ 2 → K.sent output.new ≡ K.sent output.old }
 {
     match action_of(alloc, args) {
         Ok(action) => {
-            let ended = run(alloc, keys, action, file, clock, input, output, progress);
+            let ended = run(
+                alloc, keys, action, machine, clock, input, output, faults, progress,
+            );
             finish(ended, faults)
         }
         Err(UsageFault::BadValue(option)) => {
@@ -80,38 +83,37 @@ pub fn command<
 }
 
 /// Does what is asked.
-fn run<T: Alter + Drop, O: BookFile<T> + Drop, C: Clock, S: Source, K: Sink, P: Progress>(
+fn run<T: Alter + Drop, O: Machine<T> + Drop, C: Clock, S: Source, K: Sink, F: Sink, P: Progress>(
     alloc: Global,
     keys: RandomState,
     action: Action,
-    file: O,
+    machine: O,
     clock: &mut C,
     input: &mut S,
     output: &mut K,
+    faults: &mut F,
     progress: &mut P,
 ) -> Result<(), Fault>
-    ensures { Does action (S.remaining input.old) (S.received input.old) (S.received input.new)
-        (K.sent output.old) (K.sent output.new) result }
+    ensures done { Does action (S.remaining input.old) (S.received input.old)
+        (S.received input.new) (K.sent output.old) (K.sent output.new) result }
+    ensures told { Tells action (F.sent faults.old) (F.sent faults.new) }
 {
     match action {
-        Action::Init(new) => init(file, &new),
-        Action::Once(asked) => match asked.moment {
-            Some(moment) => {
-                let mut clock = FixedClock::new(moment);
-                once_over(alloc, keys, file, &asked.book, &mut clock, input, output)
-            }
-            None => once_over(alloc, keys, file, &asked.book, clock, input, output),
-        },
+        Action::Init(new) => init(machine, &new),
+        Action::Once(asked) => once(alloc, keys, machine, &asked, clock, input, output),
+        Action::Listen(asked) => listen(alloc, machine, &asked, clock, faults),
         Action::Replay(options) => match &options.book {
-            Some(path) => replay_in_file(alloc, file, path, &options, input, output, progress),
+            Some(path) => {
+                replay_in_file(alloc, machine, path, &options, input, output, progress)
+            }
             None => replay_in_memory(alloc, keys, &options, input, output, progress),
         },
         Action::Report(options) => {
-            let book = file.open_book(options.path.as_str())?;
+            let book = machine.open_book(options.path.as_str())?;
             report_on(alloc, book, &options, output)
         }
         Action::Holds(options) => {
-            let book = file.open_book(options.path.as_str())?;
+            let book = machine.open_book(options.path.as_str())?;
             holds_of(alloc, book, &options, output)
         }
         Action::Show(form) => show(alloc, form, input, output),
@@ -119,41 +121,176 @@ fn run<T: Alter + Drop, O: BookFile<T> + Drop, C: Clock, S: Source, K: Sink, P: 
 }
 
 /// Makes a new book, which is given back at once.
-fn init<T: Alter + Drop, O: BookFile<T>>(file: O, new: &NewBook) -> Result<(), Fault>
+fn init<T: Alter + Drop, O: Machine<T>>(machine: O, new: &NewBook) -> Result<(), Fault>
     ensures { IfErr result IsOpening }
 {
-    drop(file.make_book(new.path.as_str(), new.limit, new.first_day)?);
+    drop(machine.make_book(new.path.as_str(), new.limit, new.first_day)?);
     Ok(())
 }
 
-/// Answers the frames of the input over the book in a file, or without one over a new book.
-fn once_over<T: Alter + Drop, O: BookFile<T> + Drop, C: Clock, S: Source, K: Sink>(
+/// Answers the frames of the input, and asks the issuers' file, or without one nobody.
+fn once<T: Alter + Drop, O: Machine<T> + Drop, C: Clock, S: Source, K: Sink>(
     alloc: Global,
     keys: RandomState,
-    file: O,
-    path: &Option<String>,
+    machine: O,
+    asked: &OnceOptions,
     clock: &mut C,
     input: &mut S,
     output: &mut K,
 ) -> Result<(), Fault>
-    ensures served { ServesIn path.now (C.may_give clock.old) (S.received input.old)
-        (S.received input.new) (K.sent output.old) (K.sent output.new) result }
+    ensures served { ServesAsked asked.now (S.received input.old) (S.received input.new)
+        (K.sent output.old) (K.sent output.new) result }
+    ensures whole { ReadsWhole
+        (S.remaining input.old) (S.received input.old) (S.received input.new) result }
+{
+    match &asked.issuers {
+        Some(path) => {
+            let answers = machine.read_answers(alloc, path.as_str());
+            once_at(alloc, keys, machine, asked, clock, answers, input, output)
+        }
+        None => once_at(
+            alloc,
+            keys,
+            machine,
+            asked,
+            clock,
+            Ok(NoIssuer),
+            input,
+            output,
+        ),
+    }
+}
+
+/// Answers the frames of the input, at one moment where one is asked for.
+fn once_at<T: Alter + Drop, O: Machine<T> + Drop, C: Clock, I: Issuer + Drop, S: Source, K: Sink>(
+    alloc: Global,
+    keys: RandomState,
+    machine: O,
+    asked: &OnceOptions,
+    clock: &mut C,
+    issuers: Result<I, Fault>,
+    input: &mut S,
+    output: &mut K,
+) -> Result<(), Fault>
+    ensures served { MatchResult issuers
+        (λ issuer. ServesIn asked.now.book (MayCome asked.now.moment) (I.may_say issuer)
+        (S.received input.old) (S.received input.new) (K.sent output.old) (K.sent output.new)
+        result)
+        (λ fault. IsUntouched (S.received input.old) (S.received input.new)
+        (K.sent output.old) (K.sent output.new)) }
+    ensures whole { ReadsWhole
+        (S.remaining input.old) (S.received input.old) (S.received input.new) result }
+{
+    let path = &asked.book;
+    match asked.moment {
+        Some(moment) => {
+            let mut clock = FixedClock::new(moment);
+            once_over(
+                alloc, keys, machine, path, &mut clock, issuers, input, output,
+            )
+        }
+        None => once_over(alloc, keys, machine, path, clock, issuers, input, output),
+    }
+}
+
+/// Answers the frames of the input over the book in a file, or without one over a new book. Where
+/// the issuers' file can't be read, that is told behind what is wrong with the book.
+fn once_over<T: Alter + Drop, O: Machine<T> + Drop, C: Clock, I: Issuer + Drop, S: Source, K: Sink>(
+    alloc: Global,
+    keys: RandomState,
+    machine: O,
+    path: &Option<String>,
+    clock: &mut C,
+    issuers: Result<I, Fault>,
+    input: &mut S,
+    output: &mut K,
+) -> Result<(), Fault>
+    ensures served { MatchResult issuers
+        (λ issuer. ServesIn path.now (C.may_give clock.old) (I.may_say issuer)
+        (S.received input.old) (S.received input.new) (K.sent output.old) (K.sent output.new)
+        result)
+        (λ fault. IsUntouched (S.received input.old) (S.received input.new)
+        (K.sent output.old) (K.sent output.new)) }
     ensures whole { ReadsWhole
         (S.remaining input.old) (S.received input.old) (S.received input.new) result }
 {
     match path {
         Some(path) => {
-            let book = file.open_book(path.as_str())?;
-            once_on(alloc, book, clock, input, output)
+            let book = machine.open_book(path.as_str())?;
+            let mut issuer = issuers?;
+            once_on(alloc, book, clock, &mut issuer, input, output)
         }
-        None => once_in_memory(alloc, keys, clock, input, output),
+        None => {
+            let mut issuer = issuers?;
+            once_in_memory(alloc, keys, clock, &mut issuer, input, output)
+        }
     }
 }
 
-/// Replays an input over the book in a file.
-fn replay_in_file<T: Alter + Drop, O: BookFile<T> + Drop, S: Source, K: Sink, P: Progress>(
+/// Answers the frames of connections, and asks the issuers' file, or without one nobody.
+fn listen<T: Alter + Drop, O: Machine<T> + Drop, C: Clock, F: Sink>(
     alloc: Global,
-    file: O,
+    machine: O,
+    asked: &ListenOptions,
+    clock: &mut C,
+    faults: &mut F,
+) -> Result<(), Fault> {
+    match &asked.issuers {
+        Some(path) => {
+            let answers = machine.read_answers(alloc, path.as_str());
+            listen_at(alloc, machine, asked, clock, answers, faults)
+        }
+        None => listen_at(alloc, machine, asked, clock, Ok(NoIssuer), faults),
+    }
+}
+
+/// Answers the frames of connections, at one moment where one is asked for.
+fn listen_at<T: Alter + Drop, O: Machine<T> + Drop, C: Clock, I: Issuer + Drop, F: Sink>(
+    alloc: Global,
+    machine: O,
+    asked: &ListenOptions,
+    clock: &mut C,
+    issuers: Result<I, Fault>,
+    faults: &mut F,
+) -> Result<(), Fault> {
+    match asked.moment {
+        Some(moment) => {
+            let mut clock = FixedClock::new(moment);
+            listen_over(alloc, machine, asked, &mut clock, issuers, faults)
+        }
+        None => listen_over(alloc, machine, asked, clock, issuers, faults),
+    }
+}
+
+/// Answers the frames of connections over the book in a file. What is wrong is told of the book
+/// first, then of the issuers' file, then of the port.
+fn listen_over<T: Alter + Drop, O: Machine<T> + Drop, C: Clock, I: Issuer + Drop, F: Sink>(
+    alloc: Global,
+    machine: O,
+    asked: &ListenOptions,
+    clock: &mut C,
+    issuers: Result<I, Fault>,
+    faults: &mut F,
+) -> Result<(), Fault> {
+    let connections = machine.listen_at(asked.port, asked.idle);
+    let book = machine.open_book(asked.path.as_str())?;
+    let mut issuer = issuers?;
+    let mut connections = connections?;
+    listen_on(
+        alloc,
+        book,
+        &mut connections,
+        asked.count,
+        clock,
+        &mut issuer,
+        faults,
+    )
+}
+
+/// Replays an input over the book in a file.
+fn replay_in_file<T: Alter + Drop, O: Machine<T> + Drop, S: Source, K: Sink, P: Progress>(
+    alloc: Global,
+    machine: O,
     path: &String,
     options: &ReplayOptions,
     input: &mut S,
@@ -163,7 +300,7 @@ fn replay_in_file<T: Alter + Drop, O: BookFile<T> + Drop, S: Source, K: Sink, P:
     ensures { ReadsWhole
         (S.remaining input.old) (S.received input.old) (S.received input.new) result }
 {
-    let book = file.open_book(path.as_str())?;
+    let book = machine.open_book(path.as_str())?;
     replay_on(
         alloc,
         book,

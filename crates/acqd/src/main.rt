@@ -4,20 +4,19 @@
 
 ghost use Rattle.std.specs.Prelude.{◌≤◌};
 
-mod book_file;
 mod command;
-mod file_at_path;
+mod machine;
 mod open_book;
 mod system_clock;
+mod tcp_connections;
 mod terminal_progress;
-mod text_sink;
+mod this_machine;
 
 use acq_commands::Progress;
 use acq_front::Clock;
 use acq_link::{ReadSource, Sink, Source, WriteSink};
-pub use book_file::{BookFile, fault_of_opening};
 pub use command::command;
-pub use file_at_path::FileAtPath;
+pub use machine::{Machine, fault_of_opening};
 pub use open_book::{make_book, open_book};
 use sqlite::Alter;
 use sqlite_disk::{Start, Unknown};
@@ -27,7 +26,9 @@ use std::io::IsTerminal;
 use std::process::ExitCode;
 use std::{env, io, str};
 pub use system_clock::{SystemClock, moment_near};
+pub use tcp_connections::TcpConnections;
 pub use terminal_progress::TerminalProgress;
+pub use this_machine::ThisMachine;
 
 fn main(rt: HostRuntime) -> ExitCode {
     ExitCode::from(run(&rt, Unknown))
@@ -60,14 +61,14 @@ fn run_over_files<D: Start, S: Source, K: Sink, F: Sink, P: Progress>(
 ) -> u8
     ensures { result ≤ 3 }
 {
-    let file = FileAtPath::new(rt, start);
-    run_over(rt, file, input, output, faults, progress)
+    let machine = ThisMachine::new(rt, start);
+    run_over(rt, machine, input, output, faults, progress)
 }
 
 /// Runs the program with the arguments of this process.
-fn run_over<T: Alter + Drop, O: BookFile<T> + Drop, S: Source, K: Sink, F: Sink, P: Progress>(
+fn run_over<T: Alter + Drop, O: Machine<T> + Drop, S: Source, K: Sink, F: Sink, P: Progress>(
     rt: &HostRuntime,
-    file: O,
+    machine: O,
     input: &mut S,
     output: &mut K,
     faults: &mut F,
@@ -81,7 +82,7 @@ fn run_over<T: Alter + Drop, O: BookFile<T> + Drop, S: Source, K: Sink, F: Sink,
                 rt.alloc(),
                 keys,
                 args.as_slice(),
-                file,
+                machine,
                 &mut SystemClock::new(rt),
                 input,
                 output,

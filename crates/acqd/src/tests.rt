@@ -1,14 +1,16 @@
 //! Rows of the program: statuses, replies and printed lines; each read and each write failing in
 //! turn; and an input longer than a hundred reads.
 
-mod book_at_hand;
 mod clocks;
 mod days;
 mod expected;
 mod file_commands;
 mod holds;
 mod isolation;
+mod issuers;
+mod listens;
 mod long_runs;
+mod machine_at_hand;
 mod many_merchants;
 mod no_progress;
 mod other_merchant;
@@ -28,9 +30,9 @@ mod walks;
 mod wording;
 
 use acq_commands::once_in_memory;
-use acq_front::SliceClock;
+use acq_front::{NoIssuer, SliceClock};
 use acq_link::{MemorySink, ReadSource, SliceSource, WriteSink};
-use book_at_hand::{no_file, run_program};
+use machine_at_hand::{bare_machine, run_program};
 use std::alloc::Global;
 use std::hash::RandomState;
 use std::process::Abort;
@@ -143,7 +145,7 @@ fn runs_as(
         rt,
         alloc,
         &["acqd", "once"],
-        no_file(),
+        bare_machine(),
         &mut source,
         (&mut sink, &mut faults),
     )?;
@@ -221,7 +223,7 @@ fn each_read_fails_in_turn(rt: HostRuntime) -> Result<(), Fail> {
             &rt,
             alloc,
             &["acqd", "once"],
-            no_file(),
+            bare_machine(),
             &mut source,
             (&mut sink, &mut faults),
         )?;
@@ -247,7 +249,7 @@ fn each_write_fails_in_turn(rt: HostRuntime) -> Result<(), Fail> {
             &rt,
             alloc,
             &["acqd", "once"],
-            no_file(),
+            bare_machine(),
             &mut source,
             (&mut sink, &mut faults),
         )?;
@@ -267,7 +269,7 @@ fn each_write_fails_in_turn(rt: HostRuntime) -> Result<(), Fail> {
 
 /// Arguments, the status, and a part of the text, as clap has it. Text goes to the output where the
 /// status is 0, else to the faults.
-const USAGES: [(&[&str], u8, &str); 18] = [
+const USAGES: [(&[&str], u8, &str); 20] = [
     (&["acqd"], 2, "Usage: acqd <COMMAND>"),
     (&["acqd", "twice"], 2, "unrecognized subcommand 'twice'"),
     (
@@ -290,6 +292,8 @@ const USAGES: [(&[&str], u8, &str); 18] = [
     (&["acqd", "--version"], 0, "acqd 0.1.0"),
     (&["acqd", "once", "--help"], 0, "Usage: acqd once"),
     (&["acqd", "once", "--help"], 0, "acqd: 54 Write BYTES"),
+    (&["acqd", "once", "--help"], 0, "acqd: 23 BadLine RECORD"),
+    (&["acqd", "listen", "--help"], 0, "Usage: acqd listen"),
     (&["acqd", "help", "once"], 0, "Usage: acqd once"),
     (&["acqd", "show", "--help"], 0, "Usage: acqd show"),
     (
@@ -327,7 +331,7 @@ fn usage_and_help(rt: HostRuntime) -> Result<(), Fail> {
             &rt,
             alloc,
             args,
-            no_file(),
+            bare_machine(),
             &mut source,
             (&mut output, &mut faults),
         )?;
@@ -359,6 +363,7 @@ fn a_long_input_is_answered_whole(rt: HostRuntime) -> Result<(), Fail> {
         alloc,
         RandomState::new(&rt)?,
         &mut clock,
+        &mut NoIssuer,
         &mut source,
         &mut sink,
     )?;

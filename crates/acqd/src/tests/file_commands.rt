@@ -1,7 +1,7 @@
 //! Commands over the book of a file, through `command`: what they write of a book that stands ready,
 //! what they say where there is none, and their options.
 
-use super::book_at_hand::BookAtHand;
+use super::machine_at_hand::machine_with;
 use super::replay_command::{Run, runs_as, runs_over};
 use super::reports::{REVERSED_CLEARED, REVERSED_SALE, TWO_HOLDS, book_in_sql_after};
 use super::script_event::ScriptEvent;
@@ -39,10 +39,12 @@ const HOLDS: &[&str] = &[
 ];
 
 /// A sale as a frame, and the frame that answers it where no issuer can be reached.
-const SALE: &str = "\x00\x6202007220000000C0800016411111111111111100000000000000100005010930000000\
+pub(super) const SALE: &str =
+    "\x00\x6202007220000000C0800016411111111111111100000000000000100005010930000000\
 01TERM0001MERCHANT0000001978";
 
-const NOT_ANSWERED: &str = "\x00\x740210722200000AC08000164111111111111111000000000000001000050109\
+pub(super) const NOT_ANSWERED: &str =
+    "\x00\x740210722200000AC08000164111111111111111000000000000001000050109\
 3000000001050100000000000191TERM0001MERCHANT0000001978";
 
 /// The completion of the first hold, and its reply.
@@ -85,9 +87,9 @@ fn books_are_refused(rt: HostRuntime) -> Result<(), Fail> {
     let alloc = rt.alloc();
     for args in COMMANDS {
         for (fault, status, line) in REFUSALS {
-            let file = BookAtHand { book: Err(fault) };
+            let machine = machine_with(Err(fault));
             let run = Run { args, input: b"x" };
-            runs_over(&rt, alloc, file, run, (status, "", line))?;
+            runs_over(&rt, alloc, machine, run, (status, "", line))?;
         }
     }
     Ok(())
@@ -187,22 +189,49 @@ MERCHANTS 2
 fn commands_over_books(rt: HostRuntime) -> Result<(), Fail> {
     let alloc = rt.alloc();
     for (events, args, input, ended) in OVER_BOOKS {
-        let file = BookAtHand {
-            book: Ok(book_in_sql_after(alloc, events)?),
-        };
+        let machine = machine_with(Ok(book_in_sql_after(alloc, events)?));
         let run = Run {
             args,
             input: input.as_bytes(),
         };
-        runs_over(&rt, alloc, file, run, ended)?;
+        runs_over(&rt, alloc, machine, run, ended)?;
     }
     Ok(())
 }
 
 /// Arguments with a value out of its form, and the option that is told, before any file is opened.
-const BAD_VALUES: [(&[&str], &str); 11] = [
+const BAD_VALUES: [(&[&str], &str); 21] = [
     (&["once", "--at", "946684799"], "--at"),
     (&["once", "--db", "b", "--at", "x"], "--at"),
+    (&["once", "--issuers", "i", "--at", "x"], "--at"),
+    (&["listen", "--db", "b", "--port", "0"], "--port"),
+    (&["listen", "--db", "b", "--port", "65536"], "--port"),
+    (&["listen", "--db", "b", "--port", "000001"], "--port"),
+    (&["listen", "--db", "b", "--port", "+1"], "--port"),
+    (
+        &["listen", "--count", "0", "--db", "b", "--port", ""],
+        "--port",
+    ),
+    (
+        &[
+            "listen", "--db", "b", "--port", "1", "--count", "0", "--at", "x",
+        ],
+        "--count",
+    ),
+    (
+        &["listen", "--db", "b", "--port", "1", "--count", "1000000"],
+        "--count",
+    ),
+    (
+        &[
+            "listen", "--db", "b", "--port", "1", "--at", "x", "--idle", "x",
+        ],
+        "--at",
+    ),
+    (
+        &["listen", "--db", "b", "--port", "1", "--idle", "1000000"],
+        "--idle",
+    ),
     (
         &["init", "--db", "b", "--limit", "0", "--day", "x"],
         "--limit",

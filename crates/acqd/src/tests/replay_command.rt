@@ -1,6 +1,6 @@
 //! `acqd replay`: its lines, its bad lines and its options, through `command`.
 
-use super::book_at_hand::{BookAtHand, no_file, run_program};
+use super::machine_at_hand::{MachineAtHand, bare_machine, run_program};
 use acq_link::{MemorySink, SliceSource};
 use std::alloc::Global;
 use std::process::Abort;
@@ -102,7 +102,7 @@ pub(super) fn runs_as(
     output: &str,
     line: &str,
 ) -> Result<(), Fail> {
-    runs_over(rt, alloc, no_file(), run, (status, output, line))
+    runs_over(rt, alloc, bare_machine(), run, (status, output, line))
 }
 
 /// Runs the program over a book that stands ready, and compares its status, its output and its fault
@@ -110,7 +110,7 @@ pub(super) fn runs_as(
 pub(super) fn runs_over(
     rt: &(impl Abort + RandomSource),
     alloc: Global,
-    file: BookAtHand,
+    machine: MachineAtHand,
     run: Run<'_>,
     (status, output, line): (u8, &str, &str),
 ) -> Result<(), Fail> {
@@ -121,7 +121,7 @@ pub(super) fn runs_over(
         rt,
         alloc,
         run.args,
-        file,
+        machine,
         &mut source,
         (&mut sink, &mut faults),
     )?;

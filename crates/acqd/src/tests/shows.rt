@@ -1,6 +1,6 @@
 //! `acqd show`: messages as frames and as lines in hexadecimal, through `command`.
 
-use super::book_at_hand::{no_file, run_program};
+use super::machine_at_hand::{bare_machine, run_program};
 use acq_link::{MemorySink, SliceSource};
 use std::test::Fail;
 
@@ -102,7 +102,7 @@ fn messages_are_shown(rt: HostRuntime) -> Result<(), Fail> {
             &rt,
             alloc,
             args.as_slice(),
-            no_file(),
+            bare_machine(),
             &mut source,
             (&mut sink, &mut faults),
         )?;
@@ -134,7 +134,7 @@ fn each_write_fails_in_turn(rt: HostRuntime) -> Result<(), Fail> {
             &rt,
             alloc,
             &["acqd", "show"],
-            no_file(),
+            bare_machine(),
             &mut source,
             (&mut sink, &mut faults),
         )?;

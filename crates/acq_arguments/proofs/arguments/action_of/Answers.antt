@@ -2,7 +2,7 @@ use Rattle.std.proofs.Common.{◌≡◌, ◌∙◌, map, Some, [], codes, ap, sy
 use Rattle.std.proofs.lemmas.Result.{err_from_is_err_and}
 use Rattle.std.specs.Prelude.{Ok}
 use Rattle.clap.specs.Words.{App, HasKind, app_of, fault_of, found_of, is_simple_and_free, rows_of}
-use Rattle.acq_arguments.specs.Arguments.{AsksHolds, AsksInit, AsksOnce, AsksReplay, AsksReport, AsksShow}
+use Rattle.acq_arguments.specs.Arguments.{AsksHolds, AsksInit, AsksListen, AsksOnce, AsksReplay, AsksReport, AsksShow}
 use Rattle.acq_arguments.specs.declared.action.Action.TheVariants.{Show}
 use Rattle.acq_commands.specs.declared.input_form.InputForm.{InputForm}
 use Rattle.acq_commands.specs.declared.report_kind.ReportKind.TheVariants as kinds
@@ -104,9 +104,22 @@ returns-in-Some-show-default g c =
     let words = map g.W.AsStr.text c.args.args.now in
     let it = c.in-Some-show-default in
     let found = found_of it.options.now in
-    reads_command (codes "show") AsksShow (λ command asked h. inr (inr (inr (inr (inr (inr h)))))) words found
+    reads_command (codes "show") AsksShow (λ command asked h. inr (inr (inr (inr (inr (inr (inl h))))))) words found
     (subst (λ (a : App). fault_of a words ≡ []) made
     (c.in_ok-matches.ensures.kinds (ap is_simple_and_free made ∙ is_simple_and_free-program)))
     (named c.in_ok-matches.matches (app_of c.in_ok-program.field-0) words (codes "show") (rows_of found) made
     c.in_ok-matches.ensures.matches (ap Some (sym it.is-show) ∙ it.ensures.name) it.ensures.rows)
     (Ok (Show c.form_of.result)) (ap (λ (x : InputForm). Ok (Show x)) c.form_of.ensures)
+
+pub returns-in-Some-listen-default : goal.returns-in-Some-listen-default
+returns-in-Some-listen-default g c =
+    let made = c.in_ok-program.ensures in
+    let words = map g.W.AsStr.text c.args.args.now in
+    let it = c.in-Some-listen-default in
+    let found = found_of it.options.now in
+    reads_command (codes "listen") AsksListen (λ command asked h. inr (inr (inr (inr (inr (inr (inr h))))))) words found
+    (subst (λ (a : App). fault_of a words ≡ []) made
+    (c.in_ok-matches.ensures.kinds (ap is_simple_and_free made ∙ is_simple_and_free-program)))
+    (named c.in_ok-matches.matches (app_of c.in_ok-program.field-0) words (codes "listen") (rows_of found) made
+    c.in_ok-matches.ensures.matches (ap Some (sym it.is-listen) ∙ it.ensures.name) it.ensures.rows)
+    c.listen_of.result c.listen_of.ensures

@@ -5,7 +5,7 @@ use Rattle.acq_core.specs.Tables.{Tables}
 use Rattle.acq_commands.specs.declared.day_report.DayReport.{DayReport}
 use Rattle.acq_commands.specs.DayReports.{Takes, WritesReports, told}
 use Rattle.acq_commands.proofs.ReportsEnd.{ends_reports, still_after}
-use Rattle.acq_out.specs.Reads.{TakesAll}
+use Rattle.acq_link.specs.Moves.{TakesAll}
 use Rattle.acq_commands.proofs.replaying_in_memory.replay_to_reports.Goals as goal
 
 pub returns-clause-runs : goal.returns-clause-runs

@@ -1,0 +1,27 @@
+-- Connections served one after the other, and one more.
+use Rattle.std.proofs.Common.{◌≡◌, ℕ, List, [], ◌∷◌, ◌++◌, refl, subst}
+use Rattle.std.proofs.lemmas.List.Elements.{All-weaker}
+use Rattle.acq_message.specs.declared.verdict.Verdict.{Verdict}
+use Rattle.acq_core.specs.declared.query.Query.{Query}
+use Rattle.acq_core.specs.Tables.{Tables}
+use Rattle.acq_front.proofs.ServedWeaker.{serves_weaker}
+use Rattle.acq_front.specs.Talk.{Saying}
+use Rattle.acq_commands.specs.Listening.{Served, ServesOne, ServesEach}
+
+pub one_more : (may_give : ℕ → Type 0) (may_say : Saying) (old mid new : Tables) (all : List Served) (s : Served) →
+    ServesEach may_give may_say old mid all → ServesOne may_give may_say mid (Unit {0}) new s →
+    ServesEach may_give may_say old new (all ++ s ∷ [])
+one_more may_give may_say old mid new [] s same one =
+    (new, subst (λ (t : Tables). ServesOne may_give may_say t (Unit {0}) new s) same one, refl)
+one_more may_give may_say old mid new (first ∷ later) s so one =
+    (so.0, so.1, one_more may_give may_say so.0 mid new later s so.2 one)
+
+-- one connection, where clock and issuer might have given more, and the book stays open in fewer cases
+pub weaker_one : (later may_give : ℕ → Type 0) → ((m : ℕ) → later m → may_give m) →
+    (said may_say : Saying) → ((q : Query) (v : Verdict) → said q v → may_say q v) →
+    (stays still : Type 0) → (still → stays) → (old new : Tables) (s : Served) →
+    ServesOne later said old stays new s → ServesOne may_give may_say old still new s
+weaker_one later may_give f said may_say g stays still h old new s one = (
+  All-weaker later may_give f s.connection.moments one.0,
+  serves_weaker said may_say g stays still h old new s.connection s.ended one.1,
+)

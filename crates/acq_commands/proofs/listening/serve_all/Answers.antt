@@ -1,0 +1,68 @@
+use Rattle.std.proofs.Common.{[], ◌++◌, ◌∷◌, refl, sym, ◌∙◌, arith}
+use Rattle.std.proofs.lemmas.Result.{err_from_is_err_and}
+use Rattle.std.proofs.lemmas.List.{length_push}
+use Rattle.acq_commands.proofs.ConnectionsServed.{weaker_one, one_more}
+use Rattle.acq_commands.proofs.listening.serve_all.Goals as goal
+
+pub loop-init : goal.loop-init
+loop-init g c = (
+  (λ h o. ([], refl, refl, o)),
+  (λ h. h),
+  (λ q v said. said),
+  (λ m given. given),
+)
+
+pub loop-preserved : goal.loop-preserved
+loop-preserved g c =
+    let inv = c.loop.invariant in
+    let one = c.in_ok-serve_one.ensures in
+    let give = g.C.Clock.may_give c.args.clock.now in
+    let say = g.I.Issuer.may_say c.args.issuer.now in
+    let old = g.B.Book.tables c.args.host.now in
+    let mid = g.B.Book.tables c.loop.host in
+    let new = g.B.Book.tables c.serve_one.new.host in (
+      (λ h o.
+          let so = inv.0 (one.was_honest h) o in
+          let s = one.served h so.3 in
+          let still = one.stays_open h so.3 in (
+            so.0 ++ s.0 ∷ [],
+            (let size = length_push so.0 s.0 in omega (arith, size, so.1)),
+            one_more give say old mid new so.0 s.0 so.2
+                (weaker_one (g.C.Clock.may_give c.loop.clock) give inv.3 (g.I.Issuer.may_say c.loop.issuer) say inv.2
+                (g.B.Book.is_open c.serve_one.new.host) (Unit {0}) (λ u. still) mid new s.0 s.1),
+            still,
+          )),
+      (λ h. inv.1 (one.was_honest h)),
+      (λ q v said. inv.2 q v (one.said_later q v said)),
+      (λ m given. inv.3 m (one.given_later m given)),
+    )
+
+pub returns-in_err-serve_one : goal.returns-in_err-serve_one
+returns-in_err-serve_one g c = record {
+  served = λ h o.
+      let p = err_from_is_err_and c.from_residual.result c.from_residual.ensures.1 in
+      let inv = c.loop.invariant in
+      let one = c.in_err-serve_one.ensures in
+      let give = g.C.Clock.may_give c.args.clock.now in
+      let say = g.I.Issuer.may_say c.args.issuer.now in
+      let mid = g.B.Book.tables c.loop.host in
+      let new = g.B.Book.tables c.serve_one.new.host in
+      let still = g.B.Book.is_open c.serve_one.new.host in
+      let so = inv.0 (one.was_honest h) o in
+      let s = one.served h so.3 in
+      rw (p.1, p.2) (
+        so.0,
+        s.0,
+        mid,
+        so.2,
+        weaker_one (g.C.Clock.may_give c.loop.clock) give inv.3 (g.I.Issuer.may_say c.loop.issuer) say inv.2 still still (λ u. u) mid new s.0 s.1,
+        sym s.2,
+      );
+}
+
+pub returns : goal.returns
+returns g c = record {
+  served = λ h o.
+      let so = c.loop.invariant.0 h o in
+      (so.0, (let size = so.1 in omega (arith, size)), so.2);
+}

@@ -1,0 +1,21 @@
+//! What is asked of connections that are served.
+
+use acq_core::Moment;
+
+/// Connections that are served over a book.
+#[derive(Debug, Drop)]
+pub struct ListenOptions {
+    /// The path of the book's file.
+    pub path: String,
+    /// The port that is listened on.
+    pub port: u16,
+    /// How many connections are served.
+    pub count: u64,
+    /// For how many seconds a connection may be silent before it is closed; 0 for as long as it
+    /// likes.
+    pub idle: u64,
+    /// The path of the file that says what issuers answer; without one no issuer can be reached.
+    pub issuers: Option<String>,
+    /// The moment at which all frames come; without one it is the clock's.
+    pub moment: Option<Moment>,
+}

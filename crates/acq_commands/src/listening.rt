@@ -1,0 +1,106 @@
+//! Connections served one after the other.
+
+ghost use Rattle.std.specs.Prelude.{◌≡◌, ℕ, OnOk};
+ghost use Rattle.acq_core.specs.Pasts.{HasPast};
+ghost use Rattle.acq_commands.specs.Listening.{Served, ServesConnections, ServesOne, going_on};
+
+use crate::fault::Fault;
+use crate::text_sink::TextSink;
+use acq_book::Book;
+use acq_core::{Query, Verdict};
+use acq_front::{Clock, Connections, FrontFault, Issuer};
+use acq_host::Host;
+use acq_link::Sink;
+use std::alloc::Global;
+use std::fmt::Write;
+
+/// Serves so many connections over a book, one after the other. A connection's fault is a line of
+/// `faults`, and the next one is served; want of memory and a fault of the store end it. The book
+/// is given back at the end.
+pub fn listen_on<B: Book + Drop, N: Connections, C: Clock, I: Issuer, F: Sink>(
+    alloc: Global,
+    book: B,
+    connections: &mut N,
+    count: u64,
+    clock: &mut C,
+    issuer: &mut I,
+    faults: &mut F,
+) -> Result<(), Fault>
+    requires past { B.is_open book → HasPast (B.tables book) }
+    // How they were served, over the book that is left.
+    ensures served { (left : B) × (B.is_honest left → B.is_open book
+        → ServesConnections (C.may_give clock.old) (I.may_say issuer.old) (B.tables book)
+        (B.is_open left) (B.tables left) count result) }
+{
+    let mut host = Host::new(alloc, book);
+    let ended = serve_all(alloc, &mut host, connections, count, clock, issuer, faults);
+    drop(host);
+    ended
+}
+
+/// Serves so many connections over a host.
+fn serve_all<B: Book + Drop, N: Connections, C: Clock, I: Issuer, F: Sink>(
+    alloc: Global,
+    host: &mut Host<B>,
+    connections: &mut N,
+    count: u64,
+    clock: &mut C,
+    issuer: &mut I,
+    faults: &mut F,
+) -> Result<(), Fault>
+    ensures served { B.is_honest host.new → B.is_open host.old
+        → ServesConnections (C.may_give clock.old) (I.may_say issuer.old) (B.tables host.old)
+        (B.is_open host.new) (B.tables host.new) count result }
+{
+    for _ in 0..count {
+        serve_one(alloc, host, connections, clock, issuer, faults)?;
+    }
+    Ok(())
+}
+
+/// Serves one connection over a host, and tells its fault.
+fn serve_one<B: Book + Drop, N: Connections, C: Clock, I: Issuer, F: Sink>(
+    alloc: Global,
+    host: &mut Host<B>,
+    connections: &mut N,
+    clock: &mut C,
+    issuer: &mut I,
+    faults: &mut F,
+) -> Result<(), Fault>
+    ensures served { B.is_honest host.new → B.is_open host.old → (s : Served)
+        × ServesOne (C.may_give clock.old) (I.may_say issuer.old) (B.tables host.old)
+        (B.is_open host.new) (B.tables host.new) s
+        × (result ≡ going_on s.ended) }
+    ensures was_honest { B.is_honest host.new → B.is_honest host.old }
+    ensures stays_open { B.is_honest host.new → B.is_open host.old
+        → OnOk result (B.is_open host.new) }
+    ensures said_later { (q : Query) (v : Verdict) → I.may_say issuer.new q v
+        → I.may_say issuer.old q v }
+    ensures given_later { (m : ℕ) → C.may_give clock.new m → C.may_give clock.old m }
+{
+    let ended = connections.serve_next(alloc, host, clock, issuer);
+    tell(&ended, faults);
+    going_on(ended)
+}
+
+/// What a connection's end is for the program: want of memory and the store's fault end it, and no
+/// other fault does.
+fn going_on(ended: Result<(), FrontFault>) -> Result<(), Fault>
+    ensures { result ≡ going_on ended }
+{
+    match ended {
+        Err(FrontFault::Memory) => Err(Fault::Memory),
+        Err(FrontFault::Store) => Err(Fault::Store),
+        Ok(()) | Err(_) => Ok(()),
+    }
+}
+
+/// Tells a fault that doesn't end the program.
+fn tell<F: Sink>(ended: &Result<(), FrontFault>, faults: &mut F) {
+    match ended {
+        Ok(()) | Err(FrontFault::Memory | FrontFault::Store) => {}
+        Err(fault) => {
+            let _ = writeln!(TextSink::new(faults), "acqd: {fault}");
+        }
+    }
+}

@@ -1,0 +1,12 @@
+use Rattle.acq_conversation.proofs.Following.{follows_none, follows_fed, follows_written, follows_took, tables_more, follows_other}
+use Rattle.acq_conversation.proofs.laws.conversations_follow.Goals as goal
+
+pub returns : goal.returns
+returns c = record {
+  nothing = follows_none;
+  fed = follows_fed;
+  written = follows_written;
+  took = follows_took;
+  tables = tables_more;
+  other = follows_other;
+}

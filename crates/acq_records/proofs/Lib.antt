@@ -1,0 +1,3 @@
+pub mod RecordFields
+pub mod RecordsRead
+pub mod EachRecord

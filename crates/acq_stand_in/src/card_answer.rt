@@ -1,0 +1,27 @@
+//! What the issuer of one card answers.
+
+ghost use Rattle.std.specs.Prelude.{◌≡◌};
+ghost use Rattle.acq_stand_in.specs.Answers.{is_for};
+
+use acq_core::Verdict;
+use card_no::CardNumber;
+
+/// What the issuer of one card answers, as a record of the stand-in file says.
+#[derive(Clone, Copy, Debug, Drop)]
+pub struct CardAnswer {
+    /// The card. Where the record's text is no valid card number, it is no request's card.
+    pub card: Option<CardNumber>,
+    pub verdict: Verdict,
+}
+
+impl CardAnswer {
+    /// Whether it is for this card.
+    pub(crate) fn is_for(&self, card: &CardNumber) -> bool
+        ensures { result ≡ is_for card.now self.now }
+    {
+        match &self.card {
+            Some(own) => own.digits() == card.digits(),
+            None => false,
+        }
+    }
+}

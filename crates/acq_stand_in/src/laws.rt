@@ -1,0 +1,34 @@
+//! Worked rows of the definitions.
+
+ghost use Rattle.std.specs.Prelude.{◌≡◌, [], ◌∷◌, ◌++◌, None, Ok, Err, codes};
+ghost use Rattle.acq_stand_in.specs.Answers.{answers_of_text, verdict_for};
+ghost use Rattle.acq_stand_in.specs.Worked.{approving, declining, silent, of_no_card};
+
+/// Files, computed.
+pub fn worked_files()
+    ensures empty { answers_of_text [] ≡ Ok [] }
+    ensures approved { answers_of_text (codes "4111111111111111,approved,A1B2C3\n")
+        ≡ Ok (approving ∷ []) }
+    ensures three { answers_of_text (codes "4111111111111111,approved,A1B2C3\r\n"
+        ++ codes "5500005555555559,declined,51\n5500005555555559,none,")
+        ≡ Ok (approving ∷ declining ∷ silent ∷ []) }
+    ensures no_card { answers_of_text (codes "4111111111111112,declined,51\n")
+        ≡ Ok (of_no_card ∷ []) }
+    ensures two_fields { answers_of_text (codes "4111111111111111,none\n") ≡ Err 1 }
+    ensures four_fields { answers_of_text (codes "4111111111111111,none,,\n") ≡ Err 1 }
+    ensures code_00 { answers_of_text
+        (codes "4111111111111111,approved,A1B2C3\n4111111111111111,declined,00\n") ≡ Err 2 }
+    ensures short_id { answers_of_text (codes "4111111111111111,approved,A1B2C\n") ≡ Err 1 }
+    ensures text { answers_of_text (codes "4111111111111111,none,91\n") ≡ Err 1 }
+    ensures word { answers_of_text (codes "4111111111111111,Approved,A1B2C3\n") ≡ Err 1 }
+{}
+
+/// Verdicts, computed: the first answer for the card decides.
+pub fn worked_verdicts()
+    ensures approved { verdict_for (approving ∷ declining ∷ []) (codes "4111111111111111")
+        ≡ approving.verdict }
+    ensures first { verdict_for (declining ∷ silent ∷ []) (codes "5500005555555559")
+        ≡ declining.verdict }
+    ensures other { verdict_for (of_no_card ∷ declining ∷ []) (codes "4111111111111111")
+        ≡ silent.verdict }
+{}

@@ -1,0 +1,87 @@
+//! The stand-in itself.
+
+ghost use Rattle.std.specs.Prelude.{◌≡◌, ◌+◌, ◌++◌, ℕ, List, Ok, Err, IsErrOf, MatchResult, OnOk};
+ghost use Rattle.std.specs.Prelude.{find};
+ghost use Rattle.std.specs.Option.{option_copied};
+ghost use Rattle.acq_link.specs.Moves.{TakesAll};
+ghost use Rattle.acq_records.specs.Faults.{failed_reads};
+ghost use Rattle.acq_records.specs.Reads.{ReadsValues};
+ghost use Rattle.acq_records.specs.declared.record_fault.RecordFault.TheVariants.{BadRecord};
+ghost use Rattle.acq_stand_in.specs.Answers.{answer_of_fields, is_for, verdict_for};
+
+use crate::answer_form::AnswerForm;
+use crate::card_answer::CardAnswer;
+use acq_core::{Query, Verdict};
+use acq_front::Issuer;
+use acq_link::Source;
+use acq_records::{RecordFault, read_records};
+use card_no::CardNumber;
+use std::alloc::Global;
+use std::marker::Model;
+
+/// The stand-in for issuers: it answers each query by the first record of its file that names the
+/// card, and gives no answer where none does.
+#[derive(Drop)]
+pub struct StandIn {
+    answers: Vec<CardAnswer>,
+}
+
+impl Model for StandIn {
+    ghost use Rattle.std.specs.Prelude.{List};
+    ghost use Rattle.acq_stand_in.specs.declared.card_answer.CardAnswer.{CardAnswer};
+
+    ghost Value = { List CardAnswer };
+
+    ghost view = { λ s. s.answers.items };
+}
+
+impl StandIn {
+    /// Reads the whole file: CSV with no header line, a record `card,verdict,text` for each card
+    /// (own profile; `specs/Answers.antt`). `BadRecord` names the first record out of its form,
+    /// counted from 1.
+    pub fn read<S: Source>(alloc: Global, file: &mut S) -> Result<StandIn, RecordFault>
+        // What was read, and what it gave.
+        ensures read { (bytes : List ℕ)
+            × (S.received file.new ≡ S.received file.old ++ bytes)
+            × MatchResult result
+            (λ answers. ReadsValues answer_of_fields bytes (Ok answers))
+            (λ fault. ReadsValues answer_of_fields bytes (Err fault)) }
+        // Where it is given, or a record is bad, the whole file was read.
+        ensures whole { OnOk result
+            (TakesAll (S.remaining file.old) (S.received file.old) (S.received file.new)) }
+        ensures whole_at_bad_record { (n : ℕ) → IsErrOf result (BadRecord n)
+            → TakesAll (S.remaining file.old) (S.received file.old) (S.received file.new) }
+        // A fault of reading comes just where a read failed.
+        ensures failures { S.failures file.new ≡ S.failures file.old + failed_reads result }
+    {
+        let answers = read_records(alloc, &AnswerForm, file)?;
+        Ok(StandIn { answers })
+    }
+
+    /// The verdict for a card. It goes over the answers, and takes no memory.
+    pub fn verdict_for(&self, card: &CardNumber) -> Verdict
+        ensures { result ≡ verdict_for self.now card.now }
+    {
+        match self.first_for(card) {
+            Some(answer) => answer.verdict,
+            None => Verdict::NoAnswer,
+        }
+    }
+
+    /// The first answer for a card, if there is one.
+    fn first_for(&self, card: &CardNumber) -> Option<&CardAnswer>
+        ensures { option_copied result ≡ find (is_for card.now) self.now }
+    {
+        self.answers.iter().find(|answer| answer.is_for(card))
+    }
+}
+
+impl Issuer for StandIn {
+    ghost use Rattle.acq_stand_in.specs.Answers.{says_by};
+
+    ghost may_say = { says_by };
+
+    fn answer(&mut self, query: &Query) -> Verdict {
+        self.verdict_for(&query.card)
+    }
+}

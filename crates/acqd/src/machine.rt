@@ -1,0 +1,53 @@
+//! What a command finds on its machine.
+
+ghost use Rattle.std.specs.Prelude.{◌≡◌};
+ghost use Rattle.acqd.specs.BookFiles.{of_opening};
+
+use acq_commands::Fault;
+use acq_core::Limit;
+use acq_front::Connections;
+use acq_sql::{OpeningFault, SqlBook};
+use acq_stand_in::StandIn;
+use day_totals::Day;
+use sqlite::Alter;
+use std::alloc::Global;
+
+/// What a command finds on its machine: files, by their paths, and ports. `S` is what keeps a book.
+pub trait Machine<S: Alter>: Sized {
+    ghost use Rattle.std.specs.Prelude.{IfErr};
+    ghost use Rattle.acq_commands.specs.declared.fault.Fault.TheVariants.{Read};
+    ghost use Rattle.acq_commands.specs.Faults.{IsOfAnswers};
+    ghost use Rattle.acqd.specs.BookFiles.{IsOpening};
+
+    /// The connections that come in at a port.
+    type Connections: Connections + Drop;
+
+    /// Opens the book in the file at a path.
+    fn open_book(self, path: &str) -> Result<SqlBook<S>, Fault>
+        ensures { IfErr result IsOpening };
+
+    /// Makes a new book in the file at a path, where there is none yet.
+    fn make_book(self, path: &str, limit: Limit, first_day: Day) -> Result<SqlBook<S>, Fault>
+        ensures { IfErr result IsOpening };
+
+    /// Reads the file of issuers' answers at a path.
+    fn read_answers(&self, alloc: Global, path: &str) -> Result<StandIn, Fault>
+        ensures { IfErr result IsOfAnswers };
+
+    /// Listens at a port. A connection that is silent for so many seconds is closed as a failed
+    /// read, and for 0 none is.
+    fn listen_at(&self, port: u16, idle: u64) -> Result<Self::Connections, Fault>
+        ensures { IfErr result (λ fault. fault ≡ Read) };
+}
+
+/// The refusal of a book, as the command tells it.
+pub fn fault_of_opening(cause: OpeningFault) -> Fault
+    ensures { result ≡ of_opening cause }
+{
+    match cause {
+        OpeningFault::Memory => Fault::Memory,
+        OpeningFault::Store => Fault::Store,
+        OpeningFault::NotABook => Fault::NotABook,
+        OpeningFault::OtherVersion(version) => Fault::OtherVersion(version),
+    }
+}

@@ -1,0 +1,68 @@
+//! The machine that the program runs on.
+
+use crate::machine::{Machine, fault_of_opening};
+use crate::open_book::{make_book, open_book};
+use crate::tcp_connections::TcpConnections;
+use acq_commands::Fault;
+use acq_core::Limit;
+use acq_link::ReadSource;
+use acq_sql::SqlBook;
+use acq_stand_in::StandIn;
+use day_totals::Day;
+use sqlite_disk::Start;
+use sqlite_std_file::FileFrom;
+use sqlite_store::FileStore;
+use std::alloc::Global;
+use std::fs::File;
+use std::net::{Ipv4Addr, TcpListener};
+
+/// The machine that the program runs on; `D` says what the book's file holds before it is opened.
+#[derive(Drop)]
+pub struct ThisMachine<'a, D: Start> {
+    rt: &'a HostRuntime,
+    start: D,
+}
+
+impl<'a, D: Start> ThisMachine<'a, D> {
+    /// The machine of this runtime.
+    pub fn new(rt: &'a HostRuntime, start: D) -> ThisMachine<'a, D> {
+        ThisMachine { rt, start }
+    }
+}
+
+impl<D: Start> Machine<FileStore<FileFrom<D>>> for ThisMachine<'_, D> {
+    type Connections = TcpConnections;
+
+    fn open_book(self, path: &str) -> Result<SqlBook<FileStore<FileFrom<D>>>, Fault> {
+        match open_book(self.rt, path, self.start) {
+            Ok(book) => Ok(book),
+            Err(cause) => Err(fault_of_opening(cause)),
+        }
+    }
+
+    fn make_book(
+        self,
+        path: &str,
+        limit: Limit,
+        first_day: Day,
+    ) -> Result<SqlBook<FileStore<FileFrom<D>>>, Fault> {
+        match make_book(self.rt, path, self.start, limit, first_day) {
+            Ok(book) => Ok(book),
+            Err(cause) => Err(fault_of_opening(cause)),
+        }
+    }
+
+    fn read_answers(&self, alloc: Global, path: &str) -> Result<StandIn, Fault> {
+        let Ok(file) = File::open(self.rt, path) else {
+            return Err(Fault::Read);
+        };
+        Ok(StandIn::read(alloc, &mut ReadSource::new(file))?)
+    }
+
+    fn listen_at(&self, port: u16, idle: u64) -> Result<TcpConnections, Fault> {
+        match TcpListener::bind(self.rt, (Ipv4Addr::LOCALHOST, port)) {
+            Ok(listener) => Ok(TcpConnections::new(listener, idle)),
+            Err(_) => Err(Fault::Read),
+        }
+    }
+}
