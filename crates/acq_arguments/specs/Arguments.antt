@@ -40,6 +40,7 @@ name_of_option option.At = codes "--at"
 name_of_option option.Port = codes "--port"
 name_of_option option.Count = codes "--count"
 name_of_option option.Idle = codes "--idle"
+name_of_option option.Together = codes "--together"
 name_of_option (option.Report kinds.Clearing) = codes "--clearing"
 name_of_option (option.Report kinds.Settlement) = codes "--report"
 
@@ -57,6 +58,7 @@ pub record OptionTexts : Type 0 where
   pub port : Option Text
   pub count : Option Text
   pub idle : Option Text
+  pub together : Option Text
 
 -- all values of an option
 abbrev pub values_of : Text → List Row → List Text
@@ -77,6 +79,7 @@ option_texts rows = record {
   port = first_of (codes "port") rows;
   count = first_of (codes "count") rows;
   idle = first_of (codes "idle") rows;
+  together = first_of (codes "together") rows;
 }
 
 -- all values of an option, as they were found
@@ -98,6 +101,7 @@ found_texts found = record {
   port = first_value found (codes "port");
   count = first_value found (codes "count");
   idle = first_value found (codes "idle");
+  together = first_value found (codes "together");
 }
 
 -- ---- the value of an option, or the name of the option where it has none in its form
@@ -134,6 +138,10 @@ count_of_text text = number_of_text 6 1 999999 text
 -- a number of seconds, 0 to 999,999
 abbrev pub seconds_of_text : Text → Option ℕ
 seconds_of_text text = number_of_text 6 0 999999 text
+
+-- how many connections are served at once, 2 to 1,024
+abbrev pub together_of_text : Text → Option ℕ
+together_of_text text = number_of_text 4 2 1024 text
 
 -- the path of a book's file
 abbrev pub FileIs : OptionTexts → Result (String Global) OptionName → Type 0
@@ -197,6 +205,14 @@ idle_if_there (Some text) = ok_or (seconds_of_text text) option.Idle
 abbrev pub IdleIs : OptionTexts → Result ℕ OptionName → Type 0
 IdleIs texts read = read ≡ idle_if_there texts.idle
 
+-- so many connections at once: without the option 1
+abbrev pub together_if_there : Option Text → Result ℕ OptionName
+together_if_there None = Ok 1
+together_if_there (Some text) = ok_or (together_of_text text) option.Together
+
+abbrev pub TogetherIs : OptionTexts → Result ℕ OptionName → Type 0
+TogetherIs texts read = read ≡ together_if_there texts.together
+
 -- a report of a kind on a day
 abbrev pub report_on : ReportKind → ℕ → DayReport
 report_on kind day = record { kind = kind; day = day }
@@ -258,19 +274,24 @@ abbrev pub AsksOnce : OptionTexts → Result Action OptionName → Type 0
 AsksOnce texts = Then (MomentIfThere texts) (IsOnce texts.db texts.issuers)
 
 -- so many connections on this port over this book, with this file of issuers' answers, at this
--- moment, each closed after so many seconds of silence
-abbrev pub IsListen
-    : String Global → ℕ → ℕ → Option Text → Option ℕ → ℕ → Result Action OptionName → Type 0
-IsListen path port count issuers moment idle (Ok (Listen asked)) =
+-- moment, each closed after so many seconds of silence, so many of them at once
+abbrev pub IsListen : String Global → ℕ → ℕ → Option Text → Option ℕ → ℕ → ℕ →
+    Result Action OptionName → Type 0
+IsListen path port count issuers moment idle together (Ok (Listen asked)) =
     (asked.path ≡ path) × (asked.port ≡ port) × (asked.count ≡ count)
     × (option_map string_bytes asked.issuers ≡ issuers) × (asked.moment ≡ moment)
-    × (asked.idle ≡ idle)
-IsListen path port count issuers moment idle other = ⊥
+    × (asked.idle ≡ idle) × (asked.together ≡ together)
+IsListen path port count issuers moment idle together other = ⊥
+
+abbrev pub ListenBeside : OptionTexts → String Global → ℕ → ℕ → Option ℕ → ℕ →
+    Result Action OptionName → Type 0
+ListenBeside texts path port count moment idle =
+    Then (TogetherIs texts) (IsListen path port count texts.issuers moment idle)
 
 abbrev pub ListenAt
     : OptionTexts → String Global → ℕ → ℕ → Option ℕ → Result Action OptionName → Type 0
 ListenAt texts path port count moment =
-    Then (IdleIs texts) (IsListen path port count texts.issuers moment)
+    Then (IdleIs texts) (ListenBeside texts path port count moment)
 
 abbrev pub ListenFor
     : OptionTexts → String Global → ℕ → ℕ → Result Action OptionName → Type 0
@@ -282,8 +303,8 @@ ListenOn texts path port = Then (CountIs texts) (ListenFor texts path port)
 abbrev pub ListenIn : OptionTexts → String Global → Result Action OptionName → Type 0
 ListenIn texts path = Then (PortIs texts) (ListenOn texts path)
 
--- what `listen` is asked for: the file first, then the port, how many connections, the moment and
--- the seconds of silence
+-- what `listen` is asked for: the file first, then the port, how many connections, the moment, the
+-- seconds of silence and how many at once
 abbrev pub AsksListen : OptionTexts → Result Action OptionName → Type 0
 AsksListen texts = Then (FileIs texts) (ListenIn texts)
 

@@ -34,12 +34,15 @@ once =
     with_rule (with_rule (with_rule (new_app (codes "once"))
     (option (codes "db"))) (option (codes "issuers"))) (option (codes "at"))
 
--- `listen --db FILE --port P [--count N] [--issuers FILE] [--at MOMENT] [--idle SECONDS]`
+-- `listen --db FILE --port P [--count N] [--issuers FILE] [--at MOMENT] [--idle SECONDS]
+-- [--together M]`
 abbrev pub listen : App
 listen =
-    with_rule (with_rule (with_rule (with_rule (with_rule (with_rule (new_app (codes "listen"))
+    with_rule (with_rule (with_rule (with_rule (with_rule (with_rule (with_rule
+    (new_app (codes "listen"))
     (required (codes "db"))) (required (codes "port"))) (option (codes "count")))
-    (option (codes "issuers"))) (option (codes "at"))) (option (codes "idle"))
+    (option (codes "issuers"))) (option (codes "at"))) (option (codes "idle")))
+    (option (codes "together"))
 
 -- `replay [--db FILE] [--limit N] [--day DAY] [--clearing DAY].. [--report DAY]..`
 abbrev pub replay : App

@@ -5,12 +5,12 @@ ghost use Rattle.clap.specs.Words.{first_value, found_of};
 ghost use Rattle.acq_arguments.specs.Arguments.{AsksHolds, AsksInit, AsksListen, AsksOnce};
 ghost use Rattle.acq_arguments.specs.Arguments.{AsksReplay, AsksReport, CountIs, DayIs, FileIs};
 ghost use Rattle.acq_arguments.specs.Arguments.{IdleIs, IsNoMemory, LimitIs, MerchantIs};
-ghost use Rattle.acq_arguments.specs.Arguments.{MomentIfThere, MomentIs, PortIs, Reads};
+ghost use Rattle.acq_arguments.specs.Arguments.{MomentIfThere, MomentIs, PortIs, Reads, TogetherIs};
 ghost use Rattle.acq_arguments.specs.Arguments.{ReadsArguments, form_of_flag, found_texts};
 
 use crate::action::Action;
 use crate::option_name::OptionName;
-use crate::options::{count_of, limit_of, port_of, seconds_of};
+use crate::options::{count_of, limit_of, port_of, seconds_of, together_of};
 use crate::program::program;
 use crate::usage_fault::UsageFault;
 use crate::wanted_reports::add_reports;
@@ -84,11 +84,13 @@ fn listen_of(alloc: Global, options: &ArgMatches) -> Result<Action, UsageFault>
     let count = count_option(options)?;
     let moment = moment_if_there(options)?;
     let idle = idle_option(options)?;
+    let together = together_option(options)?;
     let issuers = issuers_option(alloc, options)?;
     Ok(Action::Listen(ListenOptions {
         path,
         port,
         count,
+        together,
         idle,
         issuers,
         moment,
@@ -259,6 +261,16 @@ fn idle_option(options: &ArgMatches) -> Result<u64, UsageFault>
     match options.get_str("idle") {
         Some(text) => seconds_of(text).ok_or(UsageFault::BadValue(OptionName::Idle)),
         None => Ok(USUAL_IDLE),
+    }
+}
+
+/// How many connections are to be served at once: without the option 1.
+fn together_option(options: &ArgMatches) -> Result<usize, UsageFault>
+    ensures { Reads (TogetherIs (found_texts (found_of options.now))) result }
+{
+    match options.get_str("together") {
+        Some(text) => together_of(text).ok_or(UsageFault::BadValue(OptionName::Together)),
+        None => Ok(1),
     }
 }
 

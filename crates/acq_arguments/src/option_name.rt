@@ -22,6 +22,8 @@ pub enum OptionName {
     Count,
     /// For how many seconds a connection may be silent.
     Idle,
+    /// How many connections are served at once.
+    Together,
     /// A day of which a report is asked for.
     Report(ReportKind),
 }
@@ -42,6 +44,7 @@ impl fmt::Display for OptionName {
             OptionName::Port => write!(f, "--port"),
             OptionName::Count => write!(f, "--count"),
             OptionName::Idle => write!(f, "--idle"),
+            OptionName::Together => write!(f, "--together"),
             OptionName::Report(ReportKind::Clearing) => write!(f, "--clearing"),
             OptionName::Report(ReportKind::Settlement) => write!(f, "--report"),
         }

@@ -2,7 +2,7 @@
 
 ghost use Rattle.std.specs.Prelude.{◌≡◌, ◌≤◌, IfSome};
 ghost use Rattle.acq_arguments.specs.Arguments.{count_of_text, limit_of_text, number_of_text};
-ghost use Rattle.acq_arguments.specs.Arguments.{port_of_text, seconds_of_text};
+ghost use Rattle.acq_arguments.specs.Arguments.{port_of_text, seconds_of_text, together_of_text};
 
 use acq_core::Limit;
 use acq_message::digits_value;
@@ -22,6 +22,15 @@ const GREATEST_PORT: u64 = 65_535;
 
 /// The greatest number of connections, or of seconds.
 const GREATEST_COUNT: u64 = 999_999;
+
+/// The most digits of how many connections are served at once.
+const MOST_TOGETHER_DIGITS: usize = 4;
+
+/// The fewest connections that are served at once.
+const LEAST_TOGETHER: u64 = 2;
+
+/// The most connections that are served at once.
+const GREATEST_TOGETHER: u64 = 1_024;
 
 /// The limit that a text spells: one to six digits, 1 to 999,999 (own profile).
 pub(crate) fn limit_of(text: &str) -> Option<Limit>
@@ -54,6 +63,19 @@ pub(crate) fn seconds_of(text: &str) -> Option<u64>
     ensures { result ≡ seconds_of_text text.now }
 {
     number_of(text, MOST_COUNT_DIGITS, 0, GREATEST_COUNT)
+}
+
+/// How many connections a text has served at once: one to four digits, 2 to 1,024 (own profile).
+pub(crate) fn together_of(text: &str) -> Option<usize>
+    ensures { result ≡ together_of_text text.now }
+{
+    let number = number_of(
+        text,
+        MOST_TOGETHER_DIGITS,
+        LEAST_TOGETHER,
+        GREATEST_TOGETHER,
+    )?;
+    Some(number as usize)
 }
 
 /// The number that a text spells in so many digits at most, from the least to the greatest.

@@ -63,18 +63,19 @@ Example: an echo test
   printf '\\000\\067%s' 0800822000000000000004000000000000000101120000000001301 |
       acqd once | od -c";
 
-const ABOUT_LISTEN: &str = "Answers the frames of connections over TCP, one after the other";
+const ABOUT_LISTEN: &str = "Answers the frames of connections over TCP";
 
 const MORE_OF_LISTEN: &str = "\
 Connections are taken on 127.0.0.1 at this port, so that a proxy on the same machine can stand in
 front. The frames of each are answered as `once` answers those on standard input; then the next one
-is served. What they change is in the file before the reply goes out; a stop at any moment leaves
-all events so far.
+is served. With --together M, up to M connections are served at once, one message of each in turn, so
+that none waits for another one's bytes. What they change is in the file before the reply goes out; a
+stop at any moment leaves all events so far.
 
 A connection that is silent for SECONDS, or takes nothing of a reply for so long, is closed as one
 whose read or write failed. A connection's fault is one line on standard error, and the next one is
-served; 1 and 2 end the program. The status is 0 where all connections were served, 1 for another fault, 2 for wrong usage,
-3 where memory ran out or the file failed:
+served; 1 and 2 end the program. The status is 0 where all connections were served, 1 for another
+fault, 2 for wrong usage, 3 where memory ran out or the file failed:
   acqd: 1 Memory
   acqd: 2 Store                    the file can't be opened, read or written
   acqd: 23 BadLine RECORD          this record of the issuers' file is out of its form
@@ -285,6 +286,13 @@ fn listen_command<'a>(alloc: Global) -> Result<Command<'a>, AllocError>
         "How long a connection may be silent, 0 to 999999, 0 for ever [default: 60]",
         ArgAction::Set,
     );
+    let together = option_with_value(
+        alloc,
+        "together",
+        "M",
+        "How many connections are served at once, 2 to 1024 [default: 1]",
+        ArgAction::Set,
+    );
     Command::new(alloc, "listen")
         .about(ABOUT_LISTEN)
         .after_help(MORE_OF_LISTEN)
@@ -293,7 +301,8 @@ fn listen_command<'a>(alloc: Global) -> Result<Command<'a>, AllocError>
         .arg(count)?
         .arg(issuers)?
         .arg(moment)?
-        .arg(idle)
+        .arg(idle)?
+        .arg(together)
 }
 
 fn replay_command<'a>(alloc: Global) -> Result<Command<'a>, AllocError>

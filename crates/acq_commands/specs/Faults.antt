@@ -1,5 +1,5 @@
 -- The faults' numbers and texts, and the statuses that the program ends with.
-use Rattle.std.specs.Prelude.{◌≡◌, ℕ, List, ◌++◌, [], codes, Result, Ok, Err}
+use Rattle.std.specs.Prelude.{◌≡◌, ◌⊎◌, ℕ, List, ◌++◌, [], codes, Result, Ok, Err}
 use Rattle.std.specs.Fmt.{decimal}
 use Rattle.iso_codec.specs.FaultTexts.{number_of_fault, element_of_fault}
 use Rattle.acq_book.specs.declared.book_fault.BookFault as book
@@ -122,6 +122,10 @@ of_answers (records.TheVariants.BadRecord n) = BadAnswer n
 -- why that file gave no answers, as the command tells it
 abbrev pub IsOfAnswers : Fault → Type 0
 IsOfAnswers fault = (cause : records.RecordFault) × (fault ≡ of_answers cause)
+
+-- why connections can't be had at a port: for want of memory, or by the system
+abbrev pub IsOfGathering : Fault → Type 0
+IsOfGathering fault = (fault ≡ Memory) ⊎ (fault ≡ Read)
 
 -- what a fault of a report is
 abbrev pub of_report : report.ReportFault → Fault

@@ -1,7 +1,8 @@
 -- Connections that are served one after the other.
 use Rattle.std.specs.Prelude.{◌≡◌, ℕ, List, [], ◌∷◌, length, Result, Ok, Err}
 use Rattle.std.specs.List.{All}
-use Rattle.acq_core.specs.Tables.{Tables}
+use Rattle.acq_core.specs.declared.event.Event.{Event}
+use Rattle.acq_core.specs.Tables.{Tables, tables_after}
 use Rattle.acq_front.specs.Serving.{Connection, Serves}
 use Rattle.acq_front.specs.Talk.{Saying}
 use Rattle.acq_front.specs.declared.front_fault.FrontFault as front
@@ -38,3 +39,13 @@ module _ (may_give : ℕ → Type 0) (may_say : Saying) where
   ServesConnections old stays_open new count (Err fault) =
       (before : List Served) × (last : Served) × (mid : Tables) × ServesEach old mid before
       × ServesOne mid stays_open new last × (going_on last.ended ≡ Err fault)
+
+-- these tables are those after some events
+abbrev pub Reached : Tables → Tables → Type 0
+Reached old new = (events : List Event) × (new ≡ tables_after old events)
+
+-- they are, where neither memory nor the store stopped the program
+abbrev pub ReachedUnlessRefused : Tables → Tables → Result (Unit {0}) Fault → Type 0
+ReachedUnlessRefused old new (Err Memory) = Unit {0}
+ReachedUnlessRefused old new (Err Store) = Unit {0}
+ReachedUnlessRefused old new other = Reached old new

@@ -11,6 +11,8 @@ pub struct ListenOptions {
     pub port: u16,
     /// How many connections are served.
     pub count: u64,
+    /// How many of them are served at once.
+    pub together: usize,
     /// For how many seconds a connection may be silent before it is closed; 0 for as long as it
     /// likes.
     pub idle: u64,

@@ -1,10 +1,12 @@
-//! Connections served one after the other.
+//! Connections served, one after the other or at once.
 
 ghost use Rattle.std.specs.Prelude.{◌≡◌, ℕ, OnOk};
 ghost use Rattle.acq_core.specs.Pasts.{HasPast};
-ghost use Rattle.acq_commands.specs.Listening.{Served, ServesConnections, ServesOne, going_on};
+ghost use Rattle.acq_commands.specs.Listening.{ReachedUnlessRefused, Served, ServesConnections};
+ghost use Rattle.acq_commands.specs.Listening.{ServesOne, going_on};
 
 use crate::fault::Fault;
+use crate::gathering::Gathering;
 use crate::text_sink::TextSink;
 use acq_book::Book;
 use acq_core::{Query, Verdict};
@@ -34,6 +36,29 @@ pub fn listen_on<B: Book + Drop, N: Connections, C: Clock, I: Issuer, F: Sink>(
 {
     let mut host = Host::new(alloc, book);
     let ended = serve_all(alloc, &mut host, connections, count, clock, issuer, faults);
+    drop(host);
+    ended
+}
+
+/// Serves so many connections over a book, many at once. A connection's fault is a line of `faults`,
+/// and the others go on; want of memory and a fault of the store end it. The book is given back at
+/// the end.
+pub fn listen_together_on<B: Book + Drop, N: Gathering, C: Clock, I: Issuer, F: Sink>(
+    alloc: Global,
+    book: B,
+    gathering: &mut N,
+    count: u64,
+    clock: &mut C,
+    issuer: &mut I,
+    faults: &mut F,
+) -> Result<(), Fault>
+    requires past { B.is_open book → HasPast (B.tables book) }
+    // The book that is left has what it had, and what the host took.
+    ensures reached { (left : B) × (B.is_honest left → B.is_open book
+        → ReachedUnlessRefused (B.tables book) (B.tables left) result) }
+{
+    let mut host = Host::new(alloc, book);
+    let ended = gathering.serve_all(alloc, &mut host, count, clock, issuer, faults);
     drop(host);
     ended
 }
@@ -79,6 +104,14 @@ fn serve_one<B: Book + Drop, N: Connections, C: Clock, I: Issuer, F: Sink>(
     ensures given_later { (m : ℕ) → C.may_give clock.new m → C.may_give clock.old m }
 {
     let ended = connections.serve_next(alloc, host, clock, issuer);
+    end_connection(ended, faults)
+}
+
+/// Ends a connection: want of memory and the store's fault end the program too, and any other fault
+/// is a line of `faults`.
+pub fn end_connection<F: Sink>(ended: Result<(), FrontFault>, faults: &mut F) -> Result<(), Fault>
+    ensures { result ≡ going_on ended }
+{
     tell(&ended, faults);
     going_on(ended)
 }

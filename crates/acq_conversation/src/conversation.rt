@@ -1,9 +1,10 @@
 //! One end of a connection, without its reads and writes.
 
-ghost use Rattle.std.specs.Prelude.{◌≡◌, ◌+◌, ◌≤◌, ◌<◌, ◌++◌, ℕ, [], length, drop};
+ghost use Rattle.std.specs.Prelude.{◌≡◌, ◌==◌, ◌+◌, ◌≤◌, ◌<◌, ◌++◌, ℕ, [], length, drop};
 ghost use Rattle.acq_link.specs.Deframing.{longest_frame};
 ghost use Rattle.acq_link.specs.FramesAt.{MayBecomeFrame};
-ghost use Rattle.acq_conversation.specs.Turns.{held_of, unsent_of, Steps, UnlessRefused};
+ghost use Rattle.acq_conversation.specs.Turns.{held_of, unsent_of, Steps, StopsAt};
+ghost use Rattle.acq_conversation.specs.Turns.{UnlessRefused};
 
 use crate::outgoing::Outgoing;
 use crate::turn::Turn;
@@ -52,7 +53,9 @@ impl Conversation {
     }
 
     /// Whether it holds nothing that belongs to no message yet.
-    pub fn is_between_frames(&self) -> bool {
+    pub fn is_between_frames(&self) -> bool
+        ensures { result ≡ (length (held_of self.now) == 0) }
+    {
         self.input.is_empty()
     }
 
@@ -61,6 +64,11 @@ impl Conversation {
         ensures { result.now ≡ unsent_of self.now }
     {
         self.output.as_slice()
+    }
+
+    /// How many bytes of the reply were written.
+    pub fn gone(&self) -> usize {
+        self.output.gone()
     }
 
     /// So many bytes of it were written.
@@ -86,6 +94,8 @@ impl Conversation {
             → Steps (C.may_give clock.old) (I.may_say issuer.old) (B.tables host.old)
             (B.is_open host.new) (B.tables host.new) (held_of self.old) (held_of self.new)
             (unsent_of self.new) result }
+        // Where no message could be taken, what stands in front.
+        ensures stops { StopsAt (held_of self.new) result }
         ensures was_honest { B.is_honest host.new → B.is_honest host.old }
         ensures stays_open { B.is_honest host.new → B.is_open host.old
             → UnlessRefused result (B.is_open host.new) }

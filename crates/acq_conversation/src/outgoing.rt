@@ -38,6 +38,11 @@ impl Outgoing {
         &self.frame.as_slice()[self.gone..]
     }
 
+    /// How many bytes were written on.
+    pub(crate) fn gone(&self) -> usize {
+        self.gone
+    }
+
     /// So many bytes were written on.
     pub(crate) fn advance(&mut self, n: usize)
         requires { n ≤ length (bytes_of self.old) }

@@ -13,7 +13,8 @@ use crate::machine::Machine;
 use acq_arguments::{Action, UsageFault, action_of};
 use acq_commands::{
     Fault, ListenOptions, NewBook, OnceOptions, Progress, ReplayOptions, TextSink, holds_of,
-    listen_on, once_in_memory, once_on, replay_in_memory, replay_on, report_on, show,
+    listen_on, listen_together_on, once_in_memory, once_on, replay_in_memory, replay_on, report_on,
+    show,
 };
 use acq_front::{Clock, FixedClock, Issuer, NoIssuer};
 use acq_link::{Sink, Source};
@@ -262,8 +263,9 @@ fn listen_at<T: Alter + Drop, O: Machine<T> + Drop, C: Clock, I: Issuer + Drop, 
     }
 }
 
-/// Answers the frames of connections over the book in a file. What is wrong is told of the book
-/// first, then of the issuers' file, then of the port.
+/// Answers the frames of connections over the book in a file, one connection after the other or
+/// many at once. What is wrong is told of the book first, then of the issuers' file, then of the
+/// port.
 fn listen_over<T: Alter + Drop, O: Machine<T> + Drop, C: Clock, I: Issuer + Drop, F: Sink>(
     alloc: Global,
     machine: O,
@@ -272,6 +274,9 @@ fn listen_over<T: Alter + Drop, O: Machine<T> + Drop, C: Clock, I: Issuer + Drop
     issuers: Result<I, Fault>,
     faults: &mut F,
 ) -> Result<(), Fault> {
+    if asked.together > 1 {
+        return gather_over(alloc, machine, asked, clock, issuers, faults);
+    }
     let connections = machine.listen_at(asked.port, asked.idle);
     let book = machine.open_book(asked.path.as_str())?;
     let mut issuer = issuers?;
@@ -280,6 +285,30 @@ fn listen_over<T: Alter + Drop, O: Machine<T> + Drop, C: Clock, I: Issuer + Drop
         alloc,
         book,
         &mut connections,
+        asked.count,
+        clock,
+        &mut issuer,
+        faults,
+    )
+}
+
+/// Answers the frames of connections over the book in a file, many at once.
+fn gather_over<T: Alter + Drop, O: Machine<T> + Drop, C: Clock, I: Issuer + Drop, F: Sink>(
+    alloc: Global,
+    machine: O,
+    asked: &ListenOptions,
+    clock: &mut C,
+    issuers: Result<I, Fault>,
+    faults: &mut F,
+) -> Result<(), Fault> {
+    let gathering = machine.gather_at(alloc, asked.port, asked.idle, asked.together);
+    let book = machine.open_book(asked.path.as_str())?;
+    let mut issuer = issuers?;
+    let mut gathering = gathering?;
+    listen_together_on(
+        alloc,
+        book,
+        &mut gathering,
         asked.count,
         clock,
         &mut issuer,

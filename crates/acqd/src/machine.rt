@@ -3,7 +3,7 @@
 ghost use Rattle.std.specs.Prelude.{◌≡◌};
 ghost use Rattle.acqd.specs.BookFiles.{of_opening};
 
-use acq_commands::Fault;
+use acq_commands::{Fault, Gathering};
 use acq_core::Limit;
 use acq_front::Connections;
 use acq_sql::{OpeningFault, SqlBook};
@@ -16,11 +16,14 @@ use std::alloc::Global;
 pub trait Machine<S: Alter>: Sized {
     ghost use Rattle.std.specs.Prelude.{IfErr};
     ghost use Rattle.acq_commands.specs.declared.fault.Fault.TheVariants.{Read};
-    ghost use Rattle.acq_commands.specs.Faults.{IsOfAnswers};
+    ghost use Rattle.acq_commands.specs.Faults.{IsOfAnswers, IsOfGathering};
     ghost use Rattle.acqd.specs.BookFiles.{IsOpening};
 
     /// The connections that come in at a port.
     type Connections: Connections + Drop;
+
+    /// Connections that come in at a port and are served at once.
+    type Gathering: Gathering + Drop;
 
     /// Opens the book in the file at a path.
     fn open_book(self, path: &str) -> Result<SqlBook<S>, Fault>
@@ -38,6 +41,16 @@ pub trait Machine<S: Alter>: Sized {
     /// read, and for 0 none is.
     fn listen_at(&self, port: u16, idle: u64) -> Result<Self::Connections, Fault>
         ensures { IfErr result (λ fault. fault ≡ Read) };
+
+    /// Listens at a port, as `listen_at` does, for so many connections at once.
+    fn gather_at(
+        &self,
+        alloc: Global,
+        port: u16,
+        idle: u64,
+        together: usize,
+    ) -> Result<Self::Gathering, Fault>
+        ensures { IfErr result IsOfGathering };
 }
 
 /// The refusal of a book, as the command tells it.

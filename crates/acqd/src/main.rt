@@ -8,7 +8,6 @@ mod command;
 mod machine;
 mod open_book;
 mod system_clock;
-mod tcp_connections;
 mod terminal_progress;
 mod this_machine;
 
@@ -26,7 +25,6 @@ use std::io::IsTerminal;
 use std::process::ExitCode;
 use std::{env, io, str};
 pub use system_clock::{SystemClock, moment_near};
-pub use tcp_connections::TcpConnections;
 pub use terminal_progress::TerminalProgress;
 pub use this_machine::ThisMachine;
 

@@ -2,12 +2,12 @@
 
 use crate::machine::{Machine, fault_of_opening};
 use crate::open_book::{make_book, open_book};
-use crate::tcp_connections::TcpConnections;
 use acq_commands::Fault;
 use acq_core::Limit;
 use acq_link::ReadSource;
 use acq_sql::SqlBook;
 use acq_stand_in::StandIn;
+use acq_tcp::{TcpConnections, TcpGathering};
 use day_totals::Day;
 use sqlite_disk::Start;
 use sqlite_std_file::FileFrom;
@@ -30,8 +30,10 @@ impl<'a, D: Start> ThisMachine<'a, D> {
     }
 }
 
-impl<D: Start> Machine<FileStore<FileFrom<D>>> for ThisMachine<'_, D> {
+impl<'a, D: Start> Machine<FileStore<FileFrom<D>>> for ThisMachine<'a, D> {
     type Connections = TcpConnections;
+
+    type Gathering = TcpGathering<'a, HostRuntime>;
 
     fn open_book(self, path: &str) -> Result<SqlBook<FileStore<FileFrom<D>>>, Fault> {
         match open_book(self.rt, path, self.start) {
@@ -64,5 +66,15 @@ impl<D: Start> Machine<FileStore<FileFrom<D>>> for ThisMachine<'_, D> {
             Ok(listener) => Ok(TcpConnections::new(listener, idle)),
             Err(_) => Err(Fault::Read),
         }
+    }
+
+    fn gather_at(
+        &self,
+        alloc: Global,
+        port: u16,
+        idle: u64,
+        together: usize,
+    ) -> Result<TcpGathering<'a, HostRuntime>, Fault> {
+        TcpGathering::listen(self.rt, self.rt, alloc, port, idle, together)
     }
 }

@@ -5,7 +5,7 @@ use Rattle.clap.specs.Words.{found_of}
 use Rattle.acq_arguments.specs.declared.action.Action.{Action}
 use Rattle.acq_arguments.specs.declared.action.Action.TheVariants.{Listen}
 use Rattle.acq_arguments.specs.declared.usage_fault.UsageFault.{UsageFault}
-use Rattle.acq_arguments.specs.Arguments.{AsksListen, CountIs, FileIs, IdleIs, IsListen, ListenAt, ListenFor, ListenIn, ListenOn, MomentIfThere, PortIs, found_texts}
+use Rattle.acq_arguments.specs.Arguments.{AsksListen, CountIs, FileIs, IdleIs, IsListen, ListenAt, ListenBeside, ListenFor, ListenIn, ListenOn, MomentIfThere, PortIs, TogetherIs, found_texts}
 use Rattle.acq_arguments.proofs.OptionsRead.{first_fails, no_memory, then_rest}
 use Rattle.acq_arguments.proofs.arguments.listen_of.Goals as goal
 
@@ -53,8 +53,22 @@ returns-in_err-idle c =
     (then_rest (PortIs texts) (ListenOn texts c.in_ok-path.path) c.in_ok-port.port (Err c.in_err-idle.field-0.0) c.in_ok-port.ensures
     (then_rest (CountIs texts) (ListenFor texts c.in_ok-path.path c.in_ok-port.port) c.in_ok-count.count (Err c.in_err-idle.field-0.0) c.in_ok-count.ensures
     (then_rest (MomentIfThere texts) (ListenAt texts c.in_ok-path.path c.in_ok-port.port c.in_ok-count.count) c.in_ok-moment.moment (Err c.in_err-idle.field-0.0) c.in_ok-moment.ensures
-    (first_fails (IdleIs texts) (IsListen c.in_ok-path.path c.in_ok-port.port c.in_ok-count.count texts.issuers c.in_ok-moment.moment)
+    (first_fails (IdleIs texts) (ListenBeside texts c.in_ok-path.path c.in_ok-port.port c.in_ok-count.count c.in_ok-moment.moment)
     c.in_err-idle.field-0.0 c.in_err-idle.ensures)))))
+
+pub returns-in_err-together : goal.returns-in_err-together
+returns-in_err-together c =
+    let texts = found_texts (found_of c.args.options.now) in
+    let p = err_from_is_err_and c.from_residual-in_err-together.result c.from_residual-in_err-together.ensures.1 in
+    rw (p.1, p.2)
+    (then_rest (FileIs texts) (ListenIn texts) c.in_ok-path.path (Err c.in_err-together.field-0.0) c.in_ok-path.ensures
+    (then_rest (PortIs texts) (ListenOn texts c.in_ok-path.path) c.in_ok-port.port (Err c.in_err-together.field-0.0) c.in_ok-port.ensures
+    (then_rest (CountIs texts) (ListenFor texts c.in_ok-path.path c.in_ok-port.port) c.in_ok-count.count (Err c.in_err-together.field-0.0) c.in_ok-count.ensures
+    (then_rest (MomentIfThere texts) (ListenAt texts c.in_ok-path.path c.in_ok-port.port c.in_ok-count.count) c.in_ok-moment.moment (Err c.in_err-together.field-0.0) c.in_ok-moment.ensures
+    (then_rest (IdleIs texts) (ListenBeside texts c.in_ok-path.path c.in_ok-port.port c.in_ok-count.count c.in_ok-moment.moment) c.in_ok-idle.idle
+    (Err c.in_err-together.field-0.0) c.in_ok-idle.ensures
+    (first_fails (TogetherIs texts) (IsListen c.in_ok-path.path c.in_ok-port.port c.in_ok-count.count texts.issuers c.in_ok-moment.moment c.in_ok-idle.idle)
+    c.in_err-together.field-0.0 c.in_err-together.ensures))))))
 
 pub returns-in_err-issuers : goal.returns-in_err-issuers
 returns-in_err-issuers c =
@@ -69,6 +83,7 @@ returns c =
       path = c.in_ok-path.path;
       port = c.in_ok-port.port;
       count = c.in_ok-count.count;
+      together = c.in_ok-together.together;
       idle = c.in_ok-idle.idle;
       issuers = c.in_ok-issuers.issuers;
       moment = c.in_ok-moment.moment;
@@ -78,6 +93,8 @@ returns c =
     (then_rest (CountIs texts) (ListenFor texts c.in_ok-path.path c.in_ok-port.port) c.in_ok-count.count read c.in_ok-count.ensures
     (then_rest (MomentIfThere texts) (ListenAt texts c.in_ok-path.path c.in_ok-port.port c.in_ok-count.count)
     c.in_ok-moment.moment read c.in_ok-moment.ensures
-    (then_rest (IdleIs texts) (IsListen c.in_ok-path.path c.in_ok-port.port c.in_ok-count.count texts.issuers c.in_ok-moment.moment)
+    (then_rest (IdleIs texts) (ListenBeside texts c.in_ok-path.path c.in_ok-port.port c.in_ok-count.count c.in_ok-moment.moment)
     c.in_ok-idle.idle read c.in_ok-idle.ensures
-    (refl, refl, refl, c.in_ok-issuers.ensures.given, refl, refl)))))
+    (then_rest (TogetherIs texts) (IsListen c.in_ok-path.path c.in_ok-port.port c.in_ok-count.count texts.issuers c.in_ok-moment.moment c.in_ok-idle.idle)
+    c.in_ok-together.together read c.in_ok-together.ensures
+    (refl, refl, refl, c.in_ok-issuers.ensures.given, refl, refl, refl))))))

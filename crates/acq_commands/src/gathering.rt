@@ -1,0 +1,28 @@
+//! Connections that are served at once.
+
+ghost use Rattle.acq_commands.specs.Listening.{ReachedUnlessRefused};
+
+use crate::fault::Fault;
+use acq_book::Book;
+use acq_front::{Clock, Issuer};
+use acq_host::Host;
+use acq_link::Sink;
+use std::alloc::Global;
+
+/// Connections that are served at once.
+pub trait Gathering {
+    /// Serves so many connections over a host, each in its turn. A connection's fault is a line of
+    /// `faults`, and the others go on; want of memory and a fault of the store end it.
+    fn serve_all<B: Book + Drop, C: Clock, I: Issuer, F: Sink>(
+        &mut self,
+        alloc: Global,
+        host: &mut Host<B>,
+        count: u64,
+        clock: &mut C,
+        issuer: &mut I,
+        faults: &mut F,
+    ) -> Result<(), Fault>
+        // The host took events, whichever they were, and nothing else happened to its tables.
+        ensures reached { B.is_honest host.new → B.is_open host.old
+            → ReachedUnlessRefused (B.tables host.old) (B.tables host.new) result };
+}
