@@ -48,7 +48,9 @@ impl<'a, T: time::Clock> TcpGathering<'a, T> {
     {
         let mut places = Vec::with_capacity(alloc, together)?;
         for _ in 0..together {
-            places.push(None)?;
+            if places.push(None).is_err() {
+                return Err(Fault::Memory);
+            }
         }
         let events = Events::with_capacity(alloc, together)?;
         let Ok((listener, poll)) = listener_at(net, port, Token(together)) else {
