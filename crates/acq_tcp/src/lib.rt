@@ -8,3 +8,6 @@ mod tcp_gathering;
 
 pub use tcp_connections::TcpConnections;
 pub use tcp_gathering::TcpGathering;
+
+#[cfg(test)]
+mod tests;

@@ -200,7 +200,7 @@ fn commands_over_books(rt: HostRuntime) -> Result<(), Fail> {
 }
 
 /// Arguments with a value out of its form, and the option that is told, before any file is opened.
-const BAD_VALUES: [(&[&str], &str); 21] = [
+const BAD_VALUES: [(&[&str], &str); 23] = [
     (&["once", "--at", "946684799"], "--at"),
     (&["once", "--db", "b", "--at", "x"], "--at"),
     (&["once", "--issuers", "i", "--at", "x"], "--at"),
@@ -231,6 +231,14 @@ const BAD_VALUES: [(&[&str], &str); 21] = [
     (
         &["listen", "--db", "b", "--port", "1", "--idle", "1000000"],
         "--idle",
+    ),
+    (
+        &["listen", "--db", "b", "--port", "1", "--together", "1"],
+        "--together",
+    ),
+    (
+        &["listen", "--db", "b", "--port", "1", "--together", "1025"],
+        "--together",
     ),
     (
         &["init", "--db", "b", "--limit", "0", "--day", "x"],

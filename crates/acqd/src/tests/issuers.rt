@@ -32,6 +32,19 @@ const LISTEN: &[&str] = &[
     "i",
 ];
 
+const LISTEN_TOGETHER: &[&str] = &[
+    "acqd",
+    "listen",
+    "--db",
+    "b",
+    "--port",
+    "8583",
+    "--together",
+    "1024",
+    "--issuers",
+    "i",
+];
+
 const LISTEN_ALONE: &[&str] = &[
     "acqd", "listen", "--db", "b", "--port", "8583", "--count", "4",
 ];
@@ -42,7 +55,8 @@ const ECHO: &str = "\x00\x370800822000000000000004000000000000000101120000000001
 const ECHO_REPLY: &str = "\x00\x39081082200000020000000400000000000000010112000000000100301";
 
 /// The replies to the sale where its issuer approves, and where it declines.
-const APPROVED: &str = "\x00\x7A0210722200000EC08000164111111111111111000000000000001000050109300\
+pub(super) const APPROVED: &str =
+    "\x00\x7A0210722200000EC08000164111111111111111000000000000001000050109300\
 0000001050100000000000\
 1A1B2C300TERM0001MERCHANT0000001978";
 
@@ -74,7 +88,7 @@ type Row = (
     (u8, &'static str, &'static str),
 );
 
-const ROWS: [Row; 13] = [
+const ROWS: [Row; 16] = [
     (
         Some("4111111111111111,approved,A1B2C3\n"),
         None,
@@ -146,6 +160,22 @@ const ROWS: [Row; 13] = [
     ),
     (Some(""), None, LISTEN, "x", (1, "", "acqd: 53 Read\n")),
     (None, None, LISTEN, "x", (1, "", "acqd: 53 Read\n")),
+    // Many at once: the same faults in the same order.
+    (Some(""), Some(""), LISTEN_TOGETHER, "x", (0, "", "")),
+    (
+        Some("x"),
+        None,
+        LISTEN_TOGETHER,
+        "x",
+        (1, "", "acqd: 23 BadLine 1\n"),
+    ),
+    (
+        Some(""),
+        None,
+        LISTEN_TOGETHER,
+        "x",
+        (1, "", "acqd: 53 Read\n"),
+    ),
 ];
 
 #[test]
@@ -170,7 +200,7 @@ fn issuers_and_connections(rt: HostRuntime) -> Result<(), Fail> {
 #[test]
 fn books_come_first(rt: HostRuntime) -> Result<(), Fail> {
     let alloc = rt.alloc();
-    for args in [ONCE, LISTEN] {
+    for args in [ONCE, LISTEN, LISTEN_TOGETHER] {
         let machine = MachineAtHand {
             book: Err(OpeningFault::NotABook),
             answers: Some("x"),

@@ -1,20 +1,36 @@
-//! A connection over TCP, in one process: it connects, sends, and ends its sending side; then it is
-//! served; then it reads the reply.
+//! Connections through `listen_on`: one over TCP, in one process; and three of which the first can't
+//! be written to its end.
 
+use super::days::{ONE_DEBIT_CLAIMED, ONE_DEBIT_POSTED};
 use super::file_commands::{NOT_ANSWERED, SALE};
+use super::issuers::APPROVED;
 use super::reports::book_in_sql_after;
-use crate::TcpConnections;
+use super::wording::bytes_in;
+use acq_book::Book;
 use acq_commands::listen_on;
-use acq_core::Moment;
-use acq_front::{FixedClock, NoIssuer};
-use acq_link::MemorySink;
-use std::io::{Read, Write};
+use acq_core::{Moment, Verdict};
+use acq_front::{
+    Clock, Connections, FixedClock, FrontFault, Issuer, NoIssuer, SliceIssuer, serve_ends,
+};
+use acq_host::Host;
+use acq_link::{MemorySink, SliceSource, WriteSink};
+use acq_tcp::TcpConnections;
+use std::alloc::Global;
+use std::cell::RefCell;
+use std::io;
+use std::io::{ErrorKind, Read, Write};
 use std::net::{Ipv4Addr, Shutdown, TcpListener, TcpStream};
 use std::test::Fail;
 
 /// For how many seconds a connection may be silent.
 const IDLE: u64 = 5;
 
+/// The moment at which all frames come.
+fn morning() -> Result<Moment, Fail> {
+    Ok(Moment::from_seconds(1_714_555_800).ok_or("a moment")?)
+}
+
+/// It connects, sends, and ends its sending side; then it is served; then it reads the reply.
 #[test]
 fn one_connection(rt: HostRuntime) -> Result<(), Fail> {
     let alloc = rt.alloc();
@@ -23,7 +39,7 @@ fn one_connection(rt: HostRuntime) -> Result<(), Fail> {
     terminal.write_all(SALE.as_bytes())?;
     terminal.shutdown(Shutdown::Write)?;
     let mut connections = TcpConnections::new(listener, IDLE);
-    let mut clock = FixedClock::new(Moment::from_seconds(1_714_555_800).ok_or("a moment")?);
+    let mut clock = FixedClock::new(morning()?);
     let mut faults = MemorySink::new(alloc);
     listen_on(
         alloc,
@@ -38,5 +54,104 @@ fn one_connection(rt: HostRuntime) -> Result<(), Fail> {
     terminal.read_to_end(&mut reply)?;
     assert_eq!(rt; reply.as_slice(), NOT_ANSWERED.as_bytes());
     assert_eq!(rt; faults.as_bytes(), b"".as_slice());
+    Ok(())
+}
+
+/// The sale as its terminal repeats it.
+const REPEATED: &str =
+    "\x00\x6202017220000000C0800016411111111111111100000000000000100005010930000000\
+01TERM0001MERCHANT0000001978";
+
+/// A writer that takes so many bytes, and then fails.
+#[derive(Drop)]
+struct Narrow<'a> {
+    taken: &'a RefCell<Vec<u8>>,
+    room: usize,
+}
+
+impl Write for Narrow<'_> {
+    fn write(&mut self, buf: &[u8]) -> io::Result<usize> {
+        let n = buf.len().min(self.room);
+        let Ok(mut taken) = self.taken.try_borrow_mut() else {
+            return Err(io::Error::from(ErrorKind::Other));
+        };
+        taken.extend_from_slice(&buf[..n])?;
+        self.room -= n;
+        Ok(n)
+    }
+
+    fn flush(&mut self) -> io::Result<()> {
+        Ok(())
+    }
+}
+
+/// Connections that send a frame each, and take so many bytes of what they are answered.
+#[derive(Drop)]
+struct Listed<'a> {
+    frames: &'a [(&'a [u8], usize)],
+    taken: &'a RefCell<Vec<u8>>,
+}
+
+impl Connections for Listed<'_> {
+    fn serve_next<B: Book + Drop, C: Clock, I: Issuer>(
+        &mut self,
+        alloc: Global,
+        host: &mut Host<B>,
+        clock: &mut C,
+        issuer: &mut I,
+    ) -> Result<(), FrontFault> {
+        let mut ends = None;
+        if let Some(((frame, room), later)) = self.frames.split_first() {
+            self.frames = later;
+            let writer = Narrow {
+                taken: self.taken,
+                room: *room,
+            };
+            ends = Some((SliceSource::new(frame), WriteSink::new(writer)));
+        }
+        serve_ends(alloc, host, ends, clock, issuer)
+    }
+}
+
+/// The frame of a message in words.
+fn framed(alloc: Global, words: &str) -> Result<Vec<u8>, Fail> {
+    let text = bytes_in(alloc, words)?;
+    let mut frame = Vec::from_slice(alloc, &u16::try_from(text.len())?.to_be_bytes())?;
+    frame.extend_from_slice(text.as_slice())?;
+    Ok(frame)
+}
+
+/// Of the reply to a sale ten bytes go out. On the next connection the sale's repeat gets all of it,
+/// and the day has one posting.
+#[test]
+fn a_repeat_after_a_cut_reply(rt: HostRuntime) -> Result<(), Fail> {
+    let alloc = rt.alloc();
+    let claim = framed(alloc, ONE_DEBIT_CLAIMED)?;
+    let mut want = Vec::from_slice(alloc, &APPROVED.as_bytes()[..10])?;
+    want.extend_from_slice(APPROVED.as_bytes())?;
+    want.extend_from_slice(framed(alloc, ONE_DEBIT_POSTED)?.as_slice())?;
+    let taken = RefCell::new(Vec::new(alloc));
+    let mut connections = Listed {
+        frames: &[
+            (SALE.as_bytes(), 10),
+            (REPEATED.as_bytes(), usize::MAX),
+            (claim.as_slice(), usize::MAX),
+        ],
+        taken: &taken,
+    };
+    let approved = [Verdict::approved(b"A1B2C3").ok_or("an id")?];
+    let mut clock = FixedClock::new(morning()?);
+    let mut faults = MemorySink::new(alloc);
+    listen_on(
+        alloc,
+        book_in_sql_after(alloc, &[])?,
+        &mut connections,
+        3,
+        &mut clock,
+        &mut SliceIssuer::new(&approved),
+        &mut faults,
+    )?;
+    assert_eq!(rt; faults.as_bytes(), b"acqd: 54 Write 10\n".as_slice());
+    assert_eq!(rt; taken.into_inner().as_slice(), want.as_slice());
     Ok(())
 }

@@ -3,11 +3,11 @@
 use super::no_progress::NoProgress;
 use crate::{Machine, command, fault_of_opening};
 use acq_book::Book;
-use acq_commands::Fault;
+use acq_commands::{Fault, Gathering};
 use acq_core::Limit;
 use acq_front::{Clock, Connections, FrontFault, Issuer, SliceClock, serve_ends};
 use acq_host::Host;
-use acq_link::{MemorySink, SliceSource};
+use acq_link::{MemorySink, Sink, SliceSource};
 use acq_sql::{OpeningFault, SqlBook};
 use acq_stand_in::StandIn;
 use day_totals::Day;
@@ -43,6 +43,8 @@ pub(super) fn machine_with(book: Result<SqlBook<MemStore>, OpeningFault>) -> Mac
 impl Machine<MemStore> for MachineAtHand {
     type Connections = ConnectionsAtHand;
 
+    type Gathering = NoGathering;
+
     fn open_book(self, _path: &str) -> Result<SqlBook<MemStore>, Fault> {
         self.book.map_err(fault_of_opening)
     }
@@ -68,6 +70,34 @@ impl Machine<MemStore> for MachineAtHand {
             return Err(Fault::Read);
         };
         Ok(ConnectionsAtHand { lines })
+    }
+
+    fn gather_at(
+        &self,
+        _alloc: Global,
+        _port: u16,
+        _idle: u64,
+        _together: usize,
+    ) -> Result<NoGathering, Fault> {
+        self.lines.map(|_| NoGathering).ok_or(Fault::Read)
+    }
+}
+
+/// No connection, where many may come at once.
+#[derive(Drop)]
+pub(super) struct NoGathering;
+
+impl Gathering for NoGathering {
+    fn serve_all<B: Book + Drop, C: Clock, I: Issuer, F: Sink>(
+        &mut self,
+        _alloc: Global,
+        _host: &mut Host<B>,
+        _count: u64,
+        _clock: &mut C,
+        _issuer: &mut I,
+        _faults: &mut F,
+    ) -> Result<(), Fault> {
+        Ok(())
     }
 }
 

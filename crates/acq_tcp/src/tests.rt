@@ -1,0 +1,82 @@
+//! Sixty-four connections over TCP, in one process: they connect and send; then they are served at
+//! once; then they read their replies.
+
+use crate::TcpGathering;
+use acq_book::ListBook;
+use acq_commands::listen_together_on;
+use acq_core::{Limit, Moment};
+use acq_front::{FixedClock, NoIssuer};
+use acq_link::MemorySink;
+use day_totals::Day;
+use std::hash::RandomState;
+use std::io::{Read, Write};
+use std::net::{Shutdown, TcpStream};
+use std::test::Fail;
+
+/// How many connections there are.
+const TOGETHER: usize = 64;
+
+/// The one that sends nothing, and doesn't end its side, and the one that ends inside a frame.
+const SILENT: usize = 7;
+
+const CUT: usize = 11;
+
+/// Two echo tests as frames, and the frames that answer them.
+const ECHOES: &str = "\x00\x370800822000000000000004000000000000000101120000000001301\
+\x00\x370800822000000000000004000000000000000101120000000001301";
+
+const ECHO_REPLIES: &str = "\x00\x39081082200000020000000400000000000000010112000000000100301\
+\x00\x39081082200000020000000400000000000000010112000000000100301";
+
+/// One that lacks its code, and the frame that answers it.
+const LACKING: &str = "\x00\x24080002200000000000000101120000000001";
+
+const LACKING_REPLY: &str = "\x00\x2608100220000002000000010112000000000130";
+
+/// What a connection sends, and what it is answered.
+fn talk(place: usize) -> (&'static str, &'static str) {
+    match place {
+        SILENT => ("", ""),
+        CUT => ("\x00\x240800", ""),
+        _ if place % 2 == 0 => (ECHOES, ECHO_REPLIES),
+        _ => (LACKING, LACKING_REPLY),
+    }
+}
+
+#[test]
+fn each_gets_its_own(rt: HostRuntime) -> Result<(), Fail> {
+    let alloc = rt.alloc();
+    let mut gathering = TcpGathering::listen(&rt, &rt, alloc, 0, 1, TOGETHER)?;
+    let mut terminals = Vec::new(alloc);
+    for place in 0..TOGETHER {
+        let mut terminal = TcpStream::connect(&rt, gathering.local_addr()?)?;
+        terminal.write_all(talk(place).0.as_bytes())?;
+        if place != SILENT {
+            terminal.shutdown(Shutdown::Write)?;
+        }
+        terminals.push(terminal)?;
+    }
+    let limit = Limit::from_number(999_999).ok_or("a limit")?;
+    let day = Day::from_number(8887).ok_or("a day")?;
+    let mut clock = FixedClock::new(Moment::from_seconds(1_714_555_800).ok_or("a moment")?);
+    let mut faults = MemorySink::new(alloc);
+    listen_together_on(
+        alloc,
+        ListBook::new(alloc, RandomState::new(&rt)?, limit, day),
+        &mut gathering,
+        TOGETHER as u64,
+        &mut clock,
+        &mut NoIssuer,
+        &mut faults,
+    )?;
+    for (place, terminal) in terminals.iter_mut().enumerate() {
+        let mut reply = Vec::new(alloc);
+        terminal.read_to_end(&mut reply)?;
+        assert_eq!(rt; reply.as_slice(), talk(place).1.as_bytes(), "{place}");
+    }
+    assert_eq!(rt;
+        faults.as_bytes(),
+        b"acqd: 51 Ended\nacqd: 53 Read\n".as_slice()
+    );
+    Ok(())
+}
