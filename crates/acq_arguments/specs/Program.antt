@@ -34,13 +34,17 @@ once =
     with_rule (with_rule (with_rule (new_app (codes "once"))
     (option (codes "db"))) (option (codes "issuers"))) (option (codes "at"))
 
+-- `listen --db FILE --port P [--count N]`, without its other options
+abbrev pub listen_at_port : App
+listen_at_port =
+    with_rule (with_rule (with_rule (new_app (codes "listen"))
+    (required (codes "db"))) (required (codes "port"))) (option (codes "count"))
+
 -- `listen --db FILE --port P [--count N] [--issuers FILE] [--at MOMENT] [--idle SECONDS]
 -- [--together M]`
 abbrev pub listen : App
 listen =
-    with_rule (with_rule (with_rule (with_rule (with_rule (with_rule (with_rule
-    (new_app (codes "listen"))
-    (required (codes "db"))) (required (codes "port"))) (option (codes "count")))
+    with_rule (with_rule (with_rule (with_rule listen_at_port
     (option (codes "issuers"))) (option (codes "at"))) (option (codes "idle")))
     (option (codes "together"))
 

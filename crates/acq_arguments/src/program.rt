@@ -2,7 +2,8 @@
 
 ghost use Rattle.std.specs.Prelude.{◌≡◌, false, IfOk};
 ghost use Rattle.clap.specs.Words.{app_of, rule_of};
-ghost use Rattle.acq_arguments.specs.Program.{holds, init, listen, making, on_a_day, once};
+ghost use Rattle.acq_arguments.specs.Program.{holds, init, listen, listen_at_port, making, on_a_day};
+ghost use Rattle.acq_arguments.specs.Program.{once};
 ghost use Rattle.acq_arguments.specs.Program.{option_with_value, program, replay, required, show};
 
 use clap::{Arg, ArgAction, Command};
@@ -270,13 +271,6 @@ fn once_command<'a>(alloc: Global) -> Result<Command<'a>, AllocError>
 fn listen_command<'a>(alloc: Global) -> Result<Command<'a>, AllocError>
     ensures { IfOk result (λ made. app_of made ≡ listen) }
 {
-    let count = option_with_value(
-        alloc,
-        "count",
-        "N",
-        "How many connections are served, 1 to 999999 [default: all that come]",
-        ArgAction::Set,
-    );
     let issuers = option_with_value(alloc, "issuers", "FILE", ISSUERS, ArgAction::Set);
     let moment = option_with_value(alloc, "at", "MOMENT", COMING_AT, ArgAction::Set);
     let idle = option_with_value(
@@ -293,16 +287,30 @@ fn listen_command<'a>(alloc: Global) -> Result<Command<'a>, AllocError>
         "How many connections are served at once, 2 to 1024 [default: 1]",
         ArgAction::Set,
     );
+    listen_at_port(alloc)?
+        .arg(issuers)?
+        .arg(moment)?
+        .arg(idle)?
+        .arg(together)
+}
+
+/// `listen` with its file, its port and how many connections come.
+fn listen_at_port<'a>(alloc: Global) -> Result<Command<'a>, AllocError>
+    ensures { IfOk result (λ made. app_of made ≡ listen_at_port) }
+{
+    let count = option_with_value(
+        alloc,
+        "count",
+        "N",
+        "How many connections are served, 1 to 999999 [default: all that come]",
+        ArgAction::Set,
+    );
     Command::new(alloc, "listen")
         .about(ABOUT_LISTEN)
         .after_help(MORE_OF_LISTEN)
         .arg(required(alloc, "db", "FILE", "The file of the book"))?
         .arg(required(alloc, "port", "P", "The port, 1 to 65535"))?
-        .arg(count)?
-        .arg(issuers)?
-        .arg(moment)?
-        .arg(idle)?
-        .arg(together)
+        .arg(count)
 }
 
 fn replay_command<'a>(alloc: Global) -> Result<Command<'a>, AllocError>
