@@ -2,10 +2,10 @@
 //! once; then they read their replies.
 
 use crate::TcpGathering;
-use acq_book::ListBook;
-use acq_commands::listen_together_on;
+use acq_commands::Gathering;
 use acq_core::{Limit, Moment};
 use acq_front::{FixedClock, NoIssuer};
+use acq_host::Host;
 use acq_link::MemorySink;
 use day_totals::Day;
 use std::hash::RandomState;
@@ -60,15 +60,18 @@ fn each_gets_its_own(rt: HostRuntime) -> Result<(), Fail> {
     let day = Day::from_number(8887).ok_or("a day")?;
     let mut clock = FixedClock::new(Moment::from_seconds(1_714_555_800).ok_or("a moment")?);
     let mut faults = MemorySink::new(alloc);
-    listen_together_on(
+    let mut host = Host::in_memory(alloc, RandomState::new(&rt)?, limit, day);
+    let count = TOGETHER as u64;
+    let ended = gathering.serve_all(
         alloc,
-        ListBook::new(alloc, RandomState::new(&rt)?, limit, day),
-        &mut gathering,
-        TOGETHER as u64,
+        &mut host,
+        count,
         &mut clock,
         &mut NoIssuer,
         &mut faults,
-    )?;
+    );
+    drop(host);
+    assert_eq!(rt; ended, Ok(()));
     for (place, terminal) in terminals.iter_mut().enumerate() {
         let mut reply = Vec::new(alloc);
         terminal.read_to_end(&mut reply)?;
