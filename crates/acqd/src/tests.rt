@@ -1,33 +1,18 @@
 //! Rows of the program: statuses, replies and printed lines; each read and each write failing in
 //! turn; and an input longer than a hundred reads.
 
+mod books;
 mod clocks;
-mod days;
-mod expected;
 mod file_commands;
-mod holds;
-mod isolation;
 mod issuers;
 mod listens;
 mod long_runs;
 mod machine_at_hand;
-mod many_merchants;
 mod no_progress;
-mod other_merchant;
 mod replay_command;
 mod replay_reports;
 mod replays;
-mod reports;
-mod reversals;
-mod sales;
-mod script;
-mod script_event;
-mod scripts;
 mod shows;
-mod stops;
-mod two_days;
-mod walks;
-mod wording;
 
 use acq_commands::once_in_memory;
 use acq_front::{NoIssuer, SliceClock};

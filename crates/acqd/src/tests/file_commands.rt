@@ -1,10 +1,9 @@
 //! Commands over the book of a file, through `command`: what they write of a book that stands ready,
 //! what they say where there is none, and their options.
 
+use super::books::book_after;
 use super::machine_at_hand::machine_with;
-use super::replay_command::{Run, runs_as, runs_over};
-use super::reports::{REVERSED_CLEARED, REVERSED_SALE, TWO_HOLDS, book_in_sql_after};
-use super::script_event::ScriptEvent;
+use super::replay_command::{Line, REVERSAL, Run, SALE as SALE_TEXT, runs_as, runs_over};
 use acq_sql::OpeningFault;
 use std::test::Fail;
 
@@ -95,9 +94,36 @@ fn books_are_refused(rt: HostRuntime) -> Result<(), Fail> {
     Ok(())
 }
 
+/// A sale, its approval and its reversal, and the end of the day; and the clearing file then.
+const REVERSED_SALE: &[Line] = &[
+    Line::Frame(SALE_TEXT),
+    Line::Text("answer,1714555800,MERCHANT0000001,1,approved,A1B2C3"),
+    Line::Frame(REVERSAL),
+    Line::Text("cutover,1714555800,,,,"),
+];
+
+const REVERSED_CLEARED: &str = "day,merchant,number,leg,amount,reference,card,terminal,trace
+2024-05-01,MERCHANT0000001,1,debit,1000,000000000001,4111111111111111,TERM0001,000001
+2024-05-01,MERCHANT0000001,2,debit-reversal,1000,000000000001,4111111111111111,TERM0001,000003
+";
+
+/// Two holds.
+const TWO_HOLDS: &[Line] = &[
+    Line::Frame(
+        "01007220000000C08000165500005555555559000000000000005000\
+0501093000000020TERM0001MERCHANT0000001978",
+    ),
+    Line::Frame(
+        "01007220000000C08000165500005555555559000000000000005000\
+0501093000000030TERM0001MERCHANT0000001978",
+    ),
+    Line::Text("answer,1714555800,MERCHANT0000001,1,approved,H00001"),
+    Line::Text("answer,1714555800,MERCHANT0000001,2,approved,H00001"),
+];
+
 /// What happened to the book, the command and its input, and the status, the output and the fault
 /// line.
-const OVER_BOOKS: [(&[ScriptEvent], &[&str], &str, (u8, &str, &str)); 12] = [
+const OVER_BOOKS: [(&[Line], &[&str], &str, (u8, &str, &str)); 12] = [
     (&[], INIT, "", (0, "", "")),
     (&[], ONCE, SALE, (0, NOT_ANSWERED, "")),
     (TWO_HOLDS, AT_LAST, COMPLETION, (0, COMPLETED, "")),
@@ -189,7 +215,7 @@ MERCHANTS 2
 fn commands_over_books(rt: HostRuntime) -> Result<(), Fail> {
     let alloc = rt.alloc();
     for (events, args, input, ended) in OVER_BOOKS {
-        let machine = machine_with(Ok(book_in_sql_after(alloc, events)?));
+        let machine = machine_with(Ok(book_after(alloc, events)?));
         let run = Run {
             args,
             input: input.as_bytes(),

@@ -1,10 +1,10 @@
 //! Issuers' answers from a file, and connections that are served over the book of a file, through
 //! `command`.
 
+use super::books::book_after;
 use super::file_commands::{NOT_ANSWERED, SALE};
 use super::machine_at_hand::MachineAtHand;
 use super::replay_command::{Run, runs_over};
-use super::reports::book_in_sql_after;
 use acq_sql::OpeningFault;
 use std::test::Fail;
 
@@ -183,7 +183,7 @@ fn issuers_and_connections(rt: HostRuntime) -> Result<(), Fail> {
     let alloc = rt.alloc();
     for (answers, lines, args, input, ended) in ROWS {
         let machine = MachineAtHand {
-            book: Ok(book_in_sql_after(alloc, &[])?),
+            book: Ok(book_after(alloc, &[])?),
             answers,
             lines,
         };

@@ -1,11 +1,9 @@
 //! Connections through `listen_on`: one over TCP, in one process; and three of which the first can't
 //! be written to its end.
 
-use super::days::{ONE_DEBIT_CLAIMED, ONE_DEBIT_POSTED};
+use super::books::book_after;
 use super::file_commands::{NOT_ANSWERED, SALE};
 use super::issuers::APPROVED;
-use super::reports::book_in_sql_after;
-use super::wording::bytes_in;
 use acq_book::Book;
 use acq_commands::listen_on;
 use acq_core::{Moment, Verdict};
@@ -43,7 +41,7 @@ fn one_connection(rt: HostRuntime) -> Result<(), Fail> {
     let mut faults = MemorySink::new(alloc);
     listen_on(
         alloc,
-        book_in_sql_after(alloc, &[])?,
+        book_after(alloc, &[])?,
         &mut connections,
         1,
         &mut clock,
@@ -113,29 +111,31 @@ impl Connections for Listed<'_> {
     }
 }
 
-/// The frame of a message in words.
-fn framed(alloc: Global, words: &str) -> Result<Vec<u8>, Fail> {
-    let text = bytes_in(alloc, words)?;
-    let mut frame = Vec::from_slice(alloc, &u16::try_from(text.len())?.to_be_bytes())?;
-    frame.extend_from_slice(text.as_slice())?;
-    Ok(frame)
-}
+/// A reconciliation that claims this one debit, as a frame, and the frame that answers it in balance.
+const CLAIMED: &[u8] =
+    b"\x00\xC805008222000000C00000007807808000000005011000000000100501TERM0001MERCHA\
+NT0000001000000000000000000000000000001000000000000000000000000000000000000000000000000000\
+00010000000000000000000D0000000000001000";
+
+const POSTED: &[u8] =
+    b"\x00\xCB05108222000002C0000040780780800000000501100000000010050100TERM0001MERC\
+HANT00000011000000000000000000000000000001000000000000000000000000000000000000000000000000\
+00000010000000000000000000D0000000000001000";
 
 /// Of the reply to a sale ten bytes go out. On the next connection the sale's repeat gets all of it,
 /// and the day has one posting.
 #[test]
 fn a_repeat_after_a_cut_reply(rt: HostRuntime) -> Result<(), Fail> {
     let alloc = rt.alloc();
-    let claim = framed(alloc, ONE_DEBIT_CLAIMED)?;
     let mut want = Vec::from_slice(alloc, &APPROVED.as_bytes()[..10])?;
     want.extend_from_slice(APPROVED.as_bytes())?;
-    want.extend_from_slice(framed(alloc, ONE_DEBIT_POSTED)?.as_slice())?;
+    want.extend_from_slice(POSTED)?;
     let taken = RefCell::new(Vec::new(alloc));
     let mut connections = Listed {
         frames: &[
             (SALE.as_bytes(), 10),
             (REPEATED.as_bytes(), usize::MAX),
-            (claim.as_slice(), usize::MAX),
+            (CLAIMED, usize::MAX),
         ],
         taken: &taken,
     };
@@ -144,7 +144,7 @@ fn a_repeat_after_a_cut_reply(rt: HostRuntime) -> Result<(), Fail> {
     let mut faults = MemorySink::new(alloc);
     listen_on(
         alloc,
-        book_in_sql_after(alloc, &[])?,
+        book_after(alloc, &[])?,
         &mut connections,
         3,
         &mut clock,

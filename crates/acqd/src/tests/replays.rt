@@ -1,7 +1,7 @@
 //! Event lines in, output lines out: reads and writes that fail.
 
+use super::books::{GREATEST_LIMIT, MAY_1};
 use super::no_progress::NoProgress;
-use super::script::{GREATEST_LIMIT, MAY_1};
 use acq_commands::{Fault, replay};
 use acq_core::Limit;
 use acq_host::Host;
