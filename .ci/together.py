@@ -44,11 +44,16 @@ def new_book(program, path):
     run([program, "replay", "--db", path], "".join(f"{it}\n" for it in lines).encode())
 
 
-def connect(port):
+def connect(port, room=None):
     for _ in range(200):
+        end = socket.socket()
+        if room:
+            end.setsockopt(socket.SOL_SOCKET, socket.SO_RCVBUF, room)
         try:
-            return socket.create_connection(("127.0.0.1", port))
+            end.connect(("127.0.0.1", port))
+            return end
         except ConnectionRefusedError:
+            end.close()
             time.sleep(0.05)
     sys.exit("nobody listens")
 
@@ -63,19 +68,21 @@ def pieces_of(sent, chance):
 
 def talk(port, chance):
     """Has all connections talk, and returns the two that hold out and what each other one got."""
-    every = [connect(port) for _ in range(TOGETHER)]
+    every = [connect(port, 4096 if k == DEAF else None) for k in range(TOGETHER)]
     deaf, stuck = every[DEAF], every[STUCK]
     stuck.sendall(frames_of(STUCK)[:-9])
     others = {every[k]: (k, pieces_of(frames_of(k), chance)) for k in range(2, TOGETHER)}
     got = {k: b"" for k in range(2, TOGETHER)}
     deaf.setblocking(False)
+    flood = b""
     sending = set(others)
     while others:
+        flood = flood or echo(0) * 200
         try:
-            deaf.send(echo(0) * 200)
+            flood = flood[deaf.send(flood):]
         except BlockingIOError:
             pass
-        for end in chance.sample(sorted(sending, key=lambda it: others[it][0]), min(8, len(sending))):
+        for end in chance.sample(sorted(sending, key=lambda it: others[it][0]), len(sending) // 2 or len(sending)):
             piece = next(others[end][1], None)
             if piece is None:
                 end.shutdown(socket.SHUT_WR)
