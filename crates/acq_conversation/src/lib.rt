@@ -23,6 +23,3 @@ pub use line::Line;
 pub use round::Round;
 pub use stream_line::StreamLine;
 pub use turn::Turn;
-
-#[cfg(test)]
-mod tests;
