@@ -13,6 +13,7 @@ mod script;
 mod script_event;
 mod scripts;
 mod stops;
+mod talks;
 mod two_days;
 mod walks;
 mod wording;

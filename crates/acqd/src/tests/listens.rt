@@ -83,14 +83,14 @@ impl Write for Narrow<'_> {
     }
 }
 
-/// Connections that send a frame each, and take so many bytes of what they are answered.
+/// Three connections: the sale, of whose reply ten bytes are taken, its repeat and the claim.
 #[derive(Drop)]
-struct Listed<'a> {
-    frames: &'a [(&'a [u8], usize)],
+struct Three<'a> {
+    place: u8,
     taken: &'a RefCell<Vec<u8>>,
 }
 
-impl Connections for Listed<'_> {
+impl Connections for Three<'_> {
     fn serve_next<B: Book + Drop, C: Clock, I: Issuer>(
         &mut self,
         alloc: Global,
@@ -98,15 +98,17 @@ impl Connections for Listed<'_> {
         clock: &mut C,
         issuer: &mut I,
     ) -> Result<(), FrontFault> {
-        let mut ends = None;
-        if let Some(((frame, room), later)) = self.frames.split_first() {
-            self.frames = later;
-            let writer = Narrow {
-                taken: self.taken,
-                room: *room,
-            };
-            ends = Some((SliceSource::new(frame), WriteSink::new(writer)));
-        }
+        let (frame, room) = match self.place {
+            0 => (SALE.as_bytes(), 10),
+            1 => (REPEATED.as_bytes(), usize::MAX),
+            _ => (CLAIMED, usize::MAX),
+        };
+        self.place = self.place.saturating_add(1);
+        let writer = Narrow {
+            taken: self.taken,
+            room,
+        };
+        let ends = Some((SliceSource::new(frame), WriteSink::new(writer)));
         serve_ends(alloc, host, ends, clock, issuer)
     }
 }
@@ -131,12 +133,8 @@ fn a_repeat_after_a_cut_reply(rt: HostRuntime) -> Result<(), Fail> {
     want.extend_from_slice(APPROVED.as_bytes())?;
     want.extend_from_slice(POSTED)?;
     let taken = RefCell::new(Vec::new(alloc));
-    let mut connections = Listed {
-        frames: &[
-            (SALE.as_bytes(), 10),
-            (REPEATED.as_bytes(), usize::MAX),
-            (CLAIMED, usize::MAX),
-        ],
+    let mut connections = Three {
+        place: 0,
         taken: &taken,
     };
     let approved = [Verdict::approved(b"A1B2C3").ok_or("an id")?];

@@ -1,0 +1,171 @@
+//! The frames of two days on connections whose reads and writes fail in turn.
+
+use super::expected::Expected::Reply;
+use super::script::{GREATEST_LIMIT, MAY_1, setup};
+use super::script_event::MORNING;
+use super::script_event::ScriptEvent::{Frame, FrameAt};
+use super::two_days::TWO_DAYS;
+use super::wording::bytes_in;
+use acq_book::ListBook;
+use acq_core::{Event, Limit, Moment, Verdict};
+use acq_front::{FixedClock, FrontFault, SliceIssuer, serve};
+use acq_host::Host;
+use acq_link::{MemorySink, SliceSource};
+use day_totals::Day;
+use std::alloc::Global;
+use std::hash::RandomState;
+use std::process::Abort;
+use std::random::RandomSource;
+use std::test::Fail;
+
+/// The steps of the first day, and that of the second, behind the cutover.
+const FIRST_DAY: usize = 6;
+
+const SECOND_DAY: usize = 7;
+
+/// What a terminal sends on a connection, and what it is answered.
+#[derive(Drop)]
+struct Talk {
+    frames: Vec<u8>,
+    replies: Vec<u8>,
+}
+
+fn push_frame(frames: &mut Vec<u8>, alloc: Global, words: &str) -> Result<(), Fail> {
+    let text = bytes_in(alloc, words)?;
+    frames.extend_from_slice(&u16::try_from(text.len())?.to_be_bytes())?;
+    frames.extend_from_slice(text.as_slice())?;
+    Ok(())
+}
+
+/// The frames and the replies of these steps of the two days.
+fn talk_between(alloc: Global, from: usize, to: usize) -> Result<Talk, Fail> {
+    let (mut frames, mut replies) = (Vec::new(alloc), Vec::new(alloc));
+    for (event, expected) in TWO_DAYS.steps.get(from..to).ok_or("steps")? {
+        if let Frame(words) | FrameAt(_, words) = event {
+            push_frame(&mut frames, alloc, words)?;
+        }
+        if let Reply(words) = expected {
+            push_frame(&mut replies, alloc, words)?;
+        }
+    }
+    Ok(Talk { frames, replies })
+}
+
+/// A host over a new book behind the setup.
+fn new_host(rt: &impl RandomSource, alloc: Global) -> Result<Host<ListBook>, Fail> {
+    let limit = Limit::from_number(GREATEST_LIMIT).ok_or("a limit")?;
+    let first_day = Day::from_number(MAY_1).ok_or("a day")?;
+    let events = setup(alloc)?;
+    let mut host = Host::in_memory(alloc, RandomState::new(rt)?, limit, first_day);
+    let said = host.run(events.as_slice()).is_ok();
+    if !said {
+        return Err("a setup")?;
+    }
+    Ok(host)
+}
+
+/// Serves a connection in the morning.
+fn served(
+    host: &mut Host<ListBook>,
+    alloc: Global,
+    source: &mut SliceSource<'_>,
+    sink: &mut MemorySink,
+    issuer: &mut SliceIssuer<'_>,
+) -> Result<(), FrontFault> {
+    let Some(morning) = Moment::from_seconds(MORNING) else {
+        return Err(FrontFault::Store);
+    };
+    serve(
+        alloc,
+        host,
+        source,
+        sink,
+        &mut FixedClock::new(morning),
+        issuer,
+    )
+}
+
+/// Serves the first day on a connection that fails, and again on one that doesn't, and then the
+/// second day; and returns how the first one ended. The others get all replies.
+fn served_again(
+    rt: &(impl Abort + RandomSource),
+    alloc: Global,
+    source: &mut SliceSource<'_>,
+    sink: &mut MemorySink,
+) -> Result<Result<(), FrontFault>, Fail> {
+    let first = talk_between(alloc, 0, FIRST_DAY)?;
+    let second = talk_between(alloc, SECOND_DAY, TWO_DAYS.steps.len())?;
+    let (sale, hold) = (Verdict::approved(b"A1B2C3"), Verdict::approved(b"H00001"));
+    let verdicts = [sale.ok_or("an id")?, hold.ok_or("an id")?];
+    let cutover = Event::Cutover(Moment::from_seconds(MORNING).ok_or("a moment")?);
+    let (mut again, mut later) = (MemorySink::new(alloc), MemorySink::new(alloc));
+    let mut issuer = SliceIssuer::new(&verdicts);
+    let mut host = new_host(rt, alloc)?;
+    let ended = served(&mut host, alloc, source, sink, &mut issuer);
+    let frames = &mut SliceSource::new(first.frames.as_slice());
+    let is_again = served(&mut host, alloc, frames, &mut again, &mut issuer).is_ok();
+    let is_over = host.take(&cutover).is_ok();
+    let frames = &mut SliceSource::new(second.frames.as_slice());
+    let is_later = served(&mut host, alloc, frames, &mut later, &mut issuer).is_ok();
+    drop(host);
+    assert!(rt; is_again && is_over && is_later);
+    assert_eq!(rt; again.as_bytes(), first.replies.as_slice());
+    assert_eq!(rt; later.as_bytes(), second.replies.as_slice());
+    Ok(ended)
+}
+
+/// Where a read fails, every frame that came whole has its reply, and the next connection gets all.
+#[test]
+fn reads_fail_in_turn(rt: HostRuntime) -> Result<(), Fail> {
+    let alloc = rt.alloc();
+    let day = talk_between(alloc, 0, FIRST_DAY)?;
+    let reads = day.frames.len().div_ceil(97) + 1;
+    for before in 0..=reads {
+        let mut source = SliceSource::failing_after(day.frames.as_slice(), 97, before as u64);
+        let mut sink = MemorySink::new(alloc);
+        let ended = served_again(&rt, alloc, &mut source, &mut sink)?;
+        let is_whole = before == reads;
+        assert_eq!(rt;
+            ended,
+            if is_whole {
+                Ok(())
+            } else {
+                Err(FrontFault::Read)
+            }
+        );
+        let written = sink.as_bytes();
+        assert!(rt; day.replies.as_slice().starts_with(written), "{before}");
+        assert_eq!(rt;
+            written.len() == day.replies.len(),
+            before + 1 >= reads,
+            "{before}"
+        );
+    }
+    Ok(())
+}
+
+/// Where a write fails, as much as the fault tells of the last reply is out, and the next connection
+/// gets all.
+#[test]
+fn writes_fail_in_turn(rt: HostRuntime) -> Result<(), Fail> {
+    let alloc = rt.alloc();
+    let day = talk_between(alloc, 0, FIRST_DAY)?;
+    // Where in the replies the one begins that a write fails in.
+    let mut begin = 0;
+    for room in 0..day.replies.len() {
+        let rest = day.replies.as_slice().get(begin..).ok_or("a reply")?;
+        let length = 2
+            + rest
+                .get(..2)
+                .map_or(0, |it| usize::from(it[0]) * 256 + usize::from(it[1]));
+        if room >= begin + length {
+            begin += length;
+        }
+        let mut source = SliceSource::new(day.frames.as_slice());
+        let mut sink = MemorySink::failing_after(alloc, 10, room);
+        let ended = served_again(&rt, alloc, &mut source, &mut sink)?;
+        assert_eq!(rt; ended, Err(FrontFault::Write((room - begin) as u64)));
+        assert_eq!(rt; Some(sink.as_bytes()), day.replies.as_slice().get(..room));
+    }
+    Ok(())
+}
