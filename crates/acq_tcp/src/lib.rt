@@ -2,7 +2,7 @@
 //! bytes; the connections of a [`TcpGathering`] are served at once, none of them waiting.
 #![tactic(auto)]
 
-mod guest;
+mod open_connection;
 mod tcp_connections;
 mod tcp_gathering;
 

@@ -4,7 +4,7 @@ ghost use Rattle.std.specs.Prelude.{◌≤◌, IfErr, OnOk};
 ghost use Rattle.acq_commands.specs.Faults.{IsOfGathering};
 ghost use Rattle.acq_commands.specs.Listening.{ReachedUnlessRefused};
 
-use crate::guest::Guest;
+use crate::open_connection::OpenConnection;
 use acq_book::Book;
 use acq_commands::{Fault, Gathering, end_connection};
 use acq_conversation::{Line, StreamLine};
@@ -28,7 +28,7 @@ pub struct TcpGathering<'a, T> {
     events: Events,
     time: &'a T,
     idle: Option<Duration>,
-    places: Vec<Option<Guest<StreamLine<TcpStream>>>>,
+    places: Vec<Option<OpenConnection<StreamLine<TcpStream>>>>,
     /// Whether connections may be waiting for a place.
     may_come: bool,
 }
@@ -91,8 +91,8 @@ impl<'a, T: time::Clock> TcpGathering<'a, T> {
             if self.places[place].is_none() {
                 match self.accept(place) {
                     Ok(stream) => {
-                        let guest = Guest::new(StreamLine::new(stream), now);
-                        self.places[place] = Some(guest);
+                        let connection = OpenConnection::new(StreamLine::new(stream), now);
+                        self.places[place] = Some(connection);
                         admitted += 1;
                     }
                     Err(fault) if fault.kind() == ErrorKind::WouldBlock => self.may_come = false,
@@ -126,7 +126,7 @@ impl<'a, T: time::Clock> TcpGathering<'a, T> {
         for event in self.events.iter() {
             let Token(place) = event.token();
             match self.places.get_mut(place) {
-                Some(Some(guest)) => guest.make_ready(),
+                Some(Some(connection)) => connection.make_ready(),
                 Some(None) => {}
                 None => self.may_come = true,
             }
@@ -140,12 +140,12 @@ impl<'a, T: time::Clock> TcpGathering<'a, T> {
         let now = self.now();
         let mut longest = None;
         for place in self.places.iter() {
-            if let Some(guest) = place {
-                if guest.is_ready() {
+            if let Some(connection) = place {
+                if connection.is_ready() {
                     return Some(Duration::ZERO);
                 }
                 if let Some(idle) = self.idle {
-                    let left = guest.time_left(now, idle);
+                    let left = connection.time_left(now, idle);
                     longest = Some(longest.map_or(left, |other: Duration| other.min(left)));
                 }
             }
@@ -184,7 +184,7 @@ impl<'a, T: time::Clock> TcpGathering<'a, T> {
 
 /// Gives the connection in a place a round, and frees the place at its end.
 fn give_round<L: Line + Drop, B: Book + Drop, C: Clock, I: Issuer, F: Sink>(
-    place: &mut Option<Guest<L>>,
+    place: &mut Option<OpenConnection<L>>,
     alloc: Global,
     host: &mut Host<B>,
     clock: &mut C,
@@ -199,10 +199,10 @@ fn give_round<L: Line + Drop, B: Book + Drop, C: Clock, I: Issuer, F: Sink>(
         → OnOk result (B.is_open host.new) }
     ensures was_honest { B.is_honest host.new → B.is_honest host.old }
 {
-    let Some(guest) = place else {
+    let Some(connection) = place else {
         return Ok(());
     };
-    match guest.give_round(alloc, host, clock, issuer, now, idle) {
+    match connection.give_round(alloc, host, clock, issuer, now, idle) {
         None => Ok(()),
         Some(ended) => {
             *place = None;

@@ -164,7 +164,10 @@ fn writes_fail_in_turn(rt: HostRuntime) -> Result<(), Fail> {
         let mut source = SliceSource::new(day.frames.as_slice());
         let mut sink = MemorySink::failing_after(alloc, 10, room);
         let ended = served_again(&rt, alloc, &mut source, &mut sink)?;
-        assert_eq!(rt; ended, Err(FrontFault::Write((room - begin) as u64)));
+        assert_eq!(rt;
+            ended,
+            Err(FrontFault::Write(room.saturating_sub(begin) as u64))
+        );
         assert_eq!(rt; Some(sink.as_bytes()), day.replies.as_slice().get(..room));
     }
     Ok(())

@@ -12,7 +12,7 @@ use std::time::{Duration, Instant};
 
 /// A connection among others.
 #[derive(Drop)]
-pub(crate) struct Guest<L> {
+pub(crate) struct OpenConnection<L> {
     exchange: Exchange<L>,
     /// Whether a round may find something to do.
     is_ready: bool,
@@ -20,10 +20,10 @@ pub(crate) struct Guest<L> {
     last_moved: Option<Instant>,
 }
 
-impl<L: Line> Guest<L> {
+impl<L: Line> OpenConnection<L> {
     /// A connection that came at this time, where the time is known.
-    pub(crate) fn new(line: L, now: Option<Instant>) -> Guest<L> {
-        Guest {
+    pub(crate) fn new(line: L, now: Option<Instant>) -> OpenConnection<L> {
+        OpenConnection {
             exchange: Exchange::new(line),
             is_ready: true,
             last_moved: now,
