@@ -3,10 +3,10 @@
 
 Each of sixty-two has a merchant of its own and sends its frames cut anywhere, and is to get what `once`
 gives on these frames alone. One reads no reply and sends on for as long as it can; one stops inside a
-frame. The others are answered while these two are still there."""
+frame. The others are answered while these two hold out; then the one is cut off, and the other ends."""
 import os, random, select, shutil, socket, subprocess, sys, tempfile, time
 
-TOGETHER, IDLE, MOMENT = 64, 8, "1714555800"
+TOGETHER, MOMENT = 64, "1714555800"
 DEAF, STUCK = 0, 1
 
 
@@ -67,7 +67,8 @@ def pieces_of(sent, chance):
 
 
 def talk(port, chance):
-    """Has all connections talk, and returns the two that hold out and what each other one got."""
+    """Has all connections talk, and returns the two that hold out, what the first has still to send, and
+    what each other one got."""
     every = [connect(port, 4096 if k == DEAF else None) for k in range(TOGETHER)]
     deaf, stuck = every[DEAF], every[STUCK]
     stuck.sendall(frames_of(STUCK)[:-9])
@@ -95,11 +96,18 @@ def talk(port, chance):
             if not came:
                 sending.discard(end)
                 del others[end]
-    return deaf, stuck, got
+    return deaf, stuck, flood, got
+
+
+def send_on(deaf, flood):
+    """Sends until for a second nothing more can be sent: then the host waits to write to it."""
+    while select.select([], [deaf], [], 1)[1]:
+        flood = flood or echo(0) * 200
+        flood = flood[deaf.send(flood):]
 
 
 def main(program):
-    work = tempfile.mkdtemp()
+    work, host = tempfile.mkdtemp(), None
     try:
         book, alone, issuers = f"{work}/book.db", f"{work}/alone.db", f"{work}/issuers.csv"
         with open(issuers, "w") as it:
@@ -110,20 +118,27 @@ def main(program):
             free.bind(("127.0.0.1", 0))
             port = free.getsockname()[1]
         words = ["listen", "--db", book, "--port", str(port), "--count", str(TOGETHER), "--together",
-                 str(TOGETHER), "--idle", str(IDLE), "--issuers", issuers, "--at", MOMENT]
+                 str(TOGETHER), "--idle", "0", "--issuers", issuers, "--at", MOMENT]
         host = subprocess.Popen([program, *words], stdout=subprocess.PIPE, stderr=subprocess.PIPE)
-        deaf, stuck, got = talk(port, random.Random(8583))
+        deaf, stuck, flood, got = talk(port, random.Random(8583))
+        send_on(deaf, flood)
         still = host.poll() is None
-        out, faults = host.communicate(timeout=20 * IDLE)
+        deaf.close()
+        stuck.shutdown(socket.SHUT_WR)
+        while stuck.recv(65536):
+            pass
+        out, faults = host.communicate(timeout=60)
         once = ["once", "--db", alone, "--issuers", issuers, "--at", MOMENT]
         wrong = [k for k in got if got[k] != run([program, *once], frames_of(k))]
         told = sorted(faults.decode().splitlines())
         well = (not wrong and still and host.returncode == 0 and out == b"" and len(told) == 2
-                and told[0] == "acqd: 53 Read" and told[1].startswith("acqd: 54 Write "))
+                and told[0] == "acqd: 51 Ended" and told[1].startswith("acqd: 54 Write "))
         print(f"{len(got)} connections among {TOGETHER}: {len(wrong)} answered wrongly {wrong[:3]}; "
               f"{'while' if still else 'NOT while'} two held out; status {host.returncode}, {told}")
         return 0 if well else 1
     finally:
+        if host:
+            host.kill()
         shutil.rmtree(work, ignore_errors=True)
 
 
