@@ -1,7 +1,7 @@
 -- How one round goes.
 use Rattle.std.proofs.Common.{◌≡◌, ℕ, true, List, [], ◌∷◌, ◌++◌, take, drop, Ok, Err, inl, inr, refl, sym, subst, ◌∙◌, ◌==◌, Bool, false, length, true≢false, append-nil, arith}
 use Rattle.std.proofs.lemmas.Bool.Decides.{nat_tests}
-use Rattle.std.specs.Prelude.{map, Result}
+use Rattle.std.specs.Prelude.{Result}
 use Rattle.std.specs.List.{All}
 use Rattle.acq_link.specs.Frames.{Frames}
 use Rattle.acq_link.specs.FramesAt.{BeginsWithFrame}
@@ -11,7 +11,7 @@ use Rattle.acq_front.specs.Talk.{Saying, replies}
 use Rattle.acq_front.specs.Turns as front
 use Rattle.acq_front.specs.declared.front_fault.FrontFault as fault
 use Rattle.acq_conversation.specs.Exchanges.{EndsWith, FollowsLog, Goes, Passed, UnlessCut}
-use Rattle.acq_conversation.specs.Log.{Entry, by}
+use Rattle.acq_conversation.specs.Log.{Entry}
 use Rattle.acq_conversation.specs.Turns.{Steps, StopsAt, UnlessRefused}
 use Rattle.acq_conversation.specs.declared.round.Round.{Round}
 use Rattle.acq_conversation.specs.declared.round.Round.TheVariants.{GoesOn}

@@ -1,14 +1,10 @@
 -- How one turn goes.
-use Rattle.std.proofs.Common.{◌≡◌, ℕ, true, List, [], Ok, Err, inl, inr, refl}
-use Rattle.std.specs.List.{All}
+use Rattle.std.proofs.Common.{◌≡◌, ℕ, true, List, Err, inl, inr, refl}
 use Rattle.acq_link.specs.Frames.{has_bad_length}
-use Rattle.acq_link.specs.FramesAt.{BeginsWithFrame}
 use Rattle.acq_link.specs.declared.deframe_fault.DeframeFault as deframe
-use Rattle.acq_message.specs.declared.verdict.Verdict.{Verdict}
 use Rattle.acq_core.specs.Tables.{Tables}
 use Rattle.acq_front.specs.Faults.{of_stream}
 use Rattle.acq_front.specs.Talk.{Saying}
-use Rattle.acq_front.specs.Turns as front
 use Rattle.acq_front.specs.declared.front_fault.FrontFault as fault
 use Rattle.acq_conversation.specs.Turns.{Steps, TakesNext, TookNothing}
 
