@@ -1,6 +1,7 @@
 //! Frames out of a stream that comes in pieces.
 
-ghost use Rattle.std.specs.Prelude.{◌≡◌, ◌==◌, ◌+◌, ◌<◌, ◌≤◌, ◌++◌, [], length, true};
+ghost use Rattle.std.specs.Prelude.{◌≡◌, ◌==◌, ◌+◌, ◌-◌, ◌<◌, ◌≤◌, ◌++◌, [], length, true};
+ghost use Rattle.std.specs.Prelude.{drop, take};
 ghost use Rattle.std.specs.Prelude.{IfOk, IfSome, IfNone, IsErrOf, OnErr};
 ghost use Rattle.acq_link.specs.Frames.{has_bad_length};
 ghost use Rattle.acq_link.specs.FramesAt.{BeginsWithFrame, MayBecomeFrame};
@@ -17,18 +18,20 @@ use std::marker::Model;
 #[derive(Drop)]
 pub struct Deframer {
     bytes: [u8; LONGEST_FRAME],
-    held: usize,
+    /// Where what it holds begins: a message that is taken leaves the others where they stand.
+    start: usize,
+    end: usize,
 }
 
 impl Model for Deframer {
-    ghost use Rattle.std.specs.Prelude.{◌≤◌, ℕ, List, take};
+    ghost use Rattle.std.specs.Prelude.{◌≤◌, ◌-◌, ℕ, List, drop, take};
     ghost use Rattle.acq_link.specs.Deframing.{longest_frame};
 
     ghost Value = { List ℕ };
 
-    ghost view = { λ d. take d.held d.bytes };
+    ghost view = { λ d. take (d.end - d.start) (drop d.start d.bytes) };
 
-    ghost invariant = { λ d. d.held ≤ longest_frame };
+    ghost invariant = { λ d. (d.start ≤ d.end) × (d.end ≤ longest_frame) };
 }
 
 impl Deframer {
@@ -38,7 +41,8 @@ impl Deframer {
     {
         Deframer {
             bytes: [0; LONGEST_FRAME],
-            held: 0,
+            start: 0,
+            end: 0,
         }
     }
 
@@ -46,7 +50,7 @@ impl Deframer {
     pub fn is_empty(&self) -> bool
         ensures { result ≡ (length self.now == 0) }
     {
-        self.held == 0
+        self.start == self.end
     }
 
     /// How many bytes it has room for: some, where what it holds may become a frame.
@@ -54,7 +58,7 @@ impl Deframer {
         ensures room { result + length self.now ≡ longest_frame }
         ensures some { MayBecomeFrame self.now → 0 < result }
     {
-        LONGEST_FRAME - self.held
+        LONGEST_FRAME - (self.end - self.start)
     }
 
     /// Takes in the next piece of the stream.
@@ -62,9 +66,12 @@ impl Deframer {
         requires { length self.old + length piece.now ≤ longest_frame }
         ensures { self.new ≡ self.old ++ piece.now }
     {
-        let end = self.held + piece.len();
-        self.bytes[self.held..end].copy_from_slice(piece);
-        self.held = end;
+        let held = self.end - self.start;
+        let end = held + piece.len();
+        move_to_front(&mut self.bytes, self.start, self.end);
+        self.bytes[held..end].copy_from_slice(piece);
+        self.start = 0;
+        self.end = end;
     }
 
     /// Takes out the message in front, if its frame is whole. A bad length is told as soon as its
@@ -77,16 +84,23 @@ impl Deframer {
         ensures bad { IsErrOf result DeframeFault.BadLength → has_bad_length self.old ≡ true }
         ensures kept { OnErr result (self.new ≡ self.old) }
     {
-        match frame_at(&self.bytes[..self.held]) {
+        match frame_at(&self.bytes[self.start..self.end]) {
             Front::BadLength => Err(DeframeFault::BadLength),
             Front::Partial => Ok(None),
             Front::Frame { message, rest } => {
                 let message = Vec::from_slice(alloc, message)?;
-                let left = rest.len();
-                self.bytes.copy_within(self.held - left..self.held, 0);
-                self.held = left;
+                self.start = self.end - rest.len();
                 Ok(Some(message))
             }
         }
     }
+}
+
+/// Moves the bytes between these places to the front.
+fn move_to_front(bytes: &mut [u8; LONGEST_FRAME], start: usize, end: usize)
+    requires order { start ≤ end }
+    requires inside { end ≤ longest_frame }
+    ensures { take (end - start) bytes.new ≡ take (end - start) (drop start bytes.old) }
+{
+    bytes.copy_within(start..end, 0);
 }
