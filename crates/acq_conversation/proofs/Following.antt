@@ -1,8 +1,8 @@
 -- Each connection follows the log of one host.
 use Rattle.std.proofs.Common.{◌≡◌, ◌≢◌, ◌==◌, ℕ, Bool, true, false, List, [], ◌∷◌, ◌++◌, take, drop, cond, refl, sym, ap, subst, ◌∙◌, append_assoc, append-nil, take-append-drop, arith}
 use Rattle.std.specs.Prelude.{map}
-use Rattle.std.specs.List.{flat_map, list_all}
-use Rattle.std.proofs.lemmas.Bool.{and_from, and_parts}
+use Rattle.std.specs.List.{flat_map}
+use Rattle.std.proofs.lemmas.Bool.{and_from}
 use Rattle.std.proofs.lemmas.Bool.Decides.{nat_tests}
 use Rattle.std.proofs.lemmas.Grind.{flat_map-append}
 use Rattle.std.proofs.lemmas.List.{map-append}
@@ -17,6 +17,7 @@ use Rattle.acq_core.specs.declared.output.Output.TheVariants.{Ask}
 use Rattle.acq_core.specs.Arrivals.{arrival_of}
 use Rattle.acq_core.specs.Tables.{Tables, step_output, step_tables, tables_after}
 use Rattle.acq_bookkeeping.proofs.FinalDays.{tables_after-append}
+use Rattle.acq_front.proofs.Served.{all-append}
 use Rattle.acq_front.specs.Coming.{next_or, later_than}
 use Rattle.acq_front.specs.Talk.{Taking, first_moment, replies, reply_in, taking_said}
 use Rattle.acq_front.specs.Turns.{Makes}
@@ -103,12 +104,6 @@ after_more k t log events =
     ∙ tables_after-append t (events_of log) events
 
 -- ---- what follows the log goes on to
-
-all-append : {X : Type 0} (p : X → Bool) (xs ys : List X) → list_all p xs ≡ true → list_all p ys ≡ true → list_all p (xs ++ ys) ≡ true
-all-append p [] ys h k = k
-all-append p (x ∷ xs) ys h k =
-    let parts = and_parts (p x) (list_all p xs) h in
-    and_from (p x) (list_all p (xs ++ ys)) parts.0 (all-append p xs ys parts.1 k)
 
 pub follows_none : (k : ℕ) (t : Tables) → Follows k t [] [] [] [] []
 follows_none k t = record { came = record { each = refl; whole = refl }; written = refl }

@@ -39,14 +39,14 @@ unless_cut (Err fault.TheVariants.Read) h = h
 unless_cut (Err (fault.TheVariants.Write n)) h = tt
 
 -- where a turn stopped the connection, so does the round
-pub stops_ends : (held : List ℕ) (f : fault.FrontFault) → StopsAt held (Err f) → EndsWith held (Err f)
-stops_ends held fault.TheVariants.Memory h = tt
-stops_ends held fault.TheVariants.Store h = tt
-stops_ends held fault.TheVariants.BadLength h = h
-stops_ends held fault.TheVariants.Ended h = absurd h
-stops_ends held (fault.TheVariants.Undecodable u) h = tt
-stops_ends held fault.TheVariants.Read h = tt
-stops_ends held (fault.TheVariants.Write n) h = tt
+pub stops_ends : (held unsent : List ℕ) (f : fault.FrontFault) → StopsAt held unsent (Err f) → EndsWith held unsent (Err f)
+stops_ends held unsent fault.TheVariants.Memory h = tt
+stops_ends held unsent fault.TheVariants.Store h = tt
+stops_ends held unsent fault.TheVariants.BadLength h = h
+stops_ends held unsent fault.TheVariants.Ended h = absurd h
+stops_ends held unsent (fault.TheVariants.Undecodable u) h = tt
+stops_ends held unsent fault.TheVariants.Read h = tt
+stops_ends held unsent (fault.TheVariants.Write n) h = tt
 
 -- nothing is left, where that was seen
 pub none_left : (seen left : List ℕ) (b : Bool) → b ≡ (length seen == 0) → b ≡ true → seen ≡ left → left ≡ []

@@ -12,7 +12,7 @@ use Rattle.acq_conversation.specs.Log.{Entry, Follows, after_log, by}
 use Rattle.acq_conversation.specs.Turns as turns
 use Rattle.acq_conversation.specs.declared.exchange.Exchange.{Exchange}
 use Rattle.acq_conversation.specs.declared.round.Round.{Round}
-use Rattle.acq_conversation.specs.declared.round.Round.TheVariants.{Ended}
+use Rattle.acq_conversation.specs.declared.round.Round.TheVariants.{Ended, Waits}
 
 -- what passed over a connection so far
 pub record Passed : Type 0 where
@@ -51,12 +51,17 @@ abbrev pub UnlessCut : Result Round fault.FrontFault → Type 0 → Type 0
 UnlessCut (Err (fault.TheVariants.Write n)) p = Unit {0}
 UnlessCut other p = p
 
--- where the connection ended, what it holds then
-abbrev pub EndsWith : List ℕ → Result Round fault.FrontFault → Type 0
-EndsWith held (Ok Ended) = held ≡ []
-EndsWith held (Err fault.TheVariants.BadLength) = has_bad_length held ≡ true
-EndsWith held (Err fault.TheVariants.Ended) = is_partial held ≡ true
-EndsWith held other = Unit {0}
+-- this holds where the round waits
+abbrev pub IfWaits : Result Round fault.FrontFault → Type 0 → Type 0
+IfWaits (Ok Waits) p = p
+IfWaits other p = Unit {0}
+
+-- Where the connection ended, what it holds and has still to write: at its own end neither.
+abbrev pub EndsWith : List ℕ → List ℕ → Result Round fault.FrontFault → Type 0
+EndsWith held unsent (Ok Ended) = (held ≡ []) × (unsent ≡ [])
+EndsWith held unsent (Err fault.TheVariants.BadLength) = has_bad_length held ≡ true
+EndsWith held unsent (Err fault.TheVariants.Ended) = is_partial held ≡ true
+EndsWith held unsent other = Unit {0}
 
 module _ (may_give : ℕ → Type 0) (may_say : Saying) (old new : Tables) where
   -- the host took the events of one message, at moments that may be given

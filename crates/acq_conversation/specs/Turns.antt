@@ -51,14 +51,15 @@ module _ (may_give : ℕ → Type 0) (may_say : Saying) (old : Tables) (stays_op
       ⊎ TakesNext held left unsent (Err fault.TheVariants.Memory)
   Steps held left unsent (Err f) = TakesNext held left unsent (Err f)
 
--- Where no message could be taken, what stands in front: nothing or a frame that is begun, or a bad
--- length. Whether the input ended, and whether it could be read, is not known here.
-abbrev pub StopsAt : List ℕ → Result Turn fault.FrontFault → Type 0
-StopsAt held (Ok Waits) = MayBecomeFrame held
-StopsAt held (Err fault.TheVariants.BadLength) = has_bad_length held ≡ true
-StopsAt held (Err fault.TheVariants.Ended) = ⊥
-StopsAt held (Err fault.TheVariants.Read) = ⊥
-StopsAt held other = Unit {0}
+-- Where no message could be taken, what stands in front: nothing or a frame that is begun, and then
+-- nothing is to be written; or a bad length. Whether the input ended, and whether it could be read, is
+-- not known here.
+abbrev pub StopsAt : List ℕ → List ℕ → Result Turn fault.FrontFault → Type 0
+StopsAt held unsent (Ok Waits) = MayBecomeFrame held × (unsent ≡ [])
+StopsAt held unsent (Err fault.TheVariants.BadLength) = has_bad_length held ≡ true
+StopsAt held unsent (Err fault.TheVariants.Ended) = ⊥
+StopsAt held unsent (Err fault.TheVariants.Read) = ⊥
+StopsAt held unsent other = Unit {0}
 
 -- this holds where neither memory nor the store stopped it
 abbrev pub UnlessRefused : {X : Type 0} → Result X fault.FrontFault → Type 0 → Type 0

@@ -95,7 +95,7 @@ impl Conversation {
             (B.is_open host.new) (B.tables host.new) (held_of self.old) (held_of self.new)
             (unsent_of self.new) result }
         // Where no message could be taken, what stands in front.
-        ensures stops { StopsAt (held_of self.new) result }
+        ensures stops { StopsAt (held_of self.new) (unsent_of self.new) result }
         ensures was_honest { B.is_honest host.new → B.is_honest host.old }
         ensures stays_open { B.is_honest host.new → B.is_open host.old
             → UnlessRefused result (B.is_open host.new) }

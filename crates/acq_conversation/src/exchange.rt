@@ -3,7 +3,7 @@
 ghost use Rattle.std.specs.Prelude.{◌≡◌, ◌≤◌, ◌++◌, ℕ, List, [], length, take, drop};
 ghost use Rattle.acq_link.specs.FramesAt.{MayBecomeFrame};
 ghost use Rattle.acq_conversation.specs.Exchanges.{line_of, held_of, unsent_of, passed};
-ghost use Rattle.acq_conversation.specs.Exchanges.{EndsWith, Goes};
+ghost use Rattle.acq_conversation.specs.Exchanges.{EndsWith, Goes, IfWaits};
 ghost use Rattle.acq_conversation.specs.Turns.{UnlessRefused};
 
 use crate::conversation::Conversation;
@@ -60,7 +60,11 @@ impl<L: Line> Exchange<L> {
             (Goes (C.may_give clock.old) (I.may_say issuer.old) (B.tables host.old)
             (B.tables host.new) (passed L.received L.sent self.old)
             (passed L.received L.sent self.new) result) }
-        ensures ends { EndsWith (held_of self.new) result }
+        ensures ends { EndsWith (held_of self.new) (unsent_of self.new) result }
+        // A round that waits did nothing.
+        ensures idle { B.is_honest host.new → B.is_open host.old → IfWaits result
+            ((B.tables host.new ≡ B.tables host.old)
+            × (passed L.received L.sent self.new ≡ passed L.received L.sent self.old)) }
         ensures was_honest { B.is_honest host.new → B.is_honest host.old }
         ensures stays_open { B.is_honest host.new → B.is_open host.old
             → UnlessRefused result (B.is_open host.new) }
@@ -94,7 +98,9 @@ impl<L: Line> Exchange<L> {
         ensures sent { (n : ℕ) × (unsent_of self.new ≡ drop n (unsent_of self.old))
             × (L.sent (line_of self.new) ≡ L.sent (line_of self.old)
             ++ take n (unsent_of self.old)) }
-        ensures ends { EndsWith (held_of self.new) result }
+        ensures ends { EndsWith (held_of self.new) (unsent_of self.new) result }
+        ensures idle { IfWaits result
+            (passed L.received L.sent self.new ≡ passed L.received L.sent self.old) }
     {
         match self.line.write(self.conversation.unsent()) {
             Ok(None) => Ok(Round::Waits),
@@ -108,12 +114,15 @@ impl<L: Line> Exchange<L> {
 
     /// Reads on.
     fn receive(&mut self) -> Result<Round, FrontFault>
-        requires { MayBecomeFrame (held_of self.old) }
+        requires begun { MayBecomeFrame (held_of self.old) }
+        requires written { unsent_of self.old ≡ [] }
         ensures received { (piece : List ℕ) × (held_of self.new ≡ held_of self.old ++ piece)
             × (L.received (line_of self.new) ≡ L.received (line_of self.old) ++ piece) }
         ensures unsent { unsent_of self.new ≡ unsent_of self.old }
         ensures sent { L.sent (line_of self.new) ≡ L.sent (line_of self.old) }
-        ensures ends { EndsWith (held_of self.new) result }
+        ensures ends { EndsWith (held_of self.new) (unsent_of self.new) result }
+        ensures idle { IfWaits result
+            (passed L.received L.sent self.new ≡ passed L.received L.sent self.old) }
     {
         let mut buffer = [0; PIECE];
         let room = self.conversation.room().min(PIECE);

@@ -34,8 +34,6 @@ mod reply_state;
 mod request;
 mod status;
 mod terminal;
-#[cfg(test)]
-mod tests;
 mod used_count;
 
 pub use acq_message::{

@@ -1,3 +1,4 @@
+mod FilledFrames
 pub mod GivenInOrder
 pub mod MessagesTaken
 pub mod Reading

@@ -39,7 +39,8 @@ pub record Going (may_say : Saying) (old now : Tables) (c : Connection) (held : 
 abbrev pub nothing_yet : Connection
 nothing_yet = record { input = []; output = []; moments = []; verdicts = []; messages = []; rest = [] }
 
-all-append : {X : Type 0} (p : X → Bool) (xs ys : List X) → list_all p xs ≡ true → list_all p ys ≡ true → list_all p (xs ++ ys) ≡ true
+-- what each of two lists' elements do, those of both do
+pub all-append : {X : Type 0} (p : X → Bool) (xs ys : List X) → list_all p xs ≡ true → list_all p ys ≡ true → list_all p (xs ++ ys) ≡ true
 all-append p [] ys h k = k
 all-append p (x ∷ xs) ys h k =
     let parts = and_parts (p x) (list_all p xs) h in

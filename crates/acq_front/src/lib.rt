@@ -20,6 +20,3 @@ pub use no_issuer::NoIssuer;
 pub use serving::{answer_message, serve};
 pub use slice_clock::SliceClock;
 pub use slice_issuer::SliceIssuer;
-
-#[cfg(test)]
-mod tests;

@@ -1,8 +1,8 @@
 //! One connection, from its first byte on.
 
-ghost use Rattle.std.specs.Prelude.{◌≡◌, ◌⊎◌, ◌+◌, ◌≤◌, ◌++◌, ℕ, List, true};
+ghost use Rattle.std.specs.Prelude.{◌≡◌, ◌⊎◌, ◌+◌, ◌≤◌, ◌++◌, ℕ, List, length, true};
 ghost use Rattle.std.specs.List.{All};
-ghost use Rattle.acq_link.specs.Frames.{fits_frame};
+ghost use Rattle.acq_link.specs.Frames.{fits_frame, length_bytes};
 ghost use Rattle.acq_link.specs.Moves.{TakesAll};
 ghost use Rattle.acq_book.specs.Promise.{HasRisen};
 ghost use Rattle.acq_front.specs.Coming.{GivesAll};
@@ -29,6 +29,9 @@ const LONGEST: usize = 4096;
 
 /// The most bytes of a frame.
 const LONGEST_FRAME: usize = HEADER + LONGEST;
+
+/// The most bytes of most frames: a short buffer is sooner ready for them.
+const USUAL_FRAME: usize = 256;
 
 /// Serves one connection: takes each message as soon as its frame is whole, asks the issuer where
 /// the host says so, and reads on only once the reply, if there is one, is written.
@@ -157,12 +160,53 @@ fn send<K: Sink>(text: &[u8], sink: &mut K) -> Result<(), FrontFault>
     ensures sent { Sends text.now (K.sent sink.old) (K.sent sink.new) result }
     ensures writes { K.failures sink.new ≡ K.failures sink.old + failed_writes result }
 {
-    let mut frame = [0; LONGEST_FRAME];
+    if text.len() <= USUAL_FRAME - HEADER {
+        send_usual(text, sink)
+    } else {
+        send_any(text, sink)
+    }
+}
+
+/// Writes a text of a usual length as a frame. It is apart, since a function pays for the size of its
+/// buffers, whether or not they are used.
+fn send_usual<K: Sink>(text: &[u8], sink: &mut K) -> Result<(), FrontFault>
+    requires fits { fits_frame text.now ≡ true }
+    requires usual { 2 + length text.now ≤ 256 }
+    ensures sent { Sends text.now (K.sent sink.old) (K.sent sink.new) result }
+    ensures writes { K.failures sink.new ≡ K.failures sink.old + failed_writes result }
+{
+    send_in(&mut [0; USUAL_FRAME], text, sink)
+}
+
+/// Writes any text as a frame.
+fn send_any<K: Sink>(text: &[u8], sink: &mut K) -> Result<(), FrontFault>
+    requires { fits_frame text.now ≡ true }
+    ensures sent { Sends text.now (K.sent sink.old) (K.sent sink.new) result }
+    ensures writes { K.failures sink.new ≡ K.failures sink.old + failed_writes result }
+{
+    send_in(&mut [0; LONGEST_FRAME], text, sink)
+}
+
+/// Writes a text as a frame, out of this buffer.
+fn send_in<K: Sink>(frame: &mut [u8], text: &[u8], sink: &mut K) -> Result<(), FrontFault>
+    requires fits { fits_frame text.now ≡ true }
+    requires room { 2 + length text.now ≤ length frame.old }
+    ensures sent { Sends text.now (K.sent sink.old) (K.sent sink.new) result }
+    ensures writes { K.failures sink.new ≡ K.failures sink.old + failed_writes result }
+{
     let end = HEADER + text.len();
-    frame[..HEADER].copy_from_slice(&(text.len() as u16).to_be_bytes());
+    frame[..HEADER].copy_from_slice(&length_of(text));
     frame[HEADER..end].copy_from_slice(text);
     match write_out(sink, &frame[..end]) {
         Ok(()) => Ok(()),
         Err(bytes) => Err(FrontFault::Write(bytes)),
     }
+}
+
+/// A text's length, high byte first.
+fn length_of(text: &[u8]) -> [u8; HEADER]
+    requires { fits_frame text.now ≡ true }
+    ensures { result ≡ length_bytes (length text.now) }
+{
+    (text.len() as u16).to_be_bytes()
 }

@@ -7,8 +7,6 @@
 mod hex_fault;
 mod hex_lines;
 pub mod laws;
-#[cfg(test)]
-mod tests;
 
 pub use hex_fault::HexFault;
 pub use hex_lines::frames_of_hex;

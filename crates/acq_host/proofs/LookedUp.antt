@@ -1,7 +1,7 @@
 -- What was looked up part by part is what the tables let an event know.
 use Rattle.std.proofs.Common.{◌≡◌, ℕ, List, [], ◌∷◌, Option, Some, None, Bool, true, false, cond, ◌⊎◌, inl, inr, refl}
 use Rattle.std.proofs.Common.{sym, ap, ◌∙◌, subst}
-use Rattle.std.specs.Prelude.{take, filter, find, option_map, option_and_then, IfSome}
+use Rattle.std.specs.Prelude.{take, filter, find, option_map, option_and_then, IfSome, IfOk, Result, Ok, Err}
 use Rattle.std.specs.Str.{bytes_eq}
 use Rattle.iso_codec.specs.Message.{IsoMessage}
 use Rattle.acq_message.specs.declared.service.Service.{Service}
@@ -20,8 +20,9 @@ use Rattle.acq_core.specs.Arrivals.{merchant_named}
 use Rattle.acq_core.specs.Known.{nothing, wanted_for, wanted_by, holds_if, number_if, totals_if, known_for}
 use Rattle.acq_core.specs.Looking.{known_of}
 use Rattle.acq_core.specs.Tables.{Tables, prior_of, requests_of, recorded_in, facts_in, known_in}
-use Rattle.acq_book.specs.Lookups.{merchant_at, has_terminal_at, range_at, overlapping_at, request_at, referred_at}
+use Rattle.acq_book.specs.Lookups.{merchant_at, has_terminal_at, request_at, referred_at}
 use Rattle.acq_book.specs.Lookups.{admitted_at, used_at, totals_at}
+use Rattle.acq_host.specs.Looked.{IsLooked}
 use Rattle.acq_history.proofs.Keys.{bytes_eq_from, same_key_is}
 
 -- ---- what is wanted is of the merchant that is named
@@ -119,26 +120,6 @@ at_merchant : {X : Type 0} (f g : Option (List ℕ) → X) (m : List ℕ) (o : O
 at_merchant f g m o (inl e) none some = ap f e ∙ (none ∙ sym (ap g e))
 at_merchant f g m o (inr e) none some = ap f e ∙ (some ∙ sym (ap g e))
 
--- each part is what the book gave for what was wanted
-pub record IsLooked (t : Tables) (w : Wanted) (l : Looked) : Type 0 where
-  pub today : l.today ≡ t.day
-  pub limit : l.limit ≡ t.limit
-  pub merchant : l.merchant ≡ option_and_then (merchant_at t) w.merchant
-  pub has_terminal :
-      l.has_terminal
-      ≡ holds_if (has_terminal_at t (or_empty w.merchant)) (option_and_then (λ id. w.terminal) w.merchant)
-  pub recorded : l.recorded ≡ option_and_then (request_at t) w.key
-  pub original : l.original ≡ option_and_then (request_at t) w.original
-  pub referred :
-      l.referred
-      ≡ option_and_then (referred_at t (or_empty w.merchant)) (option_and_then (λ id. w.reference) w.merchant)
-  pub range : l.range ≡ option_and_then (range_at t) w.prefix
-  pub overlapped : l.overlapped ≡ option_and_then (λ ends. overlapping_at t ends.0 ends.1) w.bounds
-  pub admitted : l.admitted ≡ number_if (admitted_at t (or_empty w.merchant)) w.merchant
-  pub used : l.used ≡ number_if (used_at t (or_empty w.merchant) t.day) w.merchant
-  pub totals :
-      l.totals ≡ totals_if (totals_at t (or_empty w.merchant)) (option_and_then (λ id. w.totals_day) w.merchant)
-
 -- what a found row says
 map_then : {X Y Z : Type 0} (f : Y → Z) (g : X → Option Y) (o : Option X) →
     option_map f (option_and_then g o) ≡ option_and_then (λ x. option_map f (g x)) o
@@ -193,3 +174,9 @@ known_is t a w l wanted is =
     let m = or_empty (merchant_named a) in
     known_for-looked t w m l (subst (λ v. IsOfMerchant v m) (sym wanted) (wanted_by-of t.day a)) is
     ∙ ap (λ v. known_for v (facts_in t m)) wanted
+
+-- the same where a look-up succeeded, over tables that are these
+pub known_if : {F : Type 0} (t b : Tables) (a : Arrival) (w : Wanted) (r : Result Looked F) → b ≡ t → w ≡ wanted_by t.day a →
+    IfOk r (IsLooked b w) → IfOk r (λ l. known_of l ≡ known_in t a)
+known_if t b a w (Ok l) same wanted is = known_is t a w l wanted (subst (λ v. IsLooked v w l) same is)
+known_if t b a w (Err fault) same wanted is = tt

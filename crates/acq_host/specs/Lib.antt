@@ -1,3 +1,4 @@
 pub mod Runs
 pub mod Headline
 pub mod Clearing
+pub mod Looked

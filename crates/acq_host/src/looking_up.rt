@@ -1,17 +1,18 @@
 //! What an event needs of a book.
 
-ghost use Rattle.std.specs.Prelude.{◌≡◌, is_ok, option_and_then, IfOk};
+ghost use Rattle.std.specs.Prelude.{◌≡◌, is_ok, option_and_then, true, IfOk};
 ghost use Rattle.acq_message.specs.Elements.{or_empty};
-ghost use Rattle.acq_core.specs.Known.{holds_if, number_if, totals_if};
+ghost use Rattle.acq_core.specs.Known.{holds_if, nothing, number_if, totals_if};
 ghost use Rattle.acq_core.specs.Looking.{known_of};
-ghost use Rattle.acq_core.specs.Tables.{known_in};
+ghost use Rattle.acq_core.specs.Tables.{Tables, known_in};
 ghost use Rattle.acq_book.specs.Lookups.{merchant_at, has_terminal_at, range_at, overlapping_at};
 ghost use Rattle.acq_book.specs.Lookups.{request_at, referred_at, admitted_at, used_at, totals_at};
 ghost use Rattle.acq_book.specs.Promise.{HasRisen, IfStore, Looks};
+ghost use Rattle.acq_host.specs.Looked.{IsLooked};
 
 use acq_book::{Book, BookFault};
 use acq_core::{
-    AdmittedCount, Arrival, Looked, Merchant, MerchantId, Reference, Request, RequestKey,
+    AdmittedCount, Arrival, Limit, Looked, Merchant, MerchantId, Reference, Request, RequestKey,
     TerminalId, UsedCount, Wanted,
 };
 use card_no::{Prefix, Range};
@@ -29,6 +30,70 @@ pub(crate) fn look_up<B: Book>(book: &mut B, arrival: &Arrival) -> Result<Looked
     let today = book.day()?;
     let limit = book.limit()?;
     let wanted = arrival.wanted(today);
+    if is_nothing(&wanted) {
+        return Ok(nothing_looked(today, limit));
+    }
+    look_up_wanted(book, today, limit, &wanted)
+}
+
+/// Whether nothing is wanted, as for network management.
+fn is_nothing(wanted: &Wanted) -> bool
+    ensures { result ≡ true → wanted.now ≡ nothing }
+{
+    matches!(
+        wanted,
+        Wanted {
+            merchant: None,
+            terminal: None,
+            key: None,
+            original: None,
+            reference: None,
+            prefix: None,
+            bounds: None,
+            totals_day: None,
+        }
+    )
+}
+
+/// What is looked up where nothing is wanted.
+fn nothing_looked(today: Day, limit: Limit) -> Looked
+    ensures { (t : Tables) → today ≡ t.day → limit ≡ t.limit → IsLooked t nothing result }
+{
+    let (Some(admitted), Some(used)) = (AdmittedCount::from_number(0), UsedCount::from_number(0))
+    else {
+        unreachable!();
+    };
+    Looked {
+        today,
+        limit,
+        merchant: None,
+        has_terminal: false,
+        recorded: None,
+        original: None,
+        referred: None,
+        range: None,
+        overlapped: None,
+        admitted,
+        used,
+        totals: Totals::zero(),
+    }
+}
+
+/// Looks up what is wanted on a day.
+#[tactic(auto, using(crate::proofs::Chains::looks_more))]
+fn look_up_wanted<B: Book>(
+    book: &mut B,
+    today: Day,
+    limit: Limit,
+    wanted: &Wanted,
+) -> Result<Looked, BookFault>
+    ensures looked { B.is_open book.new → today ≡ (B.tables book.old).day
+        → limit ≡ (B.tables book.old).limit
+        → IfOk result (IsLooked (B.tables book.old) wanted.now) }
+    ensures looks { Looks B.tables B.is_honest B.is_open B.may_leave B.failures
+        book.old book.new (is_ok result) }
+    ensures store { IfStore result (HasRisen (B.failures book.old) (B.failures book.new)) }
+{
     let merchant = merchant(book, wanted.merchant)?;
     let has_terminal = has_terminal(book, wanted.merchant, wanted.terminal)?;
     let admitted = admitted(book, wanted.merchant)?;
@@ -36,7 +101,7 @@ pub(crate) fn look_up<B: Book>(book: &mut B, arrival: &Arrival) -> Result<Looked
     let totals = totals(book, wanted.merchant, wanted.totals_day)?;
     let range = range(book, wanted.prefix)?;
     let overlapped = overlapping(book, wanted.bounds)?;
-    let found = requests(book, &wanted)?;
+    let found = requests(book, wanted)?;
     Ok(Looked {
         today,
         limit,

@@ -35,6 +35,3 @@ pub use transcript::Transcript;
 pub use transfer::{read_to_end, write_out};
 pub use write_fault::WriteFault;
 pub use write_sink::WriteSink;
-
-#[cfg(test)]
-mod tests;

@@ -28,13 +28,9 @@ mod reference;
 mod reply;
 mod request_key;
 mod request_message;
-#[cfg(test)]
-mod request_tests;
 mod response_code;
 mod service;
 mod terminal_id;
-#[cfg(test)]
-mod tests;
 mod trace;
 mod transmission;
 mod verdict;

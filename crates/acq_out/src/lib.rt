@@ -12,8 +12,6 @@ pub mod laws;
 mod line_name;
 mod out_fault;
 mod output_lines;
-#[cfg(test)]
-mod tests;
 
 pub use event_lines::read_events;
 pub use fields::{merchant_of, moment_of, verdict_of};

@@ -18,8 +18,6 @@ mod report;
 mod report_fault;
 mod settlement_report;
 mod stop;
-#[cfg(test)]
-mod tests;
 
 pub use clearing_file::clearing;
 pub use holds::open_holds;

@@ -5,6 +5,7 @@ mod expected;
 mod holds;
 mod isolation;
 mod many_merchants;
+mod opening;
 mod other_merchant;
 mod reports;
 mod reversals;

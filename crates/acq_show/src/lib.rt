@@ -9,7 +9,5 @@ mod contents;
 pub mod laws;
 mod lines;
 mod names;
-#[cfg(test)]
-mod tests;
 
 pub use lines::show_message;

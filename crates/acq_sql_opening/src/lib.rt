@@ -10,8 +10,6 @@ mod laws;
 mod making;
 mod opening_fault;
 mod tables;
-#[cfg(test)]
-mod tests;
 
 pub use checking::check_book;
 pub use laws::an_open_finds_the_book;

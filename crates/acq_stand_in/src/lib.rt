@@ -11,6 +11,3 @@ mod stand_in;
 
 pub use card_answer::CardAnswer;
 pub use stand_in::StandIn;
-
-#[cfg(test)]
-mod tests;

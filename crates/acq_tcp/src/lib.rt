@@ -8,6 +8,3 @@ mod tcp_gathering;
 
 pub use tcp_connections::TcpConnections;
 pub use tcp_gathering::TcpGathering;
-
-#[cfg(test)]
-mod tests;

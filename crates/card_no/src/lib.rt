@@ -22,6 +22,3 @@ pub use range::Range;
 pub use range_fault::RangeFault;
 pub use range_list::RangeList;
 pub use track2::split_track2;
-
-#[cfg(test)]
-mod tests;

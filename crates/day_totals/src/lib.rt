@@ -8,8 +8,6 @@ pub mod known;
 pub mod laws;
 mod leg;
 mod leg_total;
-#[cfg(test)]
-mod tests;
 mod totals;
 
 pub use claimed::Claimed;

@@ -30,6 +30,3 @@ pub use encoding::encode;
 pub use fault_places::fault_place;
 pub use message::Message;
 pub use set_fault::SetFault;
-
-#[cfg(test)]
-mod tests;

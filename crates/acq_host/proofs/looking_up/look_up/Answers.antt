@@ -1,60 +1,34 @@
--- the tables stay the same from look-up to look-up
-use Rattle.std.proofs.Common.{◌∙◌, ap}
-use Rattle.std.specs.Prelude.{option_and_then}
-use Rattle.acq_message.specs.Elements.{or_empty}
-use Rattle.acq_core.specs.Known.{wanted_by, holds_if, number_if, totals_if}
-use Rattle.acq_book.specs.Lookups.{merchant_at, has_terminal_at, range_at, overlapping_at, request_at, referred_at}
-use Rattle.acq_book.specs.Lookups.{admitted_at, used_at, totals_at}
-use Rattle.acq_host.proofs.LookedUp.{known_is}
+-- what was looked up is what the tables let the event know
+use Rattle.std.proofs.Common.{◌∙◌, sym, ap, subst}
+use Rattle.acq_core.specs.Known.{wanted_by}
+use Rattle.acq_host.specs.Looked.{IsLooked}
+use Rattle.acq_host.proofs.LookedUp.{known_if, known_is}
 use Rattle.acq_host.proofs.looking_up.look_up.Goals as goal
 
-pub returns-clause-known : goal.returns-clause-known
-returns-clause-known g c = λ o10.
+pub returns-then-is_nothing-clause-known : goal.returns-then-is_nothing-clause-known
+returns-then-is_nothing-clause-known g c = λ o2.
+    let t = g.B.Book.tables c.args.book.now in
+    let a = c.args.arrival.now in
     let w = c.wanted-wanted.result in
-    let m = w.merchant in
-    let o9 = c.requests.ensures.looks.was_open o10 in
-    let o8 = c.overlapping.ensures.looks.was_open o9 in
-    let o7 = c.range.ensures.looks.was_open o8 in
-    let o6 = c.totals.ensures.looks.was_open o7 in
-    let o5 = c.used.ensures.looks.was_open o6 in
-    let o4 = c.admitted.ensures.looks.was_open o5 in
-    let o3 = c.has_terminal.ensures.looks.was_open o4 in
-    let o2 = c.merchant.ensures.looks.was_open o3 in
+    let l = c.nothing_looked.result in
     let o1 = c.limit.ensures.looks.was_open o2 in
     let t1 = c.day.ensures.looks.same o1 in
-    let t2 = c.limit.ensures.looks.same o2 ∙ t1 in
-    let t3 = c.merchant.ensures.looks.same o3 ∙ t2 in
-    let t4 = c.has_terminal.ensures.looks.same o4 ∙ t3 in
-    let t5 = c.admitted.ensures.looks.same o5 ∙ t4 in
-    let t6 = c.used.ensures.looks.same o6 ∙ t5 in
-    let t7 = c.totals.ensures.looks.same o7 ∙ t6 in
-    let t8 = c.range.ensures.looks.same o8 ∙ t7 in
-    let t9 = c.overlapping.ensures.looks.same o9 ∙ t8 in
     let today = c.in_ok-today.ensures.value o1 in
-    known_is (g.B.Book.tables c.args.book.now) c.args.arrival.now w _
-    (c.wanted-wanted.ensures ∙ ap (λ day. wanted_by day c.args.arrival.now) today)
-    (record {
-      today = today;
-      limit = c.in_ok-limit.ensures.value o2 ∙ ap (λ t. t.limit) t1;
-      merchant = c.in_ok-merchant.ensures.value o3 ∙ ap (λ t. option_and_then (merchant_at t) m) t2;
-      has_terminal =
-          c.in_ok-has_terminal.ensures.value o4
-          ∙ ap (λ t. holds_if (has_terminal_at t (or_empty m)) (option_and_then (λ id. w.terminal) m)) t3;
-      recorded = c.in_ok-found.ensures.recorded o10 ∙ ap (λ t. option_and_then (request_at t) w.key) t9;
-      original = c.in_ok-found.ensures.original o10 ∙ ap (λ t. option_and_then (request_at t) w.original) t9;
-      referred =
-          c.in_ok-found.ensures.referred o10
-          ∙ ap (λ t. option_and_then (referred_at t (or_empty m)) (option_and_then (λ id. w.reference) m)) t9;
-      range = c.in_ok-range.ensures.value o8 ∙ ap (λ t. option_and_then (range_at t) w.prefix) t7;
-      overlapped =
-          c.in_ok-overlapped.ensures.value o9
-          ∙ ap (λ t. option_and_then (λ ends. overlapping_at t ends.0 ends.1) w.bounds) t8;
-      admitted =
-          c.in_ok-admitted.ensures.value o5 ∙ ap (λ t. number_if (admitted_at t (or_empty m)) m) t4;
-      used =
-          c.in_ok-used.ensures.value o6
-          ∙ (λ i. number_if (used_at (t5 i) (or_empty m) (today i)) m);
-      totals =
-          c.in_ok-totals.ensures.value o7
-          ∙ ap (λ t. totals_if (totals_at t (or_empty m)) (option_and_then (λ id. w.totals_day) m)) t6;
-    })
+    let limit = c.in_ok-limit.ensures.value o2 ∙ ap (λ t. t.limit) t1 in
+    known_is t a w l (c.wanted-wanted.ensures ∙ ap (λ day. wanted_by day a) today)
+    (subst (λ v. IsLooked t v l) (sym (c.is_nothing.ensures c.if-is_nothing.true)) (c.nothing_looked.ensures t today limit))
+
+pub returns-clause-known : goal.returns-clause-known
+returns-clause-known g c = λ o3.
+    let t = g.B.Book.tables c.args.book.now in
+    let a = c.args.arrival.now in
+    let w = c.wanted-wanted.result in
+    let o2 = c.look_up_wanted.ensures.looks.was_open o3 in
+    let o1 = c.limit.ensures.looks.was_open o2 in
+    let t1 = c.day.ensures.looks.same o1 in
+    let same = c.limit.ensures.looks.same o2 ∙ t1 in
+    let today = c.in_ok-today.ensures.value o1 in
+    let limit = c.in_ok-limit.ensures.value o2 ∙ ap (λ t. t.limit) t1 in
+    known_if t (g.B.Book.tables c.limit.new.self) a w c.look_up_wanted.result same
+    (c.wanted-wanted.ensures ∙ ap (λ day. wanted_by day a) today)
+    (c.look_up_wanted.ensures.looked o3 (today ∙ sym (ap (λ t. t.day) same)) (limit ∙ sym (ap (λ t. t.limit) same)))

@@ -37,7 +37,7 @@ returns-in_err-turn-clause-goes g c = λ h o.
 pub returns-in_err-turn-clause-ends : goal.returns-in_err-turn-clause-ends
 returns-in_err-turn-clause-ends g c =
     let p = err_from_is_err_and c.from_residual.result c.from_residual.ensures.1 in
-    rw (p.1, p.2) (stops_ends (turns.held_of c.turn.new.self) c.in_err-turn.field-0.0 c.in_err-turn.ensures.stops)
+    rw (p.1, p.2) (stops_ends (turns.held_of c.turn.new.self) (turns.unsent_of c.turn.new.self) c.in_err-turn.field-0.0 c.in_err-turn.ensures.stops)
 
 pub returns-in-Took-clause-goes : goal.returns-in-Took-clause-goes
 returns-in-Took-clause-goes g c = λ h o.

@@ -1,11 +1,9 @@
 //! Reports over a book of rows that are written down here.
 
-mod rows;
-
-use self::rows::Rows;
-use crate::{ReportFault, clearing, open_holds, settlement};
+use super::rows::Rows;
 use acq_core::{MerchantId, Moment};
 use acq_link::MemorySink;
+use acq_reports::{ReportFault, clearing, open_holds, settlement};
 use csv::{Reader, StringRecord};
 use day_totals::Day;
 use std::alloc::Global;

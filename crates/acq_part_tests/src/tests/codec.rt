@@ -1,4 +1,4 @@
-use crate::{
+use iso_codec::{
     DecodeFault, Message, SetFault, all_alphanumeric, all_digits, all_printable, decode, encode,
     fault_place,
 };

@@ -1,12 +1,12 @@
 //! Sixty-four connections over TCP, in one process: they connect and send; then they are served at
 //! once; then they read their replies.
 
-use crate::TcpGathering;
 use acq_commands::Gathering;
 use acq_core::{Limit, Moment};
 use acq_front::{FixedClock, NoIssuer};
 use acq_host::Host;
 use acq_link::MemorySink;
+use acq_tcp::TcpGathering;
 use day_totals::Day;
 use std::hash::RandomState;
 use std::io::{Read, Write};

@@ -2,7 +2,7 @@
 
 ghost use Rattle.std.specs.Prelude.{◌≡◌, IfOk};
 
-use crate::{
+use acq_message::{
     AuthorizationId, CheckedRequest, ElementContent, MerchantId, Moment, Reference, RequestMessage,
     ResponseCode, Service, TerminalId, Trace, Transmission, Verdict, amount_in, answered_reply,
     claimed_in, coded_reply, draft_reply, essence_of, key_of, merchant_of, original_acquirer,

@@ -1,17 +1,15 @@
 //! Connections over a book in memory: frames cut anywhere, issuers that are asked, reads and writes
 //! that fail, and a reply that is out before more is read.
 
-mod counted;
-
 ghost use Rattle.std.specs.Prelude.{◌<◌};
 
-use crate::{FrontFault, SliceClock, SliceIssuer, serve};
+use super::counted::{Counted, OneFrame};
 use acq_book::ListBook;
 use acq_core::{Currency, Event, FirstReference, Limit, MerchantId, Moment, TerminalId, Verdict};
+use acq_front::{FrontFault, SliceClock, SliceIssuer, serve};
 use acq_host::Host;
 use acq_link::{MemorySink, ReadSource, SliceSource, WriteSink};
 use card_no::{IssuerId, Range};
-use counted::{Counted, OneFrame};
 use day_totals::Day;
 use iso_codec::DecodeFault;
 use std::alloc::Global;

@@ -1,6 +1,6 @@
 //! What is shown of messages, and of texts that are none.
 
-use crate::show_message;
+use acq_show::show_message;
 use std::test::Fail;
 
 /// Messages, and what is shown of them.

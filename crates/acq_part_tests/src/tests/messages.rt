@@ -1,7 +1,7 @@
 //! The least and greatest values that the readers take, calls that take memory, and what `Debug`
 //! shows.
 
-use crate::{
+use acq_message::{
     Amount, AuthorizationId, Currency, DeclineCode, ElementContent, MerchantId, MessageText,
     Moment, Reference, ResponseCode, Service, TerminalId, Trace, Transmission, Verdict, card_of,
     expiry_of, is_malformed, merchant_in,

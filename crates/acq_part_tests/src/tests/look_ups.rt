@@ -1,6 +1,6 @@
 //! What is looked up for events.
 
-use crate::{
+use acq_core::{
     Event, MerchantId, MessageText, Moment, Reference, RequestKey, Service, TerminalId, Trace,
     Transmission, Verdict, Wanted, wanted,
 };

@@ -1,8 +1,8 @@
 //! Files of issuers' answers: what they say for a card, or their first record out of form.
 
-use crate::StandIn;
 use acq_link::SliceSource;
 use acq_records::RecordFault;
+use acq_stand_in::StandIn;
 use card_no::CardNumber;
 use std::alloc::Global;
 use std::test::Fail;

@@ -2,7 +2,7 @@
 
 ghost use Rattle.std.specs.Prelude.{◌≤◌};
 
-use crate::{Claimed, Day, Leg, Totals};
+use day_totals::{Claimed, Day, Leg, Totals};
 use std::test::Fail;
 
 fn day(number: u32) -> Result<Day, Fail> {

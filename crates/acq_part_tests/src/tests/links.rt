@@ -1,4 +1,4 @@
-use crate::{
+use acq_link::{
     DeframeFault, Deframer, Failed, Front, InputFault, MemorySink, ReadSource, Sink, SliceSource,
     Source, WriteFault, WriteSink, frame_at, read_to_end, write_frame, write_out,
 };

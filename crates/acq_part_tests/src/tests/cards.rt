@@ -1,4 +1,4 @@
-use crate::{CardNumber, IssuerId, Prefix, Range, RangeFault, RangeList, split_track2};
+use card_no::{CardNumber, IssuerId, Prefix, Range, RangeFault, RangeList, split_track2};
 use std::alloc::{AllocError, Global};
 use std::io;
 use std::io::Read;

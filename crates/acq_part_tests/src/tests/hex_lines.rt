@@ -1,6 +1,6 @@
 //! Texts of hexadecimal lines, and the frames or the fault that each gives.
 
-use crate::{HexFault, frames_of_hex};
+use acq_hex::{HexFault, frames_of_hex};
 use std::alloc::Global;
 use std::test::Fail;
 

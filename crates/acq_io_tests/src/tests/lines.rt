@@ -1,8 +1,8 @@
 //! Each form of a line, and faults in mid-stream.
 
-use crate::{OutFault, read_events, write_output};
 use acq_core::{Amount, Event, MerchantId, MessageText, Output, Query, Reference, Service};
 use acq_link::{MemorySink, SliceSource};
+use acq_out::{OutFault, read_events, write_output};
 use card_no::{CardNumber, IssuerId, Range};
 use day_totals::Leg;
 use iso_codec::DecodeFault;

@@ -1,8 +1,6 @@
 //! The least and greatest values that the readers take, and what is looked up for events.
 
-mod look_ups;
-
-use crate::{AdmittedCount, FirstReference, Limit, Output, UsedCount};
+use acq_core::{AdmittedCount, FirstReference, Limit, Output, UsedCount};
 
 #[test]
 fn numbers_have_their_bounds(rt: HostRuntime) {
