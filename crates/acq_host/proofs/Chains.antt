@@ -1,7 +1,9 @@
 -- Look-ups, one after another, and a change after them.
-use Rattle.std.proofs.Common.{◌≡◌, ℕ, Bool, true, inl, inr, ⊎_elim, ◌∙◌, refl, sym, arith}
+use Rattle.std.proofs.Common.{◌≡◌, ◌≤◌, ℕ, Bool, true, Err, inl, inr, ⊎_elim, ◌∙◌, refl, sym, arith}
 use Rattle.acq_core.specs.Tables.{Tables}
-use Rattle.acq_book.specs.Promise.{Looks, Makes}
+use Rattle.acq_book.specs.Promise.{HasRisen, IfStore, Looks, Makes}
+use Rattle.acq_book.specs.declared.book_fault.BookFault.{BookFault}
+use Rattle.acq_book.specs.declared.book_fault.BookFault.TheVariants.{Memory, Store}
 pub use Rattle.acq_book.proofs.Chains.{looks_more}
 
 -- look-ups that succeeded, and a change then
@@ -30,3 +32,9 @@ makes_after tables is_honest is_open may_leave failures honest a b c succeeded m
       (λ u was. only u (first.leaves (second.was_honest h) u was) ∙ sym (first.same between)) t l ∙ same between;
   rise = omega arith;
 }
+
+-- a fault of the store after look-ups that succeeded is one of all of them
+pub store_after : (X Y : Type 0) (a b c : ℕ) (f : BookFault) → a ≤ b → b ≤ c → IfStore {T = X} (Err f) (HasRisen b c) →
+    IfStore {T = Y} (Err f) (HasRisen a c)
+store_after X Y a b c Memory up on failed = tt
+store_after X Y a b c Store up on failed = grind (arith, failed)

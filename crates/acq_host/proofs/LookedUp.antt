@@ -1,7 +1,7 @@
 -- What was looked up part by part is what the tables let an event know.
 use Rattle.std.proofs.Common.{◌≡◌, ℕ, List, [], ◌∷◌, Option, Some, None, Bool, true, false, cond, ◌⊎◌, inl, inr, refl}
 use Rattle.std.proofs.Common.{sym, ap, ◌∙◌, subst}
-use Rattle.std.specs.Prelude.{take, filter, find, option_map, option_and_then, IfSome, IfOk, Result, Ok, Err}
+use Rattle.std.specs.Prelude.{take, filter, find, option_map, option_and_then, IfSome, OnOk, Result, Ok, Err}
 use Rattle.std.specs.Str.{bytes_eq}
 use Rattle.iso_codec.specs.Message.{IsoMessage}
 use Rattle.acq_message.specs.declared.service.Service.{Service}
@@ -175,8 +175,8 @@ known_is t a w l wanted is =
     known_for-looked t w m l (subst (λ v. IsOfMerchant v m) (sym wanted) (wanted_by-of t.day a)) is
     ∙ ap (λ v. known_for v (facts_in t m)) wanted
 
--- the same where a look-up succeeded, over tables that are these
-pub known_if : {F : Type 0} (t b : Tables) (a : Arrival) (w : Wanted) (r : Result Looked F) → b ≡ t → w ≡ wanted_by t.day a →
-    IfOk r (IsLooked b w) → IfOk r (λ l. known_of l ≡ known_in t a)
-known_if t b a w (Ok l) same wanted is = known_is t a w l wanted (subst (λ v. IsLooked v w l) same is)
-known_if t b a w (Err fault) same wanted is = tt
+-- the same where the look-ups succeeded
+pub known_if : {F : Type 0} (t : Tables) (a : Arrival) (w : Wanted) (l : Looked) (r : Result (Unit {0}) F) → w ≡ wanted_by t.day a →
+    OnOk r (IsLooked t w l) → OnOk r (known_of l ≡ known_in t a)
+known_if t a w l (Ok u) wanted is = known_is t a w l wanted is
+known_if t a w l (Err fault) wanted is = tt

@@ -8,7 +8,7 @@ ghost use Rattle.acq_core.specs.Pasts.{HasPast};
 ghost use Rattle.acq_book.specs.Fits.{Fits};
 ghost use Rattle.acq_book.specs.Promise.{HasRisen, IfStore, Looks, Makes};
 
-use crate::looking_up::look_up;
+use crate::looking_up::{look_up, nothing_looked};
 use acq_book::{Book, BookFault};
 use acq_core::{Arrival, Change, Event, Output};
 use std::alloc::Global;
@@ -29,7 +29,10 @@ pub(crate) fn decide<B: Book>(
     ensures store { IfStore result (HasRisen (B.failures book.old) (B.failures book.new)) }
 {
     let arrival = Arrival::of(alloc, event)?;
-    let looked = look_up(book, &arrival)?;
+    let today = book.day()?;
+    let limit = book.limit()?;
+    let mut looked = nothing_looked(today, limit);
+    look_up(book, &arrival, &mut looked)?;
     Ok(arrival.decide(alloc, &looked)?)
 }
 

@@ -1,6 +1,6 @@
 //! What an event needs of a book.
 
-ghost use Rattle.std.specs.Prelude.{◌≡◌, is_ok, option_and_then, true, IfOk};
+ghost use Rattle.std.specs.Prelude.{◌≡◌, is_ok, option_and_then, true, IfOk, OnOk};
 ghost use Rattle.acq_message.specs.Elements.{or_empty};
 ghost use Rattle.acq_core.specs.Known.{holds_if, nothing, number_if, totals_if};
 ghost use Rattle.acq_core.specs.Looking.{known_of};
@@ -18,22 +18,24 @@ use acq_core::{
 use card_no::{Prefix, Range};
 use day_totals::{Day, Totals};
 
-/// Looks up all that an event needs.
+/// Looks up all that an event needs, over what is known of the day alone.
 #[tactic(auto, using(crate::proofs::Chains::looks_more))]
-pub(crate) fn look_up<B: Book>(book: &mut B, arrival: &Arrival) -> Result<Looked, BookFault>
-    ensures known { B.is_open book.new → IfOk result (λ looked.
-        known_of looked ≡ known_in (B.tables book.old) arrival.now) }
+pub(crate) fn look_up<B: Book>(
+    book: &mut B,
+    arrival: &Arrival,
+    looked: &mut Looked,
+) -> Result<(), BookFault>
+    ensures known { B.is_open book.new → IsLooked (B.tables book.old) nothing looked.old
+        → OnOk result (known_of looked.new ≡ known_in (B.tables book.old) arrival.now) }
     ensures looks { Looks B.tables B.is_honest B.is_open B.may_leave B.failures
         book.old book.new (is_ok result) }
     ensures store { IfStore result (HasRisen (B.failures book.old) (B.failures book.new)) }
 {
-    let today = book.day()?;
-    let limit = book.limit()?;
-    let wanted = arrival.wanted(today);
+    let wanted = arrival.wanted(looked.today);
     if is_nothing(&wanted) {
-        return Ok(nothing_looked(today, limit));
+        return Ok(());
     }
-    look_up_wanted(book, today, limit, &wanted)
+    look_up_wanted(book, &wanted, looked)
 }
 
 /// Whether nothing is wanted, as for network management.
@@ -56,7 +58,7 @@ fn is_nothing(wanted: &Wanted) -> bool
 }
 
 /// What is looked up where nothing is wanted.
-fn nothing_looked(today: Day, limit: Limit) -> Looked
+pub(crate) fn nothing_looked(today: Day, limit: Limit) -> Looked
     ensures { (t : Tables) → today ≡ t.day → limit ≡ t.limit → IsLooked t nothing result }
 {
     let (Some(admitted), Some(used)) = (AdmittedCount::from_number(0), UsedCount::from_number(0))
@@ -79,43 +81,31 @@ fn nothing_looked(today: Day, limit: Limit) -> Looked
     }
 }
 
-/// Looks up what is wanted on a day.
+/// Looks up what is wanted. Each part is put in its place at once, since what was looked up is large.
 #[tactic(auto, using(crate::proofs::Chains::looks_more))]
 fn look_up_wanted<B: Book>(
     book: &mut B,
-    today: Day,
-    limit: Limit,
     wanted: &Wanted,
-) -> Result<Looked, BookFault>
-    ensures looked { B.is_open book.new → today ≡ (B.tables book.old).day
-        → limit ≡ (B.tables book.old).limit
-        → IfOk result (IsLooked (B.tables book.old) wanted.now) }
+    looked: &mut Looked,
+) -> Result<(), BookFault>
+    ensures looked { B.is_open book.new → IsLooked (B.tables book.old) nothing looked.old
+        → OnOk result (IsLooked (B.tables book.old) wanted.now looked.new) }
     ensures looks { Looks B.tables B.is_honest B.is_open B.may_leave B.failures
         book.old book.new (is_ok result) }
     ensures store { IfStore result (HasRisen (B.failures book.old) (B.failures book.new)) }
 {
-    let merchant = merchant(book, wanted.merchant)?;
-    let has_terminal = has_terminal(book, wanted.merchant, wanted.terminal)?;
-    let admitted = admitted(book, wanted.merchant)?;
-    let used = used(book, wanted.merchant, today)?;
-    let totals = totals(book, wanted.merchant, wanted.totals_day)?;
-    let range = range(book, wanted.prefix)?;
-    let overlapped = overlapping(book, wanted.bounds)?;
-    let found = requests(book, wanted)?;
-    Ok(Looked {
-        today,
-        limit,
-        merchant,
-        has_terminal,
-        recorded: found.recorded,
-        original: found.original,
-        referred: found.referred,
-        range,
-        overlapped,
-        admitted,
-        used,
-        totals,
-    })
+    let today = looked.today;
+    looked.merchant = merchant(book, wanted.merchant)?;
+    looked.has_terminal = has_terminal(book, wanted.merchant, wanted.terminal)?;
+    looked.admitted = admitted(book, wanted.merchant)?;
+    looked.used = used(book, wanted.merchant, today)?;
+    looked.totals = totals(book, wanted.merchant, wanted.totals_day)?;
+    looked.range = range(book, wanted.prefix)?;
+    looked.overlapped = overlapping(book, wanted.bounds)?;
+    looked.recorded = request(book, wanted.key)?;
+    looked.original = request(book, wanted.original)?;
+    looked.referred = referred(book, wanted.merchant, wanted.reference)?;
+    Ok(())
 }
 
 /// The merchant that is wanted.
@@ -248,38 +238,6 @@ fn overlapping<B: Book>(
         Some((low, high)) => book.overlapping(low, high),
         None => Ok(None),
     }
-}
-
-/// The requests that are wanted.
-#[derive(Drop)]
-struct FoundRequests {
-    recorded: Option<Request>,
-    original: Option<Request>,
-    referred: Option<Request>,
-}
-
-/// The recorded requests that are wanted.
-#[tactic(auto, using(crate::proofs::Chains::looks_more))]
-fn requests<B: Book>(book: &mut B, wanted: &Wanted) -> Result<FoundRequests, BookFault>
-    ensures recorded { B.is_open book.new → IfOk result (λ found. found.recorded
-        ≡ option_and_then (request_at (B.tables book.old)) wanted.now.key) }
-    ensures original { B.is_open book.new → IfOk result (λ found. found.original
-        ≡ option_and_then (request_at (B.tables book.old)) wanted.now.original) }
-    ensures referred { B.is_open book.new → IfOk result (λ found. found.referred
-        ≡ option_and_then (referred_at (B.tables book.old) (or_empty wanted.now.merchant))
-        (option_and_then (λ m. wanted.now.reference) wanted.now.merchant)) }
-    ensures looks { Looks B.tables B.is_honest B.is_open B.may_leave B.failures
-        book.old book.new (is_ok result) }
-    ensures store { IfStore result (HasRisen (B.failures book.old) (B.failures book.new)) }
-{
-    let recorded = request(book, wanted.key)?;
-    let original = request(book, wanted.original)?;
-    let referred = referred(book, wanted.merchant, wanted.reference)?;
-    Ok(FoundRequests {
-        recorded,
-        original,
-        referred,
-    })
 }
 
 /// The request with the key that is wanted.
