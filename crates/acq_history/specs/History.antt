@@ -308,8 +308,8 @@ used (e ∷ h) day =
     if (is_admission e h || is_acceptance e) && (e.day == day) then 1 + used h day else used h day
 
 -- what a history says, of a book that began so
-abbrev pub notions_of : Opening → List Entry → Facts
-notions_of opening h =
+abbrev pub facts_of : Opening → List Entry → Facts
+facts_of opening h =
     record {
       today = day_after opening.first_day h;
       limit = opening.limit;

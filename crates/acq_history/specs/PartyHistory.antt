@@ -10,7 +10,7 @@ use Rattle.acq_core.specs.Known.{Known, wanted_by, known_for}
 use Rattle.acq_core.specs.Outcome.{outcome, output_of}
 use Rattle.acq_core.specs.Tables.{Opening, Tables, new_tables, tables_after}
 use Rattle.acq_history.specs.Entries.{Entry}
-use Rattle.acq_history.specs.History.{day_after, ranges_after, notions_of}
+use Rattle.acq_history.specs.History.{day_after, ranges_after, facts_of}
 
 -- ---- parties and their events
 
@@ -37,7 +37,7 @@ own party es = filter (λ e. is_of party (arrival_of e) || is_shared (arrival_of
 -- what a history lets an event know
 abbrev pub known_by : Opening → List Entry → Arrival → Known
 known_by opening h a =
-    known_for (wanted_by (day_after opening.first_day h) a) (notions_of opening h)
+    known_for (wanted_by (day_after opening.first_day h) a) (facts_of opening h)
 
 -- the entry of what comes next
 abbrev pub entry_for : Opening → List Entry → Arrival → Entry

@@ -26,7 +26,7 @@ use Rattle.card_no.specs.Ranges.{between}
 use Rattle.acq_core.specs.Tables.{Opening, Tables, postings_of, facts_in, known_in, totals_on, with_next_posting}
 use Rattle.acq_core.proofs.Counts.{or_none}
 use Rattle.acq_history.specs.Entries.{Entry, is_cutover, is_performed, enrolment_in, terminal_in}
-use Rattle.acq_history.specs.History.{day_after, ranges_after, ranges_with, enrolled, has_terminal, is_text, postings, notions_of}
+use Rattle.acq_history.specs.History.{day_after, ranges_after, ranges_with, enrolled, has_terminal, is_text, postings, facts_of}
 use Rattle.acq_history.specs.PartyHistory.{names, known_by}
 use Rattle.acq_history.proofs.Lookups.{filter-push_in, filter-push_out, count-filter}
 use Rattle.acq_history.proofs.Keys.{bytes_eq_is, bytes_eq_itself}
@@ -51,9 +51,9 @@ pub record Agrees (opening : Opening) (m : List ℕ) (t : Tables) (h : List Entr
 -- ---- what is known
 
 -- so look-ups in both know the same
-pub notions_in_is : (opening : Opening) (m : List ℕ) (t : Tables) (h : List Entry) → Agrees opening m t h →
-    facts_in t m ≡ notions_of opening h
-notions_in_is opening m t h a =
+pub facts_in_is : (opening : Opening) (m : List ℕ) (t : Tables) (h : List Entry) → Agrees opening m t h →
+    facts_in t m ≡ facts_of opening h
+facts_in_is opening m t h a =
     λ i. record {
       today = a.common.day i;
       limit = a.common.bounded i;
@@ -74,17 +74,17 @@ pub known_in_mine : (opening : Opening) (m : List ℕ) (t : Tables) (h : List En
     merchant_named a ≡ Some m → known_in t a ≡ known_by opening h a
 known_in_mine opening m t h g a named =
     ap (λ o. known_for (wanted_by t.day a) (facts_in t (or_empty o))) named
-    ∙ (λ i. known_for (wanted_by (g.common.day i) a) (notions_in_is opening m t h g i))
+    ∙ (λ i. known_for (wanted_by (g.common.day i) a) (facts_in_is opening m t h g i))
 
 -- for a shared event
 pub known_in_shared : (opening : Opening) (m : List ℕ) (t : Tables) (h : List Entry) → Agrees opening m t h →
     (a : Arrival) → is_shared a ≡ true → known_in t a ≡ known_by opening h a
 known_in_shared opening m t h g CutOver shared =
-    λ i. known_for (wanted_by (g.common.day i) CutOver) (notions_in_is opening m t h g i)
+    λ i. known_for (wanted_by (g.common.day i) CutOver) (facts_in_is opening m t h g i)
 known_in_shared opening m t h g (RangeAdded range) shared =
-    λ i. known_for (wanted_by (g.common.day i) (RangeAdded range)) (notions_in_is opening m t h g i)
+    λ i. known_for (wanted_by (g.common.day i) (RangeAdded range)) (facts_in_is opening m t h g i)
 known_in_shared opening m t h g (RangeDropped low high) shared =
-    λ i. known_for (wanted_by (g.common.day i) (RangeDropped low high)) (notions_in_is opening m t h g i)
+    λ i. known_for (wanted_by (g.common.day i) (RangeDropped low high)) (facts_in_is opening m t h g i)
 known_in_shared opening m t h g (Undecoded fault) shared = absurd (cc)
 known_in_shared opening m t h g (Unserved message) shared = absurd (cc)
 known_in_shared opening m t h g (Malformed r) shared = absurd (cc)
