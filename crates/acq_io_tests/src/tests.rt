@@ -1,9 +1,11 @@
-//! Each form of a line, and faults in mid-stream.
+//! Values that lines have, and faults in mid-stream.
 
+mod clocks;
 mod connections;
 mod counted;
 mod issuers_files;
 mod lines;
-mod reports;
-mod rows;
+mod listens;
+mod long_runs;
+mod read_back;
 mod together;

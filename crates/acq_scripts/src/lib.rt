@@ -1,6 +1,5 @@
-//! Scripts: events in words and what the host says to each, run over a book in memory and over one in
-//! SQL, alone and among another merchant's events; and reports, stops and walks on what they leave. The
-//! crate has tests alone.
+//! What rows of data can't say of a host over both books: stops at each call of a book's files, reads
+//! and writes that fail in turn, what walks hand over, and many merchants. The crate has tests alone.
 #![tactic(auto)]
 
 #[cfg(test)]

@@ -1,18 +1,10 @@
-//! Scripts over both books, and what they leave.
+//! Stops, connections that fail, walks, and ten thousand events of fifty merchants.
 
-mod days;
-mod expected;
-mod holds;
-mod isolation;
+mod hosts;
 mod many_merchants;
 mod opening;
-mod other_merchant;
-mod reports;
-mod reversals;
-mod sales;
-mod script;
+mod output_text;
 mod script_event;
-mod scripts;
 mod stops;
 mod talks;
 mod two_days;

@@ -20,7 +20,3 @@ of_opening opening.Memory = Memory
 of_opening opening.Store = Store
 of_opening opening.NotABook = NotABook
 of_opening (opening.OtherVersion v) = OtherVersion v
-
--- why a book was not opened, as the command tells it
-abbrev pub IsOpening : Fault → Type 0
-IsOpening fault = (cause : OpeningFault) × (fault ≡ of_opening cause)

@@ -1,3 +1,1 @@
 pub mod BookFiles
-pub mod Moments
-pub mod Runs

@@ -4,28 +4,21 @@
 
 ghost use Rattle.std.specs.Prelude.{◌≤◌};
 
-mod command;
-mod machine;
 mod open_book;
-mod system_clock;
-mod terminal_progress;
 mod this_machine;
 
 use acq_commands::Progress;
-use acq_front::Clock;
 use acq_link::{ReadSource, Sink, Source, WriteSink};
-pub use command::command;
-pub use machine::{Machine, fault_of_opening};
+use acq_program::{
+    Machine, SystemClock, TerminalProgress, command, memory_fault, read_fault, usage_fault,
+};
 pub use open_book::{make_book, open_book};
-use sqlite::Alter;
 use sqlite_disk::{Start, Unknown};
 use std::env::{Env, FillError};
 use std::hash::RandomState;
 use std::io::IsTerminal;
 use std::process::ExitCode;
 use std::{env, io, str};
-pub use system_clock::{SystemClock, moment_near};
-pub use terminal_progress::TerminalProgress;
 pub use this_machine::ThisMachine;
 
 fn main(rt: HostRuntime) -> ExitCode {
@@ -64,9 +57,9 @@ fn run_over_files<D: Start, S: Source, K: Sink, F: Sink, P: Progress>(
 }
 
 /// Runs the program with the arguments of this process.
-fn run_over<T: Alter + Drop, O: Machine<T> + Drop, S: Source, K: Sink, F: Sink, P: Progress>(
+fn run_over<M: Machine + Drop, S: Source, K: Sink, F: Sink, P: Progress>(
     rt: &HostRuntime,
-    machine: O,
+    machine: M,
     input: &mut S,
     output: &mut K,
     faults: &mut F,
@@ -87,11 +80,11 @@ fn run_over<T: Alter + Drop, O: Machine<T> + Drop, S: Source, K: Sink, F: Sink, 
                 faults,
                 progress,
             ),
-            Err(_) => command::read_fault(faults),
+            Err(_) => read_fault(faults),
         },
         Err(_) => match first_not_text(rt) {
-            Some(place) => command::usage_fault(place, faults),
-            None => command::memory_fault(faults),
+            Some(place) => usage_fault(place, faults),
+            None => memory_fault(faults),
         },
     }
 }
@@ -117,6 +110,3 @@ fn first_not_text(rt: &impl Env) -> Option<usize> {
     }
     None
 }
-
-#[cfg(test)]
-mod tests;

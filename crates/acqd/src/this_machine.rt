@@ -1,11 +1,15 @@
 //! The machine that the program runs on.
 
-use crate::machine::{Machine, fault_of_opening};
+ghost use Rattle.std.specs.Prelude.{◌≡◌};
+ghost use Rattle.acq_program.specs.BookFaults.{IsOpening};
+ghost use Rattle.acqd.specs.BookFiles.{of_opening};
+
 use crate::open_book::{make_book, open_book};
 use acq_commands::Fault;
 use acq_core::Limit;
 use acq_link::ReadSource;
-use acq_sql::SqlBook;
+use acq_program::Machine;
+use acq_sql::{OpeningFault, SqlBook};
 use acq_stand_in::StandIn;
 use acq_tcp::{TcpConnections, TcpGathering};
 use day_totals::Day;
@@ -30,7 +34,9 @@ impl<'a, D: Start> ThisMachine<'a, D> {
     }
 }
 
-impl<'a, D: Start> Machine<FileStore<FileFrom<D>>> for ThisMachine<'a, D> {
+impl<'a, D: Start> Machine for ThisMachine<'a, D> {
+    type Book = SqlBook<FileStore<FileFrom<D>>>;
+
     type Connections = TcpConnections;
 
     type Gathering = TcpGathering<'a, HostRuntime>;
@@ -76,5 +82,18 @@ impl<'a, D: Start> Machine<FileStore<FileFrom<D>>> for ThisMachine<'a, D> {
         together: usize,
     ) -> Result<TcpGathering<'a, HostRuntime>, Fault> {
         TcpGathering::listen(self.rt, self.rt, alloc, port, idle, together)
+    }
+}
+
+/// The refusal of a book, as the command tells it.
+fn fault_of_opening(cause: OpeningFault) -> Fault
+    ensures fault { result ≡ of_opening cause }
+    ensures opening { IsOpening result }
+{
+    match cause {
+        OpeningFault::Memory => Fault::Memory,
+        OpeningFault::Store => Fault::Store,
+        OpeningFault::NotABook => Fault::NotABook,
+        OpeningFault::OtherVersion(version) => Fault::OtherVersion(version),
     }
 }

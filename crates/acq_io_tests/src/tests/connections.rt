@@ -26,15 +26,15 @@ const ECHO_REPLY: &str = "\x00\x390810822000000200000004000000000000000101120000
 
 /// A sale as a frame, the frame that answers it where its issuer approves, and where it says
 /// nothing.
-const SALE: &str =
+pub(super) const SALE: &str =
     "\x00\x6202007220000000C080001641111111111111110000000000000010000501093000000001\
 TERM0001MERCHANT0000001978";
 
-const APPROVED: &str =
+pub(super) const APPROVED: &str =
     "\x00\x7A0210722200000EC0800016411111111111111100000000000000100005010930000000010501\
 000000000001A1B2C300TERM0001MERCHANT0000001978";
 
-const NOT_ANSWERED: &str =
+pub(super) const NOT_ANSWERED: &str =
     "\x00\x740210722200000AC0800016411111111111111100000000000000100005010930000000010501\
 00000000000191TERM0001MERCHANT0000001978";
 
@@ -45,7 +45,7 @@ const MORNING: u64 = 1_714_555_800;
 const MAY_1: u32 = 8887;
 
 /// A host over a new book with one issuer's range, and a merchant with one terminal.
-fn new_host(rt: &impl RandomSource, alloc: Global) -> Result<Host<ListBook>, Fail> {
+pub(super) fn new_host(rt: &impl RandomSource, alloc: Global) -> Result<Host<ListBook>, Fail> {
     let limit = Limit::from_number(999_999).ok_or("a limit")?;
     let day = Day::from_number(MAY_1).ok_or("a day")?;
     let merchant = MerchantId::read(b"MERCHANT0000001").ok_or("a merchant")?;
@@ -99,81 +99,6 @@ fn approval() -> Result<Verdict, Fail> {
     Ok(Verdict::approved(b"A1B2C3").ok_or("an id")?)
 }
 
-/// Serves an echo test and a sale, cut in pieces, and compares the replies.
-fn served_in_pieces(
-    rt: &(impl Abort + RandomSource),
-    alloc: Global,
-    piece: usize,
-    verdicts: &[Verdict],
-    reply: &str,
-) -> Result<(), Fail>
-    requires { 0 < piece }
-{
-    let input = both(alloc, ECHO, SALE)?;
-    let want = both(alloc, ECHO_REPLY, reply)?;
-    let mut source = SliceSource::in_pieces(input.as_slice(), piece);
-    let mut sink = MemorySink::in_pieces(alloc, piece);
-    let mut host = new_host(rt, alloc)?;
-    let ended = served(&mut host, alloc, &mut source, &mut sink, verdicts);
-    drop(host);
-    assert_eq!(rt; ended, Ok(()), "{piece}");
-    assert_eq!(rt; sink.as_bytes(), want.as_slice(), "{piece}");
-    Ok(())
-}
-
-/// However the frames are cut, the replies are the same; and without a verdict the code is 91.
-#[test]
-fn pieces_of_any_size(rt: HostRuntime) -> Result<(), Fail> {
-    let approved = [approval()?];
-    let alloc = rt.alloc();
-    served_in_pieces(&rt, alloc, 1, &approved, APPROVED)?;
-    served_in_pieces(&rt, alloc, 2, &approved, APPROVED)?;
-    served_in_pieces(&rt, alloc, 3, &approved, APPROVED)?;
-    served_in_pieces(&rt, alloc, 97, &approved, APPROVED)?;
-    served_in_pieces(&rt, alloc, 3, &[], NOT_ANSWERED)
-}
-
-/// What stands behind an echo test, and the fault that it gives. The echo test is answered.
-const FAULTS: [(&str, FrontFault, &str); 6] = [
-    ("\x00\x00", FrontFault::BadLength, "50 BadLength"),
-    ("\x10\x01", FrontFault::BadLength, "50 BadLength"),
-    ("\x00", FrontFault::Ended, "51 Ended"),
-    ("\x00\x370800", FrontFault::Ended, "51 Ended"),
-    (
-        "\x00\x240800FFFFFFFFFFFFFFFFFFFFFFFFFFFFFFFF",
-        FrontFault::Undecodable(DecodeFault::UnknownElement(5)),
-        "52 Undecodable 4 5",
-    ),
-    (
-        "\x00\x3808008220000000000000040000000000000001011200000000013010",
-        FrontFault::Undecodable(DecodeFault::Trailing),
-        "52 Undecodable 8 0",
-    ),
-];
-
-#[test]
-fn faults_of_the_input(rt: HostRuntime) -> Result<(), Fail> {
-    let alloc = rt.alloc();
-    for (bytes, fault, text) in FAULTS {
-        let input = both(alloc, ECHO, bytes)?;
-        let mut source = SliceSource::new(input.as_slice());
-        let mut sink = MemorySink::new(alloc);
-        let mut host = new_host(&rt, alloc)?;
-        let ended = served(&mut host, alloc, &mut source, &mut sink, &[]);
-        drop(host);
-        assert_eq!(rt; ended, Err(fault));
-        assert_eq!(rt; sink.as_bytes(), ECHO_REPLY.as_bytes());
-        prints_as(&rt, alloc, fault, text)?;
-    }
-    Ok(())
-}
-
-fn prints_as(rt: &impl Abort, alloc: Global, fault: FrontFault, text: &str) -> Result<(), Fail> {
-    let shown = format!(in alloc; "{fault}")?;
-    assert_eq!(rt; shown.as_str(), text);
-    Ok(())
-}
-
 /// Of a reply's frame ten bytes go out. The sale is recorded: its repeat on another connection gets
 /// the whole reply, and nobody is asked again.
 #[test]
@@ -193,28 +118,6 @@ fn a_reply_cut_short_is_given_again(rt: HostRuntime) -> Result<(), Fail> {
     assert_eq!(rt; sink.as_bytes(), APPROVED.as_bytes().split_at(10).0);
     assert_eq!(rt; later, Ok(()));
     assert_eq!(rt; again.as_bytes(), APPROVED.as_bytes());
-    Ok(())
-}
-
-/// Each read fails in turn: what came whole before is answered.
-#[test]
-fn each_read_fails_in_turn(rt: HostRuntime) -> Result<(), Fail> {
-    let alloc = rt.alloc();
-    let input = both(alloc, ECHO, ECHO)?;
-    // 114 bytes in pieces of 50 are three reads, and a fourth finds the end.
-    for (before, replies) in [(0, 0), (1, 0), (2, 1), (3, 2)] {
-        let mut source = SliceSource::failing_after(input.as_slice(), 50, before);
-        let mut sink = MemorySink::new(alloc);
-        let mut host = new_host(&rt, alloc)?;
-        let ended = served(&mut host, alloc, &mut source, &mut sink, &[]);
-        drop(host);
-        assert_eq!(rt; ended, Err(FrontFault::Read), "{before}");
-        assert_eq!(rt;
-            sink.as_bytes().len(),
-            ECHO_REPLY.len() * replies,
-            "{before}"
-        );
-    }
     Ok(())
 }
 

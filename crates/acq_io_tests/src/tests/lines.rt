@@ -9,170 +9,10 @@ use iso_codec::DecodeFault;
 use std::alloc::Global;
 use std::test::Fail;
 
-/// Lines out of their form.
-const BAD_LINES: [&[u8]; 82] = [
-    // another number of fields
-    b"cutover",
-    b"cutover,946684800",
-    b"cutover,946684800,,,",
-    b"cutover,946684800,,,,,",
-    b"frame,946684800,30,,,,x",
-    // names
-    b"Frame,946684800,30,,,",
-    b"FRAME,946684800,30,,,",
-    b"frames,946684800,30,,,",
-    b" frame,946684800,30,,,",
-    b",946684800,30,,,",
-    b",,,,,",
-    b"addterminal,SHOP,T,,,",
-    // fields that are not used
-    b"frame,946684800,30,x,,",
-    b"frame,946684800,30,,x,",
-    b"frame,946684800,30,,,x",
-    b"cutover,946684800,x,,,",
-    b"cutover,946684800,,x,,",
-    b"cutover,946684800,,,x,",
-    b"cutover,946684800,,,, ",
-    b"addrange,400000,499999,12345,7,x",
-    b"droprange,400000,499999,x,,",
-    b"droprange,400000,499999,,x,",
-    b"droprange,400000,499999,,,x",
-    b"enrol,SHOP,978,1,x,",
-    b"enrol,SHOP,978,1,, ",
-    b"terminal,SHOP,T,x,,",
-    b"terminal,SHOP,T,,x,",
-    b"terminal,SHOP,T,,,x",
-    // moments
-    b"cutover,,,,,",
-    b"cutover,946684799,,,,",
-    b"cutover,4102444800,,,,",
-    b"cutover,0000946684800,,,,",
-    b"cutover,+946684800,,,,",
-    b"cutover,946684800 ,,,,",
-    b"cutover,94668480x,,,,",
-    b"frame,946684799,30,,,",
-    b"answer,4102444800,SHOP,1,none,",
-    // messages
-    b"frame,946684800,3,,,",
-    b"frame,946684800,303,,,",
-    b"frame,946684800,3g,,,",
-    b"frame,946684800,0x30,,,",
-    b"frame,946684800, 30,,,",
-    // names of merchants and terminals
-    b"answer,946684800,,1,none,",
-    b"answer,946684800,1234567890123456,1,none,",
-    b"answer,946684800,SHOP\x7f,1,none,",
-    b"answer,946684800,SHOP\x1f,1,none,",
-    b"answer,946684800,SHOP\xff,1,none,",
-    b"answer,946684800,\xc3\xa9,1,none,",
-    b"enrol,,978,1,,",
-    b"enrol,1234567890123456,978,1,,",
-    b"terminal,,T,,,",
-    b"terminal,SHOP,,,,",
-    b"terminal,SHOP,\"\",,,",
-    b"terminal,SHOP,123456789,,,",
-    b"terminal,SHOP,T\x7f,,,",
-    b"terminal,1234567890123456,T,,,",
-    // references
-    b"answer,946684800,SHOP,,none,",
-    b"answer,946684800,SHOP,0000000000001,none,",
-    b"answer,946684800,SHOP,1x,none,",
-    // verdicts
-    b"answer,946684800,SHOP,1,,",
-    b"answer,946684800,SHOP,1,Approved,A1B2C3",
-    b"answer,946684800,SHOP,1,approved,",
-    b"answer,946684800,SHOP,1,approved,A1B2C",
-    b"answer,946684800,SHOP,1,approved,A1B2C3D",
-    b"answer,946684800,SHOP,1,approved,A1B-C3",
-    b"answer,946684800,SHOP,1,declined,00",
-    b"answer,946684800,SHOP,1,declined,5",
-    b"answer,946684800,SHOP,1,declined,512",
-    b"answer,946684800,SHOP,1,declined,5-",
-    b"answer,946684800,SHOP,1,none,x",
-    b"answer,946684800,SHOP,1,None,",
-    // ranges
-    b"addrange,40000,499999,12345,7,",
-    b"addrange,400000,4999999,12345,7,",
-    b"addrange,400000,499999,,7,",
-    b"addrange,400000,499999,123456789012,7,",
-    b"addrange,400000,499999,12345,,",
-    b"addrange,400000,499999,12345,007,",
-    b"droprange,40000x,499999,,,",
-    // currencies and first references
-    b"enrol,SHOP,97,1,,",
-    b"enrol,SHOP,97-,1,,",
-    b"enrol,SHOP,978,0,,",
-    b"enrol,SHOP,978,900000000001,,",
-];
-
 /// What a text reads as, in pieces of seven bytes.
 fn read(alloc: Global, text: &[u8]) -> Result<Vec<Event>, OutFault> {
     let mut source = SliceSource::in_pieces(text, 7);
     read_events(alloc, &mut source)
-}
-
-#[test]
-fn bad_lines(rt: HostRuntime) -> Result<(), Fail> {
-    let alloc = rt.alloc();
-    for bad in BAD_LINES {
-        let mut text = Vec::from_slice(alloc, b"cutover,946684800,,,,\n")?;
-        text.extend_from_slice(bad)?;
-        // The first bad line is told, also where a later one is bad too.
-        text.extend_from_slice(b"\n,\n")?;
-        match read(alloc, text.as_slice()) {
-            Err(fault) => assert_eq!(rt; fault, OutFault::BadLine(2), "for {bad:?}"),
-            Ok(_) => return Err(Fail::from("a bad line was read")),
-        }
-    }
-    Ok(())
-}
-
-/// Lines, and how the events that they are show.
-const GOOD_LINES: [(&[u8], &str); 9] = [
-    (
-        b"frame,946684800,,,,",
-        "Frame(Moment { seconds: 946684800 }, MessageText(0 bytes))",
-    ),
-    (
-        b"frame,4102444799,30380aFf,,,",
-        "Frame(Moment { seconds: 4102444799 }, MessageText(4 bytes))",
-    ),
-    (
-        b"cutover,000946684800,,,,",
-        "Cutover(Moment { seconds: 946684800 })",
-    ),
-    // The form is right, and the host says whether the values are.
-    (b"droprange,499999,400000,,,", "DropRange(499999, 400000)"),
-    (b"droprange,\"000000\",999999,,,", "DropRange(0, 999999)"),
-    (
-        b"cutover,946684801,,,,\r",
-        "Cutover(Moment { seconds: 946684801 })",
-    ),
-    (
-        b"\n\ncutover,946684802,,,,",
-        "Cutover(Moment { seconds: 946684802 })",
-    ),
-    (
-        b"\xef\xbb\xbfcutover,946684803,,,,",
-        "Cutover(Moment { seconds: 946684803 })",
-    ),
-    (
-        b"cutover,946684804,\"\",,,",
-        "Cutover(Moment { seconds: 946684804 })",
-    ),
-];
-
-#[test]
-fn good_lines(rt: HostRuntime) -> Result<(), Fail> {
-    let alloc = rt.alloc();
-    for (line, shown) in GOOD_LINES {
-        let events = read(alloc, line)?;
-        assert_eq!(rt; events.len(), 1, "for {line:?}");
-        let event = &events[0];
-        let text = format!(in alloc; "{event:?}")?;
-        assert_eq!(rt; text.as_str(), shown);
-    }
-    Ok(())
 }
 
 #[test]
@@ -302,88 +142,11 @@ fn merchants_and_terminals(rt: HostRuntime) -> Result<(), Fail> {
     Ok(())
 }
 
-/// Sixty bytes, in pieces of seven: nine reads, and a tenth finds the end.
-#[test]
-fn each_read_fails_in_turn(rt: HostRuntime) -> Result<(), Fail> {
-    let alloc = rt.alloc();
-    let text = b"cutover,946684800,,,,\ncutover,946684801,,,,\nterminal,S,T,,,\n";
-    assert_eq!(rt; text.len(), 60);
-    for before in 0..11 {
-        let mut source = SliceSource::failing_after(text, 7, before);
-        match read_events(alloc, &mut source) {
-            Ok(events) => {
-                assert_eq!(rt; before, 10);
-                assert_eq!(rt; events.len(), 3);
-            }
-            Err(fault) => {
-                assert!(rt; before < 10);
-                assert_eq!(rt; fault, OutFault::Read);
-            }
-        }
-    }
-    Ok(())
-}
-
-/// A text of more than one piece of a read.
-#[test]
-fn many_lines(rt: HostRuntime) -> Result<(), Fail> {
-    let alloc = rt.alloc();
-    let mut text = Vec::new(alloc);
-    for _ in 0..10_000 {
-        text.extend_from_slice(b"cutover,946684800,,,,\n")?;
-    }
-    let mut source = SliceSource::new(text.as_slice());
-    assert_eq!(rt; read_events(alloc, &mut source)?.len(), 10_000);
-    text.extend_from_slice(b"cutover")?;
-    let mut source = SliceSource::new(text.as_slice());
-    match read_events(alloc, &mut source) {
-        Err(fault) => assert_eq!(rt; fault, OutFault::BadLine(10_001)),
-        Ok(_) => return Err(Fail::from("a bad line was read")),
-    }
-    Ok(())
-}
-
 /// The line of an output.
 fn written(alloc: Global, output: &Output) -> Result<MemorySink, OutFault> {
     let mut sink = MemorySink::in_pieces(alloc, 5);
     write_output(alloc, output, &mut sink)?;
     Ok(sink)
-}
-
-/// A request of one merchant.
-fn query(alloc: Global) -> Result<Query, Fail> {
-    Ok(Query {
-        merchant: MerchantId::read(b"MERCHANT0000001").ok_or("a merchant")?,
-        reference: Reference::from_number(1).ok_or("a reference")?,
-        service: Service::Financial,
-        leg: Leg::Debit,
-        card: CardNumber::read(b"4111111111111111").ok_or("a card")?,
-        amount: Amount::from_number(1000).ok_or("an amount")?,
-        issuer: IssuerId::from_slice(alloc, b"12345")?,
-    })
-}
-
-#[test]
-fn requests_are_asked_about(rt: HostRuntime) -> Result<(), Fail> {
-    let output = Output::Ask(query(rt.alloc())?);
-    let sink = written(rt.alloc(), &output)?;
-    assert_eq!(rt;
-        sink.as_bytes(),
-        b"ask MERCHANT0000001 000000000001 411111******1111 1000 12345\n".as_slice()
-    );
-    Ok(())
-}
-
-#[test]
-fn replies(rt: HostRuntime) -> Result<(), Fail> {
-    let alloc = rt.alloc();
-    let text = MessageText::from_slice(alloc, b"0810822000000000000004000000000000000101")?;
-    let sink = written(alloc, &Output::Reply(None, text))?;
-    assert_eq!(rt;
-        sink.as_bytes(),
-        b"reply 0810822000000000000004000000000000000101\n".as_slice()
-    );
-    Ok(())
 }
 
 #[test]
@@ -446,24 +209,6 @@ fn plain_lines(rt: HostRuntime) -> Result<(), Fail> {
     }
     let sink = written(rt.alloc(), &Output::LastDay)?;
     assert_eq!(rt; sink.as_bytes(), b"refused 38\n".as_slice());
-    Ok(())
-}
-
-#[test]
-fn each_write_fails_in_turn(rt: HostRuntime) -> Result<(), Fail> {
-    let alloc = rt.alloc();
-    let line = b"refused 30 4 65\n";
-    let output = Output::Undecodable(DecodeFault::UnknownElement(65));
-    for room in 0..18 {
-        let mut sink = MemorySink::failing_after(alloc, 3, room);
-        let result = write_output(alloc, &output, &mut sink);
-        if room < 16 {
-            assert_eq!(rt; result, Err(OutFault::Write(room as u64)));
-        } else {
-            assert_eq!(rt; result, Ok(()));
-        }
-        assert_eq!(rt; sink.as_bytes(), &line[..room.min(16)]);
-    }
     Ok(())
 }
 

@@ -61,54 +61,6 @@ fn every_day_has_its_date(rt: HostRuntime) -> Result<(), Fail> {
 }
 
 #[test]
-fn month_and_day_resolve_backwards(rt: HostRuntime) -> Result<(), Fail> {
-    // Month and day, today, and the day that is meant.
-    let rows = [
-        (b"0229", "2024-03-01", Some("2024-02-29")),
-        (b"0229", "2025-03-01", None),
-        (b"1231", "2024-01-10", Some("2023-12-31")),
-        (b"1231", "2000-01-05", None),
-        (b"1301", "2024-05-01", None),
-        (b"0401", "2024-05-01", Some("2024-04-01")),
-        (b"0331", "2024-05-01", None),
-        (b"0501", "2024-05-01", Some("2024-05-01")),
-        (b"0502", "2024-05-01", None),
-        (b"0101", "2000-01-01", Some("2000-01-01")),
-        (b"0a01", "2024-05-01", None),
-    ];
-    for (mmdd, today, want) in rows {
-        let today = Day::read(today).ok_or("no such day")?;
-        let want = want.and_then(Day::read);
-        assert_eq!(rt; Day::resolve(*mmdd, today), want);
-    }
-    Ok(())
-}
-
-#[test]
-fn dates_are_read_in_one_form(rt: HostRuntime) {
-    let rows = [
-        ("2000-01-01", Some(0)),
-        ("2024-05-01", Some(8887)),
-        ("2024-02-29", Some(8825)),
-        ("2099-12-31", Some(36_524)),
-        ("1999-12-31", None),
-        ("2100-01-01", None),
-        ("2023-02-29", None),
-        ("2024-13-01", None),
-        ("2024-05-1", None),
-        ("20240501", None),
-        ("2024-W18-3", None),
-        ("+002024-05-01", None),
-        ("2024-05-01T00:00:00", None),
-        (" 2024-05-01", None),
-        ("", None),
-    ];
-    for (text, want) in rows {
-        assert_eq!(rt; Day::read(text).map(Day::number), want, "at {text}");
-    }
-}
-
-#[test]
 fn nets_of_days(rt: HostRuntime) -> Result<(), Fail> {
     let one = [0, 0, 1, 0];
     let sale = [0, 0, 1000, 0];

@@ -1,10 +1,9 @@
-//! The least and greatest values that the readers take, calls that take memory, and what `Debug`
-//! shows.
+//! Values that are read, calls that take memory, and what `Debug` shows.
 
+use acq_core::Output;
 use acq_message::{
-    Amount, AuthorizationId, Currency, DeclineCode, ElementContent, MerchantId, MessageText,
-    Moment, Reference, ResponseCode, Service, TerminalId, Trace, Transmission, Verdict, card_of,
-    expiry_of, is_malformed, merchant_in,
+    AuthorizationId, DeclineCode, ElementContent, MerchantId, MessageText, Service, Verdict,
+    card_of, expiry_of, is_malformed, merchant_in,
 };
 use iso_codec::decode;
 use std::test::Fail;
@@ -14,113 +13,23 @@ const SALE: &[u8] = b"02003220000020C08000000000000000001000050109300000000121\
 4111111111111111=2912TERM0001MERCHANT0000001978";
 
 #[test]
-fn numbers_have_their_bounds(rt: HostRuntime) {
-    for (seconds, taken) in [
-        (946_684_799, false),
-        (946_684_800, true),
-        (4_102_444_799, true),
-        (4_102_444_800, false),
-    ] {
-        assert_eq!(rt;
-            Moment::from_seconds(seconds).is_some(),
-            taken,
-            "at {seconds}"
-        );
-    }
-    for (number, taken) in [
-        (0, true),
-        (999_999_999_999, true),
-        (1_000_000_000_000, false),
-    ] {
-        assert_eq!(rt; Amount::from_number(number).is_some(), taken, "at {number}");
-        assert_eq!(rt;
-            Reference::from_number(number).is_some(),
-            taken,
-            "at {number}"
-        );
-    }
-}
-
-#[test]
-fn texts_have_their_length_and_class(rt: HostRuntime) {
-    for (text, taken) in [
-        ("MERCHANT0000001", true),
-        ("MERCHANT000001", false),
-        ("MERCHANT000001\x7F", false),
-    ] {
-        assert_eq!(rt;
-            MerchantId::read(text.as_bytes()).is_some(),
-            taken,
-            "for {text}"
-        );
-    }
-    for (text, taken) in [
-        ("TERM 001", true),
-        ("TERM00001", false),
-        ("TERM\t001", false),
-    ] {
-        assert_eq!(rt;
-            TerminalId::read(text.as_bytes()).is_some(),
-            taken,
-            "for {text}"
-        );
-    }
-    for (text, taken) in [("978", true), ("EUR", true), ("97", false), ("9-8", false)] {
-        assert_eq!(rt;
-            Currency::read(text.as_bytes()).is_some(),
-            taken,
-            "for {text}"
-        );
-    }
-    for (text, taken) in [("000001", true), ("00001", false), ("00000A", false)] {
-        assert_eq!(rt; Trace::read(text.as_bytes()).is_some(), taken, "for {text}");
-    }
-    for (text, taken) in [
-        ("0501093000", true),
-        ("050109300", false),
-        ("0501 93000", false),
-    ] {
-        assert_eq!(rt;
-            Transmission::read(text.as_bytes()).is_some(),
-            taken,
-            "for {text}"
-        );
-    }
-}
-
-#[test]
 fn verdicts_have_their_texts(rt: HostRuntime) -> Result<(), Fail> {
     let id = AuthorizationId::read(b"A1B2C3").ok_or("no id")?;
     assert_eq!(rt; id.to_bytes(), *b"A1B2C3");
     assert_eq!(rt; Verdict::approved(b"A1B2C3"), Some(Verdict::Approved(id)));
-    assert_eq!(rt; Verdict::approved(b"A1B2C"), None);
-    assert_eq!(rt; Verdict::approved(b"A1B2C\0"), None);
     let code = DeclineCode::read(b"51").ok_or("no code")?;
     assert_eq!(rt; code.to_bytes(), *b"51");
     assert_eq!(rt; Verdict::declined(b"51"), Some(Verdict::Declined(code)));
-    assert_eq!(rt; Verdict::declined(b"00"), None);
-    assert_eq!(rt; Verdict::declined(b"0"), None);
     Ok(())
 }
 
 #[test]
-fn types_have_their_replies(rt: HostRuntime) -> Result<(), Fail> {
-    for (request, repeat, digits, reply) in [
-        (*b"0100", *b"0101", *b"010", *b"0110"),
-        (*b"0200", *b"0201", *b"020", *b"0210"),
-        (*b"0220", *b"0221", *b"022", *b"0230"),
-        (*b"0400", *b"0401", *b"040", *b"0410"),
-        (*b"0420", *b"0421", *b"042", *b"0430"),
-        (*b"0500", *b"0501", *b"050", *b"0510"),
-        (*b"0800", *b"0801", *b"080", *b"0810"),
-    ] {
-        let service = Service::of(request).ok_or("not served")?;
-        assert_eq!(rt; Service::of(repeat), Some(service));
-        assert_eq!(rt; service.reply_kind(), reply);
-        assert_eq!(rt; Service::of(reply), None);
-        assert_eq!(rt; service.digits(), digits);
-    }
-    assert_eq!(rt; Service::of(*b"0120"), None);
+fn types_have_their_digits(rt: HostRuntime) -> Result<(), Fail> {
+    let service = Service::of(*b"0201").ok_or("not served")?;
+    assert_eq!(rt; service, Service::Financial);
+    assert_eq!(rt; service.digits(), *b"020");
+    assert_eq!(rt; Output::LastDay.number(), Some(38));
+    assert_eq!(rt; Output::Done.number(), None);
     Ok(())
 }
 

@@ -1,7 +1,7 @@
 //! Ten thousand events of fifty merchants, and what their day comes to.
 
-use super::expected::text_of;
-use super::script::{GREATEST_LIMIT, MAY_1, outputs, setup};
+use super::hosts::{events_behind_setup, outputs};
+use super::output_text::text_of;
 use super::script_event::{MORNING, answer, enrolment, frame, new_terminal};
 use super::wording::bytes_in;
 use acq_core::{Event, Verdict};
@@ -126,13 +126,13 @@ fn balanced(alloc: Global, merchant: u64) -> Result<String, Fail> {
 
 /// Runs it all.
 fn run(rt: &impl Abort, alloc: Global, keys: RandomState) -> Result<(), Fail> {
-    let mut events = setup(alloc)?;
+    let mut events = events_behind_setup(alloc, &[])?;
     enrolments(alloc, &mut events)?;
     rounds(alloc, &mut events)?;
     let before = events.len();
     assert!(rt; before > 10_000);
     reconciliations(alloc, &mut events)?;
-    let said = outputs(alloc, keys, GREATEST_LIMIT, MAY_1, events.as_slice())?;
+    let said = outputs(alloc, keys, events.as_slice())?;
     assert_eq!(rt; said.len(), events.len());
     for (merchant, output) in (1..=MERCHANTS).zip(said.iter().skip(before)) {
         let (found, want) = (text_of(alloc, output)?, balanced(alloc, merchant)?);

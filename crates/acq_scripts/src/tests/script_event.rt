@@ -21,16 +21,10 @@ pub(super) enum ScriptEvent {
     FrameAt(u64, &'static str),
     /// The issuer of a merchant's request with this reference approves it, under an id.
     Approve(&'static str, u64, &'static str),
-    /// It declines, with a code.
-    Decline(&'static str, u64, &'static str),
-    /// It gives no answer.
-    NoAnswer(&'static str, u64),
     /// The business day ends.
     Cutover,
     /// A range is added: its ends, its issuer and its hold days.
     AddRange(u32, u32, &'static str, u8),
-    /// The range with these ends is dropped.
-    DropRange(u32, u32),
     /// A merchant is enrolled, with its currency.
     Enrol(&'static str, &'static str),
     /// A terminal is added at a merchant.
@@ -47,13 +41,6 @@ impl ScriptEvent {
                 let verdict = Verdict::approved(id.as_bytes()).ok_or("an id")?;
                 answer(merchant, reference, verdict)
             }
-            ScriptEvent::Decline(merchant, reference, code) => {
-                let verdict = Verdict::declined(code.as_bytes()).ok_or("a code")?;
-                answer(merchant, reference, verdict)
-            }
-            ScriptEvent::NoAnswer(merchant, reference) => {
-                answer(merchant, reference, Verdict::NoAnswer)
-            }
             ScriptEvent::Cutover => Ok(Event::Cutover(moment(MORNING)?)),
             ScriptEvent::AddRange(low, high, issuer, hold_days) => Ok(Event::AddRange(Range {
                 low,
@@ -61,7 +48,6 @@ impl ScriptEvent {
                 issuer: IssuerId::from_slice(alloc, issuer.as_bytes())?,
                 hold_days,
             })),
-            ScriptEvent::DropRange(low, high) => Ok(Event::DropRange(low, high)),
             ScriptEvent::Enrol(merchant, currency) => enrolment(merchant, currency),
             ScriptEvent::AddTerminal(merchant, terminal) => new_terminal(merchant, terminal),
         }

@@ -1,10 +1,9 @@
 //! The frames of two days on connections whose reads and writes fail in turn.
 
-use super::expected::Expected::Reply;
-use super::script::{GREATEST_LIMIT, MAY_1, setup};
+use super::hosts::{GREATEST_LIMIT, MAY_1, events_behind_setup};
 use super::script_event::MORNING;
-use super::script_event::ScriptEvent::{Frame, FrameAt};
-use super::two_days::TWO_DAYS;
+use super::script_event::ScriptEvent::{self, Frame, FrameAt};
+use super::two_days::{FIRST_DAY, FIRST_REPLIES, SECOND_DAY, SECOND_REPLY};
 use super::wording::bytes_in;
 use acq_book::ListBook;
 use acq_core::{Event, Limit, Moment, Verdict};
@@ -17,11 +16,6 @@ use std::hash::RandomState;
 use std::process::Abort;
 use std::random::RandomSource;
 use std::test::Fail;
-
-/// The steps of the first day, and that of the second, behind the cutover.
-const FIRST_DAY: usize = 6;
-
-const SECOND_DAY: usize = 7;
 
 /// What a terminal sends on a connection, and what it is answered.
 #[derive(Drop)]
@@ -37,25 +31,30 @@ fn push_frame(frames: &mut Vec<u8>, alloc: Global, words: &str) -> Result<(), Fa
     Ok(())
 }
 
-/// The frames and the replies of these steps of the two days.
-fn talk_between(alloc: Global, from: usize, to: usize) -> Result<Talk, Fail> {
+/// The frames of a day's messages, and of the replies.
+fn talk_of(alloc: Global, day: &[ScriptEvent], said: &[&str]) -> Result<Talk, Fail> {
     let (mut frames, mut replies) = (Vec::new(alloc), Vec::new(alloc));
-    for (event, expected) in TWO_DAYS.steps.get(from..to).ok_or("steps")? {
+    for event in day {
         if let Frame(words) | FrameAt(_, words) = event {
             push_frame(&mut frames, alloc, words)?;
         }
-        if let Reply(words) = expected {
-            push_frame(&mut replies, alloc, words)?;
-        }
+    }
+    for words in said {
+        push_frame(&mut replies, alloc, words)?;
     }
     Ok(Talk { frames, replies })
+}
+
+/// The first day.
+fn first_talk(alloc: Global) -> Result<Talk, Fail> {
+    talk_of(alloc, &FIRST_DAY, &FIRST_REPLIES)
 }
 
 /// A host over a new book behind the setup.
 fn new_host(rt: &impl RandomSource, alloc: Global) -> Result<Host<ListBook>, Fail> {
     let limit = Limit::from_number(GREATEST_LIMIT).ok_or("a limit")?;
     let first_day = Day::from_number(MAY_1).ok_or("a day")?;
-    let events = setup(alloc)?;
+    let events = events_behind_setup(alloc, &[])?;
     let mut host = Host::in_memory(alloc, RandomState::new(rt)?, limit, first_day);
     let said = host.run(events.as_slice()).is_ok();
     if !said {
@@ -93,8 +92,8 @@ fn served_again(
     source: &mut SliceSource<'_>,
     sink: &mut MemorySink,
 ) -> Result<Result<(), FrontFault>, Fail> {
-    let first = talk_between(alloc, 0, FIRST_DAY)?;
-    let second = talk_between(alloc, SECOND_DAY, TWO_DAYS.steps.len())?;
+    let first = first_talk(alloc)?;
+    let second = talk_of(alloc, &SECOND_DAY, &[SECOND_REPLY])?;
     let (sale, hold) = (Verdict::approved(b"A1B2C3"), Verdict::approved(b"H00001"));
     let verdicts = [sale.ok_or("an id")?, hold.ok_or("an id")?];
     let cutover = Event::Cutover(Moment::from_seconds(MORNING).ok_or("a moment")?);
@@ -118,7 +117,7 @@ fn served_again(
 #[test]
 fn reads_fail_in_turn(rt: HostRuntime) -> Result<(), Fail> {
     let alloc = rt.alloc();
-    let day = talk_between(alloc, 0, FIRST_DAY)?;
+    let day = first_talk(alloc)?;
     let reads = day.frames.len().div_ceil(97) + 1;
     for before in 0..=reads {
         let mut source = SliceSource::failing_after(day.frames.as_slice(), 97, before as u64);
@@ -149,7 +148,7 @@ fn reads_fail_in_turn(rt: HostRuntime) -> Result<(), Fail> {
 #[test]
 fn writes_fail_in_turn(rt: HostRuntime) -> Result<(), Fail> {
     let alloc = rt.alloc();
-    let day = talk_between(alloc, 0, FIRST_DAY)?;
+    let day = first_talk(alloc)?;
     // Where in the replies the one begins that a write fails in.
     let mut begin = 0;
     for room in 0..day.replies.len() {

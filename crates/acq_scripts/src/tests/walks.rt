@@ -1,7 +1,7 @@
 //! What a book hands over to reports: the rows of its walks, the pending requests of a day, and a
 //! merchant's last reconciliation.
 
-use super::script::{GREATEST_LIMIT, MAY_1, host_in_sql, setup};
+use super::hosts::{GREATEST_LIMIT, MAY_1, events_behind_setup, host_in_sql};
 use super::script_event::ScriptEvent::{self, Approve, Enrol, Frame};
 use acq_book::{Book, BookFault, Visit};
 use acq_core::{Event, Limit, Merchant, MerchantId, Posting, Request};
@@ -139,15 +139,6 @@ fn reports<B: Book>(book: &mut B, day: Day, merchant: MerchantId) -> Result<Find
     })
 }
 
-/// The events behind the setup that all scripts share.
-fn events_of_a_day(alloc: Global) -> Result<Vec<Event>, Fail> {
-    let mut events: Vec<Event> = setup(alloc)?;
-    for event in &EVENTS {
-        events.push(event.event(alloc)?)?;
-    }
-    Ok(events)
-}
-
 /// What the book of a host hands over after events.
 fn found_after<B: Book + Drop>(
     mut host: Host<B>,
@@ -179,11 +170,11 @@ fn rows_for_reports(rt: HostRuntime) -> Result<(), Fail> {
     let day = Day::from_number(MAY_1).ok_or("a day")?;
     let limit = Limit::from_number(GREATEST_LIMIT).ok_or("a limit")?;
     let merchant = MerchantId::read(b"MERCHANT0000001").ok_or("a merchant")?;
-    let events = events_of_a_day(alloc)?;
+    let events = events_behind_setup(alloc, &EVENTS)?;
     let keys = RandomState::new(&rt)?;
     let host = Host::in_memory(alloc, keys, limit, day);
     check(&rt, &found_after(host, events.as_slice(), day, merchant)?);
-    let host = host_in_sql(alloc, GREATEST_LIMIT, MAY_1)?;
+    let host = host_in_sql(alloc)?;
     check(&rt, &found_after(host, events.as_slice(), day, merchant)?);
     Ok(())
 }

@@ -1,0 +1,11 @@
+-- Why a book is not opened.
+use Rattle.acq_commands.specs.declared.fault.Fault.{Fault}
+use Rattle.acq_commands.specs.declared.fault.Fault.TheVariants.{Memory, Store, NotABook, OtherVersion}
+
+-- why a book was not opened or made: memory, its store, or that the file holds none of this version
+abbrev pub IsOpening : Fault → Type 0
+IsOpening Memory = Unit {0}
+IsOpening Store = Unit {0}
+IsOpening NotABook = Unit {0}
+IsOpening (OtherVersion version) = Unit {0}
+IsOpening other = ⊥

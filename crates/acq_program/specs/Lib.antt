@@ -1,0 +1,3 @@
+pub mod BookFaults
+pub mod Moments
+pub mod Runs

@@ -1,0 +1,57 @@
+//! What a command finds on its machine.
+
+use acq_book::Book;
+use acq_commands::{Fault, Gathering};
+use acq_core::Limit;
+use acq_front::Connections;
+use acq_stand_in::StandIn;
+use day_totals::Day;
+use std::alloc::Global;
+
+/// What a command finds on its machine: files, by their paths, and ports.
+pub trait Machine: Sized {
+    ghost use Rattle.std.specs.Prelude.{◌≡◌, IfErr, IfOk};
+    ghost use Rattle.acq_core.specs.Pasts.{HasPast};
+    ghost use Rattle.acq_commands.specs.declared.fault.Fault.TheVariants.{Read};
+    ghost use Rattle.acq_commands.specs.Faults.{IsOfAnswers, IsOfGathering};
+    ghost use Rattle.acq_program.specs.BookFaults.{IsOpening};
+
+    /// A book in a file.
+    type Book: Book + Drop;
+
+    /// The connections that come in at a port.
+    type Connections: Connections + Drop;
+
+    /// Connections that come in at a port and are served at once.
+    type Gathering: Gathering + Drop;
+
+    /// Opens the book in the file at a path.
+    fn open_book(self, path: &str) -> Result<Self::Book, Fault>
+        ensures fault { IfErr result IsOpening }
+        // Events alone have changed it.
+        ensures past { IfOk result (λ book.
+            Self.Book.is_open book → HasPast (Self.Book.tables book)) };
+
+    /// Makes a new book in the file at a path, where there is none yet.
+    fn make_book(self, path: &str, limit: Limit, first_day: Day) -> Result<Self::Book, Fault>
+        ensures { IfErr result IsOpening };
+
+    /// Reads the file of issuers' answers at a path.
+    fn read_answers(&self, alloc: Global, path: &str) -> Result<StandIn, Fault>
+        ensures { IfErr result IsOfAnswers };
+
+    /// Listens at a port. A connection that is silent for so many seconds is closed as a failed
+    /// read, and for 0 none is.
+    fn listen_at(&self, port: u16, idle: u64) -> Result<Self::Connections, Fault>
+        ensures { IfErr result (λ fault. fault ≡ Read) };
+
+    /// Listens at a port, as `listen_at` does, for so many connections at once.
+    fn gather_at(
+        &self,
+        alloc: Global,
+        port: u16,
+        idle: u64,
+        together: usize,
+    ) -> Result<Self::Gathering, Fault>
+        ensures { IfErr result IsOfGathering };
+}

@@ -1,0 +1,392 @@
+//! One run of the program.
+
+ghost use Rattle.std.specs.Prelude.{◌≡◌, ◌≤◌, [], map, IfErr, MatchResult, OnOk};
+ghost use Rattle.clap.specs.Words.{fault_of, kind_of};
+ghost use Rattle.clap.specs.declared.error.kind.ErrorKind.TheVariants.{OutOfMemory};
+ghost use Rattle.acq_arguments.specs.Program.{program};
+ghost use Rattle.acq_program.specs.BookFaults.{IsOpening};
+ghost use Rattle.acq_commands.specs.Faults.{status_after};
+ghost use Rattle.acq_program.specs.Runs.{Does, IsQuiet, IsUntouched, MayCome, ReadsWhole, Runs};
+ghost use Rattle.acq_program.specs.Runs.{ServesAsked, ServesIn, Tells};
+
+use crate::machine::Machine;
+use acq_arguments::{Action, UsageFault, action_of};
+use acq_commands::{
+    Fault, ListenOptions, NewBook, OnceOptions, Progress, ReplayOptions, TextSink, holds_of,
+    listen_on, listen_together_on, once_in_memory, once_on, replay_in_memory, replay_on, report_on,
+    show,
+};
+use acq_front::{Clock, FixedClock, Issuer, NoIssuer};
+use acq_link::{Sink, Source};
+use clap::error::ErrorKind;
+use std::alloc::Global;
+use std::convert::AsStr;
+use std::fmt::Write;
+use std::hash::RandomState;
+
+/// The status of wrong usage.
+const USAGE: u8 = 2;
+
+/// Runs the command that the arguments name, the program's own name first, and returns the status:
+/// 0 where all is well, 1 for a fault, 2 for wrong usage, 3 where memory ran out. A fault, or what
+/// is wrong with the arguments, is written to `faults`; help goes to `output`. A book in memory
+/// finds its rows by hash, under `keys`; files and ports are those of `machine`. The moments at
+/// which frames come are told by `clock`. How far a long run is goes to `progress`.
+pub fn command<W: AsStr, M: Machine + Drop, C: Clock, S: Source, K: Sink, F: Sink, P: Progress>(
+    alloc: Global,
+    keys: RandomState,
+    args: &[W],
+    machine: M,
+    clock: &mut C,
+    input: &mut S,
+    output: &mut K,
+    faults: &mut F,
+    progress: &mut P,
+) -> u8
+    ensures status { result ≤ 3 }
+    // Where nothing is wrong with the arguments, what they ask for is done.
+    ensures ran { fault_of program (map W.text args.now) ≡ []
+        → Runs (map W.text args.now) (S.remaining input.old) (S.received input.old)
+        (S.received input.new) (K.sent output.old) (K.sent output.new) result }
+    // Else nothing was read.
+    ensures unread { ¬ (fault_of program (map W.text args.now) ≡ [])
+        → S.received input.new ≡ S.received input.old }
+    // Where all is well, no fault is written, but those of connections.
+    ensures quiet { result ≡ 0
+        → IsQuiet (map W.text args.now) (F.sent faults.old) (F.sent faults.new) }
+    // After wrong usage nothing was read, and nothing written but what is wrong.
+    ensures usage_unread { result ≡ 2 → S.received input.new ≡ S.received input.old }
+    ensures usage_unwritten { result ≡ 2 → K.sent output.new ≡ K.sent output.old }
+{
+    match action_of(alloc, args) {
+        Ok(action) => {
+            let ended = run(
+                alloc, keys, action, machine, clock, input, output, faults, progress,
+            );
+            finish(ended, faults)
+        }
+        Err(UsageFault::BadValue(option)) => {
+            let _ = writeln!(TextSink::new(faults), "acqd: bad value {option}");
+            USAGE
+        }
+        Err(UsageFault::Words(said)) => tell(&said, output, faults),
+    }
+}
+
+/// Does what is asked.
+fn run<M: Machine + Drop, C: Clock, S: Source, K: Sink, F: Sink, P: Progress>(
+    alloc: Global,
+    keys: RandomState,
+    action: Action,
+    machine: M,
+    clock: &mut C,
+    input: &mut S,
+    output: &mut K,
+    faults: &mut F,
+    progress: &mut P,
+) -> Result<(), Fault>
+    ensures done { Does action (S.remaining input.old) (S.received input.old)
+        (S.received input.new) (K.sent output.old) (K.sent output.new) result }
+    ensures told { Tells action (F.sent faults.old) (F.sent faults.new) }
+{
+    match action {
+        Action::Init(new) => init(machine, &new),
+        Action::Once(asked) => once(alloc, keys, machine, &asked, clock, input, output),
+        Action::Listen(asked) => listen(alloc, machine, &asked, clock, faults),
+        Action::Replay(options) => match &options.book {
+            Some(path) => {
+                replay_in_file(alloc, machine, path, &options, input, output, progress)
+            }
+            None => replay_in_memory(alloc, keys, &options, input, output, progress),
+        },
+        Action::Report(options) => {
+            let book = machine.open_book(options.path.as_str())?;
+            report_on(alloc, book, &options, output)
+        }
+        Action::Holds(options) => {
+            let book = machine.open_book(options.path.as_str())?;
+            holds_of(alloc, book, &options, output)
+        }
+        Action::Show(form) => show(alloc, form, input, output),
+    }
+}
+
+/// Makes a new book, which is given back at once.
+fn init<M: Machine>(machine: M, new: &NewBook) -> Result<(), Fault>
+    ensures { IfErr result IsOpening }
+{
+    drop(machine.make_book(new.path.as_str(), new.limit, new.first_day)?);
+    Ok(())
+}
+
+/// Answers the frames of the input, and asks the issuers' file, or without one nobody.
+fn once<M: Machine + Drop, C: Clock, S: Source, K: Sink>(
+    alloc: Global,
+    keys: RandomState,
+    machine: M,
+    asked: &OnceOptions,
+    clock: &mut C,
+    input: &mut S,
+    output: &mut K,
+) -> Result<(), Fault>
+    ensures served { ServesAsked asked.now (S.received input.old) (S.received input.new)
+        (K.sent output.old) (K.sent output.new) result }
+    ensures whole { ReadsWhole
+        (S.remaining input.old) (S.received input.old) (S.received input.new) result }
+{
+    match &asked.issuers {
+        Some(path) => {
+            let answers = machine.read_answers(alloc, path.as_str());
+            once_at(alloc, keys, machine, asked, clock, answers, input, output)
+        }
+        None => once_at(
+            alloc,
+            keys,
+            machine,
+            asked,
+            clock,
+            Ok(NoIssuer),
+            input,
+            output,
+        ),
+    }
+}
+
+/// Answers the frames of the input, at one moment where one is asked for.
+fn once_at<M: Machine + Drop, C: Clock, I: Issuer + Drop, S: Source, K: Sink>(
+    alloc: Global,
+    keys: RandomState,
+    machine: M,
+    asked: &OnceOptions,
+    clock: &mut C,
+    issuers: Result<I, Fault>,
+    input: &mut S,
+    output: &mut K,
+) -> Result<(), Fault>
+    ensures served { MatchResult issuers
+        (λ issuer. ServesIn asked.now.book (MayCome asked.now.moment) (I.may_say issuer)
+        (S.received input.old) (S.received input.new) (K.sent output.old) (K.sent output.new)
+        result)
+        (λ fault. IsUntouched (S.received input.old) (S.received input.new)
+        (K.sent output.old) (K.sent output.new)) }
+    ensures whole { ReadsWhole
+        (S.remaining input.old) (S.received input.old) (S.received input.new) result }
+{
+    let path = &asked.book;
+    match asked.moment {
+        Some(moment) => {
+            let mut clock = FixedClock::new(moment);
+            once_over(
+                alloc, keys, machine, path, &mut clock, issuers, input, output,
+            )
+        }
+        None => once_over(alloc, keys, machine, path, clock, issuers, input, output),
+    }
+}
+
+/// Answers the frames of the input over the book in a file, or without one over a new book. Where
+/// the issuers' file can't be read, that is told behind what is wrong with the book.
+fn once_over<M: Machine + Drop, C: Clock, I: Issuer + Drop, S: Source, K: Sink>(
+    alloc: Global,
+    keys: RandomState,
+    machine: M,
+    path: &Option<String>,
+    clock: &mut C,
+    issuers: Result<I, Fault>,
+    input: &mut S,
+    output: &mut K,
+) -> Result<(), Fault>
+    ensures served { MatchResult issuers
+        (λ issuer. ServesIn path.now (C.may_give clock.old) (I.may_say issuer)
+        (S.received input.old) (S.received input.new) (K.sent output.old) (K.sent output.new)
+        result)
+        (λ fault. IsUntouched (S.received input.old) (S.received input.new)
+        (K.sent output.old) (K.sent output.new)) }
+    ensures whole { ReadsWhole
+        (S.remaining input.old) (S.received input.old) (S.received input.new) result }
+{
+    match path {
+        Some(path) => {
+            let book = machine.open_book(path.as_str())?;
+            let mut issuer = issuers?;
+            once_on(alloc, book, clock, &mut issuer, input, output)
+        }
+        None => {
+            let mut issuer = issuers?;
+            once_in_memory(alloc, keys, clock, &mut issuer, input, output)
+        }
+    }
+}
+
+/// Answers the frames of connections, and asks the issuers' file, or without one nobody.
+fn listen<M: Machine + Drop, C: Clock, F: Sink>(
+    alloc: Global,
+    machine: M,
+    asked: &ListenOptions,
+    clock: &mut C,
+    faults: &mut F,
+) -> Result<(), Fault> {
+    match &asked.issuers {
+        Some(path) => {
+            let answers = machine.read_answers(alloc, path.as_str());
+            listen_at(alloc, machine, asked, clock, answers, faults)
+        }
+        None => listen_at(alloc, machine, asked, clock, Ok(NoIssuer), faults),
+    }
+}
+
+/// Answers the frames of connections, at one moment where one is asked for.
+fn listen_at<M: Machine + Drop, C: Clock, I: Issuer + Drop, F: Sink>(
+    alloc: Global,
+    machine: M,
+    asked: &ListenOptions,
+    clock: &mut C,
+    issuers: Result<I, Fault>,
+    faults: &mut F,
+) -> Result<(), Fault> {
+    match asked.moment {
+        Some(moment) => {
+            let mut clock = FixedClock::new(moment);
+            listen_over(alloc, machine, asked, &mut clock, issuers, faults)
+        }
+        None => listen_over(alloc, machine, asked, clock, issuers, faults),
+    }
+}
+
+/// Answers the frames of connections over the book in a file, one connection after the other or
+/// many at once. What is wrong is told of the book first, then of the issuers' file, then of the
+/// port.
+fn listen_over<M: Machine + Drop, C: Clock, I: Issuer + Drop, F: Sink>(
+    alloc: Global,
+    machine: M,
+    asked: &ListenOptions,
+    clock: &mut C,
+    issuers: Result<I, Fault>,
+    faults: &mut F,
+) -> Result<(), Fault> {
+    if asked.together > 1 {
+        return gather_over(alloc, machine, asked, clock, issuers, faults);
+    }
+    let connections = machine.listen_at(asked.port, asked.idle);
+    let book = machine.open_book(asked.path.as_str())?;
+    let mut issuer = issuers?;
+    let mut connections = connections?;
+    listen_on(
+        alloc,
+        book,
+        &mut connections,
+        asked.count,
+        clock,
+        &mut issuer,
+        faults,
+    )
+}
+
+/// Answers the frames of connections over the book in a file, many at once.
+fn gather_over<M: Machine + Drop, C: Clock, I: Issuer + Drop, F: Sink>(
+    alloc: Global,
+    machine: M,
+    asked: &ListenOptions,
+    clock: &mut C,
+    issuers: Result<I, Fault>,
+    faults: &mut F,
+) -> Result<(), Fault> {
+    let gathering = machine.gather_at(alloc, asked.port, asked.idle, asked.together);
+    let book = machine.open_book(asked.path.as_str())?;
+    let mut issuer = issuers?;
+    let mut gathering = gathering?;
+    listen_together_on(
+        alloc,
+        book,
+        &mut gathering,
+        asked.count,
+        clock,
+        &mut issuer,
+        faults,
+    )
+}
+
+/// Replays an input over the book in a file.
+fn replay_in_file<M: Machine + Drop, S: Source, K: Sink, P: Progress>(
+    alloc: Global,
+    machine: M,
+    path: &String,
+    options: &ReplayOptions,
+    input: &mut S,
+    output: &mut K,
+    progress: &mut P,
+) -> Result<(), Fault>
+    ensures { ReadsWhole
+        (S.remaining input.old) (S.received input.old) (S.received input.new) result }
+{
+    let book = machine.open_book(path.as_str())?;
+    replay_on(
+        alloc,
+        book,
+        options.reports.as_slice(),
+        input,
+        output,
+        progress,
+    )
+}
+
+/// Writes what clap says of the arguments, help and the version to `output`, and returns the status.
+fn tell<K: Sink, F: Sink>(said: &clap::Error, output: &mut K, faults: &mut F) -> u8
+    ensures status { result ≤ 3 }
+    ensures memory { kind_of said.now ≡ OutOfMemory
+        → (result ≡ 3) × (K.sent output.new ≡ K.sent output.old) }
+    ensures quiet { result ≡ 0 → F.sent faults.new ≡ F.sent faults.old }
+    ensures usage_unwritten { result ≡ 2 → K.sent output.new ≡ K.sent output.old }
+{
+    if said.kind() == ErrorKind::OutOfMemory {
+        return finish(Err(Fault::Memory), faults);
+    }
+    if said.use_stderr() {
+        let _ = write!(TextSink::new(faults), "{said}");
+        return USAGE;
+    }
+    match write!(TextSink::new(output), "{said}") {
+        Ok(()) => 0,
+        Err(_) => finish(Err(Fault::Write(0)), faults),
+    }
+}
+
+/// Writes that there was no memory for the arguments, and returns the status.
+pub fn memory_fault<F: Sink>(faults: &mut F) -> u8
+    ensures { result ≡ 3 }
+{
+    finish(Err(Fault::Memory), faults)
+}
+
+/// Writes that there was no randomness for the keys of hashes, and returns the status.
+pub fn read_fault<F: Sink>(faults: &mut F) -> u8
+    ensures { result ≡ 1 }
+{
+    finish(Err(Fault::Read), faults)
+}
+
+/// Writes that an argument isn't UTF-8, which is wrong usage, and returns the status. Arguments are
+/// counted from 1, behind the program's own name.
+pub fn usage_fault<F: Sink>(place: usize, faults: &mut F) -> u8
+    ensures { result ≡ 2 }
+{
+    let _ = writeln!(
+        TextSink::new(faults),
+        "error: argument {place} is not UTF-8"
+    );
+    USAGE
+}
+
+/// Writes a fault, and returns the status.
+fn finish<F: Sink>(ended: Result<(), Fault>, faults: &mut F) -> u8
+    ensures status { result ≡ status_after ended }
+    ensures quiet { OnOk ended (F.sent faults.new ≡ F.sent faults.old) }
+{
+    match ended {
+        Ok(()) => 0,
+        Err(fault) => {
+            let _ = writeln!(TextSink::new(faults), "acqd: {fault}");
+            fault.status()
+        }
+    }
+}

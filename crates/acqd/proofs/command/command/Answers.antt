@@ -1,9 +1,0 @@
-use Rattle.std.proofs.Common.{◌∙◌, map, sym}
-use Rattle.acqd.proofs.Quiet.{still_quiet}
-use Rattle.acqd.proofs.command.command.Goals as goal
-
-pub returns-in-Ok-clause-quiet : goal.returns-in-Ok-clause-quiet
-returns-in-Ok-clause-quiet g c = λ well.
-    still_quiet (map g.W.AsStr.text c.args.args.now) c.in-Ok.action c.run-ended.result (g.F.Sink.sent c.args.faults.now)
-    (g.F.Sink.sent c.run-ended.new.faults) (g.F.Sink.sent c.finish.new.faults) c.in-Ok.ensures c.run-ended.ensures.told
-    c.finish.ensures.quiet (sym c.finish.ensures.status ∙ well)

@@ -1,0 +1,15 @@
+//! Runs that show nobody how far they are.
+
+use acq_commands::Progress;
+
+/// Shows nobody how far a run is.
+#[derive(Clone, Copy, Debug)]
+pub struct NoProgress;
+
+impl Progress for NoProgress {
+    fn begin(&mut self, _events: usize) {}
+
+    fn done(&mut self) {}
+
+    fn end(&mut self) {}
+}

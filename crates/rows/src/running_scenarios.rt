@@ -1,0 +1,271 @@
+//! Scenarios over each book: in memory; in SQL; in SQL and taken again before each event; and where
+//! a scenario says so, among another merchant's events.
+
+use crate::events_of_another::lot_of_another;
+use crate::findings::Findings;
+use crate::report_asked::ReportAsked;
+use crate::row_fault::RowFault;
+use crate::scenario::Scenario;
+use crate::scenario_file::ScenarioFile;
+use crate::step::Step;
+use acq_book::{Book, BookFault, ListBook};
+use acq_commands::{Fault, TextSink};
+use acq_core::Event;
+use acq_host::Host;
+use acq_link::MemorySink;
+use acq_out::write_output;
+use acq_reports::ReportFault;
+use acq_sql::SqlBook;
+use sqlite::{Connection, MemStore};
+use std::alloc::Global;
+use std::fmt::Write;
+use std::hash::RandomState;
+use std::random::RandomSource;
+
+/// What stands below an event of which nothing is compared.
+const NOT_COMPARED: &[u8] = b"?\n";
+
+/// Runs all scenarios of a file.
+pub fn run_scenarios(
+    rt: &impl RandomSource,
+    alloc: Global,
+    text: &str,
+    findings: &mut Findings,
+) -> Result<(), RowFault> {
+    let file = ScenarioFile::read(alloc, text)?;
+    if file.scenarios.is_empty() {
+        return Err(RowFault::Empty);
+    }
+    for scenario in file.scenarios.as_slice() {
+        run_in_memory(
+            alloc,
+            RandomState::new(rt)?,
+            &file.setup,
+            scenario,
+            findings,
+        )?;
+        run_in_sql(alloc, &file.setup, scenario, findings)?;
+        run_in_sql_again(alloc, &file.setup, scenario, findings)?;
+        if let Some(sales) = scenario.others {
+            let keys = RandomState::new(rt)?;
+            run_among(alloc, keys, &file.setup, scenario, sales, findings)?;
+        }
+    }
+    Ok(())
+}
+
+fn run_in_memory(
+    alloc: Global,
+    keys: RandomState,
+    setup: &Scenario,
+    scenario: &Scenario,
+    findings: &mut Findings,
+) -> Result<(), RowFault> {
+    let mut host = host_in_memory(alloc, keys, scenario);
+    findings.set_book(", in memory");
+    take_steps(alloc, &mut host, setup.steps.as_slice(), findings)?;
+    take_steps(alloc, &mut host, scenario.steps.as_slice(), findings)?;
+    ask(alloc, host, scenario.reports.as_slice(), findings)
+}
+
+fn run_in_sql(
+    alloc: Global,
+    setup: &Scenario,
+    scenario: &Scenario,
+    findings: &mut Findings,
+) -> Result<(), RowFault> {
+    let mut host = host_in_sql(alloc, scenario)?;
+    findings.set_book(", in SQL");
+    take_steps(alloc, &mut host, setup.steps.as_slice(), findings)?;
+    take_steps(alloc, &mut host, scenario.steps.as_slice(), findings)?;
+    ask(alloc, host, scenario.reports.as_slice(), findings)
+}
+
+fn run_in_sql_again(
+    alloc: Global,
+    setup: &Scenario,
+    scenario: &Scenario,
+    findings: &mut Findings,
+) -> Result<(), RowFault> {
+    let mut host = host_in_sql(alloc, scenario)?;
+    findings.set_book(", in SQL, taken again before each event");
+    take_steps(alloc, &mut host, setup.steps.as_slice(), findings)?;
+    for step in scenario.steps.as_slice() {
+        host = taken_again(alloc, host)?;
+        take_step(alloc, &mut host, step, findings)?;
+    }
+    ask(
+        alloc,
+        taken_again(alloc, host)?,
+        scenario.reports.as_slice(),
+        findings,
+    )
+}
+
+/// Runs a scenario among another merchant's events, over a book in memory and over one in SQL.
+fn run_among(
+    alloc: Global,
+    keys: RandomState,
+    setup: &Scenario,
+    scenario: &Scenario,
+    sales: u64,
+    findings: &mut Findings,
+) -> Result<(), RowFault> {
+    let mut host = host_in_memory(alloc, keys, scenario);
+    findings.set_book(", in memory, among another merchant's events");
+    take_steps(alloc, &mut host, setup.steps.as_slice(), findings)?;
+    take_among(alloc, &mut host, scenario.steps.as_slice(), sales, findings)?;
+    drop(host);
+    let mut host = host_in_sql(alloc, scenario)?;
+    findings.set_book(", in SQL, among another merchant's events");
+    take_steps(alloc, &mut host, setup.steps.as_slice(), findings)?;
+    take_among(alloc, &mut host, scenario.steps.as_slice(), sales, findings)?;
+    drop(host);
+    Ok(())
+}
+
+/// A host over a new book in memory.
+fn host_in_memory(alloc: Global, keys: RandomState, scenario: &Scenario) -> Host<ListBook> {
+    Host::in_memory(alloc, keys, scenario.limit, scenario.first_day)
+}
+
+/// A host over a new book in SQL, which is kept in memory.
+fn host_in_sql(alloc: Global, scenario: &Scenario) -> Result<Host<SqlBook<MemStore>>, RowFault> {
+    let Ok(connection) = Connection::open_in_memory(alloc) else {
+        return Err(RowFault::Book);
+    };
+    match SqlBook::create(alloc, connection, scenario.limit, scenario.first_day) {
+        Ok(book) => Ok(Host::new(alloc, book)),
+        Err(_) => Err(RowFault::Book),
+    }
+}
+
+/// A host over the same database, which is handed back and taken again.
+fn taken_again(
+    alloc: Global,
+    host: Host<SqlBook<MemStore>>,
+) -> Result<Host<SqlBook<MemStore>>, RowFault> {
+    match SqlBook::adopt(alloc, host.into_book().release()) {
+        Ok(book) => Ok(Host::new(alloc, book)),
+        Err(_) => Err(RowFault::Book),
+    }
+}
+
+/// Takes steps, and compares what the host says to each.
+fn take_steps<B: Book + Drop>(
+    alloc: Global,
+    host: &mut Host<B>,
+    steps: &[Step],
+    findings: &mut Findings,
+) -> Result<(), RowFault> {
+    for step in steps {
+        take_step(alloc, host, step, findings)?;
+    }
+    Ok(())
+}
+
+/// Takes steps, before each of which another merchant has so many sales and some more.
+fn take_among<B: Book + Drop>(
+    alloc: Global,
+    host: &mut Host<B>,
+    steps: &[Step],
+    sales: u64,
+    findings: &mut Findings,
+) -> Result<(), RowFault> {
+    for (place, step) in (0..).zip(steps) {
+        let lot = lot_of_another(alloc, place, sales)?;
+        take_unseen(alloc, host, lot.as_slice())?;
+        take_step(alloc, host, step, findings)?;
+    }
+    Ok(())
+}
+
+/// Takes events of which nothing is compared.
+fn take_unseen<B: Book + Drop>(
+    alloc: Global,
+    host: &mut Host<B>,
+    events: &[Event],
+) -> Result<(), RowFault> {
+    for event in events {
+        said_to(alloc, host, event)?;
+    }
+    Ok(())
+}
+
+fn take_step<B: Book + Drop>(
+    alloc: Global,
+    host: &mut Host<B>,
+    step: &Step,
+    findings: &mut Findings,
+) -> Result<(), RowFault> {
+    let said = said_to(alloc, host, &step.event)?;
+    if step.said.as_slice() == NOT_COMPARED {
+        return Ok(());
+    }
+    findings.compare(step.line, step.said.as_slice(), said.as_bytes())
+}
+
+/// Asks the host's book for texts, and gives it back.
+fn ask<B: Book + Drop>(
+    alloc: Global,
+    host: Host<B>,
+    reports: &[ReportAsked],
+    findings: &mut Findings,
+) -> Result<(), RowFault> {
+    let mut book = host.into_book();
+    for report in reports {
+        let text = text_of(alloc, &mut book, report)?;
+        findings.compare(report.line, report.text.as_slice(), text.as_bytes())?;
+    }
+    drop(book);
+    Ok(())
+}
+
+/// What a host says to an event, as `acqd replay` writes it. Where memory runs out once, the host
+/// takes it the second time as if nothing had happened.
+fn said_to<B: Book + Drop>(
+    alloc: Global,
+    host: &mut Host<B>,
+    event: &Event,
+) -> Result<MemorySink, RowFault> {
+    let mut said = host.take(event);
+    if matches!(said, Err(BookFault::Memory)) {
+        said = host.take(event);
+    }
+    let mut line = MemorySink::new(alloc);
+    match said {
+        Ok(output) => match write_output(alloc, &output, &mut line) {
+            Ok(()) => Ok(line),
+            Err(_) => Err(RowFault::Memory),
+        },
+        Err(fault) => fault_line(alloc, Fault::from(fault)),
+    }
+}
+
+/// The text that is asked of a book, or the fault line. Where memory runs out once, it is asked for
+/// again.
+fn text_of<B: Book>(
+    alloc: Global,
+    book: &mut B,
+    report: &ReportAsked,
+) -> Result<MemorySink, RowFault> {
+    let mut text = MemorySink::new(alloc);
+    let mut written = report.asked.write(alloc, book, &mut text);
+    if matches!(written, Err(ReportFault::Memory)) {
+        text = MemorySink::new(alloc);
+        written = report.asked.write(alloc, book, &mut text);
+    }
+    match written {
+        Ok(()) => Ok(text),
+        Err(fault) => fault_line(alloc, Fault::from(fault)),
+    }
+}
+
+/// The line that the program writes of a fault.
+fn fault_line(alloc: Global, fault: Fault) -> Result<MemorySink, RowFault> {
+    let mut text = MemorySink::new(alloc);
+    match writeln!(TextSink::new(&mut text), "acqd: {fault}") {
+        Ok(()) => Ok(text),
+        Err(_) => Err(RowFault::Memory),
+    }
+}

@@ -1,0 +1,33 @@
+//! What happens to a host over a new book.
+
+use crate::report_asked::ReportAsked;
+use crate::step::Step;
+use acq_core::Limit;
+use day_totals::Day;
+use std::alloc::Global;
+
+/// What happens to a host over a new book, and what it says; and then what the book's texts are.
+#[derive(Drop)]
+pub struct Scenario {
+    /// What the book is opened with: how many messages of a merchant a day admits, and its first day.
+    pub limit: Limit,
+    pub first_day: Day,
+    /// Where it also runs among another merchant's events, how many sales of that merchant stand
+    /// before each step.
+    pub others: Option<u64>,
+    pub steps: Vec<Step>,
+    pub reports: Vec<ReportAsked>,
+}
+
+impl Scenario {
+    /// A scenario over a book with these terms, in which nothing happens.
+    pub fn new(alloc: Global, limit: Limit, first_day: Day) -> Scenario {
+        Scenario {
+            limit,
+            first_day,
+            others: None,
+            steps: Vec::new(alloc),
+            reports: Vec::new(alloc),
+        }
+    }
+}
