@@ -1,9 +1,10 @@
 //! The program's commands and their options, with their help.
 
 ghost use Rattle.std.specs.Prelude.{◌≡◌, false, IfOk};
-ghost use Rattle.clap.specs.Words.{app_of, rule_of};
+ghost use Rattle.clap.specs.Words.{app_of, new_app, rule_of, with_rule};
+ghost use Rattle.clap.specs.declared.builder.action.ArgAction.TheVariants.{Append};
 ghost use Rattle.acq_arguments.specs.Program.{holds, init, listen, listen_at_port, making, on_a_day};
-ghost use Rattle.acq_arguments.specs.Program.{once};
+ghost use Rattle.acq_arguments.specs.Program.{once, option};
 ghost use Rattle.acq_arguments.specs.Program.{option_with_value, program, replay, required, show};
 
 use clap::{Arg, ArgAction, Command};
@@ -234,155 +235,193 @@ fn own_books<'a>(alloc: Global) -> Result<Command<'a>, AllocError>
 fn init_command<'a>(alloc: Global) -> Result<Command<'a>, AllocError>
     ensures { IfOk result (λ made. app_of made ≡ init) }
 {
-    let limit = required(
+    let command = command(alloc, "init", ABOUT_INIT, MORE_OF_INIT);
+    let command = with_required(alloc, command, "db", "FILE", "The file of the new book")?;
+    let command = with_required(
         alloc,
+        command,
         "limit",
         "N",
         "How many messages of one merchant a day admits, 1 to 999999",
-    );
-    let first_day = required(
+    )?;
+    with_required(
         alloc,
+        command,
         "day",
         "YYYY-MM-DD",
         "The first business day, 2000-01-01 to 2099-12-31",
-    );
-    Command::new(alloc, "init")
-        .about(ABOUT_INIT)
-        .after_help(MORE_OF_INIT)
-        .arg(required(alloc, "db", "FILE", "The file of the new book"))?
-        .arg(limit)?
-        .arg(first_day)
+    )
 }
 
 fn once_command<'a>(alloc: Global) -> Result<Command<'a>, AllocError>
     ensures { IfOk result (λ made. app_of made ≡ once) }
 {
-    let db = option_with_value(alloc, "db", "FILE", FILE_OR_MEMORY, ArgAction::Set);
-    let issuers = option_with_value(alloc, "issuers", "FILE", ISSUERS, ArgAction::Set);
-    let moment = option_with_value(alloc, "at", "MOMENT", COMING_AT, ArgAction::Set);
-    Command::new(alloc, "once")
-        .about(ABOUT_ONCE)
-        .after_help(MORE_OF_ONCE)
-        .arg(db)?
-        .arg(issuers)?
-        .arg(moment)
+    let command = command(alloc, "once", ABOUT_ONCE, MORE_OF_ONCE);
+    let command = with_option(alloc, command, "db", "FILE", FILE_OR_MEMORY)?;
+    let command = with_option(alloc, command, "issuers", "FILE", ISSUERS)?;
+    with_option(alloc, command, "at", "MOMENT", COMING_AT)
 }
 
 fn listen_command<'a>(alloc: Global) -> Result<Command<'a>, AllocError>
     ensures { IfOk result (λ made. app_of made ≡ listen) }
 {
-    let issuers = option_with_value(alloc, "issuers", "FILE", ISSUERS, ArgAction::Set);
-    let moment = option_with_value(alloc, "at", "MOMENT", COMING_AT, ArgAction::Set);
-    let idle = option_with_value(
+    let command = listen_at_port(alloc)?;
+    let command = with_option(alloc, command, "issuers", "FILE", ISSUERS)?;
+    let command = with_option(alloc, command, "at", "MOMENT", COMING_AT)?;
+    let command = with_option(
         alloc,
+        command,
         "idle",
         "SECONDS",
         "How long a connection may be silent, 0 to 999999, 0 for ever [default: 60]",
-        ArgAction::Set,
-    );
-    let together = option_with_value(
+    )?;
+    with_option(
         alloc,
+        command,
         "together",
         "M",
         "How many connections are served at once, 2 to 1024 [default: 1]",
-        ArgAction::Set,
-    );
-    listen_at_port(alloc)?
-        .arg(issuers)?
-        .arg(moment)?
-        .arg(idle)?
-        .arg(together)
+    )
 }
 
 /// `listen` with its file, its port and how many connections come.
 fn listen_at_port<'a>(alloc: Global) -> Result<Command<'a>, AllocError>
     ensures { IfOk result (λ made. app_of made ≡ listen_at_port) }
 {
-    let count = option_with_value(
+    let command = command(alloc, "listen", ABOUT_LISTEN, MORE_OF_LISTEN);
+    let command = with_required(alloc, command, "db", "FILE", "The file of the book")?;
+    let command = with_required(alloc, command, "port", "P", "The port, 1 to 65535")?;
+    with_option(
         alloc,
+        command,
         "count",
         "N",
         "How many connections are served, 1 to 999999 [default: all that come]",
-        ArgAction::Set,
-    );
-    Command::new(alloc, "listen")
-        .about(ABOUT_LISTEN)
-        .after_help(MORE_OF_LISTEN)
-        .arg(required(alloc, "db", "FILE", "The file of the book"))?
-        .arg(required(alloc, "port", "P", "The port, 1 to 65535"))?
-        .arg(count)
+    )
 }
 
 fn replay_command<'a>(alloc: Global) -> Result<Command<'a>, AllocError>
     ensures { IfOk result (λ made. app_of made ≡ replay) }
 {
-    let db = option_with_value(alloc, "db", "FILE", FILE_OR_MEMORY, ArgAction::Set);
-    let limit = option_with_value(
+    let command = command(alloc, "replay", ABOUT_REPLAY, MORE_OF_REPLAY);
+    let command = with_option(alloc, command, "db", "FILE", FILE_OR_MEMORY)?;
+    let command = with_option(
         alloc,
+        command,
         "limit",
         "N",
         "How many messages of one merchant a day admits, 1 to 999999 [default: 999999]",
-        ArgAction::Set,
-    );
-    let first_day = option_with_value(
+    )?;
+    let command = with_option(
         alloc,
+        command,
         "day",
         "YYYY-MM-DD",
         "The first business day, 2000-01-01 to 2099-12-31 [default: 2000-01-01]",
-        ArgAction::Set,
-    );
-    let clearing = option_with_value(
+    )?;
+    let command = with_days(
         alloc,
+        command,
         "clearing",
-        "YYYY-MM-DD",
         "In place of the lines: the clearing file of a day that is over; may be repeated",
-        ArgAction::Append,
-    );
-    let report = option_with_value(
+    )?;
+    with_days(
         alloc,
+        command,
         "report",
-        "YYYY-MM-DD",
         "In place of the lines: the settlement report of such a day; may be repeated",
-        ArgAction::Append,
-    );
-    Command::new(alloc, "replay")
-        .about(ABOUT_REPLAY)
-        .after_help(MORE_OF_REPLAY)
-        .arg(db)?
-        .arg(limit)?
-        .arg(first_day)?
-        .arg(clearing)?
-        .arg(report)
+    )
 }
 
 /// A command that writes a report on a day.
 fn day_command<'a>(alloc: Global, name: &'a str, about: &'a str) -> Result<Command<'a>, AllocError>
     ensures { IfOk result (λ made. app_of made ≡ on_a_day name.now) }
 {
-    Command::new(alloc, name)
-        .about(about)
-        .after_help(MORE_OF_REPORTS)
-        .arg(required(alloc, "db", "FILE", "The file of the book"))?
-        .arg(required(alloc, "day", "YYYY-MM-DD", "The business day"))
+    let command = command(alloc, name, about, MORE_OF_REPORTS);
+    let command = with_required(alloc, command, "db", "FILE", "The file of the book")?;
+    with_required(alloc, command, "day", "YYYY-MM-DD", "The business day")
 }
 
 fn holds_command<'a>(alloc: Global) -> Result<Command<'a>, AllocError>
     ensures { IfOk result (λ made. app_of made ≡ holds) }
 {
-    Command::new(alloc, "holds")
-        .about(ABOUT_HOLDS)
-        .after_help(MORE_OF_HOLDS)
-        .arg(required(alloc, "db", "FILE", "The file of the book"))?
-        .arg(required(alloc, "merchant", "MERCHANT", "The merchant, 1 to 15 bytes"))?
-        .arg(required(alloc, "at", "MOMENT", "The moment, 946684800 to 4102444799"))
+    let command = command(alloc, "holds", ABOUT_HOLDS, MORE_OF_HOLDS);
+    let command = with_required(alloc, command, "db", "FILE", "The file of the book")?;
+    let command = with_required(
+        alloc,
+        command,
+        "merchant",
+        "MERCHANT",
+        "The merchant, 1 to 15 bytes",
+    )?;
+    with_required(
+        alloc,
+        command,
+        "at",
+        "MOMENT",
+        "The moment, 946684800 to 4102444799",
+    )
 }
 
-/// An option with a value that has to be there.
-fn required<'a>(alloc: Global, name: &'a str, value: &'a str, help: &'a str) -> Arg<'a>
-    ensures rule { rule_of result ≡ required name.now }
-    ensures own { result.global ≡ false }
+fn show_command<'a>(alloc: Global) -> Result<Command<'a>, AllocError>
+    ensures { IfOk result (λ made. app_of made ≡ show) }
 {
-    option_with_value(alloc, name, value, help, ArgAction::Set).required(true)
+    let hex = Arg::new(alloc, "hex")
+        .long("hex")
+        .help("The input is lines, each a message in hexadecimal")
+        .action(ArgAction::SetTrue);
+    command(alloc, "show", ABOUT_SHOW, MORE_OF_SHOW).arg(hex)
+}
+
+/// A command without options, with its help.
+fn command<'a>(alloc: Global, name: &'a str, about: &'a str, more: &'a str) -> Command<'a>
+    ensures { app_of result ≡ new_app name.now }
+{
+    Command::new(alloc, name).about(about).after_help(more)
+}
+
+/// A command with one more option, which has to be there.
+fn with_required<'a>(
+    alloc: Global,
+    command: Command<'a>,
+    name: &'a str,
+    value: &'a str,
+    help: &'a str,
+) -> Result<Command<'a>, AllocError>
+    ensures { IfOk result (λ made. app_of made
+        ≡ with_rule (app_of command.entry) (required name.now)) }
+{
+    let arg = option_with_value(alloc, name, value, help, ArgAction::Set).required(true);
+    command.arg(arg)
+}
+
+/// A command with one more option, which may be there once.
+fn with_option<'a>(
+    alloc: Global,
+    command: Command<'a>,
+    name: &'a str,
+    value: &'a str,
+    help: &'a str,
+) -> Result<Command<'a>, AllocError>
+    ensures { IfOk result (λ made. app_of made
+        ≡ with_rule (app_of command.entry) (option name.now)) }
+{
+    let arg = option_with_value(alloc, name, value, help, ArgAction::Set);
+    command.arg(arg)
+}
+
+/// A command with one more option, which names a day each time that it is there.
+fn with_days<'a>(
+    alloc: Global,
+    command: Command<'a>,
+    name: &'a str,
+    help: &'a str,
+) -> Result<Command<'a>, AllocError>
+    ensures { IfOk result (λ made. app_of made
+        ≡ with_rule (app_of command.entry) (option_with_value name.now Append)) }
+{
+    let arg = option_with_value(alloc, name, "YYYY-MM-DD", help, ArgAction::Append);
+    command.arg(arg)
 }
 
 /// An option with a value, as `--name VALUE`.
@@ -401,17 +440,4 @@ fn option_with_value<'a>(
         .value_name(value)
         .help(help)
         .action(action)
-}
-
-fn show_command<'a>(alloc: Global) -> Result<Command<'a>, AllocError>
-    ensures { IfOk result (λ made. app_of made ≡ show) }
-{
-    let hex = Arg::new(alloc, "hex")
-        .long("hex")
-        .help("The input is lines, each a message in hexadecimal")
-        .action(ArgAction::SetTrue);
-    Command::new(alloc, "show")
-        .about(ABOUT_SHOW)
-        .after_help(MORE_OF_SHOW)
-        .arg(hex)
 }

@@ -56,6 +56,8 @@ fn replay_to_lines<S: Source, K: Sink, P: Progress>(
     let mut host = Host::in_memory(alloc, keys, options.limit, options.first_day);
     let ended = replay(alloc, &mut host, input, output, progress);
     progress.end();
+    // Given back before the end is, which makes the proof short.
+    drop(host);
     ended
 }
 

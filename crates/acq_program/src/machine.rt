@@ -8,16 +8,13 @@ use acq_stand_in::StandIn;
 use day_totals::Day;
 use std::alloc::Global;
 
-/// What a command finds on its machine: files, by their paths, and ports.
-pub trait Machine: Sized {
+/// What a command finds on its machine: files, by their paths, and ports. `B` is the book in a file.
+pub trait Machine<B: Book + Drop>: Sized {
     ghost use Rattle.std.specs.Prelude.{◌≡◌, IfErr, IfOk};
     ghost use Rattle.acq_core.specs.Pasts.{HasPast};
     ghost use Rattle.acq_commands.specs.declared.fault.Fault.TheVariants.{Read};
     ghost use Rattle.acq_commands.specs.Faults.{IsOfAnswers, IsOfGathering};
     ghost use Rattle.acq_program.specs.BookFaults.{IsOpening};
-
-    /// A book in a file.
-    type Book: Book + Drop;
 
     /// The connections that come in at a port.
     type Connections: Connections + Drop;
@@ -26,14 +23,13 @@ pub trait Machine: Sized {
     type Gathering: Gathering + Drop;
 
     /// Opens the book in the file at a path.
-    fn open_book(self, path: &str) -> Result<Self::Book, Fault>
+    fn open_book(self, path: &str) -> Result<B, Fault>
         ensures fault { IfErr result IsOpening }
         // Events alone have changed it.
-        ensures past { IfOk result (λ book.
-            Self.Book.is_open book → HasPast (Self.Book.tables book)) };
+        ensures past { IfOk result (λ book. B.is_open book → HasPast (B.tables book)) };
 
     /// Makes a new book in the file at a path, where there is none yet.
-    fn make_book(self, path: &str, limit: Limit, first_day: Day) -> Result<Self::Book, Fault>
+    fn make_book(self, path: &str, limit: Limit, first_day: Day) -> Result<B, Fault>
         ensures { IfErr result IsOpening };
 
     /// Reads the file of issuers' answers at a path.

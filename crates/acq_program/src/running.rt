@@ -11,6 +11,7 @@ ghost use Rattle.acq_program.specs.Runs.{ServesAsked, ServesIn, Tells};
 
 use crate::machine::Machine;
 use acq_arguments::{Action, UsageFault, action_of};
+use acq_book::Book;
 use acq_commands::{
     Fault, ListenOptions, NewBook, OnceOptions, Progress, ReplayOptions, TextSink, holds_of,
     listen_on, listen_together_on, once_in_memory, once_on, replay_in_memory, replay_on, report_on,
@@ -32,7 +33,16 @@ const USAGE: u8 = 2;
 /// is wrong with the arguments, is written to `faults`; help goes to `output`. A book in memory
 /// finds its rows by hash, under `keys`; files and ports are those of `machine`. The moments at
 /// which frames come are told by `clock`. How far a long run is goes to `progress`.
-pub fn command<W: AsStr, M: Machine + Drop, C: Clock, S: Source, K: Sink, F: Sink, P: Progress>(
+pub fn command<
+    W: AsStr,
+    B: Book + Drop,
+    M: Machine<B> + Drop,
+    C: Clock,
+    S: Source,
+    K: Sink,
+    F: Sink,
+    P: Progress,
+>(
     alloc: Global,
     keys: RandomState,
     args: &[W],
@@ -74,7 +84,7 @@ pub fn command<W: AsStr, M: Machine + Drop, C: Clock, S: Source, K: Sink, F: Sin
 }
 
 /// Does what is asked.
-fn run<M: Machine + Drop, C: Clock, S: Source, K: Sink, F: Sink, P: Progress>(
+fn run<B: Book + Drop, M: Machine<B> + Drop, C: Clock, S: Source, K: Sink, F: Sink, P: Progress>(
     alloc: Global,
     keys: RandomState,
     action: Action,
@@ -112,7 +122,7 @@ fn run<M: Machine + Drop, C: Clock, S: Source, K: Sink, F: Sink, P: Progress>(
 }
 
 /// Makes a new book, which is given back at once.
-fn init<M: Machine>(machine: M, new: &NewBook) -> Result<(), Fault>
+fn init<B: Book + Drop, M: Machine<B>>(machine: M, new: &NewBook) -> Result<(), Fault>
     ensures { IfErr result IsOpening }
 {
     drop(machine.make_book(new.path.as_str(), new.limit, new.first_day)?);
@@ -120,7 +130,7 @@ fn init<M: Machine>(machine: M, new: &NewBook) -> Result<(), Fault>
 }
 
 /// Answers the frames of the input, and asks the issuers' file, or without one nobody.
-fn once<M: Machine + Drop, C: Clock, S: Source, K: Sink>(
+fn once<B: Book + Drop, M: Machine<B> + Drop, C: Clock, S: Source, K: Sink>(
     alloc: Global,
     keys: RandomState,
     machine: M,
@@ -153,7 +163,7 @@ fn once<M: Machine + Drop, C: Clock, S: Source, K: Sink>(
 }
 
 /// Answers the frames of the input, at one moment where one is asked for.
-fn once_at<M: Machine + Drop, C: Clock, I: Issuer + Drop, S: Source, K: Sink>(
+fn once_at<B: Book + Drop, M: Machine<B> + Drop, C: Clock, I: Issuer + Drop, S: Source, K: Sink>(
     alloc: Global,
     keys: RandomState,
     machine: M,
@@ -186,7 +196,7 @@ fn once_at<M: Machine + Drop, C: Clock, I: Issuer + Drop, S: Source, K: Sink>(
 
 /// Answers the frames of the input over the book in a file, or without one over a new book. Where
 /// the issuers' file can't be read, that is told behind what is wrong with the book.
-fn once_over<M: Machine + Drop, C: Clock, I: Issuer + Drop, S: Source, K: Sink>(
+fn once_over<B: Book + Drop, M: Machine<B> + Drop, C: Clock, I: Issuer + Drop, S: Source, K: Sink>(
     alloc: Global,
     keys: RandomState,
     machine: M,
@@ -219,7 +229,7 @@ fn once_over<M: Machine + Drop, C: Clock, I: Issuer + Drop, S: Source, K: Sink>(
 }
 
 /// Answers the frames of connections, and asks the issuers' file, or without one nobody.
-fn listen<M: Machine + Drop, C: Clock, F: Sink>(
+fn listen<B: Book + Drop, M: Machine<B> + Drop, C: Clock, F: Sink>(
     alloc: Global,
     machine: M,
     asked: &ListenOptions,
@@ -236,7 +246,7 @@ fn listen<M: Machine + Drop, C: Clock, F: Sink>(
 }
 
 /// Answers the frames of connections, at one moment where one is asked for.
-fn listen_at<M: Machine + Drop, C: Clock, I: Issuer + Drop, F: Sink>(
+fn listen_at<B: Book + Drop, M: Machine<B> + Drop, C: Clock, I: Issuer + Drop, F: Sink>(
     alloc: Global,
     machine: M,
     asked: &ListenOptions,
@@ -256,7 +266,7 @@ fn listen_at<M: Machine + Drop, C: Clock, I: Issuer + Drop, F: Sink>(
 /// Answers the frames of connections over the book in a file, one connection after the other or
 /// many at once. What is wrong is told of the book first, then of the issuers' file, then of the
 /// port.
-fn listen_over<M: Machine + Drop, C: Clock, I: Issuer + Drop, F: Sink>(
+fn listen_over<B: Book + Drop, M: Machine<B> + Drop, C: Clock, I: Issuer + Drop, F: Sink>(
     alloc: Global,
     machine: M,
     asked: &ListenOptions,
@@ -283,7 +293,7 @@ fn listen_over<M: Machine + Drop, C: Clock, I: Issuer + Drop, F: Sink>(
 }
 
 /// Answers the frames of connections over the book in a file, many at once.
-fn gather_over<M: Machine + Drop, C: Clock, I: Issuer + Drop, F: Sink>(
+fn gather_over<B: Book + Drop, M: Machine<B> + Drop, C: Clock, I: Issuer + Drop, F: Sink>(
     alloc: Global,
     machine: M,
     asked: &ListenOptions,
@@ -307,7 +317,7 @@ fn gather_over<M: Machine + Drop, C: Clock, I: Issuer + Drop, F: Sink>(
 }
 
 /// Replays an input over the book in a file.
-fn replay_in_file<M: Machine + Drop, S: Source, K: Sink, P: Progress>(
+fn replay_in_file<B: Book + Drop, M: Machine<B> + Drop, S: Source, K: Sink, P: Progress>(
     alloc: Global,
     machine: M,
     path: &String,

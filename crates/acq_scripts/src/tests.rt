@@ -1,12 +1,10 @@
-//! Stops, connections that fail, walks, and ten thousand events of fifty merchants.
+//! Stops, connections that fail, and databases that are no book.
 
-mod hosts;
-mod many_merchants;
 mod opening;
 mod output_text;
 mod script_event;
+mod setup;
 mod stops;
 mod talks;
 mod two_days;
-mod walks;
 mod wording;

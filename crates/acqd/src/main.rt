@@ -7,12 +7,15 @@ ghost use Rattle.std.specs.Prelude.{◌≤◌};
 mod open_book;
 mod this_machine;
 
+use acq_book::Book;
 use acq_commands::Progress;
 use acq_link::{ReadSource, Sink, Source, WriteSink};
 use acq_program::{
     Machine, SystemClock, TerminalProgress, command, memory_fault, read_fault, usage_fault,
 };
+use acq_sql::SqlBook;
 pub use open_book::{make_book, open_book};
+use sqlite::Alter;
 use sqlite_disk::{Start, Unknown};
 use std::env::{Env, FillError};
 use std::hash::RandomState;
@@ -53,11 +56,33 @@ fn run_over_files<D: Start, S: Source, K: Sink, F: Sink, P: Progress>(
     ensures { result ≤ 3 }
 {
     let machine = ThisMachine::new(rt, start);
+    run_over_store(rt, machine, input, output, faults, progress)
+}
+
+/// Runs the program over a machine that keeps books in SQL. It is apart from the store that this
+/// machine has, for the same reason.
+fn run_over_store<
+    T: Alter + Drop,
+    M: Machine<SqlBook<T>> + Drop,
+    S: Source,
+    K: Sink,
+    F: Sink,
+    P: Progress,
+>(
+    rt: &HostRuntime,
+    machine: M,
+    input: &mut S,
+    output: &mut K,
+    faults: &mut F,
+    progress: &mut P,
+) -> u8
+    ensures { result ≤ 3 }
+{
     run_over(rt, machine, input, output, faults, progress)
 }
 
 /// Runs the program with the arguments of this process.
-fn run_over<M: Machine + Drop, S: Source, K: Sink, F: Sink, P: Progress>(
+fn run_over<B: Book + Drop, M: Machine<B> + Drop, S: Source, K: Sink, F: Sink, P: Progress>(
     rt: &HostRuntime,
     machine: M,
     input: &mut S,

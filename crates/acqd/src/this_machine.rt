@@ -34,9 +34,7 @@ impl<'a, D: Start> ThisMachine<'a, D> {
     }
 }
 
-impl<'a, D: Start> Machine for ThisMachine<'a, D> {
-    type Book = SqlBook<FileStore<FileFrom<D>>>;
-
+impl<'a, D: Start> Machine<SqlBook<FileStore<FileFrom<D>>>> for ThisMachine<'a, D> {
     type Connections = TcpConnections;
 
     type Gathering = TcpGathering<'a, HostRuntime>;

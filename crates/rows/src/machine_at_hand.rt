@@ -89,9 +89,7 @@ fn refusal(number: u64, version: u64) -> Fault
     }
 }
 
-impl<'a> Machine for MachineAtHand<'a> {
-    type Book = ListBook;
-
+impl<'a> Machine<ListBook> for MachineAtHand<'a> {
     type Connections = ConnectionsAtHand<'a>;
 
     type Gathering = NoGathering;

@@ -169,16 +169,17 @@ impl Reader {
     fn take_expected(&mut self, line: usize, expected: &str) -> Result<(), RowFault> {
         let last = self.last;
         let scenario = self.current();
-        let lines = match last {
-            Last::Nothing => None,
-            Last::Step => scenario.steps.last_mut().map(|step| &mut step.said),
-            Last::Report => scenario.reports.last_mut().map(|report| &mut report.text),
-        };
-        let Some(lines) = lines else {
-            return Err(RowFault::Malformed(line));
-        };
-        put_bytes(expected, line, lines)?;
-        lines.push(b'\n')?;
-        Ok(())
+        match (last, scenario.steps.last_mut(), scenario.reports.last_mut()) {
+            (Last::Step, Some(step), _) => put_line(expected, line, &mut step.said),
+            (Last::Report, _, Some(report)) => put_line(expected, line, &mut report.text),
+            _ => Err(RowFault::Malformed(line)),
+        }
     }
+}
+
+/// Puts a line behind others.
+fn put_line(text: &str, line: usize, lines: &mut Vec<u8>) -> Result<(), RowFault> {
+    put_bytes(text, line, lines)?;
+    lines.push(b'\n')?;
+    Ok(())
 }

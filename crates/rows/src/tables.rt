@@ -4,7 +4,8 @@
 //! `remove` a prefix or a range, on the ranges 400000 to 499999 and 500000 to 599999; `issuers` a file
 //! of issuers' answers, of which the card 4111111111111111 is asked; `day` a date, and `resolve` a
 //! month and day and the day that it is today; `element` an element's number and a content; `type` a
-//! message's type; and the names of numbers and texts say whether one is taken.
+//! message's type; `totals` four counts and four amounts, of credits, their reversals, debits and theirs;
+//! and the names of numbers and texts say whether one is taken.
 
 use crate::escapes::put_shown;
 use crate::row_fault::RowFault;
@@ -17,7 +18,7 @@ use acq_hex::frames_of_hex;
 use acq_link::SliceSource;
 use acq_stand_in::StandIn;
 use card_no::{CardNumber, IssuerId, Prefix, Range, RangeFault, RangeList, split_track2};
-use day_totals::Day;
+use day_totals::{Day, Leg, Totals};
 use iso_codec::{Message, all_alphanumeric, all_digits, all_printable};
 use std::alloc::Global;
 use std::fmt::Write;
@@ -43,6 +44,7 @@ pub fn put_answer(
         "resolve" => return put_resolved(text, answer),
         "element" => return put_element(alloc, text, answer),
         "type" => return put_reply_type(bytes, answer),
+        "totals" => return put_totals(alloc, text, answer),
         _ => match is_taken(kind, text, bytes) {
             Some(taken) => answer.push_str(if taken { "taken" } else { "refused" })?,
             None => return Ok(false),
@@ -317,5 +319,33 @@ fn put_reply_type(bytes: &[u8], answer: &mut String) -> Result<bool, RowFault> {
         Some(service) => put_shown(&service.reply_kind(), answer)?,
         None => answer.push_str("none")?,
     }
+    Ok(true)
+}
+
+/// The totals of a day as elements 74 to 77, 86 to 89 and 97.
+fn put_totals(alloc: Global, text: &str, answer: &mut String) -> Result<bool, RowFault> {
+    let mut numbers = Vec::new(alloc);
+    for word in text.split_ascii_whitespace() {
+        let Ok(number) = word.parse::<u64>() else {
+            return Ok(false);
+        };
+        numbers.push(number)?;
+    }
+    let [a, b, c, d, e, f, g, h] = numbers.as_slice() else {
+        return Ok(false);
+    };
+    let Some(totals) = Totals::from_parts([*a, *b, *c, *d], [*e, *f, *g, *h]) else {
+        answer.push_str("none")?;
+        return Ok(true);
+    };
+    for leg in Leg::ALL {
+        put_shown(&totals.count_text(leg), answer)?;
+        answer.push_str(" ")?;
+    }
+    for leg in Leg::ALL {
+        put_shown(&totals.amount_text(leg), answer)?;
+        answer.push_str(" ")?;
+    }
+    put_shown(&totals.net_text(), answer)?;
     Ok(true)
 }

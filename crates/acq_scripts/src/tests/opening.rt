@@ -7,26 +7,6 @@ use day_totals::Day;
 use sqlite::Connection;
 use std::test::Fail;
 
-/// A book that was made is one of this version, and no other is made over it.
-#[test]
-fn a_book_is_made_once(rt: HostRuntime) -> Result<(), Fail> {
-    let limit = Limit::from_number(20).ok_or("a limit")?;
-    let day = Day::from_number(8887).ok_or("a day")?;
-    let mut conn = Connection::open_in_memory(rt.alloc())?;
-    assert_eq!(rt;
-        check_book(&mut conn, rt.alloc()),
-        Err(OpeningFault::NotABook)
-    );
-    assert_eq!(rt; make_book(&mut conn, limit, day), Ok(()));
-    assert_eq!(rt; check_book(&mut conn, rt.alloc()), Ok(()));
-    assert_eq!(rt;
-        make_book(&mut conn, limit, day),
-        Err(OpeningFault::NotABook)
-    );
-    assert_eq!(rt; limit_and_day(&mut conn)?, (limit, day));
-    Ok(())
-}
-
 /// A book of another version, one without its row, and one with a table more are refused.
 #[test]
 fn other_books_are_refused(rt: HostRuntime) -> Result<(), Fail> {
@@ -52,23 +32,6 @@ fn other_books_are_refused(rt: HostRuntime) -> Result<(), Fail> {
     assert_eq!(rt;
         check_book(&mut conn, rt.alloc()),
         Err(OpeningFault::NotABook)
-    );
-    Ok(())
-}
-
-/// The texts of the faults.
-#[test]
-fn texts_of_faults(rt: HostRuntime) -> Result<(), Fail> {
-    let texts = format!(in rt.alloc();
-        "{}, {}, {}, {}",
-        OpeningFault::Memory,
-        OpeningFault::Store,
-        OpeningFault::NotABook,
-        OpeningFault::OtherVersion(7)
-    )?;
-    assert_eq!(rt;
-        texts.as_str(),
-        "1 Memory, 2 Store, 40 NotABook, 41 OtherVersion 7"
     );
     Ok(())
 }

@@ -63,13 +63,13 @@ fn merchant_named(word: &str) -> Result<MerchantId, Fail> {
 }
 
 /// A frame of these words.
-pub(super) fn frame(alloc: Global, seconds: u64, words: &str) -> Result<Event, Fail> {
+fn frame(alloc: Global, seconds: u64, words: &str) -> Result<Event, Fail> {
     let text = MessageText::from_vec(bytes_in(alloc, words)?);
     Ok(Event::Frame(moment(seconds)?, text))
 }
 
 /// An issuer's answer.
-pub(super) fn answer(merchant: &str, reference: u64, verdict: Verdict) -> Result<Event, Fail> {
+fn answer(merchant: &str, reference: u64, verdict: Verdict) -> Result<Event, Fail> {
     let reference = Reference::from_number(reference).ok_or("a reference")?;
     Ok(Event::Answer(
         moment(MORNING)?,
@@ -80,13 +80,13 @@ pub(super) fn answer(merchant: &str, reference: u64, verdict: Verdict) -> Result
 }
 
 /// A terminal is added at a merchant.
-pub(super) fn new_terminal(merchant: &str, terminal: &str) -> Result<Event, Fail> {
+fn new_terminal(merchant: &str, terminal: &str) -> Result<Event, Fail> {
     let id = TerminalId::read(spelled(terminal).as_bytes()).ok_or("a terminal")?;
     Ok(Event::AddTerminal(merchant_named(merchant)?, id))
 }
 
 /// An enrolment, with first reference 1.
-pub(super) fn enrolment(merchant: &str, currency: &str) -> Result<Event, Fail> {
+fn enrolment(merchant: &str, currency: &str) -> Result<Event, Fail> {
     Ok(Event::Enrol(
         merchant_named(merchant)?,
         Currency::read(currency.as_bytes()).ok_or("a currency")?,

@@ -3,9 +3,9 @@
 
 ghost use Rattle.std.specs.Prelude.{◌≡◌, IfSome, false};
 
-use super::hosts::{GREATEST_LIMIT, MAY_1, events_behind_setup};
 use super::output_text::text_of;
 use super::script_event::ScriptEvent;
+use super::setup::{GREATEST_LIMIT, MAY_1, events_behind_setup};
 use super::two_days::{FIRST_DAY, SECOND_DAY};
 use acq_book::Book;
 use acq_core::{Event, Limit, Output};

@@ -1,8 +1,8 @@
 //! The frames of two days on connections whose reads and writes fail in turn.
 
-use super::hosts::{GREATEST_LIMIT, MAY_1, events_behind_setup};
 use super::script_event::MORNING;
 use super::script_event::ScriptEvent::{self, Frame, FrameAt};
+use super::setup::{GREATEST_LIMIT, MAY_1, events_behind_setup};
 use super::two_days::{FIRST_DAY, FIRST_REPLIES, SECOND_DAY, SECOND_REPLY};
 use super::wording::bytes_in;
 use acq_book::ListBook;

@@ -1,0 +1,72 @@
+"""merchants.py PROGRAM: ten thousand events of fifty merchants, and what the day of each comes to.
+
+Each merchant has 34 rounds of a sale, a hold, their approvals, the hold's completion by less and the
+sale's reversal, each event of a round for all merchants before the next; then a reconciliation that
+claims what its day comes to. The program answers each of these in balance.
+"""
+
+import subprocess
+import sys
+
+MERCHANTS, ROUNDS = range(1, 51), 34
+MOMENT = 1714555800
+
+
+def frame(parts):
+    return f"frame,{MOMENT},{parts.replace('|', '').encode().hex()},,,"
+
+
+def answer(name, reference):
+    return f"answer,{MOMENT},{name},{reference},approved,A1B2C3"
+
+
+def events_of(merchant, rounds):
+    """The six events of a merchant's round."""
+    name, amount = f"SHOP{merchant:011}", 1000 + merchant
+    sale, hold = 4 * rounds, 2 * rounds + 2
+    source = f"TERM0001|{name}"
+    yield frame(f"0200|7220000000C08000|16|4111111111111111|000000|{amount:012}|0501093000|{sale:06}|{source}|978")
+    yield frame(f"0100|7220000000C08000|16|5500005555555559|000000|000000005000|0501093000|{sale + 1:06}|{source}|978")
+    yield answer(name, hold - 1)
+    yield answer(name, hold)
+    yield frame(f"0220|3220000008C08000|000000|000000004000|0501093000|{sale + 2:06}|{hold:012}|{source}|978")
+    yield frame(
+        f"0420|9220000000C00000|0000004000000000|{amount:012}|0501093000|{sale + 3:06}|{source}"
+        f"|0200|{sale:06}|0501093000|00000000000|00000000000"
+    )
+
+
+def claim_and_reply(merchant):
+    """A reconciliation of a merchant's day, and the line of the reply."""
+    name, sales, completions = f"SHOP{merchant:011}", (1000 + merchant) * ROUNDS, 4000 * ROUNDS
+    totals = (
+        f"{0:010}{0:010}{2 * ROUNDS:010}{ROUNDS:010}{0:016}{0:016}{sales + completions:016}{sales:016}D{completions:016}"
+    )
+    claim = frame(f"0500|8220000000C00000|0078078080000000|0501100000|999999|TERM0001|{name}|{totals}")
+    reply = f"reply 05108222000002C00000407807808000000005011000009999990501" + f"00TERM0001{name}1{totals}"
+    return claim, reply
+
+
+def main():
+    lines = ["addrange,400000,499999,12345,7,", "addrange,500000,599999,67890,1,"]
+    for merchant in MERCHANTS:
+        lines += [f"enrol,SHOP{merchant:011},978,1,,", f"terminal,SHOP{merchant:011},TERM0001,,,"]
+    for rounds in range(ROUNDS):
+        for of_all in zip(*(events_of(merchant, rounds) for merchant in MERCHANTS)):
+            lines += of_all
+    assert len(lines) > 10_000
+    claims = [claim_and_reply(merchant) for merchant in MERCHANTS]
+    lines += [claim for claim, _ in claims]
+    words = [sys.argv[1], "replay", "--day", "2024-05-01"]
+    ran = subprocess.run(words, input="\n".join(lines) + "\n", capture_output=True, text=True, check=False)
+    said = ran.stdout.splitlines()
+    fits = ran.returncode == 0 and len(said) == len(lines)
+    for (_, reply), found in zip(claims, said[-len(claims) :]):
+        if reply != found:
+            print(f"expected {reply}\nfound    {found}")
+            fits = False
+    return 0 if fits else 1
+
+
+if __name__ == "__main__":
+    sys.exit(main())
