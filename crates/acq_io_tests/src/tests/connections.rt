@@ -1,21 +1,17 @@
 //! Connections over a book in memory: frames cut anywhere, issuers that are asked, reads and writes
 //! that fail, and a reply that is out before more is read.
 
-ghost use Rattle.std.specs.Prelude.{◌<◌};
-
 use super::counted::{Counted, OneFrame};
-use acq_book::ListBook;
-use acq_core::{Currency, Event, FirstReference, Limit, MerchantId, Moment, TerminalId, Verdict};
+use acq_book::{Book, ListBook};
+use acq_core::{Event, Limit, Moment, Verdict};
 use acq_front::{FrontFault, SliceClock, SliceIssuer, serve};
 use acq_host::Host;
 use acq_link::{MemorySink, ReadSource, SliceSource, WriteSink};
-use card_no::{IssuerId, Range};
+use acq_out::read_events;
 use day_totals::Day;
-use iso_codec::DecodeFault;
 use std::alloc::Global;
 use std::cell::Cell;
 use std::hash::RandomState;
-use std::process::Abort;
 use std::random::RandomSource;
 use std::test::Fail;
 
@@ -44,31 +40,28 @@ const MORNING: u64 = 1_714_555_800;
 /// The number of 2024-05-01.
 const MAY_1: u32 = 8887;
 
-/// A host over a new book with one issuer's range, and a merchant with one terminal.
+/// An issuer's range, and a merchant with one terminal.
+const SETUP: &str = "addrange,400000,499999,12345,7,
+enrol,MERCHANT0000001,978,1,,
+terminal,MERCHANT0000001,TERM0001,,,
+";
+
+/// A host over a new book behind the setup.
 pub(super) fn new_host(rt: &impl RandomSource, alloc: Global) -> Result<Host<ListBook>, Fail> {
     let limit = Limit::from_number(999_999).ok_or("a limit")?;
     let day = Day::from_number(MAY_1).ok_or("a day")?;
-    let merchant = MerchantId::read(b"MERCHANT0000001").ok_or("a merchant")?;
-    let terminal = TerminalId::read(b"TERM0001").ok_or("a terminal")?;
-    let currency = Currency::read(b"978").ok_or("a currency")?;
-    let first = FirstReference::from_number(1).ok_or("a first reference")?;
-    let issuer = IssuerId::from_slice(alloc, b"12345")?;
-    let events = [
-        Event::AddRange(Range {
-            low: 400_000,
-            high: 499_999,
-            issuer,
-            hold_days: 7,
-        }),
-        Event::Enrol(merchant, currency, first),
-        Event::AddTerminal(merchant, terminal),
-    ];
-    let mut host = Host::in_memory(alloc, RandomState::new(rt)?, limit, day);
-    let said = host.run(&events).is_ok();
-    if !said {
-        return Err("a setup")?;
-    }
+    let keys = RandomState::new(rt)?;
+    let events = read_events(alloc, &mut SliceSource::new(SETUP.as_bytes()))?;
+    let mut host = Host::in_memory(alloc, keys, limit, day);
+    take_all(&mut host, events.as_slice());
     Ok(host)
+}
+
+/// Has a host take events.
+fn take_all<B: Book + Drop>(host: &mut Host<B>, events: &[Event]) {
+    for event in events {
+        let _ = host.take(event);
+    }
 }
 
 /// Serves a connection at one moment, with these verdicts.

@@ -5,7 +5,7 @@ use super::script_event::ScriptEvent::{self, Frame, FrameAt};
 use super::setup::{GREATEST_LIMIT, MAY_1, events_behind_setup};
 use super::two_days::{FIRST_DAY, FIRST_REPLIES, SECOND_DAY, SECOND_REPLY};
 use super::wording::bytes_in;
-use acq_book::ListBook;
+use acq_book::{Book, ListBook};
 use acq_core::{Event, Limit, Moment, Verdict};
 use acq_front::{FixedClock, FrontFault, SliceIssuer, serve};
 use acq_host::Host;
@@ -54,13 +54,18 @@ fn first_talk(alloc: Global) -> Result<Talk, Fail> {
 fn new_host(rt: &impl RandomSource, alloc: Global) -> Result<Host<ListBook>, Fail> {
     let limit = Limit::from_number(GREATEST_LIMIT).ok_or("a limit")?;
     let first_day = Day::from_number(MAY_1).ok_or("a day")?;
+    let keys = RandomState::new(rt)?;
     let events = events_behind_setup(alloc, &[])?;
-    let mut host = Host::in_memory(alloc, RandomState::new(rt)?, limit, first_day);
-    let said = host.run(events.as_slice()).is_ok();
-    if !said {
-        return Err("a setup")?;
-    }
+    let mut host = Host::in_memory(alloc, keys, limit, first_day);
+    take_all(&mut host, events.as_slice());
     Ok(host)
+}
+
+/// Has a host take events.
+fn take_all<B: Book + Drop>(host: &mut Host<B>, events: &[Event]) {
+    for event in events {
+        let _ = host.take(event);
+    }
 }
 
 /// Serves a connection in the morning.
