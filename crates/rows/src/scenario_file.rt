@@ -14,7 +14,7 @@ use crate::step::Step;
 use acq_commands::{first_day_of_all, greatest_limit};
 use acq_core::Limit;
 use acq_link::SliceSource;
-use acq_out::read_events;
+use acq_out::{OutFault, read_events};
 use day_totals::Day;
 use std::alloc::Global;
 
@@ -146,10 +146,13 @@ impl Reader {
 
     /// Takes an event line.
     fn take_event(&mut self, line: usize, text: &[u8]) -> Result<(), RowFault> {
-        let Ok(mut events) = read_events(self.alloc, &mut SliceSource::new(text)) else {
-            return Err(RowFault::Malformed(line));
+        let malformed = RowFault::Malformed(line);
+        let mut events = match read_events(self.alloc, &mut SliceSource::new(text)) {
+            Ok(events) => events,
+            Err(OutFault::Memory) => return Err(RowFault::Memory),
+            Err(_) => return Err(malformed),
         };
-        let event = events.pop().ok_or(RowFault::Malformed(line))?;
+        let event = events.pop().ok_or(malformed)?;
         let said = Vec::new(self.alloc);
         self.current().steps.push(Step { line, event, said })?;
         self.last = Last::Step;
