@@ -18,7 +18,7 @@ with open(work + "/in", "wb") as requests, open(work + "/want", "wb") as replies
         requests.write(frame(b"080082200000000000000400000000000000" + b"0101120000" + stan + b"301"))
         replies.write(frame(b"081082200000020000000400000000000000" + b"0101120000" + stan + b"00" + b"301"))
 PY
-"$top/acqd" once </dev/null
+"$top/acqd" build
 python3 - "$top/crates/acqd/out/acqd" "$count" "$work" <<'PY'
 import ctypes, os, re, signal, subprocess, sys, time
 program, count, work = sys.argv[1], int(sys.argv[2]), sys.argv[3]

@@ -6,7 +6,7 @@
 set -eu
 unset CDPATH
 cd "$(dirname "$0")/.."
-./acqd --version >/dev/null
+./acqd build
 python3 - "${1:-20}" <<'PY'
 import os, random, shutil, signal, sqlite3, subprocess, sys, tempfile, time
 

@@ -6,7 +6,7 @@
 set -eu
 unset CDPATH
 top=$(cd "$(dirname "$0")/.." && pwd)
-"$top/acqd" once </dev/null
+"$top/acqd" build
 exec python3 - "$top/crates/acqd/out/acqd" "${1:-100000}" <<'PY'
 import os, shutil, socket, subprocess, sys, tempfile, time
 program, count = sys.argv[1], int(sys.argv[2])

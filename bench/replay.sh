@@ -41,7 +41,7 @@ with open(work + "/in", "w") as events, open(work + "/want", "w") as lines:
 with open(work + "/sales", "w") as told:
     told.write(str(sales))
 PY
-"$top/acqd" replay </dev/null
+"$top/acqd" build
 python3 - "$top/crates/acqd/out/acqd" "$count" "$work" <<'PY'
 import ctypes, itertools, os, re, signal, subprocess, sys, time
 program, count, work = sys.argv[1], int(sys.argv[2]), sys.argv[3]

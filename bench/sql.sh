@@ -17,7 +17,7 @@ else
     work=$(mktemp -d)
     trap 'rm -rf "$work"' EXIT
 fi
-"$top/acqd" replay </dev/null
+"$top/acqd" build
 # The program for memory is a crate in a repository of its own, over the libraries that were proved for
 # acqd.
 mkdir -p "$work/crates/sql_bench/src"
