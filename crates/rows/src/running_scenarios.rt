@@ -242,8 +242,8 @@ fn said_to<B: Book + Drop>(
     }
 }
 
-/// The text that is asked of a book, or the fault line. Where memory runs out once, it is asked for
-/// again.
+/// The text that is asked of a book, or the fault line. Where memory runs out once, the book's or that
+/// of what the text is written to, it is asked for again.
 fn text_of<B: Book>(
     alloc: Global,
     book: &mut B,
@@ -251,7 +251,7 @@ fn text_of<B: Book>(
 ) -> Result<MemorySink, RowFault> {
     let mut text = MemorySink::new(alloc);
     let mut written = report.asked.write(alloc, book, &mut text);
-    if matches!(written, Err(ReportFault::Memory)) {
+    if matches!(written, Err(ReportFault::Memory | ReportFault::Write(_))) {
         text = MemorySink::new(alloc);
         written = report.asked.write(alloc, book, &mut text);
     }
