@@ -9,6 +9,7 @@ The crates are handed to the kit's own command, `rt`, through the module that it
 `rt all check` does the same work, a crate at a time where it must.
 """
 
+import functools
 import importlib.machinery
 import importlib.util
 import os
@@ -78,8 +79,8 @@ class Build:
     def log_of(self, name):
         return f"{self.crates[name].folder}/out/build.log"
 
-    def begin(self, name, jobs):
-        """Begins a crate, in a process of its own."""
+    def begin(self, name, jobs, work):
+        """Begins work on a crate, in a process of its own, and returns the process."""
         crate = self.crates[name]
         os.makedirs(f"{crate.folder}/out", exist_ok=True)
         process = os.fork()
@@ -89,12 +90,32 @@ class Build:
             os.dup2(log, 2)
             crate.out = sys.stdout
             try:
-                status = crate.build_rlib(["--jobs", str(jobs)], anew=False)
+                status = work(crate, ["--jobs", str(jobs)])
             except SystemExit:
                 status = 1
             sys.stdout.flush()
             os._exit(1 if status else 0)
+        return process
+
+    def prove(self, name, jobs):
+        """Begins a library."""
+        process = self.begin(name, jobs, lambda crate, flags: crate.build_rlib(flags, anew=False))
         self.at_work[process], self.jobs[name] = name, jobs
+
+    def tell_failure(self, name):
+        self.say(f"{name} failed, as {os.path.relpath(self.log_of(name))} says:")
+        with open(self.log_of(name), encoding="utf-8", errors="replace") as it:
+            sys.stderr.writelines(it.readlines()[-20:])
+
+    def build_program(self):
+        """Proves and builds the program, has it say its version, and returns whether that went well."""
+        self.say("at work on the program")
+        self.crates[PROGRAM].held = []
+        process = self.begin(PROGRAM, min(3, self.processors), lambda crate, flags: crate.run(flags, ["--version"]))
+        if os.waitpid(process, 0)[1]:
+            self.tell_failure(PROGRAM)
+            return False
+        return True
 
     def begin_what_fits(self):
         """Begins the crates that are ready, those with most above them first. Where processors would
@@ -105,16 +126,14 @@ class Build:
             ready = sorted((it for it in left if self.below[it] <= self.done), key=lambda it: -self.chain[it])
             if not ready or idle < 1 or (self.at_work and free_memory() < 2 * MEMORY_OF_A_CHECK):
                 return
-            self.begin(ready[0], max(1, min(3, idle - len(ready) + 1)))
+            self.prove(ready[0], max(1, min(3, idle - len(ready) + 1)))
 
     def wait(self):
         """Waits for a crate, and returns whether it was proved."""
         process, status = os.wait()
         name = self.at_work.pop(process)
         if status:
-            self.say(f"{name} failed, as {os.path.relpath(self.log_of(name))} says:")
-            with open(self.log_of(name), encoding="utf-8", errors="replace") as it:
-                sys.stderr.writelines(it.readlines()[-20:])
+            self.tell_failure(name)
             return False
         self.done.add(name)
         left = len(self.needed) - len(self.done)
@@ -134,27 +153,33 @@ class Build:
         return fits
 
 
+def build_by(module):
+    """Builds the program by rt's own module, and returns whether it was built."""
+    # A crate's sum takes in those of all crates below it, each by each way that leads to it.
+    module.Crate.stamp = functools.cache(module.Crate.stamp)
+    work = Build(module)
+    held = module.lock(list(work.crates.values()))
+    fits = work.run() and work.build_program()
+    for it in held:
+        os.close(it)
+    return fits
+
+
+def build_by_rt():
+    """Builds the program by the command rt alone, and returns whether it was built."""
+    jobs = str(len(os.sched_getaffinity(0)))
+    words = [("rt", "all", "check", "--jobs", jobs), ("rt", "run", "--", "--version")]
+    folders = [f"{TOP}/crates", f"{TOP}/crates/{PROGRAM}"]
+    return not any(subprocess.run(it, cwd=at, check=False).returncode for it, at in zip(words, folders))
+
+
 def build():
     """Builds the program, and returns the status."""
     began, since = time.time(), time.monotonic()
     module = kit()
-    if module is None:
-        jobs = str(len(os.sched_getaffinity(0)))
-        if subprocess.run(["rt", "all", "check", "--jobs", jobs], cwd=f"{TOP}/crates", check=False).returncode:
-            return 1
-    else:
-        work = Build(module)
-        held = module.lock(list(work.crates.values()))
-        fits = work.run()
-        for it in held:
-            os.close(it)
-        if not fits:
-            return 1
-    folder = f"{TOP}/crates/{PROGRAM}"
-    ran = subprocess.run(["rt", "run", "--", "--version"], cwd=folder, capture_output=True, check=False)
-    if ran.returncode:
-        sys.stderr.buffer.write(ran.stdout + ran.stderr)
+    if not (build_by(module) if module else build_by_rt()):
         return 1
+    folder = f"{TOP}/crates/{PROGRAM}"
     stamp = f"{folder}/out/{PROGRAM}.built"
     with open(stamp, "w", encoding="ascii"):
         pass

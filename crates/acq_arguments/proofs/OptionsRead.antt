@@ -8,7 +8,8 @@ use Rattle.clap.proofs.WalkLemmas.{first_value-rows, raw_values-rows}
 use Rattle.acq_arguments.specs.declared.option_name.OptionName.{OptionName}
 use Rattle.acq_arguments.specs.declared.usage_fault.UsageFault.{UsageFault}
 use Rattle.acq_arguments.specs.declared.usage_fault.UsageFault.TheVariants.{BadValue, Words}
-use Rattle.acq_arguments.specs.Arguments.{IsNoMemory, Reads, Then, found_texts, option_texts, values_found, values_of}
+use Rattle.acq_arguments.specs.Arguments.{IsNoMemory, Reads, Then, found_texts, option_texts}
+use Rattle.acq_arguments.specs.Arguments.{values_found, values_of}
 use Rattle.acq_arguments.specs.WantedReports.{texts_in}
 
 values_found-rows : (f : Found) (id : Text) → values_found f id ≡ values_of id (rows_of f)
@@ -35,24 +36,29 @@ found_texts-rows f =
 
 -- all values of an option, as the crate lends them
 pub texts_found : (f : Found) (id : Text) (found : Option (Bor (List (Bor Text))))
-    → option_map (λ s. map (λ (v : Bor Text). v.now) s.now) found ≡ option_map raw_values (matched_of f id)
+    → option_map (λ s. map (λ (v : Bor Text). v.now) s.now) found ≡ option_map raw_values
+    (matched_of f id)
     → texts_in found ≡ values_found f id
 texts_found f id found is = ap (λ o. unwrap_or o []) is
 
 -- there was no memory for what was read
-pub no_memory : {A : Type 0} (Asked : Result A OptionName → Type 0) (fault : UsageFault) → IsNoMemory fault
+pub no_memory : {A : Type 0} (Asked : Result A OptionName → Type 0) (fault : UsageFault) →
+    IsNoMemory fault
     → Reads Asked (Err fault)
 no_memory Asked (BadValue name) h = absurd h
 no_memory Asked (Words error) h = h
 
-module _ {A B : Type 0} (First : Result A OptionName → Type 0) (Rest : A → Result B OptionName → Type 0) where
+module _ {A B : Type 0} (First : Result A OptionName → Type 0) (Rest : A → Result B OptionName →
+    Type 0) where
   -- the first option is out of its form, or there was no memory for it
-  pub first_fails : (fault : UsageFault) → Reads First (Err fault) → Reads (Then First Rest) (Err fault)
+  pub first_fails : (fault : UsageFault) → Reads First (Err fault) →
+      Reads (Then First Rest) (Err fault)
   first_fails (BadValue name) bad = inl (name, refl, bad)
   first_fails (Words error) bad = bad
 
   -- it is read, and the rest by its value
-  pub then_rest : (value : A) (read : Result B UsageFault) → First (Ok value) → Reads (Rest value) read
+  pub then_rest : (value : A) (read : Result B UsageFault) → First (Ok value) →
+      Reads (Rest value) read
       → Reads (Then First Rest) read
   then_rest value (Ok x) given rest = inr (value, given, rest)
   then_rest value (Err (BadValue name)) given rest = inr (value, given, rest)

@@ -1,7 +1,8 @@
 -- What the arguments ask for, by the values of their options.
 use Rattle.std.specs.Prelude.{◌≡◌, ◌⊎◌, ◌-◌, ◌^◌, ℕ, Bool, ◌&&◌, nat_le, List, [], ◌++◌, length}
 use Rattle.std.specs.Prelude.{codes}
-use Rattle.std.specs.Prelude.{map, Option, Some, None, unwrap_or, option_map, option_and_then, ok_or, Result, Ok, Err}
+use Rattle.std.specs.Prelude.{map, Option, Some, None, unwrap_or, option_map, option_and_then}
+use Rattle.std.specs.Prelude.{ok_or, Result, Ok, Err}
 use Rattle.std.specs.Prelude.{if◌then◌else◌}
 use Rattle.std.specs.Prelude.{slice_get, String, string_bytes}
 use Rattle.std.specs.declared.alloc.Global.{Global}

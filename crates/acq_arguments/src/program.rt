@@ -377,7 +377,9 @@ fn show_command<'a>(alloc: Global) -> Result<Command<'a>, AllocError>
 fn command<'a>(alloc: Global, name: &'a str, about: &'a str, more: &'a str) -> Command<'a>
     ensures { app_of result ≡ new_app name.now }
 {
-    Command::new(alloc, name).about(about).after_help(more)
+    let command = Command::new(alloc, name);
+    let command = command.about(about);
+    command.after_help(more)
 }
 
 /// A command with one more option, which has to be there.

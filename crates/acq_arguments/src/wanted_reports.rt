@@ -9,8 +9,8 @@ use crate::usage_fault::UsageFault;
 use acq_commands::{DayReport, ReportKind};
 use day_totals::Day;
 
-/// Puts the reports of a kind that an option's values ask for behind those that are there; an option
-/// that isn't there has none.
+/// Puts the reports of a kind that an option's values ask for behind those that are there; an
+/// option that isn't there has none.
 pub(crate) fn add_reports(
     reports: &mut Vec<DayReport>,
     kind: ReportKind,

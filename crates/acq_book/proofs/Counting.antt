@@ -1,5 +1,6 @@
 -- Counts of rows, when a row comes or is edited.
-use Rattle.std.proofs.Common.{◌≡◌, ℕ, ◌+◌, ◌≤◌, List, [], ◌∷◌, ◌++◌, Bool, true, false, cond, refl, sym, ap, ◌∙◌}
+use Rattle.std.proofs.Common.{◌≡◌, ℕ, ◌+◌, ◌≤◌, List, [], ◌∷◌, ◌++◌, Bool, true, false, cond, refl}
+use Rattle.std.proofs.Common.{sym, ap, ◌∙◌}
 use Rattle.std.proofs.Common.{length, arith, eqb, map, if◌then◌else◌}
 use Rattle.std.specs.Prelude.{◌&&◌, filter, is_some}
 use Rattle.std.specs.Map.{count_at}
@@ -16,18 +17,22 @@ use Rattle.acq_book.proofs.Places.{number_is}
 
 -- among those that pass a filter
 pub count-filter-push : {X : Type 0} (p q : X → Bool) (xs : List X) (y : X) →
-    count p (filter q (xs ++ y ∷ [])) ≡ cond (q y && p y) (1 + count p (filter q xs)) (count p (filter q xs))
-count-filter-push p q xs y = ap (count p) (filter-append q xs (y ∷ [])) ∙ count-push_if p (filter q xs) y (q y)
+    count p (filter q (xs ++ y ∷ [])) ≡ cond (q y && p y) (1 + count p (filter q xs))
+    (count p (filter q xs))
+count-filter-push p q xs y = ap (count p) (filter-append q xs (y ∷ [])) ∙ count-push_if p
+    (filter q xs) y (q y)
 
 -- an edit that neither test sees
 pub count-filter-map : {X : Type 0} (p q : X → Bool) (u : X → X) → ((x : X) → p (u x) ≡ p x) →
-    ((x : X) → q (u x) ≡ q x) → (xs : List X) → count p (filter q (map u xs)) ≡ count p (filter q xs)
+    ((x : X) → q (u x) ≡ q x) → (xs : List X) →
+    count p (filter q (map u xs)) ≡ count p (filter q xs)
 count-filter-map p q u ps qs [] = refl
 count-filter-map p q u ps qs (x ∷ xs) =
     ap (λ b. count p (cond b (u x ∷ filter q (map u xs)) (filter q (map u xs)))) (qs x)
     ∙ elim (q x) as (λ b. count p (cond b (u x ∷ filter q (map u xs)) (filter q (map u xs)))
     ≡ count p (cond b (x ∷ filter q xs) (filter q xs))) [
-      | true ↦ (λ i. cond (ps x i) (1 + count-filter-map p q u ps qs xs i) (count-filter-map p q u ps qs xs i))
+      | true ↦ (λ i. cond (ps x i) (1 + count-filter-map p q u ps qs xs i)
+          (count-filter-map p q u ps qs xs i))
       | false ↦ count-filter-map p q u ps qs xs
     ]
 
@@ -45,14 +50,16 @@ length-filter p (x ∷ xs) =
     elim (p x) as (λ b. length (cond b (x ∷ filter p xs) (filter p xs)) ≤ length (x ∷ xs))
     [ true ↦ omega arith | false ↦ omega arith ]
 
-pub count-filter-le : {X : Type 0} (p q : X → Bool) (xs : List X) → count p (filter q xs) ≤ length xs
+pub count-filter-le : {X : Type 0} (p q : X → Bool) (xs : List X) →
+    count p (filter q xs) ≤ length xs
 count-filter-le p q xs = omega (arith, count-le p (filter q xs), length-filter q xs)
 
 pub text_is : (a b : List ℕ) → bytes_eq a b ≡ true → a ≡ b
 text_is a b e = (bytes_eq-Decides a b).0 e
 
 -- a sum by merchant and day, with one more of a day
-pub day_more : {X : Type 0} (of : MerchantDay → X) (more : X → X) (was now : MerchantDay → X) (key : MerchantDay)
+pub day_more : {X : Type 0} (of : MerchantDay → X) (more : X → X) (was now : MerchantDay → X)
+    (key : MerchantDay)
     (a : Bool)
     → ((k : MerchantDay) → was k ≡ of k)
     → ((k : MerchantDay) → now k ≡ (if a && day_eq key k then more (was key) else was k))
@@ -65,21 +72,28 @@ day_more {X} of more was now key a before put k =
         cond (a && (b && c)) (more (was key)) (was k) ≡ cond (b && (a && c)) (more (of k)) (of k)
     at true true true m d =
         let same : key ≡ k =
-        λ i. record { merchant = text_is key.merchant k.merchant m i; day = number_is key.day k.day d i } in
+        λ i. record {
+          merchant = text_is key.merchant k.merchant m i;
+          day =
+              number_is key.day k.day d i;
+        } in
         ap more (before key ∙ ap of same)
     at true true false m d = before k
     at true false c m d = before k
     at false true c m d = before k
     at false false c m d = before k
 
-pub used_more : {S : Type 0} (rows : List Request) (y : Request) (old new : IndexMap MerchantDay ℕ S)
-    → ((k : MerchantDay) → count_at (get day_eq old) k ≡ used_in (requests_of k.merchant rows) k.day)
+pub used_more : {S : Type 0} (rows : List Request) (y : Request)
+    (old new : IndexMap MerchantDay ℕ S)
+    → ((k : MerchantDay) →
+    count_at (get day_eq old) k ≡ used_in (requests_of k.merchant rows) k.day)
     → ((k : MerchantDay) →
     count_at (get day_eq new) k
     ≡ (if y.admitted && day_eq (record { merchant = y.key.merchant; day = y.day }) k
     then 1 + count_at (get day_eq old) (record { merchant = y.key.merchant; day = y.day })
     else count_at (get day_eq old) k))
-    → (k : MerchantDay) → count_at (get day_eq new) k ≡ used_in (requests_of k.merchant (rows ++ y ∷ [])) k.day
+    → (k : MerchantDay) →
+    count_at (get day_eq new) k ≡ used_in (requests_of k.merchant (rows ++ y ∷ [])) k.day
 used_more rows y old new was put k =
     day_more (λ (q : MerchantDay). used_in (requests_of q.merchant rows) q.day) (λ (n : ℕ). 1 + n)
     (count_at (get day_eq old)) (count_at (get day_eq new))
@@ -90,18 +104,23 @@ used_more rows y old new was put k =
 pub given_more : {S : Type 0} (rows : List Request) (y : Request) (old new : IndexMap (List ℕ) ℕ S)
     → ((m : List ℕ) → count_at (get merchant_eq old) m ≡ admitted_in (requests_of m rows))
     → ((m : List ℕ) → count_at (get merchant_eq new) m
-    ≡ (if is_some y.reference && merchant_eq y.key.merchant m then 1 + count_at (get merchant_eq old) y.key.merchant
+    ≡ (if is_some y.reference && merchant_eq y.key.merchant m then
+    1 + count_at (get merchant_eq old) y.key.merchant
     else count_at (get merchant_eq old) m))
     → (m : List ℕ) → count_at (get merchant_eq new) m ≡ admitted_in (requests_of m (rows ++ y ∷ []))
 given_more rows y old new was put m =
     put m ∙ (at (is_some y.reference) (bytes_eq y.key.merchant m) refl
-    ∙ sym (count-filter-push (λ row. is_some row.reference) (λ row. bytes_eq row.key.merchant m) rows y))
+    ∙ sym (count-filter-push (λ row. is_some row.reference) (λ row. bytes_eq row.key.merchant m)
+    rows y))
   where
     at : (a b : Bool) → bytes_eq y.key.merchant m ≡ b →
-        cond (a && b) (1 + count_at (get merchant_eq old) y.key.merchant) (count_at (get merchant_eq old) m)
+        cond (a && b) (1 + count_at (get merchant_eq old) y.key.merchant)
+        (count_at (get merchant_eq old) m)
         ≡ cond (b && a) (1 + admitted_in (requests_of m rows)) (admitted_in (requests_of m rows))
     at true true e =
-        ap (λ n. 1 + n) (was y.key.merchant ∙ ap (λ q. admitted_in (requests_of q rows)) (text_is y.key.merchant m e))
+        ap (λ n. 1 + n)
+        (was y.key.merchant ∙ ap (λ q. admitted_in (requests_of q rows))
+        (text_is y.key.merchant m e))
     at true false e = was m
     at false true e = was m
     at false false e = was m
@@ -110,7 +129,9 @@ given_more rows y old new was put m =
 pub count-length : {X : Type 0} (p : X → Bool) (xs : List X) → length (filter p xs) ≡ count p xs
 count-length p [] = refl
 count-length p (x ∷ xs) =
-    elim (p x) as (λ b. length (cond b (x ∷ filter p xs) (filter p xs)) ≡ cond b (1 + count p xs) (count p xs)) [
+    elim (p x) as
+    (λ b. length (cond b (x ∷ filter p xs) (filter p xs)) ≡ cond b (1 + count p xs)
+    (count p xs)) [
       | true ↦ let e = count-length p xs in omega arith
       | false ↦ count-length p xs
     ]

@@ -1,5 +1,6 @@
 -- A merchant's day in numbers, when a posting comes.
-use Rattle.std.proofs.Common.{◌≡◌, ℕ, ◌+◌, List, [], ◌∷◌, ◌++◌, Bool, true, false, cond, None, Some, Option, refl, sym}
+use Rattle.std.proofs.Common.{◌≡◌, ℕ, ◌+◌, List, [], ◌∷◌, ◌++◌, Bool, true, false, cond, None, Some}
+use Rattle.std.proofs.Common.{Option, refl, sym}
 use Rattle.std.proofs.Common.{ap, ◌∙◌, arith, eqb, map, if◌then◌else◌}
 use Rattle.std.specs.Prelude.{◌&&◌, filter}
 use Rattle.std.specs.Str.{bytes_eq}
@@ -32,7 +33,8 @@ none_yet k = refl
 totals-push : (rows : List (ℕ × Posting)) (y : ℕ × Posting) (m : List ℕ) (d : ℕ)
     → totals_on (postings_of m (rows ++ y ∷ [])) d
     ≡ cond (bytes_eq y.1.merchant m && eqb y.1.day d)
-    (with_leg_amount (totals_on (postings_of m rows) d) y.1.leg y.1.amount) (totals_on (postings_of m rows) d)
+    (with_leg_amount (totals_on (postings_of m rows) d) y.1.leg y.1.amount)
+    (totals_on (postings_of m rows) d)
 totals-push rows y m d =
     ap (λ l. totals_on l d) (filter-append (λ row. bytes_eq row.1.merchant m) rows (y ∷ []))
     ∙ at (bytes_eq y.1.merchant m) (eqb y.1.day d) refl
@@ -63,11 +65,13 @@ totals-push rows y m d =
 
 pub sums-push : (rows : List (ℕ × Posting)) (y : ℕ × Posting) (k : MerchantDay) →
     sums_in (rows ++ y ∷ []) k
-    ≡ cond (bytes_eq y.1.merchant k.merchant && eqb y.1.day k.day) (with_one (sums_in rows k) y.1.leg y.1.amount)
+    ≡ cond (bytes_eq y.1.merchant k.merchant && eqb y.1.day k.day)
+    (with_one (sums_in rows k) y.1.leg y.1.amount)
     (sums_in rows k)
 sums-push rows y k =
     (λ i. record {
-      posted = count-push (λ row. bytes_eq row.1.merchant k.merchant && eqb row.1.day k.day) rows y i;
+      posted = count-push (λ row. bytes_eq row.1.merchant k.merchant && eqb row.1.day k.day) rows y
+          i;
       totals = totals-push rows y k.merchant k.day i;
     })
     ∙ at (bytes_eq y.1.merchant k.merchant && eqb y.1.day k.day)
@@ -75,7 +79,8 @@ sums-push rows y k =
     at : (b : Bool) → ◌≡◌ {A = DaySums}
         (record {
           posted = cond b (1 + posted_in rows k) (posted_in rows k);
-          totals = cond b (with_leg_amount (totals_on (postings_of k.merchant rows) k.day) y.1.leg y.1.amount)
+          totals = cond b
+              (with_leg_amount (totals_on (postings_of k.merchant rows) k.day) y.1.leg y.1.amount)
               (totals_on (postings_of k.merchant rows) k.day);
         })
         (cond b (with_one (sums_in rows k) y.1.leg y.1.amount) (sums_in rows k))
@@ -88,17 +93,20 @@ sums-push rows y k =
         }
     at false = refl
 
-pub sums_more : {S : Type 0} (rows : List (ℕ × Posting)) (y : ℕ × Posting) (old new : IndexMap MerchantDay DaySums S)
+pub sums_more : {S : Type 0} (rows : List (ℕ × Posting)) (y : ℕ × Posting)
+    (old new : IndexMap MerchantDay DaySums S)
     → ((k : MerchantDay) → sums_at (get day_eq old k) ≡ sums_in rows k)
     → ((k : MerchantDay) →
     sums_at (get day_eq new k)
     ≡ (if day_eq (record { merchant = y.1.merchant; day = y.1.day }) k
-    then with_one (sums_at (get day_eq old (record { merchant = y.1.merchant; day = y.1.day }))) y.1.leg y.1.amount
+    then with_one (sums_at (get day_eq old (record { merchant = y.1.merchant; day = y.1.day })))
+    y.1.leg y.1.amount
     else sums_at (get day_eq old k)))
     → (k : MerchantDay) → sums_at (get day_eq new k) ≡ sums_in (rows ++ y ∷ []) k
 sums_more rows y old new was put k =
     day_more (sums_in rows) (λ (s : DaySums). with_one s y.1.leg y.1.amount)
-    (λ (q : MerchantDay). sums_at (get day_eq old q)) (λ (q : MerchantDay). sums_at (get day_eq new q))
+    (λ (q : MerchantDay). sums_at (get day_eq old q))
+    (λ (q : MerchantDay). sums_at (get day_eq new q))
     (record { merchant = y.1.merchant; day = y.1.day }) true was put k
     ∙ sym (sums-push rows y k)
 
@@ -109,9 +117,11 @@ last-one (x ∷ z ∷ zs) y = last-one (z ∷ zs) y
 
 last-push : (rows : List (ℕ × Reconciliation)) (y : ℕ × Reconciliation) (k : MerchantDay)
     → last_of (reconciliations_in (rows ++ y ∷ []) k)
-    ≡ cond (bytes_eq y.1.merchant k.merchant && eqb y.1.day k.day) (Some y) (last_of (reconciliations_in rows k))
+    ≡ cond (bytes_eq y.1.merchant k.merchant && eqb y.1.day k.day) (Some y)
+    (last_of (reconciliations_in rows k))
 last-push rows y k =
-    ap last_of (filter-append (λ row. bytes_eq row.1.merchant k.merchant && eqb row.1.day k.day) rows (y ∷ []))
+    ap last_of (filter-append (λ row. bytes_eq row.1.merchant k.merchant && eqb row.1.day k.day)
+    rows (y ∷ []))
     ∙ at (bytes_eq y.1.merchant k.merchant && eqb y.1.day k.day)
   where
     at : (b : Bool) → last_of (reconciliations_in rows k ++ cond b (y ∷ []) [])
@@ -128,7 +138,8 @@ pub last_more : {S : Type 0} (rows : List (ℕ × Reconciliation)) (y : ℕ × R
     else get day_eq old k))
     → (k : MerchantDay) → get day_eq new k ≡ last_of (reconciliations_in (rows ++ y ∷ []) k)
 last_more rows y old new was put k =
-    put k ∙ (ap (λ o. cond (bytes_eq y.1.merchant k.merchant && eqb y.1.day k.day) (Some y) o) (was k)
+    put k ∙ (ap (λ o. cond (bytes_eq y.1.merchant k.merchant && eqb y.1.day k.day) (Some y) o)
+    (was k)
     ∙ sym (last-push rows y k))
 
 -- how many reconciliations a merchant has of a day
@@ -148,13 +159,15 @@ number_more rows y old new next was put k =
     day_more (made_on rows) (λ (n : ℕ). n + 1) (λ (q : MerchantDay). number_in (get day_eq old q))
     (λ (q : MerchantDay). number_in (get day_eq new q))
     (record { merchant = y.1.merchant; day = y.1.day }) true was
-    (λ q. ap number_in (put q) ∙ at (day_eq (record { merchant = y.1.merchant; day = y.1.day }) q) (get day_eq old q)) k
+    (λ q. ap number_in (put q) ∙ at (day_eq (record { merchant = y.1.merchant; day = y.1.day }) q)
+    (get day_eq old q)) k
     ∙ (turn (bytes_eq y.1.merchant k.merchant && eqb y.1.day k.day) (made_on rows k)
     ∙ sym (count-push (λ row. bytes_eq row.1.merchant k.merchant && eqb row.1.day k.day) rows y))
   where
     at : (b : Bool) (o : Option (ℕ × Reconciliation)) →
         number_in (cond b (Some y) o)
-        ≡ cond b (number_in (get day_eq old (record { merchant = y.1.merchant; day = y.1.day })) + 1) (number_in o)
+        ≡ cond b (number_in (get day_eq old (record { merchant = y.1.merchant; day = y.1.day }))
+        + 1) (number_in o)
     at true o = next
     at false o = refl
 

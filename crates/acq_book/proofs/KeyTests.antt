@@ -4,8 +4,10 @@ use Rattle.std.specs.Prelude.{◌&&◌}
 use Rattle.std.specs.Str.{bytes_eq}
 use Rattle.std.specs.Cmp.Lexicographic.{nat_list_eq_equiv}
 use Rattle.acq_message.specs.declared.service.Service.{Service}
-use Rattle.acq_message.specs.declared.service.Service.TheVariants.{Authorization, Financial, Completion, Reversal}
-use Rattle.acq_message.specs.declared.service.Service.TheVariants.{ReversalAdvice, Reconciliation, NetworkManagement}
+use Rattle.acq_message.specs.declared.service.Service.TheVariants.{Authorization, Financial}
+use Rattle.acq_message.specs.declared.service.Service.TheVariants.{Completion, Reversal}
+use Rattle.acq_message.specs.declared.service.Service.TheVariants.{ReversalAdvice, Reconciliation}
+use Rattle.acq_message.specs.declared.service.Service.TheVariants.{NetworkManagement}
 use Rattle.acq_message.specs.contracts.service.ServicePartialEq.TheImpl as service_block
 use Rattle.acq_core.specs.declared.terminal.Terminal.{Terminal}
 use Rattle.acq_book.specs.declared.lists.merchant_terminal.MerchantTerminal.{MerchantTerminal}
@@ -85,5 +87,6 @@ key_eq-same a b =
     && text_swap a.transmission b.transmission i)
 
 pub terminal_eq-same : (k : MerchantTerminal) (row : Terminal)
-    → terminal_eq k (key_of_terminal row) ≡ (bytes_eq row.merchant k.merchant && bytes_eq row.id k.id)
+    → terminal_eq k (key_of_terminal row)
+    ≡ (bytes_eq row.merchant k.merchant && bytes_eq row.id k.id)
 terminal_eq-same k row i = text_swap k.merchant row.merchant i && text_swap k.id row.id i

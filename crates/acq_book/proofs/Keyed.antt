@@ -1,5 +1,6 @@
 -- Rows that stand under their keys.
-use Rattle.std.proofs.Common.{◌≡◌, List, [], ◌∷◌, ◌++◌, Bool, true, false, cond, Some, None, Option, refl}
+use Rattle.std.proofs.Common.{◌≡◌, List, [], ◌∷◌, ◌++◌, Bool, true, false, cond, Some, None, Option}
+use Rattle.std.proofs.Common.{refl}
 use Rattle.std.proofs.Common.{ap, ◌∙◌, is_some}
 use Rattle.std.specs.Prelude.{◌||◌, find}
 use Rattle.std.specs.List.{list_any}
@@ -28,10 +29,11 @@ values-push (e ∷ es) k x = ap (λ zs. e.1 ∷ zs) (values-push es k x)
 -- a row is found where one passes
 pub found-any : {X : Type 0} (p : X → Bool) (xs : List X) → is_some (find p xs) ≡ list_any p xs
 found-any p [] = refl
-found-any p (x ∷ xs) = elim (p x) as (λ b. is_some (cond b (Some x) (find p xs)) ≡ (b || list_any p xs)) [
-  | true ↦ refl
-  | false ↦ found-any p xs
-]
+found-any p (x ∷ xs) =
+    elim (p x) as (λ b. is_some (cond b (Some x) (find p xs)) ≡ (b || list_any p xs)) [
+      | true ↦ refl
+      | false ↦ found-any p xs
+    ]
 
 -- none is found where none passes
 pub none-found : {X : Type 0} (o : Option X) → is_some o ≡ false → o ≡ None

@@ -30,7 +30,8 @@ KnowsTotals totals k (Reconciles r day) =
 KnowsTotals totals k decision = Unit {0}
 
 -- a repeat reconciles nothing
-knows_repeat : (totals : ℕ → DayTotals) (k : Known) (s : ReplyState) → KnowsTotals totals k (repeat_of s)
+knows_repeat : (totals : ℕ → DayTotals) (k : Known) (s : ReplyState) →
+    KnowsTotals totals k (repeat_of s)
 knows_repeat totals k (Kept reply) = tt
 knows_repeat totals k (Awaited draft) = tt
 knows_repeat totals k Late = tt
@@ -65,7 +66,8 @@ agreement claimed t = search rules
 
 -- so a reconciliation is balanced by the postings of its day
 pub balanced : (opening : Opening) (day : ℕ) (h : List Entry) (r : RequestMessage) →
-    decision (known_by opening h (Requested r)) (Requested r) ≡ Reconciles r day → IsBalanced opening h r day
+    decision (known_by opening h (Requested r)) (Requested r) ≡ Reconciles r day →
+    IsBalanced opening h r day
 balanced opening day h r e =
     let k = known_by opening h (Requested r) in
     let known = subst (KnowsTotals (totals_on (postings h)) k) e (knows_totals opening h r) in
@@ -84,4 +86,5 @@ balanced opening day h r e =
 pub sums_are_totals : (rows : List (ℕ × Posting)) (m : List ℕ) (day : ℕ) →
     totals_of (map (λ row. (row.1.leg, row.1.amount)) (postings_of m (postings_on day rows)))
     ≡ totals_on (postings_of m rows) day
-sums_are_totals rows m day = ap (λ l. totals_of (map (λ row. (row.1.leg, row.1.amount)) l)) (filter-filter _ _ rows)
+sums_are_totals rows m day = ap (λ l. totals_of (map (λ row. (row.1.leg, row.1.amount)) l))
+    (filter-filter _ _ rows)

@@ -1,5 +1,6 @@
 -- Postings and the requests that they are of: what one more posting keeps.
-use Rattle.std.proofs.Common.{◌≡◌, ℕ, ◌+◌, ◌<◌, ◌≤◌, List, [], ◌∷◌, ◌++◌, Option, Some, None, Bool, true, false, cond, ◌⊎◌, inl, inr, refl, sym, ap, ◌∙◌, subst, arith}
+use Rattle.std.proofs.Common.{◌≡◌, ℕ, ◌+◌, ◌<◌, ◌≤◌, List, [], ◌∷◌, ◌++◌, Option, Some, None, Bool}
+use Rattle.std.proofs.Common.{true, false, cond, ◌⊎◌, inl, inr, refl, sym, ap, ◌∙◌, subst, arith}
 use Rattle.std.specs.Prelude.{◌&&◌, ◌==◌, not}
 use Rattle.std.specs.Str.{bytes_eq}
 use Rattle.acq_message.specs.declared.service.Service.{Service}
@@ -83,7 +84,8 @@ pub record HasOriginal (ps : List (ℕ × Posting)) (b : ℕ × Posting) : Type 
 abbrev pub is_beside : Posting → ℕ × Posting → Bool
 is_beside p row = bytes_eq row.1.merchant p.merchant && (row.1.day == p.day)
 
--- postings and the rows that they are of: each has its row, each row that posted its posting, no two are alike
+-- postings and the rows that they are of: each has its row, each row that posted its posting, no
+-- two are alike
 pub record PostingsMatchRows (rows : List Request) (ps : List (ℕ × Posting)) : Type 0 where
   pub originals : (x : ℕ × Posting) → In x ps → is_reversal_leg x.1.leg ≡ false →
       HasPosted rows x.1.merchant x.1.reference
@@ -103,10 +105,12 @@ pub record Grows (rows later : List Request) : Type 0 where
 
 -- what has posted had posted before
 abbrev pub FromBefore : List Request → List (ℕ × Posting) → List Request → Type 0
-FromBefore rows ps later = (row : Request) (n : ℕ) → In row later → posted row ≡ Some n → HasPosting ps row n
+FromBefore rows ps later = (row : Request) (n : ℕ) → In row later → posted row ≡ Some n →
+    HasPosting ps row n
 
 -- rows that change and post nothing
-pub unposted : (rows later : List Request) (ps : List (ℕ × Posting)) → PostingsMatchRows rows ps → Grows rows later →
+pub unposted : (rows later : List Request) (ps : List (ℕ × Posting)) → PostingsMatchRows rows ps →
+    Grows rows later →
     FromBefore rows ps later → PostingsMatchRows later ps
 unposted rows later ps b g from = record {
   originals = λ x i l. g.posted_on _ _ (b.originals x i l);
@@ -122,7 +126,8 @@ unposted rows later ps b g from = record {
 -- a count with one more
 count-push_sum : {X : Type 0} (p : X → Bool) (xs : List X) (y : X) →
     count p (xs ++ y ∷ []) ≡ count p xs + cond (p y) 1 0
-count-push_sum p [] y = elim (p y) as (λ b. cond b (1 + 0) 0 ≡ 0 + cond b 1 0) [ true ↦ refl | false ↦ refl ]
+count-push_sum p [] y =
+    elim (p y) as (λ b. cond b (1 + 0) 0 ≡ 0 + cond b 1 0) [ true ↦ refl | false ↦ refl ]
 count-push_sum p (x ∷ xs) y =
     let rest = count-push_sum p xs y in
     elim (p x) as (λ b. cond b (1 + count p (xs ++ y ∷ [])) (count p (xs ++ y ∷ []))
@@ -131,10 +136,12 @@ count-push_sum p (x ∷ xs) y =
       | false ↦ rest
     ]
 
-count-push_in : {X : Type 0} (p : X → Bool) (xs : List X) (y : X) → p y ≡ true → count p (xs ++ y ∷ []) ≡ count p xs + 1
+count-push_in : {X : Type 0} (p : X → Bool) (xs : List X) (y : X) → p y ≡ true →
+    count p (xs ++ y ∷ []) ≡ count p xs + 1
 count-push_in p xs y e = count-push_sum p xs y ∙ ap (λ b. count p xs + cond b 1 0) e
 
-count-none : {X : Type 0} (p : X → Bool) (xs : List X) → ((x : X) → In x xs → p x ≡ true → ⊥) → count p xs ≡ 0
+count-none : {X : Type 0} (p : X → Bool) (xs : List X) → ((x : X) → In x xs → p x ≡ true → ⊥) →
+    count p xs ≡ 0
 count-none p [] h = refl
 count-none {X} p (x ∷ xs) h = step (count-none p xs (λ y i e. h y (inr i) e)) (p x) refl
   where
@@ -147,11 +154,13 @@ one_at_most : {X : Type 0} (p : X → Bool) (xs : List X) (y : X) → count p xs
     (p y ≡ true → (x : X) → In x xs → p x ≡ true → ⊥) → count p (xs ++ y ∷ []) ≤ 1
 one_at_most {X} p xs y most none = step (p y) refl (count-push_sum p xs y)
   where
-    step : (b : Bool) → p y ≡ b → count p (xs ++ y ∷ []) ≡ count p xs + cond b 1 0 → count p (xs ++ y ∷ []) ≤ 1
+    step : (b : Bool) → p y ≡ b → count p (xs ++ y ∷ []) ≡ count p xs + cond b 1 0 →
+        count p (xs ++ y ∷ []) ≤ 1
     step true e c = let zeros = count-none p xs (none e) in omega arith
     step false e c = omega arith
 
-count-grows : {X : Type 0} (p : X → Bool) (xs : List X) (y : X) → count p xs ≤ count p (xs ++ y ∷ [])
+count-grows : {X : Type 0} (p : X → Bool) (xs : List X) (y : X) →
+    count p xs ≤ count p (xs ++ y ∷ [])
 count-grows p xs y = let e = count-push_sum p xs y in omega arith
 
 -- what a test for postings says
@@ -160,7 +169,8 @@ record SaysPosting (m : List ℕ) (n : ℕ) (reversal : Bool) (x : ℕ × Postin
   reference : x.1.reference ≡ n
   leg : is_reversal_leg x.1.leg ≡ reversal
 
-says_posting : (m : List ℕ) (n : ℕ) (reversal : Bool) (x : ℕ × Posting) → is_posting m n reversal x ≡ true →
+says_posting : (m : List ℕ) (n : ℕ) (reversal : Bool) (x : ℕ × Posting) →
+    is_posting m n reversal x ≡ true →
     SaysPosting m n reversal x
 says_posting m n reversal x h =
     let parts = and_parts (bytes_eq x.1.merchant m && (x.1.reference == n)) _ h in
@@ -177,7 +187,8 @@ says_posting m n reversal x h =
     reversal_is false false e = refl
 
 -- postings of one merchant and day stand beside the same
-beside_same : (a b : Posting) → a.merchant ≡ b.merchant → a.day ≡ b.day → (ps : List (ℕ × Posting)) →
+beside_same : (a b : Posting) → a.merchant ≡ b.merchant → a.day ≡ b.day →
+    (ps : List (ℕ × Posting)) →
     count (is_beside a) ps ≡ count (is_beside b) ps
 beside_same a b e f ps = λ i. count (λ row. bytes_eq row.1.merchant (e i) && (row.1.day == f i)) ps
 
@@ -185,14 +196,16 @@ beside_itself : (n : ℕ) (p : Posting) → is_beside p (n, p) ≡ true
 beside_itself n p =
     ap (λ b. b && (p.day == p.day)) (bytes_eq_itself p.merchant) ∙ eqb_itself p.day
 
--- the grounds of a posting: of an original that is the first under its reference, or of a reversal that is the first
+-- the grounds of a posting: of an original that is the first under its reference, or of a reversal
+-- that is the first
 pub record IsFirst (rows later : List Request) (p : Posting) : Type 0 where
   pub leg : is_reversal_leg p.leg ≡ false
   pub first : HasPosted rows p.merchant p.reference → ⊥
   pub made : HasPosted later p.merchant p.reference
 
 -- the grounds of a reversal's posting: the first under its reference, and its original stands
-pub record IsFirstReversal (rows later : List Request) (ps : List (ℕ × Posting)) (p : Posting) : Type 0 where
+pub record IsFirstReversal (rows later : List Request) (ps : List (ℕ × Posting))
+    (p : Posting) : Type 0 where
   pub leg : is_reversal_leg p.leg ≡ true
   pub first : HasReversed rows p.merchant p.reference → ⊥
   pub made : HasReversed later p.merchant p.reference
@@ -210,43 +223,58 @@ abbrev pub numbered_posting : List (ℕ × Posting) → Posting → ℕ × Posti
 numbered_posting ps p = (count (is_beside p) ps + 1, p)
 
 -- numbers of the merchant and day stay below their count
-numbers_push : (rows : List Request) (ps : List (ℕ × Posting)) (p : Posting) → PostingsMatchRows rows ps →
+numbers_push : (rows : List Request) (ps : List (ℕ × Posting)) (p : Posting) →
+    PostingsMatchRows rows ps →
     (x : ℕ × Posting) → In x (with_next_posting ps (Some p)) →
     x.0 ≤ count (is_beside x.1) (with_next_posting ps (Some p))
 numbers_push rows ps p b x i = elim (In-push x ps (numbered_posting ps p) i) [
   | inl old ↦
-      let low = b.numbers x old in let grows = count-grows (is_beside x.1) ps (numbered_posting ps p) in omega arith
+      let low = b.numbers x old in let grows =
+      count-grows (is_beside x.1) ps (numbered_posting ps p) in omega arith
   | inr e ↦ subst (λ y. y.0 ≤ count (is_beside y.1) (with_next_posting ps (Some p))) e newest
 ]
   where
     newest : count (is_beside p) ps + 1 ≤ count (is_beside p) (ps ++ numbered_posting ps p ∷ [])
     newest =
         let pushed =
-        count-push_in (is_beside p) ps (numbered_posting ps p) (beside_itself (count (is_beside p) ps + 1) p) in
+        count-push_in (is_beside p) ps (numbered_posting ps p)
+        (beside_itself (count (is_beside p) ps + 1) p) in
         omega arith
 
-HasOriginal-push : (ps : List (ℕ × Posting)) (x y : ℕ × Posting) → HasOriginal ps x → HasOriginal (ps ++ y ∷ []) x
-HasOriginal-push ps x y h = record { original = h.original; member = In-first h.original ps _ h.member; of = h.of }
+HasOriginal-push : (ps : List (ℕ × Posting)) (x y : ℕ × Posting) → HasOriginal ps x →
+    HasOriginal (ps ++ y ∷ []) x
+HasOriginal-push ps x y h =
+    record { original = h.original; member = In-first h.original ps _ h.member; of = h.of }
 
-HasPosting-push : (ps : List (ℕ × Posting)) (row : Request) (n : ℕ) (y : ℕ × Posting) → HasPosting ps row n →
+HasPosting-push : (ps : List (ℕ × Posting)) (row : Request) (n : ℕ) (y : ℕ × Posting) →
+    HasPosting ps row n →
     HasPosting (ps ++ y ∷ []) row n
-HasPosting-push ps row n y h = record { posting = h.posting; member = In-first h.posting ps _ h.member; of = h.of }
+HasPosting-push ps row n y h =
+    record { posting = h.posting; member = In-first h.posting ps _ h.member; of = h.of }
 
 -- what has posted had posted before, or has just posted this
 abbrev pub FromBeforeOr : List (ℕ × Posting) → Posting → List Request → Type 0
 FromBeforeOr ps p later =
-    (row : Request) (n : ℕ) → In row later → posted row ≡ Some n → HasPosting ps row n ⊎ IsPostingOf p row n
+    (row : Request) (n : ℕ) → In row later → posted row ≡ Some n →
+    HasPosting ps row n ⊎ IsPostingOf p row n
 
 -- each row that posted has its posting, also the newest
-there_push : (ps : List (ℕ × Posting)) (p : Posting) (later : List Request) → FromBeforeOr ps p later →
-    (row : Request) (n : ℕ) → In row later → posted row ≡ Some n → HasPosting (with_next_posting ps (Some p)) row n
+there_push : (ps : List (ℕ × Posting)) (p : Posting) (later : List Request) →
+    FromBeforeOr ps p later →
+    (row : Request) (n : ℕ) → In row later → posted row ≡ Some n →
+    HasPosting (with_next_posting ps (Some p)) row n
 there_push ps p later from row n i e = elim (from row n i e) [
   | inl old ↦ HasPosting-push ps row n _ old
-  | inr new ↦ record { posting = numbered_posting ps p; member = In-last (numbered_posting ps p) ps; of = new }
+  | inr new ↦ record {
+    posting = numbered_posting ps p;
+    member = In-last (numbered_posting ps p) ps;
+    of = new;
+  }
 ]
 
 -- one more posting of an original
-pub posted_first : (rows later : List Request) (ps : List (ℕ × Posting)) (p : Posting) → PostingsMatchRows rows ps →
+pub posted_first : (rows later : List Request) (ps : List (ℕ × Posting)) (p : Posting) →
+    PostingsMatchRows rows ps →
     Grows rows later → FromBeforeOr ps p later → IsFirst rows later p →
     PostingsMatchRows later (with_next_posting ps (Some p))
 posted_first rows later ps p b g from f = record {
@@ -262,7 +290,8 @@ posted_first rows later ps p b g from f = record {
   at_most_one =
       λ m n reversal.
       one_at_most (is_posting m n reversal) ps y (b.at_most_one m n reversal)
-      (λ q x i h. none m n reversal (says_posting m n reversal y q) x i (says_posting m n reversal x h));
+      (λ q x i h. none m n reversal (says_posting m n reversal y q) x i
+      (says_posting m n reversal x h));
   matched = λ x i l. elim (In-push x ps y i) [
     | inl old ↦ HasOriginal-push ps x y (b.matched x old l)
     | inr e ↦ clash (is_reversal_leg p.leg) (ap (λ z. is_reversal_leg z.1.leg) e ∙ l) f.leg
@@ -273,7 +302,8 @@ posted_first rows later ps p b g from f = record {
     y : ℕ × Posting
     y = numbered_posting ps p
 
-    none : (m : List ℕ) (n : ℕ) (reversal : Bool) → SaysPosting m n reversal (numbered_posting ps p) →
+    none : (m : List ℕ) (n : ℕ) (reversal : Bool) →
+        SaysPosting m n reversal (numbered_posting ps p) →
         (x : ℕ × Posting) → In x ps → SaysPosting m n reversal x → ⊥
     none m n reversal new x i s =
         let old = b.originals x i (s.leg ∙ (sym new.leg ∙ f.leg)) in
@@ -285,7 +315,8 @@ posted_first rows later ps p b g from f = record {
         })
 
 -- one more posting of a reversal
-pub posted_reversal : (rows later : List Request) (ps : List (ℕ × Posting)) (p : Posting) → PostingsMatchRows rows ps →
+pub posted_reversal : (rows later : List Request) (ps : List (ℕ × Posting)) (p : Posting) →
+    PostingsMatchRows rows ps →
     Grows rows later → FromBefore rows ps later → IsFirstReversal rows later ps p →
     PostingsMatchRows later (with_next_posting ps (Some p))
 posted_reversal rows later ps p b g from f = record {
@@ -301,7 +332,8 @@ posted_reversal rows later ps p b g from f = record {
   at_most_one =
       λ m n reversal.
       one_at_most (is_posting m n reversal) ps y (b.at_most_one m n reversal)
-      (λ q x i h. none m n reversal (says_posting m n reversal y q) x i (says_posting m n reversal x h));
+      (λ q x i h. none m n reversal (says_posting m n reversal y q) x i
+      (says_posting m n reversal x h));
   matched = λ x i l. elim (In-push x ps y i) [
     | inl old ↦ HasOriginal-push ps x y (b.matched x old l)
     | inr e ↦
@@ -326,7 +358,8 @@ posted_reversal rows later ps p b g from f = record {
     y : ℕ × Posting
     y = numbered_posting ps p
 
-    none : (m : List ℕ) (n : ℕ) (reversal : Bool) → SaysPosting m n reversal (numbered_posting ps p) →
+    none : (m : List ℕ) (n : ℕ) (reversal : Bool) →
+        SaysPosting m n reversal (numbered_posting ps p) →
         (x : ℕ × Posting) → In x ps → SaysPosting m n reversal x → ⊥
     none m n reversal new x i s =
         let old = b.reversals x i (s.leg ∙ (sym new.leg ∙ f.leg)) in

@@ -1,5 +1,6 @@
 -- What stays true of the rows of requests.
-use Rattle.std.proofs.Common.{◌≡◌, ℕ, ◌+◌, ◌<◌, ◌≤◌, List, [], ◌∷◌, ◌++◌, Option, Some, Bool, true, false, cond, ◌⊎◌, inl, inr, refl, sym, ap, ◌∙◌, subst, arith}
+use Rattle.std.proofs.Common.{◌≡◌, ℕ, ◌+◌, ◌<◌, ◌≤◌, List, [], ◌∷◌, ◌++◌, Option, Some, Bool, true}
+use Rattle.std.proofs.Common.{false, cond, ◌⊎◌, inl, inr, refl, sym, ap, ◌∙◌, subst, arith}
 use Rattle.std.specs.Prelude.{find, is_some, map}
 use Rattle.std.specs.Option.{option_or}
 use Rattle.std.specs.Str.{bytes_eq}
@@ -27,7 +28,8 @@ abbrev pub admitted_by : List ℕ → List Request → ℕ
 admitted_by m rows = admitted_in (requests_of m rows)
 
 -- a reference is one of those that its merchant has given
-pub record IsGiven (merchants : List Merchant) (rows : List Request) (m : List ℕ) (n : ℕ) : Type 0 where
+pub record IsGiven (merchants : List Merchant) (rows : List Request) (m : List ℕ)
+    (n : ℕ) : Type 0 where
   pub merchant : Merchant
   pub enrolled : merchant_in merchants m ≡ Some merchant
   pub below : n < merchant.first_reference + admitted_by m rows
@@ -50,20 +52,27 @@ pub record IsCompleting (row : Request) (m : List ℕ) (n : ℕ) : Type 0 where
 -- what holds of the rows: keys and references are unique, and what they name is there
 pub record IsWellFormed (day : ℕ) (merchants : List Merchant) (rows : List Request) : Type 0 where
   pub keys : (a b : Request) → In a rows → In b rows → a.key ≡ b.key → a ≡ b
-  pub references : (a b : Request) (n : ℕ) → In a rows → In b rows → a.key.merchant ≡ b.key.merchant →
+  pub references : (a b : Request) (n : ℕ) → In a rows → In b rows →
+      a.key.merchant ≡ b.key.merchant →
       a.reference ≡ Some n → b.reference ≡ Some n → a ≡ b
-  pub given : (a : Request) (n : ℕ) → In a rows → a.reference ≡ Some n → IsGiven merchants rows a.key.merchant n
-  pub admissible : (a : Request) (n : ℕ) → In a rows → a.reference ≡ Some n → is_admissible a.key.service ≡ true
-  pub held : (a : Request) (n : ℕ) → In a rows → IsCompleting a a.key.merchant n → IsHeld rows a.key.merchant n
-  pub one_completion : (a b : Request) (n : ℕ) → In a rows → In b rows → IsCompleting a a.key.merchant n →
+  pub given : (a : Request) (n : ℕ) → In a rows → a.reference ≡ Some n →
+      IsGiven merchants rows a.key.merchant n
+  pub admissible : (a : Request) (n : ℕ) → In a rows → a.reference ≡ Some n →
+      is_admissible a.key.service ≡ true
+  pub held : (a : Request) (n : ℕ) → In a rows → IsCompleting a a.key.merchant n →
+      IsHeld rows a.key.merchant n
+  pub one_completion : (a b : Request) (n : ℕ) → In a rows → In b rows →
+      IsCompleting a a.key.merchant n →
       IsCompleting b a.key.merchant n → a ≡ b
-  pub legs : (a : Request) → In a rows → is_reversal a.key.service ≡ false → is_reversal_leg a.leg ≡ false
+  pub legs : (a : Request) → In a rows → is_reversal a.key.service ≡ false →
+      is_reversal_leg a.leg ≡ false
   pub days : (a : Request) → In a rows → a.day ≤ day
 
 -- ---- a day later, a merchant more
 
 -- on a later day
-pub well_formed_later : (day later : ℕ) (merchants : List Merchant) (rows : List Request) → day ≤ later →
+pub well_formed_later : (day later : ℕ) (merchants : List Merchant) (rows : List Request) →
+    day ≤ later →
     IsWellFormed day merchants rows → IsWellFormed later merchants rows
 well_formed_later day later merchants rows le k = record {
   keys = k.keys;
@@ -77,7 +86,8 @@ well_formed_later day later merchants rows le k = record {
 }
 
 -- with one merchant more
-pub well_formed_with_merchant : (day : ℕ) (merchants : List Merchant) (merchant : Merchant) (rows : List Request) →
+pub well_formed_with_merchant : (day : ℕ) (merchants : List Merchant) (merchant : Merchant)
+    (rows : List Request) →
     IsWellFormed day merchants rows → IsWellFormed day (merchants ++ merchant ∷ []) rows
 well_formed_with_merchant day merchants merchant rows k = record {
   keys = k.keys;
@@ -90,7 +100,8 @@ well_formed_with_merchant day merchants merchant rows k = record {
   days = k.days;
 }
   where
-    more : (m : List ℕ) (n : ℕ) → IsGiven merchants rows m n → IsGiven (merchants ++ merchant ∷ []) rows m n
+    more : (m : List ℕ) (n : ℕ) → IsGiven merchants rows m n →
+        IsGiven (merchants ++ merchant ∷ []) rows m n
     more m n g = record {
       merchant = g.merchant;
       enrolled =
@@ -122,13 +133,15 @@ admitted_by-push m (x ∷ xs) row =
       | false ↦ rest
     ]
 
-admitted_one : (row : Request) (n : ℕ) → row.reference ≡ Some n → admitted_by row.key.merchant (row ∷ []) ≡ 1
+admitted_one : (row : Request) (n : ℕ) → row.reference ≡ Some n →
+    admitted_by row.key.merchant (row ∷ []) ≡ 1
 admitted_one row n e =
     ap (λ b. admitted_in (cond b (row ∷ []) [])) (bytes_eq_itself row.key.merchant)
     ∙ ap (λ o. cond (is_some o) (1 + 0) 0) e
 
 -- a given reference stays given
-IsGiven-push : (merchants : List Merchant) (rows : List Request) (row : Request) (m : List ℕ) (n : ℕ) →
+IsGiven-push : (merchants : List Merchant) (rows : List Request) (row : Request) (m : List ℕ)
+    (n : ℕ) →
     IsGiven merchants rows m n → IsGiven merchants (rows ++ row ∷ []) m n
 IsGiven-push merchants rows row m n g = record {
   merchant = g.merchant;
@@ -149,13 +162,15 @@ IsHeld-push rows row m n h = record {
 }
 
 -- the reference that a merchant gives next
-pub record IsNext (merchants : List Merchant) (rows : List Request) (m : List ℕ) (n : ℕ) : Type 0 where
+pub record IsNext (merchants : List Merchant) (rows : List Request) (m : List ℕ)
+    (n : ℕ) : Type 0 where
   pub merchant : Merchant
   pub enrolled : merchant_in merchants m ≡ Some merchant
   pub next : n ≡ merchant.first_reference + admitted_by m rows
 
 -- a row that may be added
-pub record IsFit (day : ℕ) (merchants : List Merchant) (rows : List Request) (row : Request) : Type 0 where
+pub record IsFit (day : ℕ) (merchants : List Merchant) (rows : List Request)
+    (row : Request) : Type 0 where
   pub new : (a : Request) → In a rows → a.key ≡ row.key → ⊥
   pub next : (n : ℕ) → row.reference ≡ Some n → IsNext merchants rows row.key.merchant n
   pub admissible : (n : ℕ) → row.reference ≡ Some n → is_admissible row.key.service ≡ true
@@ -166,18 +181,22 @@ pub record IsFit (day : ℕ) (merchants : List Merchant) (rows : List Request) (
   pub dated : row.day ≤ day
 
 -- no request has the reference that comes next
-not_next : (merchants : List Merchant) (rows : List Request) (m : List ℕ) (n : ℕ) → IsGiven merchants rows m n →
+not_next : (merchants : List Merchant) (rows : List Request) (m : List ℕ) (n : ℕ) →
+    IsGiven merchants rows m n →
     IsNext merchants rows m n → ⊥
 not_next merchants rows m n g x =
     let same : g.merchant ≡ x.merchant = some_is _ _ (sym g.enrolled ∙ x.enrolled) in
-    let firsts : g.merchant.first_reference ≡ x.merchant.first_reference = ap (λ y. y.first_reference) same in
+    let firsts : g.merchant.first_reference ≡ x.merchant.first_reference =
+    ap (λ y. y.first_reference) same in
     let below = g.below in
     let next = x.next in
     omega arith
 
 -- with a row more that fits
-pub well_formed_with_row : (day : ℕ) (merchants : List Merchant) (rows : List Request) (row : Request) →
-    IsWellFormed day merchants rows → IsFit day merchants rows row → IsWellFormed day merchants (rows ++ row ∷ [])
+pub well_formed_with_row : (day : ℕ) (merchants : List Merchant) (rows : List Request)
+    (row : Request) →
+    IsWellFormed day merchants rows → IsFit day merchants rows row →
+    IsWellFormed day merchants (rows ++ row ∷ [])
 well_formed_with_row day merchants rows row k f = record {
   keys = λ a b i j e. elim (In-push a rows row i) [
     | inl old ↦ elim (In-push b rows row j) [
@@ -192,10 +211,12 @@ well_formed_with_row day merchants rows row k f = record {
   references = λ a b n i j m e g. elim (In-push a rows row i) [
     | inl old ↦ elim (In-push b rows row j) [
       | inl older ↦ k.references a b n old older m e g
-      | inr new ↦ absurd (fresh a n old e (m ∙ ap (λ x. x.key.merchant) (sym new)) (ap (λ x. x.reference) new ∙ g))
+      | inr new ↦ absurd (fresh a n old e (m ∙ ap (λ x. x.key.merchant) (sym new))
+          (ap (λ x. x.reference) new ∙ g))
     ]
     | inr new ↦ elim (In-push b rows row j) [
-      | inl old ↦ absurd (fresh b n old g (sym m ∙ ap (λ x. x.key.merchant) (sym new)) (ap (λ x. x.reference) new ∙ e))
+      | inl old ↦ absurd (fresh b n old g (sym m ∙ ap (λ x. x.key.merchant) (sym new))
+          (ap (λ x. x.reference) new ∙ e))
       | inr newer ↦ sym new ∙ newer
     ]
   ];
@@ -207,13 +228,15 @@ well_formed_with_row day merchants rows row k f = record {
   ];
   admissible = λ a n i e. elim (In-push a rows row i) [
     | inl old ↦ k.admissible a n old e
-    | inr new ↦ subst (λ x. is_admissible x.key.service ≡ true) new (f.admissible n (ap (λ x. x.reference) new ∙ e))
+    | inr new ↦ subst (λ x. is_admissible x.key.service ≡ true) new
+        (f.admissible n (ap (λ x. x.reference) new ∙ e))
   ];
   held = λ a n i c. elim (In-push a rows row i) [
     | inl old ↦ IsHeld-push rows row a.key.merchant n (k.held a n old c)
     | inr new ↦
         subst (λ x. IsHeld (rows ++ row ∷ []) x.key.merchant n) new
-        (IsHeld-push rows row row.key.merchant n (f.held n (subst (λ x. IsCompleting x x.key.merchant n) (sym new) c)))
+        (IsHeld-push rows row row.key.merchant n
+        (f.held n (subst (λ x. IsCompleting x x.key.merchant n) (sym new) c)))
   ];
   one_completion = λ a b n i j c d. elim (In-push a rows row i) [
     | inl old ↦ elim (In-push b rows row j) [
@@ -244,7 +267,8 @@ well_formed_with_row day merchants rows row k f = record {
   ];
   legs = λ a i s. elim (In-push a rows row i) [
     | inl old ↦ k.legs a old s
-    | inr new ↦ subst (λ x. is_reversal_leg x.leg ≡ false) new (f.leg (ap (λ x. is_reversal x.key.service) new ∙ s))
+    | inr new ↦ subst (λ x. is_reversal_leg x.leg ≡ false) new
+        (f.leg (ap (λ x. is_reversal x.key.service) new ∙ s))
   ];
   days = λ a i. elim (In-push a rows row i) [
     | inl old ↦ k.days a old
@@ -252,13 +276,16 @@ well_formed_with_row day merchants rows row k f = record {
   ];
 }
   where
-    fresh : (a : Request) (n : ℕ) → In a rows → a.reference ≡ Some n → a.key.merchant ≡ row.key.merchant →
+    fresh : (a : Request) (n : ℕ) → In a rows → a.reference ≡ Some n →
+        a.key.merchant ≡ row.key.merchant →
         row.reference ≡ Some n → ⊥
     fresh a n i e m g =
-        not_next merchants rows row.key.merchant n (subst (λ x. IsGiven merchants rows x n) m (k.given a n i e))
+        not_next merchants rows row.key.merchant n
+        (subst (λ x. IsGiven merchants rows x n) m (k.given a n i e))
         (f.next n g)
 
-    just_given : (n : ℕ) → row.reference ≡ Some n → IsGiven merchants (rows ++ row ∷ []) row.key.merchant n
+    just_given : (n : ℕ) → row.reference ≡ Some n →
+        IsGiven merchants (rows ++ row ∷ []) row.key.merchant n
     just_given n e =
         let x = f.next n e in
         let next = x.next in
@@ -286,7 +313,8 @@ pub record IsReplaced (rows later : List Request) (p q : Request) : Type 0 where
   pub admitted : (m : List ℕ) → admitted_by m later ≡ admitted_by m rows
 
 -- with a row changed
-pub well_formed_changed : (day : ℕ) (merchants : List Merchant) (rows later : List Request) (p q : Request) →
+pub well_formed_changed : (day : ℕ) (merchants : List Merchant) (rows later : List Request)
+    (p q : Request) →
     In p rows → IsChange p q → (p.status ≡ Completed → ⊥) → IsReplaced rows later p q →
     IsWellFormed day merchants rows → IsWellFormed day merchants later
 well_formed_changed day merchants rows later p q member c incomplete r k = record {
@@ -306,14 +334,16 @@ well_formed_changed day merchants rows later p q member c incomplete r k = recor
       | inr new ↦
           absurd (old.1
           (ap (λ x. x.key)
-          (k.references a p n old.0 member (m ∙ (ap (λ x. x.key.merchant) (sym new) ∙ ap (λ x. x.merchant) c.key)) e
+          (k.references a p n old.0 member
+          (m ∙ (ap (λ x. x.key.merchant) (sym new) ∙ ap (λ x. x.merchant) c.key)) e
           (sym c.reference ∙ (ap (λ x. x.reference) new ∙ g)))))
     ]
     | inr new ↦ elim (r.before b j) [
       | inl old ↦
           absurd (old.1
           (ap (λ x. x.key)
-          (k.references b p n old.0 member (sym m ∙ (ap (λ x. x.key.merchant) (sym new) ∙ ap (λ x. x.merchant) c.key)) g
+          (k.references b p n old.0 member
+          (sym m ∙ (ap (λ x. x.key.merchant) (sym new) ∙ ap (λ x. x.merchant) c.key)) g
           (sym c.reference ∙ (ap (λ x. x.reference) new ∙ e)))))
       | inr newer ↦ sym new ∙ newer
     ]
@@ -322,13 +352,15 @@ well_formed_changed day merchants rows later p q member c incomplete r k = recor
     | inl old ↦ still a.key.merchant n (k.given a n old.0 e)
     | inr new ↦
         still a.key.merchant n
-        (subst (λ m. IsGiven merchants rows m n) (sym (ap (λ x. x.merchant) c.key) ∙ ap (λ x. x.key.merchant) new)
+        (subst (λ m. IsGiven merchants rows m n)
+        (sym (ap (λ x. x.merchant) c.key) ∙ ap (λ x. x.key.merchant) new)
         (k.given p n member (sym c.reference ∙ (ap (λ x. x.reference) new ∙ e))))
   ];
   admissible = λ a n i e. elim (r.before a i) [
     | inl old ↦ k.admissible a n old.0 e
     | inr new ↦
-        subst (λ s. is_admissible s ≡ true) (sym (ap (λ x. x.service) c.key) ∙ ap (λ x. x.key.service) new)
+        subst (λ s. is_admissible s ≡ true)
+        (sym (ap (λ x. x.service) c.key) ∙ ap (λ x. x.key.service) new)
         (k.admissible p n member (sym c.reference ∙ (ap (λ x. x.reference) new ∙ e)))
   ];
   held = λ a n i d. elim (r.before a i) [
@@ -338,19 +370,27 @@ well_formed_changed day merchants rows later p q member c incomplete r k = recor
         (subst (λ m. IsHeld rows m n) (same_merchant a new)
         (k.held p n member
         (earlier a p.key.merchant n new
-        (record { merchant = sym (same_merchant a new); service = d.service; follows = d.follows }))))
+        (record {
+          merchant = sym (same_merchant a new);
+          service = d.service;
+          follows =
+              d.follows;
+        }))))
   ];
   one_completion = λ a b n i j d e. elim (r.before a i) [
     | inl old ↦ elim (r.before b j) [
       | inl older ↦ k.one_completion a b n old.0 older.0 d e
       | inr new ↦
-          absurd (old.1 (ap (λ x. x.key) (k.one_completion a p n old.0 member d (earlier b a.key.merchant n new e))))
+          absurd (old.1
+          (ap (λ x. x.key)
+          (k.one_completion a p n old.0 member d (earlier b a.key.merchant n new e))))
     ]
     | inr new ↦ elim (r.before b j) [
       | inl old ↦
           absurd (old.1
           (ap (λ x. x.key)
-          (k.one_completion b p n old.0 member (record { merchant = refl; service = e.service; follows = e.follows })
+          (k.one_completion b p n old.0 member
+          (record { merchant = refl; service = e.service; follows = e.follows })
           (earlier a b.key.merchant n new
           (record { merchant = sym e.merchant; service = d.service; follows = d.follows })))))
       | inr newer ↦ sym new ∙ newer
@@ -360,7 +400,8 @@ well_formed_changed day merchants rows later p q member c incomplete r k = recor
     | inl old ↦ k.legs a old.0 s
     | inr new ↦
         subst (λ l. is_reversal_leg l ≡ false) (sym c.leg ∙ ap (λ x. x.leg) new)
-        (k.legs p member (ap is_reversal (ap (λ x. x.service) (sym c.key) ∙ ap (λ x. x.key.service) new) ∙ s))
+        (k.legs p member
+        (ap is_reversal (ap (λ x. x.service) (sym c.key) ∙ ap (λ x. x.key.service) new) ∙ s))
   ];
   days = λ a i. elim (r.before a i) [
     | inl old ↦ k.days a old.0
@@ -423,8 +464,10 @@ admitted-changed m u k r (x ∷ xs) =
     ]
 
 -- the rows in which the one with a key was changed
-pub replaced : (day : ℕ) (merchants : List Merchant) (rows : List Request) (p : Request) (key : RequestKey)
-    (changed : Request → Request) → In p rows → p.key ≡ key → ((x : Request) → (changed x).key ≡ x.key) →
+pub replaced : (day : ℕ) (merchants : List Merchant) (rows : List Request) (p : Request)
+    (key : RequestKey)
+    (changed : Request → Request) → In p rows → p.key ≡ key →
+    ((x : Request) → (changed x).key ≡ x.key) →
     ((x : Request) → (changed x).reference ≡ x.reference) → IsWellFormed day merchants rows →
     IsReplaced rows (with_changed key changed rows) p (changed p)
 replaced day merchants rows p key changed member same k r kept = record {
@@ -447,7 +490,8 @@ replaced day merchants rows p key changed member same k r kept = record {
     step : (x : Request) → In x rows → (b : Bool) → same_key x.key key ≡ b →
         In x (with_changed key changed rows) ⊎ (p ≡ x)
     step x i true e = inr (kept.keys p x member i (same ∙ sym (same_key_is x.key key e)))
-    step x i false e = inl (subst (λ y. In y (map u rows)) (ap (λ b. cond b (changed x) x) e) (In-map u x rows i))
+    step x i false e =
+        inl (subst (λ y. In y (map u rows)) (ap (λ b. cond b (changed x) x) e) (In-map u x rows i))
 
     cond_key : (x : Request) (b : Bool) → (cond b (changed x) x).key ≡ x.key
     cond_key x true = k x

@@ -8,7 +8,8 @@ use Rattle.acq_front.proofs.ServedWeaker.{serves_weaker}
 use Rattle.acq_front.specs.Talk.{Saying}
 use Rattle.acq_commands.specs.Listening.{Served, ServesOne, ServesEach}
 
-pub one_more : (may_give : ℕ → Type 0) (may_say : Saying) (old mid new : Tables) (all : List Served) (s : Served) →
+pub one_more : (may_give : ℕ → Type 0) (may_say : Saying) (old mid new : Tables) (all : List Served)
+    (s : Served) →
     ServesEach may_give may_say old mid all → ServesOne may_give may_say mid (Unit {0}) new s →
     ServesEach may_give may_say old new (all ++ s ∷ [])
 one_more may_give may_say old mid new [] s same one =
@@ -16,7 +17,8 @@ one_more may_give may_say old mid new [] s same one =
 one_more may_give may_say old mid new (first ∷ later) s so one =
     (so.0, so.1, one_more may_give may_say so.0 mid new later s so.2 one)
 
--- one connection, where clock and issuer might have given more, and the book stays open in fewer cases
+-- one connection, where clock and issuer might have given more, and the book stays open in fewer
+-- cases
 pub weaker_one : (later may_give : ℕ → Type 0) → ((m : ℕ) → later m → may_give m) →
     (said may_say : Saying) → ((q : Query) (v : Verdict) → said q v → may_say q v) →
     (stays still : Type 0) → (still → stays) → (old new : Tables) (s : Served) →

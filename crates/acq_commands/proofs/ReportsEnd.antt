@@ -10,11 +10,13 @@ use Rattle.acq_commands.specs.DayReports.{Takes, WritesReports, told}
 use Rattle.acq_commands.specs.Replay.{AfterReading}
 use Rattle.acq_commands.specs.Runs.{EndsReports}
 
-pub ends_reports : (opening : Opening) (book : Tables) (reports : List DayReport) (text sent after : List ℕ)
+pub ends_reports : (opening : Opening) (book : Tables) (reports : List DayReport)
+    (text sent after : List ℕ)
     (taken ended : Result (Unit {0}) Fault)
     → Takes (λ t. t) (λ t. Unit {0}) (new_tables opening) book text taken
     → IfErr taken (λ cause. (ended ≡ Err cause) × (after ≡ sent))
-    → OnOk taken (Unit {0} → Unit {0} → (written : Result (Unit {0}) ReportFault) × (ended ≡ told written)
+    → OnOk taken (Unit {0} → Unit {0} →
+    (written : Result (Unit {0}) ReportFault) × (ended ≡ told written)
     × WritesReports book reports sent after written)
     → EndsReports opening reports text sent after ended
 ends_reports opening book reports text sent after (Ok u) ended takes stopped written =
@@ -31,6 +33,8 @@ any_end result whole h = h
 
 -- what is said of how the events ended is said of how the reports did
 pub still_after : (taken result : Result (Unit {0}) Fault) (whole Unwritten : Type 0) →
-    AfterReading taken whole → IfErr taken (λ cause. (result ≡ Err cause) × Unwritten) → AfterReading result whole
+    AfterReading taken whole → IfErr taken (λ cause. (result ≡ Err cause) × Unwritten) →
+    AfterReading result whole
 still_after (Ok u) result whole Unwritten after stopped = any_end result whole after
-still_after (Err cause) result whole Unwritten after stopped = subst (λ r. AfterReading r whole) (sym stopped.0) after
+still_after (Err cause) result whole Unwritten after stopped = subst (λ r. AfterReading r whole)
+    (sym stopped.0) after

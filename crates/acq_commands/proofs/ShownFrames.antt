@@ -1,5 +1,6 @@
 -- What is shown of frames, one after another.
-use Rattle.std.proofs.Common.{◌≡◌, ℕ, true, List, [], ◌∷◌, ◌++◌, refl, sym, ap, ◌∙◌, append-nil, inl, Err}
+use Rattle.std.proofs.Common.{◌≡◌, ℕ, true, List, [], ◌∷◌, ◌++◌, refl, sym, ap, ◌∙◌, append-nil}
+use Rattle.std.proofs.Common.{inl, Err}
 use Rattle.std.proofs.lemmas.List.Concat.{flat_map-append}
 use Rattle.acq_link.specs.Frames.{fits_frame, frame}
 use Rattle.acq_link.specs.declared.input_fault.InputFault as input
@@ -24,9 +25,11 @@ shows_more bytes out rest message later messages so front fits = record {
 }
 
 -- all frames
-pub shows_all : (bytes out rest : List ℕ) (messages : List (List ℕ)) → ShowsFirst bytes out messages rest →
+pub shows_all : (bytes out rest : List ℕ) (messages : List (List ℕ)) →
+    ShowsFirst bytes out messages rest →
     rest ≡ [] → ShowsAll bytes out
-shows_all bytes out rest messages so empty = (messages, taken_all bytes rest messages so.taken empty, so.given)
+shows_all bytes out rest messages so empty =
+    (messages, taken_all bytes rest messages so.taken empty, so.given)
 
 -- the input could not be read, so nothing was shown
 pub input_unshown : (form : InputForm) (e : input.InputFault) (bytes : List ℕ) →

@@ -22,8 +22,8 @@ pub enum Fault {
     Memory,
     /// 2: a call of the store failed, or gave rows that break the bounds of their columns.
     Store,
-    /// 23: the record of the file of issuers' answers with this number, counted from 1, is out of its
-    /// form.
+    /// 23: the record of the file of issuers' answers with this number, counted from 1, is out of
+    /// its form.
     BadAnswer(u64),
     /// 37: the merchant isn't enrolled.
     NoSuchMerchant,

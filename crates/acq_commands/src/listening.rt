@@ -40,9 +40,9 @@ pub fn listen_on<B: Book + Drop, N: Connections, C: Clock, I: Issuer, F: Sink>(
     ended
 }
 
-/// Serves so many connections over a book, many at once. A connection's fault is a line of `faults`,
-/// and the others go on; want of memory and a fault of the store end it. The book is given back at
-/// the end.
+/// Serves so many connections over a book, many at once. A connection's fault is a line of
+/// `faults`, and the others go on; want of memory and a fault of the store end it. The book is
+/// given back at the end.
 pub fn listen_together_on<B: Book + Drop, N: Gathering, C: Clock, I: Issuer, F: Sink>(
     alloc: Global,
     book: B,

@@ -14,9 +14,9 @@ use acq_link::{Front, Sink, Source, frame_at, read_to_end, write_out};
 use acq_show::show_message;
 use std::alloc::{AllocError, Global};
 
-/// Reads the whole input, and then writes what a person is shown of each message of it, and an empty
-/// line behind each. What spells no message is shown by what is wrong with it, and the next message
-/// all the same.
+/// Reads the whole input, and then writes what a person is shown of each message of it, and an
+/// empty line behind each. What spells no message is shown by what is wrong with it, and the next
+/// message all the same.
 pub fn show<S: Source, K: Sink>(
     alloc: Global,
     form: InputForm,

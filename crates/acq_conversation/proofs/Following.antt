@@ -1,5 +1,7 @@
 -- Each connection follows the log of one host.
-use Rattle.std.proofs.Common.{◌≡◌, ◌≢◌, ◌==◌, ℕ, Bool, true, false, List, [], ◌∷◌, ◌++◌, take, drop, cond, refl, sym, ap, subst, ◌∙◌, append_assoc, append-nil, take-append-drop, arith}
+use Rattle.std.proofs.Common.{◌≡◌, ◌≢◌, ◌==◌, ℕ, Bool, true, false, List, [], ◌∷◌, ◌++◌, take, drop}
+use Rattle.std.proofs.Common.{cond, refl, sym, ap, subst, ◌∙◌, append_assoc, append-nil}
+use Rattle.std.proofs.Common.{take-append-drop, arith}
 use Rattle.std.specs.Prelude.{map}
 use Rattle.std.specs.List.{flat_map}
 use Rattle.std.proofs.lemmas.Bool.{and_from}
@@ -21,7 +23,8 @@ use Rattle.acq_front.proofs.Served.{all-append}
 use Rattle.acq_front.specs.Coming.{next_or, later_than}
 use Rattle.acq_front.specs.Talk.{Taking, first_moment, replies, reply_in, taking_said}
 use Rattle.acq_front.specs.Turns.{Makes}
-use Rattle.acq_conversation.specs.Log.{Entry, Follows, after_log, by, events_of, message_in, messages_by, only, replies_to}
+use Rattle.acq_conversation.specs.Log.{Entry, Follows, after_log, by, events_of, message_in}
+use Rattle.acq_conversation.specs.Log.{messages_by, only, replies_to}
 
 same : (k : ℕ) → (k == k) ≡ true
 same k = grind (arith, nat_tests)
@@ -32,12 +35,14 @@ differs j k h = grind (arith, nat_tests)
 only_own : {X : Type 0} (k : ℕ) (event : Event) (xs : List X) → only k (by k event) xs ≡ xs
 only_own k event xs = ap (λ (b : Bool). cond b xs []) (same k)
 
-only_other : {X : Type 0} (j k : ℕ) (event : Event) (xs : List X) → j ≢ k → only k (by j event) xs ≡ []
+only_other : {X : Type 0} (j k : ℕ) (event : Event) (xs : List X) → j ≢ k →
+    only k (by j event) xs ≡ []
 only_other j k event xs h = ap (λ (b : Bool). cond b xs []) (differs j k h)
 
 -- ---- the messages of a log
 
-messages_own : (k : ℕ) (events : List Event) → messages_by k (map (by k) events) ≡ flat_map message_in events
+messages_own : (k : ℕ) (events : List Event) →
+    messages_by k (map (by k) events) ≡ flat_map message_in events
 messages_own k [] = refl
 messages_own k (e ∷ events) =
     ap (λ (l : List (List ℕ)). l ++ messages_by k (map (by k) events)) (only_own k e (message_in e))
@@ -46,35 +51,44 @@ messages_own k (e ∷ events) =
 messages_other : (j k : ℕ) (events : List Event) → j ≢ k → messages_by k (map (by j) events) ≡ []
 messages_other j k [] h = refl
 messages_other j k (e ∷ events) h =
-    ap (λ (l : List (List ℕ)). l ++ messages_by k (map (by j) events)) (only_other j k e (message_in e) h)
+    ap (λ (l : List (List ℕ)). l ++ messages_by k (map (by j) events))
+    (only_other j k e (message_in e) h)
     ∙ messages_other j k events h
 
-messages-append : (k : ℕ) (log more : List Entry) → messages_by k (log ++ more) ≡ messages_by k log ++ messages_by k more
+messages-append : (k : ℕ) (log more : List Entry) →
+    messages_by k (log ++ more) ≡ messages_by k log ++ messages_by k more
 messages-append k log more = flat_map-append (λ (e : Entry). only k e (message_in e.event)) log more
 
 -- what a message makes brings this message alone
-brought : (t : Tables) (moment : ℕ) (message : List ℕ) (o : Output) (moments : List ℕ) (verdicts : List Verdict) →
-    flat_map message_in (taking_said t (Frame moment message) o moments verdicts).events ≡ message ∷ []
+brought : (t : Tables) (moment : ℕ) (message : List ℕ) (o : Output) (moments : List ℕ)
+    (verdicts : List Verdict) →
+    flat_map message_in (taking_said t (Frame moment message) o moments verdicts).events ≡ message
+    ∷ []
 brought t moment message (Ask query) moments verdicts = refl
 brought t moment message o moments verdicts = refl
 
-makes_brings : (t : Tables) (message moments : List ℕ) (verdicts : List Verdict) (events : List Event) →
+makes_brings : (t : Tables) (message moments : List ℕ) (verdicts : List Verdict)
+    (events : List Event) →
     Makes t message moments verdicts events → flat_map message_in events ≡ message ∷ []
 makes_brings t message moments verdicts events makes =
     let moment = next_or first_moment (moments ++ []) in
     sym (ap (λ (x : Taking). flat_map message_in x.events) (makes [] []))
-    ∙ brought t moment message (step_output t (arrival_of (Frame moment message))) (later_than (moments ++ [])) (verdicts ++ [])
+    ∙ brought t moment message (step_output t (arrival_of (Frame moment message)))
+    (later_than (moments ++ [])) (verdicts ++ [])
 
 -- ---- the replies of a log
 
-replies_own : (k : ℕ) (t : Tables) (events : List Event) → replies_to k t (map (by k) events) ≡ replies t events
+replies_own : (k : ℕ) (t : Tables) (events : List Event) →
+    replies_to k t (map (by k) events) ≡ replies t events
 replies_own k t [] = refl
 replies_own k t (e ∷ events) =
     ap (λ (l : List (List ℕ)). l ++ replies_to k (step_tables t (arrival_of e)) (map (by k) events))
     (only_own k e (reply_in (step_output t (arrival_of e))))
-    ∙ ap (λ (l : List (List ℕ)). reply_in (step_output t (arrival_of e)) ++ l) (replies_own k (step_tables t (arrival_of e)) events)
+    ∙ ap (λ (l : List (List ℕ)). reply_in (step_output t (arrival_of e)) ++ l)
+    (replies_own k (step_tables t (arrival_of e)) events)
 
-replies_other : (j k : ℕ) (t : Tables) (events : List Event) → j ≢ k → replies_to k t (map (by j) events) ≡ []
+replies_other : (j k : ℕ) (t : Tables) (events : List Event) → j ≢ k →
+    replies_to k t (map (by j) events) ≡ []
 replies_other j k t [] h = refl
 replies_other j k t (e ∷ events) h =
     ap (λ (l : List (List ℕ)). l ++ replies_to k (step_tables t (arrival_of e)) (map (by j) events))
@@ -108,27 +122,34 @@ after_more k t log events =
 pub follows_none : (k : ℕ) (t : Tables) → Follows k t [] [] [] [] []
 follows_none k t = record { came = record { each = refl; whole = refl }; written = refl }
 
-pub follows_fed : (k : ℕ) (t : Tables) (log : List Entry) (input output held unsent piece : List ℕ) →
-    Follows k t log input output held unsent → Follows k t log (input ++ piece) output (held ++ piece) unsent
+pub follows_fed : (k : ℕ) (t : Tables) (log : List Entry)
+    (input output held unsent piece : List ℕ) →
+    Follows k t log input output held unsent →
+    Follows k t log (input ++ piece) output (held ++ piece) unsent
 follows_fed k t log input output held unsent piece f = record {
   came = record {
     each = f.came.each;
-    whole = ap (λ (l : List ℕ). l ++ piece) f.came.whole ∙ append_assoc (framed (messages_by k log)) held piece;
+    whole = ap (λ (l : List ℕ). l ++ piece) f.came.whole
+        ∙ append_assoc (framed (messages_by k log)) held piece;
   };
   written = f.written;
 }
 
-pub follows_written : (k : ℕ) (t : Tables) (log : List Entry) (input output held unsent : List ℕ) (n : ℕ) →
-    Follows k t log input output held unsent → Follows k t log input (output ++ take n unsent) held (drop n unsent)
+pub follows_written : (k : ℕ) (t : Tables) (log : List Entry) (input output held unsent : List ℕ)
+    (n : ℕ) →
+    Follows k t log input output held unsent →
+    Follows k t log input (output ++ take n unsent) held (drop n unsent)
 follows_written k t log input output held unsent n f = record {
   came = f.came;
   written = append_assoc output (take n unsent) (drop n unsent)
       ∙ ap (λ (l : List ℕ). output ++ l) (take-append-drop n unsent) ∙ f.written;
 }
 
-module _ (k : ℕ) (t : Tables) (log : List Entry) (input output held left unsent message moments : List ℕ)
+module _ (k : ℕ) (t : Tables) (log : List Entry)
+    (input output held left unsent message moments : List ℕ)
     (verdicts : List Verdict) (events : List Event) (f : Follows k t log input output held [])
-    (begins : BeginsWithFrame held message left) (makes : Makes (after_log t log) message moments verdicts events)
+    (begins : BeginsWithFrame held message left)
+    (makes : Makes (after_log t log) message moments verdicts events)
     (frames : Frames unsent (replies (after_log t log) events)) where
   abbrev more : List Entry
   more = map (by k) events
@@ -141,7 +162,8 @@ module _ (k : ℕ) (t : Tables) (log : List Entry) (input output held left unsen
 
   came_more : FramesThen input (messages_by k log ++ message ∷ []) left
   came_more = record {
-    each = all-append fits_frame (messages_by k log) (message ∷ []) f.came.each (and_from (fits_frame message) true begins.fits refl);
+    each = all-append fits_frame (messages_by k log) (message ∷ []) f.came.each
+        (and_from (fits_frame message) true begins.fits refl);
     whole = f.came.whole ∙ ap (λ (l : List ℕ). framed (messages_by k log) ++ l) begins.whole
         ∙ sym (append_assoc (framed (messages_by k log)) (frame message) left)
         ∙ ap (λ (l : List ℕ). l ++ left) (sym (framed-push (messages_by k log) message));
@@ -153,7 +175,8 @@ module _ (k : ℕ) (t : Tables) (log : List Entry) (input output held left unsen
       ap (λ (l : List ℕ). l ++ unsent) before
       ∙ ap (λ (l : List ℕ). framed (replies_to k t log) ++ l) frames.whole
       ∙ sym (framed-append (replies_to k t log) (replies (after_log t log) events))
-      ∙ ap framed (ap (λ (l : List (List ℕ)). replies_to k t log ++ l) (sym (replies_own k (after_log t log) events))
+      ∙ ap framed (ap (λ (l : List (List ℕ)). replies_to k t log ++ l)
+      (sym (replies_own k (after_log t log) events))
       ∙ sym (replies_to-append k t log more))
 
   pub follows_took : Follows k t (log ++ more) input output left unsent
@@ -166,15 +189,19 @@ pub tables_more : (k : ℕ) (t new : Tables) (log : List Entry) (events : List E
     new ≡ tables_after (after_log t log) events → new ≡ after_log t (log ++ map (by k) events)
 tables_more k t new log events is = is ∙ sym (after_more k t log events)
 
-pub follows_other : (j k : ℕ) (t : Tables) (log : List Entry) (input output held unsent : List ℕ) (events : List Event) →
-    Follows k t log input output held unsent → j ≢ k → Follows k t (log ++ map (by j) events) input output held unsent
+pub follows_other : (j k : ℕ) (t : Tables) (log : List Entry) (input output held unsent : List ℕ)
+    (events : List Event) →
+    Follows k t log input output held unsent → j ≢ k →
+    Follows k t (log ++ map (by j) events) input output held unsent
 follows_other j k t log input output held unsent events f h =
     let messages : messages_by k (log ++ map (by j) events) ≡ messages_by k log =
     messages-append k log (map (by j) events)
-    ∙ ap (λ (l : List (List ℕ)). messages_by k log ++ l) (messages_other j k events h) ∙ append-nil (messages_by k log) in
+    ∙ ap (λ (l : List (List ℕ)). messages_by k log ++ l) (messages_other j k events h)
+    ∙ append-nil (messages_by k log) in
     let said : replies_to k t (log ++ map (by j) events) ≡ replies_to k t log =
     replies_to-append k t log (map (by j) events)
-    ∙ ap (λ (l : List (List ℕ)). replies_to k t log ++ l) (replies_other j k (after_log t log) events h)
+    ∙ ap (λ (l : List (List ℕ)). replies_to k t log ++ l)
+    (replies_other j k (after_log t log) events h)
     ∙ append-nil (replies_to k t log) in
     record {
       came = subst (λ (l : List (List ℕ)). FramesThen input l held) (sym messages) f.came;

@@ -8,7 +8,8 @@ use Rattle.acq_front.specs.Talk.{Saying}
 use Rattle.acq_front.specs.declared.front_fault.FrontFault as fault
 use Rattle.acq_conversation.specs.Turns.{Steps, TakesNext, TookNothing}
 
-module _ (may_give : ℕ → Type 0) (may_say : Saying) (old : Tables) (stays_open : Type 0) (new : Tables) (held left unsent : List ℕ) where
+module _ (may_give : ℕ → Type 0) (may_say : Saying) (old : Tables) (stays_open : Type 0)
+    (new : Tables) (held left unsent : List ℕ) where
   -- no message could be taken out
   pub no_message : (e : deframe.DeframeFault) → TookNothing old new held left unsent →
       (e ≡ deframe.TheVariants.BadLength → has_bad_length held ≡ true) →
@@ -17,7 +18,8 @@ module _ (may_give : ℕ → Type 0) (may_say : Saying) (old : Tables) (stays_op
   no_message deframe.TheVariants.Memory none bad = inl none
 
   -- a message stopped the connection
-  pub message_stops : (f : fault.FrontFault) → TakesNext may_give may_say old stays_open new held left unsent (Err f) →
+  pub message_stops : (f : fault.FrontFault) →
+      TakesNext may_give may_say old stays_open new held left unsent (Err f) →
       Steps may_give may_say old stays_open new held left unsent (Err f)
   message_stops fault.TheVariants.Memory next = inr next
   message_stops fault.TheVariants.Store next = next

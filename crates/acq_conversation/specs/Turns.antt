@@ -52,7 +52,8 @@ module _ (may_give : ℕ → Type 0) (may_say : Saying) (old : Tables) (stays_op
   Steps held left unsent (Err f) = TakesNext held left unsent (Err f)
 
 -- Where no message could be taken, what stands in front: nothing or a frame that is begun, and then
--- nothing is to be written; or a bad length. Whether the input ended, and whether it could be read, is
+-- nothing is to be written; or a bad length. Whether the input ended, and whether it could be read,
+-- is
 -- not known here.
 abbrev pub StopsAt : List ℕ → List ℕ → Result Turn fault.FrontFault → Type 0
 StopsAt held unsent (Ok Waits) = MayBecomeFrame held × (unsent ≡ [])

@@ -15,8 +15,8 @@ use acq_host::Host;
 use acq_link::Deframer;
 use std::alloc::Global;
 
-/// One end of a connection: what came and belongs to no message yet, and what of a reply is still to
-/// be written. It takes memory for one message at a time.
+/// One end of a connection: what came and belongs to no message yet, and what of a reply is still
+/// to be written. It takes memory for one message at a time.
 #[derive(Drop)]
 pub struct Conversation {
     input: Deframer,

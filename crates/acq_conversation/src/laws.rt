@@ -11,9 +11,9 @@ ghost use Rattle.acq_front.specs.Talk.{replies};
 ghost use Rattle.acq_front.specs.Turns.{Makes};
 ghost use Rattle.acq_conversation.specs.Log.{Entry, Follows, after_log, by, events_of};
 
-/// Each connection follows the log of one host, whatever the pieces in which it is read and written,
-/// and whatever happens on the others: so what it gets are the replies to its own frames, among the
-/// events that stood between them.
+/// Each connection follows the log of one host, whatever the pieces in which it is read and
+/// written, and whatever happens on the others: so what it gets are the replies to its own frames,
+/// among the events that stood between them.
 pub fn conversations_follow()
     // At first.
     ensures nothing { (k : ℕ) (t : Tables) → Follows k t [] [] [] [] [] }
@@ -27,7 +27,8 @@ pub fn conversations_follow()
         (input output held unsent : List ℕ) (n : ℕ)
         → Follows k t log input output held unsent
         → Follows k t log input (output ++ take n unsent) held (drop n unsent) }
-    // It took a message, and perhaps its issuer's answer: `Answered` says what is asked of them here.
+    // It took a message, and perhaps its issuer's answer: `Answered` says what is asked of them
+    // here.
     ensures took { (k : ℕ) (t : Tables) (log : List Entry)
         (input output held left unsent message moments : List ℕ) (verdicts : List Verdict)
         (events : List Event)

@@ -1,5 +1,6 @@
 -- Counts of rows when a row comes, and a look-up that ends with none.
-use Rattle.std.proofs.Common.{◌≡◌, ℕ, ◌+◌, List, [], ◌∷◌, ◌++◌, Option, Some, None, Bool, true, false, cond}
+use Rattle.std.proofs.Common.{◌≡◌, ℕ, ◌+◌, List, [], ◌∷◌, ◌++◌, Option, Some, None, Bool, true}
+use Rattle.std.proofs.Common.{false, cond}
 use Rattle.std.proofs.Common.{refl, ap, ◌∙◌}
 use Rattle.std.specs.Prelude.{◌&&◌}
 use Rattle.std.specs.Option.{option_or}
@@ -19,7 +20,8 @@ count-push p (x ∷ xs) y =
     ∙ swap (p x) (p y) (count p xs)
   where
     swap : (b c : Bool) (n : ℕ) →
-        cond b (1 + cond c (1 + n) n) (cond c (1 + n) n) ≡ cond c (1 + cond b (1 + n) n) (cond b (1 + n) n)
+        cond b (1 + cond c (1 + n) n) (cond c (1 + n) n) ≡ cond c (1 + cond b (1 + n) n)
+        (cond b (1 + n) n)
     swap true true n = refl
     swap true false n = refl
     swap false true n = refl

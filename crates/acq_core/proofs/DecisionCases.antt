@@ -1,5 +1,7 @@
--- By cases over a decision: what holds in each case that the checks can end in holds of what is decided.
-use Rattle.std.proofs.Common.{◌≡◌, ℕ, ◌+◌, List, [], ◌∷◌, Option, Some, None, Bool, true, false, ◌⊎◌, inl, inr, refl, sym, ◌∙◌}
+-- By cases over a decision: what holds in each case that the checks can end in holds of what is
+-- decided.
+use Rattle.std.proofs.Common.{◌≡◌, ℕ, ◌+◌, List, [], ◌∷◌, Option, Some, None, Bool, true, false}
+use Rattle.std.proofs.Common.{◌⊎◌, inl, inr, refl, sym, ◌∙◌}
 use Rattle.std.specs.Prelude.{not, nat_lt, ◌==◌, if◌then◌else◌}
 use Rattle.std.specs.List.{list_all}
 use Rattle.std.specs.Str.{bytes_eq}
@@ -8,7 +10,10 @@ use Rattle.iso_codec.specs.Message.{IsoMessage, content_of}
 use Rattle.card_no.specs.declared.range.Range.{Range}
 use Rattle.card_no.specs.CardNumbers.{is_valid_card}
 use Rattle.acq_message.specs.declared.service.Service.{Service}
-use Rattle.acq_message.specs.declared.service.Service.TheVariants.{Authorization, Financial, Completion, Reversal, ReversalAdvice, Reconciliation, NetworkManagement}
+use Rattle.acq_message.specs.declared.service.Service.TheVariants.{Authorization, Financial}
+use Rattle.acq_message.specs.declared.service.Service.TheVariants.{Completion, Reversal}
+use Rattle.acq_message.specs.declared.service.Service.TheVariants.{ReversalAdvice, Reconciliation}
+use Rattle.acq_message.specs.declared.service.Service.TheVariants.{NetworkManagement}
 use Rattle.acq_core.specs.declared.merchant.Merchant.{Merchant}
 use Rattle.acq_core.specs.declared.output.Output.{Output}
 use Rattle.acq_core.specs.declared.output.Output.TheVariants as output
@@ -22,7 +27,14 @@ use Rattle.acq_message.specs.declared.request_message.RequestMessage.{RequestMes
 use Rattle.acq_core.specs.Known.{Known, Prior, reconciled_day}
 use Rattle.acq_core.specs.declared.reply_state.ReplyState.{ReplyState}
 use Rattle.acq_core.specs.declared.reply_state.ReplyState.TheVariants.{Kept, Awaited, Late}
-use Rattle.acq_core.specs.Decision.{Decision, Reports, Replies, Refuses, Admits, Completes, Reverses, Reconciles, Answers, first_of, is_full, is_other_transaction, is_expired, is_open_at, open_hold, fits_acquirer, original_of, admission_in, admission, completion_of, completion, reversal_of, reconciliation_of, network_response, decision_by, repeat_of, decision_of_key, decision_of_merchant, decision_of_request, decision_of_reply_state, decision_of_prior, decision_of_answer}
+use Rattle.acq_core.specs.Decision.{Decision, Reports, Replies, Refuses, Admits, Completes}
+use Rattle.acq_core.specs.Decision.{Reverses, Reconciles, Answers, first_of, is_full}
+use Rattle.acq_core.specs.Decision.{is_other_transaction, is_expired, is_open_at, open_hold}
+use Rattle.acq_core.specs.Decision.{fits_acquirer, original_of, admission_in, admission}
+use Rattle.acq_core.specs.Decision.{completion_of, completion, reversal_of, reconciliation_of}
+use Rattle.acq_core.specs.Decision.{network_response, decision_by, repeat_of, decision_of_key}
+use Rattle.acq_core.specs.Decision.{decision_of_merchant, decision_of_request}
+use Rattle.acq_core.specs.Decision.{decision_of_reply_state, decision_of_prior, decision_of_answer}
 
 -- ---- requests
 
@@ -51,15 +63,18 @@ pub record RequestCases (k : Known) (r : RequestMessage) (P : Decision → Type 
   pub refused : (merchant : Merchant) → IsFresh k r merchant →
       (given : ResponseCode) → is_refusal given ≡ true → P (Refuses r given)
   pub admitted : (merchant : Merchant) → IsFresh k r merchant →
-      (r.service ≡ Authorization) ⊎ (r.service ≡ Financial) → (range : Range) → k.range ≡ Some range →
+      (r.service ≡ Authorization) ⊎ (r.service ≡ Financial) → (range : Range) →
+      k.range ≡ Some range →
       P (Admits r range (merchant.first_reference + k.admitted))
   pub completed : (merchant : Merchant) → IsFresh k r merchant → r.service ≡ Completion →
-      (hold : Prior) → k.referred ≡ Some hold → is_open_at r.moment hold.hold_end ≡ true → P (Completes r hold)
+      (hold : Prior) → k.referred ≡ Some hold → is_open_at r.moment hold.hold_end ≡ true →
+      P (Completes r hold)
   pub reversed : (merchant : Merchant) → IsFresh k r merchant →
       (r.service ≡ Reversal) ⊎ (r.service ≡ ReversalAdvice) →
       (p : Prior) → k.original ≡ Some p → p.is_reversible ≡ true → P (Reverses r p)
   pub reconciled : (merchant : Merchant) → IsFresh k r merchant → r.service ≡ Reconciliation →
-      (day : ℕ) → reconciled_day k.today (content_of r.message.elements 15) ≡ Some day → P (Reconciles r day)
+      (day : ℕ) → reconciled_day k.today (content_of r.message.elements 15) ≡ Some day →
+      P (Reconciles r day)
 
 -- one of the refusals, or what is accepted after them
 by_refusals : (P : Decision → Type 0) (r : RequestMessage) →
@@ -77,7 +92,8 @@ by_refusals P r (x ∷ xs) accepted refuse all accept =
 module _ (k : Known) (r : RequestMessage) (P : Decision → Type 0) (cases : RequestCases k r P) where
   -- ---- by service
 
-  by_range : (merchant : Merchant) → IsFresh k r merchant → (r.service ≡ Authorization) ⊎ (r.service ≡ Financial) →
+  by_range : (merchant : Merchant) → IsFresh k r merchant →
+      (r.service ≡ Authorization) ⊎ (r.service ≡ Financial) →
       (o : Option Range) → k.range ≡ o → P (admission_in k merchant r o)
   by_range merchant fresh service None is = cases.refused merchant fresh code.NoSuchIssuer refl
   by_range merchant fresh service (Some range) is =
@@ -103,12 +119,14 @@ module _ (k : Known) (r : RequestMessage) (P : Decision → Type 0) (cases : Req
   by_hold merchant fresh service None is = cases.refused merchant fresh code.RecordNotFound refl
   by_hold merchant fresh service (Some hold) is =
       let later : List (Bool × ResponseCode) =
-      (nat_lt hold.amount (amount_in r.message), code.InvalidAmount) ∷ (is_full k, code.LimitExceeded) ∷ [] in
+      (nat_lt hold.amount (amount_in r.message), code.InvalidAmount)
+      ∷ (is_full k, code.LimitExceeded) ∷ [] in
       let step : (b : Bool) → is_open_at r.moment hold.hold_end ≡ b →
       P (completion_of k r (if b then Some hold else None)) =
       elim [
         | true ↦ (λ opens. by_refusals P r later (Completes r hold)
-            (cases.refused merchant fresh) refl (cases.completed merchant fresh service hold is opens))
+            (cases.refused merchant fresh) refl
+            (cases.completed merchant fresh service hold is opens))
         | false ↦ (λ shut. cases.refused merchant fresh code.RecordNotFound refl)
       ] in
       step (is_open_at r.moment hold.hold_end) refl
@@ -129,12 +147,14 @@ module _ (k : Known) (r : RequestMessage) (P : Decision → Type 0) (cases : Req
   by_original merchant fresh service None is = cases.refused merchant fresh code.RecordNotFound refl
   by_original merchant fresh service (Some p) is =
       let later : List (Bool × ResponseCode) =
-      (not (amount_in r.message == p.amount), code.InvalidAmount) ∷ (is_full k, code.LimitExceeded) ∷ [] in
+      (not (amount_in r.message == p.amount), code.InvalidAmount) ∷ (is_full k, code.LimitExceeded)
+      ∷ [] in
       let reversal : (b : Bool) → p.is_reversible ≡ b →
       P (first_of r ((not b, code.NoActionTaken) ∷ later) (Reverses r p)) =
       elim [
         | true ↦ (λ reversible. by_refusals P r later (Reverses r p)
-            (cases.refused merchant fresh) refl (cases.reversed merchant fresh service p is reversible))
+            (cases.refused merchant fresh) refl
+            (cases.reversed merchant fresh service p is reversible))
         | false ↦ (λ reversible. cases.refused merchant fresh code.NoActionTaken refl)
       ] in
       elim (fits_acquirer (original_acquirer r.message) p.acquirer)
@@ -144,7 +164,8 @@ module _ (k : Known) (r : RequestMessage) (P : Decision → Type 0) (cases : Req
       ]
 
   by_day : (merchant : Merchant) → IsFresh k r merchant → r.service ≡ Reconciliation →
-      (o : Option ℕ) → reconciled_day k.today (content_of r.message.elements 15) ≡ o → P (reconciliation_of r o)
+      (o : Option ℕ) → reconciled_day k.today (content_of r.message.elements 15) ≡ o →
+      P (reconciliation_of r o)
   by_day merchant fresh service None is = cases.refused merchant fresh code.ReconcileError refl
   by_day merchant fresh service (Some day) is = cases.reconciled merchant fresh service day is
 
@@ -189,12 +210,15 @@ module _ (k : Known) (r : RequestMessage) (P : Decision → Type 0) (cases : Req
 
   by_recordable : (s : Service) → r.service ≡ s → P (decision_of_request s k r)
   by_recordable NetworkManagement is = cases.managed is
-  by_recordable Authorization is = by_merchant (λ n. absurd (let h = sym is ∙ n in cc)) k.merchant refl
+  by_recordable Authorization is = by_merchant (λ n. absurd (let h = sym is ∙ n in cc)) k.merchant
+      refl
   by_recordable Financial is = by_merchant (λ n. absurd (let h = sym is ∙ n in cc)) k.merchant refl
   by_recordable Completion is = by_merchant (λ n. absurd (let h = sym is ∙ n in cc)) k.merchant refl
   by_recordable Reversal is = by_merchant (λ n. absurd (let h = sym is ∙ n in cc)) k.merchant refl
-  by_recordable ReversalAdvice is = by_merchant (λ n. absurd (let h = sym is ∙ n in cc)) k.merchant refl
-  by_recordable Reconciliation is = by_merchant (λ n. absurd (let h = sym is ∙ n in cc)) k.merchant refl
+  by_recordable ReversalAdvice is = by_merchant (λ n. absurd (let h = sym is ∙ n in cc)) k.merchant
+      refl
+  by_recordable Reconciliation is = by_merchant (λ n. absurd (let h = sym is ∙ n in cc)) k.merchant
+      refl
 
   -- what holds in each case holds of what is decided on the request
   pub by_request : P (decision_of_request r.service k r)
@@ -202,10 +226,13 @@ module _ (k : Known) (r : RequestMessage) (P : Decision → Type 0) (cases : Req
 
 -- ---- answers
 
--- what is to be shown of each decision on an answer: it isn't taken, or it answers a pending request
-pub record AnswerCases (k : Known) (moment : ℕ) (verdict : Verdict) (P : Decision → Type 0) : Type 0 where
+-- what is to be shown of each decision on an answer: it isn't taken, or it answers a pending
+-- request
+pub record AnswerCases (k : Known) (moment : ℕ) (verdict : Verdict) (P : Decision →
+    Type 0) : Type 0 where
   pub not_taken : (o : Output) → P (Reports o)
-  pub taken : (p : Prior) (draft : IsoMessage) → k.referred ≡ Some p → p.reply_state ≡ Awaited draft →
+  pub taken : (p : Prior) (draft : IsoMessage) → k.referred ≡ Some p →
+      p.reply_state ≡ Awaited draft →
       P (Answers moment verdict p draft)
 
 module _ (k : Known) (moment : ℕ) (verdict : Verdict) (P : Decision → Type 0)

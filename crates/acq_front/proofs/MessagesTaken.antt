@@ -11,7 +11,8 @@ use Rattle.acq_core.specs.declared.output.Output.{Output}
 use Rattle.acq_core.specs.declared.output.Output.TheVariants.{Ask}
 use Rattle.acq_core.specs.Arrivals.{arrival_of}
 use Rattle.acq_core.specs.Tables.{Tables, step_output, step_tables, tables_after}
-use Rattle.acq_front.specs.Talk.{Taking, taking_said, reply_in, replies, query_for, queries, Saying, AreSaid}
+use Rattle.acq_front.specs.Talk.{Taking, taking_said, reply_in, replies, query_for, queries, Saying}
+use Rattle.acq_front.specs.Talk.{AreSaid}
 use Rattle.acq_front.specs.Turns.{Makes, TookMessage}
 
 -- the host asks for nothing
@@ -19,8 +20,16 @@ abbrev pub AsksNothing : Output → Type 0
 AsksNothing o = (query : Query) → o ≡ Ask query → ⊥
 
 -- what is said to one event, whatever comes later
-said_alone : (t : Tables) (e : Event) (o : Output) (later : List ℕ) (others : List Verdict) → AsksNothing o →
-    (let made : Taking = record { events = e ∷ []; tables = tables_after t (e ∷ []); moments = later; verdicts = others } in
+said_alone : (t : Tables) (e : Event) (o : Output) (later : List ℕ) (others : List Verdict) →
+    AsksNothing o →
+    (let made : Taking =
+    record {
+      events = e ∷ [];
+      tables = tables_after t (e ∷ []);
+      moments = later;
+      verdicts =
+          others;
+    } in
     taking_said t e o later others ≡ made)
 said_alone t e (Ask query) later others nothing = absurd (nothing query refl)
 said_alone t e o later others nothing = refl
@@ -34,7 +43,8 @@ makes_alone t moment message o is nothing = λ later others.
     ∙ said_alone t (Frame moment message) o later others nothing
 
 -- a message whose issuer is asked makes two
-pub makes_asking : (t : Tables) (moment next : ℕ) (message : List ℕ) (query : Query) (verdict : Verdict) →
+pub makes_asking : (t : Tables) (moment next : ℕ) (message : List ℕ) (query : Query)
+    (verdict : Verdict) →
     step_output t (arrival_of (Frame moment message)) ≡ Ask query →
     Makes t message (moment ∷ next ∷ []) (verdict ∷ [])
     (Frame moment message ∷ Answer next query.merchant query.reference verdict ∷ [])
@@ -43,11 +53,14 @@ makes_asking t moment next message query verdict is = λ later others.
 
 -- ---- replies
 
-pub replies_one : (t : Tables) (e : Event) (o : Output) → step_output t (arrival_of e) ≡ o → replies t (e ∷ []) ≡ reply_in o
+pub replies_one : (t : Tables) (e : Event) (o : Output) → step_output t (arrival_of e) ≡ o →
+    replies t (e ∷ []) ≡ reply_in o
 replies_one t e o is = append-nil (reply_in (step_output t (arrival_of e))) ∙ ap reply_in is
 
-pub replies_two : (t : Tables) (e d : Event) (query : Query) (o : Output) → step_output t (arrival_of e) ≡ Ask query →
-    step_output (step_tables t (arrival_of e)) (arrival_of d) ≡ o → replies t (e ∷ d ∷ []) ≡ reply_in o
+pub replies_two : (t : Tables) (e d : Event) (query : Query) (o : Output) →
+    step_output t (arrival_of e) ≡ Ask query →
+    step_output (step_tables t (arrival_of e)) (arrival_of d) ≡ o →
+    replies t (e ∷ d ∷ []) ≡ reply_in o
 replies_two t e d query o asks is =
     ap (λ (x : Output). reply_in x ++ replies (step_tables t (arrival_of e)) (d ∷ [])) asks
     ∙ replies_one (step_tables t (arrival_of e)) d o is
@@ -55,7 +68,8 @@ replies_two t e d query o asks is =
 pub frames_none : {rs : List (List ℕ)} → rs ≡ [] → Frames [] rs
 frames_none e = record { each = ap (list_all fits_frame) e; whole = ap framed (sym e) }
 
-pub frames_one : (text : List ℕ) (rs : List (List ℕ)) → rs ≡ text ∷ [] → fits_frame text ≡ true → Frames (frame text) rs
+pub frames_one : (text : List ℕ) (rs : List (List ℕ)) → rs ≡ text ∷ [] → fits_frame text ≡ true →
+    Frames (frame text) rs
 frames_one text rs e fits = record {
   each = ap (list_all fits_frame) e ∙ and_from (fits_frame text) true fits refl;
   whole = sym (append-nil (frame text)) ∙ ap framed (sym e);
@@ -69,11 +83,13 @@ asks_nothing e o nothing = refl
 
 module _ (may_say : Saying) where
   -- nobody is asked, and nothing said
-  pub said_nothing : (t : Tables) (e : Event) (o : Output) → step_output t (arrival_of e) ≡ o → AsksNothing o →
+  pub said_nothing : (t : Tables) (e : Event) (o : Output) → step_output t (arrival_of e) ≡ o →
+      AsksNothing o →
       AreSaid may_say (queries t (e ∷ [])) []
   said_nothing t e o is nothing =
       let none : queries t (e ∷ []) ≡ [] =
-      append-nil (query_for e (step_output t (arrival_of e))) ∙ ap (query_for e) is ∙ asks_nothing e o nothing in
+      append-nil (query_for e (step_output t (arrival_of e))) ∙ ap (query_for e) is
+      ∙ asks_nothing e o nothing in
       let nothing_said : AreSaid may_say [] [] = tt in
       rw (none) nothing_said
 
@@ -87,9 +103,12 @@ module _ (may_say : Saying) where
       let this : AreSaid may_say (query ∷ []) (verdict ∷ []) = (said, tt) in
       rw (one) this
 
-  pub said_two : (t : Tables) (moment next : ℕ) (message merchant : List ℕ) (reference : ℕ) (query : Query) (verdict : Verdict) →
+  pub said_two : (t : Tables) (moment next : ℕ) (message merchant : List ℕ) (reference : ℕ)
+      (query : Query) (verdict : Verdict) →
       step_output t (arrival_of (Frame moment message)) ≡ Ask query → may_say query verdict →
-      AreSaid may_say (queries t (Frame moment message ∷ Answer next merchant reference verdict ∷ [])) (verdict ∷ [])
+      AreSaid may_say
+      (queries t (Frame moment message ∷ Answer next merchant reference verdict ∷ []))
+      (verdict ∷ [])
   said_two t moment next message merchant reference query verdict is said =
       said_one t moment message query verdict is said
 
@@ -105,7 +124,8 @@ module _ (may_say : Saying) where
   }
 
   -- the message and its issuer's answer were taken
-  pub took_answer : (t mid new : Tables) (moment next : ℕ) (message : List ℕ) (query : Query) (verdict : Verdict) →
+  pub took_answer : (t mid new : Tables) (moment next : ℕ) (message : List ℕ) (query : Query)
+      (verdict : Verdict) →
       step_output t (arrival_of (Frame moment message)) ≡ Ask query →
       mid ≡ step_tables t (arrival_of (Frame moment message)) →
       new ≡ step_tables mid (arrival_of (Answer next query.merchant query.reference verdict)) →
@@ -114,6 +134,8 @@ module _ (may_say : Saying) where
       (Frame moment message ∷ Answer next query.merchant query.reference verdict ∷ [])
   took_answer t mid new moment next message query verdict is between tables said = record {
     makes = makes_asking t moment next message query verdict is;
-    tables = tables ∙ ap (λ (x : Tables). step_tables x (arrival_of (Answer next query.merchant query.reference verdict))) between;
+    tables = tables
+        ∙ ap (λ (x : Tables). step_tables x
+        (arrival_of (Answer next query.merchant query.reference verdict))) between;
     said = said_two t moment next message query.merchant query.reference query verdict is said;
   }

@@ -1,5 +1,6 @@
 -- Which messages are reported as those that don't read.
-use Rattle.std.proofs.Common.{◌≡◌, ℕ, Bool, true, false, List, Option, Some, None, Result, Ok, Err, refl, sym, ap}
+use Rattle.std.proofs.Common.{◌≡◌, ℕ, Bool, true, false, List, Option, Some, None, Result, Ok, Err}
+use Rattle.std.proofs.Common.{refl, sym, ap}
 use Rattle.std.specs.Prelude.{is_ok, if◌then◌else◌}
 use Rattle.iso_codec.specs.declared.decode_fault.DecodeFault.{DecodeFault}
 use Rattle.iso_codec.specs.Message.{IsoMessage}
@@ -14,7 +15,8 @@ use Rattle.acq_core.specs.declared.output.Output.TheVariants.{Undecodable}
 use Rattle.acq_core.specs.declared.arrival.Arrival.TheVariants.{Malformed, Requested}
 use Rattle.acq_core.specs.declared.reply_state.ReplyState.{ReplyState}
 use Rattle.acq_core.specs.declared.reply_state.ReplyState.TheVariants.{Kept, Awaited, Late}
-use Rattle.acq_core.specs.Arrivals.{arrival_of, arrival_of_message, arrival_of_reading, merchant_named}
+use Rattle.acq_core.specs.Arrivals.{arrival_of, arrival_of_message, arrival_of_reading}
+use Rattle.acq_core.specs.Arrivals.{merchant_named}
 use Rattle.acq_core.specs.Known.{Known}
 use Rattle.acq_core.specs.Decision.{Decision, decision_of_request, repeat_of}
 use Rattle.acq_core.specs.Outcome.{outcome_of, output_of}
@@ -50,7 +52,8 @@ module _ (t : Tables) (moment : ℕ) where
   by_check : (r : RequestMessage) (f : DecodeFault) (malformed : Bool) →
       step_output t (if malformed then Malformed r else Requested r) ≡ Undecodable f → ⊥
   by_check r f true h = cc
-  by_check r f false h = request_reads (known_in t (Requested r)) (merchant_named (Requested r)) f r h
+  by_check r f false h = request_reads (known_in t (Requested r)) (merchant_named (Requested r)) f r
+      h
 
   message_reads : (o : Option Service) (m : IsoMessage) (f : DecodeFault) →
       step_output t (arrival_of_message moment m o) ≡ Undecodable f → ⊥
@@ -69,12 +72,14 @@ module _ (t : Tables) (moment : ℕ) where
       step_output t (arrival_of (Frame moment message)) ≡ Undecodable f → reading_of message ≡ Err f
   undecodable_is message f is = fault_by (reading_of message) f is
 
-  read_by : (read : Result IsoMessage DecodeFault) (o : Output) → step_output t (arrival_of_reading moment read) ≡ o →
+  read_by : (read : Result IsoMessage DecodeFault) (o : Output) →
+      step_output t (arrival_of_reading moment read) ≡ o →
       ((f : DecodeFault) → o ≡ Undecodable f → ⊥) → is_ok read ≡ true
   read_by (Ok m) o is other = refl
   read_by (Err f) o is other = absurd (other f (sym is))
 
   -- anything else does
-  pub reads : (message : List ℕ) (o : Output) → step_output t (arrival_of (Frame moment message)) ≡ o →
+  pub reads : (message : List ℕ) (o : Output) →
+      step_output t (arrival_of (Frame moment message)) ≡ o →
       ((f : DecodeFault) → o ≡ Undecodable f → ⊥) → is_read message ≡ true
   reads message o is other = read_by (reading_of message) o is other

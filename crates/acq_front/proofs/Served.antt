@@ -1,8 +1,10 @@
 -- A connection so far, and how it goes on and ends.
-use Rattle.std.proofs.Common.{◌≡◌, ℕ, Bool, true, false, List, [], ◌∷◌, ◌++◌, take, Result, Ok, Err, refl, sym, ap, subst, ◌∙◌, append_assoc, append-nil, inl, inr}
+use Rattle.std.proofs.Common.{◌≡◌, ℕ, Bool, true, false, List, [], ◌∷◌, ◌++◌, take, Result, Ok, Err}
+use Rattle.std.proofs.Common.{refl, sym, ap, subst, ◌∙◌, append_assoc, append-nil, inl, inr}
 use Rattle.std.specs.List.{list_all}
 use Rattle.std.proofs.lemmas.Bool.{and_parts, and_from}
-use Rattle.acq_link.specs.Frames.{frame, framed, fits_frame, Frames, FramesThen, has_frame, has_bad_length, is_partial}
+use Rattle.acq_link.specs.Frames.{frame, framed, fits_frame, Frames, FramesThen, has_frame}
+use Rattle.acq_link.specs.Frames.{has_bad_length, is_partial}
 use Rattle.acq_link.specs.FramesAt.{BeginsWithFrame, MayBecomeFrame}
 use Rattle.acq_link.specs.declared.deframe_fault.DeframeFault as deframe
 use Rattle.acq_link.proofs.WrittenFrames.{framed-append, framed-push}
@@ -17,19 +19,23 @@ use Rattle.acq_host.proofs.PartiesAlone.{is_alone}
 use Rattle.acq_front.specs.declared.front_fault.FrontFault as fault
 use Rattle.acq_front.specs.Faults.{of_stream}
 use Rattle.acq_front.specs.Talk.{talk, replies, queries, Saying, AreSaid}
-use Rattle.acq_front.specs.Turns.{is_read, Makes, TookMessage, TookAllButAnswer, Answered, Refused, CutShort, Turns}
+use Rattle.acq_front.specs.Turns.{is_read, Makes, TookMessage, TookAllButAnswer, Answered, Refused}
+use Rattle.acq_front.specs.Turns.{CutShort, Turns}
 use Rattle.acq_front.specs.Serving.{Connection, AllAnswered, CutsLast, LeavesOff, Serves, AllRead}
-use Rattle.acq_front.proofs.TalkGoesOn.{GoesOn, goes_on_none, goes_on_more, talk_is, talk_ends, replies-append, said_more, said_weaker}
+use Rattle.acq_front.proofs.TalkGoesOn.{GoesOn, goes_on_none, goes_on_more, talk_is, talk_ends}
+use Rattle.acq_front.proofs.TalkGoesOn.{replies-append, said_more, said_weaker}
 
 -- the host took these messages' events
-pub record TookAll (may_say : Saying) (old now : Tables) (c : Connection) (events : List Event) : Type 0 where
+pub record TookAll (may_say : Saying) (old now : Tables) (c : Connection)
+    (events : List Event) : Type 0 where
   pub came : FramesThen c.input c.messages c.rest
   pub goes : GoesOn old c.messages c.moments c.verdicts events
   pub tables : now ≡ tables_after old events
   pub said : AreSaid may_say (queries old events) c.verdicts
 
 -- and their replies' frames went out; these bytes are held
-pub record Going (may_say : Saying) (old now : Tables) (c : Connection) (held : List ℕ) : Type 0 where
+pub record Going (may_say : Saying) (old now : Tables) (c : Connection)
+    (held : List ℕ) : Type 0 where
   pub events : List Event
   pub took : TookAll may_say old now c events
   pub written : Frames c.output (replies old events)
@@ -37,33 +43,45 @@ pub record Going (may_say : Saying) (old now : Tables) (c : Connection) (held : 
   pub read : AllRead c.messages
 
 abbrev pub nothing_yet : Connection
-nothing_yet = record { input = []; output = []; moments = []; verdicts = []; messages = []; rest = [] }
+nothing_yet =
+    record { input = []; output = []; moments = []; verdicts = []; messages = []; rest = [] }
 
 -- what each of two lists' elements do, those of both do
-pub all-append : {X : Type 0} (p : X → Bool) (xs ys : List X) → list_all p xs ≡ true → list_all p ys ≡ true → list_all p (xs ++ ys) ≡ true
+pub all-append : {X : Type 0} (p : X → Bool) (xs ys : List X) → list_all p xs ≡ true →
+    list_all p ys ≡ true → list_all p (xs ++ ys) ≡ true
 all-append p [] ys h k = k
 all-append p (x ∷ xs) ys h k =
     let parts = and_parts (p x) (list_all p xs) h in
     and_from (p x) (list_all p (xs ++ ys)) parts.0 (all-append p xs ys parts.1 k)
 
-all_read : (messages : List (List ℕ)) (message : List ℕ) → AllRead messages → is_read message ≡ true → AllRead (messages ++ message ∷ [])
-all_read messages message all reads = all-append is_read messages (message ∷ []) all (and_from (is_read message) true reads refl)
+all_read : (messages : List (List ℕ)) (message : List ℕ) → AllRead messages →
+    is_read message ≡ true → AllRead (messages ++ message ∷ [])
+all_read messages message all reads = all-append is_read messages (message ∷ []) all
+    (and_from (is_read message) true reads refl)
 
-frames_append : {a b : List ℕ} {rs ss : List (List ℕ)} → Frames a rs → Frames b ss → Frames (a ++ b) (rs ++ ss)
+frames_append : {a b : List ℕ} {rs ss : List (List ℕ)} → Frames a rs → Frames b ss →
+    Frames (a ++ b) (rs ++ ss)
 frames_append {a = a} {b = b} {rs = rs} {ss = ss} x y = record {
   each = all-append fits_frame rs ss x.each y.each;
-  whole = ap (λ (l : List ℕ). l ++ b) x.whole ∙ ap (λ (l : List ℕ). framed rs ++ l) y.whole ∙ sym (framed-append rs ss);
+  whole = ap (λ (l : List ℕ). l ++ b) x.whole ∙ ap (λ (l : List ℕ). framed rs ++ l) y.whole
+      ∙ sym (framed-append rs ss);
 }
 
-frames_and_no_more : (out now : List ℕ) (rs : List (List ℕ)) → now ≡ [] → Frames out rs → Frames (out ++ now) rs
+frames_and_no_more : (out now : List ℕ) (rs : List (List ℕ)) → now ≡ [] → Frames out rs →
+    Frames (out ++ now) rs
 frames_and_no_more out now rs none frames =
-    subst (λ (l : List ℕ). Frames l rs) (sym (append-nil out) ∙ ap (λ (l : List ℕ). out ++ l) (sym none)) frames
+    subst (λ (l : List ℕ). Frames l rs)
+    (sym (append-nil out) ∙ ap (λ (l : List ℕ). out ++ l) (sym none)) frames
 
-written_more : (old mid : Tables) (events made : List Event) (output out : List ℕ) → mid ≡ tables_after old events →
-    Frames output (replies old events) → Frames out (replies mid made) → Frames (output ++ out) (replies old (events ++ made))
+written_more : (old mid : Tables) (events made : List Event) (output out : List ℕ) →
+    mid ≡ tables_after old events →
+    Frames output (replies old events) → Frames out (replies mid made) →
+    Frames (output ++ out) (replies old (events ++ made))
 written_more old mid events made output out at so more =
-    let later : Frames out (replies (tables_after old events) made) = subst (λ (t : Tables). Frames out (replies t made)) at more in
-    subst (λ (rs : List (List ℕ)). Frames (output ++ out) rs) (sym (replies-append old events made)) (frames_append so later)
+    let later : Frames out (replies (tables_after old events) made) =
+    subst (λ (t : Tables). Frames out (replies t made)) at more in
+    subst (λ (rs : List (List ℕ)). Frames (output ++ out) rs) (sym (replies-append old events made))
+    (frames_append so later)
 
 -- a message more was taken, at these moments and with these verdicts, and these bytes went out
 abbrev pub with_message : Connection → List ℕ → List ℕ → List ℕ → List Verdict → List ℕ → Connection
@@ -89,29 +107,40 @@ with_nothing_taken c out moments verdicts = record c {
 }
 
 -- each party got what its own events alone give
-ran_alone : (old now : Tables) (events : List Event) → now ≡ tables_after old events → IsAlone old events (outputs old events) now
+ran_alone : (old now : Tables) (events : List Event) → now ≡ tables_after old events →
+    IsAlone old events (outputs old events) now
 ran_alone old now events so = is_alone old now events (outputs old events) refl so
 
 module _ (S : Saying) where
   pub going_none : (t : Tables) → Going S t t nothing_yet []
   going_none t = record {
     events = [];
-    took = record { came = record { each = refl; whole = refl }; goes = goes_on_none t; tables = refl; said = tt };
+    took = record {
+      came = record { each = refl; whole = refl };
+      goes = goes_on_none t;
+      tables =
+          refl;
+      said = tt;
+    };
     written = record { each = refl; whole = refl };
     rest = refl;
     read = refl;
   }
 
-  pub going_held : {old now : Tables} {c : Connection} {held other : List ℕ} → Going S old now c held → other ≡ held → Going S old now c other
-  going_held {old = old} {now = now} {c = c} so e = subst (λ (l : List ℕ). Going S old now c l) (sym e) so
+  pub going_held : {old now : Tables} {c : Connection} {held other : List ℕ} →
+      Going S old now c held → other ≡ held → Going S old now c other
+  going_held {old = old} {now = now} {c = c} so e = subst (λ (l : List ℕ). Going S old now c l)
+      (sym e) so
 
-  pub going_read : {old now : Tables} {c : Connection} {held : List ℕ} (piece : List ℕ) → Going S old now c held → Going S old now (with_piece c piece) (held ++ piece)
+  pub going_read : {old now : Tables} {c : Connection} {held : List ℕ} (piece : List ℕ) →
+      Going S old now c held → Going S old now (with_piece c piece) (held ++ piece)
   going_read {c = c} piece so = record {
     events = so.events;
     took = record {
       came = record {
         each = so.took.came.each;
-        whole = ap (λ (l : List ℕ). l ++ piece) so.took.came.whole ∙ append_assoc (framed c.messages) c.rest piece;
+        whole = ap (λ (l : List ℕ). l ++ piece) so.took.came.whole
+            ∙ append_assoc (framed c.messages) c.rest piece;
       };
       goes = so.took.goes;
       tables = so.took.tables;
@@ -122,41 +151,54 @@ module _ (S : Saying) where
     read = so.read;
   }
 
-  frames_then_more : (c : Connection) (held message left : List ℕ) → FramesThen c.input c.messages c.rest → c.rest ≡ held →
+  frames_then_more : (c : Connection) (held message left : List ℕ) →
+      FramesThen c.input c.messages c.rest → c.rest ≡ held →
       BeginsWithFrame held message left → FramesThen c.input (c.messages ++ message ∷ []) left
   frames_then_more c held message left so is begins = record {
-    each = all-append fits_frame c.messages (message ∷ []) so.each (and_from (fits_frame message) true begins.fits refl);
+    each = all-append fits_frame c.messages (message ∷ []) so.each
+        (and_from (fits_frame message) true begins.fits refl);
     whole = so.whole ∙ ap (λ (l : List ℕ). framed c.messages ++ l) (is ∙ begins.whole)
         ∙ sym (append_assoc (framed c.messages) (frame message) left)
         ∙ ap (λ (l : List ℕ). l ++ left) (sym (framed-push c.messages message));
   }
 
   -- the next message's events were taken too
-  took_more : (old mid new : Tables) (c : Connection) (held : List ℕ) (made : List Event) (message out moments left : List ℕ) (verdicts : List Verdict) →
-      (so : Going S old mid c held) → BeginsWithFrame held message left → TookMessage S mid new message moments verdicts made →
+  took_more : (old mid new : Tables) (c : Connection) (held : List ℕ) (made : List Event)
+      (message out moments left : List ℕ) (verdicts : List Verdict) →
+      (so : Going S old mid c held) → BeginsWithFrame held message left →
+      TookMessage S mid new message moments verdicts made →
       TookAll S old new (with_message c message out moments verdicts left) (so.events ++ made)
   took_more old mid new c held made message out moments left verdicts so begins took = record {
     came = frames_then_more c held message left so.took.came so.rest begins;
-    goes = goes_on_more old c.messages message c.moments moments c.verdicts verdicts so.events made so.took.goes
+    goes = goes_on_more old c.messages message c.moments moments c.verdicts verdicts so.events made
+        so.took.goes
         (subst (λ (t : Tables). Makes t message moments verdicts made) so.took.tables took.makes);
-    tables = took.tables ∙ ap (λ (t : Tables). tables_after t made) so.took.tables ∙ sym (tables_after-append old so.events made);
-    said = said_more S old mid so.events made c.verdicts verdicts so.took.tables so.took.said took.said;
+    tables = took.tables ∙ ap (λ (t : Tables). tables_after t made) so.took.tables
+        ∙ sym (tables_after-append old so.events made);
+    said = said_more S old mid so.events made c.verdicts verdicts so.took.tables so.took.said
+        took.said;
   }
 
-  pub going_more : {old mid new : Tables} {c : Connection} {held : List ℕ} (message out moments left : List ℕ) (verdicts : List Verdict) →
-      Going S old mid c held → BeginsWithFrame held message left → is_read message ≡ true → Answered S mid new message out moments verdicts →
+  pub going_more : {old mid new : Tables} {c : Connection} {held : List ℕ}
+      (message out moments left : List ℕ) (verdicts : List Verdict) →
+      Going S old mid c held → BeginsWithFrame held message left → is_read message ≡ true →
+      Answered S mid new message out moments verdicts →
       Going S old new (with_message c message out moments verdicts left) left
-  going_more {old = old} {mid = mid} {new = new} {c = c} {held = held} message out moments left verdicts so begins reads answered = record {
-    events = so.events ++ answered.events;
-    took = took_more old mid new c held answered.events message out moments left verdicts so begins answered.took;
-    written = written_more old mid so.events answered.events c.output out so.took.tables so.written answered.written;
-    rest = refl;
-    read = all_read c.messages message so.read reads;
-  }
+  going_more {old = old} {mid = mid} {new = new} {c = c} {held = held} message out moments left
+      verdicts so begins reads answered = record {
+        events = so.events ++ answered.events;
+        took = took_more old mid new c held answered.events message out moments left verdicts so begins
+            answered.took;
+        written = written_more old mid so.events answered.events c.output out so.took.tables so.written
+            answered.written;
+        rest = refl;
+        read = all_read c.messages message so.read reads;
+      }
 
   -- ---- ends
 
-  all_answered : {old now : Tables} {c : Connection} (events : List Event) → TookAll S old now c events → Frames c.output (replies old events) → AllAnswered S old now c
+  all_answered : {old now : Tables} {c : Connection} (events : List Event) →
+      TookAll S old now c events → Frames c.output (replies old events) → AllAnswered S old now c
   all_answered {old = old} {now = now} {c = c} events took written =
       let talked = talk_ends old c.messages c.moments c.verdicts events took.goes in
       let led = took.tables ∙ ap (tables_after old) (sym talked) in
@@ -164,45 +206,57 @@ module _ (S : Saying) where
         came = took.came;
         tables = led;
         alone = ran_alone old now (talk old c.messages c.moments c.verdicts) led;
-        said = subst (λ (es : List Event). AreSaid S (queries old es) c.verdicts) (sym talked) took.said;
-        written = subst (λ (es : List Event). Frames c.output (replies old es)) (sym talked) written;
+        said = subst (λ (es : List Event). AreSaid S (queries old es) c.verdicts)
+            (sym talked) took.said;
+        written = subst (λ (es : List Event). Frames c.output (replies old es))
+            (sym talked) written;
       }
 
-  answers_all : {old now : Tables} {c : Connection} {held : List ℕ} → Going S old now c held → AllAnswered S old now c
+  answers_all : {old now : Tables} {c : Connection} {held : List ℕ} → Going S old now c held →
+      AllAnswered S old now c
   answers_all so = all_answered so.events so.took so.written
 
   -- no message could be taken out of the stream
-  pub stream_stops : (e : deframe.DeframeFault) {old now : Tables} (stays_open : Type 0) {c : Connection} {held : List ℕ} → Going S old now c held →
-      (e ≡ deframe.TheVariants.BadLength → has_bad_length held ≡ true) → Serves S old stays_open now c (Err (of_stream e))
-  stream_stops deframe.TheVariants.BadLength stays_open so bad = (answers_all so, so.read, ap has_bad_length so.rest ∙ bad refl)
-  stream_stops deframe.TheVariants.Memory {old = old} {now = now} stays_open {c = c} so bad = record {
-    came = so.took.came;
-    read = so.read;
-    events = so.events;
-    missing = [];
-    at_most_one = inl refl;
-    all = talk_ends old c.messages c.moments c.verdicts so.events so.took.goes ∙ sym (append-nil so.events);
-    tables = λ still. so.took.tables;
-    alone = λ still. ran_alone old now so.events so.took.tables;
-    said = so.took.said;
-    written = so.written;
-  }
+  pub stream_stops : (e : deframe.DeframeFault) {old now : Tables}
+      (stays_open : Type 0) {c : Connection} {held : List ℕ} → Going S old now c held →
+      (e ≡ deframe.TheVariants.BadLength → has_bad_length held ≡ true) →
+      Serves S old stays_open now c (Err (of_stream e))
+  stream_stops deframe.TheVariants.BadLength stays_open so bad =
+      (answers_all so, so.read, ap has_bad_length so.rest ∙ bad refl)
+  stream_stops deframe.TheVariants.Memory {old = old} {now = now} stays_open {c = c} so bad =
+      record {
+        came = so.took.came;
+        read = so.read;
+        events = so.events;
+        missing = [];
+        at_most_one = inl refl;
+        all = talk_ends old c.messages c.moments c.verdicts so.events so.took.goes
+            ∙ sym (append-nil so.events);
+        tables = λ still. so.took.tables;
+        alone = λ still. ran_alone old now so.events so.took.tables;
+        said = so.took.said;
+        written = so.written;
+      }
 
   no_frame : (held : List ℕ) → MayBecomeFrame held → has_frame held ≡ false
   no_frame held (inl none) = ap has_frame none
   no_frame held (inr part) = (partial_is held part).0
 
   -- a read failed
-  pub read_stops : {old now : Tables} (stays_open : Type 0) {c : Connection} {held : List ℕ} → Going S old now c held → MayBecomeFrame held →
+  pub read_stops : {old now : Tables} (stays_open : Type 0) {c : Connection} {held : List ℕ} →
+      Going S old now c held → MayBecomeFrame held →
       Serves S old stays_open now c (Err fault.TheVariants.Read)
-  read_stops stays_open {held = held} so may = (answers_all so, so.read, ap has_frame so.rest ∙ no_frame held may)
+  read_stops stays_open {held = held} so may =
+      (answers_all so, so.read, ap has_frame so.rest ∙ no_frame held may)
 
   -- no connection was had
-  pub none_served : (t : Tables) (stays_open : Type 0) → Serves S t stays_open t nothing_yet (Err fault.TheVariants.Read)
+  pub none_served : (t : Tables) (stays_open : Type 0) →
+      Serves S t stays_open t nothing_yet (Err fault.TheVariants.Read)
   none_served t stays_open = read_stops stays_open (going_none t) (inl refl)
 
   -- the input ended
-  pub ends_well : {old now : Tables} (stays_open : Type 0) {c : Connection} {held : List ℕ} → Going S old now c held → held ≡ [] →
+  pub ends_well : {old now : Tables} (stays_open : Type 0) {c : Connection} {held : List ℕ} →
+      Going S old now c held → held ≡ [] →
       Serves S old stays_open now c (Ok tt)
   ends_well stays_open so none = (answers_all so, so.read, so.rest ∙ none)
 
@@ -210,28 +264,35 @@ module _ (S : Saying) where
   is_begun held (inl none) some = absurd (some none)
   is_begun held (inr part) some = part
 
-  pub ends_inside : {old now : Tables} (stays_open : Type 0) {c : Connection} {held : List ℕ} → Going S old now c held → MayBecomeFrame held →
+  pub ends_inside : {old now : Tables} (stays_open : Type 0) {c : Connection} {held : List ℕ} →
+      Going S old now c held → MayBecomeFrame held →
       (held ≡ [] → ⊥) → Serves S old stays_open now c (Err fault.TheVariants.Ended)
-  ends_inside stays_open {held = held} so may some = (answers_all so, so.read, ap is_partial so.rest ∙ is_begun held may some)
+  ends_inside stays_open {held = held} so may some =
+      (answers_all so, so.read, ap is_partial so.rest ∙ is_begun held may some)
 
   -- ---- one message stops it
 
   -- what it leaves of the connection
-  pub record Extends (c d : Connection) (out moments : List ℕ) (verdicts : List Verdict) : Type 0 where
-    pub input : d.input ≡ c.input
-    pub output : d.output ≡ c.output ++ out
-    pub moments_are : d.moments ≡ c.moments ++ moments
-    pub verdicts_are : d.verdicts ≡ c.verdicts ++ verdicts
+  pub record Extends (c d : Connection) (out moments : List ℕ) (verdicts : List Verdict) : Type 0
+    where
+      pub input : d.input ≡ c.input
+      pub output : d.output ≡ c.output ++ out
+      pub moments_are : d.moments ≡ c.moments ++ moments
+      pub verdicts_are : d.verdicts ≡ c.verdicts ++ verdicts
 
-  module _ (old mid : Tables) (stays_open : Type 0) (new : Tables) (c : Connection) (held message left out moments : List ℕ)
-      (verdicts : List Verdict) (so : Going S old mid c held) (begins : BeginsWithFrame held message left) where
+  module _ (old mid : Tables) (stays_open : Type 0) (new : Tables) (c : Connection)
+      (held message left out moments : List ℕ)
+      (verdicts : List Verdict) (so : Going S old mid c held)
+      (begins : BeginsWithFrame held message left) where
     abbrev with_it : Connection
     with_it = with_message c message out moments verdicts left
 
     -- nothing of it was taken
-    refused_whole : out ≡ [] → (stays_open → new ≡ mid) → verdicts ≡ [] → LeavesOff S old stays_open new (with_nothing_taken c out moments verdicts)
+    refused_whole : out ≡ [] → (stays_open → new ≡ mid) → verdicts ≡ [] →
+        LeavesOff S old stays_open new (with_nothing_taken c out moments verdicts)
     refused_whole none kept unasked =
-        let same : c.verdicts ++ verdicts ≡ c.verdicts = ap (λ (l : List Verdict). c.verdicts ++ l) unasked ∙ append-nil c.verdicts in
+        let same : c.verdicts ++ verdicts ≡ c.verdicts =
+        ap (λ (l : List Verdict). c.verdicts ++ l) unasked ∙ append-nil c.verdicts in
         record {
           came = so.took.came;
           read = so.read;
@@ -239,7 +300,8 @@ module _ (S : Saying) where
           missing = [];
           at_most_one = inl refl;
           all = ap (λ (l : List Verdict). talk old c.messages (c.moments ++ moments) l) same
-              ∙ talk_is old c.messages c.moments moments c.verdicts so.events so.took.goes ∙ sym (append-nil so.events);
+              ∙ talk_is old c.messages c.moments moments c.verdicts so.events so.took.goes
+              ∙ sym (append-nil so.events);
           tables = λ still. kept still ∙ so.took.tables;
           alone = λ still. ran_alone old new so.events (kept still ∙ so.took.tables);
           said = subst (AreSaid S (queries old so.events)) (sym same) so.took.said;
@@ -247,52 +309,70 @@ module _ (S : Saying) where
         }
 
     -- its answer wasn't taken
-    refused_answer : out ≡ [] → TookAllButAnswer S mid stays_open new message moments verdicts → LeavesOff S old stays_open new with_it
+    refused_answer : out ≡ [] → TookAllButAnswer S mid stays_open new message moments verdicts →
+        LeavesOff S old stays_open new with_it
     refused_answer none most =
         let first = most.came ∷ [] in
         let led : stays_open → new ≡ tables_after old (so.events ++ first) =
-        λ still. most.tables still ∙ ap (λ (t : Tables). tables_after t first) so.took.tables ∙ sym (tables_after-append old so.events first) in
-        let goes = goes_on_more old c.messages message c.moments moments c.verdicts verdicts so.events (most.came ∷ most.answer ∷ []) so.took.goes
-        (subst (λ (t : Tables). Makes t message moments verdicts (most.came ∷ most.answer ∷ [])) so.took.tables most.makes) in
+        λ still. most.tables still ∙ ap (λ (t : Tables). tables_after t first) so.took.tables
+        ∙ sym (tables_after-append old so.events first) in
+        let goes = goes_on_more old c.messages message c.moments moments c.verdicts verdicts
+        so.events (most.came ∷ most.answer ∷ []) so.took.goes
+        (subst (λ (t : Tables). Makes t message moments verdicts (most.came ∷ most.answer ∷ []))
+        so.took.tables most.makes) in
         record {
           came = frames_then_more c held message left so.took.came so.rest begins;
           read = all_read c.messages message so.read most.reads;
           events = so.events ++ first;
           missing = most.answer ∷ [];
           at_most_one = inr (most.answer, most.is_answer, refl);
-          all = talk_ends old with_it.messages with_it.moments with_it.verdicts (so.events ++ most.came ∷ most.answer ∷ []) goes
+          all = talk_ends old with_it.messages with_it.moments with_it.verdicts
+              (so.events ++ most.came ∷ most.answer ∷ []) goes
               ∙ sym (append_assoc so.events first (most.answer ∷ []));
           tables = led;
           alone = λ still. ran_alone old new (so.events ++ first) (led still);
-          said = said_more S old mid so.events first c.verdicts verdicts so.took.tables so.took.said most.said;
+          said = said_more S old mid so.events first c.verdicts verdicts so.took.tables so.took.said
+              most.said;
           written = written_more old mid so.events first c.output out so.took.tables so.written
-              (record { each = ap (list_all fits_frame) most.silent; whole = none ∙ ap framed (sym most.silent) });
+              (record {
+                each = ap (list_all fits_frame) most.silent;
+                whole =
+                    none ∙ ap framed (sym most.silent);
+              });
         }
 
     -- its reply's frame went out in part
-    cuts_last : (n : ℕ) → CutShort S mid new message out moments verdicts n → CutsLast S old new with_it n
+    cuts_last : (n : ℕ) → CutShort S mid new message out moments verdicts n →
+        CutsLast S old new with_it n
     cuts_last n cut =
-        let took = took_more old mid new c held cut.events message out moments left verdicts so begins cut.took in
-        let talked = talk_ends old with_it.messages with_it.moments with_it.verdicts (so.events ++ cut.events) took.goes in
+        let took = took_more old mid new c held cut.events message out moments left verdicts so
+        begins cut.took in
+        let talked = talk_ends old with_it.messages with_it.moments with_it.verdicts
+        (so.events ++ cut.events) took.goes in
         let led = took.tables ∙ ap (tables_after old) (sym talked) in
         record {
           came = took.came;
           read = all_read c.messages message so.read cut.reads;
           tables = led;
-          alone = ran_alone old new (talk old with_it.messages with_it.moments with_it.verdicts) led;
-          said = subst (λ (es : List Event). AreSaid S (queries old es) with_it.verdicts) (sym talked) took.said;
+          alone = ran_alone old new (talk old with_it.messages with_it.moments with_it.verdicts)
+              led;
+          said = subst (λ (es : List Event). AreSaid S (queries old es) with_it.verdicts)
+              (sym talked) took.said;
           earlier = replies old so.events;
           last = cut.reply;
           replied = ap (replies old) talked ∙ replies-append old so.events cut.events
-              ∙ ap (λ (t : Tables). replies old so.events ++ replies t cut.events) (sym so.took.tables)
+              ∙ ap (λ (t : Tables). replies old so.events ++ replies t cut.events)
+              (sym so.took.tables)
               ∙ ap (λ (l : List (List ℕ)). replies old so.events ++ l) cut.replied;
           short = cut.short;
-          written = ap (λ (l : List ℕ). c.output ++ l) cut.written ∙ ap (λ (l : List ℕ). l ++ take n (frame cut.reply)) so.written.whole;
+          written = ap (λ (l : List ℕ). c.output ++ l) cut.written
+              ∙ ap (λ (l : List ℕ). l ++ take n (frame cut.reply)) so.written.whole;
         }
 
     -- what is left where a message stops a connection
     abbrev Stopped : fault.FrontFault → Type 0
-    Stopped f = (d : Connection) × Extends c d out moments verdicts × Serves S old stays_open new d (Err f)
+    Stopped f = (d : Connection) × Extends c d out moments verdicts × Serves S old stays_open new d
+        (Err f)
 
     extends_with : Extends c with_it out moments verdicts
     extends_with = record { input = refl; output = refl; moments_are = refl; verdicts_are = refl }
@@ -306,15 +386,19 @@ module _ (S : Saying) where
     )
     refused (none, inr most) = (with_it, extends_with, refused_answer none most)
 
-    pub stopped : (f : fault.FrontFault) → Turns S mid stays_open new message out moments verdicts (Err f) → Stopped f
+    pub stopped : (f : fault.FrontFault) →
+        Turns S mid stays_open new message out moments verdicts (Err f) → Stopped f
     stopped fault.TheVariants.Memory stops = refused stops
     stopped fault.TheVariants.Store stops = refused stops
     stopped (fault.TheVariants.Undecodable f) (answered, unread) = (
       with_it,
       extends_with,
       (
-        all_answered (so.events ++ answered.events) (took_more old mid new c held answered.events message out moments left verdicts so begins answered.took)
-            (written_more old mid so.events answered.events c.output out so.took.tables so.written answered.written),
+        all_answered (so.events ++ answered.events)
+            (took_more old mid new c held answered.events message out moments left verdicts so
+            begins answered.took)
+            (written_more old mid so.events answered.events c.output out so.took.tables so.written
+            answered.written),
         record { before = c.messages; last = message; are = refl; read = so.read; unread = unread },
       ),
     )
@@ -325,19 +409,24 @@ module _ (S : Saying) where
 
 -- ---- an issuer that might say more
 
-module _ (S R : Saying) (f : (q : Query) (v : Verdict) → S q v → R q v) (old : Tables) (stays_open : Type 0) (new : Tables)
+module _ (S R : Saying) (f : (q : Query) (v : Verdict) → S q v → R q v) (old : Tables)
+    (stays_open : Type 0) (new : Tables)
     (message out moments : List ℕ) (verdicts : List Verdict) where
-  took_weaker : (events : List Event) → TookMessage S old new message moments verdicts events → TookMessage R old new message moments verdicts events
+  took_weaker : (events : List Event) → TookMessage S old new message moments verdicts events →
+      TookMessage R old new message moments verdicts events
   took_weaker events took = record {
     makes = took.makes;
     tables = took.tables;
     said = said_weaker S R f (queries old events) verdicts took.said;
   }
 
-  answered_weaker : Answered S old new message out moments verdicts → Answered R old new message out moments verdicts
-  answered_weaker a = record { events = a.events; took = took_weaker a.events a.took; written = a.written }
+  answered_weaker : Answered S old new message out moments verdicts →
+      Answered R old new message out moments verdicts
+  answered_weaker a =
+      record { events = a.events; took = took_weaker a.events a.took; written = a.written }
 
-  refused_weaker : Refused S old stays_open new message out moments verdicts → Refused R old stays_open new message out moments verdicts
+  refused_weaker : Refused S old stays_open new message out moments verdicts →
+      Refused R old stays_open new message out moments verdicts
   refused_weaker (none, inl same) = (none, inl same)
   refused_weaker (none, inr most) = (
     none,
@@ -353,12 +442,14 @@ module _ (S R : Saying) (f : (q : Query) (v : Verdict) → S q v → R q v) (old
     }),
   )
 
-  pub turns_weaker : (r : Result (Unit {0}) fault.FrontFault) → Turns S old stays_open new message out moments verdicts r →
+  pub turns_weaker : (r : Result (Unit {0}) fault.FrontFault) →
+      Turns S old stays_open new message out moments verdicts r →
       Turns R old stays_open new message out moments verdicts r
   turns_weaker (Ok u) (answered, reads) = (answered_weaker answered, reads)
   turns_weaker (Err fault.TheVariants.Memory) stops = refused_weaker stops
   turns_weaker (Err fault.TheVariants.Store) stops = refused_weaker stops
-  turns_weaker (Err (fault.TheVariants.Undecodable g)) (answered, unread) = (answered_weaker answered, unread)
+  turns_weaker (Err (fault.TheVariants.Undecodable g)) (answered, unread) =
+      (answered_weaker answered, unread)
   turns_weaker (Err (fault.TheVariants.Write n)) cut = record {
     events = cut.events;
     reply = cut.reply;

@@ -9,7 +9,8 @@ use Rattle.acq_front.specs.Serving.{Connection, AllAnswered, CutsLast, LeavesOff
 use Rattle.acq_front.proofs.TalkGoesOn.{said_weaker}
 
 -- the issuer might have said more, and the book stays open in fewer cases
-module _ (S R : Saying) (f : (q : Query) (v : Verdict) → S q v → R q v) (stays still : Type 0) (g : still → stays)
+module _ (S R : Saying) (f : (q : Query) (v : Verdict) → S q v → R q v) (stays still : Type 0)
+    (g : still → stays)
     (old new : Tables) (c : Connection) where
   all_weaker : AllAnswered S old new c → AllAnswered R old new c
   all_weaker a = record {
@@ -48,7 +49,8 @@ module _ (S R : Saying) (f : (q : Query) (v : Verdict) → S q v → R q v) (sta
     written = a.written;
   }
 
-  pub serves_weaker : (r : Result (Unit {0}) fault.FrontFault) → Serves S old stays new c r → Serves R old still new c r
+  pub serves_weaker : (r : Result (Unit {0}) fault.FrontFault) → Serves S old stays new c r →
+      Serves R old still new c r
   serves_weaker (Ok u) (a, read, rest) = (all_weaker a, read, rest)
   serves_weaker (Err fault.TheVariants.Memory) a = leaves_weaker a
   serves_weaker (Err fault.TheVariants.Store) a = leaves_weaker a

@@ -1,5 +1,6 @@
 -- How one message was taken and answered.
-use Rattle.std.proofs.Common.{◌≡◌, ◌==◌, ◌<◌, subst, ℕ, true, List, [], ◌∷◌, ◌++◌, Result, Ok, Err, refl, sym, ap, ◌∙◌, append-nil, arith, inr}
+use Rattle.std.proofs.Common.{◌≡◌, ◌==◌, ◌<◌, subst, ℕ, true, List, [], ◌∷◌, ◌++◌, Result, Ok, Err}
+use Rattle.std.proofs.Common.{refl, sym, ap, ◌∙◌, append-nil, arith, inr}
 use Rattle.std.proofs.lemmas.Bool.{and_from, le-leb, lt-ltb}
 use Rattle.std.proofs.lemmas.Bool.Decides.{nat_tests}
 use Rattle.std.specs.Prelude.{length}
@@ -18,15 +19,19 @@ use Rattle.acq_host.specs.Runs.{IsWellSaid}
 use Rattle.acq_front.specs.declared.front_fault.FrontFault as fault
 use Rattle.acq_front.specs.Faults.{of_book, IfStore}
 use Rattle.acq_front.specs.Talk.{Saying, reply_in, replies}
-use Rattle.acq_front.specs.Turns.{is_read, TookMessage, TookAllButAnswer, Answered, Refused, Turns, ReplyFits, Sends, SendsReply}
+use Rattle.acq_front.specs.Turns.{is_read, TookMessage, TookAllButAnswer, Answered, Refused, Turns}
+use Rattle.acq_front.specs.Turns.{ReplyFits, Sends, SendsReply}
 use Rattle.acq_front.proofs.Reading.{undecodable_is, reads}
-use Rattle.acq_front.proofs.MessagesTaken.{AsksNothing, makes_asking, replies_one, replies_two, frames_none, frames_one, said_one, took_alone, took_answer}
+use Rattle.acq_front.proofs.MessagesTaken.{AsksNothing, makes_asking, replies_one, replies_two}
+use Rattle.acq_front.proofs.MessagesTaken.{frames_none, frames_one, said_one, took_alone}
+use Rattle.acq_front.proofs.MessagesTaken.{took_answer}
 
 -- the text of a reply fits a frame
 pub reply_fits : (o : Output) → IsWellSaid o → ReplyFits o
 reply_fits o well party text is =
     let reply = well party text is in
-    and_from _ _ (lt-ltb 0 (length text) (omega (arith, reply.not_empty))) (le-leb (length text) 4096 reply.fits)
+    and_from _ _ (lt-ltb 0 (length text) (omega (arith, reply.not_empty)))
+    (le-leb (length text) 4096 reply.fits)
 
 -- a text of no bytes fits none, and neither does a longer one than the longest
 pub empty_unfit : (text : List ℕ) → (length text == 0) ≡ true → fits_frame text ≡ true → ⊥
@@ -36,7 +41,8 @@ pub long_unfit : (text : List ℕ) → 4096 < length text → fits_frame text �
 long_unfit text long fit = grind (arith, nat_tests)
 
 -- what the store's fault says, said otherwise
-pub if_store : (r : Result (Unit {0}) fault.FrontFault) (P Q : Type 0) → (P → Q) → IfStore r P → IfStore r Q
+pub if_store : (r : Result (Unit {0}) fault.FrontFault) (P Q : Type 0) → (P → Q) → IfStore r P →
+    IfStore r Q
 if_store (Ok u) P Q f p = tt
 if_store (Err fault.TheVariants.Memory) P Q f p = tt
 if_store (Err fault.TheVariants.Store) P Q f p = f p
@@ -47,25 +53,51 @@ if_store (Err fault.TheVariants.Read) P Q f p = tt
 if_store (Err (fault.TheVariants.Write n)) P Q f p = tt
 
 -- the book refused
-pub book_stops : (may_say : Saying) (e : book.BookFault) (old : Tables) (stays_open : Type 0) (new : Tables) (message out moments : List ℕ) (verdicts : List Verdict) →
+pub book_stops : (may_say : Saying) (e : book.BookFault) (old : Tables) (stays_open : Type 0)
+    (new : Tables) (message out moments : List ℕ) (verdicts : List Verdict) →
     Refused may_say old stays_open new message out moments verdicts →
     Turns may_say old stays_open new message out moments verdicts (Err (of_book e))
-book_stops may_say book.TheVariants.Memory old stays_open new message out moments verdicts refused = refused
-book_stops may_say book.TheVariants.Store old stays_open new message out moments verdicts refused = refused
+book_stops may_say book.TheVariants.Memory old stays_open new message out moments verdicts refused =
+    refused
+book_stops may_say book.TheVariants.Store old stays_open new message out moments verdicts refused =
+    refused
 
-module _ (may_say : Saying) (old : Tables) (stays_open : Type 0) (new : Tables) (message moments : List ℕ)
+module _ (may_say : Saying) (old : Tables) (stays_open : Type 0) (new : Tables)
+    (message moments : List ℕ)
     (verdicts : List Verdict) (events : List Event) (reads : is_read message ≡ true)
     (took : TookMessage may_say old new message moments verdicts events) where
   -- a reply's frame went out, or its first bytes
-  reply_sent : (text before now : List ℕ) (r : Result (Unit {0}) fault.FrontFault) → replies old events ≡ text ∷ [] →
+  reply_sent : (text before now : List ℕ) (r : Result (Unit {0}) fault.FrontFault) →
+      replies old events ≡ text ∷ [] →
       fits_frame text ≡ true → Sends text before now r →
-      (out : List ℕ) × (now ≡ before ++ out) × Turns may_say old stays_open new message out moments verdicts r
-  reply_sent text before now (Ok u) one fits sent =
-      (frame text, sent, (record { events = events; took = took; written = frames_one text (replies old events) one fits }, reads))
+      (out : List ℕ) × (now ≡ before ++ out) × Turns may_say old stays_open new message out moments
+      verdicts r
+  reply_sent text before now (Ok u) one fits sent = (
+    frame text,
+    sent,
+    (
+      record {
+        events = events;
+        took = took;
+        written =
+            frames_one text (replies old events) one fits;
+      },
+      reads,
+    ),
+  )
   reply_sent text before now (Err (fault.TheVariants.Write n)) one fits sent = (
     _,
     sent.1,
-    record { events = events; reply = text; took = took; reads = reads; replied = one; short = sent.0; written = refl },
+    record {
+      events = events;
+      reply = text;
+      took = took;
+      reads = reads;
+      replied = one;
+      short =
+          sent.0;
+      written = refl;
+    },
   )
   reply_sent text before now (Err fault.TheVariants.Memory) one fits sent = absurd sent
   reply_sent text before now (Err fault.TheVariants.Store) one fits sent = absurd sent
@@ -76,48 +108,66 @@ module _ (may_say : Saying) (old : Tables) (stays_open : Type 0) (new : Tables) 
 
   -- nothing was to go out
   nothing_sent : (before now : List ℕ) → replies old events ≡ [] → now ≡ before →
-      (out : List ℕ) × (now ≡ before ++ out) × Turns may_say old stays_open new message out moments verdicts (Ok tt)
-  nothing_sent before now none same =
-      ([], same ∙ sym (append-nil before), (record { events = events; took = took; written = frames_none none }, reads))
+      (out : List ℕ) × (now ≡ before ++ out) × Turns may_say old stays_open new message out moments
+      verdicts (Ok tt)
+  nothing_sent before now none same = (
+    [],
+    same ∙ sym (append-nil before),
+    (record { events = events; took = took; written = frames_none none }, reads),
+  )
 
   -- what the host said last was sent, if it is a reply
   pub said_sent : (o : Output) (before now : List ℕ) (r : Result (Unit {0}) fault.FrontFault) →
       replies old events ≡ reply_in o → ReplyFits o → SendsReply o before now r →
-      (out : List ℕ) × (now ≡ before ++ out) × Turns may_say old stays_open new message out moments verdicts r
-  said_sent (Reply party text) before now r are fits sent = reply_sent text before now r are (fits party text refl) sent
+      (out : List ℕ) × (now ≡ before ++ out) × Turns may_say old stays_open new message out moments
+      verdicts r
+  said_sent (Reply party text) before now r are fits sent = reply_sent text before now r are
+      (fits party text refl) sent
   said_sent o before now (Ok u) are fits sent = nothing_sent before now are sent
   said_sent o before now (Err f) are fits sent = absurd sent
 
 -- ---- by what the host said
 
-module _ (may_say : Saying) (t : Tables) (moment : ℕ) (text message : List ℕ) (same : text ≡ message) where
+module _ (may_say : Saying) (t : Tables) (moment : ℕ) (text message : List ℕ)
+    (same : text ≡ message) where
   -- it doesn't read
   pub unread : (stays_open : Type 0) (new : Tables) (f : DecodeFault) →
-      step_output t (arrival_of (Frame moment text)) ≡ Undecodable f → new ≡ step_tables t (arrival_of (Frame moment text)) →
-      Turns may_say t stays_open new message [] (moment ∷ []) [] (Err (fault.TheVariants.Undecodable f))
+      step_output t (arrival_of (Frame moment text)) ≡ Undecodable f →
+      new ≡ step_tables t (arrival_of (Frame moment text)) →
+      Turns may_say t stays_open new message [] (moment ∷ []) []
+      (Err (fault.TheVariants.Undecodable f))
   unread stays_open new f is tables =
       let answered : Answered may_say t new text [] (moment ∷ []) [] = record {
         events = Frame moment text ∷ [];
         took = took_alone may_say t new moment text (Undecodable f) is (λ query e. cc) tables;
         written = frames_none (replies_one t (Frame moment text) (Undecodable f) is);
       } in
-      let turned : Turns may_say t stays_open new text [] (moment ∷ []) [] (Err (fault.TheVariants.Undecodable f)) =
+      let turned : Turns may_say t stays_open new text [] (moment ∷ []) []
+      (Err (fault.TheVariants.Undecodable f)) =
       (answered, undecodable_is t moment text f is) in
-      subst (λ (x : List ℕ). Turns may_say t stays_open new x [] (moment ∷ []) [] (Err (fault.TheVariants.Undecodable f))) same turned
+      subst (λ (x : List ℕ). Turns may_say t stays_open new x [] (moment ∷ []) []
+      (Err (fault.TheVariants.Undecodable f))) same turned
 
   -- nobody is asked, and the reply, if there is one, is sent
-  pub plain_sent : (stays_open : Type 0) (new : Tables) (o : Output) (before now : List ℕ) (r : Result (Unit {0}) fault.FrontFault) →
-      step_output t (arrival_of (Frame moment text)) ≡ o → new ≡ step_tables t (arrival_of (Frame moment text)) →
-      AsksNothing o → ((f : DecodeFault) → o ≡ Undecodable f → ⊥) → ReplyFits o → SendsReply o before now r →
-      (out : List ℕ) × (now ≡ before ++ out) × Turns may_say t stays_open new message out (moment ∷ []) [] r
+  pub plain_sent : (stays_open : Type 0) (new : Tables) (o : Output) (before now : List ℕ)
+      (r : Result (Unit {0}) fault.FrontFault) →
+      step_output t (arrival_of (Frame moment text)) ≡ o →
+      new ≡ step_tables t (arrival_of (Frame moment text)) →
+      AsksNothing o → ((f : DecodeFault) → o ≡ Undecodable f → ⊥) → ReplyFits o →
+      SendsReply o before now r →
+      (out : List ℕ) × (now ≡ before ++ out) × Turns may_say t stays_open new message out
+      (moment ∷ []) [] r
   plain_sent stays_open new o before now r is tables nothing read fits sent =
-      subst (λ (x : List ℕ). (out : List ℕ) × (now ≡ before ++ out) × Turns may_say t stays_open new x out (moment ∷ []) [] r) same
+      subst (λ (x : List ℕ). (out : List ℕ) × (now ≡ before ++ out)
+      × Turns may_say t stays_open new x out (moment ∷ []) [] r) same
       (said_sent may_say t stays_open new text (moment ∷ []) [] (Frame moment text ∷ [])
       (reads t moment text o is read) (took_alone may_say t new moment text o is nothing tables)
       o before now r (replies_one t (Frame moment text) o is) fits sent)
 
-  module _ (next : ℕ) (query : Query) (verdict : Verdict) (is : step_output t (arrival_of (Frame moment text)) ≡ Ask query)
-      (mid : Tables) (between : mid ≡ step_tables t (arrival_of (Frame moment text))) (said : may_say query verdict) where
+  module _ (next : ℕ) (query : Query) (verdict : Verdict)
+      (is : step_output t (arrival_of (Frame moment text)) ≡ Ask query)
+      (mid : Tables) (between : mid ≡ step_tables t (arrival_of (Frame moment text)))
+      (said : may_say query verdict) where
     abbrev answer : Event
     answer = Answer next query.merchant query.reference verdict
 
@@ -125,7 +175,8 @@ module _ (may_say : Saying) (t : Tables) (moment : ℕ) (text message : List ℕ
     pub answer_refused : (stays_open : Type 0) (new : Tables) → (stays_open → new ≡ mid) →
         Refused may_say t stays_open new message [] (moment ∷ next ∷ []) (verdict ∷ [])
     answer_refused stays_open new kept =
-        let most : TookAllButAnswer may_say t stays_open new text (moment ∷ next ∷ []) (verdict ∷ []) = record {
+        let most : TookAllButAnswer may_say t stays_open new text (moment ∷ next ∷ [])
+        (verdict ∷ []) = record {
           came = Frame moment text;
           answer = answer;
           is_answer = tt;
@@ -135,17 +186,26 @@ module _ (may_say : Saying) (t : Tables) (moment : ℕ) (text message : List ℕ
           said = said_one may_say t moment text query verdict is said;
           silent = replies_one t (Frame moment text) (Ask query) is;
         } in
-        let refused : Refused may_say t stays_open new text [] (moment ∷ next ∷ []) (verdict ∷ []) = (refl, inr most) in
-        subst (λ (x : List ℕ). Refused may_say t stays_open new x [] (moment ∷ next ∷ []) (verdict ∷ [])) same refused
+        let refused : Refused may_say t stays_open new text [] (moment ∷ next ∷ []) (verdict ∷ []) =
+        (refl, inr most) in
+        subst (λ (x : List ℕ). Refused may_say t stays_open new x [] (moment ∷ next ∷ [])
+        (verdict ∷ [])) same refused
 
     -- its answer was taken, and the reply, if there is one, is sent
-    pub answer_sent : (stays_open : Type 0) (new : Tables) (o : Output) (before now : List ℕ) (r : Result (Unit {0}) fault.FrontFault) →
-        o ≡ step_output mid (arrival_of answer) → new ≡ step_tables mid (arrival_of answer) → ReplyFits o → SendsReply o before now r →
-        (out : List ℕ) × (now ≡ before ++ out) × Turns may_say t stays_open new message out (moment ∷ next ∷ []) (verdict ∷ []) r
+    pub answer_sent : (stays_open : Type 0) (new : Tables) (o : Output) (before now : List ℕ)
+        (r : Result (Unit {0}) fault.FrontFault) →
+        o ≡ step_output mid (arrival_of answer) → new ≡ step_tables mid (arrival_of answer) →
+        ReplyFits o → SendsReply o before now r →
+        (out : List ℕ) × (now ≡ before ++ out) × Turns may_say t stays_open new message out
+        (moment ∷ next ∷ []) (verdict ∷ []) r
     answer_sent stays_open new o before now r out tables fits sent =
-        let said_last : step_output (step_tables t (arrival_of (Frame moment text))) (arrival_of answer) ≡ o =
+        let said_last : step_output (step_tables t (arrival_of (Frame moment text)))
+        (arrival_of answer) ≡ o =
         ap (λ (x : Tables). step_output x (arrival_of answer)) (sym between) ∙ sym out in
-        subst (λ (x : List ℕ). (out : List ℕ) × (now ≡ before ++ out) × Turns may_say t stays_open new x out (moment ∷ next ∷ []) (verdict ∷ []) r) same
-        (said_sent may_say t stays_open new text (moment ∷ next ∷ []) (verdict ∷ []) (Frame moment text ∷ answer ∷ [])
-        (reads t moment text (Ask query) is (λ f e. cc)) (took_answer may_say t mid new moment next text query verdict is between tables said)
+        subst (λ (x : List ℕ). (out : List ℕ) × (now ≡ before ++ out)
+        × Turns may_say t stays_open new x out (moment ∷ next ∷ []) (verdict ∷ []) r) same
+        (said_sent may_say t stays_open new text (moment ∷ next ∷ []) (verdict ∷ [])
+        (Frame moment text ∷ answer ∷ [])
+        (reads t moment text (Ask query) is (λ f e. cc))
+        (took_answer may_say t mid new moment next text query verdict is between tables said)
         o before now r (replies_two t (Frame moment text) answer query o is said_last) fits sent)

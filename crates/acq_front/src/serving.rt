@@ -132,8 +132,8 @@ pub fn answer_message<B: Book + Drop, K: Sink, C: Clock, I: Issuer>(
     }
 }
 
-/// Writes what the host said, if it is a reply, as a frame. A reply that fits no frame can only come
-/// of rows that no host wrote.
+/// Writes what the host said, if it is a reply, as a frame. A reply that fits no frame can only
+/// come of rows that no host wrote.
 fn send_reply<K: Sink>(said: &Output, sink: &mut K) -> Result<(), FrontFault>
     ensures sent { ReplyFits said.now
         → SendsReply said.now (K.sent sink.old) (K.sent sink.new) result }
@@ -153,8 +153,8 @@ fn send_reply<K: Sink>(said: &Output, sink: &mut K) -> Result<(), FrontFault>
     }
 }
 
-/// Writes a text as a frame. It takes no memory, so nothing can fail between an event that was taken
-/// and its reply's first byte.
+/// Writes a text as a frame. It takes no memory, so nothing can fail between an event that was
+/// taken and its reply's first byte.
 fn send<K: Sink>(text: &[u8], sink: &mut K) -> Result<(), FrontFault>
     requires { fits_frame text.now ≡ true }
     ensures sent { Sends text.now (K.sent sink.old) (K.sent sink.new) result }
@@ -167,8 +167,8 @@ fn send<K: Sink>(text: &[u8], sink: &mut K) -> Result<(), FrontFault>
     }
 }
 
-/// Writes a text of a usual length as a frame. It is apart, since a function pays for the size of its
-/// buffers, whether or not they are used.
+/// Writes a text of a usual length as a frame. It is apart, since a function pays for the size of
+/// its buffers, whether or not they are used.
 fn send_usual<K: Sink>(text: &[u8], sink: &mut K) -> Result<(), FrontFault>
     requires fits { fits_frame text.now ≡ true }
     requires usual { 2 + length text.now ≤ 256 }

@@ -1,5 +1,6 @@
 -- The first line of a text.
-use Rattle.std.proofs.Common.{◌≡◌, ℕ, zero, suc, ◌+◌, ◌<◌, List, [], ◌∷◌, length, take, drop, refl, ap}
+use Rattle.std.proofs.Common.{◌≡◌, ℕ, zero, suc, ◌+◌, ◌<◌, List, [], ◌∷◌, length, take, drop, refl}
+use Rattle.std.proofs.Common.{ap}
 use Rattle.std.proofs.Common.{Some, None, leb, inl, inr, arith}
 use Rattle.std.specs.Prelude.{◌==◌, not}
 use Rattle.std.specs.List.{prefix_len, position}
@@ -17,7 +18,8 @@ take-first [] n e h = absurd (omega (arith, h))
 take-first (byte ∷ rest) zero e h =
     elim (cases_Bool (byte == 10)) [
       | inl feed ↦ rw feed refl
-      | inr other ↦ let more : 1 + line_length rest ≡ 0 = rw other at e in absurd (omega (arith, more))
+      | inr other ↦ let more : 1 + line_length rest ≡ 0 = rw other at e in
+          absurd (omega (arith, more))
     ]
 take-first (byte ∷ rest) (suc n) e h =
     elim (cases_Bool (byte == 10)) [
@@ -36,7 +38,8 @@ take-last byte [] e =
     ]
 take-last byte (next ∷ rest) e =
     elim (cases_Bool (byte == 10)) [
-      | inl feed ↦ let none : 0 ≡ suc (length (next ∷ rest)) = rw feed at e in absurd (omega (arith, none))
+      | inl feed ↦ let none : 0 ≡ suc (length (next ∷ rest)) = rw feed at e in
+          absurd (omega (arith, none))
       | inr other ↦
           let tail : 1 + line_length (next ∷ rest) ≡ suc (length (next ∷ rest)) = rw other at e in
           rw other (ap (on_first byte) (take-last next rest (omega (arith, tail))))

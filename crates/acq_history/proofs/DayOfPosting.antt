@@ -1,16 +1,22 @@
 -- What a request posts is of the day on which it came.
-use Rattle.std.proofs.Common.{◌≡◌, ℕ, List, Option, Some, None, Bool, true, false, cond, sym, ap, ◌∙◌}
+use Rattle.std.proofs.Common.{◌≡◌, ℕ, List, Option, Some, None, Bool, true, false, cond, sym, ap}
+use Rattle.std.proofs.Common.{◌∙◌}
 use Rattle.std.specs.Prelude.{option_and_then}
 use Rattle.acq_core.specs.declared.posting.Posting.{Posting}
 use Rattle.acq_message.specs.declared.service.Service.{Service}
-use Rattle.acq_message.specs.declared.service.Service.TheVariants.{Authorization, Financial, Completion, Reversal, ReversalAdvice, Reconciliation, NetworkManagement}
+use Rattle.acq_message.specs.declared.service.Service.TheVariants.{Authorization, Financial}
+use Rattle.acq_message.specs.declared.service.Service.TheVariants.{Completion, Reversal}
+use Rattle.acq_message.specs.declared.service.Service.TheVariants.{ReversalAdvice, Reconciliation}
+use Rattle.acq_message.specs.declared.service.Service.TheVariants.{NetworkManagement}
 use Rattle.acq_message.specs.Elements.{reference_in, original_key}
 use Rattle.acq_message.specs.declared.request_message.RequestMessage.{RequestMessage}
 use Rattle.acq_core.specs.declared.arrival.Arrival.TheVariants.{Requested}
 use Rattle.acq_core.specs.Known.{Prior}
-use Rattle.acq_core.specs.Changes.{completion_posting, reversal_posting, posted_leg, posting_today, reversal_leg}
+use Rattle.acq_core.specs.Changes.{completion_posting, reversal_posting, posted_leg, posting_today}
+use Rattle.acq_core.specs.Changes.{reversal_leg}
 use Rattle.acq_history.specs.Entries.{Entry, is_acceptance}
-use Rattle.acq_history.specs.History.{Found, recorded, referred, prior, posting_by, posting_from, posting_of}
+use Rattle.acq_history.specs.History.{Found, recorded, referred, prior, posting_by, posting_from}
+use Rattle.acq_history.specs.History.{posting_of}
 use Rattle.acq_history.proofs.Lookups.{map_some, then_some}
 
 -- also where the original posted nothing: then neither does its reversal
@@ -44,9 +50,11 @@ posting_by_day Financial e h r p posts = absurd (cc)
 posting_by_day Reconciliation e h r p posts = absurd (cc)
 posting_by_day NetworkManagement e h r p posts = absurd (cc)
 
-pub requests_post_today : (e : Entry) (h : List Entry) (r : RequestMessage) (p : Posting) → e.arrival ≡ Requested r →
+pub requests_post_today : (e : Entry) (h : List Entry) (r : RequestMessage) (p : Posting) →
+    e.arrival ≡ Requested r →
     posting_of e h ≡ Some p → p.day ≡ e.day
-requests_post_today e h r p came posts = step (is_acceptance e) (sym (ap (λ a. posting_from a e h) came) ∙ posts)
+requests_post_today e h r p came posts =
+    step (is_acceptance e) (sym (ap (λ a. posting_from a e h) came) ∙ posts)
   where
     step : (b : Bool) → cond b (posting_by r.service e h r) None ≡ Some p → p.day ≡ e.day
     step true accepted = posting_by_day r.service e h r p accepted

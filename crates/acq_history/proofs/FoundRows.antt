@@ -41,7 +41,8 @@ pub row_of_key : (t : Tables) (m : List ℕ) (o : Option RequestKey) (p : Prior)
     (found : IsRow t p) × (found.row.key.merchant ≡ m)
 row_of_key t m o p e =
     let a = then_some (recorded_in (requests_of m t.requests)) o p e in
-    let b = map_some prior_of (find (λ row. same_key row.key a.0) (requests_of m t.requests)) p a.2 in
+    let b = map_some prior_of (find (λ row. same_key row.key a.0) (requests_of m t.requests)) p a.2
+    in
     let c = In-find (λ row. same_key row.key a.0) (requests_of m t.requests) b.0 b.1 in
     let d = In-filtered (λ row. bytes_eq row.key.merchant m) b.0 t.requests c.0 in
     (record { row = b.0; member = d.0; says = b.2 }, bytes_eq_is b.0.key.merchant m d.1)
@@ -52,7 +53,8 @@ pub row_of_reference : (t : Tables) (m : List ℕ) (o : Option ℕ) (p : Prior) 
     (referred : IsReferred t p) × (referred.found.row.key.merchant ≡ m)
 row_of_reference t m o p e =
     let a = then_some (referred_in (requests_of m t.requests)) o p e in
-    let b = map_some prior_of (find (λ row. is_number a.0 row.reference) (requests_of m t.requests)) p a.2 in
+    let b = map_some prior_of (find (λ row. is_number a.0 row.reference) (requests_of m t.requests))
+    p a.2 in
     let c = In-find (λ row. is_number a.0 row.reference) (requests_of m t.requests) b.0 b.1 in
     let d = In-filtered (λ row. bytes_eq row.key.merchant m) b.0 t.requests c.0 in (
       record {

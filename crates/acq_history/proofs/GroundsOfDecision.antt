@@ -1,5 +1,6 @@
 -- What the tables show of each decision's grounds.
-use Rattle.std.proofs.Common.{◌≡◌, ℕ, ◌+◌, List, Some, None, Bool, true, false, cond, refl, ap, ◌∙◌, subst}
+use Rattle.std.proofs.Common.{◌≡◌, ℕ, ◌+◌, List, Some, None, Bool, true, false, cond, refl, ap, ◌∙◌}
+use Rattle.std.proofs.Common.{subst}
 use Rattle.std.specs.Prelude.{find}
 use Rattle.std.specs.Str.{bytes_eq}
 use Rattle.acq_message.specs.declared.service.Service.TheVariants.{Completion, Reconciliation}
@@ -12,8 +13,11 @@ use Rattle.acq_core.specs.declared.arrival.Arrival.{Arrival}
 use Rattle.acq_message.specs.declared.request_message.RequestMessage.{RequestMessage}
 use Rattle.acq_core.specs.declared.reply_state.ReplyState.TheVariants.{Awaited}
 use Rattle.acq_core.specs.Known.{Prior}
-use Rattle.acq_core.specs.Decision.{Decision, Reports, Replies, Repeats, Refuses, Admits, Completes, Reverses, Reconciles, Answers, CutsOver, AddsRange, DropsRange, Enrols, AddsTerminal, decision, is_open_at}
-use Rattle.acq_core.specs.Tables.{Tables, reply_state_of, requests_of, admitted_in, known_in, with_changed}
+use Rattle.acq_core.specs.Decision.{Decision, Reports, Replies, Repeats, Refuses, Admits, Completes}
+use Rattle.acq_core.specs.Decision.{Reverses, Reconciles, Answers, CutsOver, AddsRange, DropsRange}
+use Rattle.acq_core.specs.Decision.{Enrols, AddsTerminal, decision, is_open_at}
+use Rattle.acq_core.specs.Tables.{Tables, reply_state_of, requests_of, admitted_in, known_in}
+use Rattle.acq_core.specs.Tables.{with_changed}
 use Rattle.acq_history.specs.Entries.{is_admissible, is_reversal}
 use Rattle.acq_history.proofs.Members.{In, In-mapped}
 use Rattle.acq_history.proofs.FoundRows.{IsNew, IsRow, IsReferred}
@@ -26,7 +30,8 @@ pub record IsAdmission (t : Tables) (r : RequestMessage) (reference : ℕ) : Typ
   pub service : is_admissible r.service ≡ true
   pub merchant : Merchant
   pub enrolled : find (λ row. bytes_eq row.id (text_at r.message 42)) t.merchants ≡ Some merchant
-  pub next : reference ≡ merchant.first_reference + admitted_in (requests_of (text_at r.message 42) t.requests)
+  pub next : reference ≡ merchant.first_reference + admitted_in
+      (requests_of (text_at r.message 42) t.requests)
 
 -- a completion: the hold is the merchant's own, and open
 pub record IsCompletion (t : Tables) (r : RequestMessage) (hold : Prior) : Type 0 where
@@ -83,7 +88,13 @@ grounds t a =
       repeated = λ row member. tt;
       refused = λ r came merchant g given hosts. g.new;
       admitted = λ r came merchant g service amount room range held.
-          record { new = g.new; service = service; merchant = merchant; enrolled = g.enrolled; next = refl };
+          record {
+            new = g.new;
+            service = service;
+            merchant = merchant;
+            enrolled = g.enrolled;
+            next = refl;
+          };
       completed = λ r came merchant g service amount room hold own. record {
         new = g.new;
         service = service;
@@ -120,16 +131,20 @@ grounds t a =
 
 -- ---- members of changed lists
 
--- a row of a list in which the rows with a key were changed: one that has another key, or a changed one
-pub data IsChanged (key : RequestKey) (changed : Request → Request) (rows : List Request) (x : Request) : Type 0 where
+-- a row of a list in which the rows with a key were changed: one that has another key, or a changed
+-- one
+pub data IsChanged (key : RequestKey) (changed : Request → Request) (rows : List Request)
+    (x : Request) : Type 0 where
   Other : In x rows → (x.key ≡ key → ⊥) → IsChanged key changed rows x
   Made : (y : Request) → In y rows → y.key ≡ key → changed y ≡ x → IsChanged key changed rows x
 
-pub changed_is : (key : RequestKey) (changed : Request → Request) (rows : List Request) (x : Request) →
+pub changed_is : (key : RequestKey) (changed : Request → Request) (rows : List Request)
+    (x : Request) →
     In x (with_changed key changed rows) → IsChanged key changed rows x
 changed_is key changed rows x h =
     let a = In-mapped (λ row. cond (same_key row.key key) (changed row) row) x rows h in
-    let step : (b : Bool) → same_key a.0.key key ≡ b → cond b (changed a.0) a.0 ≡ x → IsChanged key changed rows x =
+    let step : (b : Bool) → same_key a.0.key key ≡ b → cond b (changed a.0) a.0 ≡ x →
+    IsChanged key changed rows x =
     elim [
       | true ↦ (λ q e. Made a.0 a.1 (same_key_is a.0.key key q) e)
       | false ↦

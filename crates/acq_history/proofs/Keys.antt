@@ -5,7 +5,10 @@ use Rattle.std.specs.Str.{bytes_eq}
 use Rattle.std.proofs.lemmas.Slice.Eq.{bytes_eq-Decides}
 use Rattle.std.proofs.lemmas.Bool.Decides.{nat_tests}
 use Rattle.acq_message.specs.declared.service.Service.{Service}
-use Rattle.acq_message.specs.declared.service.Service.TheVariants.{Authorization, Financial, Completion, Reversal, ReversalAdvice, Reconciliation, NetworkManagement}
+use Rattle.acq_message.specs.declared.service.Service.TheVariants.{Authorization, Financial}
+use Rattle.acq_message.specs.declared.service.Service.TheVariants.{Completion, Reversal}
+use Rattle.acq_message.specs.declared.service.Service.TheVariants.{ReversalAdvice, Reconciliation}
+use Rattle.acq_message.specs.declared.service.Service.TheVariants.{NetworkManagement}
 use Rattle.acq_message.specs.declared.request_key.RequestKey.{RequestKey}
 use Rattle.acq_message.specs.Services.{digits_of, same_service}
 use Rattle.acq_message.specs.Elements.{same_key}
@@ -49,11 +52,13 @@ service_back NetworkManagement = refl
 
 pub same_service_is : (a b : Service) → same_service a b ≡ true → a ≡ b
 same_service_is a b e =
-    sym (service_back a) ∙ (ap service_with (bytes_eq_is (digits_of a) (digits_of b) e) ∙ service_back b)
+    sym (service_back a)
+    ∙ (ap service_with (bytes_eq_is (digits_of a) (digits_of b) e) ∙ service_back b)
 
 pub same_key_itself : (a : RequestKey) → same_key a a ≡ true
 same_key_itself a =
-    λ i. bytes_eq_itself a.merchant i && bytes_eq_itself a.terminal i && bytes_eq_itself (digits_of a.service) i
+    λ i. bytes_eq_itself a.merchant i && bytes_eq_itself a.terminal i && bytes_eq_itself
+    (digits_of a.service) i
     && bytes_eq_itself a.trace i && bytes_eq_itself a.transmission i
 
 pub same_key_from : (a b : RequestKey) → a ≡ b → same_key a b ≡ true

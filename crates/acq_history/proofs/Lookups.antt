@@ -1,6 +1,8 @@
 -- What look-ups, counts and filters make of an edit of a list.
-use Rattle.std.proofs.Common.{◌≡◌, ◌+◌, List, [], ◌∷◌, ◌++◌, Option, Some, None, Bool, true, false, cond, refl, sym, ap, ◌∙◌}
-use Rattle.std.specs.Prelude.{map, filter, find, option_map, option_and_then, ◌||◌, not, is_some, is_none}
+use Rattle.std.proofs.Common.{◌≡◌, ◌+◌, List, [], ◌∷◌, ◌++◌, Option, Some, None, Bool, true, false}
+use Rattle.std.proofs.Common.{cond, refl, sym, ap, ◌∙◌}
+use Rattle.std.specs.Prelude.{map, filter, find, option_map, option_and_then, ◌||◌, not, is_some}
+use Rattle.std.specs.Prelude.{is_none}
 use Rattle.std.specs.Option.{option_or}
 use Rattle.std.specs.List.{list_any}
 use Rattle.std.proofs.lemmas.List.{append-nil}
@@ -51,7 +53,8 @@ pub map_some : {X Y : Type 0} (f : X → Y) (o : Option X) (y : Y) → option_ma
 map_some {X} {Y} f None y e = absurd (let h : ◌≡◌ {A = Option Y} None (Some y) = e in cc)
 map_some f (Some x) y e = (x, refl, some_is (f x) y e)
 
-pub then_some : {X Y : Type 0} (f : X → Option Y) (o : Option X) (y : Y) → option_and_then f o ≡ Some y →
+pub then_some : {X Y : Type 0} (f : X → Option Y) (o : Option X) (y : Y) →
+    option_and_then f o ≡ Some y →
     (x : X) × (o ≡ Some x) × (f x ≡ Some y)
 then_some {X} {Y} f None y e = absurd (let h : ◌≡◌ {A = Option Y} None (Some y) = e in cc)
 then_some f (Some x) y e = (x, refl, e)
@@ -79,18 +82,23 @@ pub find-view : {X Y : Type 0} (v : X → Y) (q : Y → Bool) (xs : List X) →
 find-view v q [] = refl
 find-view v q (x ∷ xs) =
     elim (q (v x)) as (λ b. cond b (Some (v x)) (find q (map v xs))
-    ≡ option_map v (cond b (Some x) (find (λ y. q (v y)) xs))) [ true ↦ refl | false ↦ find-view v q xs ]
+    ≡ option_map v (cond b (Some x) (find (λ y. q (v y)) xs)))
+    [ true ↦ refl | false ↦ find-view v q xs ]
 
 -- so it is with counting
-pub count-view : {X Y : Type 0} (v : X → Y) (q : Y → Bool) (xs : List X) → count q (map v xs) ≡ count (λ x. q (v x)) xs
+pub count-view : {X Y : Type 0} (v : X → Y) (q : Y → Bool) (xs : List X) →
+    count q (map v xs) ≡ count (λ x. q (v x)) xs
 count-view v q [] = refl
 count-view v q (x ∷ xs) = ap (λ n. cond (q (v x)) (1 + n) n) (count-view v q xs)
 
-pub count-same : {X : Type 0} (p q : X → Bool) → ((x : X) → p x ≡ q x) → (xs : List X) → count p xs ≡ count q xs
+pub count-same : {X : Type 0} (p q : X → Bool) → ((x : X) → p x ≡ q x) → (xs : List X) →
+    count p xs ≡ count q xs
 count-same p q same [] = refl
-count-same p q same (x ∷ xs) = λ i. cond (same x i) (1 + count-same p q same xs i) (count-same p q same xs i)
+count-same p q same (x ∷ xs) = λ i. cond (same x i) (1 + count-same p q same xs i)
+    (count-same p q same xs i)
 
-pub map-both : {X Y Z : Type 0} (f : Y → Z) (g : X → Y) (xs : List X) → map f (map g xs) ≡ map (λ x. f (g x)) xs
+pub map-both : {X Y Z : Type 0} (f : Y → Z) (g : X → Y) (xs : List X) →
+    map f (map g xs) ≡ map (λ x. f (g x)) xs
 map-both f g [] = refl
 map-both f g (x ∷ xs) = ap (λ ys. f (g x) ∷ ys) (map-both f g xs)
 
@@ -105,7 +113,8 @@ filter-map p u v same like [] = refl
 filter-map {X} p u v same like (x ∷ xs) =
     ap (λ b. cond b (u x ∷ filter p (map u xs)) (filter p (map u xs))) (same x)
     ∙ (let step : (b : Bool) → p x ≡ b →
-    cond b (u x ∷ filter p (map u xs)) (filter p (map u xs)) ≡ map v (cond b (x ∷ filter p xs) (filter p xs)) =
+    cond b (u x ∷ filter p (map u xs)) (filter p (map u xs))
+    ≡ map v (cond b (x ∷ filter p xs) (filter p xs)) =
     elim [
       | true ↦ (λ e i. like x e i ∷ filter-map p u v same like xs i)
       | false ↦ (λ e. filter-map p u v same like xs)
@@ -115,7 +124,8 @@ pub map_same : {X : Type 0} (xs : List X) → map (λ x. x) xs ≡ xs
 map_same [] = refl
 map_same (x ∷ xs) = ap (λ ys. x ∷ ys) (map_same xs)
 
-pub any-push : {X : Type 0} (p : X → Bool) (xs : List X) (y : X) → list_any p (xs ++ y ∷ []) ≡ (p y || list_any p xs)
+pub any-push : {X : Type 0} (p : X → Bool) (xs : List X) (y : X) →
+    list_any p (xs ++ y ∷ []) ≡ (p y || list_any p xs)
 any-push p [] y = refl
 any-push p (x ∷ xs) y =
     ap (λ b. p x || b) (any-push p xs y)
@@ -126,22 +136,26 @@ any-push p (x ∷ xs) y =
 
 pub filter-push_in : {X : Type 0} (p : X → Bool) (xs : List X) (y : X) → p y ≡ true →
     filter p (xs ++ y ∷ []) ≡ filter p xs ++ y ∷ []
-filter-push_in p xs y e = filter-append p xs (y ∷ []) ∙ ap (λ b. filter p xs ++ cond b (y ∷ []) []) e
+filter-push_in p xs y e = filter-append p xs (y ∷ [])
+    ∙ ap (λ b. filter p xs ++ cond b (y ∷ []) []) e
 
 pub filter-push_out : {X : Type 0} (p : X → Bool) (xs : List X) (y : X) → p y ≡ false →
     filter p (xs ++ y ∷ []) ≡ filter p xs
 filter-push_out p xs y e =
-    filter-append p xs (y ∷ []) ∙ (ap (λ b. filter p xs ++ cond b (y ∷ []) []) e ∙ append-nil (filter p xs))
+    filter-append p xs (y ∷ [])
+    ∙ (ap (λ b. filter p xs ++ cond b (y ∷ []) []) e ∙ append-nil (filter p xs))
 
 -- a count of what passes a narrower test does not see the filter
-pub count-filter : {X : Type 0} (p q : X → Bool) → ((x : X) → q x ≡ true → p x ≡ true) → (xs : List X) →
+pub count-filter : {X : Type 0} (p q : X → Bool) → ((x : X) → q x ≡ true → p x ≡ true) →
+    (xs : List X) →
     count q (filter p xs) ≡ count q xs
 count-filter p q narrower [] = refl
 count-filter {X} p q narrower (x ∷ xs) =
     let step : (b c : Bool) → p x ≡ b → q x ≡ c →
     count q (cond b (x ∷ filter p xs) (filter p xs)) ≡ cond c (1 + count q xs) (count q xs) =
     elim [
-      | true ↦ (λ c e d i. cond (d i) (1 + count-filter p q narrower xs i) (count-filter p q narrower xs i))
+      | true ↦ (λ c e d i. cond (d i) (1 + count-filter p q narrower xs i)
+          (count-filter p q narrower xs i))
       | false ↦ elim [
         | true ↦ (λ e d. clash (p x) (narrower x d) e)
         | false ↦ (λ e d. count-filter p q narrower xs)
@@ -150,16 +164,22 @@ count-filter {X} p q narrower (x ∷ xs) =
     step (p x) (q x) refl refl
 
 -- what is found through a filter passes it
-pub found_passes : {X : Type 0} (p c : X → Bool) (xs : List X) (x : X) → find c (filter p xs) ≡ Some x → p x ≡ true
+pub found_passes : {X : Type 0} (p c : X → Bool) (xs : List X) (x : X) →
+    find c (filter p xs) ≡ Some x → p x ≡ true
 found_passes {X} p c [] x e = absurd (let h : ◌≡◌ {A = Option X} None (Some x) = e in cc)
 found_passes {X} p c (y ∷ ys) x e =
-    let step : (b d : Bool) → p y ≡ b → c y ≡ d → find c (cond b (y ∷ filter p ys) (filter p ys)) ≡ Some x →
+    let step : (b d : Bool) → p y ≡ b → c y ≡ d →
+    find c (cond b (y ∷ filter p ys) (filter p ys)) ≡ Some x →
     p x ≡ true =
     elim [
       | true ↦
           (λ d t u. (let inner : (d : Bool) → cond d (Some y) (find c (filter p ys)) ≡ Some x →
           p x ≡ true =
-          elim [ true ↦ (λ f. ap p (sym (some_is y x f)) ∙ t) | false ↦ (λ f. found_passes p c ys x f) ] in
+          elim [
+            | true ↦ (λ f. ap p (sym (some_is y x f)) ∙ t)
+            | false ↦
+                (λ f. found_passes p c ys x f)
+          ] in
           inner (c y)))
       | false ↦ (λ d t u f. found_passes p c ys x f)
     ] in
@@ -172,11 +192,13 @@ Each P [] = Unit {0}
 Each P (x ∷ xs) = P x × Each P xs
 
 -- what all have in two lists, all have in both together
-pub each-push : {X : Type 0} (P : X → Type 0) (xs ys : List X) → Each P xs → Each P ys → Each P (xs ++ ys)
+pub each-push : {X : Type 0} (P : X → Type 0) (xs ys : List X) → Each P xs → Each P ys →
+    Each P (xs ++ ys)
 each-push P [] ys a b = b
 each-push P (x ∷ xs) ys a b = (a.0, each-push P xs ys a.1 b)
 
-pub each-map : {X Y : Type 0} (P : X → Type 0) (Q : Y → Type 0) (u : X → Y) → ((x : X) → P x → Q (u x)) →
+pub each-map : {X Y : Type 0} (P : X → Type 0) (Q : Y → Type 0) (u : X → Y) →
+    ((x : X) → P x → Q (u x)) →
     (xs : List X) → Each P xs → Each Q (map u xs)
 each-map P Q u f [] a = tt
 each-map P Q u f (x ∷ xs) a = (f x a.0, each-map P Q u f xs a.1)

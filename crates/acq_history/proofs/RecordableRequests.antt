@@ -2,7 +2,10 @@
 use Rattle.std.proofs.Common.{◌≡◌, ℕ, Some, true, ◌⊎◌, inl, inr, refl, ap}
 use Rattle.iso_codec.specs.Message.{IsoMessage}
 use Rattle.acq_message.specs.declared.service.Service.{Service}
-use Rattle.acq_message.specs.declared.service.Service.TheVariants.{Authorization, Financial, Completion, Reversal, ReversalAdvice, Reconciliation, NetworkManagement}
+use Rattle.acq_message.specs.declared.service.Service.TheVariants.{Authorization, Financial}
+use Rattle.acq_message.specs.declared.service.Service.TheVariants.{Completion, Reversal}
+use Rattle.acq_message.specs.declared.service.Service.TheVariants.{ReversalAdvice, Reconciliation}
+use Rattle.acq_message.specs.declared.service.Service.TheVariants.{NetworkManagement}
 use Rattle.acq_core.specs.declared.lookup.Wanted.{Wanted}
 use Rattle.acq_message.specs.Elements.{text_at, key_of}
 use Rattle.acq_message.specs.declared.request_message.RequestMessage.{RequestMessage}
@@ -12,7 +15,8 @@ use Rattle.acq_history.specs.Entries.{recordable, is_admissible, is_reversal}
 -- ---- services
 
 -- network management alone isn't recorded
-pub recordable_some : (s : Service) (r : RequestMessage) → (s ≡ NetworkManagement → ⊥) → recordable r s ≡ Some r
+pub recordable_some : (s : Service) (r : RequestMessage) → (s ≡ NetworkManagement → ⊥) →
+    recordable r s ≡ Some r
 recordable_some Authorization r other = refl
 recordable_some Financial r other = refl
 recordable_some Completion r other = refl
@@ -30,7 +34,8 @@ recordable_is ReversalAdvice q r e = cc
 recordable_is Reconciliation q r e = cc
 recordable_is NetworkManagement q r e = absurd (cc)
 
-pub is_admissible_true : (s : Service) → (s ≡ Authorization) ⊎ (s ≡ Financial) → is_admissible s ≡ true
+pub is_admissible_true : (s : Service) → (s ≡ Authorization) ⊎ (s ≡ Financial) →
+    is_admissible s ≡ true
 is_admissible_true s (inl is) = ap is_admissible is
 is_admissible_true s (inr is) = ap is_admissible is
 
@@ -46,7 +51,8 @@ pub record WantsByKey (w : Wanted) (s : Service) (m : IsoMessage) : Type 0 where
   pub terminal : w.terminal ≡ Some (text_at m 41)
   pub key : w.key ≡ Some (key_of s m)
 
-pub wants_by_key : (day : ℕ) (s : Service) (q r : RequestMessage) (m : IsoMessage) → recordable q s ≡ Some r →
+pub wants_by_key : (day : ℕ) (s : Service) (q r : RequestMessage) (m : IsoMessage) →
+    recordable q s ≡ Some r →
     WantsByKey (wanted_for day s m) s m
 wants_by_key day Authorization q r m e = record { merchant = refl; terminal = refl; key = refl }
 wants_by_key day Financial q r m e = record { merchant = refl; terminal = refl; key = refl }

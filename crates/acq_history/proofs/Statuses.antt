@@ -2,11 +2,14 @@
 use Rattle.std.proofs.Common.{◌≡◌, true, refl}
 use Rattle.iso_codec.specs.Message.{IsoMessage}
 use Rattle.acq_core.specs.declared.status.Status.{Status}
-use Rattle.acq_core.specs.declared.status.Status.TheVariants.{Refused, Pending, Declined, Approved, Completed, Reversed, ReversedPending, Reconciled}
+use Rattle.acq_core.specs.declared.status.Status.TheVariants.{Refused, Pending, Declined, Approved}
+use Rattle.acq_core.specs.declared.status.Status.TheVariants.{Completed, Reversed, ReversedPending}
+use Rattle.acq_core.specs.declared.status.Status.TheVariants.{Reconciled}
 use Rattle.acq_core.specs.declared.reply_state.ReplyState.TheVariants.{Awaited}
 use Rattle.acq_core.specs.Tables.{reply_state_of, is_approved}
 
-pub reply_state_of-awaited : (s : Status) (reply draft : IsoMessage) → reply_state_of s reply ≡ Awaited draft →
+pub reply_state_of-awaited : (s : Status) (reply draft : IsoMessage) →
+    reply_state_of s reply ≡ Awaited draft →
     s ≡ Pending
 reply_state_of-awaited Pending reply draft e = refl
 reply_state_of-awaited Refused reply draft e = absurd (cc)

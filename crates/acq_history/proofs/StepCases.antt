@@ -1,6 +1,8 @@
--- By cases over a step: what holds in each case that the tables allow holds of what is decided on them. Where a request
+-- By cases over a step: what holds in each case that the tables allow holds of what is decided on
+-- them. Where a request
 -- is accepted, none of its service's refusals applied.
-use Rattle.std.proofs.Common.{◌≡◌, ℕ, ◌+◌, ◌<◌, List, [], ◌∷◌, Option, Some, None, Bool, true, false, refl, sym, ap, ◌∙◌, subst, ltb}
+use Rattle.std.proofs.Common.{◌≡◌, ℕ, ◌+◌, ◌<◌, List, [], ◌∷◌, Option, Some, None, Bool, true}
+use Rattle.std.proofs.Common.{false, refl, sym, ap, ◌∙◌, subst, ltb}
 use Rattle.std.specs.Prelude.{not, nat_lt, ◌==◌, ◌||◌, ◌&&◌, option_and_then, find, if◌then◌else◌}
 use Rattle.std.specs.List.{list_all, list_any}
 use Rattle.std.specs.Str.{bytes_eq}
@@ -8,29 +10,50 @@ use Rattle.std.proofs.lemmas.Bool.{and_parts, ltb-true}
 use Rattle.iso_codec.specs.Message.{IsoMessage, content_of}
 use Rattle.card_no.specs.declared.range.Range.{Range}
 use Rattle.card_no.specs.CardNumbers.{is_valid_card}
-use Rattle.card_no.specs.Ranges.{is_valid_range, holds_prefix, range_of_prefix, between, overlapped_by, has_ends}
+use Rattle.card_no.specs.Ranges.{is_valid_range, holds_prefix, range_of_prefix, between}
+use Rattle.card_no.specs.Ranges.{overlapped_by, has_ends}
 use Rattle.day_totals.specs.Day.{last_day}
 use Rattle.acq_message.specs.declared.service.Service.{Service}
-use Rattle.acq_message.specs.declared.service.Service.TheVariants.{Authorization, Financial, Completion, Reversal, ReversalAdvice, Reconciliation, NetworkManagement}
+use Rattle.acq_message.specs.declared.service.Service.TheVariants.{Authorization, Financial}
+use Rattle.acq_message.specs.declared.service.Service.TheVariants.{Completion, Reversal}
+use Rattle.acq_message.specs.declared.service.Service.TheVariants.{ReversalAdvice, Reconciliation}
+use Rattle.acq_message.specs.declared.service.Service.TheVariants.{NetworkManagement}
 use Rattle.acq_message.specs.declared.verdict.Verdict.{Verdict}
 use Rattle.acq_message.specs.declared.response_code.ResponseCode.{ResponseCode}
 use Rattle.acq_message.specs.declared.response_code.ResponseCode.TheVariants as code
 use Rattle.acq_message.specs.declared.request_message.RequestMessage.{RequestMessage}
 use Rattle.acq_message.specs.Numbers.{is_accepted_amount}
-use Rattle.acq_message.specs.Elements.{text_at, key_of, amount_in, or_empty, essence_of, original_acquirer}
+use Rattle.acq_message.specs.Elements.{text_at, key_of, amount_in, or_empty, essence_of}
+use Rattle.acq_message.specs.Elements.{original_acquirer}
 use Rattle.acq_message.specs.Cards.{card_of, expiry_of}
 use Rattle.acq_core.specs.declared.merchant.Merchant.{Merchant}
 use Rattle.acq_core.specs.declared.terminal.Terminal.{Terminal}
 use Rattle.acq_core.specs.declared.request.Request.{Request}
 use Rattle.acq_core.specs.declared.status.Status.{Status}
-use Rattle.acq_core.specs.declared.status.Status.TheVariants.{Refused, Pending, Declined, Approved, Completed, Reversed, ReversedPending, Reconciled}
+use Rattle.acq_core.specs.declared.status.Status.TheVariants.{Refused, Pending, Declined, Approved}
+use Rattle.acq_core.specs.declared.status.Status.TheVariants.{Completed, Reversed, ReversedPending}
+use Rattle.acq_core.specs.declared.status.Status.TheVariants.{Reconciled}
 use Rattle.acq_core.specs.declared.output.Output.{Output}
 use Rattle.acq_core.specs.declared.output.Output.TheVariants as output
 use Rattle.acq_core.specs.declared.arrival.Arrival.{Arrival}
-use Rattle.acq_core.specs.declared.arrival.Arrival.TheVariants.{Undecoded, Unserved, Malformed, Requested, Answered, CutOver, RangeAdded, RangeDropped, Enrolled, TerminalAdded}
+use Rattle.acq_core.specs.declared.arrival.Arrival.TheVariants.{Undecoded, Unserved, Malformed}
+use Rattle.acq_core.specs.declared.arrival.Arrival.TheVariants.{Requested, Answered, CutOver}
+use Rattle.acq_core.specs.declared.arrival.Arrival.TheVariants.{RangeAdded, RangeDropped, Enrolled}
+use Rattle.acq_core.specs.declared.arrival.Arrival.TheVariants.{TerminalAdded}
 use Rattle.acq_core.specs.Known.{Known, Prior, reconciled_day, number_if, wanted_for}
-use Rattle.acq_core.specs.Decision.{Decision, Reports, Replies, Repeats, Refuses, Admits, Completes, Reverses, Reconciles, Answers, CutsOver, AddsRange, DropsRange, Enrols, AddsTerminal, first_of, is_full, is_other_transaction, is_expired, is_open_at, open_hold, fits_acquirer, original_of, admission_in, admission, completion_of, completion, reversal_of, reconciliation_of, is_network_code, network_response, decision_by, repeat_of, decision_of_key, decision_of_merchant, decision_of_request, decision_of_reply_state, decision_of_prior, decision_of_answer, decision_of_new_range, decision_of_old_range, decision_of_enrolment, decision_of_terminal, decision}
-use Rattle.acq_core.specs.Tables.{Tables, prior_of, reply_state_of, is_reversible, requests_of, recorded_in, referred_in, admitted_in, used_in, known_in}
+use Rattle.acq_core.specs.Decision.{Decision, Reports, Replies, Repeats, Refuses, Admits, Completes}
+use Rattle.acq_core.specs.Decision.{Reverses, Reconciles, Answers, CutsOver, AddsRange, DropsRange}
+use Rattle.acq_core.specs.Decision.{Enrols, AddsTerminal, first_of, is_full, is_other_transaction}
+use Rattle.acq_core.specs.Decision.{is_expired, is_open_at, open_hold, fits_acquirer, original_of}
+use Rattle.acq_core.specs.Decision.{admission_in, admission, completion_of, completion, reversal_of}
+use Rattle.acq_core.specs.Decision.{reconciliation_of, is_network_code, network_response}
+use Rattle.acq_core.specs.Decision.{decision_by, repeat_of, decision_of_key, decision_of_merchant}
+use Rattle.acq_core.specs.Decision.{decision_of_request, decision_of_reply_state, decision_of_prior}
+use Rattle.acq_core.specs.Decision.{decision_of_answer, decision_of_new_range}
+use Rattle.acq_core.specs.Decision.{decision_of_old_range, decision_of_enrolment}
+use Rattle.acq_core.specs.Decision.{decision_of_terminal, decision}
+use Rattle.acq_core.specs.Tables.{Tables, prior_of, reply_state_of, is_reversible, requests_of}
+use Rattle.acq_core.specs.Tables.{recorded_in, referred_in, admitted_in, used_in, known_in}
 use Rattle.acq_core.proofs.DecisionCases.{IsFresh}
 use Rattle.acq_history.specs.Entries.{is_admissible, is_reversal}
 use Rattle.acq_history.proofs.Lookups.{or_split, not_false, then_some}
@@ -84,25 +107,34 @@ pub record StepCases (t : Tables) (a : Arrival) (P : Decision → Type 0) : Type
   -- nothing changes
   pub reported : (o : Output) → is_reply o ≡ false → P (Reports o)
   pub malformed : (r : RequestMessage) → a ≡ Malformed r → P (Replies r code.FormatError)
-  pub replied : (r : RequestMessage) → a ≡ Requested r → (given : ResponseCode) → is_hosts given ≡ true →
+  pub replied : (r : RequestMessage) → a ≡ Requested r → (given : ResponseCode) →
+      is_hosts given ≡ true →
       P (Replies r given)
   pub repeated : (row : Request) → In row t.requests → P (Repeats row.reply)
   -- a request is recorded
-  pub refused : (r : RequestMessage) → a ≡ Requested r → (merchant : Merchant) → IsRecording t r merchant → (given : ResponseCode) →
+  pub refused : (r : RequestMessage) → a ≡ Requested r → (merchant : Merchant) →
+      IsRecording t r merchant → (given : ResponseCode) →
       is_hosts given ≡ true → P (Refuses r given)
-  pub admitted : (r : RequestMessage) → a ≡ Requested r → (merchant : Merchant) → IsRecording t r merchant → is_admissible r.service ≡ true →
+  pub admitted : (r : RequestMessage) → a ≡ Requested r → (merchant : Merchant) →
+      IsRecording t r merchant → is_admissible r.service ≡ true →
       is_accepted_amount (amount_in r.message) ≡ true → HasRoom t r → (range : Range) →
       In range t.ranges → P (Admits r range (next_reference t r merchant))
-  pub completed : (r : RequestMessage) → a ≡ Requested r → (merchant : Merchant) → IsRecording t r merchant → r.service ≡ Completion →
-      is_accepted_amount (amount_in r.message) ≡ true → HasRoom t r → (hold : Request) → IsOpenHold t r hold →
+  pub completed : (r : RequestMessage) → a ≡ Requested r → (merchant : Merchant) →
+      IsRecording t r merchant → r.service ≡ Completion →
+      is_accepted_amount (amount_in r.message) ≡ true → HasRoom t r → (hold : Request) →
+      IsOpenHold t r hold →
       P (Completes r (prior_of hold))
-  pub reversed : (r : RequestMessage) → a ≡ Requested r → (merchant : Merchant) → IsRecording t r merchant → is_reversal r.service ≡ true →
+  pub reversed : (r : RequestMessage) → a ≡ Requested r → (merchant : Merchant) →
+      IsRecording t r merchant → is_reversal r.service ≡ true →
       HasRoom t r → (row : Request) → IsOriginal t r row → P (Reverses r (prior_of row))
-  pub reconciled : (r : RequestMessage) → a ≡ Requested r → (merchant : Merchant) → IsRecording t r merchant → r.service ≡ Reconciliation →
-      (day : ℕ) → reconciled_day t.day (content_of r.message.elements 15) ≡ Some day → P (Reconciles r day)
+  pub reconciled : (r : RequestMessage) → a ≡ Requested r → (merchant : Merchant) →
+      IsRecording t r merchant → r.service ≡ Reconciliation →
+      (day : ℕ) → reconciled_day t.day (content_of r.message.elements 15) ≡ Some day →
+      P (Reconciles r day)
   -- a pending request is answered
   pub answered : (moment : ℕ) (merchant : List ℕ) (reference : ℕ) (v : Verdict) →
-      a ≡ Answered moment merchant reference v → (row : Request) → In row t.requests → row.status ≡ Pending →
+      a ≡ Answered moment merchant reference v → (row : Request) → In row t.requests →
+      row.status ≡ Pending →
       (n : ℕ) → row.reference ≡ Some n → P (Answers moment v (prior_of row) row.reply)
   -- what all share, or a merchant's enrolment, is changed
   pub cut_over : t.day < last_day → P CutsOver
@@ -112,7 +144,8 @@ pub record StepCases (t : Tables) (a : Arrival) (P : Decision → Type 0) : Type
   pub enrolled : (merchant : Merchant) → a ≡ Enrolled merchant →
       find (λ row. bytes_eq row.id merchant.id) t.merchants ≡ None → P (Enrols merchant)
   pub terminal_added : (terminal : Terminal) → a ≡ TerminalAdded terminal →
-      list_any (λ row. bytes_eq row.merchant terminal.merchant && bytes_eq row.id terminal.id) t.terminals ≡ false →
+      list_any (λ row. bytes_eq row.merchant terminal.merchant && bytes_eq row.id terminal.id)
+      t.terminals ≡ false →
       P (AddsTerminal terminal)
 
 -- ---- requests
@@ -120,7 +153,8 @@ pub record StepCases (t : Tables) (a : Arrival) (P : Decision → Type 0) : Type
 -- one of the refusals, or what is accepted where none applies
 by_refusals : (P : Decision → Type 0) (r : RequestMessage) (refusals : List (Bool × ResponseCode))
     (accepted : Decision) → ((given : ResponseCode) → is_hosts given ≡ true → P (Refuses r given)) →
-    list_all (λ x. is_hosts x.1) refusals ≡ true → (list_any (λ x. x.0) refusals ≡ false → P accepted) →
+    list_all (λ x. is_hosts x.1) refusals ≡ true →
+    (list_any (λ x. x.0) refusals ≡ false → P accepted) →
     P (first_of r refusals accepted)
 by_refusals P r [] accepted refuse all accept = accept refl
 by_refusals P r (x ∷ xs) accepted refuse all accept =
@@ -137,9 +171,11 @@ by_refusals P r (x ∷ xs) accepted refuse all accept =
 network_response-hosts : (m : IsoMessage) → is_hosts (network_response m) ≡ true
 network_response-hosts m =
     elim (is_network_code (content_of m.elements 70)) as (λ b.
-    is_hosts (if b then code.Approved else code.InvalidTransaction) ≡ true) [ true ↦ refl | false ↦ refl ]
+    is_hosts (if b then code.Approved else code.InvalidTransaction) ≡ true)
+    [ true ↦ refl | false ↦ refl ]
 
-module _ (t : Tables) (r : RequestMessage) (P : Decision → Type 0) (cases : StepCases t (Requested r) P) where
+module _ (t : Tables) (r : RequestMessage) (P : Decision → Type 0)
+    (cases : StepCases t (Requested r) P) where
   -- what the tables let the request know
   abbrev k : Known
   k = known_in t (Requested r)
@@ -148,19 +184,23 @@ module _ (t : Tables) (r : RequestMessage) (P : Decision → Type 0) (cases : St
   abbrev m : List ℕ
   m = text_at r.message 42
 
-  wants : (r.service ≡ NetworkManagement → ⊥) → WantsByKey (wanted_for t.day r.service r.message) r.service r.message
-  wants recordable = wants_by_key t.day r.service r r r.message (recordable_some r.service r recordable)
+  wants : (r.service ≡ NetworkManagement → ⊥) →
+      WantsByKey (wanted_for t.day r.service r.message) r.service r.message
+  wants recordable = wants_by_key t.day r.service r r r.message
+      (recordable_some r.service r recordable)
 
   -- a fresh request is one that is recorded
   recording : (merchant : Merchant) → IsFresh k r merchant → IsRecording t r merchant
   recording merchant fresh = record {
     recordable = fresh.recordable;
     enrolled =
-        sym (ap (option_and_then (λ id. find (λ row. bytes_eq row.id m) t.merchants)) (wants fresh.recordable).merchant)
+        sym (ap (option_and_then (λ id. find (λ row. bytes_eq row.id m) t.merchants))
+        (wants fresh.recordable).merchant)
         ∙ fresh.enrolled;
     new =
         is_new t m (key_of r.service r.message) refl
-        (sym (ap (option_and_then (recorded_in (requests_of m t.requests))) (wants fresh.recordable).key) ∙ fresh.new);
+        (sym (ap (option_and_then (recorded_in (requests_of m t.requests)))
+        (wants fresh.recordable).key) ∙ fresh.new);
   }
 
   -- a day that isn't full has room
@@ -171,7 +211,8 @@ module _ (t : Tables) (r : RequestMessage) (P : Decision → Type 0) (cases : St
       ltb-true (used_in (requests_of m t.requests) t.day) t.limit
       (sym (ap (λ n. nat_lt n t.limit) used) ∙ not_false (nat_lt k.used k.limit) free)
 
-  refused : (merchant : Merchant) → IsFresh k r merchant → (given : ResponseCode) → is_hosts given ≡ true →
+  refused : (merchant : Merchant) → IsFresh k r merchant → (given : ResponseCode) →
+      is_hosts given ≡ true →
       P (Refuses r given)
   refused merchant fresh = cases.refused r refl merchant (recording merchant fresh)
 
@@ -180,13 +221,15 @@ module _ (t : Tables) (r : RequestMessage) (P : Decision → Type 0) (cases : St
       P (admission_in k merchant r o)
   by_range merchant fresh service amount None is = refused merchant fresh code.NoSuchIssuer refl
   by_range merchant fresh service amount (Some range) is =
-      by_refusals P r ((is_full k, code.LimitExceeded) ∷ []) (Admits r range (merchant.first_reference + k.admitted))
+      by_refusals P r ((is_full k, code.LimitExceeded) ∷ [])
+      (Admits r range (merchant.first_reference + k.admitted))
       (refused merchant fresh) refl
       (λ none.
       let prefix =
       then_some (range_of_prefix t.ranges) (wanted_for t.day r.service r.message).prefix range is in
       subst (λ n. P (Admits r range (merchant.first_reference + n)))
-      (sym (ap (number_if (admitted_in (requests_of m t.requests))) (wants fresh.recordable).merchant))
+      (sym (ap (number_if (admitted_in (requests_of m t.requests)))
+      (wants fresh.recordable).merchant))
       (cases.admitted r refl merchant (recording merchant fresh) service amount
       (room merchant fresh (or_split (is_full k) false none).0) range
       (In-find (holds_prefix prefix.0) t.ranges range prefix.2).0))
@@ -205,9 +248,11 @@ module _ (t : Tables) (r : RequestMessage) (P : Decision → Type 0) (cases : St
       ∷ []
       ) (admission_in k merchant r k.range) (refused merchant fresh) refl
       (λ none.
-      let later = (or_split (is_other_transaction merchant r) (amount || (card || (expired || false))) none).1 in
+      let later = (or_split (is_other_transaction merchant r)
+      (amount || (card || (expired || false))) none).1 in
       by_range merchant fresh service
-      (not_false (is_accepted_amount (amount_in r.message)) (or_split amount (card || (expired || false)) later).0)
+      (not_false (is_accepted_amount (amount_in r.message))
+      (or_split amount (card || (expired || false)) later).0)
       k.range refl)
 
   by_hold : (merchant : Merchant) → IsFresh k r merchant → r.service ≡ Completion →
@@ -225,9 +270,11 @@ module _ (t : Tables) (r : RequestMessage) (P : Decision → Type 0) (cases : St
             let free =
             or_split (is_full k) false
             (or_split (nat_lt hold.amount (amount_in r.message)) (is_full k || false) none).1 in
-            let found = row_of_reference t m (wanted_for t.day r.service r.message).reference hold is in
+            let found = row_of_reference t m (wanted_for t.day r.service r.message).reference hold
+            is in
             subst (λ p. P (Completes r p)) found.0.found.says
-            (cases.completed r refl merchant (recording merchant fresh) service amount (room merchant fresh free.0)
+            (cases.completed r refl merchant (recording merchant fresh) service amount
+            (room merchant fresh free.0)
             found.0.found.row (record {
               member = found.0.found.member;
               merchant = found.1;
@@ -239,7 +286,8 @@ module _ (t : Tables) (r : RequestMessage) (P : Decision → Type 0) (cases : St
       ] in
       step (is_open_at r.moment hold.hold_end) refl
 
-  by_completion : (merchant : Merchant) → IsFresh k r merchant → r.service ≡ Completion → P (completion k merchant r)
+  by_completion : (merchant : Merchant) → IsFresh k r merchant → r.service ≡ Completion →
+      P (completion k merchant r)
   by_completion merchant fresh service =
       let amount = not (is_accepted_amount (amount_in r.message)) in
       by_refusals P r (
@@ -250,21 +298,25 @@ module _ (t : Tables) (r : RequestMessage) (P : Decision → Type 0) (cases : St
       (λ none.
       let later = (or_split (is_other_transaction merchant r) (amount || false) none).1 in
       by_hold merchant fresh service
-      (not_false (is_accepted_amount (amount_in r.message)) (or_split amount false later).0) k.referred refl)
+      (not_false (is_accepted_amount (amount_in r.message)) (or_split amount false later).0)
+      k.referred refl)
 
-  by_found : (merchant : Merchant) → IsFresh k r merchant → is_reversal r.service ≡ true → (p : Prior) →
+  by_found : (merchant : Merchant) → IsFresh k r merchant → is_reversal r.service ≡ true →
+      (p : Prior) →
       k.original ≡ Some p → P (reversal_of k r (Some p))
   by_found merchant fresh service p is =
       let amount = not (amount_in r.message == p.amount) in
       by_refusals P r ((not p.is_reversible, code.NoActionTaken)
-      ∷ (not (amount_in r.message == p.amount), code.InvalidAmount) ∷ (is_full k, code.LimitExceeded) ∷ [])
+      ∷ (not (amount_in r.message == p.amount), code.InvalidAmount)
+      ∷ (is_full k, code.LimitExceeded) ∷ [])
       (Reverses r p) (refused merchant fresh) refl
       (λ none.
       let first = or_split (not p.is_reversible) (amount || (is_full k || false)) none in
       let free = or_split (is_full k) false (or_split amount (is_full k || false) first.1).1 in
       let found = row_of_key t m (wanted_for t.day r.service r.message).original p is in
       subst (λ x. P (Reverses r x)) found.0.says
-      (cases.reversed r refl merchant (recording merchant fresh) service (room merchant fresh free.0) found.0.row
+      (cases.reversed r refl merchant (recording merchant fresh) service
+      (room merchant fresh free.0) found.0.row
       (record {
         member = found.0.member;
         merchant = found.1;
@@ -282,24 +334,29 @@ module _ (t : Tables) (r : RequestMessage) (P : Decision → Type 0) (cases : St
       ]
 
   by_day : (merchant : Merchant) → IsFresh k r merchant → r.service ≡ Reconciliation →
-      (o : Option ℕ) → reconciled_day t.day (content_of r.message.elements 15) ≡ o → P (reconciliation_of r o)
+      (o : Option ℕ) → reconciled_day t.day (content_of r.message.elements 15) ≡ o →
+      P (reconciliation_of r o)
   by_day merchant fresh service None is = refused merchant fresh code.ReconcileError refl
-  by_day merchant fresh service (Some day) is = cases.reconciled r refl merchant (recording merchant fresh) service day is
+  by_day merchant fresh service (Some day) is = cases.reconciled r refl merchant
+      (recording merchant fresh) service day is
 
   by_service : (merchant : Merchant) → IsFresh k r merchant → (s : Service) → r.service ≡ s →
       P (decision_by s k merchant r)
   by_service merchant fresh Authorization is = by_admission merchant fresh (ap is_admissible is)
   by_service merchant fresh Financial is = by_admission merchant fresh (ap is_admissible is)
   by_service merchant fresh Completion is = by_completion merchant fresh is
-  by_service merchant fresh Reversal is = by_original merchant fresh (ap is_reversal is) k.original refl
-  by_service merchant fresh ReversalAdvice is = by_original merchant fresh (ap is_reversal is) k.original refl
+  by_service merchant fresh Reversal is =
+      by_original merchant fresh (ap is_reversal is) k.original refl
+  by_service merchant fresh ReversalAdvice is =
+      by_original merchant fresh (ap is_reversal is) k.original refl
   by_service merchant fresh Reconciliation is =
       by_day merchant fresh is (reconciled_day t.day (content_of r.message.elements 15)) refl
   by_service merchant fresh NetworkManagement is = absurd (fresh.recordable is)
 
   -- ---- before that
 
-  by_reply_state : (row : Request) → In row t.requests → (s : Status) → P (repeat_of (reply_state_of s row.reply))
+  by_reply_state : (row : Request) → In row t.requests → (s : Status) →
+      P (repeat_of (reply_state_of s row.reply))
   by_reply_state row member Pending = cases.reported output.Waiting refl
   by_reply_state row member ReversedPending = cases.reported output.Late refl
   by_reply_state row member Refused = cases.repeated row member
@@ -309,11 +366,13 @@ module _ (t : Tables) (r : RequestMessage) (P : Decision → Type 0) (cases : St
   by_reply_state row member Reversed = cases.repeated row member
   by_reply_state row member Reconciled = cases.repeated row member
 
-  by_key : (merchant : Merchant) → (r.service ≡ NetworkManagement → ⊥) → k.merchant ≡ Some merchant →
+  by_key : (merchant : Merchant) → (r.service ≡ NetworkManagement → ⊥) →
+      k.merchant ≡ Some merchant →
       k.has_terminal ≡ true → (o : Option Prior) → k.recorded ≡ o →
       P (decision_of_key r o (decision_by r.service k merchant r))
   by_key merchant recordable there terminal None is =
-      by_service merchant (record { recordable = recordable; enrolled = there; terminal = terminal; new = is })
+      by_service merchant
+      (record { recordable = recordable; enrolled = there; terminal = terminal; new = is })
       r.service refl
   by_key merchant recordable there terminal (Some p) is =
       let found = (row_of_key t m (wanted_for t.day r.service r.message).key p is).0 in
@@ -341,23 +400,29 @@ module _ (t : Tables) (r : RequestMessage) (P : Decision → Type 0) (cases : St
   by_recordable : (s : Service) → r.service ≡ s → P (decision_of_request s k r)
   by_recordable NetworkManagement is =
       cases.replied r refl (network_response r.message) (network_response-hosts r.message)
-  by_recordable Authorization is = by_merchant (λ n. absurd (let h = sym is ∙ n in cc)) k.merchant refl
+  by_recordable Authorization is = by_merchant (λ n. absurd (let h = sym is ∙ n in cc)) k.merchant
+      refl
   by_recordable Financial is = by_merchant (λ n. absurd (let h = sym is ∙ n in cc)) k.merchant refl
   by_recordable Completion is = by_merchant (λ n. absurd (let h = sym is ∙ n in cc)) k.merchant refl
   by_recordable Reversal is = by_merchant (λ n. absurd (let h = sym is ∙ n in cc)) k.merchant refl
-  by_recordable ReversalAdvice is = by_merchant (λ n. absurd (let h = sym is ∙ n in cc)) k.merchant refl
-  by_recordable Reconciliation is = by_merchant (λ n. absurd (let h = sym is ∙ n in cc)) k.merchant refl
+  by_recordable ReversalAdvice is = by_merchant (λ n. absurd (let h = sym is ∙ n in cc)) k.merchant
+      refl
+  by_recordable Reconciliation is = by_merchant (λ n. absurd (let h = sym is ∙ n in cc)) k.merchant
+      refl
 
   by_request : P (decision_of_request r.service k r)
   by_request = by_recordable r.service refl
 
 -- ---- answers
 
-module _ (t : Tables) (moment : ℕ) (merchant : List ℕ) (reference : ℕ) (v : Verdict) (P : Decision → Type 0)
+module _ (t : Tables) (moment : ℕ) (merchant : List ℕ) (reference : ℕ) (v : Verdict) (P : Decision →
+    Type 0)
     (cases : StepCases t (Answered moment merchant reference v) P) where
-  by_row : (row : Request) → In row t.requests → (n : ℕ) → row.reference ≡ Some n → (s : Status) → row.status ≡ s →
+  by_row : (row : Request) → In row t.requests → (n : ℕ) → row.reference ≡ Some n → (s : Status) →
+      row.status ≡ s →
       P (decision_of_reply_state moment v (prior_of row) (reply_state_of s row.reply))
-  by_row row member n under Pending is = cases.answered moment merchant reference v refl row member is n under
+  by_row row member n under Pending is =
+      cases.answered moment merchant reference v refl row member is n under
   by_row row member n under ReversedPending is = cases.reported output.Late refl
   by_row row member n under Refused is = cases.reported output.AlreadyAnswered refl
   by_row row member n under Declined is = cases.reported output.AlreadyAnswered refl
@@ -375,51 +440,62 @@ module _ (t : Tables) (moment : ℕ) (merchant : List ℕ) (reference : ℕ) (v 
       subst (λ x. P (decision_of_reply_state moment v x x.reply_state)) found.0.found.says
       (by_row row found.0.found.member found.0.number found.0.reference row.status refl)
 
-  by_answer : (o : Option Merchant) → P (decision_of_answer (known_in t (Answered moment merchant reference v)) moment v o)
+  by_answer : (o : Option Merchant) →
+      P (decision_of_answer (known_in t (Answered moment merchant reference v)) moment v o)
   by_answer None = cases.reported output.NoSuchMerchant refl
   by_answer (Some there) = by_prior (referred_in (requests_of merchant t.requests) reference) refl
 
 -- ---- the rest
 
-by_new_range : (t : Tables) (range : Range) (P : Decision → Type 0) → StepCases t (RangeAdded range) P →
-    is_valid_range range ≡ true → (o : Option Range) → overlapped_by (between range.low range.high) t.ranges ≡ o →
+by_new_range : (t : Tables) (range : Range) (P : Decision → Type 0) →
+    StepCases t (RangeAdded range) P →
+    is_valid_range range ≡ true → (o : Option Range) →
+    overlapped_by (between range.low range.high) t.ranges ≡ o →
     P (decision_of_new_range range o)
 by_new_range t range P cases valid None is = cases.range_added range valid is
 by_new_range t range P cases valid (Some other) is = cases.reported (output.Overlap other) refl
 
-by_old_range : (t : Tables) (low high : ℕ) (P : Decision → Type 0) → StepCases t (RangeDropped low high) P →
+by_old_range : (t : Tables) (low high : ℕ) (P : Decision → Type 0) →
+    StepCases t (RangeDropped low high) P →
     (o : Option Range) → P (decision_of_old_range low high o)
 by_old_range t low high P cases None = cases.reported output.NoSuchRange refl
 by_old_range t low high P cases (Some range) =
-    elim (has_ends low high range) as (λ b. P (if b then DropsRange low high else Reports output.NoSuchRange)) [
+    elim (has_ends low high range) as
+    (λ b. P (if b then DropsRange low high else Reports output.NoSuchRange)) [
       | true ↦ cases.range_dropped low high
       | false ↦ cases.reported output.NoSuchRange refl
     ]
 
-by_enrolment : (t : Tables) (merchant : Merchant) (P : Decision → Type 0) → StepCases t (Enrolled merchant) P →
+by_enrolment : (t : Tables) (merchant : Merchant) (P : Decision → Type 0) →
+    StepCases t (Enrolled merchant) P →
     (o : Option Merchant) → find (λ row. bytes_eq row.id merchant.id) t.merchants ≡ o →
     P (decision_of_enrolment merchant o)
 by_enrolment t merchant P cases None is = cases.enrolled merchant refl is
 by_enrolment t merchant P cases (Some other) is = cases.reported output.AlreadyEnrolled refl
 
-by_terminal : (t : Tables) (terminal : Terminal) (P : Decision → Type 0) → StepCases t (TerminalAdded terminal) P →
+by_terminal : (t : Tables) (terminal : Terminal) (P : Decision → Type 0) →
+    StepCases t (TerminalAdded terminal) P →
     (there : Bool) →
-    list_any (λ row. bytes_eq row.merchant terminal.merchant && bytes_eq row.id terminal.id) t.terminals ≡ there →
+    list_any (λ row. bytes_eq row.merchant terminal.merchant && bytes_eq row.id terminal.id)
+    t.terminals ≡ there →
     (o : Option Merchant) → P (decision_of_terminal terminal there o)
 by_terminal t terminal P cases there is None = cases.reported output.NoSuchMerchant refl
 by_terminal t terminal P cases true is (Some merchant) = cases.reported output.Done refl
 by_terminal t terminal P cases false is (Some merchant) = cases.terminal_added terminal refl is
 
 -- what holds in each case holds of what is decided
-pub by_step : (t : Tables) (a : Arrival) (P : Decision → Type 0) → StepCases t a P → P (decision (known_in t a) a)
+pub by_step : (t : Tables) (a : Arrival) (P : Decision → Type 0) → StepCases t a P →
+    P (decision (known_in t a) a)
 by_step t (Undecoded fault) P cases = cases.reported (output.Undecodable fault) refl
 by_step t (Unserved m) P cases = cases.reported (output.UnservedType m.kind) refl
 by_step t (Malformed r) P cases = cases.malformed r refl
 by_step t (Requested r) P cases = by_request t r P cases
 by_step t (Answered moment merchant reference v) P cases =
-    by_answer t moment merchant reference v P cases (known_in t (Answered moment merchant reference v)).merchant
+    by_answer t moment merchant reference v P cases
+    (known_in t (Answered moment merchant reference v)).merchant
 by_step t CutOver P cases =
-    let step : (b : Bool) → ltb t.day last_day ≡ b → P (if b then CutsOver else Reports output.LastDay) =
+    let step : (b : Bool) → ltb t.day last_day ≡ b →
+    P (if b then CutsOver else Reports output.LastDay) =
     elim [
       | true ↦ (λ e. cases.cut_over (ltb-true t.day last_day e))
       | false ↦ (λ e. cases.reported output.LastDay refl)
@@ -427,9 +503,11 @@ by_step t CutOver P cases =
     step (ltb t.day last_day) refl
 by_step t (RangeAdded range) P cases =
     let step : (b : Bool) → is_valid_range range ≡ b →
-    P (if b then decision_of_new_range range (known_in t (RangeAdded range)).overlapped else Reports output.BadRange) =
+    P (if b then decision_of_new_range range (known_in t (RangeAdded range)).overlapped else Reports
+    output.BadRange) =
     elim [
-      | true ↦ (λ e. by_new_range t range P cases e (overlapped_by (between range.low range.high) t.ranges) refl)
+      | true ↦ (λ e. by_new_range t range P cases e
+          (overlapped_by (between range.low range.high) t.ranges) refl)
       | false ↦ (λ e. cases.reported output.BadRange refl)
     ] in
     step (is_valid_range range) refl
@@ -439,5 +517,6 @@ by_step t (Enrolled merchant) P cases =
     by_enrolment t merchant P cases (find (λ row. bytes_eq row.id merchant.id) t.merchants) refl
 by_step t (TerminalAdded terminal) P cases =
     by_terminal t terminal P cases
-    (list_any (λ row. bytes_eq row.merchant terminal.merchant && bytes_eq row.id terminal.id) t.terminals) refl
+    (list_any (λ row. bytes_eq row.merchant terminal.merchant && bytes_eq row.id terminal.id)
+    t.terminals) refl
     (known_in t (TerminalAdded terminal)).merchant

@@ -8,33 +8,38 @@ pub use Rattle.acq_book.proofs.Chains.{looks_more}
 
 -- look-ups that succeeded, and a change then
 pub makes_after : {S : Type 0} (tables : S → Tables) (is_honest is_open : S → Type 0)
-    (may_leave : S → Tables → Type 0) (failures : S → ℕ) (honest : (s : S) → is_open s → is_honest s) (a b c : S)
-    (succeeded : Bool) (made changed : Tables) → (is_open b → made ≡ changed) → Looks tables is_honest is_open may_leave failures a b true →
+    (may_leave : S → Tables → Type 0) (failures : S → ℕ) (honest : (s : S) → is_open s →
+    is_honest s) (a b c : S)
+    (succeeded : Bool) (made changed : Tables) → (is_open b → made ≡ changed) →
+    Looks tables is_honest is_open may_leave failures a b true →
     Makes tables is_honest is_open may_leave failures b c succeeded made →
     Makes tables is_honest is_open may_leave failures a c succeeded changed
-makes_after tables is_honest is_open may_leave failures honest a b c succeeded made changed same first second = record {
-  was_honest = λ h. first.was_honest (second.was_honest h);
-  was_open = λ end. ⊎_elim (λ between. inl (first.was_open between)) inr (second.was_open end);
-  stays_open = λ s h o. second.stays_open s h (first.stays_open refl (second.was_honest h) o);
-  made = λ s o end.
-      let between = first.stays_open refl (second.was_honest (honest c end)) o in
-      second.made s between end ∙ same between;
-  unmade = λ s o end.
-      let between = first.stays_open refl (second.was_honest (honest c end)) o in
-      second.unmade s between end ∙ first.same between;
-  leaves = λ o h t l.
-      let between = first.stays_open refl (second.was_honest h) o in
-      ⊎_elim (λ was. inl (first.leaves (second.was_honest h) t was)) (λ is. inr (is ∙ same between))
-      (second.leaves between h t l);
-  settled = λ s o h only t l.
-      let between = first.stays_open refl (second.was_honest h) o in
-      second.settled s between h
-      (λ u was. only u (first.leaves (second.was_honest h) u was) ∙ sym (first.same between)) t l ∙ same between;
-  rise = omega arith;
-}
+makes_after tables is_honest is_open may_leave failures honest a b c succeeded made changed same
+    first second = record {
+      was_honest = λ h. first.was_honest (second.was_honest h);
+      was_open = λ end. ⊎_elim (λ between. inl (first.was_open between)) inr (second.was_open end);
+      stays_open = λ s h o. second.stays_open s h (first.stays_open refl (second.was_honest h) o);
+      made = λ s o end.
+          let between = first.stays_open refl (second.was_honest (honest c end)) o in
+          second.made s between end ∙ same between;
+      unmade = λ s o end.
+          let between = first.stays_open refl (second.was_honest (honest c end)) o in
+          second.unmade s between end ∙ first.same between;
+      leaves = λ o h t l.
+          let between = first.stays_open refl (second.was_honest h) o in
+          ⊎_elim (λ was. inl (first.leaves (second.was_honest h) t was)) (λ is. inr (is ∙ same between))
+          (second.leaves between h t l);
+      settled = λ s o h only t l.
+          let between = first.stays_open refl (second.was_honest h) o in
+          second.settled s between h
+          (λ u was. only u (first.leaves (second.was_honest h) u was) ∙ sym (first.same between)) t l
+          ∙ same between;
+      rise = omega arith;
+    }
 
 -- a fault of the store after look-ups that succeeded is one of all of them
-pub store_after : (X Y : Type 0) (a b c : ℕ) (f : BookFault) → a ≤ b → b ≤ c → IfStore {T = X} (Err f) (HasRisen b c) →
+pub store_after : (X Y : Type 0) (a b c : ℕ) (f : BookFault) → a ≤ b → b ≤ c →
+    IfStore {T = X} (Err f) (HasRisen b c) →
     IfStore {T = Y} (Err f) (HasRisen a c)
 store_after X Y a b c Memory up on failed = tt
 store_after X Y a b c Store up on failed = grind (arith, failed)

@@ -1,8 +1,10 @@
 -- What a step of a book changes fits its tables.
-use Rattle.std.proofs.Common.{◌≡◌, ℕ, ◌+◌, ◌<◌, List, Option, Some, None, Bool, true, false, cond, refl, ap, ◌∙◌}
+use Rattle.std.proofs.Common.{◌≡◌, ℕ, ◌+◌, ◌<◌, List, Option, Some, None, Bool, true, false, cond}
+use Rattle.std.proofs.Common.{refl, ap, ◌∙◌}
 use Rattle.std.specs.Prelude.{IfSome, option_map, nat_lt}
 use Rattle.card_no.specs.declared.range.Range.{Range}
-use Rattle.card_no.specs.declared.range_fault.RangeFault.TheVariants.{BadRange, Overlap, NoSuchRange}
+use Rattle.card_no.specs.declared.range_fault.RangeFault.TheVariants.{BadRange, Overlap}
+use Rattle.card_no.specs.declared.range_fault.RangeFault.TheVariants.{NoSuchRange}
 use Rattle.card_no.specs.Ranges.{is_valid_range, has_ends, overlaps, between, overlapped_by}
 use Rattle.day_totals.specs.Day.{last_day}
 use Rattle.acq_message.specs.declared.request_message.RequestMessage.{RequestMessage}
@@ -13,18 +15,24 @@ use Rattle.acq_core.specs.declared.terminal.Terminal.{Terminal}
 use Rattle.acq_core.specs.declared.reply_state.ReplyState.{ReplyState}
 use Rattle.acq_core.specs.declared.reply_state.ReplyState.TheVariants.{Kept, Awaited, Late}
 use Rattle.acq_core.specs.declared.arrival.Arrival.{Arrival}
-use Rattle.acq_core.specs.declared.arrival.Arrival.TheVariants.{Undecoded, Unserved, Malformed, Requested, Answered}
-use Rattle.acq_core.specs.declared.arrival.Arrival.TheVariants.{CutOver, RangeAdded, RangeDropped, Enrolled}
+use Rattle.acq_core.specs.declared.arrival.Arrival.TheVariants.{Undecoded, Unserved, Malformed}
+use Rattle.acq_core.specs.declared.arrival.Arrival.TheVariants.{Requested, Answered}
+use Rattle.acq_core.specs.declared.arrival.Arrival.TheVariants.{CutOver, RangeAdded, RangeDropped}
+use Rattle.acq_core.specs.declared.arrival.Arrival.TheVariants.{Enrolled}
 use Rattle.acq_core.specs.declared.arrival.Arrival.TheVariants.{TerminalAdded}
 use Rattle.acq_core.specs.Arrivals.{arrival_of}
-use Rattle.acq_core.specs.Changes.{answer_posting, completion_posting, reversal_posting, change_of, change_for}
+use Rattle.acq_core.specs.Changes.{answer_posting, completion_posting, reversal_posting, change_of}
+use Rattle.acq_core.specs.Changes.{change_for}
 use Rattle.acq_core.specs.Changes.{posted_leg, posting_today, reversal_leg, reversal_row}
-use Rattle.acq_core.specs.Decision.{Decision, Reports, DropsRange, CutsOver, repeat_of, decision, decision_of_new_range}
-use Rattle.acq_core.specs.Decision.{decision_of_old_range, decision_of_enrolment, decision_of_terminal}
+use Rattle.acq_core.specs.Decision.{Decision, Reports, DropsRange, CutsOver, repeat_of, decision}
+use Rattle.acq_core.specs.Decision.{decision_of_new_range}
+use Rattle.acq_core.specs.Decision.{decision_of_old_range, decision_of_enrolment}
+use Rattle.acq_core.specs.Decision.{decision_of_terminal}
 use Rattle.acq_core.specs.declared.output.Output.TheVariants as output
 use Rattle.acq_core.specs.Known.{Prior, Known}
 use Rattle.acq_core.specs.Numbers.{is_used_count}
-use Rattle.acq_core.specs.Tables.{Opening, Tables, prior_of, requests_of, used_in, known_in, after_any, step_tables}
+use Rattle.acq_core.specs.Tables.{Opening, Tables, prior_of, requests_of, used_in, known_in}
+use Rattle.acq_core.specs.Tables.{after_any, step_tables}
 use Rattle.acq_core.proofs.DecisionCases.{by_request, by_answer}
 use Rattle.acq_book.specs.Fits.{Fits, IsPostedBy}
 use Rattle.acq_book.specs.Lookups.{used_at}
@@ -36,7 +44,8 @@ use Rattle.acq_core.specs.Events.{IsEvent, IsOpening}
 use Rattle.acq_invariants.specs.References.{merchant_in}
 use Rattle.acq_invariants.proofs.BooksAreSound.{books_are_sound}
 use Rattle.acq_invariants.proofs.BooksGoOn.{books_go_on}
-use Rattle.acq_host.proofs.NewRows.{any_member, unreferred_is_new, referred_is_new, has_room_for_one}
+use Rattle.acq_host.proofs.NewRows.{any_member, unreferred_is_new, referred_is_new}
+use Rattle.acq_host.proofs.NewRows.{has_room_for_one}
 use Rattle.acq_host.proofs.NewRows.{has_room_for_posting}
 
 -- what a reversal posts, if anything, is of its own merchant and day
@@ -60,13 +69,15 @@ abbrev FitsBesideDrops : Opening → Tables → Known → Decision → Type 0
 FitsBesideDrops opening t k (DropsRange low high) = Unit {0}
 FitsBesideDrops opening t k d = FitsWhereSound opening t k d
 
-module _ (opening : Opening) (t : Tables) (opens : IsOpening opening) (sound : IsSound opening t) where
+module _ (opening : Opening) (t : Tables) (opens : IsOpening opening)
+    (sound : IsSound opening t) where
   -- the room of a day that isn't full
   room : (m : List ℕ) (day : ℕ) → used_in (requests_of m t.requests) day < t.limit →
       is_used_count (1 + used_at t m day) ≡ true
   room m day = has_room_for_one opening t m day opens sound.numbers.limit
 
-  fits_beside_drops : (a : Arrival) → FitsBesideDrops opening t (known_in t a) (decision (known_in t a) a)
+  fits_beside_drops : (a : Arrival) →
+      FitsBesideDrops opening t (known_in t a) (decision (known_in t a) a)
   fits_beside_drops a =
       by_step t a (FitsBesideDrops opening t (known_in t a))
       (record {
@@ -74,10 +85,12 @@ module _ (opening : Opening) (t : Tables) (opens : IsOpening opening) (sound : I
         malformed = λ r came later. tt;
         replied = λ r came given is later. tt;
         repeated = λ row member later. tt;
-        refused = λ r came merchant g given is later. unreferred_is_new t _ g.new refl (λ e. absurd cc);
+        refused = λ r came merchant g given is later. unreferred_is_new t _ g.new refl
+            (λ e. absurd cc);
         admitted = λ r came merchant g service amount free range held later.
             referred_is_new t _ merchant (merchant_in t (text_at r.message 42)) g.enrolled
-            (sound.references (text_at r.message 42)) g.new refl (room (text_at r.message 42) t.day free)
+            (sound.references (text_at r.message 42)) g.new refl
+            (room (text_at r.message 42) t.day free)
             (later.numbers.merchants (text_at r.message 42)).admitted;
         completed = λ r came merchant g service amount free hold own later. (
           unreferred_is_new t _ g.new refl (λ e. room (text_at r.message 42) t.day free),
@@ -91,12 +104,15 @@ module _ (opening : Opening) (t : Tables) (opens : IsOpening opening) (sound : I
               (λ m day. (later.numbers.merchants m).totals day),
           reversal_posted_by t.day r (prior_of row),
         );
-        reconciled = λ r came merchant g service day is later. unreferred_is_new t _ g.new refl (λ e. absurd cc);
+        reconciled = λ r came merchant g service day is later. unreferred_is_new t _ g.new refl
+            (λ e. absurd cc);
         answered = λ moment merchant reference v came row member pending n under later.
-            has_room_for_posting t (answer_posting v (prior_of row)) (λ m day. (later.numbers.merchants m).totals day);
+            has_room_for_posting t (answer_posting v (prior_of row))
+            (λ m day. (later.numbers.merchants m).totals day);
         cut_over = λ before later. tt;
         range_added = λ range valid free later.
-            ap (λ b. cond b (option_map Overlap (overlapped_by range t.ranges)) (Some BadRange)) valid
+            ap (λ b. cond b (option_map Overlap (overlapped_by range t.ranges)) (Some BadRange))
+            valid
             ∙ ap (option_map Overlap) free;
         range_dropped = λ low high. tt;
         enrolled = λ merchant came new later. new;
@@ -129,7 +145,8 @@ module _ (opening : Opening) (t : Tables) (opens : IsOpening opening) (sound : I
         reconciled = λ merchant fresh service day resolved h. h;
       })
 
-  all_of_new_range : (k : Known) (range : Range) (o : Option Range) → IsAll k (decision_of_new_range range o)
+  all_of_new_range : (k : Known) (range : Range) (o : Option Range) →
+      IsAll k (decision_of_new_range range o)
   all_of_new_range k range None h = h
   all_of_new_range k range (Some other) h = h
 
@@ -145,7 +162,8 @@ module _ (opening : Opening) (t : Tables) (opens : IsOpening opening) (sound : I
   all_of_terminal k terminal false (Some merchant) h = h
 
   -- a range that is dropped is there
-  drop_fits : (k : Known) (low high : ℕ) (o : Option Range) → overlapped_by (between low high) t.ranges ≡ o →
+  drop_fits : (k : Known) (low high : ℕ) (o : Option Range) →
+      overlapped_by (between low high) t.ranges ≡ o →
       FitsWhereSound opening t k (decision_of_old_range low high o)
   drop_fits k low high None is = λ later. tt
   drop_fits k low high (Some range) is =
@@ -165,31 +183,37 @@ module _ (opening : Opening) (t : Tables) (opens : IsOpening opening) (sound : I
   change_fits (Undecoded fault) = fits_beside_drops (Undecoded fault)
   change_fits (Unserved m) = fits_beside_drops (Unserved m)
   change_fits (Malformed r) = fits_beside_drops (Malformed r)
-  change_fits (Requested r) = all_of_request (known_in t (Requested r)) r (fits_beside_drops (Requested r))
+  change_fits (Requested r) = all_of_request (known_in t (Requested r)) r
+      (fits_beside_drops (Requested r))
   change_fits (Answered moment merchant reference v) =
       let k = known_in t (Answered moment merchant reference v) in
-      by_answer k moment v (IsAll k) (record { not_taken = λ o h. h; taken = λ p draft found waits h. h }) k.merchant
+      by_answer k moment v (IsAll k)
+      (record { not_taken = λ o h. h; taken = λ p draft found waits h. h }) k.merchant
       (fits_beside_drops (Answered moment merchant reference v))
   change_fits CutOver =
-      elim (nat_lt t.day last_day) as (λ b. IsAll (known_in t CutOver) (cond b CutsOver (Reports output.LastDay))) [
+      elim (nat_lt t.day last_day) as
+      (λ b. IsAll (known_in t CutOver) (cond b CutsOver (Reports output.LastDay))) [
         | true ↦ (λ h. h)
         | false ↦ (λ h. h)
       ] (fits_beside_drops CutOver)
   change_fits (RangeAdded range) =
       let k = known_in t (RangeAdded range) in
       elim (is_valid_range range)
-      as (λ b. IsAll k (cond b (decision_of_new_range range k.overlapped) (Reports output.BadRange))) [
+      as (λ b. IsAll k
+      (cond b (decision_of_new_range range k.overlapped) (Reports output.BadRange))) [
         | true ↦ all_of_new_range k range k.overlapped
         | false ↦ (λ h. h)
       ] (fits_beside_drops (RangeAdded range))
   change_fits (RangeDropped low high) =
-      drop_fits (known_in t (RangeDropped low high)) low high (overlapped_by (between low high) t.ranges) refl
+      drop_fits (known_in t (RangeDropped low high)) low high
+      (overlapped_by (between low high) t.ranges) refl
   change_fits (Enrolled merchant) =
       let k = known_in t (Enrolled merchant) in
       all_of_enrolment k merchant k.merchant (fits_beside_drops (Enrolled merchant))
   change_fits (TerminalAdded terminal) =
       let k = known_in t (TerminalAdded terminal) in
-      all_of_terminal k terminal k.has_terminal k.merchant (fits_beside_drops (TerminalAdded terminal))
+      all_of_terminal k terminal k.has_terminal k.merchant
+      (fits_beside_drops (TerminalAdded terminal))
 
 -- what an event of a book changes fits
 pub changes_fit : (opening : Opening) (t : Tables) (e : Event) → IsBook opening t → IsEvent e →

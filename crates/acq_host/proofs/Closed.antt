@@ -1,5 +1,6 @@
 -- What clearing once gave of a day, it gives again.
-use Rattle.std.proofs.Common.{◌≡◌, ℕ, ◌+◌, ◌<◌, List, [], ◌∷◌, ◌++◌, Bool, true, false, cond, refl, sym, ap, subst, ◌∙◌, arith}
+use Rattle.std.proofs.Common.{◌≡◌, ℕ, ◌+◌, ◌<◌, List, [], ◌∷◌, ◌++◌, Bool, true, false, cond, refl}
+use Rattle.std.proofs.Common.{sym, ap, subst, ◌∙◌, arith}
 use Rattle.std.specs.Prelude.{◌&&◌, ◌||◌, ◌==◌, nat_lt, Some, None, flat_map}
 use Rattle.std.specs.List.{list_any}
 use Rattle.std.proofs.lemmas.Bool.Decides.{nat_tests}
@@ -11,7 +12,8 @@ use Rattle.acq_bookkeeping.proofs.FinalDays.{closed_day_stays, postings_of_close
 use Rattle.acq_book.specs.Lookups.{is_posting_before, pending_at}
 use Rattle.acq_book.specs.Order.{in_order}
 use Rattle.acq_invariants.proofs.BooksAreSound.{books_are_sound}
-use Rattle.acq_reports.specs.declared.report_fault.ReportFault.TheVariants.{DayNotOver, StillPending}
+use Rattle.acq_reports.specs.declared.report_fault.ReportFault.TheVariants.{DayNotOver}
+use Rattle.acq_reports.specs.declared.report_fault.ReportFault.TheVariants.{StillPending}
 use Rattle.acq_reports.specs.ClearedSums.{HasAmounts, cleared_totals}
 use Rattle.acq_reports.specs.ClearingFile.{clearing_header, clearing_text, posting_line}
 use Rattle.acq_reports.specs.Refusals.{day_refusal, pending_refusal}
@@ -26,7 +28,8 @@ none_passes : {X : Type 0} (p : X → Bool) (xs : List X) → count p xs ≡ 0 �
 none_passes p [] e = refl
 none_passes {X} p (x ∷ xs) e = step (p x) (none_passes p xs) e
   where
-    step : (b : Bool) → (count p xs ≡ 0 → list_any p xs ≡ false) → cond b (1 + count p xs) (count p xs) ≡ 0 →
+    step : (b : Bool) → (count p xs ≡ 0 → list_any p xs ≡ false) →
+        cond b (1 + count p xs) (count p xs) ≡ 0 →
         (b || list_any p xs) ≡ false
     step true rest e = absurd (omega arith)
     step false rest e = rest e
@@ -45,7 +48,8 @@ record IsGiven (t : Tables) (day : ℕ) : Type 0 where
   over : day < t.day
   none : has_pending day t.requests ≡ false
 
-given_parts : (over : Bool) (n : ℕ) → cond over (pending_refusal n) (Some DayNotOver) ≡ None → (over ≡ true) × (n ≡ 0)
+given_parts : (over : Bool) (n : ℕ) → cond over (pending_refusal n) (Some DayNotOver) ≡ None →
+    (over ≡ true) × (n ≡ 0)
 given_parts false n e = absurd (cc)
 given_parts true n e = (refl, none_left (n == 0) refl e)
   where
@@ -61,7 +65,8 @@ is_given t day e =
       none = none_passes (λ row. is_pending row.status && (row.day == day)) t.requests parts.1;
     }
 
-not_refused : (t : Tables) (day : ℕ) → day < t.day → has_pending day t.requests ≡ false → day_refusal t day ≡ None
+not_refused : (t : Tables) (day : ℕ) → day < t.day → has_pending day t.requests ≡ false →
+    day_refusal t day ≡ None
 not_refused t day over none =
     let before : nat_lt day t.day ≡ true = grind (arith, nat_tests) in
     let counted = none_counted (λ row. is_pending row.status && (row.day == day)) t.requests none in
@@ -71,7 +76,8 @@ not_refused t day over none =
 
 -- amounts of a book are amounts
 has_amounts : (t : Tables) → HasPast t → HasAmounts t
-has_amounts t past = λ k d within. ((books_are_sound past.0 t past.1).rows.postings k d within).amount
+has_amounts t past =
+    λ k d within. ((books_are_sound past.0 t past.1).rows.postings k d within).amount
 
 -- ---- after a run
 
@@ -80,13 +86,15 @@ text_of_same : (day : ℕ) (t u : Tables) → postings_on day u.postings ≡ pos
 text_of_same day t u same =
     ap (λ rows. clearing_header ++ flat_map posting_line (in_order is_posting_before rows)) same
 
-gives_again : (t : Tables) (further : List Event) (day : ℕ) → HasPast t → HasPast (tables_after t further) →
+gives_again : (t : Tables) (further : List Event) (day : ℕ) → HasPast t →
+    HasPast (tables_after t further) →
     day_refusal t day ≡ None → GivesAgain t (tables_after t further) day
 gives_again t further day past then refused =
     let now = tables_after t further in
     let given = is_given t day refused in
     let closed = closed_day_stays t day further given.over given.none in
-    let same = text_of_same day t now (postings_of_closed_day t day [] further given.over given.none) in
+    let same = text_of_same day t now
+    (postings_of_closed_day t day [] further given.over given.none) in
     record {
       given = not_refused now day closed.0 closed.1;
       same_text = same;
@@ -95,7 +103,8 @@ gives_again t further day past then refused =
           ∙ (ap (cleared_totals m) same ∙ (clears t day m (has_amounts t past)).sums);
     }
 
-pub keeps_clearing : (t now : Tables) (further : List Event) → HasPast t → HasPast now → now ≡ tables_after t further →
+pub keeps_clearing : (t now : Tables) (further : List Event) → HasPast t → HasPast now →
+    now ≡ tables_after t further →
     KeptItsClearing t now
 keeps_clearing t now further past then after = record {
   final = λ day refused.

@@ -1,23 +1,31 @@
 -- What was looked up part by part is what the tables let an event know.
-use Rattle.std.proofs.Common.{◌≡◌, ℕ, List, [], ◌∷◌, Option, Some, None, Bool, true, false, cond, ◌⊎◌, inl, inr, refl}
+use Rattle.std.proofs.Common.{◌≡◌, ℕ, List, [], ◌∷◌, Option, Some, None, Bool, true, false, cond}
+use Rattle.std.proofs.Common.{◌⊎◌, inl, inr, refl}
 use Rattle.std.proofs.Common.{sym, ap, ◌∙◌, subst}
-use Rattle.std.specs.Prelude.{take, filter, find, option_map, option_and_then, IfSome, OnOk, Result, Ok, Err}
+use Rattle.std.specs.Prelude.{take, filter, find, option_map, option_and_then, IfSome, OnOk, Result}
+use Rattle.std.specs.Prelude.{Ok, Err}
 use Rattle.std.specs.Str.{bytes_eq}
 use Rattle.iso_codec.specs.Message.{IsoMessage}
 use Rattle.acq_message.specs.declared.service.Service.{Service}
-use Rattle.acq_message.specs.declared.service.Service.TheVariants.{Authorization, Financial, Completion, Reversal}
-use Rattle.acq_message.specs.declared.service.Service.TheVariants.{ReversalAdvice, Reconciliation, NetworkManagement}
+use Rattle.acq_message.specs.declared.service.Service.TheVariants.{Authorization, Financial}
+use Rattle.acq_message.specs.declared.service.Service.TheVariants.{Completion, Reversal}
+use Rattle.acq_message.specs.declared.service.Service.TheVariants.{ReversalAdvice, Reconciliation}
+use Rattle.acq_message.specs.declared.service.Service.TheVariants.{NetworkManagement}
 use Rattle.acq_message.specs.declared.request_key.RequestKey.{RequestKey}
-use Rattle.acq_message.specs.Elements.{or_empty, text_at, same_key, original_key_with, original_service}
+use Rattle.acq_message.specs.Elements.{or_empty, text_at, same_key, original_key_with}
+use Rattle.acq_message.specs.Elements.{original_service}
 use Rattle.acq_core.specs.declared.request.Request.{Request}
 use Rattle.acq_core.specs.declared.lookup.Wanted.{Wanted}
 use Rattle.acq_core.specs.declared.lookup.Looked.{Looked}
 use Rattle.acq_core.specs.declared.arrival.Arrival.{Arrival}
-use Rattle.acq_core.specs.declared.arrival.Arrival.TheVariants.{Undecoded, Unserved, Malformed, Requested, Answered}
-use Rattle.acq_core.specs.declared.arrival.Arrival.TheVariants.{CutOver, RangeAdded, RangeDropped, Enrolled}
+use Rattle.acq_core.specs.declared.arrival.Arrival.TheVariants.{Undecoded, Unserved, Malformed}
+use Rattle.acq_core.specs.declared.arrival.Arrival.TheVariants.{Requested, Answered}
+use Rattle.acq_core.specs.declared.arrival.Arrival.TheVariants.{CutOver, RangeAdded, RangeDropped}
+use Rattle.acq_core.specs.declared.arrival.Arrival.TheVariants.{Enrolled}
 use Rattle.acq_core.specs.declared.arrival.Arrival.TheVariants.{TerminalAdded}
 use Rattle.acq_core.specs.Arrivals.{merchant_named}
-use Rattle.acq_core.specs.Known.{nothing, wanted_for, wanted_by, holds_if, number_if, totals_if, known_for}
+use Rattle.acq_core.specs.Known.{nothing, wanted_for, wanted_by, holds_if, number_if, totals_if}
+use Rattle.acq_core.specs.Known.{known_for}
 use Rattle.acq_core.specs.Looking.{known_of}
 use Rattle.acq_core.specs.Tables.{Tables, prior_of, requests_of, recorded_in, facts_in, known_in}
 use Rattle.acq_book.specs.Lookups.{merchant_at, has_terminal_at, request_at, referred_at}
@@ -43,15 +51,44 @@ original_of m (Some service) = refl
 
 of_nothing : (m : List ℕ) → IsOfMerchant nothing m
 of_nothing m =
-    record { merchant = inl refl; terminal = refl; reference = refl; totals_day = refl; key = tt; original = tt }
+    record {
+      merchant = inl refl;
+      terminal = refl;
+      reference = refl;
+      totals_day = refl;
+      key = tt;
+      original = tt;
+    }
 
-wanted_for-of : (today : ℕ) (s : Service) (m : IsoMessage) → IsOfMerchant (wanted_for today s m) (text_at m 42)
+wanted_for-of : (today : ℕ) (s : Service) (m : IsoMessage) →
+    IsOfMerchant (wanted_for today s m) (text_at m 42)
 wanted_for-of today Authorization m =
-    record { merchant = inr refl; terminal = refl; reference = refl; totals_day = refl; key = refl; original = tt }
+    record {
+      merchant = inr refl;
+      terminal = refl;
+      reference = refl;
+      totals_day = refl;
+      key = refl;
+      original = tt;
+    }
 wanted_for-of today Financial m =
-    record { merchant = inr refl; terminal = refl; reference = refl; totals_day = refl; key = refl; original = tt }
+    record {
+      merchant = inr refl;
+      terminal = refl;
+      reference = refl;
+      totals_day = refl;
+      key = refl;
+      original = tt;
+    }
 wanted_for-of today Completion m =
-    record { merchant = inr refl; terminal = refl; reference = refl; totals_day = refl; key = refl; original = tt }
+    record {
+      merchant = inr refl;
+      terminal = refl;
+      reference = refl;
+      totals_day = refl;
+      key = refl;
+      original = tt;
+    }
 wanted_for-of today Reversal m = record {
   merchant = inr refl;
   terminal = refl;
@@ -69,25 +106,68 @@ wanted_for-of today ReversalAdvice m = record {
   original = original_of m (original_service (take 3 (text_at m 90)));
 }
 wanted_for-of today Reconciliation m =
-    record { merchant = inr refl; terminal = refl; reference = refl; totals_day = refl; key = refl; original = tt }
+    record {
+      merchant = inr refl;
+      terminal = refl;
+      reference = refl;
+      totals_day = refl;
+      key = refl;
+      original = tt;
+    }
 wanted_for-of today NetworkManagement m = of_nothing (text_at m 42)
 
-wanted_by-of : (today : ℕ) (a : Arrival) → IsOfMerchant (wanted_by today a) (or_empty (merchant_named a))
+wanted_by-of : (today : ℕ) (a : Arrival) →
+    IsOfMerchant (wanted_by today a) (or_empty (merchant_named a))
 wanted_by-of today (Undecoded fault) = of_nothing _
 wanted_by-of today (Unserved m) = of_nothing _
 wanted_by-of today (Malformed r) = of_nothing _
 wanted_by-of today (Requested r) = wanted_for-of today r.service r.message
 wanted_by-of today (Answered moment merchant reference verdict) =
-    record { merchant = inr refl; terminal = refl; reference = refl; totals_day = refl; key = tt; original = tt }
+    record {
+      merchant = inr refl;
+      terminal = refl;
+      reference = refl;
+      totals_day = refl;
+      key = tt;
+      original = tt;
+    }
 wanted_by-of today CutOver = of_nothing _
 wanted_by-of today (RangeAdded range) =
-    record { merchant = inl refl; terminal = refl; reference = refl; totals_day = refl; key = tt; original = tt }
+    record {
+      merchant = inl refl;
+      terminal = refl;
+      reference = refl;
+      totals_day = refl;
+      key = tt;
+      original = tt;
+    }
 wanted_by-of today (RangeDropped low high) =
-    record { merchant = inl refl; terminal = refl; reference = refl; totals_day = refl; key = tt; original = tt }
+    record {
+      merchant = inl refl;
+      terminal = refl;
+      reference = refl;
+      totals_day = refl;
+      key = tt;
+      original = tt;
+    }
 wanted_by-of today (Enrolled merchant) =
-    record { merchant = inr refl; terminal = refl; reference = refl; totals_day = refl; key = tt; original = tt }
+    record {
+      merchant = inr refl;
+      terminal = refl;
+      reference = refl;
+      totals_day = refl;
+      key = tt;
+      original = tt;
+    }
 wanted_by-of today (TerminalAdded terminal) =
-    record { merchant = inr refl; terminal = refl; reference = refl; totals_day = refl; key = tt; original = tt }
+    record {
+      merchant = inr refl;
+      terminal = refl;
+      reference = refl;
+      totals_day = refl;
+      key = tt;
+      original = tt;
+    }
 
 -- ---- a merchant's request by its key
 
@@ -104,13 +184,17 @@ find-implied {X} p c implies (x ∷ xs) = step (find-implied p c implies xs) (p 
     step rest false true e f = absurd (let h = implies x f in cc)
     step rest false false e f = rest
 
-request_of_merchant : (t : Tables) (m : List ℕ) (o : Option RequestKey) → IfSome o (λ key. key.merchant ≡ m) →
-    option_map prior_of (option_and_then (request_at t) o) ≡ option_and_then (recorded_in (requests_of m t.requests)) o
+request_of_merchant : (t : Tables) (m : List ℕ) (o : Option RequestKey) →
+    IfSome o (λ key. key.merchant ≡ m) →
+    option_map prior_of (option_and_then (request_at t) o) ≡ option_and_then
+    (recorded_in (requests_of m t.requests)) o
 request_of_merchant t m None of = refl
 request_of_merchant t m (Some key) of =
     ap (option_map prior_of)
-    (sym (find-implied (λ (row : Request). bytes_eq row.key.merchant m) (λ (row : Request). same_key row.key key)
-    (λ row e. bytes_eq_from row.key.merchant m (ap (λ k. k.merchant) (same_key_is row.key key e) ∙ of)) t.requests))
+    (sym (find-implied (λ (row : Request). bytes_eq row.key.merchant m)
+    (λ (row : Request). same_key row.key key)
+    (λ row e. bytes_eq_from row.key.merchant m
+    (ap (λ k. k.merchant) (same_key_is row.key key e) ∙ of)) t.requests))
 
 -- ---- all of it
 
@@ -126,27 +210,34 @@ map_then : {X Y Z : Type 0} (f : Y → Z) (g : X → Option Y) (o : Option X) �
 map_then f g None = refl
 map_then f g (Some x) = refl
 
-known_for-looked : (t : Tables) (w : Wanted) (m : List ℕ) (l : Looked) → IsOfMerchant w m → IsLooked t w l →
+known_for-looked : (t : Tables) (w : Wanted) (m : List ℕ) (l : Looked) → IsOfMerchant w m →
+    IsLooked t w l →
     known_of l ≡ known_for w (facts_in t m)
 known_for-looked t w m l of is = λ i. record {
   today = is.today i;
   limit = is.limit i;
   merchant =
       (is.merchant
-      ∙ at_merchant (option_and_then (merchant_at t)) (option_and_then (λ id. merchant_at t m)) m w.merchant
+      ∙ at_merchant (option_and_then (merchant_at t)) (option_and_then (λ id. merchant_at t m)) m
+      w.merchant
       of.merchant refl refl) i;
   has_terminal =
       (is.has_terminal
-      ∙ (at_merchant (λ o. holds_if (has_terminal_at t (or_empty o)) (option_and_then (λ id. w.terminal) o))
-      (λ o. holds_if (has_terminal_at t m) (option_and_then (λ id. w.terminal) o)) m w.merchant of.merchant refl refl
+      ∙ (at_merchant
+      (λ o. holds_if (has_terminal_at t (or_empty o)) (option_and_then (λ id. w.terminal) o))
+      (λ o. holds_if (has_terminal_at t m) (option_and_then (λ id. w.terminal) o)) m w.merchant
+      of.merchant refl refl
       ∙ ap (holds_if (has_terminal_at t m)) of.terminal)) i;
   recorded = (ap (option_map prior_of) is.recorded ∙ request_of_merchant t m w.key of.key) i;
-  original = (ap (option_map prior_of) is.original ∙ request_of_merchant t m w.original of.original) i;
+  original = (ap (option_map prior_of) is.original ∙ request_of_merchant t m w.original of.original)
+      i;
   referred =
       (ap (option_map prior_of) is.referred
       ∙ (ap (option_map prior_of)
-      (at_merchant (λ o. option_and_then (referred_at t (or_empty o)) (option_and_then (λ id. w.reference) o))
-      (λ o. option_and_then (referred_at t m) (option_and_then (λ id. w.reference) o)) m w.merchant of.merchant refl
+      (at_merchant (λ o. option_and_then (referred_at t (or_empty o))
+      (option_and_then (λ id. w.reference) o))
+      (λ o. option_and_then (referred_at t m) (option_and_then (λ id. w.reference) o)) m w.merchant
+      of.merchant refl
       refl)
       ∙ (ap (λ o. option_map prior_of (option_and_then (referred_at t m) o)) of.reference
       ∙ map_then prior_of (referred_at t m) w.reference))) i;
@@ -154,21 +245,26 @@ known_for-looked t w m l of is = λ i. record {
   overlapped = is.overlapped i;
   admitted =
       (is.admitted
-      ∙ at_merchant (λ o. number_if (admitted_at t (or_empty o)) o) (number_if (admitted_at t m)) m w.merchant
+      ∙ at_merchant (λ o. number_if (admitted_at t (or_empty o)) o) (number_if (admitted_at t m)) m
+      w.merchant
       of.merchant refl refl) i;
   used =
       (is.used
-      ∙ at_merchant (λ o. number_if (used_at t (or_empty o) t.day) o) (number_if (used_at t m t.day)) m w.merchant
+      ∙ at_merchant (λ o. number_if (used_at t (or_empty o) t.day) o)
+      (number_if (used_at t m t.day)) m w.merchant
       of.merchant refl refl) i;
   totals =
       (is.totals
-      ∙ (at_merchant (λ o. totals_if (totals_at t (or_empty o)) (option_and_then (λ id. w.totals_day) o))
-      (λ o. totals_if (totals_at t m) (option_and_then (λ id. w.totals_day) o)) m w.merchant of.merchant refl refl
+      ∙ (at_merchant
+      (λ o. totals_if (totals_at t (or_empty o)) (option_and_then (λ id. w.totals_day) o))
+      (λ o. totals_if (totals_at t m) (option_and_then (λ id. w.totals_day) o)) m w.merchant
+      of.merchant refl refl
       ∙ ap (totals_if (totals_at t m)) of.totals_day)) i;
 }
 
 -- so it is what the tables let the event know
-pub known_is : (t : Tables) (a : Arrival) (w : Wanted) (l : Looked) → w ≡ wanted_by t.day a → IsLooked t w l →
+pub known_is : (t : Tables) (a : Arrival) (w : Wanted) (l : Looked) → w ≡ wanted_by t.day a →
+    IsLooked t w l →
     known_of l ≡ known_in t a
 known_is t a w l wanted is =
     let m = or_empty (merchant_named a) in
@@ -176,7 +272,8 @@ known_is t a w l wanted is =
     ∙ ap (λ v. known_for v (facts_in t m)) wanted
 
 -- the same where the look-ups succeeded
-pub known_if : {F : Type 0} (t : Tables) (a : Arrival) (w : Wanted) (l : Looked) (r : Result (Unit {0}) F) → w ≡ wanted_by t.day a →
+pub known_if : {F : Type 0} (t : Tables) (a : Arrival) (w : Wanted) (l : Looked)
+    (r : Result (Unit {0}) F) → w ≡ wanted_by t.day a →
     OnOk r (IsLooked t w l) → OnOk r (known_of l ≡ known_in t a)
 known_if t a w l (Ok u) wanted is = known_is t a w l wanted is
 known_if t a w l (Err fault) wanted is = tt

@@ -1,5 +1,6 @@
 -- Rows that a step adds are new, and there is room for what it posts.
-use Rattle.std.proofs.Common.{◌≡◌, ℕ, zero, suc, ◌+◌, ◌<◌, ◌≤◌, List, [], ◌∷◌, ◌++◌, Option, Some, None, Bool, true}
+use Rattle.std.proofs.Common.{◌≡◌, ℕ, zero, suc, ◌+◌, ◌<◌, ◌≤◌, List, [], ◌∷◌, ◌++◌, Option, Some}
+use Rattle.std.proofs.Common.{None, Bool, true}
 use Rattle.std.proofs.Common.{false, cond, refl, sym, ap, ◌∙◌, subst, arith, leb, eqb}
 use Rattle.std.specs.Prelude.{◌&&◌, IfSome, map, filter, find, is_some}
 use Rattle.std.specs.List.{cons_option, list_any, range_with_len}
@@ -15,7 +16,8 @@ use Rattle.acq_core.specs.declared.merchant.Merchant.{Merchant}
 use Rattle.acq_core.specs.declared.posting.Posting.{Posting}
 use Rattle.acq_core.specs.declared.request.Request.{Request}
 use Rattle.acq_core.specs.Numbers.{is_used_count, is_admitted_count, greatest_limit}
-use Rattle.acq_core.specs.Tables.{Opening, Tables, requests_of, postings_of, admitted_in, used_in, totals_on}
+use Rattle.acq_core.specs.Tables.{Opening, Tables, requests_of, postings_of, admitted_in, used_in}
+use Rattle.acq_core.specs.Tables.{totals_on}
 use Rattle.acq_core.specs.Tables.{postings_before, with_next_posting}
 use Rattle.acq_book.specs.Fits.{IsNew, HasRoom}
 use Rattle.acq_book.specs.Lookups.{request_at, referred_at, used_at}
@@ -31,14 +33,19 @@ use Rattle.acq_invariants.proofs.CountsOfRows.{one_if, count-filter_push}
 -- ---- what isn't there
 
 -- none is found where none passes
-find_absent : {X : Type 0} (p : X → Bool) (xs : List X) → ((x : X) → In x xs → p x ≡ true → ⊥) → find p xs ≡ None
+find_absent : {X : Type 0} (p : X → Bool) (xs : List X) → ((x : X) → In x xs → p x ≡ true → ⊥) →
+    find p xs ≡ None
 find_absent {X} p xs none =
     let step : (o : Option X) → find p xs ≡ o → o ≡ None =
-    elim [ None ↦ (λ e. refl) | Some x ↦ (λ e. let h = In-find p xs x e in absurd (none x h.0 h.1)) ] in
+    elim [
+      | None ↦ (λ e. refl)
+      | Some x ↦ (λ e. let h = In-find p xs x e in absurd (none x h.0 h.1))
+    ] in
     step (find p xs) refl
 
 -- one passes where a member does
-pub any_member : {X : Type 0} (p : X → Bool) (xs : List X) (x : X) → In x xs → p x ≡ true → list_any p xs ≡ true
+pub any_member : {X : Type 0} (p : X → Bool) (xs : List X) (x : X) → In x xs → p x ≡ true →
+    list_any p xs ≡ true
 any_member p xs x member passes =
     let step : (b : Bool) → list_any p xs ≡ b → b ≡ true =
     elim [ true ↦ (λ e. refl) | false ↦ (λ e. clash (p x) passes (any_none p xs e x member)) ] in
@@ -51,7 +58,8 @@ key_is_new t key new =
     (λ row member e. new row member (same_key_is row.key key e))
 
 -- a number above all references
-reference_is_new : (rows : List Request) (first count n : ℕ) → references_in rows ≡ range_with_len first count →
+reference_is_new : (rows : List Request) (first count n : ℕ) →
+    references_in rows ≡ range_with_len first count →
     first + count ≤ n → find (λ row. is_number n row.reference) rows ≡ None
 reference_is_new [] first count n e above = refl
 reference_is_new (x ∷ xs) first count n e above =
@@ -59,7 +67,8 @@ reference_is_new (x ∷ xs) first count n e above =
   where
     step : ((a k : ℕ) → references_in xs ≡ range_with_len a k → a + k ≤ n →
         find (λ row. is_number n row.reference) xs ≡ None) →
-        (o : Option ℕ) (k : ℕ) → cons_option o (references_in xs) ≡ range_with_len first k → first + k ≤ n →
+        (o : Option ℕ) (k : ℕ) → cons_option o (references_in xs) ≡ range_with_len first k →
+        first + k ≤ n →
         cond (is_number n o) (Some x) (find (λ row. is_number n row.reference) xs) ≡ None
     step rest None k e le = rest first k e le
     step rest (Some v) zero e le = absurd cc
@@ -75,17 +84,23 @@ reference_is_new (x ∷ xs) first count n e above =
         none (is_number n (Some v)) refl
 
 -- the reference that comes next
-next_reference_is_new : (o : Option Merchant) (merchant : Merchant) (rows : List Request) → o ≡ Some merchant →
-    AreRowsOf o rows → find (λ row. is_number (merchant.first_reference + admitted_in rows) row.reference) rows ≡ None
+next_reference_is_new : (o : Option Merchant) (merchant : Merchant) (rows : List Request) →
+    o ≡ Some merchant →
+    AreRowsOf o rows →
+    find (λ row. is_number (merchant.first_reference + admitted_in rows) row.reference) rows
+    ≡ None
 next_reference_is_new o merchant rows enrolled h =
-    reference_is_new rows merchant.first_reference (admitted_in rows) (merchant.first_reference + admitted_in rows)
+    reference_is_new rows merchant.first_reference (admitted_in rows)
+    (merchant.first_reference + admitted_in rows)
     (subst (λ x. AreRowsOf x rows) enrolled h) (omega arith)
 
 -- ---- new rows
 
 -- one without a reference, for which its day has room where it counts
-pub unreferred_is_new : (t : Tables) (row : Request) → found.IsNew t row.key → row.reference ≡ None →
-    (row.admitted ≡ true → is_used_count (1 + used_at t row.key.merchant row.day) ≡ true) → IsNew t row
+pub unreferred_is_new : (t : Tables) (row : Request) → found.IsNew t row.key →
+    row.reference ≡ None →
+    (row.admitted ≡ true → is_used_count (1 + used_at t row.key.merchant row.day) ≡ true) →
+    IsNew t row
 unreferred_is_new t row new none room = record {
   key = key_is_new t row.key new;
   reference = subst (λ o. IfSome o (λ n. referred_at t row.key.merchant n ≡ None)) (sym none) tt;
@@ -94,11 +109,14 @@ unreferred_is_new t row new none room = record {
 }
 
 -- one with the reference that comes next
-pub referred_is_new : (t : Tables) (row : Request) (merchant : Merchant) (o : Option Merchant) → o ≡ Some merchant →
+pub referred_is_new : (t : Tables) (row : Request) (merchant : Merchant) (o : Option Merchant) →
+    o ≡ Some merchant →
     AreRowsOf o (requests_of row.key.merchant t.requests) → found.IsNew t row.key →
-    row.reference ≡ Some (merchant.first_reference + admitted_in (requests_of row.key.merchant t.requests)) →
+    row.reference
+    ≡ Some (merchant.first_reference + admitted_in (requests_of row.key.merchant t.requests)) →
     is_used_count (1 + used_at t row.key.merchant row.day) ≡ true →
-    is_admitted_count (admitted_in (requests_of row.key.merchant (t.requests ++ row ∷ []))) ≡ true → IsNew t row
+    is_admitted_count (admitted_in (requests_of row.key.merchant (t.requests ++ row ∷ []))) ≡ true →
+    IsNew t row
 referred_is_new t row merchant o enrolled rows new reference room few = record {
   key = key_is_new t row.key new;
   reference =
@@ -122,7 +140,8 @@ pub has_room_for_one : (opening : Opening) (t : Tables) (m : List ℕ) (day : �
     t.limit ≡ opening.limit → used_in (requests_of m t.requests) day < t.limit →
     is_used_count (1 + used_at t m day) ≡ true
 has_room_for_one opening t m day opens limit room =
-    let most = leb-true opening.limit greatest_limit (and_parts (leb 1 opening.limit) _ opens.limit).1 in
+    let most = leb-true opening.limit greatest_limit
+    (and_parts (leb 1 opening.limit) _ opens.limit).1 in
     le-leb (1 + used_in (requests_of m t.requests) day) greatest_limit (omega arith)
 
 -- totals with one posting more
@@ -134,15 +153,19 @@ totals_with_next rows p =
     let mine = postings_of p.merchant rows in
     let shown : ℕ × Posting → Leg × ℕ = λ row. (row.1.leg, row.1.amount) in
     ap (λ xs. totals_on xs p.day)
-    (filter-push_in (λ (row : ℕ × Posting). bytes_eq row.1.merchant p.merchant) rows next (bytes_eq_itself p.merchant))
+    (filter-push_in (λ (row : ℕ × Posting). bytes_eq row.1.merchant p.merchant) rows next
+    (bytes_eq_itself p.merchant))
     ∙ (ap (λ xs. totals_of (map shown xs))
     (filter-push_in (λ (row : ℕ × Posting). eqb row.1.day p.day) mine next (eqb_itself p.day))
-    ∙ (ap totals_of (map-push shown (filter (λ (row : ℕ × Posting). eqb row.1.day p.day) mine) (next ∷ []))
-    ∙ totals_of-push (map shown (filter (λ (row : ℕ × Posting). eqb row.1.day p.day) mine)) p.leg p.amount))
+    ∙ (ap totals_of
+    (map-push shown (filter (λ (row : ℕ × Posting). eqb row.1.day p.day) mine) (next ∷ []))
+    ∙ totals_of-push (map shown (filter (λ (row : ℕ × Posting). eqb row.1.day p.day) mine)) p.leg
+    p.amount))
 
 -- where the totals after a posting are within limits, there was room for it
 pub has_room_for_posting : (t : Tables) (o : Option Posting) →
-    ((m : List ℕ) (day : ℕ) → IsWithinLimits (totals_on (postings_of m (with_next_posting t.postings o)) day)) →
+    ((m : List ℕ) (day : ℕ) →
+    IsWithinLimits (totals_on (postings_of m (with_next_posting t.postings o)) day)) →
     HasRoom t o
 has_room_for_posting t None within = tt
 has_room_for_posting t (Some p) within =

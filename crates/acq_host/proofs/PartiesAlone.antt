@@ -8,7 +8,8 @@ use Rattle.acq_core.specs.declared.output.Output.{Output}
 use Rattle.acq_core.specs.declared.arrival.Arrival.TheVariants.{Requested}
 use Rattle.acq_core.specs.Arrivals.{arrival_of, merchant_named}
 use Rattle.acq_core.specs.Outcome.{outcome, output_of}
-use Rattle.acq_core.specs.Tables.{Opening, Tables, new_tables, prior_of, requests_of, postings_of, outputs, step_output}
+use Rattle.acq_core.specs.Tables.{Opening, Tables, new_tables, prior_of, requests_of, postings_of}
+use Rattle.acq_core.specs.Tables.{outputs, step_output}
 use Rattle.acq_core.specs.Tables.{tables_after}
 use Rattle.acq_history.specs.PartyHistory.{known_by, history_of, book_after}
 use Rattle.acq_isolation.specs.Isolation.{open_at}
@@ -34,10 +35,12 @@ module _ (opening : Opening) (past : List Event) where
 
   -- a merchant's request gets what its own history gives
   said_alone : (further before later : List Event) (e : Event) (m : List ℕ) (r : RequestMessage) →
-      further ≡ before ++ e ∷ later → arrival_of e ≡ Requested r → merchant_named (Requested r) ≡ Some m →
+      further ≡ before ++ e ∷ later → arrival_of e ≡ Requested r →
+      merchant_named (Requested r) ≡ Some m →
       slice_get (outputs book further) (length before)
       ≡ Some (output_of (Some m)
-      (outcome (known_by opening (history_of opening (Some m) (past ++ before)) (Requested r)) (Requested r)))
+      (outcome (known_by opening (history_of opening (Some m) (past ++ before)) (Requested r))
+      (Requested r)))
   said_alone further before later e m r split came named =
       let t = book_after opening (past ++ before) in
       let h = history_of opening (Some m) (past ++ before) in
@@ -48,7 +51,8 @@ module _ (opening : Opening) (past : List Event) where
       ∙ ap (λ o. Some o)
       ((λ i. step_output (then i) (came i))
       ∙ (λ i. output_of (named i)
-      (outcome (known_in_mine opening m t h (from_new opening m (past ++ before)) (Requested r) named i)
+      (outcome (known_in_mine opening m t h (from_new opening m (past ++ before))
+      (Requested r) named i)
       (Requested r)))))
 
   gets_balance : (further : List Event) → AreBalanced opening past further (outputs book further)
@@ -57,7 +61,8 @@ module _ (opening : Opening) (past : List Event) where
     is_said = said_alone further before later e m r split came named;
   }
 
-  ran_alone : (further : List Event) → RanAlone opening past further (outputs book further) (tables_after book further)
+  ran_alone : (further : List Event) →
+      RanAlone opening past further (outputs book further) (tables_after book further)
   ran_alone further =
       let then : tables_after book further ≡ book_after opening (past ++ further) =
       sym (tables_after-append (new_tables opening) past further) in
@@ -83,16 +88,19 @@ module _ (opening : Opening) (past : List Event) where
 
 -- ---- whatever the past
 
-pub is_alone : (t now : Tables) (further : List Event) (said : List Output) → said ≡ outputs t further →
+pub is_alone : (t now : Tables) (further : List Event) (said : List Output) →
+    said ≡ outputs t further →
     now ≡ tables_after t further → IsAlone t further said now
 is_alone t now further said says after opening past is =
     subst (RanAlone opening past further said) (sym (after ∙ ap (λ u. tables_after u further) is))
     (subst (λ os. RanAlone opening past further os (tables_after (book_after opening past) further))
     (sym (says ∙ ap (λ u. outputs u further) is)) (ran_alone opening past further))
 
-pub keeps_postings : (t now : Tables) (further : List Event) → HasPast t → now ≡ tables_after t further →
+pub keeps_postings : (t now : Tables) (further : List Event) → HasPast t →
+    now ≡ tables_after t further →
     KeptItsPostings t now
 keeps_postings t now further past after =
     let is = past.1.after in
     subst (KeptItsPostings t) (sym after)
-    (subst (λ u. KeptItsPostings u (tables_after u further)) (sym is) (kept_its_postings past.0 past.1.events further))
+    (subst (λ u. KeptItsPostings u (tables_after u further)) (sym is)
+    (kept_its_postings past.0 past.1.events further))

@@ -1,5 +1,6 @@
 -- A run goes on by one event.
-use Rattle.std.proofs.Common.{◌≡◌, ℕ, ◌+◌, ◌<◌, ◌≤◌, true, false, List, [], ◌∷◌, ◌++◌, length, take, get_or, ◌⊎◌, inl}
+use Rattle.std.proofs.Common.{◌≡◌, ℕ, ◌+◌, ◌<◌, ◌≤◌, true, false, List, [], ◌∷◌, ◌++◌, length, take}
+use Rattle.std.proofs.Common.{get_or, ◌⊎◌, inl}
 use Rattle.std.proofs.Common.{inr, ⊎_elim, refl, sym, ap, ◌∙◌, arith}
 use Rattle.std.specs.Prelude.{Some}
 use Rattle.std.specs.List.{slice_get}
@@ -28,16 +29,19 @@ output_at t [] later e = refl
 output_at t (x ∷ before) later e = output_at (step_tables t (arrival_of x)) before later e
 
 -- the first events and one more
-first_and_next : (events : List Event) (at : ℕ) (e : Event) → at < length events → e ≡ get_or events at e →
+first_and_next : (events : List Event) (at : ℕ) (e : Event) → at < length events →
+    e ≡ get_or events at e →
     take (at + 1) events ≡ take at events ++ e ∷ []
 first_and_next events at e within is =
     take_more events at e within ∙ ap (λ x. take at events ++ x ∷ []) (sym is)
 
 -- the tables after one event more
-pub after_next : (t : Tables) (events : List Event) (at : ℕ) (e : Event) → at < length events → e ≡ get_or events at e →
+pub after_next : (t : Tables) (events : List Event) (at : ℕ) (e : Event) → at < length events →
+    e ≡ get_or events at e →
     after_first (at + 1) t events ≡ step_tables (after_first at t events) (arrival_of e)
 after_next t events at e within is =
-    ap (tables_after t) (first_and_next events at e within is) ∙ tables_after-append t (take at events) (e ∷ [])
+    ap (tables_after t) (first_and_next events at e within is) ∙ tables_after-append t
+    (take at events) (e ∷ [])
 
 -- ---- a book that took events
 
@@ -53,7 +57,8 @@ pub record HasTaken {S : Type 0} (tables : S → Tables) (is_honest is_open : S 
       (t : Tables) → may_leave new t → t ≡ tables new
   pub rise : failures old ≤ failures new
 
-module _ {S : Type 0} (tables : S → Tables) (is_honest is_open : S → Type 0) (may_leave : S → Tables → Type 0)
+module _ {S : Type 0} (tables : S → Tables) (is_honest is_open : S → Type 0) (may_leave : S →
+    Tables → Type 0)
     (failures : S → ℕ) where
   pub took_none : (a : S) → HasTaken tables is_honest is_open may_leave failures a a [] []
   took_none a = record {
@@ -68,7 +73,8 @@ module _ {S : Type 0} (tables : S → Tables) (is_honest is_open : S → Type 0)
   pub took_next : (a b c : S) (events : List Event) (at : ℕ) (e : Event) (said now : List Output) →
       at < length events → e ≡ get_or events at e →
       HasTaken tables is_honest is_open may_leave failures a b (take at events) said →
-      Makes tables is_honest is_open may_leave failures b c true (step_tables (tables b) (arrival_of e)) →
+      Makes tables is_honest is_open may_leave failures b c true
+      (step_tables (tables b) (arrival_of e)) →
       (is_honest c → is_open b → now ≡ said ++ step_output (tables b) (arrival_of e) ∷ []) →
       HasTaken tables is_honest is_open may_leave failures a c (take (at + 1) events) now
   took_next a b c events at e said now within is first next adds = record {
@@ -96,11 +102,14 @@ module _ {S : Type 0} (tables : S → Tables) (is_honest is_open : S → Type 0)
   -- ---- where the next event wasn't taken
 
   -- a stop leaves the events before it, or these and the next
-  pub may_stop_at : (a b c : S) (events : List Event) (at : ℕ) (e : Event) (said : List Output) → at < length events →
+  pub may_stop_at : (a b c : S) (events : List Event) (at : ℕ) (e : Event) (said : List Output) →
+      at < length events →
       e ≡ get_or events at e →
       HasTaken tables is_honest is_open may_leave failures a b (take at events) said →
-      Makes tables is_honest is_open may_leave failures b c false (step_tables (tables b) (arrival_of e)) →
-      is_honest c → is_open a → ((t : Tables) → may_leave a t → t ≡ tables a) → (t : Tables) → may_leave c t →
+      Makes tables is_honest is_open may_leave failures b c false
+      (step_tables (tables b) (arrival_of e)) →
+      is_honest c → is_open a → ((t : Tables) → may_leave a t → t ≡ tables a) → (t : Tables) →
+      may_leave c t →
       (t ≡ after_first at (tables a) events) ⊎ (t ≡ after_first (at + 1) (tables a) events)
   may_stop_at a b c events at e said within is first next h o only t l =
       let before = next.was_honest h in

@@ -15,15 +15,18 @@ pub record IsLooked (t : Tables) (w : Wanted) (l : Looked) : Type 0 where
   pub merchant : l.merchant ≡ option_and_then (merchant_at t) w.merchant
   pub has_terminal :
       l.has_terminal
-      ≡ holds_if (has_terminal_at t (or_empty w.merchant)) (option_and_then (λ id. w.terminal) w.merchant)
+      ≡ holds_if (has_terminal_at t (or_empty w.merchant))
+      (option_and_then (λ id. w.terminal) w.merchant)
   pub recorded : l.recorded ≡ option_and_then (request_at t) w.key
   pub original : l.original ≡ option_and_then (request_at t) w.original
   pub referred :
       l.referred
-      ≡ option_and_then (referred_at t (or_empty w.merchant)) (option_and_then (λ id. w.reference) w.merchant)
+      ≡ option_and_then (referred_at t (or_empty w.merchant))
+      (option_and_then (λ id. w.reference) w.merchant)
   pub range : l.range ≡ option_and_then (range_at t) w.prefix
   pub overlapped : l.overlapped ≡ option_and_then (λ ends. overlapping_at t ends.0 ends.1) w.bounds
   pub admitted : l.admitted ≡ number_if (admitted_at t (or_empty w.merchant)) w.merchant
   pub used : l.used ≡ number_if (used_at t (or_empty w.merchant) t.day) w.merchant
   pub totals :
-      l.totals ≡ totals_if (totals_at t (or_empty w.merchant)) (option_and_then (λ id. w.totals_day) w.merchant)
+      l.totals ≡ totals_if (totals_at t (or_empty w.merchant))
+      (option_and_then (λ id. w.totals_day) w.merchant)

@@ -81,7 +81,8 @@ pub(crate) fn nothing_looked(today: Day, limit: Limit) -> Looked
     }
 }
 
-/// Looks up what is wanted. Each part is put in its place at once, since what was looked up is large.
+/// Looks up what is wanted. Each part is put in its place at once, since what was looked up is
+/// large.
 #[tactic(auto, using(crate::proofs::Chains::looks_more))]
 fn look_up_wanted<B: Book>(
     book: &mut B,

@@ -1,5 +1,6 @@
 -- How many were admitted, by how many count on each day.
-use Rattle.std.proofs.Common.{◌≡◌, ℕ, zero, suc, ◌+◌, ◌*◌, ◌<◌, ◌≤◌, List, [], ◌∷◌, Option, Some, None, Bool, true, false, cond, refl, arith, eqb, ltb, suc-mul}
+use Rattle.std.proofs.Common.{◌≡◌, ℕ, zero, suc, ◌+◌, ◌*◌, ◌<◌, ◌≤◌, List, [], ◌∷◌, Option, Some}
+use Rattle.std.proofs.Common.{None, Bool, true, false, cond, refl, arith, eqb, ltb, suc-mul}
 use Rattle.std.specs.Prelude.{All, is_some, ◌&&◌}
 use Rattle.std.proofs.lemmas.Bool.{lt-ltb}
 use Rattle.std.proofs.lemmas.Bool.Decides.{nat_tests}
@@ -22,7 +23,8 @@ counted true n = refl
 counted false n = omega arith
 
 -- those of one day more
-used_before-suc : (rows : List Request) (n : ℕ) → used_before rows (suc n) ≡ used_before rows n + used_in rows n
+used_before-suc : (rows : List Request) (n : ℕ) →
+    used_before rows (suc n) ≡ used_before rows n + used_in rows n
 used_before-suc [] n = omega arith
 used_before-suc (x ∷ xs) n =
     let rest = used_before-suc xs n in
@@ -50,7 +52,8 @@ used_before-within rows limit zero within = none rows
     none (x ∷ xs) =
         let rest = none xs in
         let never : ltb x.day 0 ≡ false = grind (arith, nat_tests) in
-        rw never (elim x.admitted as (λ v. cond (v && false) (1 + used_before xs 0) (used_before xs 0) ≤ 0 * limit) [
+        rw never (elim x.admitted as
+        (λ v. cond (v && false) (1 + used_before xs 0) (used_before xs 0) ≤ 0 * limit) [
           | true ↦ rest
           | false ↦ rest
         ])
@@ -66,7 +69,8 @@ pub record IsCounted (n : ℕ) (row : Request) : Type 0 where
   pub counts : (reference : ℕ) → row.reference ≡ Some reference → row.admitted ≡ true
   pub day : row.day < n
 
-admitted_in-before : (rows : List Request) (n : ℕ) → All (IsCounted n) rows → admitted_in rows ≤ used_before rows n
+admitted_in-before : (rows : List Request) (n : ℕ) → All (IsCounted n) rows →
+    admitted_in rows ≤ used_before rows n
 admitted_in-before [] n all = omega arith
 admitted_in-before (x ∷ xs) n all =
     let rest = admitted_in-before xs n (All-tail (IsCounted n) x xs all) in
@@ -74,7 +78,8 @@ admitted_in-before (x ∷ xs) n all =
     let before = lt-ltb x.day n here.day in
     let a = admitted_in xs in
     let b = used_before xs n in
-    let step : (o : Option ℕ) → x.reference ≡ o → cond (is_some o) (1 + a) a ≤ cond (x.admitted && ltb x.day n) (1 + b) b =
+    let step : (o : Option ℕ) → x.reference ≡ o →
+    cond (is_some o) (1 + a) a ≤ cond (x.admitted && ltb x.day n) (1 + b) b =
     elim [
       | None ↦ (λ e. elim (x.admitted && ltb x.day n) as (λ v. a ≤ cond v (1 + b) b) [
         | true ↦ omega arith
@@ -85,7 +90,8 @@ admitted_in-before (x ∷ xs) n all =
     step x.reference refl
 
 -- so no more were admitted than the limits of all days allow
-pub admitted_in-within : (rows : List Request) (limit n : ℕ) → ((day : ℕ) → used_in rows day ≤ limit) →
+pub admitted_in-within : (rows : List Request) (limit n : ℕ) →
+    ((day : ℕ) → used_in rows day ≤ limit) →
     All (IsCounted n) rows → admitted_in rows ≤ n * limit
 admitted_in-within rows limit n within all =
     let a = admitted_in-before rows n all in

@@ -1,5 +1,6 @@
 -- What holds of each arrival of an event.
-use Rattle.std.proofs.Common.{◌≡◌, ℕ, Bool, true, false, List, [], ◌∷◌, Option, Some, None, Result, Ok, Err, refl}
+use Rattle.std.proofs.Common.{◌≡◌, ℕ, Bool, true, false, List, [], ◌∷◌, Option, Some, None, Result}
+use Rattle.std.proofs.Common.{Ok, Err, refl}
 use Rattle.std.specs.Prelude.{if◌then◌else◌}
 use Rattle.std.proofs.lemmas.List.Elements.{All-head, All-tail}
 use Rattle.iso_codec.specs.declared.decode_fault.DecodeFault.{DecodeFault}
@@ -13,7 +14,10 @@ use Rattle.acq_message.specs.Services.{service_of}
 use Rattle.acq_core.specs.declared.event.Event.{Event}
 use Rattle.acq_core.specs.declared.event.Event.TheVariants as event
 use Rattle.acq_core.specs.declared.arrival.Arrival.{Arrival}
-use Rattle.acq_core.specs.declared.arrival.Arrival.TheVariants.{Undecoded, Unserved, Malformed, Requested, Answered, CutOver, RangeAdded, RangeDropped, Enrolled, TerminalAdded}
+use Rattle.acq_core.specs.declared.arrival.Arrival.TheVariants.{Undecoded, Unserved, Malformed}
+use Rattle.acq_core.specs.declared.arrival.Arrival.TheVariants.{Requested, Answered, CutOver}
+use Rattle.acq_core.specs.declared.arrival.Arrival.TheVariants.{RangeAdded, RangeDropped, Enrolled}
+use Rattle.acq_core.specs.declared.arrival.Arrival.TheVariants.{TerminalAdded}
 use Rattle.acq_core.specs.Arrivals.{arrival_of, arrival_of_message, arrival_of_reading}
 use Rattle.acq_core.specs.Tables.{Tables, step_tables, tables_after}
 use Rattle.acq_message.specs.Moments.{is_moment}
@@ -38,15 +42,18 @@ IsArrival (RangeDropped low high) = Unit {0}
 IsArrival (Enrolled merchant) = FitsMerchant merchant
 IsArrival (TerminalAdded terminal) = FitsTerminal terminal
 
-of_message : (moment : ℕ) (m : IsoMessage) (o : Option Service) → IsMessage m → IsArrival (arrival_of_message moment m o)
+of_message : (moment : ℕ) (m : IsoMessage) (o : Option Service) → IsMessage m →
+    IsArrival (arrival_of_message moment m o)
 of_message moment m None whole = tt
 of_message moment m (Some service) whole =
     let r : RequestMessage = record { moment = moment; service = service; message = m } in
-    let step : (b : Bool) → is_malformed service m ≡ b → IsArrival (if b then Malformed r else Requested r) =
+    let step : (b : Bool) → is_malformed service m ≡ b →
+    IsArrival (if b then Malformed r else Requested r) =
     elim [ true ↦ (λ e. whole) | false ↦ (λ e. record { message = whole; passes = e }) ] in
     step (is_malformed service m) refl
 
-of_reading : (moment : ℕ) (r : Result IsoMessage DecodeFault) → ((m : IsoMessage) → r ≡ Ok m → IsMessage m) →
+of_reading : (moment : ℕ) (r : Result IsoMessage DecodeFault) →
+    ((m : IsoMessage) → r ≡ Ok m → IsMessage m) →
     IsArrival (arrival_of_reading moment r)
 of_reading moment (Err fault) whole = tt
 of_reading moment (Ok m) whole = of_message moment m (service_of m.kind) (whole m refl)
@@ -63,7 +70,8 @@ of_event (event.Enrol merchant currency first) is =
 of_event (event.AddTerminal merchant terminal) is = record { merchant = is.0; id = is.1 }
 
 -- what each step keeps holds after any such events
-pub kept_by_events : (P : Tables → Type 0) → ((t : Tables) (a : Arrival) → IsArrival a → P t → P (step_tables t a)) →
+pub kept_by_events : (P : Tables → Type 0) →
+    ((t : Tables) (a : Arrival) → IsArrival a → P t → P (step_tables t a)) →
     (t : Tables) (es : List Event) → AreEvents es → P t → P (tables_after t es)
 kept_by_events P step t [] are h = h
 kept_by_events P step t (e ∷ es) are h =

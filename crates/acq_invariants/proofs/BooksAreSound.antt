@@ -30,4 +30,5 @@ sound_after opening es opens are =
 
 pub books_are_sound : BooksAreSound
 books_are_sound opening t book =
-    subst (IsSound opening) (sym book.after) (sound_after opening book.events book.opens book.are_events)
+    subst (IsSound opening) (sym book.after)
+    (sound_after opening book.events book.opens book.are_events)

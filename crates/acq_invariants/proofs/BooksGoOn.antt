@@ -15,7 +15,8 @@ tables_after-push t [] e = refl
 tables_after-push t (x ∷ es) e = tables_after-push (step_tables t (arrival_of x)) es e
 
 pub books_begin : BooksBegin
-books_begin opening opens = record { opens = opens; events = []; are_events = All-nil IsEvent; after = refl }
+books_begin opening opens =
+    record { opens = opens; events = []; are_events = All-nil IsEvent; after = refl }
 
 pub books_go_on : BooksGoOn
 books_go_on opening t e book is = record {
@@ -28,7 +29,8 @@ books_go_on opening t e book is = record {
 }
 
 kept_from : (opening : Opening) (P : Tables → Type 0) →
-    ((t : Tables) (e : Event) → IsBook opening t → IsEvent e → P t → P (step_tables t (arrival_of e))) →
+    ((t : Tables) (e : Event) → IsBook opening t → IsEvent e → P t →
+    P (step_tables t (arrival_of e))) →
     (t : Tables) (es : List Event) → IsBook opening t → AreEvents es → P t → P (tables_after t es)
 kept_from opening P step t [] book are h = h
 kept_from opening P step t (e ∷ es) book are h =
@@ -38,7 +40,9 @@ kept_from opening P step t (e ∷ es) book are h =
 
 -- where each step may take it that its tables are a book's
 pub kept_in_books : (opening : Opening) (P : Tables → Type 0) → IsOpening opening →
-    ((t : Tables) (e : Event) → IsBook opening t → IsEvent e → P t → P (step_tables t (arrival_of e))) →
-    (es : List Event) → AreEvents es → P (new_tables opening) → P (tables_after (new_tables opening) es)
+    ((t : Tables) (e : Event) → IsBook opening t → IsEvent e → P t →
+    P (step_tables t (arrival_of e))) →
+    (es : List Event) → AreEvents es → P (new_tables opening) →
+    P (tables_after (new_tables opening) es)
 kept_in_books opening P opens step es are h =
     kept_from opening P step (new_tables opening) es (books_begin opening opens) are h

@@ -1,5 +1,6 @@
 -- Counts among a merchant's rows, after a row more and after a change.
-use Rattle.std.proofs.Common.{◌≡◌, ℕ, ◌+◌, ◌≤◌, List, [], ◌∷◌, ◌++◌, Bool, true, false, cond, inl, inr, refl, sym, ap, ◌∙◌, arith, eqb}
+use Rattle.std.proofs.Common.{◌≡◌, ℕ, ◌+◌, ◌≤◌, List, [], ◌∷◌, ◌++◌, Bool, true, false, cond, inl}
+use Rattle.std.proofs.Common.{inr, refl, sym, ap, ◌∙◌, arith, eqb}
 use Rattle.std.specs.Prelude.{map, filter, ◌&&◌}
 use Rattle.std.proofs.lemmas.Bool.{cases_Bool}
 use Rattle.acq_message.specs.declared.request_key.RequestKey.{RequestKey}
@@ -38,16 +39,19 @@ count-filter_push p q xs y =
 -- ---- after a change of the rows with a key
 
 -- a change that keeps what counts
-pub used_in-changed : (key : RequestKey) (changed : Request → Request) → ((x : Request) → (changed x).admitted ≡ x.admitted) →
+pub used_in-changed : (key : RequestKey) (changed : Request → Request) →
+    ((x : Request) → (changed x).admitted ≡ x.admitted) →
     ((x : Request) → (changed x).day ≡ x.day) → (rows : List Request) (day : ℕ) →
     used_in (map (changing key changed) rows) day ≡ used_in rows day
 used_in-changed key changed admitted days rows day =
     count-view (changing key changed) (λ row. row.admitted && eqb row.day day) rows
-    ∙ count-same (λ row. (changing key changed row).admitted && eqb (changing key changed row).day day)
+    ∙ count-same (λ row. (changing key changed row).admitted
+    && eqb (changing key changed row).day day)
     (λ row. row.admitted && eqb row.day day) (λ x. one x (same_key x.key key)) rows
   where
     one : (x : Request) (b : Bool) →
-        ((cond b (changed x) x).admitted && eqb (cond b (changed x) x).day day) ≡ (x.admitted && eqb x.day day)
+        ((cond b (changed x) x).admitted && eqb (cond b (changed x) x).day day)
+        ≡ (x.admitted && eqb x.day day)
     one x true = λ i. admitted x i && eqb (days x i) day
     one x false = refl
 
@@ -55,7 +59,8 @@ used_in-changed key changed admitted days rows day =
 abbrev pub pending_in : List Request → ℕ → ℕ
 pending_in rows day = count (λ row. is_pending row.status && eqb row.day day) rows
 
-module _ (key : RequestKey) (changed : Request → Request) (ends : (x : Request) → is_pending (changed x).status ≡ false)
+module _ (key : RequestKey) (changed : Request → Request) (ends : (x : Request) →
+    is_pending (changed x).status ≡ false)
     (day : ℕ) where
   -- where a change ends what was pending, no more are
   pub pending_in-changed : (rows : List Request) →
@@ -65,33 +70,42 @@ module _ (key : RequestKey) (changed : Request → Request) (ends : (x : Request
       let rest = pending_in-changed xs in
       let later = pending_in (map (changing key changed) xs) day in
       let now = pending_in xs day in
-      let one : (b : Bool) → cond (is_pending (cond b (changed x) x).status && eqb (cond b (changed x) x).day day) (1 + later) later
+      let one : (b : Bool) →
+      cond (is_pending (cond b (changed x) x).status && eqb (cond b (changed x) x).day day)
+      (1 + later) later
       ≤ cond (is_pending x.status && eqb x.day day) (1 + now) now =
       elim [
-        | true ↦ rw (ends x) (elim (is_pending x.status && eqb x.day day) as (λ b. later ≤ cond b (1 + now) now) [
-          | true ↦ omega arith
-          | false ↦ rest
-        ])
-        | false ↦ elim (is_pending x.status && eqb x.day day) as (λ b. cond b (1 + later) later ≤ cond b (1 + now) now) [
-          | true ↦ omega arith
-          | false ↦ rest
-        ]
+        | true ↦ rw (ends x)
+            (elim (is_pending x.status && eqb x.day day) as (λ b. later ≤ cond b (1 + now) now) [
+              | true ↦ omega arith
+              | false ↦ rest
+            ])
+        | false ↦ elim (is_pending x.status && eqb x.day day) as
+            (λ b. cond b (1 + later) later ≤ cond b (1 + now) now) [
+              | true ↦ omega arith
+              | false ↦ rest
+            ]
       ] in
       one (same_key x.key key)
 
   -- and one less, where one of them was pending
   pub pending_in-answered : (rows : List Request) (row : Request) → In row rows → row.key ≡ key →
-      is_pending row.status ≡ true → row.day ≡ day → pending_in (map (changing key changed) rows) day + 1 ≤ pending_in rows day
+      is_pending row.status ≡ true → row.day ≡ day →
+      pending_in (map (changing key changed) rows) day + 1 ≤ pending_in rows day
   pending_in-answered [] row member same pending on = absurd member
   pending_in-answered (x ∷ xs) row (inl is) same pending on =
       let rest = pending_in-changed xs in
       let later = pending_in (map (changing key changed) xs) day in
       let here : same_key x.key key ≡ true = same_key_from x.key key (ap (λ y. y.key) is ∙ same) in
       let waits : is_pending x.status ≡ true = ap (λ y. is_pending y.status) is ∙ pending in
-      let today : eqb x.day day ≡ true = ap (λ n. eqb n day) (ap (λ y. y.day) is ∙ on) ∙ eqb_itself day in
-      let now : cond (is_pending (changing key changed x).status && eqb (changing key changed x).day day) (1 + later) later
+      let today : eqb x.day day ≡ true = ap (λ n. eqb n day) (ap (λ y. y.day) is ∙ on)
+      ∙ eqb_itself day in
+      let now : cond
+      (is_pending (changing key changed x).status && eqb (changing key changed x).day day)
+      (1 + later) later
       ≡ later = rw (here, ends x) refl in
-      let before : cond (is_pending x.status && eqb x.day day) (1 + pending_in xs day) (pending_in xs day)
+      let before : cond (is_pending x.status && eqb x.day day) (1 + pending_in xs day)
+      (pending_in xs day)
       ≡ 1 + pending_in xs day = rw (waits, today) refl in
       omega arith
   pending_in-answered (x ∷ xs) row (inr member) same pending on =
@@ -99,16 +113,19 @@ module _ (key : RequestKey) (changed : Request → Request) (ends : (x : Request
       let later = pending_in (map (changing key changed) xs) day in
       let now = pending_in xs day in
       let one : (b : Bool) →
-      cond (is_pending (cond b (changed x) x).status && eqb (cond b (changed x) x).day day) (1 + later) later + 1
+      cond (is_pending (cond b (changed x) x).status && eqb (cond b (changed x) x).day day)
+      (1 + later) later + 1
       ≤ cond (is_pending x.status && eqb x.day day) (1 + now) now =
       elim [
-        | true ↦ rw (ends x) (elim (is_pending x.status && eqb x.day day) as (λ b. later + 1 ≤ cond b (1 + now) now) [
-          | true ↦ omega arith
-          | false ↦ rest
-        ])
-        | false ↦ elim (is_pending x.status && eqb x.day day) as (λ b. cond b (1 + later) later + 1 ≤ cond b (1 + now) now) [
-          | true ↦ omega arith
-          | false ↦ rest
-        ]
+        | true ↦ rw (ends x)
+            (elim (is_pending x.status && eqb x.day day) as (λ b. later + 1 ≤ cond b (1 + now) now) [
+              | true ↦ omega arith
+              | false ↦ rest
+            ])
+        | false ↦ elim (is_pending x.status && eqb x.day day) as
+            (λ b. cond b (1 + later) later + 1 ≤ cond b (1 + now) now) [
+              | true ↦ omega arith
+              | false ↦ rest
+            ]
       ] in
       one (same_key x.key key)

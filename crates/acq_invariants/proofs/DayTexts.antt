@@ -21,4 +21,5 @@ mmdd_of-digits day h =
     let dom : (date_of day).day ≤ 99 = omega (arith, civil.2) in
     let front = two_digits-digits (date_of day).month month in
     let back = two_digits-digits (date_of day).day dom in
-    all_append is_ascii_digit (two_digits (date_of day).month) (two_digits (date_of day).day) front back
+    all_append is_ascii_digit (two_digits (date_of day).month) (two_digits (date_of day).day) front
+    back

@@ -1,5 +1,7 @@
 -- References are consecutive, whatever comes.
-use Rattle.std.proofs.Common.{◌≡◌, ℕ, zero, suc, ◌+◌, ◌<◌, List, [], ◌∷◌, ◌++◌, Option, Some, None, Bool, true, false, cond, inl, inr, ◌⊎◌, refl, sym, ap, ◌∙◌, subst, arith}
+use Rattle.std.proofs.Common.{◌≡◌, ℕ, zero, suc, ◌+◌, ◌<◌, List, [], ◌∷◌, ◌++◌, Option, Some, None}
+use Rattle.std.proofs.Common.{Bool, true, false, cond, inl, inr, ◌⊎◌, refl, sym, ap, ◌∙◌, subst}
+use Rattle.std.proofs.Common.{arith}
 use Rattle.std.specs.Prelude.{map, find, is_some, nat_eq}
 use Rattle.std.specs.Option.{option_or}
 use Rattle.std.specs.List.{cons_option, range_with_len, list_any}
@@ -14,11 +16,13 @@ use Rattle.acq_core.specs.declared.arrival.Arrival.{Arrival}
 use Rattle.acq_core.specs.declared.merchant.Merchant.{Merchant}
 use Rattle.acq_core.specs.declared.request.Request.{Request}
 use Rattle.acq_core.specs.Changes.{change_of}
-use Rattle.acq_core.specs.Tables.{Tables, new_tables, known_in, requests_of, admitted_in, with_changed, after_any, step_tables, tables_after}
+use Rattle.acq_core.specs.Tables.{Tables, new_tables, known_in, requests_of, admitted_in}
+use Rattle.acq_core.specs.Tables.{with_changed, after_any, step_tables, tables_after}
 use Rattle.acq_core.proofs.Counts.{count-push}
 use Rattle.acq_history.proofs.Lookups.{count-view, count-same, filter-push_in, filter-push_out}
 use Rattle.acq_history.proofs.Keys.{bytes_eq_is, bytes_eq_itself}
-use Rattle.acq_invariants.specs.References.{references_in, merchant_in, AreRowsOf, HasConsecutiveReferences, ReferencesAreConsecutive}
+use Rattle.acq_invariants.specs.References.{references_in, merchant_in, AreRowsOf}
+use Rattle.acq_invariants.specs.References.{HasConsecutiveReferences, ReferencesAreConsecutive}
 use Rattle.acq_invariants.specs.Keys.{are_distinct}
 use Rattle.acq_history.proofs.StepCases.{by_step}
 use Rattle.acq_invariants.proofs.Runs.{kept}
@@ -30,7 +34,8 @@ range_with_len-more : (a n : ℕ) → range_with_len a (suc n) ≡ range_with_le
 range_with_len-more a zero = let same : a ≡ a + 0 = omega arith in ap (λ x. x ∷ []) same
 range_with_len-more a (suc n) =
     let same : a + 1 + n ≡ a + suc n = omega arith in
-    ap (λ xs. a ∷ xs) (range_with_len-more (a + 1) n ∙ ap (λ x. range_with_len (a + 1) n ++ x ∷ []) same)
+    ap (λ xs. a ∷ xs)
+    (range_with_len-more (a + 1) n ∙ ap (λ x. range_with_len (a + 1) n ++ x ∷ []) same)
 
 -- a row without a reference, or with the one that comes next
 abbrev pub MayFollow : Merchant → List Request → Request → Type 0
@@ -42,10 +47,12 @@ references_in-push : (rows : List Request) (row : Request) →
 references_in-push rows row = filter_map-append (λ x. x.reference) rows (row ∷ [])
 
 admitted_in-push : (rows : List Request) (row : Request) →
-    admitted_in (rows ++ row ∷ []) ≡ cond (is_some row.reference) (1 + admitted_in rows) (admitted_in rows)
+    admitted_in (rows ++ row ∷ []) ≡ cond (is_some row.reference) (1 + admitted_in rows)
+    (admitted_in rows)
 admitted_in-push rows row = count-push (λ x. is_some x.reference) rows row
 
-rows_with_row : (merchant : Merchant) (rows : List Request) (row : Request) → MayFollow merchant rows row →
+rows_with_row : (merchant : Merchant) (rows : List Request) (row : Request) →
+    MayFollow merchant rows row →
     AreRowsOf (Some merchant) rows → AreRowsOf (Some merchant) (rows ++ row ∷ [])
 rows_with_row merchant rows row (inl none) h =
     let first = merchant.first_reference in
@@ -69,7 +76,8 @@ rows_with_row merchant rows row (inr next) h =
 -- ---- rows that were changed
 
 -- with a change that keeps references
-rows_changed : (o : Option Merchant) (u : Request → Request) → ((x : Request) → (u x).reference ≡ x.reference) →
+rows_changed : (o : Option Merchant) (u : Request → Request) →
+    ((x : Request) → (u x).reference ≡ x.reference) →
     (rows : List Request) → AreRowsOf o rows → AreRowsOf o (map u rows)
 rows_changed None u keeps rows h = ap (map u) h
 rows_changed (Some merchant) u keeps rows h =
@@ -82,7 +90,8 @@ rows_changed (Some merchant) u keeps rows h =
     count : admitted_in (map u rows) ≡ admitted_in rows
     count =
         count-view u (λ x. is_some x.reference) rows
-        ∙ count-same (λ x. is_some (u x).reference) (λ x. is_some x.reference) (λ x. ap is_some (keeps x)) rows
+        ∙ count-same (λ x. is_some (u x).reference) (λ x. is_some x.reference)
+        (λ x. ap is_some (keeps x)) rows
 
 -- ---- the rows of all merchants
 
@@ -105,22 +114,32 @@ with_row merchants rows row merchant enrolled follows h m = step (bytes_eq row.k
     mine : Has merchants row.key.merchant (requests_of row.key.merchant (rows ++ row ∷ []))
     mine =
         subst (Has merchants row.key.merchant)
-        (sym (filter-push_in (λ x. bytes_eq x.key.merchant row.key.merchant) rows row (bytes_eq_itself row.key.merchant)))
+        (sym (filter-push_in (λ x. bytes_eq x.key.merchant row.key.merchant) rows row
+        (bytes_eq_itself row.key.merchant)))
         (subst (λ o. AreRowsOf o (requests_of row.key.merchant rows ++ row ∷ [])) (sym enrolled)
         (rows_with_row merchant (requests_of row.key.merchant rows) row follows
-        (subst (λ o. AreRowsOf o (requests_of row.key.merchant rows)) enrolled (h row.key.merchant))))
+        (subst (λ o. AreRowsOf o (requests_of row.key.merchant rows)) enrolled
+        (h row.key.merchant))))
 
-    step : (b : Bool) → bytes_eq row.key.merchant m ≡ b → Has merchants m (requests_of m (rows ++ row ∷ []))
-    step true e = subst (λ x. Has merchants x (requests_of x (rows ++ row ∷ []))) (bytes_eq_is row.key.merchant m e) mine
-    step false e = subst (Has merchants m) (sym (filter-push_out (λ x. bytes_eq x.key.merchant m) rows row e)) (h m)
+    step : (b : Bool) → bytes_eq row.key.merchant m ≡ b →
+        Has merchants m (requests_of m (rows ++ row ∷ []))
+    step true e = subst (λ x. Has merchants x (requests_of x (rows ++ row ∷ [])))
+        (bytes_eq_is row.key.merchant m e) mine
+    step false e =
+        subst (Has merchants m) (sym (filter-push_out (λ x. bytes_eq x.key.merchant m) rows row e))
+        (h m)
 
 -- with the rows of a key changed
-with_changes : (merchants : List Merchant) (rows : List Request) (key : RequestKey) (changed : Request → Request) →
-    ((x : Request) → (changed x).key ≡ x.key) → ((x : Request) → (changed x).reference ≡ x.reference) →
+with_changes : (merchants : List Merchant) (rows : List Request) (key : RequestKey)
+    (changed : Request → Request) →
+    ((x : Request) → (changed x).key ≡ x.key) →
+    ((x : Request) → (changed x).reference ≡ x.reference) →
     AreRows merchants rows → AreRows merchants (with_changed key changed rows)
 with_changes merchants rows key changed keys references h m =
-    subst (AreRowsOf (merchant_among merchants m)) (sym (requests_of-changed m key changed keys rows))
-    (rows_changed (merchant_among merchants m) (changing key changed) (λ x. one x (same_key x.key key))
+    subst (AreRowsOf (merchant_among merchants m))
+    (sym (requests_of-changed m key changed keys rows))
+    (rows_changed (merchant_among merchants m) (changing key changed)
+    (λ x. one x (same_key x.key key))
     (requests_of m rows) (h m))
   where
     one : (x : Request) (b : Bool) → (cond b (changed x) x).reference ≡ x.reference
@@ -128,7 +147,8 @@ with_changes merchants rows key changed keys references h m =
     one x false = refl
 
 -- with a merchant more
-with_merchant : (merchants : List Merchant) (rows : List Request) (merchant : Merchant) → AreRows merchants rows →
+with_merchant : (merchants : List Merchant) (rows : List Request) (merchant : Merchant) →
+    AreRows merchants rows →
     AreRows (merchants ++ merchant ∷ []) rows
 with_merchant merchants rows merchant h m =
     subst (λ o. AreRowsOf o (requests_of m rows))
@@ -141,12 +161,14 @@ with_merchant merchants rows merchant h m =
 
     step : (o : Option Merchant) → AreRowsOf o (requests_of m rows) →
         AreRowsOf (option_or o (merchant_among (merchant ∷ []) m)) (requests_of m rows)
-    step None none = subst (AreRowsOf (merchant_among (merchant ∷ []) m)) (sym none) (first (merchant_among (merchant ∷ []) m))
+    step None none = subst (AreRowsOf (merchant_among (merchant ∷ []) m)) (sym none)
+        (first (merchant_among (merchant ∷ []) m))
     step (Some x) there = there
 
 -- ---- steps
 
-step : (t : Tables) (a : Arrival) → HasConsecutiveReferences t → HasConsecutiveReferences (step_tables t a)
+step : (t : Tables) (a : Arrival) → HasConsecutiveReferences t →
+    HasConsecutiveReferences (step_tables t a)
 step t a h =
     by_step t a (λ d. HasConsecutiveReferences (after_any t (change_of (known_in t a) d)))
     (record {
@@ -180,7 +202,8 @@ step t a h =
 -- numbers from one on stand above all before it
 range-above : (low a n : ℕ) → low < a → list_any (nat_eq low) (range_with_len a n) ≡ false
 range-above low a zero above = refl
-range-above low a (suc n) above = rw (ne_eqb low a (omega arith)) (range-above low (a + 1) n (omega arith))
+range-above low a (suc n) above = rw (ne_eqb low a (omega arith))
+    (range-above low (a + 1) n (omega arith))
 
 range-distinct : (a n : ℕ) → are_distinct nat_eq (range_with_len a n) ≡ true
 range-distinct a zero = refl

@@ -1,5 +1,6 @@
 -- The elements of a reply: what is echoed, and what is added, are elements that replies may have.
-use Rattle.std.proofs.Common.{◌≡◌, ℕ, suc, ◌≤◌, List, [], ◌∷◌, length, Option, Some, None, Bool, true, false, eqb, leb, inl, inr, refl, sym, subst, arith}
+use Rattle.std.proofs.Common.{◌≡◌, ℕ, suc, ◌≤◌, List, [], ◌∷◌, length, Option, Some, None, Bool}
+use Rattle.std.proofs.Common.{true, false, eqb, leb, inl, inr, refl, sym, subst, arith}
 use Rattle.std.specs.Prelude.{filter, codes, pos, ◌&&◌, if◌then◌else◌, ℤ, negsuc}
 use Rattle.std.specs.List.{list_all}
 use Rattle.std.specs.Char.{is_ascii_digit}
@@ -7,7 +8,8 @@ use Rattle.std.proofs.lemmas.Bool.{and_parts, and_from, cases_Bool, or_cases, eq
 use Rattle.std.proofs.lemmas.Bool.Decides.{nat_tests}
 use Rattle.iso_codec.specs.Content.{has_class, is_alphanumeric}
 use Rattle.iso_codec.specs.Table.{format_of}
-use Rattle.iso_codec.specs.Message.{IsoMessage, IsMessage, IsKind, numbers, Ascends, is_element, with_content, is_among}
+use Rattle.iso_codec.specs.Message.{IsoMessage, IsMessage, IsKind, numbers, Ascends, is_element}
+use Rattle.iso_codec.specs.Message.{with_content, is_among}
 use Rattle.iso_codec.proofs.OneMessage.{format_of_element}
 use Rattle.iso_codec.proofs.TableBounds.{format_in_bounds}
 use Rattle.iso_codec.proofs.ElementPlaces.{ascends_with}
@@ -16,14 +18,18 @@ use Rattle.day_totals.specs.Digits.{zero_padded}
 use Rattle.day_totals.specs.Totals.{DayTotals, net_text_of, net_of}
 use Rattle.day_totals.proofs.ZeroPadded.{length-zero_padded, all_digits-zero_padded}
 use Rattle.acq_message.specs.declared.service.Service.{Service}
-use Rattle.acq_message.specs.declared.service.Service.TheVariants.{Authorization, Financial, Completion, Reversal, ReversalAdvice, Reconciliation, NetworkManagement}
+use Rattle.acq_message.specs.declared.service.Service.TheVariants.{Authorization, Financial}
+use Rattle.acq_message.specs.declared.service.Service.TheVariants.{Completion, Reversal}
+use Rattle.acq_message.specs.declared.service.Service.TheVariants.{ReversalAdvice, Reconciliation}
+use Rattle.acq_message.specs.declared.service.Service.TheVariants.{NetworkManagement}
 use Rattle.acq_message.specs.declared.response_code.ResponseCode.{ResponseCode}
 use Rattle.acq_message.specs.declared.response_code.ResponseCode.TheVariants as code
 use Rattle.acq_message.specs.declared.verdict.Verdict.{Verdict}
 use Rattle.acq_message.specs.declared.verdict.Verdict.TheVariants as verdict
 use Rattle.acq_message.specs.IssuerTexts.{is_decline_code}
 use Rattle.acq_message.specs.Services.{reply_kind, echoed}
-use Rattle.acq_message.specs.Reply.{echo, with_contents, day_element, reference_element, code_element, totals_elements, verdict_elements}
+use Rattle.acq_message.specs.Reply.{echo, with_contents, day_element, reference_element}
+use Rattle.acq_message.specs.Reply.{code_element, totals_elements, verdict_elements}
 use Rattle.acq_core.specs.Events.{IsVerdict}
 use Rattle.acq_invariants.specs.Replies.{reply_elements, IsReply}
 use Rattle.acq_invariants.proofs.DayTexts.{mmdd_of-digits}
@@ -39,7 +45,8 @@ pub record IsBody (es : List (ℕ × List ℕ)) : Type 0 where
   pub ascends : Ascends 1 (numbers es)
 
 -- what all pass, all pass of what follows from it
-pub all_weaker : {X : Type 0} (p q : X → Bool) → ((x : X) → p x ≡ true → q x ≡ true) → (xs : List X) →
+pub all_weaker : {X : Type 0} (p q : X → Bool) → ((x : X) → p x ≡ true → q x ≡ true) →
+    (xs : List X) →
     list_all p xs ≡ true → list_all q xs ≡ true
 all_weaker p q weaker [] h = refl
 all_weaker p q weaker (x ∷ xs) h =
@@ -48,7 +55,8 @@ all_weaker p q weaker (x ∷ xs) h =
 
 -- ---- what is added
 
-all_with : (p : ℕ × List ℕ → Bool) (es : List (ℕ × List ℕ)) (n : ℕ) (text : List ℕ) → list_all p es ≡ true →
+all_with : (p : ℕ × List ℕ → Bool) (es : List (ℕ × List ℕ)) (n : ℕ) (text : List ℕ) →
+    list_all p es ≡ true →
     p (n, text) ≡ true → list_all p (with_content es n text) ≡ true
 all_with p [] n text h k = and_from (p (n, text)) true k refl
 all_with p (e ∷ es) n text h k =
@@ -62,13 +70,18 @@ all_with p (e ∷ es) n text h k =
       | inr high ↦ rw high (and_from (p (n, text)) (list_all p (e ∷ es)) k h)
     ]
 
-body_with : (es : List (ℕ × List ℕ)) (n : ℕ) (text : List ℕ) → IsBody es → may_have (n, text) ≡ true →
+body_with : (es : List (ℕ × List ℕ)) (n : ℕ) (text : List ℕ) → IsBody es →
+    may_have (n, text) ≡ true →
     IsBody (with_content es n text)
 body_with es n text b fits =
     let parts = and_parts (is_element (n, text)) (is_among reply_elements (n, text)) fits in
     let format = format_of_element n text parts.0 in
     let s = format_in_bounds n format.0 format.1 in
-    record { each = all_with may_have es n text b.each fits; ascends = ascends_with 1 es n text b.ascends s.1 }
+    record {
+      each = all_with may_have es n text b.each fits;
+      ascends =
+          ascends_with 1 es n text b.ascends s.1;
+    }
 
 pub body_with_all : (added es : List (ℕ × List ℕ)) → IsBody es → list_all may_have added ≡ true →
     IsBody (with_contents es added)
@@ -84,7 +97,8 @@ abbrev pub are_of_replies : List ℕ → Bool
 are_of_replies ks = list_all (λ k. is_among reply_elements (k, [])) ks
 
 -- what holds of each of these numbers holds of an element's number among them
-pub among_passes : (q : ℕ → Bool) (ks : List ℕ) (e : ℕ × List ℕ) → list_all q ks ≡ true → is_among ks e ≡ true →
+pub among_passes : (q : ℕ → Bool) (ks : List ℕ) (e : ℕ × List ℕ) → list_all q ks ≡ true →
+    is_among ks e ≡ true →
     q e.0 ≡ true
 among_passes q [] e h k = absurd cc
 among_passes q (n ∷ ks) e h k =
@@ -103,7 +117,8 @@ echoed-of_replies ReversalAdvice = refl
 echoed-of_replies Reconciliation = refl
 echoed-of_replies NetworkManagement = refl
 
-kept_each : (ks : List ℕ) (es : List (ℕ × List ℕ)) → are_of_replies ks ≡ true → list_all is_element es ≡ true →
+kept_each : (ks : List ℕ) (es : List (ℕ × List ℕ)) → are_of_replies ks ≡ true →
+    list_all is_element es ≡ true →
     list_all may_have (filter (is_among ks) es) ≡ true
 kept_each ks [] h k = refl
 kept_each ks (e ∷ es) h k =
@@ -111,7 +126,8 @@ kept_each ks (e ∷ es) h k =
     let rest = kept_each ks es h parts.1 in
     elim (cases_Bool (is_among ks e)) [
       | inl kept ↦ rw kept (and_from (may_have e) (list_all may_have (filter (is_among ks) es))
-          (and_from (is_element e) (is_among reply_elements e) parts.0 (among_passes (λ k. is_among reply_elements (k, [])) ks e h kept)) rest)
+          (and_from (is_element e) (is_among reply_elements e) parts.0
+          (among_passes (λ k. is_among reply_elements (k, [])) ks e h kept)) rest)
       | inr dropped ↦ rw dropped rest
     ]
 
@@ -119,7 +135,8 @@ ascends_lower : (low m : ℕ) (ns : List ℕ) → low ≤ m → Ascends m ns →
 ascends_lower low m [] le up = tt
 ascends_lower low m (n ∷ ns) le up = let above = up.0 in (omega arith, up.1)
 
-pub kept_ascends : (p : ℕ × List ℕ → Bool) (low : ℕ) (es : List (ℕ × List ℕ)) → Ascends low (numbers es) →
+pub kept_ascends : (p : ℕ × List ℕ → Bool) (low : ℕ) (es : List (ℕ × List ℕ)) →
+    Ascends low (numbers es) →
     Ascends low (numbers (filter p es))
 kept_ascends p low [] up = tt
 kept_ascends p low (e ∷ es) up =
@@ -148,7 +165,8 @@ reply_kind-kind Reconciliation = record { size = refl; digits = refl }
 reply_kind-kind NetworkManagement = record { size = refl; digits = refl }
 
 -- elements of a reply, under the type of a service's replies
-pub reply_of_body : (service : Service) (m : IsoMessage) → m.kind ≡ reply_kind service → IsBody m.elements →
+pub reply_of_body : (service : Service) (m : IsoMessage) → m.kind ≡ reply_kind service →
+    IsBody m.elements →
     IsReply service m
 reply_of_body service m is b = record {
   is_message = record {
@@ -170,13 +188,15 @@ body_of_reply service m r = record {
   ascends = r.is_message.ascends;
 }
   where
-    both : (es : List (ℕ × List ℕ)) → list_all is_element es ≡ true → list_all (is_among reply_elements) es ≡ true →
+    both : (es : List (ℕ × List ℕ)) → list_all is_element es ≡ true →
+        list_all (is_among reply_elements) es ≡ true →
         list_all may_have es ≡ true
     both [] h k = refl
     both (e ∷ es) h k =
         let a = and_parts (is_element e) (list_all is_element es) h in
         let b = and_parts (is_among reply_elements e) (list_all (is_among reply_elements) es) k in
-        and_from (may_have e) (list_all may_have es) (and_from (is_element e) (is_among reply_elements e) a.0 b.0)
+        and_from (may_have e) (list_all may_have es)
+        (and_from (is_element e) (is_among reply_elements e) a.0 b.0)
         (both es a.1 b.1)
 
 -- ---- the elements that the host adds
@@ -188,7 +208,8 @@ day_may : (day : ℕ) → day ≤ last_day → list_all may_have ((15, mmdd_of d
 unfolding format_of has_class
 day_may day h = rw (mmdd_of-digits day h) refl
 
-pub day_element-may : (service : Service) (day : ℕ) → day ≤ last_day → list_all may_have (day_element service day) ≡ true
+pub day_element-may : (service : Service) (day : ℕ) → day ≤ last_day →
+    list_all may_have (day_element service day) ≡ true
 day_element-may NetworkManagement day h = refl
 day_element-may Authorization day h = day_may day h
 day_element-may Financial day h = day_may day h
@@ -210,7 +231,8 @@ abbrev pub IsCode : ResponseCode → Type 0
 IsCode (code.Declined text) = is_decline_code text ≡ true
 IsCode given = Unit {0}
 
-pub code_element-may : (given : ResponseCode) → IsCode given → list_all may_have (code_element given) ≡ true
+pub code_element-may : (given : ResponseCode) → IsCode given →
+    list_all may_have (code_element given) ≡ true
 unfolding format_of has_class
 code_element-may code.Approved h = refl
 code_element-may code.InvalidMerchant h = refl
@@ -247,7 +269,8 @@ IsCode-hosts code.DuplicateTransmission h = tt
 IsCode-hosts code.ReconcileError h = tt
 IsCode-hosts (code.Declined text) h = absurd cc
 
-pub verdict_elements-may : (v : Verdict) → IsVerdict v → list_all may_have (verdict_elements v) ≡ true
+pub verdict_elements-may : (v : Verdict) → IsVerdict v →
+    list_all may_have (verdict_elements v) ≡ true
 unfolding format_of has_class
 verdict_elements-may (verdict.Approved id) h = rw h refl
 verdict_elements-may (verdict.Declined text) h = code_element-may (code.Declined text) h
@@ -296,7 +319,8 @@ unfolding format_of has_class
 in_balance_may true = refl
 in_balance_may false = refl
 
-pub totals_elements-may : (b : Bool) (t : DayTotals) → list_all may_have (totals_elements b t) ≡ true
+pub totals_elements-may : (b : Bool) (t : DayTotals) →
+    list_all may_have (totals_elements b t) ≡ true
 totals_elements-may b t =
     and_from _ _ (in_balance_may b)
     (and_from _ _ (may_74 t.credits.count)

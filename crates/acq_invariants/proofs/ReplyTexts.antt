@@ -1,18 +1,23 @@
 -- The text of a reply fits a frame, and is printable.
-use Rattle.std.proofs.Common.{◌≡◌, ℕ, ◌+◌, ◌*◌, ◌/◌, ◌%◌, ◌≤◌, List, [], ◌∷◌, ◌++◌, length, Option, Some, None, Bool, true, false, eqb, leb, refl, sym, ap, ◌∙◌, subst, arith, length-append}
+use Rattle.std.proofs.Common.{◌≡◌, ℕ, ◌+◌, ◌*◌, ◌/◌, ◌%◌, ◌≤◌, List, [], ◌∷◌, ◌++◌, length, Option}
+use Rattle.std.proofs.Common.{Some, None, Bool, true, false, eqb, leb, refl, sym, ap, ◌∙◌, subst}
+use Rattle.std.proofs.Common.{arith, length-append}
 use Rattle.std.specs.Prelude.{MatchBool, ◌&&◌, ◌||◌}
 use Rattle.std.specs.List.{list_all}
 use Rattle.std.specs.Char.{is_ascii_digit}
 use Rattle.std.proofs.lemmas.Bool.{and_parts, and_from, eqb-true, leb-true}
 use Rattle.std.proofs.lemmas.Bool.Decides.{nat_tests}
 use Rattle.iso_codec.specs.declared.class.Class.{Class}
-use Rattle.iso_codec.specs.declared.class.Class.TheVariants.{Numeric, Alphanumeric, Printable, Track, Hex, SignedNumeric, Any}
+use Rattle.iso_codec.specs.declared.class.Class.TheVariants.{Numeric, Alphanumeric, Printable}
+use Rattle.iso_codec.specs.declared.class.Class.TheVariants.{Track, Hex, SignedNumeric, Any}
 use Rattle.iso_codec.specs.declared.form.Form.{Form}
 use Rattle.iso_codec.specs.declared.form.Form.TheVariants.{Fixed, Llvar, Lllvar}
 use Rattle.iso_codec.specs.declared.element_format.ElementFormat.{ElementFormat}
-use Rattle.iso_codec.specs.Content.{has_length, has_class, allows, digits_of, spelled_by, is_printable, is_alphanumeric}
+use Rattle.iso_codec.specs.Content.{has_length, has_class, allows, digits_of, spelled_by}
+use Rattle.iso_codec.specs.Content.{is_printable, is_alphanumeric}
 use Rattle.iso_codec.specs.Table.{format_of}
-use Rattle.iso_codec.specs.Message.{IsoMessage, IsBitmap, numbers, Ascends, is_element, is_upper_hex, spelled, body, is_among}
+use Rattle.iso_codec.specs.Message.{IsoMessage, IsBitmap, numbers, Ascends, is_element}
+use Rattle.iso_codec.specs.Message.{is_upper_hex, spelled, body, is_among}
 use Rattle.iso_codec.specs.Reading.{spelling}
 use Rattle.iso_codec.proofs.OneMessage.{format_of_element}
 use Rattle.iso_codec.proofs.TableBounds.{format_in_bounds}
@@ -72,7 +77,8 @@ plain_text : (c : Class) (text : List ℕ) → is_plain_class c ≡ true → has
     list_all is_printable text ≡ true
 unfolding has_class
 plain_text Numeric text h k = all_weaker is_ascii_digit is_printable digit_printable text k
-plain_text Alphanumeric text h k = all_weaker is_alphanumeric is_printable alphanumeric_printable text k
+plain_text Alphanumeric text h k =
+    all_weaker is_alphanumeric is_printable alphanumeric_printable text k
 plain_text Printable text h k = k
 plain_text SignedNumeric [] h k = refl
 plain_text SignedNumeric (b ∷ bs) h k =
@@ -88,7 +94,8 @@ pub record IsPlain (text : List ℕ) : Type 0 where
   pub short : length text ≤ 21
   pub printable : list_all is_printable text ≡ true
 
-plain_form : (f : Form) (text : List ℕ) → is_short_form f ≡ true → has_length f (length text) ≡ true →
+plain_form : (f : Form) (text : List ℕ) → is_short_form f ≡ true →
+    has_length f (length text) ≡ true →
     list_all is_printable text ≡ true → IsPlain (digits_of f (length text) ++ text)
 plain_form (Fixed k) text h long plain =
     let is = eqb-true (length text) k long in
@@ -105,7 +112,8 @@ plain_form (Llvar greatest) text h long plain =
     }
 plain_form (Lllvar greatest) text h long plain = absurd cc
 
-plain_spelled : (o : Option ElementFormat) (text : List ℕ) → is_plain_format o ≡ true → allows o text ≡ true →
+plain_spelled : (o : Option ElementFormat) (text : List ℕ) → is_plain_format o ≡ true →
+    allows o text ≡ true →
     IsPlain (spelled_by o text)
 plain_spelled None text h k = absurd cc
 plain_spelled (Some f) text h k =
@@ -117,7 +125,8 @@ plain_element : (e : ℕ × List ℕ) → may_have e ≡ true → IsPlain (spell
 plain_element e h =
     let parts = and_parts (is_element e) (is_among reply_elements e) h in
     plain_spelled (format_of e.0) e.1
-    (among_passes (λ n. is_plain_format (format_of n)) reply_elements e reply_elements-plain parts.1) parts.0
+    (among_passes (λ n. is_plain_format (format_of n)) reply_elements e reply_elements-plain
+    parts.1) parts.0
 
 -- ---- all elements
 
@@ -141,7 +150,8 @@ plain_body (e ∷ es) h =
     }
 
 -- no more than 127
-few : (low : ℕ) (es : List (ℕ × List ℕ)) → low ≤ 128 → Ascends low (numbers es) → list_all is_element es ≡ true →
+few : (low : ℕ) (es : List (ℕ × List ℕ)) → low ≤ 128 → Ascends low (numbers es) →
+    list_all is_element es ≡ true →
     length es + low ≤ 128
 few low [] le up k = omega arith
 few low (e ∷ es) le up k =
@@ -160,7 +170,8 @@ second_small : (b : Bool) (second : List ℕ) (bits : ℕ) →
 second_small true second bits h = let size = h.size in omega arith
 second_small false second bits h = rw h.0 (omega arith)
 
-pub text_of_reply : (service : Service) (m : IsoMessage) → IsReply service m → IsReplyText (spelling m)
+pub text_of_reply : (service : Service) (m : IsoMessage) → IsReply service m →
+    IsReplyText (spelling m)
 text_of_reply service m r =
     let w = spelling_writes m r.is_message in
     let b = body_of_reply service m r in
@@ -185,7 +196,9 @@ text_of_reply service m r =
       printable =
           subst (λ (text : List ℕ). list_all is_printable text ≡ true) (sym w.parts)
           (all_append is_printable m.kind (w.digits ++ body m.elements)
-          (all_weaker is_ascii_digit is_printable digit_printable m.kind r.is_message.kind_fits.digits)
+          (all_weaker is_ascii_digit is_printable digit_printable m.kind
+          r.is_message.kind_fits.digits)
           (all_append is_printable w.digits (body m.elements)
-          (all_weaker is_upper_hex is_printable upper_hex_printable w.digits w.upper_case) plain.printable));
+          (all_weaker is_upper_hex is_printable upper_hex_printable w.digits w.upper_case)
+          plain.printable));
     }

@@ -1,5 +1,6 @@
 -- Each column of each row is what its Rust type holds, whatever comes.
-use Rattle.std.proofs.Common.{◌≡◌, ℕ, ◌+◌, ◌≤◌, List, [], ◌∷◌, ◌++◌, Option, Some, None, Bool, true, false, cond, eqb, leb, inl, inr, refl, sym, ap, ◌∙◌, subst, arith}
+use Rattle.std.proofs.Common.{◌≡◌, ℕ, ◌+◌, ◌≤◌, List, [], ◌∷◌, ◌++◌, Option, Some, None, Bool, true}
+use Rattle.std.proofs.Common.{false, cond, eqb, leb, inl, inr, refl, sym, ap, ◌∙◌, subst, arith}
 use Rattle.std.specs.Prelude.{All, IfSome, filter, option_map, ◌&&◌}
 use Rattle.std.specs.List.{list_all}
 use Rattle.std.specs.Str.{bytes_eq}
@@ -12,7 +13,10 @@ use Rattle.card_no.specs.Track2.{may_be_number}
 use Rattle.day_totals.specs.Day.{last_day}
 use Rattle.day_totals.specs.declared.leg.Leg.{Leg}
 use Rattle.acq_message.specs.declared.service.Service.{Service}
-use Rattle.acq_message.specs.declared.service.Service.TheVariants.{Authorization, Financial, Completion, Reversal, ReversalAdvice, Reconciliation, NetworkManagement}
+use Rattle.acq_message.specs.declared.service.Service.TheVariants.{Authorization, Financial}
+use Rattle.acq_message.specs.declared.service.Service.TheVariants.{Completion, Reversal}
+use Rattle.acq_message.specs.declared.service.Service.TheVariants.{ReversalAdvice, Reconciliation}
+use Rattle.acq_message.specs.declared.service.Service.TheVariants.{NetworkManagement}
 use Rattle.acq_message.specs.declared.request_key.RequestKey.{RequestKey}
 use Rattle.acq_message.specs.declared.request_message.RequestMessage.{RequestMessage}
 use Rattle.acq_message.specs.declared.verdict.Verdict.{Verdict}
@@ -27,8 +31,12 @@ use Rattle.acq_core.specs.declared.posting.Posting.{Posting}
 use Rattle.acq_core.specs.declared.request.Request.{Request}
 use Rattle.acq_core.specs.declared.status.Status.{Status}
 use Rattle.acq_core.specs.Arrivals.{arrival_of}
-use Rattle.acq_core.specs.Changes.{change_of, end_of_hold, answered_hold_end, approval_posting, answer_posting, posting_today, posted_leg, reversal_leg, reversal_posting, completion_posting}
-use Rattle.acq_core.specs.Tables.{Opening, Tables, new_tables, count, prior_of, reply_state_of, leg_by, postings_of, postings_before, with_changed, with_next_posting, known_in, after_any, step_tables, tables_after}
+use Rattle.acq_core.specs.Changes.{change_of, end_of_hold, answered_hold_end, approval_posting}
+use Rattle.acq_core.specs.Changes.{answer_posting, posting_today, posted_leg, reversal_leg}
+use Rattle.acq_core.specs.Changes.{reversal_posting, completion_posting}
+use Rattle.acq_core.specs.Tables.{Opening, Tables, new_tables, count, prior_of, reply_state_of}
+use Rattle.acq_core.specs.Tables.{leg_by, postings_of, postings_before, with_changed}
+use Rattle.acq_core.specs.Tables.{with_next_posting, known_in, after_any, step_tables, tables_after}
 use Rattle.acq_history.proofs.Members.{In}
 use Rattle.acq_history.proofs.Keys.{bytes_eq_itself, eqb_itself}
 use Rattle.acq_history.proofs.StepCases.{by_step}
@@ -36,7 +44,8 @@ use Rattle.acq_core.specs.Events.{AreEvents, IsOpening}
 use Rattle.acq_invariants.specs.Ranges.{HasRangesApart}
 use Rattle.acq_invariants.specs.CardData.{KeepsNoSensitiveData, HasNoSensitiveData}
 use Rattle.acq_invariants.specs.Bounds.{IsBounded}
-use Rattle.acq_invariants.specs.Rows.{AreHoldDays, greatest_hold_end, FitsMerchant, FitsTerminal, FitsKey, FitsReconciliation, RowsFitTheirTypes}
+use Rattle.acq_invariants.specs.Rows.{AreHoldDays, greatest_hold_end, FitsMerchant, FitsTerminal}
+use Rattle.acq_invariants.specs.Rows.{FitsKey, FitsReconciliation, RowsFitTheirTypes}
 use Rattle.acq_core.specs.Pasts.{IsBook}
 use Rattle.acq_invariants.proofs.Arrivals.{IsWhole, IsArrival, of_event}
 use Rattle.acq_invariants.proofs.RowsWithChanges.{All-with_changed, All-member}
@@ -58,7 +67,8 @@ record FitsColumns (row : Request) : Type 0 where
   hold_end : IfSome row.hold_end (λ n. n ≤ greatest_hold_end)
 
 -- a row of a request, without a hold's end
-columns_of : (r : RequestMessage) → IsWhole r → (r.service ≡ NetworkManagement → ⊥) → (row : Request) →
+columns_of : (r : RequestMessage) → IsWhole r → (r.service ≡ NetworkManagement → ⊥) →
+    (row : Request) →
     row.key ≡ key_of r.service r.message → row.amount ≡ amount_in r.message →
     IfSome row.hold_days AreHoldDays → row.hold_end ≡ None → FitsColumns row
 columns_of r whole recordable row key amount days endless = record {
@@ -69,16 +79,22 @@ columns_of r whole recordable row key amount days endless = record {
 }
 
 -- a range of a list of valid ones
-hold_days-valid : (ranges : List Range) (range : Range) → list_all is_valid_range ranges ≡ true → In range ranges →
+hold_days-valid : (ranges : List Range) (range : Range) → list_all is_valid_range ranges ≡ true →
+    In range ranges →
     AreHoldDays range.hold_days
 hold_days-valid [] range valid member = absurd member
 hold_days-valid (x ∷ xs) range valid (inl is) =
     let one = (and_parts (is_valid_range x) (list_all is_valid_range xs) valid).0 in
-    let last = and_parts (leb x.low x.high && leb x.high greatest_prefix && is_issuer x.issuer && leb 1 x.hold_days) _ one in
-    let least = and_parts (leb x.low x.high && leb x.high greatest_prefix && is_issuer x.issuer) _ last.0 in
-    subst (λ (y : Range). AreHoldDays y.hold_days) is (leb-true 1 x.hold_days least.1, leb-true x.hold_days 31 last.1)
+    let last = and_parts
+    (leb x.low x.high && leb x.high greatest_prefix && is_issuer x.issuer && leb 1 x.hold_days)
+    _ one in
+    let least = and_parts (leb x.low x.high && leb x.high greatest_prefix && is_issuer x.issuer) _
+    last.0 in
+    subst (λ (y : Range). AreHoldDays y.hold_days) is
+    (leb-true 1 x.hold_days least.1, leb-true x.hold_days 31 last.1)
 hold_days-valid (x ∷ xs) range valid (inr member) =
-    hold_days-valid xs range (and_parts (is_valid_range x) (list_all is_valid_range xs) valid).1 member
+    hold_days-valid xs range (and_parts (is_valid_range x) (list_all is_valid_range xs) valid).1
+    member
 
 -- when an approved hold ends
 end_of_hold-within : (moment : ℕ) (o : Option ℕ) → is_moment moment ≡ true → IfSome o AreHoldDays →
@@ -89,9 +105,11 @@ end_of_hold-within moment (Some n) is days =
     let most = days.1 in
     omega arith
 
-hold_end-within : (s : Service) (moment : ℕ) (v : Verdict) (o : Option ℕ) → is_moment moment ≡ true →
+hold_end-within : (s : Service) (moment : ℕ) (v : Verdict) (o : Option ℕ) →
+    is_moment moment ≡ true →
     IfSome o AreHoldDays → IfSome (answered_hold_end s moment v o) (λ n. n ≤ greatest_hold_end)
-hold_end-within Authorization moment (verdict.Approved id) o is days = end_of_hold-within moment o is days
+hold_end-within Authorization moment (verdict.Approved id) o is days =
+    end_of_hold-within moment o is days
 hold_end-within Authorization moment (verdict.Declined text) o is days = tt
 hold_end-within Authorization moment verdict.NoAnswer o is days = tt
 hold_end-within Financial moment v o is days = tt
@@ -117,7 +135,8 @@ number_or_empty : (o : Option (List ℕ)) → IsNumber o → may_be_number (or_e
 number_or_empty None is = refl
 number_or_empty (Some text) is = is
 
-count-both : {X : Type 0} (p q : X → Bool) (xs : List X) → count q (filter p xs) ≡ count (λ x. p x && q x) xs
+count-both : {X : Type 0} (p q : X → Bool) (xs : List X) →
+    count q (filter p xs) ≡ count (λ x. p x && q x) xs
 count-both p q [] = refl
 count-both p q (x ∷ xs) =
     let rest = count-both p q xs in
@@ -133,14 +152,17 @@ posted_at ps m day = count (λ row. eqb row.1.day day) (postings_of m ps)
 
 -- a number is one of those that the limit allows
 next_number-within : (limit : ℕ) (ps : List (ℕ × Posting)) (p : Posting) →
-    posted_at (with_next_posting ps (Some p)) p.merchant p.day ≤ limit → postings_before ps p + 1 ≤ limit
+    posted_at (with_next_posting ps (Some p)) p.merchant p.day ≤ limit →
+    postings_before ps p + 1 ≤ limit
 next_number-within limit ps p within =
     let row : ℕ × Posting = (postings_before ps p + 1, p) in
     let more : posted_at (ps ++ row ∷ []) p.merchant p.day
     ≡ posted_at ps p.merchant p.day + one_if (bytes_eq p.merchant p.merchant && eqb p.day p.day) =
-    count-filter_push (λ (x : ℕ × Posting). bytes_eq x.1.merchant p.merchant) (λ x. eqb x.1.day p.day) ps row in
+    count-filter_push (λ (x : ℕ × Posting). bytes_eq x.1.merchant p.merchant)
+    (λ x. eqb x.1.day p.day) ps row in
     let both : posted_at ps p.merchant p.day ≡ postings_before ps p =
-    count-both (λ (x : ℕ × Posting). bytes_eq x.1.merchant p.merchant) (λ x. eqb x.1.day p.day) ps in
+    count-both (λ (x : ℕ × Posting). bytes_eq x.1.merchant p.merchant) (λ x. eqb x.1.day p.day) ps
+    in
     let one : one_if (bytes_eq p.merchant p.merchant && eqb p.day p.day) ≡ 1 =
     λ i. one_if (bytes_eq_itself p.merchant i && eqb_itself p.day i) in
     omega arith
@@ -166,7 +188,8 @@ approval-names row key card (Some leg) = record {
 
 answer-names : (v : Verdict) (row : Request) → FitsKey row.key → IsNumber row.card →
     IfSome (answer_posting v (prior_of row)) FitsNames
-answer-names (verdict.Approved id) row key card = approval-names row key card (leg_by row.key.service row)
+answer-names (verdict.Approved id) row key card =
+    approval-names row key card (leg_by row.key.service row)
 answer-names (verdict.Declined text) row key card = tt
 answer-names verdict.NoAnswer row key card = tt
 
@@ -181,11 +204,14 @@ today-names today r leg amount row key card = record {
   card = number_or_empty row.card card;
 }
 
-reversal-names : (today : ℕ) (r : RequestMessage) (row : Request) → FitsKey (key_of r.service r.message) →
+reversal-names : (today : ℕ) (r : RequestMessage) (row : Request) →
+    FitsKey (key_of r.service r.message) →
     IsNumber row.card → (o : Option Leg) →
-    IfSome (option_map (λ leg. posting_today today r (reversal_leg leg) row.amount (prior_of row)) o) FitsNames
+    IfSome (option_map (λ leg. posting_today today r (reversal_leg leg) row.amount (prior_of row))
+    o) FitsNames
 reversal-names today r row key card None = tt
-reversal-names today r row key card (Some leg) = today-names today r (reversal_leg leg) row.amount row key card
+reversal-names today r row key card (Some leg) =
+    today-names today r (reversal_leg leg) row.amount row key card
 
 -- ---- steps
 
@@ -201,7 +227,13 @@ followed : (key : RequestKey) (st : Status) (rows : List Request) → All FitsCo
     All FitsColumns (with_changed key (λ row. record row { status = st }) rows)
 followed key st rows h =
     All-with_changed FitsColumns key (λ row. record row { status = st }) rows
-    (λ x same c. record { key = c.key; amount = c.amount; hold_days = c.hold_days; hold_end = c.hold_end }) h
+    (λ x same c. record {
+      key = c.key;
+      amount = c.amount;
+      hold_days = c.hold_days;
+      hold_end =
+          c.hold_end;
+    }) h
 
 module _ (opening : Opening) (t : Tables) (ranges : HasRangesApart t) (cards : HasNoSensitiveData t)
     (day : t.day ≤ last_day) where
@@ -235,7 +267,8 @@ module _ (opening : Opening) (t : Tables) (ranges : HasRangesApart t) (cards : H
               All-push FitsColumns t.requests _ h.requests
               (columns_of r (subst IsArrival came is) g.recordable _ refl refl
               (hold_days-valid t.ranges range
-              (and_parts (list_all is_valid_range t.ranges) (are_apart t.ranges) ranges).0 held) refl);
+              (and_parts (list_all is_valid_range t.ranges) (are_apart t.ranges) ranges).0 held)
+              refl);
           postings = h.postings;
           reconciliations = h.reconciliations;
         };
@@ -282,7 +315,8 @@ module _ (opening : Opening) (t : Tables) (ranges : HasRangesApart t) (cards : H
                   });
             };
         answered = λ moment merchant reference v came row member pending n under b.
-            let columns : FitsColumns row = All-member FitsColumns t.requests row h.requests member in record {
+            let columns : FitsColumns row = All-member FitsColumns t.requests row h.requests member
+            in record {
               merchants = h.merchants;
               terminals = h.terminals;
               requests =
@@ -292,7 +326,8 @@ module _ (opening : Opening) (t : Tables) (ranges : HasRangesApart t) (cards : H
                     amount = c.amount;
                     hold_days = c.hold_days;
                     hold_end =
-                        hold_end-within row.key.service moment v row.hold_days (subst IsArrival came is).0
+                        hold_end-within row.key.service moment v row.hold_days
+                        (subst IsArrival came is).0
                         columns.hold_days;
                   }) h.requests;
               postings =
@@ -323,7 +358,8 @@ module _ (opening : Opening) (t : Tables) (ranges : HasRangesApart t) (cards : H
           reconciliations = h.reconciliations;
         };
         enrolled = λ merchant came new b. record {
-          merchants = All-push FitsMerchant t.merchants merchant h.merchants (subst IsArrival came is);
+          merchants = All-push FitsMerchant t.merchants merchant h.merchants
+              (subst IsArrival came is);
           terminals = h.terminals;
           requests = h.requests;
           postings = h.postings;
@@ -331,7 +367,8 @@ module _ (opening : Opening) (t : Tables) (ranges : HasRangesApart t) (cards : H
         };
         terminal_added = λ terminal came new b. record {
           merchants = h.merchants;
-          terminals = All-push FitsTerminal t.terminals terminal h.terminals (subst IsArrival came is);
+          terminals = All-push FitsTerminal t.terminals terminal h.terminals
+              (subst IsArrival came is);
           requests = h.requests;
           postings = h.postings;
           reconciliations = h.reconciliations;
@@ -359,7 +396,8 @@ columns_fit : (opening : Opening) (es : List Event) → IsOpening opening → Ar
 columns_fit opening es opens are =
     kept_in_books opening HasFittingColumns opens
     (λ t e book is h.
-    step opening t (ranges_of opening t book) (cards_of opening t book) (numbers_of opening t book).day
+    step opening t (ranges_of opening t book) (cards_of opening t book)
+    (numbers_of opening t book).day
     (arrival_of e) (of_event e is) h
     (numbers_of opening (step_tables t (arrival_of e)) (books_go_on opening t e book is))) es are
     (record {
@@ -373,7 +411,8 @@ columns_fit opening es opens are =
 -- an accepted amount is one
 accepted-amount : (n : ℕ) → is_accepted_amount n ≡ true → is_amount n ≡ true
 accepted-amount n h =
-    let most = leb-true n 9999999999 (and_parts (leb 1 n) _ h).1 in le-leb n 999999999999 (omega arith)
+    let most = leb-true n 9999999999 (and_parts (leb 1 n) _ h).1 in
+    le-leb n 999999999999 (omega arith)
 
 pub rows_fit_their_types : RowsFitTheirTypes
 rows_fit_their_types opening es opens are =

@@ -15,18 +15,22 @@ use Rattle.acq_history.proofs.Keys.{same_key_is}
 abbrev pub changing : RequestKey → (Request → Request) → Request → Request
 changing key changed row = cond (same_key row.key key) (changed row) row
 
-pub All-with_changed : (P : Request → Type 0) (key : RequestKey) (changed : Request → Request) (rows : List Request) →
-    ((x : Request) → x.key ≡ key → P x → P (changed x)) → All P rows → All P (with_changed key changed rows)
+pub All-with_changed : (P : Request → Type 0) (key : RequestKey) (changed : Request → Request)
+    (rows : List Request) →
+    ((x : Request) → x.key ≡ key → P x → P (changed x)) → All P rows →
+    All P (with_changed key changed rows)
 All-with_changed P key changed rows keeps h =
     All-map P (changing key changed) rows
-    (All-weaker P (λ x. P (changing key changed x)) (λ x p. one x p (same_key x.key key) refl) rows h)
+    (All-weaker P (λ x. P (changing key changed x)) (λ x p. one x p (same_key x.key key) refl) rows
+    h)
   where
     one : (x : Request) → P x → (b : Bool) → same_key x.key key ≡ b → P (cond b (changed x) x)
     one x p true e = keeps x (same_key_is x.key key e) p
     one x p false e = p
 
 -- what holds of all rows holds of one of them
-pub All-member : (P : Request → Type 0) (rows : List Request) (row : Request) → All P rows → In row rows → P row
+pub All-member : (P : Request → Type 0) (rows : List Request) (row : Request) → All P rows →
+    In row rows → P row
 All-member P rows row h member = All-contains P rows row h (from_In row rows member)
 
 -- a merchant's rows, after such a change that keeps keys

@@ -1,5 +1,6 @@
 -- No row keeps a track, a PIN block or chip data, and no reply has them, whatever comes.
-use Rattle.std.proofs.Common.{◌≡◌, ℕ, List, [], ◌∷◌, ◌++◌, Option, Some, None, Bool, true, false, eqb, ltb, inl, inr, refl, ap, ◌∙◌, subst, arith}
+use Rattle.std.proofs.Common.{◌≡◌, ℕ, List, [], ◌∷◌, ◌++◌, Option, Some, None, Bool, true, false}
+use Rattle.std.proofs.Common.{eqb, ltb, inl, inr, refl, ap, ◌∙◌, subst, arith}
 use Rattle.std.specs.Prelude.{All, IfSome, filter, option_map, not, codes, ◌||◌, if◌then◌else◌}
 use Rattle.std.specs.Option.{option_or}
 use Rattle.std.specs.List.{list_all, list_any}
@@ -8,19 +9,26 @@ use Rattle.std.proofs.lemmas.List.Elements.{All-nil, All-push}
 use Rattle.card_no.specs.Track2.{may_be_number, parts_of, if_number}
 use Rattle.iso_codec.specs.Content.{has_class}
 use Rattle.iso_codec.specs.Table.{format_of}
-use Rattle.iso_codec.specs.Message.{IsoMessage, IsMessage, IsKind, numbers, Ascends, is_element, content_of, is_among}
+use Rattle.iso_codec.specs.Message.{IsoMessage, IsMessage, IsKind, numbers, Ascends, is_element}
+use Rattle.iso_codec.specs.Message.{content_of, is_among}
 use Rattle.acq_message.specs.declared.service.Service.{Service}
-use Rattle.acq_message.specs.declared.service.Service.TheVariants.{Authorization, Financial, Completion, Reversal, ReversalAdvice, Reconciliation, NetworkManagement}
+use Rattle.acq_message.specs.declared.service.Service.TheVariants.{Authorization, Financial}
+use Rattle.acq_message.specs.declared.service.Service.TheVariants.{Completion, Reversal}
+use Rattle.acq_message.specs.declared.service.Service.TheVariants.{ReversalAdvice, Reconciliation}
+use Rattle.acq_message.specs.declared.service.Service.TheVariants.{NetworkManagement}
 use Rattle.acq_message.specs.Services.{digits_of}
 use Rattle.acq_message.specs.Cards.{card_of, track_in, track_of}
 use Rattle.acq_message.specs.Elements.{essential, element_if, essence_of}
 use Rattle.acq_core.specs.declared.arrival.Arrival.{Arrival}
 use Rattle.acq_core.specs.declared.request.Request.{Request}
 use Rattle.acq_core.specs.Changes.{change_of}
-use Rattle.acq_core.specs.Tables.{Tables, new_tables, known_in, after_any, step_tables, tables_after}
+use Rattle.acq_core.specs.Tables.{Tables, new_tables, known_in, after_any, step_tables}
+use Rattle.acq_core.specs.Tables.{tables_after}
 use Rattle.acq_history.proofs.Lookups.{or_true}
 use Rattle.acq_invariants.specs.Replies.{reply_elements, IsReplyText}
-use Rattle.acq_invariants.specs.CardData.{sensitive_elements, IsEssence, may_be_acquirer, KeepsNoSensitiveData, SpellsNoSensitiveData, SensitiveDataStaysOut}
+use Rattle.acq_invariants.specs.CardData.{sensitive_elements, IsEssence, may_be_acquirer}
+use Rattle.acq_invariants.specs.CardData.{KeepsNoSensitiveData, SpellsNoSensitiveData}
+use Rattle.acq_invariants.specs.CardData.{SensitiveDataStaysOut}
 use Rattle.acq_history.proofs.StepCases.{by_step}
 use Rattle.acq_invariants.proofs.Arrivals.{IsArrival, kept_by_events}
 use Rattle.acq_invariants.proofs.RowsWithChanges.{All-with_changed, All-member}
@@ -35,13 +43,15 @@ abbrev pub are_public : List ℕ → Bool
 are_public ks = list_all (λ k. not (is_among sensitive_elements (k, []))) ks
 
 -- so a message with these elements alone lacks sensitive data
-lacks_by : (ks : List ℕ) (es : List (ℕ × List ℕ)) → are_public ks ≡ true → list_all (is_among ks) es ≡ true →
+lacks_by : (ks : List ℕ) (es : List (ℕ × List ℕ)) → are_public ks ≡ true →
+    list_all (is_among ks) es ≡ true →
     not (list_any (is_among sensitive_elements) es) ≡ true
 lacks_by ks [] h k = refl
 lacks_by ks (e ∷ es) h k =
     let parts = and_parts (is_among ks e) (list_all (is_among ks) es) k in
     let one = among_passes (λ n. not (is_among sensitive_elements (n, []))) ks e h parts.0 in
-    neither (is_among sensitive_elements e) (list_any (is_among sensitive_elements) es) one (lacks_by ks es h parts.1)
+    neither (is_among sensitive_elements e) (list_any (is_among sensitive_elements) es) one
+    (lacks_by ks es h parts.1)
   where
     neither : (a b : Bool) → not a ≡ true → not b ≡ true → not (a || b) ≡ true
     neither true b f g = f
@@ -84,7 +94,8 @@ acquirer_in_element text h = h
 abbrev pub IsNumber : Option (List ℕ) → Type 0
 IsNumber o = IfSome o (λ text. may_be_number text ≡ true)
 
-number_in_parts : (o : Option (List ℕ × List ℕ)) → IsNumber (option_map (λ track. track.0) (if_number o))
+number_in_parts : (o : Option (List ℕ × List ℕ)) →
+    IsNumber (option_map (λ track. track.0) (if_number o))
 number_in_parts None = tt
 number_in_parts (Some p) =
     let step : (b : Bool) → may_be_number p.0 ≡ b →
@@ -104,7 +115,8 @@ card_of-number m whole = step (content_of m.elements 2) refl
     step (Some text) e = number_in_element text (content-fits m 2 text whole e)
     step None e = number_in_track (content_of m.elements 35)
 
-acquirer-fits : (m : IsoMessage) → IsMessage m → (o : Option (List ℕ)) → content_of m.elements 32 ≡ o →
+acquirer-fits : (m : IsoMessage) → IsMessage m → (o : Option (List ℕ)) →
+    content_of m.elements 32 ≡ o →
     IfSome o (λ text. may_be_acquirer text ≡ true)
 acquirer-fits m whole None e = tt
 acquirer-fits m whole (Some text) e = acquirer_in_element text (content-fits m 32 text whole e)
@@ -122,7 +134,8 @@ essence_kind Reconciliation = record { size = refl; digits = refl }
 essence_kind NetworkManagement = record { size = refl; digits = refl }
 
 -- elements that all stand above 2
-above_two : (es : List (ℕ × List ℕ)) → Ascends 1 (numbers es) → list_all (is_among essential) es ≡ true →
+above_two : (es : List (ℕ × List ℕ)) → Ascends 1 (numbers es) →
+    list_all (is_among essential) es ≡ true →
     Ascends 2 (numbers es)
 above_two [] up all = tt
 above_two (e ∷ es) up all =
@@ -130,17 +143,21 @@ above_two (e ∷ es) up all =
     (ltb-true 2 e.0 (among_passes (λ n. ltb 2 n) essential e refl parts.0), up.1)
 
 -- a card number in front of the essential elements
-module _ (es : List (ℕ × List ℕ)) (each : list_all is_element es ≡ true) (up : Ascends 1 (numbers es))
+module _ (es : List (ℕ × List ℕ)) (each : list_all is_element es ≡ true)
+    (up : Ascends 1 (numbers es))
     (among : list_all (is_among essential) es ≡ true) where
-  essence_each : (o : Option (List ℕ)) → IsNumber o → list_all is_element (element_if 2 o ++ es) ≡ true
+  essence_each : (o : Option (List ℕ)) → IsNumber o →
+      list_all is_element (element_if 2 o ++ es) ≡ true
   essence_each None is = each
-  essence_each (Some text) is = and_from (is_element (2, text)) (list_all is_element es) (element_of_number text is) each
+  essence_each (Some text) is = and_from (is_element (2, text)) (list_all is_element es)
+      (element_of_number text is) each
 
   essence_ascends : (o : Option (List ℕ)) → Ascends 1 (numbers (element_if 2 o ++ es))
   essence_ascends None = up
   essence_ascends (Some text) = (omega arith, above_two es up among)
 
-  essence_among : (o : Option (List ℕ)) → list_all (is_among (2 ∷ essential)) (element_if 2 o ++ es) ≡ true
+  essence_among : (o : Option (List ℕ)) →
+      list_all (is_among (2 ∷ essential)) (element_if 2 o ++ es) ≡ true
   essence_among None =
       all_weaker (is_among essential) (is_among (2 ∷ essential))
       (λ e h. ap (λ b. eqb 2 e.0 || b) h ∙ or_true (eqb 2 e.0)) es among
@@ -148,7 +165,8 @@ module _ (es : List (ℕ × List ℕ)) (each : list_all is_element es ≡ true) 
       all_weaker (is_among essential) (is_among (2 ∷ essential))
       (λ e h. ap (λ b. eqb 2 e.0 || b) h ∙ or_true (eqb 2 e.0)) es among
 
-essence_of-is : (service : Service) (m : IsoMessage) → IsMessage m → IsEssence (essence_of service m)
+essence_of-is : (service : Service) (m : IsoMessage) → IsMessage m →
+    IsEssence (essence_of service m)
 essence_of-is service m whole =
     let kept = filter (is_among essential) m.elements in
     let each = kept_elements (is_among essential) m.elements whole.each in
@@ -167,7 +185,8 @@ essence_of-is service m whole =
       };
       spelled = refl;
       elements = all;
-      lacks = lacks_by (2 ∷ essential) (element_if 2 (card_of m) ++ filter (is_among essential) m.elements) refl all;
+      lacks = lacks_by (2 ∷ essential)
+          (element_if 2 (card_of m) ++ filter (is_among essential) m.elements) refl all;
     }
 
 -- ---- rows

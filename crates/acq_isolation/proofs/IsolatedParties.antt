@@ -1,5 +1,6 @@
 -- Runs that agree in a party's own events, and hosts that share the merchants among them.
-use Rattle.std.proofs.Common.{◌≡◌, ℕ, List, [], ◌∷◌, Some, None, Bool, true, false, cond, refl, sym, ap, ◌∙◌}
+use Rattle.std.proofs.Common.{◌≡◌, ℕ, List, [], ◌∷◌, Some, None, Bool, true, false, cond, refl, sym}
+use Rattle.std.proofs.Common.{ap, ◌∙◌}
 use Rattle.std.specs.Prelude.{filter, is_none, not, ◌||◌, ◌==◌}
 use Rattle.std.proofs.lemmas.Bool.{and_parts}
 use Rattle.acq_core.specs.declared.arrival.Arrival.{Arrival}
@@ -19,17 +20,20 @@ isolated (Some m) = merchant_isolated m
 
 pub two_runs : (party : Party) → IsSameInTwoRuns party
 two_runs party opening es fs same =
-    isolated party opening [] es ∙ (ap (outputs_alone opening party []) same ∙ sym (isolated party opening [] fs))
+    isolated party opening [] es
+    ∙ (ap (outputs_alone opening party []) same ∙ sym (isolated party opening [] fs))
 
 -- ---- hosts
 
 -- what is a party's names just that party
 party_is : (party : Party) (a : Arrival) → is_of party a ≡ true → merchant_named a ≡ party
-party_is None a mine = none_of (merchant_named a) (and_parts (is_none (merchant_named a)) (not (is_shared a)) mine).0
+party_is None a mine =
+    none_of (merchant_named a) (and_parts (is_none (merchant_named a)) (not (is_shared a)) mine).0
 party_is (Some m) a mine = names_is (merchant_named a) m mine
 
 -- what a party needs is given to its host
-given_own : (host_of : Party → ℕ) (party : Party) (a : Arrival) → (is_of party a || is_shared a) ≡ true →
+given_own : (host_of : Party → ℕ) (party : Party) (a : Arrival) →
+    (is_of party a || is_shared a) ≡ true →
     (is_shared a || (host_of (merchant_named a) == host_of party)) ≡ true
 given_own host_of party a needed =
     let step : (b c : Bool) → is_of party a ≡ b → is_shared a ≡ c → (b || c) ≡ true →

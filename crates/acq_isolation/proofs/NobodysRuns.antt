@@ -1,5 +1,6 @@
 -- Isolation of nobody, over whole runs: its outputs need what all share alone.
-use Rattle.std.proofs.Common.{◌≡◌, ℕ, List, [], ◌∷◌, Option, Some, None, Bool, true, false, refl, sym, ap, ◌∙◌, subst}
+use Rattle.std.proofs.Common.{◌≡◌, ℕ, List, [], ◌∷◌, Option, Some, None, Bool, true, false, refl}
+use Rattle.std.proofs.Common.{sym, ap, ◌∙◌, subst}
 use Rattle.std.specs.Prelude.{nat_lt, is_none, is_some, not, ◌&&◌, if◌then◌else◌}
 use Rattle.std.specs.Str.{bytes_eq}
 use Rattle.iso_codec.specs.Message.{IsoMessage}
@@ -7,24 +8,33 @@ use Rattle.card_no.specs.declared.range.Range.{Range}
 use Rattle.card_no.specs.Ranges.{with_range, without_range, overlapped_by, has_ends, is_valid_range}
 use Rattle.std.proofs.lemmas.Bool.{and_parts}
 use Rattle.acq_message.specs.declared.service.Service.{Service}
-use Rattle.acq_message.specs.declared.service.Service.TheVariants.{Authorization, Financial, Completion, Reversal, ReversalAdvice, Reconciliation, NetworkManagement}
+use Rattle.acq_message.specs.declared.service.Service.TheVariants.{Authorization, Financial}
+use Rattle.acq_message.specs.declared.service.Service.TheVariants.{Completion, Reversal}
+use Rattle.acq_message.specs.declared.service.Service.TheVariants.{ReversalAdvice, Reconciliation}
+use Rattle.acq_message.specs.declared.service.Service.TheVariants.{NetworkManagement}
 use Rattle.acq_core.specs.declared.output.Output.TheVariants as output
 use Rattle.acq_message.specs.declared.response_code.ResponseCode.TheVariants as code
 use Rattle.acq_core.specs.declared.arrival.Arrival.{Arrival}
 use Rattle.acq_message.specs.declared.request_message.RequestMessage.{RequestMessage}
 use Rattle.acq_core.specs.Arrivals.{arrival_of, merchant_named, is_shared}
-use Rattle.acq_core.specs.declared.arrival.Arrival.TheVariants.{Undecoded, Unserved, Malformed, Requested, Answered, CutOver, RangeAdded, RangeDropped, Enrolled, TerminalAdded}
+use Rattle.acq_core.specs.declared.arrival.Arrival.TheVariants.{Undecoded, Unserved, Malformed}
+use Rattle.acq_core.specs.declared.arrival.Arrival.TheVariants.{Requested, Answered, CutOver}
+use Rattle.acq_core.specs.declared.arrival.Arrival.TheVariants.{RangeAdded, RangeDropped, Enrolled}
+use Rattle.acq_core.specs.declared.arrival.Arrival.TheVariants.{TerminalAdded}
 use Rattle.acq_core.specs.Known.{wanted_by, known_for}
-use Rattle.acq_core.specs.Decision.{Decision, Reports, CutsOver, DropsRange, decision, decision_of_new_range, decision_of_old_range, network_response}
+use Rattle.acq_core.specs.Decision.{Decision, Reports, CutsOver, DropsRange, decision}
+use Rattle.acq_core.specs.Decision.{decision_of_new_range, decision_of_old_range, network_response}
 use Rattle.day_totals.specs.Day.{last_day}
 use Rattle.acq_message.specs.Reply.{coded_reply}
 use Rattle.acq_core.specs.Outcome.{Replied, output_of, outcome_of}
 use Rattle.acq_core.specs.Changes.{change_of, change_for}
 use Rattle.card_no.specs.Ranges.{between}
-use Rattle.acq_core.specs.Tables.{Opening, Tables, new_tables, facts_in, known_in, after_any, step_output, step_tables}
+use Rattle.acq_core.specs.Tables.{Opening, Tables, new_tables, facts_in, known_in, after_any}
+use Rattle.acq_core.specs.Tables.{step_output, step_tables}
 use Rattle.acq_history.specs.Entries.{Entry}
 use Rattle.acq_history.specs.History.{day_after, ranges_after}
-use Rattle.acq_history.specs.PartyHistory.{names, is_of, known_by, entry_for, book_after, history_of}
+use Rattle.acq_history.specs.PartyHistory.{names, is_of, known_by, entry_for, book_after}
+use Rattle.acq_history.specs.PartyHistory.{history_of}
 use Rattle.acq_isolation.specs.Isolation.{IsIsolated}
 use Rattle.acq_history.proofs.Lookups.{clash, not_true}
 use Rattle.acq_history.proofs.Keys.{bytes_eq_is}
@@ -79,12 +89,20 @@ module _ (opening : Opening) (t : Tables) (h : List Entry) (s : AgreesInShared o
   KeepsShared a d =
       let k = known_by opening h a in
       AgreesInShared opening (after_any t (change_of k d))
-      (record { arrival = a; day = day_after opening.first_day h; ranges = ranges_after h; outcome = outcome_of k d }
+      (record {
+        arrival = a;
+        day = day_after opening.first_day h;
+        ranges = ranges_after h;
+        outcome =
+            outcome_of k d;
+      }
       ∷ h)
 
   -- a range that is added
-  shared_new_range : (range : Range) (o : Option Range) → KeepsShared (RangeAdded range) (decision_of_new_range range o)
-  shared_new_range range (Some other) = record { bounded = s.bounded; day = s.day; ranges = s.ranges }
+  shared_new_range : (range : Range) (o : Option Range) →
+      KeepsShared (RangeAdded range) (decision_of_new_range range o)
+  shared_new_range range (Some other) =
+      record { bounded = s.bounded; day = s.day; ranges = s.ranges }
   shared_new_range range None =
       record { bounded = s.bounded; day = s.day; ranges = ap (λ rs. with_range rs range) s.ranges }
 
@@ -94,13 +112,20 @@ module _ (opening : Opening) (t : Tables) (h : List Entry) (s : AgreesInShared o
   shared_old_range low high None = record { bounded = s.bounded; day = s.day; ranges = s.ranges }
   shared_old_range low high (Some range) =
       elim (has_ends low high range) as (λ b.
-      KeepsShared (RangeDropped low high) (if b then DropsRange low high else Reports output.NoSuchRange)) [
-        | true ↦ record { bounded = s.bounded; day = s.day; ranges = ap (λ rs. without_range rs low high) s.ranges }
+      KeepsShared (RangeDropped low high)
+      (if b then DropsRange low high else Reports output.NoSuchRange)) [
+        | true ↦ record {
+          bounded = s.bounded;
+          day = s.day;
+          ranges =
+              ap (λ rs. without_range rs low high) s.ranges;
+        }
         | false ↦ record { bounded = s.bounded; day = s.day; ranges = s.ranges }
       ]
 
   -- each decision on a shared event keeps it
-  keeps_on_shared : (a : Arrival) → is_shared a ≡ true → KeepsShared a (decision (known_by opening h a) a)
+  keeps_on_shared : (a : Arrival) → is_shared a ≡ true →
+      KeepsShared a (decision (known_by opening h a) a)
   keeps_on_shared CutOver shared =
       elim (nat_lt (day_after opening.first_day h) last_day) as (λ b.
       KeepsShared CutOver (if b then CutsOver else Reports output.LastDay)) [
@@ -138,44 +163,60 @@ module _ (opening : Opening) (t : Tables) (h : List Entry) (s : AgreesInShared o
 
   -- what came has the same output, and the agreement stays
   abbrev IsNobodysStep : Arrival → Type 0
-  IsNobodysStep a = (step_output t a ≡ output_of (merchant_named a) (entry_for opening h a).outcome) × Next a
+  IsNobodysStep a = (step_output t a ≡ output_of (merchant_named a) (entry_for opening h a).outcome)
+      × Next a
 
   -- of the requests, network management alone needs no merchant
   managed_step : (moment : ℕ) (service : Service) (message : IsoMessage) →
       let r : RequestMessage = record { moment = moment; service = service; message = message } in
-      IsNaming (Requested r) → is_none (merchant_named (Requested r)) ≡ true → IsNobodysStep (Requested r)
+      IsNaming (Requested r) → is_none (merchant_named (Requested r)) ≡ true →
+      IsNobodysStep (Requested r)
   managed_step moment NetworkManagement message naming alone =
-      let r : RequestMessage = record { moment = moment; service = NetworkManagement; message = message } in (
+      let r : RequestMessage =
+      record { moment = moment; service = NetworkManagement; message = message } in (
         ap (λ day. output_of (merchant_named (Requested r))
-            (Replied (network_response message) (coded_reply day r (network_response message)))) s.day,
+            (Replied (network_response message) (coded_reply day r (network_response message))))
+            s.day,
         record { bounded = s.bounded; day = s.day; ranges = s.ranges },
       )
   managed_step moment Authorization message naming alone =
-      named_clash _ (naming (record { moment = moment; service = Authorization; message = message }) refl) alone
+      named_clash _
+      (naming (record { moment = moment; service = Authorization; message = message }) refl)
+      alone
   managed_step moment Financial message naming alone =
-      named_clash _ (naming (record { moment = moment; service = Financial; message = message }) refl) alone
+      named_clash _
+      (naming (record { moment = moment; service = Financial; message = message }) refl) alone
   managed_step moment Completion message naming alone =
-      named_clash _ (naming (record { moment = moment; service = Completion; message = message }) refl) alone
+      named_clash _
+      (naming (record { moment = moment; service = Completion; message = message }) refl) alone
   managed_step moment Reversal message naming alone =
-      named_clash _ (naming (record { moment = moment; service = Reversal; message = message }) refl) alone
+      named_clash _
+      (naming (record { moment = moment; service = Reversal; message = message }) refl) alone
   managed_step moment ReversalAdvice message naming alone =
-      named_clash _ (naming (record { moment = moment; service = ReversalAdvice; message = message }) refl) alone
+      named_clash _
+      (naming (record { moment = moment; service = ReversalAdvice; message = message }) refl)
+      alone
   managed_step moment Reconciliation message naming alone =
-      named_clash _ (naming (record { moment = moment; service = Reconciliation; message = message }) refl) alone
+      named_clash _
+      (naming (record { moment = moment; service = Reconciliation; message = message }) refl)
+      alone
 
   -- whatever names no merchant and isn't shared
-  pub nobodys_step : (a : Arrival) → IsNaming a → is_none (merchant_named a) ≡ true → is_shared a ≡ false →
+  pub nobodys_step : (a : Arrival) → IsNaming a → is_none (merchant_named a) ≡ true →
+      is_shared a ≡ false →
       IsNobodysStep a
   nobodys_step (Undecoded fault) naming alone apart =
       (refl, record { bounded = s.bounded; day = s.day; ranges = s.ranges })
   nobodys_step (Unserved message) naming alone apart =
       (refl, record { bounded = s.bounded; day = s.day; ranges = s.ranges })
   nobodys_step (Malformed r) naming alone apart = (
-    ap (λ day. output_of (merchant_named (Malformed r)) (Replied code.FormatError (coded_reply day r code.FormatError)))
+    ap (λ day. output_of (merchant_named (Malformed r))
+        (Replied code.FormatError (coded_reply day r code.FormatError)))
         s.day,
     record { bounded = s.bounded; day = s.day; ranges = s.ranges },
   )
-  nobodys_step (Requested r) naming alone apart = managed_step r.moment r.service r.message naming alone
+  nobodys_step (Requested r) naming alone apart =
+      managed_step r.moment r.service r.message naming alone
   nobodys_step (Answered moment merchant n v) naming alone apart = absurd (cc)
   nobodys_step CutOver naming alone apart = absurd (cc)
   nobodys_step (RangeAdded range) naming alone apart = absurd (cc)
@@ -191,18 +232,28 @@ longer [] e = absurd (cc)
 longer (x ∷ xs) e = let tails : xs ≡ 0 ∷ xs = cc in longer xs tails
 
 -- a merchant's event changes nothing of what all share
-others_keep_shared : (opening : Opening) (t : Tables) (h : List Entry) → AgreesInShared opening t h → (a : Arrival) →
-    IsNaming a → is_of None a ≡ false → is_shared a ≡ false → AgreesInShared opening (step_tables t a) h
+others_keep_shared : (opening : Opening) (t : Tables) (h : List Entry) →
+    AgreesInShared opening t h → (a : Arrival) →
+    IsNaming a → is_of None a ≡ false → is_shared a ≡ false →
+    AgreesInShared opening (step_tables t a) h
 others_keep_shared opening t h s a naming other alone =
-    let step : (o : Option (List ℕ)) → merchant_named a ≡ o → AgreesInShared opening (step_tables t a) h =
+    let step : (o : Option (List ℕ)) → merchant_named a ≡ o →
+    AgreesInShared opening (step_tables t a) h =
     elim [
       | None ↦ (λ e. clash (is_of None a) (λ i. is_none (e i) && not (alone i)) other)
       | Some n ↦ (λ e.
           let apart : (b : Bool) → bytes_eq n (0 ∷ n) ≡ b → b ≡ false =
-          elim [ true ↦ (λ f. absurd (longer n (bytes_eq_is n (0 ∷ n) f))) | false ↦ (λ f. refl) ] in
+          elim [ true ↦ (λ f. absurd (longer n (bytes_eq_is n (0 ∷ n) f))) | false ↦ (λ f. refl) ]
+          in
           let like =
-          other_step (0 ∷ n) t a naming (ap (λ o. names o (0 ∷ n)) e ∙ apart (bytes_eq n (0 ∷ n)) refl) alone in
-          record { bounded = like.limit ∙ s.bounded; day = like.day ∙ s.day; ranges = like.ranges ∙ s.ranges })
+          other_step (0 ∷ n) t a naming
+          (ap (λ o. names o (0 ∷ n)) e ∙ apart (bytes_eq n (0 ∷ n)) refl) alone in
+          record {
+            bounded = like.limit ∙ s.bounded;
+            day = like.day ∙ s.day;
+            ranges =
+                like.ranges ∙ s.ranges;
+          })
     ] in
     step (merchant_named a) refl
 
@@ -214,7 +265,8 @@ keeps_agreement opening = record {
       let both = and_parts (is_none (merchant_named a)) (not (is_shared a)) mine in
       nobodys_step opening t h g a (naming_of e) both.0 (not_true (is_shared a) both.1);
   shared_event = λ t h e g shared. shared_step opening t h g (arrival_of e) shared;
-  other_event = λ t h e g other alone. others_keep_shared opening t h g (arrival_of e) (naming_of e) other alone;
+  other_event = λ t h e g other alone. others_keep_shared opening t h g (arrival_of e)
+      (naming_of e) other alone;
 }
 
 new_shared : (opening : Opening) → AgreesInShared opening (new_tables opening) []

@@ -1,5 +1,6 @@
 -- No event of another party touches what a merchant's look-ups see.
-use Rattle.std.proofs.Common.{◌≡◌, ℕ, List, [], ◌∷◌, ◌++◌, Option, Some, None, Result, Ok, Err, Bool, true, false, cond, refl, sym, ap, ◌∙◌, subst, eqb}
+use Rattle.std.proofs.Common.{◌≡◌, ℕ, List, [], ◌∷◌, ◌++◌, Option, Some, None, Result, Ok, Err}
+use Rattle.std.proofs.Common.{Bool, true, false, cond, refl, sym, ap, ◌∙◌, subst, eqb}
 use Rattle.std.specs.Prelude.{map, find, ◌&&◌, ◌||◌, not, is_some, if◌then◌else◌}
 use Rattle.std.specs.Option.{option_or}
 use Rattle.std.specs.List.{list_any, list_all}
@@ -10,7 +11,10 @@ use Rattle.iso_codec.specs.Message.{IsoMessage}
 use Rattle.iso_codec.specs.Reading.{reading_of}
 use Rattle.std.proofs.lemmas.Bool.{and_parts}
 use Rattle.acq_message.specs.declared.service.Service.{Service}
-use Rattle.acq_message.specs.declared.service.Service.TheVariants.{Authorization, Financial, Completion, Reversal, ReversalAdvice, Reconciliation, NetworkManagement}
+use Rattle.acq_message.specs.declared.service.Service.TheVariants.{Authorization, Financial}
+use Rattle.acq_message.specs.declared.service.Service.TheVariants.{Completion, Reversal}
+use Rattle.acq_message.specs.declared.service.Service.TheVariants.{ReversalAdvice, Reconciliation}
+use Rattle.acq_message.specs.declared.service.Service.TheVariants.{NetworkManagement}
 use Rattle.acq_message.specs.declared.request_key.RequestKey.{RequestKey}
 use Rattle.acq_core.specs.declared.merchant.Merchant.{Merchant}
 use Rattle.acq_core.specs.declared.terminal.Terminal.{Terminal}
@@ -24,15 +28,22 @@ use Rattle.acq_message.specs.Cards.{has_bad_track, has_two_cards}
 use Rattle.acq_message.specs.FirstCheck.{has_one_of, unverifiable, is_malformed}
 use Rattle.acq_core.specs.declared.arrival.Arrival.{Arrival}
 use Rattle.acq_message.specs.declared.request_message.RequestMessage.{RequestMessage}
-use Rattle.acq_core.specs.Arrivals.{arrival_of, arrival_of_reading, arrival_of_message, merchant_named, is_shared}
-use Rattle.acq_core.specs.declared.arrival.Arrival.TheVariants.{Undecoded, Unserved, Malformed, Requested, Answered, CutOver, RangeAdded, RangeDropped, Enrolled, TerminalAdded}
+use Rattle.acq_core.specs.Arrivals.{arrival_of, arrival_of_reading, arrival_of_message}
+use Rattle.acq_core.specs.Arrivals.{merchant_named, is_shared}
+use Rattle.acq_core.specs.declared.arrival.Arrival.TheVariants.{Undecoded, Unserved, Malformed}
+use Rattle.acq_core.specs.declared.arrival.Arrival.TheVariants.{Requested, Answered, CutOver}
+use Rattle.acq_core.specs.declared.arrival.Arrival.TheVariants.{RangeAdded, RangeDropped, Enrolled}
+use Rattle.acq_core.specs.declared.arrival.Arrival.TheVariants.{TerminalAdded}
 use Rattle.acq_core.specs.Known.{Prior, wanted_by}
 use Rattle.acq_core.specs.Decision.{Decision, decision, decision_of_enrolment, decision_of_terminal}
 use Rattle.acq_core.specs.Changes.{change_of, completion_posting, reversal_posting, answer_posting}
-use Rattle.acq_core.specs.Tables.{Opening, Tables, prior_of, requests_of, postings_of, recorded_in, referred_in, with_changed, after_any, known_in, step_tables, used_in}
+use Rattle.acq_core.specs.Tables.{Opening, Tables, prior_of, requests_of, postings_of, recorded_in}
+use Rattle.acq_core.specs.Tables.{referred_in, with_changed, after_any, known_in, step_tables}
+use Rattle.acq_core.specs.Tables.{used_in}
 use Rattle.acq_history.specs.Entries.{Entry, request_of}
 use Rattle.acq_history.specs.PartyHistory.{names}
-use Rattle.acq_history.proofs.Lookups.{clash, or_split, not_false, map_some, then_some, map_same, any-push, filter-map, filter-push_out, found_passes}
+use Rattle.acq_history.proofs.Lookups.{clash, or_split, not_false, map_some, then_some, map_same}
+use Rattle.acq_history.proofs.Lookups.{any-push, filter-map, filter-push_out, found_passes}
 use Rattle.acq_history.proofs.Keys.{bytes_eq_is, same_key_is, eqb_is}
 use Rattle.acq_core.proofs.DecisionCases.{by_request, by_answer}
 use Rattle.acq_core.proofs.Counts.{or_none}
@@ -40,7 +51,9 @@ use Rattle.acq_history.proofs.RecordableRequests.{recordable_some}
 use Rattle.acq_isolation.proofs.UnrecordedRequests.{change_of_repeat}
 use Rattle.acq_isolation.proofs.RequestsAfterNewEntry.{line}
 use Rattle.acq_isolation.proofs.RowsAgreeWithHistory.{at_key}
-use Rattle.acq_isolation.proofs.TablesAgreeWithHistory.{Agrees, postings_of_other, answer_posting_is_of, reversal_posting_is_of}
+use Rattle.acq_isolation.proofs.TablesAgreeWithHistory.{Agrees, postings_of_other}
+use Rattle.acq_isolation.proofs.TablesAgreeWithHistory.{answer_posting_is_of}
+use Rattle.acq_isolation.proofs.TablesAgreeWithHistory.{reversal_posting_is_of}
 use Rattle.acq_isolation.proofs.OwnStep.{referred_merchant}
 
 -- two tables that one merchant can't tell apart
@@ -48,7 +61,8 @@ pub record Alike (m : List ℕ) (t u : Tables) : Type 0 where
   pub limit : u.limit ≡ t.limit
   pub day : u.day ≡ t.day
   pub ranges : u.ranges ≡ t.ranges
-  pub merchant : find (λ row. bytes_eq row.id m) u.merchants ≡ find (λ row. bytes_eq row.id m) t.merchants
+  pub merchant : find (λ row. bytes_eq row.id m) u.merchants
+      ≡ find (λ row. bytes_eq row.id m) t.merchants
   pub terminal : (id : List ℕ) →
       list_any (λ row. bytes_eq row.merchant m && bytes_eq row.id id) u.terminals
       ≡ list_any (λ row. bytes_eq row.merchant m && bytes_eq row.id id) t.terminals
@@ -90,19 +104,23 @@ alike_same m t =
 recorded_merchant : (m : List ℕ) (rows : List Request) (key : RequestKey) (p : Prior) →
     recorded_in (requests_of m rows) key ≡ Some p → p.key.merchant ≡ m
 recorded_merchant m rows key p there =
-    let found = map_some prior_of (find (λ row. same_key row.key key) (requests_of m rows)) p there in
+    let found = map_some prior_of (find (λ row. same_key row.key key) (requests_of m rows)) p there
+    in
     ap (λ x. x.key.merchant) (sym found.2)
     ∙ bytes_eq_is found.0.key.merchant m
-    (found_passes (λ row. bytes_eq row.key.merchant m) (λ row. same_key row.key key) rows found.0 found.1)
+    (found_passes (λ row. bytes_eq row.key.merchant m) (λ row. same_key row.key key) rows found.0
+    found.1)
 
 -- an edit of another merchant's row
-edit_out : (m : List ℕ) (key : RequestKey) (changed : Request → Request) → ((a : Request) → (changed a).key ≡ a.key) →
+edit_out : (m : List ℕ) (key : RequestKey) (changed : Request → Request) →
+    ((a : Request) → (changed a).key ≡ a.key) →
     bytes_eq key.merchant m ≡ false → (rows : List Request) →
     requests_of m (with_changed key changed rows) ≡ requests_of m rows
 edit_out m key changed keeps other rows =
     filter-map (λ row. bytes_eq row.key.merchant m) (at_key key changed) (λ a. a)
     (λ a. elim (same_key a.key key) as (λ b. bytes_eq (if b then changed a else a).key.merchant m
-    ≡ bytes_eq a.key.merchant m) [ true ↦ ap (λ k. bytes_eq k.merchant m) (keeps a) | false ↦ refl ])
+    ≡ bytes_eq a.key.merchant m)
+    [ true ↦ ap (λ k. bytes_eq k.merchant m) (keeps a) | false ↦ refl ])
     (λ a mine.
     let step : (b : Bool) → same_key a.key key ≡ b → (if b then changed a else a) ≡ a =
     elim [
@@ -157,7 +175,8 @@ module _ (m : List ℕ) (t : Tables) where
         unknown = alike_same m t;
         duplicate = λ p is. alike_same m t;
         repeated =
-            λ p is. subst (λ c. Alike m t (after_any t c)) (sym (change_of_repeat k p.reply_state)) (alike_same m t);
+            λ p is. subst (λ c. Alike m t (after_any t c)) (sym (change_of_repeat k p.reply_state))
+            (alike_same m t);
         refused = λ merchant fresh given is. row_added _ (out fresh.recordable);
         admitted = λ merchant fresh service range in_range. row_added _ (out fresh.recordable);
         reconciled = λ merchant fresh service day resolved. record {
@@ -171,9 +190,11 @@ module _ (m : List ℕ) (t : Tables) where
         };
         completed = λ merchant fresh service hold there opens.
             let asked =
-            then_some (referred_in (requests_of n t.requests)) (wanted_by t.day (Requested r)).reference hold there in
+            then_some (referred_in (requests_of n t.requests))
+            (wanted_by t.day (Requested r)).reference hold there in
             let theirs : bytes_eq hold.key.merchant m ≡ false =
-            ap (λ x. bytes_eq x m) (referred_merchant n t.requests asked.0 hold asked.2) ∙ out fresh.recordable in
+            ap (λ x. bytes_eq x m) (referred_merchant n t.requests asked.0 hold asked.2)
+            ∙ out fresh.recordable in
             record {
               limit = refl;
               day = refl;
@@ -181,14 +202,18 @@ module _ (m : List ℕ) (t : Tables) where
               merchant = refl;
               terminal = λ id. refl;
               posted =
-                  postings_of_other m n t.postings (Some (completion_posting t.day r hold)) refl (out fresh.recordable);
-              requests = row_out _ (out fresh.recordable) _ ∙ edit_out m hold.key _ (λ a. refl) theirs t.requests;
+                  postings_of_other m n t.postings (Some (completion_posting t.day r hold)) refl
+                  (out fresh.recordable);
+              requests = row_out _ (out fresh.recordable) _ ∙ edit_out m hold.key _
+                  (λ a. refl) theirs t.requests;
             };
         reversed = λ merchant fresh service p there final.
             let asked =
-            then_some (recorded_in (requests_of n t.requests)) (wanted_by t.day (Requested r)).original p there in
+            then_some (recorded_in (requests_of n t.requests))
+            (wanted_by t.day (Requested r)).original p there in
             let theirs : bytes_eq p.key.merchant m ≡ false =
-            ap (λ x. bytes_eq x m) (recorded_merchant n t.requests asked.0 p asked.2) ∙ out fresh.recordable in
+            ap (λ x. bytes_eq x m) (recorded_merchant n t.requests asked.0 p asked.2)
+            ∙ out fresh.recordable in
             record {
               limit = refl;
               day = refl;
@@ -196,9 +221,11 @@ module _ (m : List ℕ) (t : Tables) where
               merchant = refl;
               terminal = λ id. refl;
               posted =
-                  postings_of_other m n t.postings (reversal_posting t.day r p) (reversal_posting_is_of t.day r p)
+                  postings_of_other m n t.postings (reversal_posting t.day r p)
+                  (reversal_posting_is_of t.day r p)
                   (out fresh.recordable);
-              requests = row_out _ (out fresh.recordable) _ ∙ edit_out m p.key _ (λ a. refl) theirs t.requests;
+              requests = row_out _ (out fresh.recordable) _ ∙ edit_out m p.key _
+                  (λ a. refl) theirs t.requests;
             };
       })
 
@@ -221,7 +248,8 @@ module _ (m : List ℕ) (t : Tables) where
               merchant = refl;
               terminal = λ id. refl;
               posted =
-                  postings_of_other m p.key.merchant t.postings (answer_posting v p) (answer_posting_is_of v p) theirs;
+                  postings_of_other m p.key.merchant t.postings (answer_posting v p)
+                  (answer_posting_is_of v p) theirs;
               requests = edit_out m p.key _ (λ a. refl) theirs t.requests;
             };
       })
@@ -240,12 +268,14 @@ module _ (m : List ℕ) (t : Tables) where
     posted = refl;
     merchant =
         find-append (λ row. bytes_eq row.id m) t.merchants (merchant ∷ [])
-        ∙ (ap (λ b. option_or (find (λ row. bytes_eq row.id m) t.merchants) (cond b (Some merchant) None)) other
+        ∙ (ap (λ b. option_or (find (λ row. bytes_eq row.id m) t.merchants)
+        (cond b (Some merchant) None)) other
         ∙ or_none (find (λ row. bytes_eq row.id m) t.merchants));
   }
 
   -- another merchant's terminal
-  terminal_out : (terminal : Terminal) → bytes_eq terminal.merchant m ≡ false → (there : Bool) (o : Option Merchant) →
+  terminal_out : (terminal : Terminal) → bytes_eq terminal.merchant m ≡ false →
+      (there : Bool) (o : Option Merchant) →
       Passes (TerminalAdded terminal) (decision_of_terminal terminal there o)
   terminal_out terminal other there None = alike_same m t
   terminal_out terminal other true (Some merchant) = alike_same m t
@@ -263,19 +293,22 @@ module _ (m : List ℕ) (t : Tables) where
   }
 
   -- a merchant is named, and is another
-  named_other : (o : Option (List ℕ)) → is_some o ≡ true → names o m ≡ false → bytes_eq (or_empty o) m ≡ false
+  named_other : (o : Option (List ℕ)) → is_some o ≡ true → names o m ≡ false →
+      bytes_eq (or_empty o) m ≡ false
   named_other None there other = absurd (cc)
   named_other (Some n) there other = other
 
   -- an event that is neither the merchant's nor shared
-  pub other_step : (a : Arrival) → IsNaming a → names (merchant_named a) m ≡ false → is_shared a ≡ false →
+  pub other_step : (a : Arrival) → IsNaming a → names (merchant_named a) m ≡ false →
+      is_shared a ≡ false →
       Alike m t (step_tables t a)
   other_step (Undecoded fault) naming other alone = alike_same m t
   other_step (Unserved message) naming other alone = alike_same m t
   other_step (Malformed r) naming other alone = alike_same m t
   other_step (Requested r) naming other alone =
       requested_out r (λ came. named_other (merchant_named (Requested r)) (naming r came) other)
-  other_step (Answered moment n reference v) naming other alone = answered_out moment n reference v other
+  other_step (Answered moment n reference v) naming other alone =
+      answered_out moment n reference v other
   other_step CutOver naming other alone = absurd (cc)
   other_step (RangeAdded range) naming other alone = absurd (cc)
   other_step (RangeDropped low high) naming other alone = absurd (cc)
@@ -288,12 +321,17 @@ module _ (m : List ℕ) (t : Tables) where
 -- ---- events
 
 -- what holds of all holds of one of them
-all_at : (p : ℕ → Bool) (n : ℕ) (ns : List ℕ) → list_any (λ k. eqb k n) ns ≡ true → list_all p ns ≡ true → p n ≡ true
+all_at : (p : ℕ → Bool) (n : ℕ) (ns : List ℕ) → list_any (λ k. eqb k n) ns ≡ true →
+    list_all p ns ≡ true → p n ≡ true
 all_at p n [] there all = absurd (cc)
 all_at p n (k ∷ ns) there all =
     let both = and_parts (p k) (list_all p ns) all in
     let step : (b : Bool) → eqb k n ≡ b → (b || list_any (λ k. eqb k n) ns) ≡ true → p n ≡ true =
-    elim [ true ↦ (λ e later. ap p (sym (eqb_is k n e)) ∙ both.0) | false ↦ (λ e later. all_at p n ns later both.1) ] in
+    elim [
+      | true ↦ (λ e later. ap p (sym (eqb_is k n e)) ∙ both.0)
+      | false ↦
+          (λ e later. all_at p n ns later both.1)
+    ] in
     step (eqb k n) refl there
 
 -- each request that is recorded needs element 42
@@ -316,7 +354,8 @@ passed_has s message passed =
     let all = not (list_all (has message) (needed s)) in
     let card = not (has_one_of message (needed_card s)) in
     let unknown = list_any (has message) unverifiable in
-    let fourth = or_split (all || card || unknown || has_bad_track message) (has_two_cards message) passed in
+    let fourth = or_split (all || card || unknown || has_bad_track message)
+    (has_two_cards message) passed in
     let third = or_split (all || card || unknown) (has_bad_track message) fourth.0 in
     let second = or_split (all || card) unknown third.0 in
     not_false (list_all (has message) (needed s)) (or_split all card second.0).0
@@ -328,18 +367,22 @@ naming_of_message moment message None q came =
     absurd (let no : ◌≡◌ {A = Option RequestMessage} None (Some q) = came in cc)
 naming_of_message moment message (Some s) q came =
     let r : RequestMessage = record { moment = moment; service = s; message = message } in
-    let step : (b : Bool) → is_malformed s message ≡ b → request_of (if b then Malformed r else Requested r) ≡ Some q →
+    let step : (b : Bool) → is_malformed s message ≡ b →
+    request_of (if b then Malformed r else Requested r) ≡ Some q →
     is_some (merchant_named (if b then Malformed r else Requested r)) ≡ true =
     elim [
       | true ↦ (λ e c. absurd (let no : ◌≡◌ {A = Option RequestMessage} None (Some q) = c in cc))
       | false ↦
-          (λ e c. all_at (has message) 42 (needed s) (needs_merchant moment s message q c) (passed_has s message e))
+          (λ e c. all_at (has message) 42 (needed s) (needs_merchant moment s message q c)
+          (passed_has s message e))
     ] in
     step (is_malformed s message) refl came
 
 naming_of_reading : (moment : ℕ) (o : Result IsoMessage DecodeFault) (q : RequestMessage) →
-    request_of (arrival_of_reading moment o) ≡ Some q → is_some (merchant_named (arrival_of_reading moment o)) ≡ true
-naming_of_reading moment (Ok message) q came = naming_of_message moment message (service_of message.kind) q came
+    request_of (arrival_of_reading moment o) ≡ Some q →
+    is_some (merchant_named (arrival_of_reading moment o)) ≡ true
+naming_of_reading moment (Ok message) q came = naming_of_message moment message
+    (service_of message.kind) q came
 naming_of_reading moment (Err fault) q came =
     absurd (let no : ◌≡◌ {A = Option RequestMessage} None (Some q) = came in cc)
 
@@ -348,8 +391,10 @@ pub naming_of : (e : Event) (q : RequestMessage) → request_of (arrival_of e) �
     is_some (merchant_named (arrival_of e)) ≡ true
 naming_of (event.Frame moment text) q came = naming_of_reading moment (reading_of text) q came
 naming_of (event.Answer moment merchant reference verdict) q came = refl
-naming_of (event.Cutover moment) q came = absurd (let no : ◌≡◌ {A = Option RequestMessage} None (Some q) = came in cc)
-naming_of (event.AddRange range) q came = absurd (let no : ◌≡◌ {A = Option RequestMessage} None (Some q) = came in cc)
+naming_of (event.Cutover moment) q came =
+    absurd (let no : ◌≡◌ {A = Option RequestMessage} None (Some q) = came in cc)
+naming_of (event.AddRange range) q came =
+    absurd (let no : ◌≡◌ {A = Option RequestMessage} None (Some q) = came in cc)
 naming_of (event.DropRange low high) q came =
     absurd (let no : ◌≡◌ {A = Option RequestMessage} None (Some q) = came in cc)
 naming_of (event.Enrol merchant currency first) q came = refl

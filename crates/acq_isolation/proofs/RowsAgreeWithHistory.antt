@@ -1,5 +1,7 @@
--- A merchant's rows of requests against what is recorded in its history, and how changes keep them alike.
-use Rattle.std.proofs.Common.{◌≡◌, ℕ, ◌+◌, List, [], ◌∷◌, ◌++◌, Option, Some, None, Bool, true, false, cond, refl, sym, ap, ◌∙◌}
+-- A merchant's rows of requests against what is recorded in its history, and how changes keep them
+-- alike.
+use Rattle.std.proofs.Common.{◌≡◌, ℕ, ◌+◌, List, [], ◌∷◌, ◌++◌, Option, Some, None, Bool, true}
+use Rattle.std.proofs.Common.{false, cond, refl, sym, ap, ◌∙◌}
 use Rattle.std.specs.Prelude.{map, find, option_map, ◌&&◌, ◌||◌, not, is_some, ◌==◌, if◌then◌else◌}
 use Rattle.std.specs.Str.{bytes_eq}
 use Rattle.std.proofs.lemmas.List.{append-nil}
@@ -10,14 +12,19 @@ use Rattle.acq_core.specs.declared.status.Status.{Status}
 use Rattle.acq_message.specs.Elements.{key_of, same_key}
 use Rattle.acq_message.specs.declared.request_message.RequestMessage.{RequestMessage}
 use Rattle.acq_core.specs.Known.{Prior}
-use Rattle.acq_core.specs.Tables.{count, prior_of, requests_of, recorded_in, referred_in, admitted_in, used_in, with_changed}
+use Rattle.acq_core.specs.Tables.{count, prior_of, requests_of, recorded_in, referred_in}
+use Rattle.acq_core.specs.Tables.{admitted_in, used_in, with_changed}
 use Rattle.acq_message.specs.Numbers.{is_number}
 use Rattle.acq_core.proofs.Counts.{count-push}
 use Rattle.acq_history.specs.Entries.{Entry, request_of, is_acceptance, is_past_merchant, is_answer}
-use Rattle.acq_history.specs.History.{Found, newest, aged, recorded, referred, is_admission, admitted, enrolled, used, prior}
+use Rattle.acq_history.specs.History.{Found, newest, aged, recorded, referred, is_admission}
+use Rattle.acq_history.specs.History.{admitted, enrolled, used, prior}
 use Rattle.acq_isolation.specs.Isolation.{recording_first, all_recorded}
-use Rattle.acq_history.proofs.Lookups.{map_map, find-view, count-view, count-same, map-push, filter-map, filter-push_in, Each}
-use Rattle.acq_isolation.proofs.RecordedInHistory.{find_recorded, find_referred, count_admitted, AdmitsOnlyEnrolled, IsFoundAgain, each_found_again}
+use Rattle.acq_history.proofs.Lookups.{map_map, find-view, count-view, count-same, map-push}
+use Rattle.acq_history.proofs.Lookups.{filter-map, filter-push_in, Each}
+use Rattle.acq_isolation.proofs.RecordedInHistory.{find_recorded, find_referred, count_admitted}
+use Rattle.acq_isolation.proofs.RecordedInHistory.{AdmitsOnlyEnrolled, IsFoundAgain}
+use Rattle.acq_isolation.proofs.RecordedInHistory.{each_found_again}
 use Rattle.acq_isolation.proofs.RequestsAfterNewEntry.{line, shown, shown_aged}
 
 -- a merchant's rows say what its history says
@@ -30,15 +37,18 @@ pub record Rows (m : List ℕ) (rows : List Request) (h : List Entry) : Type 0 w
 -- ---- what look-ups and counts give
 
 -- to find a row by what it shows is to find the request that it stands for
-found_line : (q : Prior × Option ℕ → Bool) (rows : List Request) (fs : List Found) → map line rows ≡ map shown fs →
-    option_map prior_of (find (λ row. q (line row)) rows) ≡ option_map prior (find (λ f. q (shown f)) fs)
+found_line : (q : Prior × Option ℕ → Bool) (rows : List Request) (fs : List Found) →
+    map line rows ≡ map shown fs →
+    option_map prior_of (find (λ row. q (line row)) rows) ≡ option_map prior
+    (find (λ f. q (shown f)) fs)
 found_line q rows fs same =
     sym (map_map (λ (x : Prior × Option ℕ). x.0) line (find (λ row. q (line row)) rows))
     ∙ (ap (option_map (λ (x : Prior × Option ℕ). x.0))
     (sym (find-view line q rows) ∙ (ap (find q) same ∙ find-view shown q fs))
     ∙ map_map (λ (x : Prior × Option ℕ). x.0) shown (find (λ f. q (shown f)) fs))
 
-pub recorded_in_is : (m : List ℕ) (rows : List Request) (h : List Entry) → Rows m rows h → (key : RequestKey) →
+pub recorded_in_is : (m : List ℕ) (rows : List Request) (h : List Entry) → Rows m rows h →
+    (key : RequestKey) →
     recorded_in (requests_of m rows) key ≡ option_map prior (recorded key h)
 recorded_in_is m rows h r key =
     found_line (λ x. same_key x.0.key key) (requests_of m rows) (all_recorded h) r.lines
@@ -61,14 +71,16 @@ admitted_in_is m rows h r =
 
 -- what becomes of each row by an edit is what becomes of what it stands for
 abbrev pub FollowsEntry : (Request → Request) → Entry → List Entry → Type 0
-FollowsEntry u e h = (a : Request) (f : Found) → IsFoundAgain h f → line a ≡ shown f → line (u a) ≡ shown (aged e f)
+FollowsEntry u e h = (a : Request) (f : Found) → IsFoundAgain h f → line a ≡ shown f →
+    line (u a) ≡ shown (aged e f)
 
 head_is : {X : Type 0} (x y : X) (xs ys : List X) → x ∷ xs ≡ y ∷ ys → (x ≡ y) × (xs ≡ ys)
 head_is x y xs ys e = (cc, cc)
 
 -- so edited rows show what the requests show one entry later
 lines_edited : (u : Request → Request) (e : Entry) (h : List Entry) → FollowsEntry u e h →
-    (rows : List Request) (fs : List Found) → Each (IsFoundAgain h) fs → map line rows ≡ map shown fs →
+    (rows : List Request) (fs : List Found) → Each (IsFoundAgain h) fs →
+    map line rows ≡ map shown fs →
     map line (map u rows) ≡ map shown (map (aged e) fs)
 lines_edited u e h follows [] [] each same = refl
 lines_edited u e h follows (a ∷ rows) (f ∷ fs) each same =
@@ -97,31 +109,38 @@ abbrev pub at_key : RequestKey → (Request → Request) → Request → Request
 at_key key changed row = if same_key row.key key then changed row else row
 
 -- it keeps each row's merchant
-merchant_edited : (m : List ℕ) (key : RequestKey) (changed : Request → Request) → Edits changed → (a : Request) →
+merchant_edited : (m : List ℕ) (key : RequestKey) (changed : Request → Request) → Edits changed →
+    (a : Request) →
     bytes_eq (at_key key changed a).key.merchant m ≡ bytes_eq a.key.merchant m
 merchant_edited m key changed edits a =
     elim (same_key a.key key) as (λ b. bytes_eq (if b then changed a else a).key.merchant m
-    ≡ bytes_eq a.key.merchant m) [ true ↦ ap (λ k. bytes_eq k.merchant m) (edits.key a) | false ↦ refl ]
+    ≡ bytes_eq a.key.merchant m)
+    [ true ↦ ap (λ k. bytes_eq k.merchant m) (edits.key a) | false ↦ refl ]
 
 -- and what counts against a limit
-counts_edited : (d : ℕ) (key : RequestKey) (changed : Request → Request) → Edits changed → (a : Request) →
-    ((at_key key changed a).admitted && ((at_key key changed a).day == d)) ≡ (a.admitted && (a.day == d))
+counts_edited : (d : ℕ) (key : RequestKey) (changed : Request → Request) → Edits changed →
+    (a : Request) →
+    ((at_key key changed a).admitted && ((at_key key changed a).day == d))
+    ≡ (a.admitted && (a.day == d))
 counts_edited d key changed edits a =
     elim (same_key a.key key) as (λ b.
-    ((if b then changed a else a).admitted && ((if b then changed a else a).day == d)) ≡ (a.admitted && (a.day == d))) [
+    ((if b then changed a else a).admitted && ((if b then changed a else a).day == d))
+    ≡ (a.admitted && (a.day == d))) [
       | true ↦ (λ i. edits.admitted a i && (edits.day a i == d))
       | false ↦ refl
     ]
 
 -- so it goes through the merchant's rows alone
-pub requests_of_edited : (m : List ℕ) (key : RequestKey) (changed : Request → Request) → Edits changed →
+pub requests_of_edited : (m : List ℕ) (key : RequestKey) (changed : Request → Request) →
+    Edits changed →
     (rows : List Request) →
     requests_of m (with_changed key changed rows) ≡ map (at_key key changed) (requests_of m rows)
 requests_of_edited m key changed edits rows =
     filter-map (λ row. bytes_eq row.key.merchant m) (at_key key changed) (at_key key changed)
     (merchant_edited m key changed edits) (λ a mine. refl) rows
 
-used_edited : (rows : List Request) (key : RequestKey) (changed : Request → Request) → Edits changed → (d : ℕ) →
+used_edited : (rows : List Request) (key : RequestKey) (changed : Request → Request) →
+    Edits changed → (d : ℕ) →
     used_in (map (at_key key changed) rows) d ≡ used_in rows d
 used_edited rows key changed edits d =
     count-view (at_key key changed) (λ row. row.admitted && (row.day == d)) rows
@@ -129,14 +148,17 @@ used_edited rows key changed edits d =
     (λ row. row.admitted && (row.day == d)) (counts_edited d key changed edits) rows
 
 -- rows after an edit, while what the newest entry records is left out
-pub record RowsWithoutNewest (m : List ℕ) (rows : List Request) (e : Entry) (h : List Entry) : Type 0 where
+pub record RowsWithoutNewest (m : List ℕ) (rows : List Request) (e : Entry)
+    (h : List Entry) : Type 0 where
   pub lines : map line (requests_of m rows) ≡ map shown (map (aged e) (all_recorded h))
   pub used : (day : ℕ) → used_in (requests_of m rows) day ≡ used h day
   pub genuine : AdmitsOnlyEnrolled h
 
 -- rows in which one was edited
-pub without_newest_edited : (m : List ℕ) (rows : List Request) (e : Entry) (h : List Entry) (key : RequestKey)
-    (changed : Request → Request) → Edits changed → FollowsEntry (at_key key changed) e h → Rows m rows h →
+pub without_newest_edited : (m : List ℕ) (rows : List Request) (e : Entry) (h : List Entry)
+    (key : RequestKey)
+    (changed : Request → Request) → Edits changed → FollowsEntry (at_key key changed) e h →
+    Rows m rows h →
     RowsWithoutNewest m (with_changed key changed rows) e h
 without_newest_edited m rows e h key changed edits follows r =
     record {
@@ -156,7 +178,8 @@ older_same e same [] = refl
 older_same e same (f ∷ fs) = λ i. same f i ∷ older_same e same fs i
 
 -- rows that stay as they are
-pub without_newest_still : (m : List ℕ) (rows : List Request) (e : Entry) (h : List Entry) → is_acceptance e ≡ false →
+pub without_newest_still : (m : List ℕ) (rows : List Request) (e : Entry) (h : List Entry) →
+    is_acceptance e ≡ false →
     ((n : ℕ) → is_answer n e ≡ false) → Rows m rows h → RowsWithoutNewest m rows e h
 without_newest_still m rows e h accepted answers r =
     record {
@@ -166,16 +189,20 @@ without_newest_still m rows e h accepted answers r =
     }
 
 -- nothing is recorded
-pub rows_still : (m : List ℕ) (rows : List Request) (e : Entry) (h : List Entry) → is_acceptance e ≡ false →
-    is_admission e h ≡ false → recording_first e h (request_of e.arrival) ≡ [] → RowsWithoutNewest m rows e h →
+pub rows_still : (m : List ℕ) (rows : List Request) (e : Entry) (h : List Entry) →
+    is_acceptance e ≡ false →
+    is_admission e h ≡ false → recording_first e h (request_of e.arrival) ≡ [] →
+    RowsWithoutNewest m rows e h →
     Rows m rows (e ∷ h)
 rows_still m rows e h accepted admission none r =
     record {
       lines =
           r.lines ∙ sym
           (ap (λ fs. map shown fs)
-          (ap (λ fs. map (aged e) (all_recorded h) ++ fs) none ∙ append-nil (map (aged e) (all_recorded h))));
-      used = λ d. r.used d ∙ sym (λ i. cond ((admission i || accepted i) && (e.day == d)) (1 + used h d) (used h d));
+          (ap (λ fs. map (aged e) (all_recorded h) ++ fs) none
+          ∙ append-nil (map (aged e) (all_recorded h))));
+      used = λ d. r.used d
+          ∙ sym (λ i. cond ((admission i || accepted i) && (e.day == d)) (1 + used h d) (used h d));
       genuine = (λ a. absurd (let no : true ≡ false = sym a ∙ admission in cc), r.genuine);
     }
 
@@ -192,7 +219,8 @@ pub record Joins (m : List ℕ) (row : Request) (e : Entry) (h : List Entry) : T
   pub enrolled : is_admission e h ≡ true → is_some (enrolled h) ≡ true
 
 -- where it records one row more
-pub rows_joined : (m : List ℕ) (rows : List Request) (row : Request) (e : Entry) (h : List Entry) → Joins m row e h →
+pub rows_joined : (m : List ℕ) (rows : List Request) (row : Request) (e : Entry) (h : List Entry) →
+    Joins m row e h →
     RowsWithoutNewest m rows e h → Rows m (rows ++ row ∷ []) (e ∷ h)
 rows_joined m rows row e h j r =
     let mine = filter-push_in (λ a. bytes_eq a.key.merchant m) rows row j.mine in

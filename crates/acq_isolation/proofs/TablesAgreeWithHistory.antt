@@ -1,5 +1,6 @@
 -- Tables and a history that say the same of a merchant, and of what all share.
-use Rattle.std.proofs.Common.{◌≡◌, ℕ, ◌+◌, List, [], ◌∷◌, ◌++◌, Option, Some, None, true, false, cond, refl, sym, ap, ◌∙◌}
+use Rattle.std.proofs.Common.{◌≡◌, ℕ, ◌+◌, List, [], ◌∷◌, ◌++◌, Option, Some, None, true, false}
+use Rattle.std.proofs.Common.{cond, refl, sym, ap, ◌∙◌}
 use Rattle.std.specs.Prelude.{find, option_map, ◌&&◌, ◌||◌, ◌==◌}
 use Rattle.std.specs.Option.{option_or}
 use Rattle.std.specs.List.{list_any}
@@ -18,19 +19,26 @@ use Rattle.acq_message.specs.Elements.{or_empty, text_at}
 use Rattle.acq_core.specs.declared.arrival.Arrival.{Arrival}
 use Rattle.acq_message.specs.declared.request_message.RequestMessage.{RequestMessage}
 use Rattle.acq_core.specs.Arrivals.{merchant_named, is_shared}
-use Rattle.acq_core.specs.declared.arrival.Arrival.TheVariants.{Undecoded, Unserved, Malformed, Requested, Answered, CutOver, RangeAdded, RangeDropped, Enrolled, TerminalAdded}
+use Rattle.acq_core.specs.declared.arrival.Arrival.TheVariants.{Undecoded, Unserved, Malformed}
+use Rattle.acq_core.specs.declared.arrival.Arrival.TheVariants.{Requested, Answered, CutOver}
+use Rattle.acq_core.specs.declared.arrival.Arrival.TheVariants.{RangeAdded, RangeDropped, Enrolled}
+use Rattle.acq_core.specs.declared.arrival.Arrival.TheVariants.{TerminalAdded}
 use Rattle.acq_core.specs.Known.{Prior, wanted_by, known_for}
 use Rattle.acq_core.specs.Outcome.{Outcome}
-use Rattle.acq_core.specs.Changes.{answer_posting, approval_posting, reversal_posting, posting_today, reversal_leg, posted_leg}
+use Rattle.acq_core.specs.Changes.{answer_posting, approval_posting, reversal_posting}
+use Rattle.acq_core.specs.Changes.{posting_today, reversal_leg, posted_leg}
 use Rattle.card_no.specs.Ranges.{between}
-use Rattle.acq_core.specs.Tables.{Opening, Tables, postings_of, facts_in, known_in, totals_on, with_next_posting}
+use Rattle.acq_core.specs.Tables.{Opening, Tables, postings_of, facts_in, known_in, totals_on}
+use Rattle.acq_core.specs.Tables.{with_next_posting}
 use Rattle.acq_core.proofs.Counts.{or_none}
 use Rattle.acq_history.specs.Entries.{Entry, is_cutover, is_performed, enrolment_in, terminal_in}
-use Rattle.acq_history.specs.History.{day_after, ranges_after, ranges_with, enrolled, has_terminal, is_text, postings, facts_of}
+use Rattle.acq_history.specs.History.{day_after, ranges_after, ranges_with, enrolled, has_terminal}
+use Rattle.acq_history.specs.History.{is_text, postings, facts_of}
 use Rattle.acq_history.specs.PartyHistory.{names, known_by}
 use Rattle.acq_history.proofs.Lookups.{filter-push_in, filter-push_out, count-filter}
 use Rattle.acq_history.proofs.Keys.{bytes_eq_is, bytes_eq_itself}
-use Rattle.acq_isolation.proofs.RowsAgreeWithHistory.{Rows, recorded_in_is, referred_in_is, admitted_in_is}
+use Rattle.acq_isolation.proofs.RowsAgreeWithHistory.{Rows, recorded_in_is, referred_in_is}
+use Rattle.acq_isolation.proofs.RowsAgreeWithHistory.{admitted_in_is}
 
 -- what isn't a request or a posting
 pub record Common (opening : Opening) (m : List ℕ) (bound today : ℕ) (merchants : List Merchant)
@@ -51,7 +59,8 @@ pub record Agrees (opening : Opening) (m : List ℕ) (t : Tables) (h : List Entr
 -- ---- what is known
 
 -- so look-ups in both know the same
-pub facts_in_is : (opening : Opening) (m : List ℕ) (t : Tables) (h : List Entry) → Agrees opening m t h →
+pub facts_in_is : (opening : Opening) (m : List ℕ) (t : Tables) (h : List Entry) →
+    Agrees opening m t h →
     facts_in t m ≡ facts_of opening h
 facts_in_is opening m t h a =
     λ i. record {
@@ -69,7 +78,8 @@ facts_in_is opening m t h a =
     }
 
 -- for an event of the merchant's
-pub known_in_mine : (opening : Opening) (m : List ℕ) (t : Tables) (h : List Entry) → Agrees opening m t h →
+pub known_in_mine : (opening : Opening) (m : List ℕ) (t : Tables) (h : List Entry) →
+    Agrees opening m t h →
     (a : Arrival) →
     merchant_named a ≡ Some m → known_in t a ≡ known_by opening h a
 known_in_mine opening m t h g a named =
@@ -77,14 +87,16 @@ known_in_mine opening m t h g a named =
     ∙ (λ i. known_for (wanted_by (g.common.day i) a) (facts_in_is opening m t h g i))
 
 -- for a shared event
-pub known_in_shared : (opening : Opening) (m : List ℕ) (t : Tables) (h : List Entry) → Agrees opening m t h →
+pub known_in_shared : (opening : Opening) (m : List ℕ) (t : Tables) (h : List Entry) →
+    Agrees opening m t h →
     (a : Arrival) → is_shared a ≡ true → known_in t a ≡ known_by opening h a
 known_in_shared opening m t h g CutOver shared =
     λ i. known_for (wanted_by (g.common.day i) CutOver) (facts_in_is opening m t h g i)
 known_in_shared opening m t h g (RangeAdded range) shared =
     λ i. known_for (wanted_by (g.common.day i) (RangeAdded range)) (facts_in_is opening m t h g i)
 known_in_shared opening m t h g (RangeDropped low high) shared =
-    λ i. known_for (wanted_by (g.common.day i) (RangeDropped low high)) (facts_in_is opening m t h g i)
+    λ i. known_for (wanted_by (g.common.day i) (RangeDropped low high))
+    (facts_in_is opening m t h g i)
 known_in_shared opening m t h g (Undecoded fault) shared = absurd (cc)
 known_in_shared opening m t h g (Unserved message) shared = absurd (cc)
 known_in_shared opening m t h g (Malformed r) shared = absurd (cc)
@@ -105,7 +117,13 @@ pub common_still : (opening : Opening) (m : List ℕ) (bound today : ℕ) (merch
     is_performed o ≡ false →
     Common opening m bound today merchants terminals held h →
     Common opening m bound today merchants terminals held
-    (record { arrival = a; day = day_after opening.first_day h; ranges = ranges_after h; outcome = o } ∷ h)
+    (record {
+      arrival = a;
+      day = day_after opening.first_day h;
+      ranges = ranges_after h;
+      outcome =
+          o;
+    } ∷ h)
 common_still opening m bound today merchants terminals held a o h performed c =
     record {
       bounded = c.bounded;
@@ -113,11 +131,14 @@ common_still opening m bound today merchants terminals held a o h performed c =
           c.day ∙ sym (λ i.
           cond ((ap (λ b. is_cutover a && b) performed ∙ and-false (is_cutover a)) i)
           (day_after opening.first_day h + 1) (day_after opening.first_day h));
-      ranges = c.ranges ∙ sym (λ i. cond (performed i) (ranges_with a (ranges_after h)) (ranges_after h));
+      ranges = c.ranges
+          ∙ sym (λ i. cond (performed i) (ranges_with a (ranges_after h)) (ranges_after h));
       merchant =
           c.merchant ∙ sym
-          (ap (λ b. option_or (enrolled h) (cond b (enrolment_in a) None)) performed ∙ or_none (enrolled h));
-      terminal = λ id. c.terminal id ∙ sym (λ i. (performed i && is_text id (terminal_in a)) || has_terminal h id);
+          (ap (λ b. option_or (enrolled h) (cond b (enrolment_in a) None)) performed
+          ∙ or_none (enrolled h));
+      terminal = λ id. c.terminal id
+          ∙ sym (λ i. (performed i && is_text id (terminal_in a)) || has_terminal h id);
     }
 
 -- ---- postings
@@ -132,7 +153,8 @@ pub postings_of_mine : (m : List ℕ) (rows : List (ℕ × Posting)) (o : Option
     postings_of m (with_next_posting rows o) ≡ with_next_posting (postings_of m rows) o
 postings_of_mine m rows None is = refl
 postings_of_mine m rows (Some p) is =
-    filter-push_in (λ row. bytes_eq row.1.merchant m) rows _ (ap (λ n. bytes_eq n m) is ∙ bytes_eq_itself m)
+    filter-push_in (λ row. bytes_eq row.1.merchant m) rows _
+    (ap (λ n. bytes_eq n m) is ∙ bytes_eq_itself m)
     ∙ ap (λ n. postings_of m rows ++ (n + 1, p) ∷ [])
     (sym (count-filter (λ row. bytes_eq row.1.merchant m)
     (λ row. bytes_eq row.1.merchant p.merchant && (row.1.day == p.day))
@@ -146,7 +168,8 @@ postings_of_other m n rows None is other = refl
 postings_of_other m n rows (Some p) is other =
     filter-push_out (λ row. bytes_eq row.1.merchant m) rows _ (ap (λ k. bytes_eq k m) is ∙ other)
 
-approval_posting_is_of : (p : Prior) (leg : Option Leg) → IsOf p.key.merchant (approval_posting p leg)
+approval_posting_is_of : (p : Prior) (leg : Option Leg) →
+    IsOf p.key.merchant (approval_posting p leg)
 approval_posting_is_of p None = tt
 approval_posting_is_of p (Some leg) = refl
 
@@ -162,6 +185,7 @@ pub reversal_posting_is_of : (today : ℕ) (r : RequestMessage) (p : Prior) →
 reversal_posting_is_of today r p = step (posted_leg p.reply_state p.leg)
   where
     step : (o : Option Leg) →
-        IsOf (text_at r.message 42) (option_map (λ leg. posting_today today r (reversal_leg leg) p.amount p) o)
+        IsOf (text_at r.message 42)
+        (option_map (λ leg. posting_today today r (reversal_leg leg) p.amount p) o)
     step None = tt
     step (Some leg) = refl

@@ -15,7 +15,9 @@ use Rattle.acq_core.specs.Decision.{Replies, network_response, repeat_of}
 use Rattle.acq_core.specs.Outcome.{Outcome, outcome_of}
 use Rattle.acq_core.specs.Changes.{change_of}
 use Rattle.acq_core.proofs.DecisionCases.{is_refusal}
-use Rattle.acq_history.specs.Entries.{is_code, is_asked, is_performed, is_approved, is_past_merchant, recordable, request_of, accepts, is_acceptable}
+use Rattle.acq_history.specs.Entries.{is_code, is_asked, is_performed, is_approved}
+use Rattle.acq_history.specs.Entries.{is_past_merchant, recordable, request_of, accepts}
+use Rattle.acq_history.specs.Entries.{is_acceptable}
 
 -- a code that refuses what is recorded
 abbrev pub IsRefusal : ResponseCode → Type 0
@@ -44,16 +46,19 @@ refusal_is (code.Declined text) e = (refl, refl)
 pub accepts_not : (rq : Option RequestMessage) (o : Outcome) → is_approved o ≡ false →
     accepts is_acceptable rq o ≡ false
 accepts_not None o e = refl
-accepts_not (Some r) o e = ap (λ b. is_acceptable r.service && b) e ∙ and-false (is_acceptable r.service)
+accepts_not (Some r) o e = ap (λ b. is_acceptable r.service && b) e
+    ∙ and-false (is_acceptable r.service)
 
 -- ---- what changes nothing
 
--- it leaves what a history says as it was: where it passed the merchant check, its key was recorded before
+-- it leaves what a history says as it was: where it passed the merchant check, its key was recorded
+-- before
 pub record IsQuiet (k : Known) (r : RequestMessage) (o : Outcome) : Type 0 where
   pub asked : is_asked o ≡ false
   pub performed : is_performed o ≡ false
   pub accepted : accepts is_acceptable (request_of (Requested r)) o ≡ false
-  pub recorded : (q : RequestMessage) → request_of (Requested r) ≡ Some q → is_past_merchant o ≡ true →
+  pub recorded : (q : RequestMessage) → request_of (Requested r) ≡ Some q →
+      is_past_merchant o ≡ true →
       is_some k.recorded ≡ true
 
 -- network management is neither accepted nor recorded
@@ -64,7 +69,8 @@ managed_accepts s r o is = ap (λ x. accepts is_acceptable (recordable r x) o) i
 managed_unrecorded : {P : Type 0} (s : Service) (r q : RequestMessage) → s ≡ NetworkManagement →
     recordable r s ≡ Some q → P
 managed_unrecorded s r q is came =
-    absurd (let no : ◌≡◌ {A = Option RequestMessage} None (Some q) = ap (recordable r) (sym is) ∙ came in cc)
+    absurd (let no : ◌≡◌ {A = Option RequestMessage} None (Some q) = ap (recordable r) (sym is)
+    ∙ came in cc)
 
 module _ (k : Known) (r : RequestMessage) where
   -- network management
@@ -74,7 +80,8 @@ module _ (k : Known) (r : RequestMessage) where
       record {
         asked = refl;
         performed = refl;
-        accepted = managed_accepts r.service r (outcome_of k (Replies r (network_response r.message))) is;
+        accepted = managed_accepts r.service r
+            (outcome_of k (Replies r (network_response r.message))) is;
         recorded = λ q came past. managed_unrecorded r.service r q is came;
       }
 
@@ -84,7 +91,8 @@ module _ (k : Known) (r : RequestMessage) where
       record {
         asked = refl;
         performed = refl;
-        accepted = accepts_not (request_of (Requested r)) (outcome_of k (Replies r code.InvalidMerchant)) refl;
+        accepted = accepts_not (request_of (Requested r))
+            (outcome_of k (Replies r code.InvalidMerchant)) refl;
         recorded = λ q came past. absurd (cc);
       }
 
@@ -95,24 +103,28 @@ module _ (k : Known) (r : RequestMessage) where
       record {
         asked = refl;
         performed = refl;
-        accepted = accepts_not (request_of (Requested r)) (outcome_of k (Replies r code.DuplicateTransmission)) refl;
+        accepted = accepts_not (request_of (Requested r))
+            (outcome_of k (Replies r code.DuplicateTransmission)) refl;
         recorded = λ q came past. ap is_some is;
       }
 
   -- a repeat
-  pub quiet_repeated : (p : Prior) → k.recorded ≡ Some p → (s : ReplyState) → IsQuiet k r (outcome_of k (repeat_of s))
+  pub quiet_repeated : (p : Prior) → k.recorded ≡ Some p → (s : ReplyState) →
+      IsQuiet k r (outcome_of k (repeat_of s))
   quiet_repeated p is (Kept reply) =
       record {
         asked = refl;
         performed = refl;
-        accepted = accepts_not (request_of (Requested r)) (outcome_of k (repeat_of (Kept reply))) refl;
+        accepted = accepts_not (request_of (Requested r)) (outcome_of k (repeat_of (Kept reply)))
+            refl;
         recorded = λ q came past. ap is_some is;
       }
   quiet_repeated p is (Awaited draft) =
       record {
         asked = refl;
         performed = refl;
-        accepted = accepts_not (request_of (Requested r)) (outcome_of k (repeat_of (Awaited draft))) refl;
+        accepted = accepts_not (request_of (Requested r)) (outcome_of k (repeat_of (Awaited draft)))
+            refl;
         recorded = λ q came past. ap is_some is;
       }
   quiet_repeated p is Late =

@@ -1,4 +1,5 @@
--- A whole run, by its steps: where each event keeps the tables in agreement with a party's history, so do all, and
+-- A whole run, by its steps: where each event keeps the tables in agreement with a party's history,
+-- so do all, and
 -- the party gets the outputs of its history.
 use Rattle.std.proofs.Common.{◌≡◌, List, [], ◌∷◌, Bool, true, false, cond, refl, sym, ap, ◌∙◌}
 use Rattle.std.specs.Prelude.{◌||◌}
@@ -7,18 +8,24 @@ use Rattle.acq_core.specs.Arrivals.{arrival_of, merchant_named, is_shared}
 use Rattle.acq_core.specs.Outcome.{output_of}
 use Rattle.acq_core.specs.Tables.{Opening, Tables, step_output, step_tables, outputs, tables_after}
 use Rattle.acq_history.specs.Entries.{Entry}
-use Rattle.acq_history.specs.PartyHistory.{Party, is_of, own, entry_for, history_after, outputs_alone, outputs_at}
+use Rattle.acq_history.specs.PartyHistory.{Party, is_of, own, entry_for, history_after}
+use Rattle.acq_history.specs.PartyHistory.{outputs_alone, outputs_at}
 
--- what is to be shown of each event: one of the party's own has the output of its entry and keeps the agreement, one
+-- what is to be shown of each event: one of the party's own has the output of its entry and keeps
+-- the agreement, one
 -- that all share keeps it, and another party's leaves the history as it is
-pub record KeepsAgreement (opening : Opening) (party : Party) (A : Tables → List Entry → Type 0) : Type 0 where
-  pub own_event : (t : Tables) (h : List Entry) (e : Event) → A t h → is_of party (arrival_of e) ≡ true →
+pub record KeepsAgreement (opening : Opening) (party : Party) (A : Tables → List Entry →
+    Type 0) : Type 0 where
+  pub own_event : (t : Tables) (h : List Entry) (e : Event) → A t h →
+      is_of party (arrival_of e) ≡ true →
       let a = arrival_of e in
       (step_output t a ≡ output_of (merchant_named a) (entry_for opening h a).outcome)
       × A (step_tables t a) (entry_for opening h a ∷ h)
-  pub shared_event : (t : Tables) (h : List Entry) (e : Event) → A t h → is_shared (arrival_of e) ≡ true →
+  pub shared_event : (t : Tables) (h : List Entry) (e : Event) → A t h →
+      is_shared (arrival_of e) ≡ true →
       A (step_tables t (arrival_of e)) (entry_for opening h (arrival_of e) ∷ h)
-  pub other_event : (t : Tables) (h : List Entry) (e : Event) → A t h → is_of party (arrival_of e) ≡ false →
+  pub other_event : (t : Tables) (h : List Entry) (e : Event) → A t h →
+      is_of party (arrival_of e) ≡ false →
       is_shared (arrival_of e) ≡ false → A (step_tables t (arrival_of e)) h
 
 module _ (opening : Opening) (party : Party) (A : Tables → List Entry → Type 0)
@@ -46,13 +53,18 @@ module _ (opening : Opening) (party : Party) (A : Tables → List Entry → Type
         | true ↦ (λ c mine shared.
             let s = keeps.own_event t h e g mine in
             let w = whole_run u (x ∷ h) s.1 es in (
-              (λ i. s.0 i ∷ w.0 i) ∙ sym (ap (λ b. cond b (output_of (merchant_named a) x.outcome ∷ later) later) mine),
+              (λ i. s.0 i ∷ w.0 i)
+                  ∙ sym (ap (λ b. cond b (output_of (merchant_named a) x.outcome ∷ later) later)
+                  mine),
               w.1,
             ))
         | false ↦ elim [
           | true ↦ (λ other shared.
-              let w = whole_run u (x ∷ h) (keeps.shared_event t h e g shared) es in
-              (w.0 ∙ sym (ap (λ b. cond b (output_of (merchant_named a) x.outcome ∷ later) later) other), w.1))
+              let w = whole_run u (x ∷ h) (keeps.shared_event t h e g shared) es in (
+                w.0 ∙ sym (ap (λ b. cond b (output_of (merchant_named a) x.outcome ∷ later) later)
+                    other),
+                w.1,
+              ))
           | false ↦ (λ other alone. whole_run u h (keeps.other_event t h e g other alone) es)
         ]
       ] in

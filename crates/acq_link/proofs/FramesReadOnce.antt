@@ -1,11 +1,15 @@
 -- Bytes are the frames of one list of messages at most.
-use Rattle.std.proofs.Common.{◌≡◌, ◌/◌, ◌%◌, ◌≤◌, ◌⊎◌, ℕ, Bool, true, false, not, ◌&&◌, nat_lt, nat_le, List, [], ◌∷◌, ◌++◌, length, append_assoc, append-nil, length-append, arith, refl, sym, ap, subst, ◌∙◌, inl, inr}
+use Rattle.std.proofs.Common.{◌≡◌, ◌/◌, ◌%◌, ◌≤◌, ◌⊎◌, ℕ, Bool, true, false, not, ◌&&◌, nat_lt}
+use Rattle.std.proofs.Common.{nat_le, List, [], ◌∷◌, ◌++◌, length, append_assoc, append-nil}
+use Rattle.std.proofs.Common.{length-append, arith, refl, sym, ap, subst, ◌∙◌, inl, inr}
 use Rattle.std.proofs.lemmas.Bool.{le-leb}
 use Rattle.std.proofs.lemmas.Bool.Decides.{nat_tests}
-use Rattle.acq_link.specs.Frames.{fits_length, fits_frame, fit_frames, frame, framed, stated_length, has_frame, is_partial, has_bad_length, FramesThen, Frames}
+use Rattle.acq_link.specs.Frames.{fits_length, fits_frame, fit_frames, frame, framed, stated_length}
+use Rattle.acq_link.specs.Frames.{has_frame, is_partial, has_bad_length, FramesThen, Frames}
 
 -- the two parts of a byte string are stated by the length of the first
-split_once : (xs ys us vs : List ℕ) → length xs ≡ length us → xs ++ ys ≡ us ++ vs → (xs ≡ us) × (ys ≡ vs)
+split_once : (xs ys us vs : List ℕ) → length xs ≡ length us → xs ++ ys ≡ us ++ vs →
+    (xs ≡ us) × (ys ≡ vs)
 split_once [] ys [] vs same e = (refl, e)
 split_once [] ys (u ∷ us) vs same e = absurd (omega arith)
 split_once (x ∷ xs) ys [] vs same e = absurd (omega arith)
@@ -38,31 +42,39 @@ stated : (n : ℕ) → stated_length (n / 256) (n % 256) ≡ n
 stated n = omega arith
 
 -- a frame is one at the front
-has_frame-frame : (message rest : List ℕ) → fits_frame message ≡ true → has_frame (frame message ++ rest) ≡ true
+has_frame-frame : (message rest : List ℕ) → fits_frame message ≡ true →
+    has_frame (frame message ++ rest) ≡ true
 has_frame-frame message rest fits =
     let P : ℕ → Type 0 = λ n. (fits_length n && nat_le n (length (message ++ rest))) ≡ true in
-    let long : length message ≤ length (message ++ rest) = omega (arith, length-append message rest) in
-    subst P (sym (stated (length message))) (both (fits_length (length message)) (nat_le (length message) (length
+    let long : length message ≤ length (message ++ rest) = omega (arith, length-append message rest)
+    in
+    subst P (sym (stated (length message)))
+    (both (fits_length (length message)) (nat_le (length message) (length
     (message ++ rest))) fits (le-leb (length message) (length (message ++ rest)) long))
 
-first_fits : (message : List ℕ) (messages : List (List ℕ)) → fit_frames (message ∷ messages) ≡ true →
+first_fits : (message : List ℕ) (messages : List (List ℕ)) →
+    fit_frames (message ∷ messages) ≡ true →
     (fits_frame message ≡ true) × (fit_frames messages ≡ true)
 first_fits message messages fits = grind arith
 
 -- bytes are whole frames and a rest that begins with none in one way at most
-pub reading_once : (messages others : List (List ℕ)) (rest after : List ℕ) → fit_frames messages ≡ true →
+pub reading_once : (messages others : List (List ℕ)) (rest after : List ℕ) →
+    fit_frames messages ≡ true →
     fit_frames others ≡ true
-    → has_frame rest ≡ false → has_frame after ≡ false → framed messages ++ rest ≡ framed others ++ after →
+    → has_frame rest ≡ false → has_frame after ≡ false →
+    framed messages ++ rest ≡ framed others ++ after →
     (messages ≡ others) × (rest ≡ after)
 reading_once [] [] rest after f g h k e = (refl, e)
 reading_once [] (other ∷ others) rest after f g h k e =
     let there = has_frame-frame other (framed others ++ after) (first_fits other others g).0 in
     let e' : rest ≡ frame other ++ (framed others ++ after) = e
     ∙ append_assoc (frame other) (framed others) after in
-    let no : has_frame (frame other ++ (framed others ++ after)) ≡ false = subst (λ l. has_frame l ≡ false) e' h in
+    let no : has_frame (frame other ++ (framed others ++ after)) ≡ false =
+    subst (λ l. has_frame l ≡ false) e' h in
     absurd (true-is-not-false (sym there ∙ no))
 reading_once (message ∷ messages) [] rest after f g h k e =
-    let there = has_frame-frame message (framed messages ++ rest) (first_fits message messages f).0 in
+    let there = has_frame-frame message (framed messages ++ rest) (first_fits message messages f).0
+    in
     let e' : after ≡ frame message ++ (framed messages ++ rest) = sym e
     ∙ append_assoc (frame message) (framed messages) rest in
     let no : has_frame (frame message ++ (framed messages
@@ -81,13 +93,15 @@ reading_once (message ∷ messages) (other ∷ others) rest after f g h k e =
 pub frames_once : (bytes : List ℕ) (messages others : List (List ℕ)) → Frames bytes messages →
     Frames bytes others → messages ≡ others
 frames_once bytes messages others a b =
-    (reading_once messages others [] [] a.each b.each refl refl (append-nil (framed messages) ∙ sym a.whole
+    (reading_once messages others [] [] a.each b.each refl refl
+    (append-nil (framed messages) ∙ sym a.whole
     ∙ b.whole ∙ sym (append-nil (framed others)))).0
 
 pub frames_then_once : (bytes : List ℕ) (messages others : List (List ℕ)) (rest after : List ℕ) →
     FramesThen bytes messages rest → FramesThen bytes others after
     → has_frame rest ≡ false → has_frame after ≡ false → (messages ≡ others) × (rest ≡ after)
-frames_then_once bytes messages others rest after a b h k = reading_once messages others rest after a.each b.each h
+frames_then_once bytes messages others rest after a b h k =
+    reading_once messages others rest after a.each b.each h
     k (sym a.whole ∙ b.whole)
 
 le_or_lt : (stated len : ℕ) → nat_le stated len ≡ false → nat_lt len stated ≡ true
@@ -103,7 +117,8 @@ pub rest_is : (rest : List ℕ) → has_frame rest ≡ false →
     (rest ≡ []) ⊎ ((is_partial rest ≡ true) ⊎ (has_bad_length rest ≡ true))
 rest_is [] h = inl refl
 rest_is (high ∷ []) h = inr (inl refl)
-rest_is (high ∷ low ∷ message) h = inr (part_or_bad (fits_length (stated_length high low)) (stated_length high low)
+rest_is (high ∷ low ∷ message) h =
+    inr (part_or_bad (fits_length (stated_length high low)) (stated_length high low)
     (length message) h)
 
 lt_not_le : (stated len : ℕ) → nat_lt len stated ≡ true → nat_le stated len ≡ false
@@ -115,10 +130,12 @@ partial_at false stated len h = absurd (true-is-not-false (sym h))
 partial_at true stated len h = (lt_not_le stated len h, refl)
 
 -- a frame begun and a bad length are no whole frame, and never the same
-pub partial_is : (rest : List ℕ) → is_partial rest ≡ true → (has_frame rest ≡ false) × (has_bad_length rest ≡ false)
+pub partial_is : (rest : List ℕ) → is_partial rest ≡ true →
+    (has_frame rest ≡ false) × (has_bad_length rest ≡ false)
 partial_is [] h = absurd (true-is-not-false (sym h))
 partial_is (high ∷ []) h = (refl, refl)
-partial_is (high ∷ low ∷ message) h = partial_at (fits_length (stated_length high low)) (stated_length high low)
+partial_is (high ∷ low ∷ message) h = partial_at (fits_length (stated_length high low))
+    (stated_length high low)
     (length message) h
 
 bad_at : (fits b : Bool) → not fits ≡ true → (fits && b) ≡ false

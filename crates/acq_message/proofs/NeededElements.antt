@@ -1,5 +1,6 @@
 -- A request that the first check passed has the elements that it needs, each with its format.
-use Rattle.std.proofs.Common.{◌≡◌, ℕ, zero, suc, Bool, true, false, eqb, List, [], ◌∷◌, length, take, drop, None, refl, subst, arith, inl, inr}
+use Rattle.std.proofs.Common.{◌≡◌, ℕ, zero, suc, Bool, true, false, eqb, List, [], ◌∷◌, length}
+use Rattle.std.proofs.Common.{take, drop, None, refl, subst, arith, inl, inr}
 use Rattle.std.specs.List.{list_all, list_any}
 use Rattle.std.specs.Char.{is_ascii_digit}
 use Rattle.std.proofs.lemmas.Bool.{and_parts, and_from, eq-eqb, eqb-true, or_cases, cases_Bool}
@@ -11,7 +12,10 @@ use Rattle.iso_codec.specs.Message.{IsoMessage}
 use Rattle.iso_codec.specs.Table.{format_of}
 use Rattle.iso_codec.specs.Setting.{set_fault}
 use Rattle.acq_message.specs.declared.service.Service.{Service}
-use Rattle.acq_message.specs.declared.service.Service.TheVariants.{Authorization, Financial, Completion, Reversal, ReversalAdvice, Reconciliation, NetworkManagement}
+use Rattle.acq_message.specs.declared.service.Service.TheVariants.{Authorization, Financial}
+use Rattle.acq_message.specs.declared.service.Service.TheVariants.{Completion, Reversal}
+use Rattle.acq_message.specs.declared.service.Service.TheVariants.{ReversalAdvice, Reconciliation}
+use Rattle.acq_message.specs.declared.service.Service.TheVariants.{NetworkManagement}
 use Rattle.acq_message.specs.declared.request_message.RequestMessage.{RequestMessage}
 use Rattle.acq_message.specs.Services.{needed, is_recordable, names_original}
 use Rattle.acq_message.specs.Elements.{has}
@@ -30,7 +34,8 @@ needed_there service m passed =
 abbrev pub needs : Service → ℕ → Bool
 needs service n = list_any (λ k. eqb k n) (needed service)
 
-pub one_of_all : (p : ℕ → Bool) (ns : List ℕ) (n : ℕ) → list_all p ns ≡ true → list_any (λ k. eqb k n) ns ≡ true
+pub one_of_all : (p : ℕ → Bool) (ns : List ℕ) (n : ℕ) → list_all p ns ≡ true →
+    list_any (λ k. eqb k n) ns ≡ true
     → p n ≡ true
 one_of_all p [] n h k = absurd cc
 one_of_all p (m ∷ ns) n h k =
@@ -41,7 +46,8 @@ one_of_all p (m ∷ ns) n h k =
     ]
 
 -- a needed element is there, so its content fits it
-pub needed_fits : (r s : RequestMessage) (n : ℕ) (text : List ℕ) → s ≡ r → is_malformed r.service r.message ≡ false
+pub needed_fits : (r s : RequestMessage) (n : ℕ) (text : List ℕ) → s ≡ r →
+    is_malformed r.service r.message ≡ false
     → needs r.service n ≡ true → FitsWhereThere s.message n text → set_fault n text ≡ None
 needed_fits r s n text is passed need fits =
     fits (one_of_all (has s.message) (needed s.service) n
@@ -62,8 +68,10 @@ needs_key Reconciliation h = refl
 needs_key NetworkManagement h = absurd cc
 
 -- the content of an element of the key fits it
-pub key_fits : (r s : RequestMessage) (n : ℕ) (text : List ℕ) → s ≡ r → is_malformed r.service r.message ≡ false
-    → is_recordable r.service ≡ true → list_any (λ k. eqb k n) key_elements ≡ true → FitsWhereThere s.message n text
+pub key_fits : (r s : RequestMessage) (n : ℕ) (text : List ℕ) → s ≡ r →
+    is_malformed r.service r.message ≡ false
+    → is_recordable r.service ≡ true → list_any (λ k. eqb k n) key_elements ≡ true →
+    FitsWhereThere s.message n text
     → set_fault n text ≡ None
 key_fits r s n text is passed recorded in_key fits =
     needed_fits r s n text is passed
@@ -91,7 +99,8 @@ names_transmission text h =
 
 -- ---- element 90
 
-pub names_service : (s : Service) → names_original s ≡ true → (is_recordable s ≡ true) × (needs s 90 ≡ true)
+pub names_service : (s : Service) → names_original s ≡ true →
+    (is_recordable s ≡ true) × (needs s 90 ≡ true)
 names_service Authorization h = absurd cc
 names_service Financial h = absurd cc
 names_service Completion h = absurd cc
@@ -100,7 +109,8 @@ names_service ReversalAdvice h = (refl, refl)
 names_service Reconciliation h = absurd cc
 names_service NetworkManagement h = absurd cc
 
-all-drop : (p : ℕ → Bool) (n : ℕ) (xs : List ℕ) → list_all p xs ≡ true → list_all p (drop n xs) ≡ true
+all-drop : (p : ℕ → Bool) (n : ℕ) (xs : List ℕ) → list_all p xs ≡ true →
+    list_all p (drop n xs) ≡ true
 all-drop p zero xs h = h
 all-drop p (suc n) [] h = refl
 all-drop p (suc n) (x ∷ xs) h = all-drop p n xs (and_parts (p x) (list_all p xs) h).1
@@ -112,7 +122,8 @@ original_parts text h =
     let both = fixed_fits 90 42 Numeric text refl h in
     let size = both.0 in
     let digits : list_all is_ascii_digit text ≡ true = both.1 in
-    let trace : length (take 6 (drop 4 text)) ≡ 6 = omega (arith, length-take 6 (drop 4 text), length-drop 4 text) in
+    let trace : length (take 6 (drop 4 text)) ≡ 6 =
+    omega (arith, length-take 6 (drop 4 text), length-drop 4 text) in
     let sent : length (take 10 (drop 10 text)) ≡ 10 =
     omega (arith, length-take 10 (drop 10 text), length-drop 10 text) in (
       and_from _ _ (eq-eqb (length (take 6 (drop 4 text))) 6 trace)

@@ -12,6 +12,7 @@ twelve_digits n k h le =
     le-leb n 999999999999 (omega arith)
 
 -- what is there just where a fact holds, is there where it does
-pub some_where : {A : Type 0} (o : Option A) (P : Type 0) (value : A) → SomeIff o P value → P → o ≡ Some value
+pub some_where : {A : Type 0} (o : Option A) (P : Type 0) (value : A) → SomeIff o P value → P →
+    o ≡ Some value
 some_where None P value h p = absurd (h p)
 some_where (Some x) P value h p = ap Some h.1

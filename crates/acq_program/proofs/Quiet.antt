@@ -3,7 +3,8 @@ use Rattle.std.proofs.Common.{◌≡◌, List, ℕ, Ok, Err, ◌∙◌, inl, inr
 use Rattle.std.specs.Prelude.{Result, OnOk}
 use Rattle.acq_arguments.specs.Arguments.{AsksFor}
 use Rattle.acq_arguments.specs.declared.action.Action.{Action}
-use Rattle.acq_arguments.specs.declared.action.Action.TheVariants.{Init, Once, Listen, Replay, Report, Holds, Show}
+use Rattle.acq_arguments.specs.declared.action.Action.TheVariants.{Init, Once, Listen, Replay}
+use Rattle.acq_arguments.specs.declared.action.Action.TheVariants.{Report, Holds, Show}
 use Rattle.acq_commands.specs.Faults.{status_after, status_of}
 use Rattle.acq_commands.specs.declared.fault.Fault.{Fault}
 use Rattle.acq_commands.specs.declared.fault.Fault.TheVariants as fault
@@ -26,17 +27,26 @@ not_well fault.DayNotOver h = omega (arith, h)
 not_well (fault.StillPending n) h = omega (arith, h)
 not_well (fault.BadLine n) h = omega (arith, h)
 
-where_well : (ended : Result (Unit {0}) Fault) (P : Type 0) → OnOk ended P → status_after ended ≡ 0 → P
+where_well : (ended : Result (Unit {0}) Fault) (P : Type 0) → OnOk ended P →
+    status_after ended ≡ 0 → P
 where_well (Ok u) P p h = p
 where_well (Err f) P p h = absurd (not_well f h)
 
-pub still_quiet : (words : List (List ℕ)) (action : Action) (ended : Result (Unit {0}) Fault) (told mid after : List ℕ) →
-    AsksFor words (Ok action) → Tells action told mid → OnOk ended (after ≡ mid) → status_after ended ≡ 0 →
+pub still_quiet : (words : List (List ℕ)) (action : Action) (ended : Result (Unit {0}) Fault)
+    (told mid after : List ℕ) →
+    AsksFor words (Ok action) → Tells action told mid → OnOk ended (after ≡ mid) →
+    status_after ended ≡ 0 →
     IsQuiet words told after
-still_quiet words (Init new) ended told mid after asks same quiet well = inl (where_well ended (after ≡ mid) quiet well ∙ same)
-still_quiet words (Once asked) ended told mid after asks same quiet well = inl (where_well ended (after ≡ mid) quiet well ∙ same)
+still_quiet words (Init new) ended told mid after asks same quiet well =
+    inl (where_well ended (after ≡ mid) quiet well ∙ same)
+still_quiet words (Once asked) ended told mid after asks same quiet well =
+    inl (where_well ended (after ≡ mid) quiet well ∙ same)
 still_quiet words (Listen asked) ended told mid after asks same quiet well = inr (asked, asks)
-still_quiet words (Replay options) ended told mid after asks same quiet well = inl (where_well ended (after ≡ mid) quiet well ∙ same)
-still_quiet words (Report options) ended told mid after asks same quiet well = inl (where_well ended (after ≡ mid) quiet well ∙ same)
-still_quiet words (Holds options) ended told mid after asks same quiet well = inl (where_well ended (after ≡ mid) quiet well ∙ same)
-still_quiet words (Show form) ended told mid after asks same quiet well = inl (where_well ended (after ≡ mid) quiet well ∙ same)
+still_quiet words (Replay options) ended told mid after asks same quiet well =
+    inl (where_well ended (after ≡ mid) quiet well ∙ same)
+still_quiet words (Report options) ended told mid after asks same quiet well =
+    inl (where_well ended (after ≡ mid) quiet well ∙ same)
+still_quiet words (Holds options) ended told mid after asks same quiet well =
+    inl (where_well ended (after ≡ mid) quiet well ∙ same)
+still_quiet words (Show form) ended told mid after asks same quiet well =
+    inl (where_well ended (after ≡ mid) quiet well ∙ same)

@@ -1,6 +1,7 @@
 -- Why a book is not opened.
 use Rattle.acq_commands.specs.declared.fault.Fault.{Fault}
-use Rattle.acq_commands.specs.declared.fault.Fault.TheVariants.{Memory, Store, NotABook, OtherVersion}
+use Rattle.acq_commands.specs.declared.fault.Fault.TheVariants.{Memory, Store, NotABook}
+use Rattle.acq_commands.specs.declared.fault.Fault.TheVariants.{OtherVersion}
 
 -- why a book was not opened or made: memory, its store, or that the file holds none of this version
 abbrev pub IsOpening : Fault → Type 0

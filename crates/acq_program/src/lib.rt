@@ -2,7 +2,7 @@
 //!
 //! [`command`] is one run of it. What a run finds on its machine, files and ports, stands behind
 //! [`Machine`]; the moments at which messages come are told by a clock, as [`SystemClock`] is one,
-//! and how far a long run is is shown by [`TerminalProgress`].
+//! and [`TerminalProgress`] shows how far a long run is.
 #![tactic(auto)]
 
 mod machine;

@@ -8,7 +8,8 @@ use acq_stand_in::StandIn;
 use day_totals::Day;
 use std::alloc::Global;
 
-/// What a command finds on its machine: files, by their paths, and ports. `B` is the book in a file.
+/// What a command finds on its machine: files, by their paths, and ports. `B` is the book in a
+/// file.
 pub trait Machine<B: Book + Drop>: Sized {
     ghost use Rattle.std.specs.Prelude.{◌≡◌, IfErr, IfOk};
     ghost use Rattle.acq_core.specs.Pasts.{HasPast};

@@ -340,7 +340,8 @@ fn replay_in_file<B: Book + Drop, M: Machine<B> + Drop, S: Source, K: Sink, P: P
     )
 }
 
-/// Writes what clap says of the arguments, help and the version to `output`, and returns the status.
+/// Writes what clap says of the arguments, help and the version to `output`, and returns the
+/// status.
 fn tell<K: Sink, F: Sink>(said: &clap::Error, output: &mut K, faults: &mut F) -> u8
     ensures status { result ≤ 3 }
     ensures memory { kind_of said.now ≡ OutOfMemory

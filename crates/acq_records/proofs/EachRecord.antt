@@ -10,12 +10,14 @@ use Rattle.acq_records.specs.Records.{Spelling, values_of_text, Spell, IsFirstBa
 use Rattle.acq_records.proofs.RecordsRead.{is_good}
 
 -- where all are good, each spells a value
-all_spell : {V : Type 0} (spelled : Spelling V) (rows : List (List (List ℕ))) → prefix_len (is_good spelled) rows ≡ length rows
+all_spell : {V : Type 0} (spelled : Spelling V) (rows : List (List (List ℕ))) →
+    prefix_len (is_good spelled) rows ≡ length rows
     → Spell spelled rows (filter_map spelled rows)
 all_spell {V} spelled [] h = refl
 all_spell {V} spelled (r ∷ rows) h = by_value (all_spell spelled rows) (spelled r) refl
   where
-    by_value : (prefix_len (is_good spelled) rows ≡ length rows → Spell spelled rows (filter_map spelled rows))
+    by_value : (prefix_len (is_good spelled) rows ≡ length rows →
+        Spell spelled rows (filter_map spelled rows))
         → (o : Option V) → spelled r ≡ o → Spell spelled (r ∷ rows) (filter_map spelled (r ∷ rows))
     by_value later None is = let e : 0 ≡ suc (length rows) = rw is at h in absurd (omega (arith, e))
     by_value later (Some value) is =
@@ -24,12 +26,14 @@ all_spell {V} spelled (r ∷ rows) h = by_value (all_spell spelled rows) (spelle
         rw (is, rest) refl
 
 -- where not all are good, the first that isn't stands behind good ones
-first_bad : {V : Type 0} (spelled : Spelling V) (rows : List (List (List ℕ))) → prefix_len (is_good spelled) rows < length rows
+first_bad : {V : Type 0} (spelled : Spelling V) (rows : List (List (List ℕ))) →
+    prefix_len (is_good spelled) rows < length rows
     → IsFirstBad spelled rows (prefix_len (is_good spelled) rows + 1)
 first_bad {V} spelled [] h = absurd (omega arith)
 first_bad {V} spelled (r ∷ rows) h = by_value (first_bad spelled rows) (spelled r) refl
   where
-    by_value : (prefix_len (is_good spelled) rows < length rows → IsFirstBad spelled rows (prefix_len (is_good spelled) rows + 1))
+    by_value : (prefix_len (is_good spelled) rows < length rows →
+        IsFirstBad spelled rows (prefix_len (is_good spelled) rows + 1))
         → (o : Option V) → spelled r ≡ o
         → IsFirstBad spelled (r ∷ rows) (prefix_len (is_good spelled) (r ∷ rows) + 1)
     by_value later None is =
@@ -45,7 +49,8 @@ first_bad {V} spelled (r ∷ rows) h = by_value (first_bad spelled rows) (spelle
           spell = refl;
         }
     by_value later (Some value) is =
-        let one : prefix_len (is_good spelled) (r ∷ rows) ≡ 1 + prefix_len (is_good spelled) rows = rw is refl in
+        let one : prefix_len (is_good spelled) (r ∷ rows) ≡ 1 + prefix_len (is_good spelled) rows =
+        rw is refl in
         let rest = later (omega (arith, one, h)) in
         record {
           before = r ∷ rest.before;
@@ -59,12 +64,14 @@ first_bad {V} spelled (r ∷ rows) h = by_value (first_bad spelled rows) (spelle
               ∙ ap (λ (later : List (Option V)). Some value ∷ later) rest.spell;
         }
 
-pub text_spells : {V : Type 0} (spelled : Spelling V) (text : List ℕ) (values : List V) → values_of_text spelled text ≡ Ok values
+pub text_spells : {V : Type 0} (spelled : Spelling V) (text : List ℕ) (values : List V) →
+    values_of_text spelled text ≡ Ok values
     → Spell spelled (records_of text) values
 text_spells {V} spelled text values h =
     let rows = records_of text in
     elim (cases_Bool (leb (suc (prefix_len (is_good spelled) rows)) (length rows))) [
-      | inl bad ↦ let e : Err (prefix_len (is_good spelled) rows + 1) ≡ Ok values = rw bad at h in absurd cc
+      | inl bad ↦ let e : Err (prefix_len (is_good spelled) rows + 1) ≡ Ok values = rw bad at h in
+          absurd cc
       | inr good ↦
           let e : Ok (filter_map spelled rows) ≡ Ok values = rw good at h in
           let same : filter_map spelled rows ≡ values = cc in
@@ -73,7 +80,8 @@ text_spells {V} spelled text values h =
           rw (← same) (all_spell spelled rows (omega (arith, most, least)))
     ]
 
-pub text_is_bad : {V : Type 0} (spelled : Spelling V) (text : List ℕ) (n : ℕ) → values_of_text spelled text ≡ Err n → IsFirstBad spelled (records_of text) n
+pub text_is_bad : {V : Type 0} (spelled : Spelling V) (text : List ℕ) (n : ℕ) →
+    values_of_text spelled text ≡ Err n → IsFirstBad spelled (records_of text) n
 text_is_bad {V} spelled text n h =
     let rows = records_of text in
     elim (cases_Bool (leb (suc (prefix_len (is_good spelled) rows)) (length rows))) [

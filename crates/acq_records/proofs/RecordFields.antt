@@ -10,8 +10,10 @@ field_there (f ∷ fs) zero lt h = let e : Some f ≡ None = h in cc
 field_there (f ∷ fs) (suc i) lt h = field_there fs i (omega arith) h
 
 -- a record of six has these six
-pub fields_six : (fs : List (List ℕ)) (a b c d e f : List ℕ) → length fs ≡ 6 → field_at fs 0 ≡ Some a
-    → field_at fs 1 ≡ Some b → field_at fs 2 ≡ Some c → field_at fs 3 ≡ Some d → field_at fs 4 ≡ Some e
+pub fields_six : (fs : List (List ℕ)) (a b c d e f : List ℕ) → length fs ≡ 6 →
+    field_at fs 0 ≡ Some a
+    → field_at fs 1 ≡ Some b → field_at fs 2 ≡ Some c → field_at fs 3 ≡ Some d →
+    field_at fs 4 ≡ Some e
     → field_at fs 5 ≡ Some f → fs ≡ a ∷ b ∷ c ∷ d ∷ e ∷ f ∷ []
 unfolding field_at
 fields_six [] a b c d e f six h0 h1 h2 h3 h4 h5 = absurd (omega (arith, six))
@@ -28,7 +30,8 @@ fields_six (p ∷ q ∷ r ∷ s ∷ t ∷ u ∷ []) a b c d e f six h0 h1 h2 h3 
     let e4 : Some t ≡ Some e = h4 in
     let e5 : Some u ≡ Some f = h5 in
     cc
-fields_six (p ∷ q ∷ r ∷ s ∷ t ∷ u ∷ v ∷ more) a b c d e f six h0 h1 h2 h3 h4 h5 = absurd (omega (arith, six))
+fields_six (p ∷ q ∷ r ∷ s ∷ t ∷ u ∷ v ∷ more) a b c d e f six h0 h1 h2 h3 h4 h5 =
+    absurd (omega (arith, six))
 
 -- a record of three has these three
 pub fields_three : (fs : List (List ℕ)) (a b c : List ℕ) → length fs ≡ 3 → field_at fs 0 ≡ Some a

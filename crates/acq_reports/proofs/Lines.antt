@@ -14,7 +14,8 @@ use Rattle.acq_reports.specs.declared.report.Report.{Report}
 use Rattle.acq_reports.specs.declared.report_fault.ReportFault.{ReportFault}
 use Rattle.acq_reports.specs.declared.stop.Stop.TheVariants as stop
 use Rattle.acq_reports.specs.Faults.{failed_writes}
-use Rattle.acq_reports.specs.Writing.{WentOut, StoppedAfter, Puts, PutsReport, Reports, Writes, end_of}
+use Rattle.acq_reports.specs.Writing.{WentOut, StoppedAfter, Puts, PutsReport, Reports, Writes}
+use Rattle.acq_reports.specs.Writing.{end_of}
 
 module _ {K : Type 0} (sent : K → List ℕ) (failures : K → ℕ) where
   -- nothing more, as far as it goes
@@ -28,7 +29,8 @@ module _ {K : Type 0} (sent : K → List ℕ) (failures : K → ℕ) where
   }
 
   -- two texts
-  pub went_more : (a b : List ℕ) (x y z : Report K) → WentOut sent failures a x y → WentOut sent failures b y z
+  pub went_more : (a b : List ℕ) (x y z : Report K) → WentOut sent failures a x y →
+      WentOut sent failures b y z
       → WentOut sent failures (a ++ b) x z
   went_more a b x y z first second = record {
     same_writer = second.same_writer ∙ first.same_writer;
@@ -63,7 +65,8 @@ module _ {K : Type 0} (sent : K → List ℕ) (failures : K → ℕ) where
           ⊎ ((z.stop ≡ Some (stop.Write (y.written + n))) × (n < length b)
           × (failures z.writer.now ≡ failures y.writer.now + 1))
           → ((z.stop ≡ Some stop.Memory) × (failures z.writer.now ≡ failures x.writer.now))
-          ⊎ ((z.stop ≡ Some (stop.Write (x.written + (length a + n)))) × (length a + n < length (a ++ b))
+          ⊎ ((z.stop ≡ Some (stop.Write (x.written + (length a + n))))
+          × (length a + n < length (a ++ b))
           × (failures z.writer.now ≡ failures x.writer.now + 1))
       reason (inl memory) = inl (memory.0, memory.1 ∙ first.failed)
       reason (inr write) =
@@ -86,7 +89,8 @@ module _ {K : Type 0} (sent : K → List ℕ) (failures : K → ℕ) where
         let len = length-append a b in
         let le = stopped.within in
         omega arith;
-    out = stopped.out ∙ ap (λ t. sent x.writer.now ++ t) (sym (take-append-le n a b stopped.within));
+    out = stopped.out ∙ ap (λ t. sent x.writer.now ++ t)
+        (sym (take-append-le n a b stopped.within));
     why = reason stopped.why;
   }
     where
@@ -104,7 +108,8 @@ module _ {K : Type 0} (sent : K → List ℕ) (failures : K → ℕ) where
 
   -- a text went out, or not all of it
   abbrev pub Outcome : List ℕ → Report K → Report K → Type 0
-  Outcome text x z = WentOut sent failures text x z ⊎ ((n : ℕ) × StoppedAfter sent failures text x z n)
+  Outcome text x z = WentOut sent failures text x z
+      ⊎ ((n : ℕ) × StoppedAfter sent failures text x z n)
 
   pub outcome_more : (a b : List ℕ) (x y z : Report K) → WentOut sent failures a x y → Outcome b y z
       → Outcome (a ++ b) x z
@@ -131,7 +136,8 @@ module _ {K : Type 0} (sent : K → List ℕ) (failures : K → ℕ) where
     rest.2 ∙ first.failed,
   )
 
-  pub progress_stopped : (a b : List ℕ) (x z : Report K) (n : ℕ) → StoppedAfter sent failures a x z n
+  pub progress_stopped : (a b : List ℕ) (x z : Report K) (n : ℕ) →
+      StoppedAfter sent failures a x z n
       → Progress (a ++ b) x z (Ok tt)
   progress_stopped a b x z n stopped = inr (n, stopped_more a b x z n stopped)
 
@@ -165,12 +171,14 @@ module _ {K : Type 0} (sent : K → List ℕ) (failures : K → ℕ) where
       subst (λ s. Tells text x z (end_of (Ok tt) s))
       (sym (write.0 ∙ ap (λ m. Some (stop.Write m)) all)) ((refl, write.1, out), write.2)
 
-  told : (text : List ℕ) (x z : Report K) (w : Result (Unit {0}) BookFault) → x.written ≡ 0 → x.stop ≡ None
+  told : (text : List ℕ) (x z : Report K) (w : Result (Unit {0}) BookFault) → x.written ≡ 0 →
+      x.stop ≡ None
       → Progress text x z w → Tells text x z (end_of w z.stop)
   told text x z (Ok tt) fresh begun (inl went) =
       let same = went.failed in
       let count : failures z.writer.now ≡ failures x.writer.now + 0 = omega arith in
-      subst (λ s. Tells text x z (end_of (Ok tt) s)) (sym (went.stop ∙ begun)) ((refl, went.out), count)
+      subst (λ s. Tells text x z (end_of (Ok tt) s)) (sym (went.stop ∙ begun))
+      ((refl, went.out), count)
   told text x z (Ok tt) fresh begun (inr stopped) =
       told-stopped text x z stopped.0 fresh stopped.1.out stopped.1.why
   told text x z (Err book.TheVariants.Memory) fresh begun rest =
@@ -182,7 +190,8 @@ module _ {K : Type 0} (sent : K → List ℕ) (failures : K → ℕ) where
       let count : failures z.writer.now ≡ failures x.writer.now + 0 = omega arith in
       (rest.1, count)
 
-  same_name : (text : List ℕ) (x z : Report K) (w : Result (Unit {0}) BookFault) → Progress text x z w
+  same_name : (text : List ℕ) (x z : Report K) (w : Result (Unit {0}) BookFault) →
+      Progress text x z w
       → x.writer.ghost_name ≡ z.writer.ghost_name
   same_name text x z (Ok u) (inl went) = sym went.same_writer
   same_name text x z (Ok u) (inr stopped) = sym stopped.1.same_writer
@@ -190,7 +199,8 @@ module _ {K : Type 0} (sent : K → List ℕ) (failures : K → ℕ) where
 
   -- the same of what it was written to, which is `first` before and `last` after
   pub finished : (text : List ℕ) (x z : Report K) (w : Result (Unit {0}) BookFault) (first last : K)
-      (result : Result (Unit {0}) ReportFault) → x.written ≡ 0 → x.stop ≡ None → x.writer.now ≡ first
+      (result : Result (Unit {0}) ReportFault) → x.written ≡ 0 → x.stop ≡ None →
+      x.writer.now ≡ first
       → (x.writer.ghost_name ≡ z.writer.ghost_name → last ≡ z.writer.now) → result ≡ end_of w z.stop
       → Progress text x z w
       → Writes sent failures text first last result
@@ -199,7 +209,8 @@ module _ {K : Type 0} (sent : K → List ℕ) (failures : K → ℕ) where
       let same = ends (same_name text x z w rest) in
       rw (is, same, ← starts) tells
 
-module _ {K Row V : Type 0} (sent : K → List ℕ) (failures : K → ℕ) (report : V → Report K) (line : Row → List ℕ)
+module _ {K Row V : Type 0} (sent : K → List ℕ) (failures : K → ℕ) (report : V → Report K)
+    (line : Row → List ℕ)
     (Keeps : V → Type 0) (sees : V → Row → Bool → V → Type 0)
     (puts : (v : V) (row : Row) (more : Bool) (w : V) → Keeps v → sees v row more w
     → Puts sent failures (line row) (report v) more (report w) × Keeps w) where
@@ -207,7 +218,8 @@ module _ {K Row V : Type 0} (sent : K → List ℕ) (failures : K → ℕ) (repo
   pub all_out : (rows : List Row) (v w : V) → Keeps v → Saw sees rows v w
       → WentOut sent failures (flat_map line rows) (report v) (report w)
   all_out [] v w kept same =
-      subst (λ u. WentOut sent failures [] (report v) (report u)) same (went_nothing sent failures (report v))
+      subst (λ u. WentOut sent failures [] (report v) (report u)) same
+      (went_nothing sent failures (report v))
   all_out (row ∷ rows) v w kept (u, seen, rest) =
       let one = puts v row true u kept seen in
       went_more sent failures (line row) (flat_map line rows) (report v) (report u) (report w) one.0
@@ -217,16 +229,19 @@ module _ {K Row V : Type 0} (sent : K → List ℕ) (failures : K → ℕ) (repo
   pub walked : (rows : List Row) (v w : V) → Keeps v → SawAll sees rows v w
       → Outcome sent failures (flat_map line rows) (report v) (report w)
   walked [] v w kept same =
-      inl (subst (λ u. WentOut sent failures [] (report v) (report u)) same (went_nothing sent failures (report v)))
+      inl (subst (λ u. WentOut sent failures [] (report v) (report u)) same
+      (went_nothing sent failures (report v)))
   walked (row ∷ rows) v w kept (inl (u, seen, rest)) =
       let one = puts v row true u kept seen in
-      outcome_more sent failures (line row) (flat_map line rows) (report v) (report u) (report w) one.0
+      outcome_more sent failures (line row) (flat_map line rows) (report v) (report u)
+      (report w) one.0
       (walked rows u w one.1 rest)
   walked (row ∷ rows) v w kept (inr seen) =
       let one = puts v row false w kept seen in
       inr (
         one.0.0,
-        stopped_more sent failures (line row) (flat_map line rows) (report v) (report w) one.0.0 one.0.1,
+        stopped_more sent failures (line row) (flat_map line rows) (report v)
+            (report w) one.0.0 one.0.1,
       )
 
   -- after a part of a walk a beginning of them did
@@ -237,7 +252,8 @@ module _ {K Row V : Type 0} (sent : K → List ℕ) (failures : K → ℕ) (repo
       let front = flat_map line (take n rows) in
       let back = flat_map line (drop n rows) in
       let whole : flat_map line rows ≡ front ++ back =
-      ap (flat_map line) (sym (take-append-drop n rows)) ∙ flat_map-append line (take n rows) (drop n rows) in (
+      ap (flat_map line) (sym (take-append-drop n rows)) ∙ flat_map-append line (take n rows)
+      (drop n rows) in (
         went.same_writer,
         (
           length front,

@@ -1,6 +1,8 @@
 -- The merchants' lines, as far as the loop over their names has come, and the lines around them.
-use Rattle.std.proofs.Common.{◌≡◌, ℕ, ◌+◌, ◌<◌, List, [], ◌∷◌, ◌++◌, take, drop, length, slice_index_or}
-use Rattle.std.proofs.Common.{Bool, true, false, inl, inr, sym, ap, ◌∙◌, subst, add-one, append_assoc, append-nil}
+use Rattle.std.proofs.Common.{◌≡◌, ℕ, ◌+◌, ◌<◌, List, [], ◌∷◌, ◌++◌, take, drop, length}
+use Rattle.std.proofs.Common.{slice_index_or}
+use Rattle.std.proofs.Common.{Bool, true, false, inl, inr, sym, ap, ◌∙◌, subst, add-one}
+use Rattle.std.proofs.Common.{append_assoc, append-nil}
 use Rattle.std.proofs.lemmas.List.{take-append-drop}
 use Rattle.std.proofs.lemmas.Grind.{flat_map-append}
 use Rattle.std.proofs.Math.Seq.{take-suc, take-append_seam}
@@ -9,57 +11,65 @@ use Rattle.std.specs.List.{flat_map}
 use Rattle.acq_book.specs.declared.book_fault.BookFault.{BookFault}
 use Rattle.acq_reports.specs.declared.report.Report.{Report}
 use Rattle.acq_reports.specs.Writing.{WentOut, StoppedAfter, Puts, PutsReport, Begins}
-use Rattle.acq_reports.proofs.Lines.{Outcome, went_more, went_stopped, stopped_more, outcome_more, progress_more}
+use Rattle.acq_reports.proofs.Lines.{Outcome, went_more, went_stopped, stopped_more, outcome_more}
+use Rattle.acq_reports.proofs.Lines.{progress_more}
 use Rattle.acq_reports.proofs.Lines.{begins_part}
 
-take_next : (names : List (List ℕ)) (i : ℕ) (name : List ℕ) → i < length names → name ≡ slice_index_or names i name
+take_next : (names : List (List ℕ)) (i : ℕ) (name : List ℕ) → i < length names →
+    name ≡ slice_index_or names i name
     → take (i + 1) names ≡ take i names ++ name ∷ []
 take_next names i name within is =
     rw (add-one, take-suc names i name within) (ap (λ x. take i names ++ x ∷ []) (sym is))
 
-module _ {K : Type 0} (sent : K → List ℕ) (failures : K → ℕ) (line : List ℕ → List ℕ) (names : List (List ℕ))
-    (i : ℕ) (name : List ℕ) (within : i < length names) (is : name ≡ slice_index_or names i name) where
-  -- the lines before this one
-  abbrev front : List ℕ
-  front = flat_map line (take i names)
+module _ {K : Type 0} (sent : K → List ℕ) (failures : K → ℕ) (line : List ℕ → List ℕ)
+    (names : List (List ℕ))
+    (i : ℕ) (name : List ℕ) (within : i < length names) (is : name ≡ slice_index_or names i name)
+  where
+    -- the lines before this one
+    abbrev front : List ℕ
+    front = flat_map line (take i names)
 
-  next_lines : flat_map line (take (i + 1) names) ≡ front ++ line name
-  next_lines =
-      ap (flat_map line) (take_next names i name within is)
-      ∙ (flat_map-append line (take i names) (name ∷ []) ∙ ap (λ t. front ++ t) (append-nil (line name)))
+    next_lines : flat_map line (take (i + 1) names) ≡ front ++ line name
+    next_lines =
+        ap (flat_map line) (take_next names i name within is)
+        ∙ (flat_map-append line (take i names) (name ∷ []) ∙ ap (λ t. front ++ t)
+        (append-nil (line name)))
 
-  all_lines : flat_map line names ≡ (front ++ line name) ++ flat_map line (drop (i + 1) names)
-  all_lines =
-      ap (flat_map line) (sym (take-append-drop (i + 1) names))
-      ∙ (flat_map-append line (take (i + 1) names) (drop (i + 1) names)
-      ∙ ap (λ t. t ++ flat_map line (drop (i + 1) names)) next_lines)
+    all_lines : flat_map line names ≡ (front ++ line name) ++ flat_map line (drop (i + 1) names)
+    all_lines =
+        ap (flat_map line) (sym (take-append-drop (i + 1) names))
+        ∙ (flat_map-append line (take (i + 1) names) (drop (i + 1) names)
+        ∙ ap (λ t. t ++ flat_map line (drop (i + 1) names)) next_lines)
 
-  from_here : flat_map line names ≡ front ++ flat_map line (drop i names)
-  from_here =
-      ap (flat_map line) (sym (take-append-drop i names)) ∙ flat_map-append line (take i names) (drop i names)
+    from_here : flat_map line names ≡ front ++ flat_map line (drop i names)
+    from_here =
+        ap (flat_map line) (sym (take-append-drop i names)) ∙ flat_map-append line (take i names)
+        (drop i names)
 
-  pub went_here : (x y z : Report K) → WentOut sent failures front x y → WentOut sent failures (line name) y z
-      → WentOut sent failures (flat_map line (take (i + 1) names)) x z
-  went_here x y z first second =
-      subst (λ t. WentOut sent failures t x z) (sym next_lines)
-      (went_more sent failures front (line name) x y z first second)
+    pub went_here : (x y z : Report K) → WentOut sent failures front x y →
+        WentOut sent failures (line name) y z
+        → WentOut sent failures (flat_map line (take (i + 1) names)) x z
+    went_here x y z first second =
+        subst (λ t. WentOut sent failures t x z) (sym next_lines)
+        (went_more sent failures front (line name) x y z first second)
 
-  pub stopped_here : (x y z : Report K) → WentOut sent failures front x y
-      → (n : ℕ) × StoppedAfter sent failures (line name) y z n
-      → (n : ℕ) × StoppedAfter sent failures (flat_map line names) x z n
-  stopped_here x y z first (n, second) = (
-    length front + n,
-    subst (λ t. StoppedAfter sent failures t x z (length front + n)) (sym all_lines)
-        (stopped_more sent failures (front ++ line name) (flat_map line (drop (i + 1) names)) x z (length front + n)
-        (went_stopped sent failures front (line name) x y z n first second)),
-  )
+    pub stopped_here : (x y z : Report K) → WentOut sent failures front x y
+        → (n : ℕ) × StoppedAfter sent failures (line name) y z n
+        → (n : ℕ) × StoppedAfter sent failures (flat_map line names) x z n
+    stopped_here x y z first (n, second) = (
+      length front + n,
+      subst (λ t. StoppedAfter sent failures t x z (length front + n)) (sym all_lines)
+          (stopped_more sent failures (front ++ line name) (flat_map line (drop (i + 1) names)) x z
+          (length front + n)
+          (went_stopped sent failures front (line name) x y z n first second)),
+    )
 
-  pub failed_here : (x y z : Report K) (f : BookFault) → WentOut sent failures front x y → z ≡ y
-      → PutsReport sent failures (flat_map line names) x z (Err f)
-  failed_here x y z f first same =
-      subst (λ r. PutsReport sent failures (flat_map line names) x r (Err f)) (sym same)
-      (subst (λ t. PutsReport sent failures t x y (Err f)) (sym from_here)
-      (begins_part sent failures front (flat_map line (drop i names)) x y f first))
+    pub failed_here : (x y z : Report K) (f : BookFault) → WentOut sent failures front x y → z ≡ y
+        → PutsReport sent failures (flat_map line names) x z (Err f)
+    failed_here x y z f first same =
+        subst (λ r. PutsReport sent failures (flat_map line names) x r (Err f)) (sym same)
+        (subst (λ t. PutsReport sent failures t x y (Err f)) (sym from_here)
+        (begins_part sent failures front (flat_map line (drop i names)) x y f first))
 
 module _ {K : Type 0} (sent : K → List ℕ) (failures : K → ℕ) (first lines last : List ℕ) where
   -- a beginning of a text is one of a longer text
@@ -70,7 +80,8 @@ module _ {K : Type 0} (sent : K → List ℕ) (failures : K → ℕ) (first line
         length (take n a),
         is
             ∙ ap (λ t. old ++ t)
-            (sym (take-append_seam (take n a) (drop n a ++ b)) ∙ ap (take (length (take n a))) whole),
+            (sym (take-append_seam (take n a) (drop n a ++ b))
+            ∙ ap (take (length (take n a))) whole),
       )
 
   puts_outcome : (text : List ℕ) (x z : Report K) (more : Bool) → Puts sent failures text x more z
@@ -101,4 +112,5 @@ module _ {K : Type 0} (sent : K → List ℕ) (failures : K → ℕ) (first line
 
   pub stopped_first : (x y : Report K) → (n : ℕ) × StoppedAfter sent failures first x y n
       → Outcome sent failures (first ++ (lines ++ last)) x y
-  stopped_first x y (n, stopped) = inr (n, stopped_more sent failures first (lines ++ last) x y n stopped)
+  stopped_first x y (n, stopped) =
+      inr (n, stopped_more sent failures first (lines ++ last) x y n stopped)

@@ -1,11 +1,13 @@
 -- Sums by leg don't depend on the order of the postings.
-use Rattle.std.proofs.Common.{◌≡◌, ℕ, ◌+◌, List, [], ◌∷◌, Bool, true, false, cond, length, map, filter, refl, sym, ap, ◌∙◌, arith}
+use Rattle.std.proofs.Common.{◌≡◌, ℕ, ◌+◌, List, [], ◌∷◌, Bool, true, false, cond, length, map}
+use Rattle.std.proofs.Common.{filter, refl, sym, ap, ◌∙◌, arith}
 use Rattle.std.specs.Prelude.{◌==◌, ◌&&◌, sum}
 use Rattle.std.proofs.lemmas.List.Elements.{filter_agree}
 use Rattle.std.proofs.lemmas.List.Sums.{sum_by-cons}
 use Rattle.std.specs.Str.{bytes_eq}
 use Rattle.day_totals.specs.declared.leg.Leg.{Leg}
-use Rattle.day_totals.specs.declared.leg.Leg.TheVariants.{Credit, CreditReversal, Debit, DebitReversal}
+use Rattle.day_totals.specs.declared.leg.Leg.TheVariants.{Credit, CreditReversal, Debit}
+use Rattle.day_totals.specs.declared.leg.Leg.TheVariants.{DebitReversal}
 use Rattle.day_totals.specs.Totals.{same_leg, leg_amounts, leg_total_of, totals_of}
 use Rattle.acq_core.specs.declared.posting.Posting.{Posting}
 use Rattle.acq_core.specs.Tables.{Tables, postings_of}
@@ -18,7 +20,8 @@ use Rattle.acq_book.specs.Order.{put_in_order, in_order}
 abbrev Adds : {X : Type 0} → (List X → ℕ) → (X → ℕ) → Type 0
 Adds {X} total worth = (x : X) (xs : List X) → total (x ∷ xs) ≡ worth x + total xs
 
-module _ {X : Type 0} (before : X → X → Bool) (total : List X → ℕ) (worth : X → ℕ) (adds : Adds total worth) where
+module _ {X : Type 0} (before : X → X → Bool) (total : List X → ℕ) (worth : X → ℕ)
+    (adds : Adds total worth) where
   put_adds : (x : X) (ys : List X) → total (put_in_order before x ys) ≡ worth x + total ys
   put_adds x [] = adds x []
   put_adds x (y ∷ ys) =
@@ -52,13 +55,17 @@ abbrev amounts_where : (ℕ × Posting → Bool) → Leg → List (ℕ × Postin
 amounts_where p leg rows = leg_amounts leg (map leg_and_amount (filter p rows))
 
 -- what a row adds to them, if it passes
-amounts-cons : (of : List ℕ → ℕ) (worth : ℕ → ℕ) → ((n : ℕ) (ns : List ℕ) → of (n ∷ ns) ≡ worth n + of ns) →
+amounts-cons : (of : List ℕ → ℕ) (worth : ℕ → ℕ) →
+    ((n : ℕ) (ns : List ℕ) → of (n ∷ ns) ≡ worth n + of ns) →
     (p : ℕ × Posting → Bool) (leg : Leg) →
     Adds (λ rows. of (amounts_where p leg rows))
     (λ row. cond (p row) (cond (same_leg leg row.1.leg) (worth row.1.amount) 0) 0)
 amounts-cons of worth adds p leg row rows =
-    elim (p row) as (λ b. of (leg_amounts leg (map leg_and_amount (cond b (row ∷ filter p rows) (filter p rows))))
-    ≡ cond b (cond (same_leg leg row.1.leg) (worth row.1.amount) 0) 0 + of (amounts_where p leg rows)) [
+    elim (p row) as
+    (λ b. of (leg_amounts leg
+    (map leg_and_amount (cond b (row ∷ filter p rows) (filter p rows))))
+    ≡ cond b (cond (same_leg leg row.1.leg) (worth row.1.amount) 0) 0 + of
+    (amounts_where p leg rows)) [
       | true ↦
           elim (same_leg leg row.1.leg)
           as (λ c. of (map (λ q. q.1) (cond c
@@ -81,12 +88,15 @@ leg_in_order before p leg rows =
     in_order_adds before (λ l. length (amounts_where p leg l)) _
     (amounts-cons length (λ n. 1) (λ n ns. omega arith) p leg) rows in
     let sums =
-    in_order_adds before (λ l. sum (amounts_where p leg l)) _ (amounts-cons sum (λ n. n) (sum_by-cons (λ n. n)) p leg)
+    in_order_adds before (λ l. sum (amounts_where p leg l)) _
+    (amounts-cons sum (λ n. n) (sum_by-cons (λ n. n)) p leg)
     rows in
     λ i. record { count = counts i; amount = sums i }
 
-totals_in_order : (before : ℕ × Posting → ℕ × Posting → Bool) (p : ℕ × Posting → Bool) (rows : List (ℕ × Posting)) →
-    totals_of (map leg_and_amount (filter p (in_order before rows))) ≡ totals_of (map leg_and_amount (filter p rows))
+totals_in_order : (before : ℕ × Posting → ℕ × Posting → Bool) (p : ℕ × Posting → Bool)
+    (rows : List (ℕ × Posting)) →
+    totals_of (map leg_and_amount (filter p (in_order before rows)))
+    ≡ totals_of (map leg_and_amount (filter p rows))
 unfolding totals_of
 totals_in_order before p rows =
     let same = λ (leg : Leg). leg_in_order before p leg rows in
@@ -100,20 +110,24 @@ totals_in_order before p rows =
 -- ---- a merchant's day
 
 -- two filters are one
-both_filters : {X : Type 0} (p q : X → Bool) (xs : List X) → filter p (filter q xs) ≡ filter (λ x. q x && p x) xs
+both_filters : {X : Type 0} (p q : X → Bool) (xs : List X) →
+    filter p (filter q xs) ≡ filter (λ x. q x && p x) xs
 both_filters p q [] = refl
 both_filters p q (x ∷ xs) =
     let rest = both_filters p q xs in
     let all = filter (λ y. q y && p y) xs in
-    elim (q x) as (λ b. filter p (cond b (x ∷ filter q xs) (filter q xs)) ≡ cond (b && p x) (x ∷ all) all) [
+    elim (q x) as
+    (λ b. filter p (cond b (x ∷ filter q xs) (filter q xs)) ≡ cond (b && p x) (x ∷ all) all) [
       | true ↦ ap (λ l. cond (p x) (x ∷ l) l) rest
       | false ↦ rest
     ]
 
 -- of which either may come first
-filters_swap : {X : Type 0} (p q : X → Bool) (xs : List X) → filter p (filter q xs) ≡ filter q (filter p xs)
+filters_swap : {X : Type 0} (p q : X → Bool) (xs : List X) →
+    filter p (filter q xs) ≡ filter q (filter p xs)
 filters_swap p q xs =
-    both_filters p q xs ∙ (filter_agree _ _ (λ x. and_swap (q x) (p x)) xs ∙ sym (both_filters q p xs))
+    both_filters p q xs
+    ∙ (filter_agree _ _ (λ x. and_swap (q x) (p x)) xs ∙ sym (both_filters q p xs))
   where
     and_swap : (a b : Bool) → (a && b) ≡ (b && a)
     and_swap true true = refl
@@ -125,6 +139,7 @@ filters_swap p q xs =
 pub totals_of_day : (t : Tables) (m : List ℕ) (day : ℕ) →
     totals_of (map leg_and_amount (postings_of m (postings_at t day))) ≡ totals_at t m day
 totals_of_day t m day =
-    totals_in_order is_posting_before (λ row. bytes_eq row.1.merchant m) (filter (λ row. row.1.day == day) t.postings)
+    totals_in_order is_posting_before (λ row. bytes_eq row.1.merchant m)
+    (filter (λ row. row.1.day == day) t.postings)
     ∙ ap (λ l. totals_of (map leg_and_amount l))
     (filters_swap (λ row. bytes_eq row.1.merchant m) (λ row. row.1.day == day) t.postings)

@@ -1,5 +1,6 @@
 -- What is shown of contents that differ in what is hidden alone.
-use Rattle.std.proofs.Common.{◌≡◌, ℕ, ◌-◌, List, [], ◌∷◌, ◌++◌, length, Option, Some, None, Ok, Err, refl, sym, ap, ◌∙◌, inl, inr}
+use Rattle.std.proofs.Common.{◌≡◌, ℕ, ◌-◌, List, [], ◌∷◌, ◌++◌, length, Option, Some, None, Ok, Err}
+use Rattle.std.proofs.Common.{refl, sym, ap, ◌∙◌, inl, inr}
 use Rattle.std.specs.Prelude.{replicate, nat_le, if◌then◌else◌, flat_map, take, drop, codes, ◌⊎◌}
 use Rattle.std.proofs.lemmas.List.Concat.{flat_map-cons}
 use Rattle.iso_codec.specs.declared.decode_fault.DecodeFault.{DecodeFault}
@@ -8,12 +9,14 @@ use Rattle.iso_codec.specs.Reading.{reading_of}
 use Rattle.iso_codec.specs.FaultPlaces.{fault_place}
 use Rattle.card_no.specs.Track2.{track2_of}
 use Rattle.acq_show.specs.Contents.{stars, number_shown, parts_shown, length_shown, content_shown}
-use Rattle.acq_show.specs.Hidden.{LookAlike, PartsLookAlike, DifferHidden, Equal, CardNumbers, Tracks, Lengths, EachDiffersHidden}
+use Rattle.acq_show.specs.Hidden.{LookAlike, PartsLookAlike, DifferHidden, Equal, CardNumbers}
+use Rattle.acq_show.specs.Hidden.{Tracks, Lengths, EachDiffersHidden}
 use Rattle.acq_show.specs.Shown.{shown, type_line, element_line, fault_line}
 
 -- what is shown of a number, by its length and its ends
 abbrev by_ends : ℕ → List ℕ → List ℕ → List ℕ
-by_ends size first last = if nat_le 13 size then first ++ replicate (size - 10) 42 ++ last else stars size
+by_ends size first last = if nat_le 13 size then first ++ replicate (size - 10) 42
+    ++ last else stars size
 
 numbers_alike : (a b : List ℕ) → LookAlike a b → number_shown a ≡ number_shown b
 numbers_alike a b h =
@@ -38,7 +41,8 @@ lengths_alike n a b (inl is) size = rw is (ap length_shown size)
 lengths_alike n a b (inr (inl is)) size = rw is (ap length_shown size)
 lengths_alike n a b (inr (inr is)) size = rw is (ap length_shown size)
 
-pub contents_alike : (n : ℕ) (a b : List ℕ) → DifferHidden n a b → content_shown n a ≡ content_shown n b
+pub contents_alike : (n : ℕ) (a b : List ℕ) → DifferHidden n a b →
+    content_shown n a ≡ content_shown n b
 contents_alike n a b (Equal same) = ap (content_shown n) same
 contents_alike n a b (CardNumbers is h) = rw is (numbers_alike a b h)
 contents_alike n a b (Tracks is size h) =
@@ -55,18 +59,22 @@ lines_alike (e ∷ es) (f ∷ fs) h =
     let one : element_line e ≡ element_line f = line_alike e.0 e.1 f.1 h.1
     ∙ ap (λ (n : ℕ). element_line (n, f.1)) h.0 in
     flat_map-cons element_line e es ∙ ap (λ (x : List ℕ). x ++ flat_map element_line es) one
-    ∙ ap (λ (x : List ℕ). element_line f ++ x) (lines_alike es fs h.2) ∙ sym (flat_map-cons element_line f fs)
+    ∙ ap (λ (x : List ℕ). element_line f ++ x) (lines_alike es fs h.2)
+    ∙ sym (flat_map-cons element_line f fs)
 lines_alike [] (f ∷ fs) h = absurd h
 lines_alike (e ∷ es) [] h = absurd h
 
-pub messages_alike : (text other : List ℕ) (m n : IsoMessage) → reading_of text ≡ Ok m → reading_of other ≡ Ok n
+pub messages_alike : (text other : List ℕ) (m n : IsoMessage) → reading_of text ≡ Ok m →
+    reading_of other ≡ Ok n
     → m.kind ≡ n.kind → EachDiffersHidden m.elements n.elements → shown text ≡ shown other
 unfolding shown
 messages_alike text other m n read read' kinds h =
-    rw (read, read') (ap (λ (kind : List ℕ). type_line kind ++ flat_map element_line m.elements) kinds
+    rw (read, read')
+    (ap (λ (kind : List ℕ). type_line kind ++ flat_map element_line m.elements) kinds
     ∙ ap (λ (lines : List ℕ). type_line n.kind ++ lines) (lines_alike m.elements n.elements h))
 
-pub faults_alike : (text other : List ℕ) (f : DecodeFault) → reading_of text ≡ Err f → reading_of other ≡ Err f
+pub faults_alike : (text other : List ℕ) (f : DecodeFault) → reading_of text ≡ Err f →
+    reading_of other ≡ Err f
     → fault_place text f ≡ fault_place other f → shown text ≡ shown other
 unfolding shown
 faults_alike text other f read read' place = rw (read, read') (ap (fault_line f) place)

@@ -3,7 +3,8 @@ use Rattle.std.proofs.Common.{◌≡◌, ℕ, List, ◌++◌, Result, Ok, Err, a
 use Rattle.std.specs.Prelude.{OnOk, is_ok, if◌then◌else◌}
 
 -- five texts, put behind other bytes in turn, are the line that they make
-pub line_in_turn : (old one two three four five a b c d e f g : List ℕ) → one ≡ old ++ (a ++ b) → two ≡ one ++ c
+pub line_in_turn : (old one two three four five a b c d e f g : List ℕ) → one ≡ old ++ (a ++ b) →
+    two ≡ one ++ c
     → three ≡ two ++ (d ++ e) → four ≡ three ++ f → five ≡ four ++ g
     → five ≡ old ++ (a ++ b ++ c ++ d ++ e ++ f ++ g)
 line_in_turn old one two three four five a b c d e f g h1 h2 h3 h4 h5 =

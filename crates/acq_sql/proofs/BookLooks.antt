@@ -54,7 +54,8 @@ apart_of t (opening, book) =
 -- what is seen is what was committed
 abbrev pub IsSettled : {S : Type 0} → Ghosts S → Kept S → Type 0
 IsSettled g book =
-    IsTrue (state g book.connection).is_open → (state g book.connection).now ≡ (state g book.connection).committed
+    IsTrue (state g book.connection).is_open →
+    (state g book.connection).now ≡ (state g book.connection).committed
 
 module _ {S : Type 0} (g : Ghosts S) (old new : Kept S) (succeeded : Bool)
     (looks : LooksOnly (state g old.connection) (state g new.connection) succeeded)
@@ -78,7 +79,8 @@ module _ {S : Type 0} (g : Ghosts S) (old new : Kept S) (succeeded : Bool)
   now_kept : HasCleanDisk after → IsTrue after.is_open → after.now ≡ before.now
   now_kept clean opened =
       ⊎_elim (λ (same : IsUnchanged before after). same.0.now_is)
-      (λ back. (back.undone opened).0 ∙ sym (settled (was_open clean opened))) (looks.undone clean opened)
+      (λ back. (back.undone opened).0 ∙ sym (settled (was_open clean opened)))
+      (looks.undone clean opened)
 
   opened_before : is_open g new → is_open g old
   opened_before o =
@@ -108,7 +110,8 @@ module _ {S : Type 0} (g : Ghosts S) (old new : Kept S) (succeeded : Bool)
 
   -- what a look-up over the connection leaves, a look-up of the book leaves
   pub looks_at : old.failures ≤ new.failures
-      → Looks (tables g) (is_honest g) (is_open g) (may_leave g) (λ (b : Kept S). b.failures) old new succeeded
+      → Looks (tables g) (is_honest g) (is_open g) (may_leave g) (λ (b : Kept S). b.failures) old
+      new succeeded
   looks_at rise = record {
     was_honest = was_honest;
     was_open = opened_before;
@@ -124,9 +127,11 @@ module _ {S : Type 0} (g : Ghosts S) (old new : Kept S) (succeeded : Bool)
   }
 
   -- an answer over the tables that the database holds is one over the book's
-  value_at : {T : Type 0} (seen : Kept S) → old ≡ seen → (answer : Result T Error) (result : Result T BookFault)
+  value_at : {T : Type 0} (seen : Kept S) → old ≡ seen →
+      (answer : Result T Error) (result : Result T BookFault)
       (look : Tables → T)
-      → (HasCleanDisk after → (t : Tables) → Holds before.now t → HasPast t → IfOk answer (λ x. x ≡ look t))
+      → (HasCleanDisk after → (t : Tables) → Holds before.now t → HasPast t →
+      IfOk answer (λ x. x ≡ look t))
       → IfOk answer (λ x. result ≡ Ok x) → is_ok result ≡ is_ok answer → is_open g new
       → IfOk result (λ x. x ≡ look (tables g seen))
   value_at seen is answer result look says same ok o =
@@ -135,15 +140,19 @@ module _ {S : Type 0} (g : Ghosts S) (old new : Kept S) (succeeded : Bool)
       (relay answer result _ same ok (says o.clean (tables g old) was.at.holds was.past))
 
 -- the same of the book as it is seen
-pub value_of : {S T : Type 0} (g : Ghosts S) (old seen new : Kept S) → old ≡ seen → (answer : Result T Error)
-    (result : Result T BookFault) → LooksOnly (state g old.connection) (state g new.connection) (is_ok answer)
+pub value_of : {S T : Type 0} (g : Ghosts S) (old seen new : Kept S) → old ≡ seen →
+    (answer : Result T Error)
+    (result : Result T BookFault) →
+    LooksOnly (state g old.connection) (state g new.connection) (is_ok answer)
     → old.connection.in_transaction ≡ false → IsSettled g seen → IfOk answer (λ x. result ≡ Ok x)
     → is_ok result ≡ is_ok answer → (look : Tables → T)
-    → (HasCleanDisk (state g new.connection) → (t : Tables) → Holds (state g old.connection).now t → HasPast t
+    → (HasCleanDisk (state g new.connection) → (t : Tables) → Holds (state g old.connection).now t →
+    HasPast t
     → IfOk answer (λ x. x ≡ look t))
     → is_open g new → IfOk result (λ x. x ≡ look (tables g seen))
 value_of g old seen new is answer result looks out settled same ok look says o =
-    value_at g old new (is_ok answer) looks out (subst (IsSettled g) (sym is) settled) seen is answer result look says
+    value_at g old new (is_ok answer) looks out (subst (IsSettled g) (sym is) settled) seen is
+    answer result look says
     same ok o
 
 -- what the database of an open book holds

@@ -25,7 +25,8 @@ LeavesCommit {S} g =
     (s : S) (db : Trees) → IsTrue (g.view s).is_open → g.recovers s db → db ≡ (g.view s).committed
 
 module _ {S T : Type 0} (g : Ghosts S) (law : LeavesCommit g) (old new : Kept S) (change : Change)
-    (result : Result T Error) (done : Applies (state g old.connection) (state g new.connection) result change)
+    (result : Result T Error)
+    (done : Applies (state g old.connection) (state g new.connection) result change)
     (undone : LeavesTables (state g old.connection) (state g new.connection) result)
     (crash : StopsWhole (state g old.connection) (state g new.connection) change)
     (fits : is_open g old → Fits (tables g old) change)
@@ -44,7 +45,8 @@ module _ {S T : Type 0} (g : Ghosts S) (law : LeavesCommit g) (old new : Kept S)
 
   led : is_ok result ≡ true → HasCleanDisk after → is_open g old → IsAt after changed
   led is clean o =
-      let step : (r : Result T Error) → Applies before after r change → is_ok r ≡ true → IsAt after changed =
+      let step : (r : Result T Error) → Applies before after r change → is_ok r ≡ true →
+      IsAt after changed =
       elim [
         | Ok x ↦ (λ did is. did clean (tables g old) o.at (suits o))
         | Err e ↦ (λ did is. absurd (true≢false (sym is)))
@@ -56,7 +58,8 @@ module _ {S T : Type 0} (g : Ghosts S) (law : LeavesCommit g) (old new : Kept S)
 
   left : is_ok result ≡ false → is_open g old → is_open g new → IsAt after (tables g old)
   left is o end =
-      let step : (r : Result T Error) → LeavesTables before after r → is_ok r ≡ false → IsAt after (tables g old) =
+      let step : (r : Result T Error) → LeavesTables before after r → is_ok r ≡ false →
+      IsAt after (tables g old) =
       elim [
         | Ok x ↦ (λ did is. absurd (true≢false is))
         | Err e ↦ (λ did is. did end.clean end.at.is_open (tables g old) o.at)
@@ -64,14 +67,20 @@ module _ {S T : Type 0} (g : Ghosts S) (law : LeavesCommit g) (old new : Kept S)
       step result undone is
 
   pub makes_at : old.failures ≤ new.failures
-      → Makes (tables g) (is_honest g) (is_open g) (may_leave g) (λ (b : Kept S). b.failures) old new (is_ok result)
+      → Makes (tables g) (is_honest g) (is_open g) (may_leave g) (λ (b : Kept S). b.failures) old
+      new (is_ok result)
       changed
   makes_at rise = record {
     was_honest = λ clean. let up = crash.clean in omega (arith, up, clean);
     was_open = λ end. inr end.past;
     stays_open = λ is clean o.
         let same = sym (tables_led is clean o) in
-        record { clean = clean; at = subst (IsAt after) same (led is clean o); past = subst HasPast same (past o) };
+        record {
+          clean = clean;
+          at = subst (IsAt after) same (led is clean o);
+          past =
+              subst HasPast same (past o);
+        };
     made = λ is o end. tables_led is end.clean o;
     unmade = λ is o end. tables_of-holds after.now (tables g old) (left is o end).holds;
     leaves = λ o clean t way. ⊎_elim
@@ -81,6 +90,7 @@ module _ {S T : Type 0} (g : Ghosts S) (law : LeavesCommit g) (old new : Kept S)
     settled = λ is o clean only t way.
         let at = led is clean o in
         let kept = law new.connection.store way.0 at.is_open way.1 in
-        way.2 ∙ (ap tables_in (kept ∙ sym (ap (λ (d : Database). d.trees) at.same)) ∙ tables_led is clean o);
+        way.2 ∙ (ap tables_in (kept ∙ sym (ap (λ (d : Database). d.trees) at.same))
+        ∙ tables_led is clean o);
     rise = rise;
   }

@@ -10,8 +10,10 @@ use Rattle.acq_sql_lookups.proofs.Leaves.{at_unchanged}
 
 -- of fewer tables
 pub stops_for : (old new : State) (early late : Tables → Type 0) (changed : Tables → Tables)
-    → ((t : Tables) → early t → late t) → StopsWithinWhere old new late changed → StopsWithinWhere old new early changed
-stops_for old new early late changed fits = survives_weaker old new _ _ (λ _ db left t at is. left t at (fits t is))
+    → ((t : Tables) → early t → late t) → StopsWithinWhere old new late changed →
+    StopsWithinWhere old new early changed
+stops_for old new early late changed fits =
+    survives_weaker old new _ _ (λ _ db left t at is. left t at (fits t is))
 
 module _ (old mid new : State) (looks : LooksOnly old mid true) (early late : Tables → Type 0)
     (changed : Tables → Tables) (stops : StopsWithinWhere mid new late changed)

@@ -13,8 +13,8 @@ use acq_sql_changes::{add_range, cut_over, drop_range, enrol, enrol_terminal};
 use sqlite::{Alter, Connection, Error};
 use std::alloc::Global;
 
-/// Makes all of a change, or none of it. The end of a hold past 2^63 - 1 is refused as out of range,
-/// before anything is written, and so is a reconciliation after the one with that number.
+/// Makes all of a change, or none of it. The end of a hold past 2^63 - 1 is refused as out of
+/// range, before anything is written, and so is a reconciliation after the one with that number.
 pub fn apply<S: Alter>(
     conn: &mut Connection<S>,
     alloc: Global,

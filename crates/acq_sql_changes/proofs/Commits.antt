@@ -45,7 +45,8 @@ survives_itself s =
       crash = λ clean db h. inl h;
     }
 
-pub began : {S : Type 0} (g : store.Ghosts S) (old begin : Held S) → begin ≡ record old { in_transaction = true }
+pub began : {S : Type 0} (g : store.Ghosts S) (old begin : Held S) →
+    begin ≡ record old { in_transaction = true }
     → Wrote (state g old) (state g begin) (λ t. t)
 began g old begin is =
     rw is (record {
@@ -55,22 +56,26 @@ began g old begin is =
       rows = λ clean t runs rows. rows;
     })
 
-module _ (old mid new : State) (before : Tables → Tables) (count : ℕ) (so_far : Wrote old mid before)
+module _ (old mid new : State) (before : Tables → Tables) (count : ℕ)
+    (so_far : Wrote old mid before)
     (inside : StaysInside mid new (Ok count)) (survives : CommitsNothing mid new) where
   clean_before : HasCleanDisk new → HasCleanDisk mid
   clean_before clean = was_clean _ _ survives.clean clean
 
   longer : Survives old new (λ _. ⊥)
   longer =
-      survives_then old mid new _ _ (λ _. ⊥) (λ _ db none. none) (λ _ db none. none) so_far.survives survives
+      survives_then old mid new _ _ (λ _. ⊥) (λ _ db none. none) (λ _ db none. none) so_far.survives
+      survives
 
   -- with one write more
-  pub wrote : (changed : Tables → Tables) → Changes mid new (Ok count) changed → Wrote old new (λ t. changed (before t))
+  pub wrote : (changed : Tables → Tables) → Changes mid new (Ok count) changed →
+      Wrote old new (λ t. changed (before t))
   wrote changed changes =
       record {
         survives = longer;
         inside = λ clean. (inside clean (so_far.inside (clean_before clean))).mode;
-        rows = λ clean t runs rows. changes clean (so_far.inside (clean_before clean)) (before t) runs
+        rows = λ clean t runs rows. changes clean (so_far.inside (clean_before clean))
+            (before t) runs
             (so_far.rows (clean_before clean) t runs rows);
       }
 
@@ -79,7 +84,8 @@ has_room : (t : Tables) (runs : List Running) (merchant : List ℕ) (day : ℕ) 
     → Tallies (raised merchant day more runs) t → HasShortDays t
     → FitsTally (plus (tally_in runs merchant day) more)
 has_room t runs merchant day more tallied short =
-    subst FitsTally (sym (tallied merchant day) ∙ tally_raised merchant day more merchant day runs ∙ itself)
+    subst FitsTally
+    (sym (tallied merchant day) ∙ tally_raised merchant day more merchant day runs ∙ itself)
     (short merchant day)
   where
     own : is_key merchant day merchant day ≡ true
@@ -93,12 +99,15 @@ has_room t runs merchant day more tallied short =
 -- ---- the commit
 
 -- a transaction that began here has made the whole change of the tables of which this is so
-pub record Makes (old last : State) (fits : Tables → Type 0) (changed : Tables → Tables) : Type 0 where
+pub record Makes (old last : State) (fits : Tables → Type 0) (changed : Tables →
+    Tables) : Type 0 where
   pub survives : Survives old last (λ _. ⊥)
-  pub holds : HasCleanDisk last → (t : Tables) → Holds old.now t → fits t → Holds last.now (changed t)
+  pub holds : HasCleanDisk last → (t : Tables) → Holds old.now t → fits t →
+      Holds last.now (changed t)
 
 -- where no day comes to anything else
-pub makes : (old last : State) (changed : Tables → Tables) → Wrote old last changed → LeavesTallies changed
+pub makes : (old last : State) (changed : Tables → Tables) → Wrote old last changed →
+    LeavesTallies changed
     → Makes old last (λ _. Unit {0}) changed
 makes old last changed wrote same =
     record {
@@ -111,10 +120,12 @@ makes old last changed wrote same =
       };
     }
 
-module _ (old mid last : State) (before : Tables → Tables) (count : ℕ) (so_far : Wrote old mid before)
+module _ (old mid last : State) (before : Tables → Tables) (count : ℕ)
+    (so_far : Wrote old mid before)
     (inside : StaysInside mid last (Ok count)) (survives : CommitsNothing mid last) where
   -- where what came is raised last
-  pub makes_raised : (merchant : List ℕ) (day : ℕ) (more : Tally) → Raises mid last (Ok count) merchant day more
+  pub makes_raised : (merchant : List ℕ) (day : ℕ) (more : Tally) →
+      Raises mid last (Ok count) merchant day more
       → (fits : Tables → Type 0) (changed : Tables → Tables)
       → ((t : Tables) → fits t → ComesToMore t (before t) merchant day more)
       → ((t : Tables) → fits t → HasShortDays t → HasShortDays (before t))
@@ -124,19 +135,22 @@ module _ (old mid last : State) (before : Tables → Tables) (count : ℕ) (so_f
         survives = longer old mid last before count so_far inside survives;
         holds = λ clean t h fit.
             let early = clean_before old mid last before count so_far inside survives clean in
-            let tallied = more_tallied t (before t) h.runs merchant day more (come t fit) h.tallied in
+            let tallied = more_tallied t (before t) h.runs merchant day more (come t fit) h.tallied
+            in
             let all = short t fit h.short in
             let room = has_room (before t) h.runs merchant day more tallied all in
             subst (Holds last.now) (same t fit) (record {
               runs = raised merchant day more h.runs;
-              rows = raises clean (so_far.inside early) (before t) h.runs (so_far.rows early t h.runs h.rows) room;
+              rows = raises clean (so_far.inside early) (before t) h.runs
+                  (so_far.rows early t h.runs h.rows) room;
               tallied = tallied;
               short = all;
             });
       }
 
 -- a commit leaves the connection between two transactions
-pub at_commit : (last end : State) (t : Tables) → Holds last.now t → Shows last end last.now last.now false
+pub at_commit : (last end : State) (t : Tables) → Holds last.now t →
+    Shows last end last.now last.now false
     → IsAt end t
 at_commit last end t h shown =
     record {
@@ -146,7 +160,8 @@ at_commit last end t h shown =
       holds = subst (λ d. Holds d t) (sym shown.now_is) h;
     }
 
-pub left_holds : (db : Database) (trees : Trees) (t : Tables) → Holds db t → trees ≡ db.trees → HoldsAfter t trees
+pub left_holds : (db : Database) (trees : Trees) (t : Tables) → Holds db t → trees ≡ db.trees →
+    HoldsAfter t trees
 left_holds db trees t h is =
     let r = h.rows in
     rw is (record {
@@ -177,19 +192,23 @@ module _ {C : Type 0} (read : C → State) (old last : State) (end after : C) (s
   -- a commit that succeeded leads to the tables
   pub committed : {T : Type 0} (result : Result T Error)
       → (HasCleanDisk (read end) → OnOk result (IsTrue last.in_transaction
-      × Shows last (read end) last.now last.now false × KeepsCounts last (read end) × ((read end).marks ≡ [])))
-      → HasCleanDisk (read after) → (t : Tables) → IsAt old t → fits t → OnOk result (IsAt (read after) (changed t))
+      × Shows last (read end) last.now last.now false × KeepsCounts last (read end)
+      × ((read end).marks ≡ [])))
+      → HasCleanDisk (read after) → (t : Tables) → IsAt old t → fits t →
+      OnOk result (IsAt (read after) (changed t))
   committed result ok late t at fit =
       let clean = subst (λ x. HasCleanDisk (read x)) (sym same) late in
       let held = made.holds (was_clean _ _ survives.clean clean) t at.holds fit in
       subst (λ x. OnOk result (IsAt (read x) (changed t))) same
-      (IfOk-weaker result _ _ (λ _ shown. at_commit last (read end) (changed t) held shown.1) (ok clean))
+      (IfOk-weaker result _ _ (λ _ shown. at_commit last (read end) (changed t) held shown.1)
+      (ok clean))
 
   -- a stop leaves what it might before, or the tables
   pub stops_within : Survives old (read after)
       (λ trees. (t : Tables) → IsAt old t → fits t → HoldsAfter (changed t) trees)
   stops_within =
-      let P : Trees → Type 0 = λ trees. (t : Tables) → IsAt old t → fits t → HoldsAfter (changed t) trees in
+      let P : Trees → Type 0 = λ trees. (t : Tables) → IsAt old t → fits t →
+      HoldsAfter (changed t) trees in
       subst (λ x. Survives old (read x) P) same
       (survives_then old last (read end) _ _ P (λ _ db none. absurd none)
       (λ clean db is t at fit. left_holds last.now db (changed t)
@@ -197,6 +216,7 @@ module _ {C : Type 0} (read : C → State) (old last : State) (end after : C) (s
 
 -- the same of any tables
 pub of_all : (old new : State) (changed : Tables → Tables)
-    → Survives old new (λ trees. (t : Tables) → IsAt old t → Unit {0} → HoldsAfter (changed t) trees)
+    → Survives old new (λ trees. (t : Tables) → IsAt old t → Unit {0} →
+    HoldsAfter (changed t) trees)
     → Survives old new (λ trees. (t : Tables) → IsAt old t → HoldsAfter (changed t) trees)
 of_all old new changed = survives_weaker old new _ _ (λ _ db h t at. h t at tt)

@@ -4,20 +4,23 @@ use Rattle.std.proofs.Common.{◌≡◌, ◌+◌, ◌&&◌, ◌==◌, ℕ, Bool,
 use Rattle.std.proofs.Common.{if◌then◌else◌, refl, sym, ap, ap₂, ◌∙◌, arith}
 use Rattle.std.specs.Str.{bytes_eq}
 use Rattle.day_totals.specs.declared.leg.Leg.{Leg}
-use Rattle.day_totals.specs.declared.leg.Leg.TheVariants.{Credit, CreditReversal, Debit, DebitReversal}
+use Rattle.day_totals.specs.declared.leg.Leg.TheVariants.{Credit, CreditReversal, Debit}
+use Rattle.day_totals.specs.declared.leg.Leg.TheVariants.{DebitReversal}
 use Rattle.day_totals.specs.declared.leg_total.LegTotal.{LegTotal}
 use Rattle.day_totals.specs.Totals.{DayTotals, zero_totals, with_leg_amount, with_amount}
 use Rattle.acq_message.specs.declared.request_key.RequestKey.{RequestKey}
 use Rattle.acq_message.specs.Elements.{same_key}
 use Rattle.acq_core.specs.declared.request.Request.{Request}
 use Rattle.acq_core.specs.declared.posting.Posting.{Posting}
-use Rattle.acq_core.specs.Tables.{Tables, requests_of, postings_of, used_in, totals_on, with_changed}
+use Rattle.acq_core.specs.Tables.{Tables, requests_of, postings_of, used_in, totals_on}
+use Rattle.acq_core.specs.Tables.{with_changed}
 use Rattle.acq_book.specs.declared.lists.day_sums.DaySums.{DaySums}
 use Rattle.acq_book.specs.declared.lists.merchant_day.MerchantDay.{MerchantDay}
 use Rattle.acq_book.specs.Sums.{sums_in, with_one}
 use Rattle.acq_book.proofs.Days.{sums-push}
 use Rattle.acq_book.proofs.Counting.{count-filter-push, count-filter-map}
-use Rattle.acq_sql_rows.specs.Tallies.{Tally, Running, Tallies, no_tally, plus, leg_plus, tally_of, raised}
+use Rattle.acq_sql_rows.specs.Tallies.{Tally, Running, Tallies, no_tally, plus, leg_plus, tally_of}
+use Rattle.acq_sql_rows.specs.Tallies.{raised}
 use Rattle.acq_sql_rows.specs.Tallies.{request_tally, posting_tally}
 use Rattle.acq_book.specs.Fits.{IsPostedBy}
 use Rattle.acq_sql_writes.specs.Written.{with_request, with_posting, tally_from}
@@ -95,23 +98,27 @@ module _ (t : Tables) (n : ℕ) (p : Posting) (m : List ℕ) (d : ℕ) where
   posted =
       ap (λ (s : DaySums). s.totals) (sums-push t.postings (n, p) key)
       ∙ elim (is_key p.merchant p.day m d)
-      as (λ b. (cond b (with_one (sums_in t.postings key) p.leg p.amount) (sums_in t.postings key)).totals
+      as (λ b. (cond b (with_one (sums_in t.postings key) p.leg p.amount)
+      (sums_in t.postings key)).totals
       ≡ cond b (with_leg_amount was p.leg p.amount) was) [ true ↦ refl | false ↦ refl ]
 
   -- what a posting makes of a day
   pub tally_posted : tally_of (with_posting n p t) m d
-      ≡ cond (is_key p.merchant p.day m d) (plus (tally_of t m d) (posting_tally p)) (tally_of t m d)
+      ≡ cond (is_key p.merchant p.day m d) (plus (tally_of t m d) (posting_tally p))
+      (tally_of t m d)
   tally_posted =
       (λ i. record (tally_of t m d) { totals = posted i }) ∙ split (is_key p.merchant p.day m d)
     where
-      split : (b : Bool) → record (tally_of t m d) { totals = cond b (with_leg_amount was p.leg p.amount) was }
+      split : (b : Bool) →
+          record (tally_of t m d) { totals = cond b (with_leg_amount was p.leg p.amount) was }
           ≡ cond b (plus (tally_of t m d) (posting_tally p)) (tally_of t m d)
       split true = sym (totals_plus (tally_of t m d) p.leg p.amount)
       split false = refl
 
 -- ---- a request
 
-used_plus : (a : Tally) (n : ℕ) → plus a (record no_tally { used = n }) ≡ record a { used = a.used + n }
+used_plus : (a : Tally) (n : ℕ) →
+    plus a (record no_tally { used = n }) ≡ record a { used = a.used + n }
 used_plus a n = λ i. record {
   used = a.used + n;
   totals =
@@ -130,23 +137,29 @@ module _ (t : Tables) (r : Request) (m : List ℕ) (d : ℕ) where
   came : used_in (requests_of m (t.requests ++ r ∷ [])) d
       ≡ cond (bytes_eq r.key.merchant m && (r.admitted && (r.day == d))) (1 + used) used
   came =
-      count-filter-push (λ row. row.admitted && (row.day == d)) (λ row. bytes_eq row.key.merchant m) t.requests r
+      count-filter-push (λ row. row.admitted && (row.day == d)) (λ row. bytes_eq row.key.merchant m)
+      t.requests r
 
   -- what a request makes of a day
   pub tally_requested : tally_of (with_request r t) m d
-      ≡ cond (is_key r.key.merchant r.day m d) (plus (tally_of t m d) (request_tally r)) (tally_of t m d)
+      ≡ cond (is_key r.key.merchant r.day m d) (plus (tally_of t m d) (request_tally r))
+      (tally_of t m d)
   tally_requested =
-      (λ i. record (tally_of t m d) { used = came i }) ∙ split (bytes_eq r.key.merchant m) r.admitted (r.day == d)
+      (λ i. record (tally_of t m d) { used = came i })
+      ∙ split (bytes_eq r.key.merchant m) r.admitted (r.day == d)
     where
       turn : 1 + used ≡ used + 1
       turn = omega arith
 
-      split : (a b c : Bool) → record (tally_of t m d) { used = cond (a && (b && c)) (1 + used) used }
-          ≡ cond (a && c) (plus (tally_of t m d) (record no_tally { used = if b then 1 else 0 })) (tally_of t m d)
+      split : (a b c : Bool) →
+          record (tally_of t m d) { used = cond (a && (b && c)) (1 + used) used }
+          ≡ cond (a && c) (plus (tally_of t m d) (record no_tally { used = if b then 1 else 0 }))
+          (tally_of t m d)
       split true true true =
           (λ i. record (tally_of t m d) { used = turn i }) ∙ sym (used_plus (tally_of t m d) 1)
       split true false true =
-          (λ i. record (tally_of t m d) { used = sym (no_more used) i }) ∙ sym (used_plus (tally_of t m d) 0)
+          (λ i. record (tally_of t m d) { used = sym (no_more used) i })
+          ∙ sym (used_plus (tally_of t m d) 0)
       split true true false = refl
       split true false false = refl
       split false b c = refl
@@ -164,14 +177,17 @@ plus_request_and_posting a r p = λ i. record {
   totals =
       record {
         credits = leg_plus (none_more a.totals.credits i) (posting_tally p).totals.credits;
-        credit_reversals = leg_plus (none_more a.totals.credit_reversals i) (posting_tally p).totals.credit_reversals;
+        credit_reversals = leg_plus (none_more a.totals.credit_reversals i)
+            (posting_tally p).totals.credit_reversals;
         debits = leg_plus (none_more a.totals.debits i) (posting_tally p).totals.debits;
-        debit_reversals = leg_plus (none_more a.totals.debit_reversals i) (posting_tally p).totals.debit_reversals;
+        debit_reversals = leg_plus (none_more a.totals.debit_reversals i)
+            (posting_tally p).totals.debit_reversals;
       };
 }
 
 -- what a request and a posting to its own merchant and day make of a day
-module _ (t : Tables) (n : ℕ) (r : Request) (p : Posting) (own : IsPostedBy r p) (m : List ℕ) (d : ℕ) where
+module _ (t : Tables) (n : ℕ) (r : Request) (p : Posting) (own : IsPostedBy r p) (m : List ℕ)
+    (d : ℕ) where
   abbrev is_own : Bool
   is_own = is_key r.key.merchant r.day m d
 
@@ -179,13 +195,15 @@ module _ (t : Tables) (n : ℕ) (r : Request) (p : Posting) (own : IsPostedBy r 
       ≡ cond is_own (plus (tally_of t m d) (request_and_posting_tally r p)) (tally_of t m d)
   tally_followed =
       tally_posted (with_request r t) n p m d
-      ∙ ap₂ (λ x y. with_its x y) (ap₂ (λ x y. is_key x y m d) own.merchant own.day) (tally_requested t r m d)
+      ∙ ap₂ (λ x y. with_its x y) (ap₂ (λ x y. is_key x y m d) own.merchant own.day)
+      (tally_requested t r m d)
       ∙ split is_own
     where
       with_its : Bool → Tally → Tally
       with_its b x = cond b (plus x (posting_tally p)) x
 
-      split : (b : Bool) → with_its b (cond b (plus (tally_of t m d) (request_tally r)) (tally_of t m d))
+      split : (b : Bool) →
+          with_its b (cond b (plus (tally_of t m d) (request_tally r)) (tally_of t m d))
           ≡ cond b (plus (tally_of t m d) (request_and_posting_tally r p)) (tally_of t m d)
       split true = plus_request_and_posting (tally_of t m d) r p
       split false = refl
@@ -195,7 +213,9 @@ module _ (t : Tables) (n : ℕ) (r : Request) (p : Posting) (own : IsPostedBy r 
 -- the later tables come to so much more on the merchant's day, and to the same on the others
 abbrev pub ComesToMore : Tables → Tables → List ℕ → ℕ → Tally → Type 0
 ComesToMore t u merchant day more =
-    (m : List ℕ) (d : ℕ) → tally_of u m d ≡ cond (is_key merchant day m d) (plus (tally_of t m d) more) (tally_of t m d)
+    (m : List ℕ) (d : ℕ) →
+    tally_of u m d ≡ cond (is_key merchant day m d) (plus (tally_of t m d) more)
+    (tally_of t m d)
 
 pub more_tallied : (t u : Tables) (runs : List Running) (merchant : List ℕ) (day : ℕ) (more : Tally)
     → ComesToMore t u merchant day more → Tallies runs t → Tallies (raised merchant day more runs) u
@@ -206,26 +226,33 @@ more_tallied t u runs merchant day more come h m d =
 -- a change of a request that leaves its key, its day and whether it counts
 abbrev pub LeavesDay : (Request → Request) → Type 0
 LeavesDay f =
-    (row : Request) → ((f row).key ≡ row.key) × ((f row).admitted ≡ row.admitted) × ((f row).day ≡ row.day)
+    (row : Request) →
+    ((f row).key ≡ row.key) × ((f row).admitted ≡ row.admitted) × ((f row).day ≡ row.day)
 
-pub changed_tally : (t : Tables) (of : RequestKey) (f : Request → Request) → LeavesDay f → (m : List ℕ) (d : ℕ)
+pub changed_tally : (t : Tables) (of : RequestKey) (f : Request → Request) → LeavesDay f →
+    (m : List ℕ) (d : ℕ)
     → tally_of (record t { requests = with_changed of f t.requests }) m d ≡ tally_of t m d
 changed_tally t of f same m d =
     λ i. record (tally_of t m d) {
-      used = count-filter-map (λ row. row.admitted && (row.day == d)) (λ row. bytes_eq row.key.merchant m)
+      used = count-filter-map (λ row. row.admitted && (row.day == d))
+          (λ row. bytes_eq row.key.merchant m)
           (λ row. if same_key row.key of then f row else row)
-          (kept (λ row. row.admitted && (row.day == d)) (λ row i. (same row).1 i && ((same row).2 i == d)))
-          (kept (λ row. bytes_eq row.key.merchant m) (λ row i. bytes_eq ((same row).0 i).merchant m)) t.requests i;
+          (kept (λ row. row.admitted && (row.day == d))
+          (λ row i. (same row).1 i && ((same row).2 i == d)))
+          (kept (λ row. bytes_eq row.key.merchant m)
+          (λ row i. bytes_eq ((same row).0 i).merchant m)) t.requests i;
     }
   where
     kept : (p : Request → Bool) → ((row : Request) → p (f row) ≡ p row) → (row : Request)
         → p (if same_key row.key of then f row else row) ≡ p row
     kept p stays row =
-        elim (same_key row.key of) as (λ b. p (if b then f row else row) ≡ p row) [ true ↦ stays row | false ↦ refl ]
+        elim (same_key row.key of) as (λ b. p (if b then f row else row) ≡ p row)
+        [ true ↦ stays row | false ↦ refl ]
 
 -- no day comes to anything else
 abbrev pub LeavesTallies : (Tables → Tables) → Type 0
-LeavesTallies changed = (t : Tables) (m : List ℕ) (d : ℕ) → tally_of (changed t) m d ≡ tally_of t m d
+LeavesTallies changed = (t : Tables) (m : List ℕ) (d : ℕ) →
+    tally_of (changed t) m d ≡ tally_of t m d
 
 -- where a first change leaves the tallies
 pub comes_after : (t s u : Tables) (merchant : List ℕ) (day : ℕ) (more : Tally)

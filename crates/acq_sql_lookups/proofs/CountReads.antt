@@ -1,5 +1,6 @@
 -- How many requests are pending.
-use Rattle.std.proofs.Common.{◌≡◌, ◌==◌, ◌&&◌, ◌+◌, ℕ, pos, Bool, true, false, cond, List, [], ◌∷◌, filter, length}
+use Rattle.std.proofs.Common.{◌≡◌, ◌==◌, ◌&&◌, ◌+◌, ℕ, pos, Bool, true, false, cond, List, [], ◌∷◌}
+use Rattle.std.proofs.Common.{filter, length}
 use Rattle.std.proofs.Common.{refl, ap, ◌∙◌, arith}
 use Rattle.sqlite_value.specs.declared.value.Value.TheVariants.{Int}
 use Rattle.sqlite_value.specs.Order.{Row}
@@ -39,7 +40,8 @@ counted p [] = refl
 counted p (x ∷ xs) =
     let rest = counted p xs in
     elim (p x)
-    as (λ b. length (cond b (x ∷ filter p xs) (filter p xs)) ≡ cond b (1 + tables.count p xs) (tables.count p xs))
+    as (λ b. length (cond b (x ∷ filter p xs) (filter p xs)) ≡ cond b (1 + tables.count p xs)
+    (tables.count p xs))
     [ true ↦ omega (arith, rest) | false ↦ rest ]
 
 module _ (day : ℕ) where
@@ -49,12 +51,20 @@ module _ (day : ℕ) where
   tested : (id : ℕ) (x : Request)
       → picked query.pending_on (number day ∷ []) (Int (pos id) ∷ request_row x) ≡ waits x
   tested id x =
-      rw (number_test (status_number x.status) 1, number_test x.day day, and_true, pending_is x.status) refl
+      rw (
+        number_test (status_number x.status) 1,
+        number_test x.day day,
+        and_true,
+        pending_is x.status,
+      ) refl
 
-  pub pending_found : (old new : State) (t : Tables) (runs : List Running) (rows : List Row) → HoldsRows old.now t runs
-      → Shown text.pending_text (number day ∷ []) old new rows → rows ≡ (count (pending_at t day) ∷ []) ∷ []
+  pub pending_found : (old new : State) (t : Tables) (runs : List Running) (rows : List Row) →
+      HoldsRows old.now t runs
+      → Shown text.pending_text (number day ∷ []) old new rows →
+      rows ≡ (count (pending_at t day) ∷ []) ∷ []
   pending_found old new t runs rows has shown =
       let ask = asks.pending_asks in
-      shows_count request_row book_schema 6 t.requests old new has.schema has.requests text.pending_text
+      shows_count request_row book_schema 6 t.requests old new has.schema has.requests
+      text.pending_text
       (number day ∷ []) _ ask.plain ask.unlisted rows shown query.pending_on [] waits tested ask.is
       ∙ ap (λ n. (count n ∷ []) ∷ []) (counted waits t.requests)

@@ -1,6 +1,8 @@
 -- What the look-up of a merchant's greatest reference answers: how many references it has given.
-use Rattle.std.proofs.Common.{◌≡◌, ◌+◌, ◌≤◌, ◌<◌, ℕ, zero, suc, pos, inl, inr, Bool, false, true≢false, List, []}
-use Rattle.std.proofs.Common.{◌∷◌, Option, None, Some, Ok, Err, Result, SomeIff, IfOk, Less, refl, sym, ap, subst}
+use Rattle.std.proofs.Common.{◌≡◌, ◌+◌, ◌≤◌, ◌<◌, ℕ, zero, suc, pos, inl, inr, Bool, false}
+use Rattle.std.proofs.Common.{true≢false, List, []}
+use Rattle.std.proofs.Common.{◌∷◌, Option, None, Some, Ok, Err, Result, SomeIff, IfOk, Less, refl}
+use Rattle.std.proofs.Common.{sym, ap, subst}
 use Rattle.std.proofs.Common.{subst₂, ◌∙◌, arith}
 use Rattle.std.specs.List.{cons_option, range_with_len}
 use Rattle.std.specs.Ordering.{is_gt, ordering_reverse}
@@ -44,18 +46,22 @@ IsAtMost (Some a) None = ⊥
 null_first : (a : ℕ) → is_gt (value_cmp (number a) Null) ≡ false → ⊥
 null_first a h =
     let low : value_cmp Null (number a) ≡ Less = value_cmp-Null (number a) in
-    true≢false (sym (ap is_gt (value_cmp_total.antisymm (number a) Null ∙ ap ordering_reverse low)) ∙ h)
+    true≢false (sym (ap is_gt (value_cmp_total.antisymm (number a) Null ∙ ap ordering_reverse low))
+    ∙ h)
 
-reference_at_most : (a b : Option ℕ) → is_gt (value_cmp (number_or_null a) (number_or_null b)) ≡ false → IsAtMost a b
+reference_at_most : (a b : Option ℕ) →
+    is_gt (value_cmp (number_or_null a) (number_or_null b)) ≡ false → IsAtMost a b
 reference_at_most None b h = tt
 reference_at_most (Some a) (Some b) h = number_at_most a b h
 reference_at_most (Some a) None h = null_first a h
 
 -- ---- the references of requests
 
-has_reference : (xs : List Request) (x : Request) (n : ℕ) → Has xs x → x.reference ≡ Some n → Has (references_in xs) n
+has_reference : (xs : List Request) (x : Request) (n : ℕ) → Has xs x → x.reference ≡ Some n →
+    Has (references_in xs) n
 has_reference [] x n here is = absurd here
-has_reference (y ∷ xs) x n here is = go y.reference refl here (λ later. has_reference xs x n later is)
+has_reference (y ∷ xs) x n here is =
+    go y.reference refl here (λ later. has_reference xs x n later is)
   where
     go : (o : Option ℕ) → y.reference ≡ o → Has (y ∷ xs) x → (Has xs x → Has (references_in xs) n)
         → Has (cons_option o (references_in xs)) n
@@ -101,7 +107,8 @@ reference_cells r = number_or_null r.reference ∷ []
 
 module _ (first : ℕ) (xs : List Request) (x : Request) (here : Has xs x)
     (later : (y : Request) → Has xs y → IsAtMost y.reference x.reference) where
-  counted_up_to : (many : ℕ) (o : Option ℕ) → x.reference ≡ o → references_in xs ≡ range_with_len first many
+  counted_up_to : (many : ℕ) (o : Option ℕ) → x.reference ≡ o →
+      references_in xs ≡ range_with_len first many
       → many ≡ count_up_to first o
   counted_up_to zero None is run = refl
   counted_up_to (suc many) None is run =
@@ -122,12 +129,15 @@ own_at_most None = tt
 own_at_most (Some a) = omega arith
 
 greatest_shown : (first : ℕ) (xs : List Request) (rows : List Row)
-    → references_in xs ≡ range_with_len first (admitted_in xs) → IsFirst Later xs reference_cells rows
+    → references_in xs ≡ range_with_len first (admitted_in xs) →
+    IsFirst Later xs reference_cells rows
     → ShowsGreatest first (admitted_in xs) rows
 greatest_shown first xs rows run (inl none) = inl (none.0, ap admitted_in none.1)
 greatest_shown first xs rows run (inr (x, here, is, later)) =
-    let most : (y : Request) → Has xs y → IsAtMost y.reference x.reference = λ y h. elim (later y h) [
-      | inl same ↦ subst (λ (z : Request). IsAtMost z.reference x.reference) (sym same) (own_at_most x.reference)
+    let most : (y : Request) → Has xs y →
+    IsAtMost y.reference x.reference = λ y h. elim (later y h) [
+      | inl same ↦ subst (λ (z : Request). IsAtMost z.reference x.reference) (sym same)
+          (own_at_most x.reference)
       | inr before ↦ before
     ] in
     inr (x.reference, is, counted_up_to first xs x here most (admitted_in xs) x.reference refl run)
@@ -159,18 +169,22 @@ module _ (m : List ℕ) where
       let ask = asks.greatest_asks in
       let it = query.greatest_query in
       let all = shows_ordered request_row book_schema 6 t.requests old new has.schema has.requests
-      text.greatest_text (Text m ∷ []) _ ask.plain ask.unlisted rows shown it.filter it.project mine tested
+      text.greatest_text (Text m ∷ []) _ ask.plain ask.unlisted rows shown it.filter it.project mine
+      tested
       it.order it.limit out (λ id x. refl) ask.is in
       first_element Later (requests_of m t.requests) all.0 reference_cells rows all.1
       (ascending_weaker _ Later (λ x y h. reference_at_most y.reference x.reference
-      (ap is_gt (sym (then-Equal (value_cmp (number_or_null y.reference) (number_or_null x.reference)))) ∙ h))
+      (ap is_gt (sym (then-Equal
+      (value_cmp (number_or_null y.reference) (number_or_null x.reference)))) ∙ h))
       all.0 all.2) all.3
 
   -- tables with a past have consecutive references
-  rows_of_merchant : (t : Tables) → HasPast t → AreRowsOf (merchant_at t m) (requests_of m t.requests)
+  rows_of_merchant : (t : Tables) → HasPast t →
+      AreRowsOf (merchant_at t m) (requests_of m t.requests)
   rows_of_merchant t (opening, book) = (books_are_sound opening t book).references m
 
-  pub greatest_found : (old new : State) (t : Tables) (runs : List Running) (rows : List Row) (enrolled : Merchant)
+  pub greatest_found : (old new : State) (t : Tables) (runs : List Running) (rows : List Row)
+      (enrolled : Merchant)
       → HoldsRows old.now t runs → HasPast t → merchant_at t m ≡ Some enrolled
       → Shown text.greatest_text (Text m ∷ []) old new rows
       → ShowsGreatest enrolled.first_reference (admitted_at t m) rows
@@ -182,4 +196,6 @@ module _ (m : List ℕ) where
   -- a merchant that isn't enrolled has none
   pub none_admitted : (t : Tables) → HasPast t → None ≡ merchant_at t m → 0 ≡ admitted_at t m
   none_admitted t past is =
-      ap admitted_in (sym (subst (λ o. AreRowsOf o (requests_of m t.requests)) (sym is) (rows_of_merchant t past)))
+      ap admitted_in
+      (sym (subst (λ o. AreRowsOf o (requests_of m t.requests)) (sym is)
+      (rows_of_merchant t past)))

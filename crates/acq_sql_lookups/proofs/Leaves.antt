@@ -1,5 +1,6 @@
 -- What a SELECT leaves, also where it fails.
-use Rattle.std.proofs.Common.{◌≡◌, ◌⊎◌, inl, inr, ℕ, Bool, true, false, true≢false, List, Ok, Err, Result, IfOk, IfErr}
+use Rattle.std.proofs.Common.{◌≡◌, ◌⊎◌, inl, inr, ℕ, Bool, true, false, true≢false, List, Ok, Err}
+use Rattle.std.proofs.Common.{Result, IfOk, IfErr}
 use Rattle.std.proofs.Common.{IsTrue, is_ok, None, [], refl, sym, subst, ◌∙◌, arith, ⊎_elim}
 use Rattle.sqlite_value.specs.Order.{Row}
 use Rattle.sqlite_trees.specs.Tree.{Trees}
@@ -7,7 +8,8 @@ use Rattle.sqlite_resolve.specs.declared.compiled.Compiled.{Compiled}
 use Rattle.sqlite.specs.declared.error.Error.{Error}
 use Rattle.sqlite.specs.Clock.{timed}
 use Rattle.sqlite.specs.Listing.{understood}
-use Rattle.sqlite.specs.State.{State, HasCleanDisk, Shown, ShowsRows, FailsToQuery, FailsToShow, IsNotRun}
+use Rattle.sqlite.specs.State.{State, HasCleanDisk, Shown, ShowsRows, FailsToQuery, FailsToShow}
+use Rattle.sqlite.specs.State.{IsNotRun}
 use Rattle.sqlite.specs.State.{IsUnchanged, IsRolledBack, Survives, CommitsShowing}
 use Rattle.sqlite.proofs.StateLemmas.{survives_weaker, survives_then}
 use Rattle.sqlite.proofs.Callers.{IsPlain, never_commits, unchanged_then}
@@ -27,7 +29,8 @@ at_unchanged old new t h at =
       holds = subst (λ d. Holds d t) (sym h.0.now_is) at.holds;
     }
 
-pub at_undone : (old new : State) (t : Tables) → IsTrue new.is_open → IsRolledBack old new → IsAt old t → IsAt new t
+pub at_undone : (old new : State) (t : Tables) → IsTrue new.is_open → IsRolledBack old new →
+    IsAt old t → IsAt new t
 at_undone old new t opened h at =
     let back = h.undone opened in
     record {
@@ -45,15 +48,18 @@ kept old new succeeded looks clean opened t at =
     (looks.undone clean opened)
 
 module _ (sql : List ℕ) (params : Row) (old new : State) (begins : IsSelect sql) where
-  pub bare : (c : Compiled) → understood old.now.schema sql ≡ Ok c → (c.returning ≡ None) × (c.formats ≡ [])
+  pub bare : (c : Compiled) → understood old.now.schema sql ≡ Ok c →
+      (c.returning ≡ None) × (c.formats ≡ [])
   bare c is = subst IsBareIfAny is (understood_bare old.now.schema sql begins)
 
   shown_same : (rows : List Row) → Shown sql params old new rows → IsUnchanged old new
   unfolding Shown
   shown_same rows h =
-      (subst (ShowsRows old new sql h.0 (timed params h.0.formats h.1.now) rows) (bare h.0 h.1.is).0 h.2).3
+      (subst (ShowsRows old new sql h.0 (timed params h.0.formats h.1.now) rows)
+      (bare h.0 h.1.is).0 h.2).3
 
-  pub fails_same : (e : Error) → FailsToQuery sql params old new e → IsUnchanged old new ⊎ IsRolledBack old new
+  pub fails_same : (e : Error) → FailsToQuery sql params old new e →
+      IsUnchanged old new ⊎ IsRolledBack old new
   unfolding FailsToQuery IsNotRun
   fails_same e (inl (inl h)) = inl h.1
   fails_same e (inl (inr h)) = inr h.3
@@ -62,15 +68,18 @@ module _ (sql : List ℕ) (params : Row) (old new : State) (begins : IsSelect sq
 
   pub commits_nothing : (db : Trees) → CommitsShowing sql params old db → ⊥
   unfolding CommitsShowing
-  commits_nothing db h = never_commits sql params old db (subst IsPlain (sym h.1.is) (bare h.0 h.1.is)) h
+  commits_nothing db h = never_commits sql params old db
+      (subst IsPlain (sym h.1.is) (bare h.0 h.1.is)) h
 
   unchanged : {X : Type 0} (rows_of : X → List Row) (result : Result X Error)
-      → IfOk result (λ x. Shown sql params old new (rows_of x)) → is_ok result ≡ true → IsUnchanged old new
+      → IfOk result (λ x. Shown sql params old new (rows_of x)) → is_ok result ≡ true →
+      IsUnchanged old new
   unchanged rows_of (Ok x) ok is = shown_same (rows_of x) ok
   unchanged rows_of (Err e) ok is = absurd (true≢false (sym is))
 
   undone : {X : Type 0} (rows_of : X → List Row) (result : Result X Error)
-      → IfOk result (λ x. Shown sql params old new (rows_of x)) → IfErr result (FailsToQuery sql params old new)
+      → IfOk result (λ x. Shown sql params old new (rows_of x)) →
+      IfErr result (FailsToQuery sql params old new)
       → IsUnchanged old new ⊎ IsRolledBack old new
   undone rows_of (Ok x) ok err = inl (shown_same (rows_of x) ok)
   undone rows_of (Err e) ok err = fails_same e err
@@ -107,7 +116,14 @@ looks_nowhere s =
     record {
       same = λ clean is. absurd cc;
       undone = λ clean opened. inl (
-        record { was_open = opened; is_open = opened; now_is = refl; committed_is = refl; mode = refl },
+        record {
+          was_open = opened;
+          is_open = opened;
+          now_is = refl;
+          committed_is = refl;
+          mode =
+              refl;
+        },
         record { changes = refl; last_rowid = refl },
         refl,
       );
@@ -117,7 +133,8 @@ looks_nowhere s =
 
 -- ---- one look-up after another that succeeded
 
-pub rolled_back : (old mid new : State) → IsUnchanged old mid → IsRolledBack mid new → IsRolledBack old new
+pub rolled_back : (old mid new : State) → IsUnchanged old mid → IsRolledBack mid new →
+    IsRolledBack old new
 rolled_back old mid new same back =
     record {
       was_open = λ opened. same.0.was_open;
@@ -143,11 +160,14 @@ module _ (old mid new : State) (first : LooksOnly old mid true) where
   looks_then succeeded second =
       let before = clean_before second.stop in
       record {
-        same = λ clean is. unchanged_then old mid new (first.same (before clean) refl) (second.same clean is);
+        same = λ clean is. unchanged_then old mid new (first.same (before clean) refl)
+            (second.same clean is);
         undone = λ clean opened.
             let one = first.same (before clean) refl in
-            ⊎_elim (λ same. inl (unchanged_then old mid new one same)) (λ back. inr (rolled_back old mid new one back))
+            ⊎_elim (λ same. inl (unchanged_then old mid new one same))
+            (λ back. inr (rolled_back old mid new one back))
             (second.undone clean opened);
         settled = λ out. second.settled (first.settled out);
-        stop = survives_then old mid new _ _ (λ _. ⊥) (λ _ db none. none) (λ _ db none. none) first.stop second.stop;
+        stop = survives_then old mid new _ _ (λ _. ⊥) (λ _ db none. none)
+            (λ _ db none. none) first.stop second.stop;
       }

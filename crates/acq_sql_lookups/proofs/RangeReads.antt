@@ -1,6 +1,8 @@
 -- What the look-ups of ranges answer.
-use Rattle.std.proofs.Common.{◌≡◌, ◌<◌, ◌≤◌, ℕ, inl, inr, Bool, true, false, true≢false, cond, nat_le, nat_lt, List, []}
-use Rattle.std.proofs.Common.{◌∷◌, filter, find, option_map, length, slice_get, None, Some, refl, sym, ap, subst}
+use Rattle.std.proofs.Common.{◌≡◌, ◌<◌, ◌≤◌, ℕ, inl, inr, Bool, true, false, true≢false, cond}
+use Rattle.std.proofs.Common.{nat_le, nat_lt, List, []}
+use Rattle.std.proofs.Common.{◌∷◌, filter, find, option_map, length, slice_get, None, Some, refl}
+use Rattle.std.proofs.Common.{sym, ap, subst}
 use Rattle.std.proofs.Common.{◌∙◌, arith}
 use Rattle.std.specs.Option.{option_to_list}
 use Rattle.std.specs.Ordering.{is_gt}
@@ -20,7 +22,8 @@ use Rattle.row_lemmas.proofs.Elements.{either_way}
 use Rattle.row_lemmas.proofs.ListReads.{shows_keyed}
 use Rattle.row_lemmas.proofs.OrderedRows.{IsFirst, first_element}
 use Rattle.card_no.specs.declared.range.Range.{Range}
-use Rattle.card_no.specs.Ranges.{holds_prefix, range_of_prefix, overlaps, between, are_apart, is_before}
+use Rattle.card_no.specs.Ranges.{holds_prefix, range_of_prefix, overlaps, between, are_apart}
+use Rattle.card_no.specs.Ranges.{is_before}
 use Rattle.acq_core.specs.Tables.{Tables}
 use Rattle.acq_book.specs.Lookups.{overlapping_at}
 use Rattle.acq_sql_rows.specs.Schema.{book_schema}
@@ -61,12 +64,14 @@ find_only p [] x here passes one = absurd here
 find_only p (y ∷ xs) x here passes one =
     go (p y) refl here (λ later. find_only p xs x later passes (λ z h. one z (inr h)))
   where
-    go : (b : Bool) → p y ≡ b → Has (y ∷ xs) x → (Has xs x → find p xs ≡ Some x) → cond b (Some y) (find p xs) ≡ Some x
+    go : (b : Bool) → p y ≡ b → Has (y ∷ xs) x → (Has xs x → find p xs ≡ Some x) →
+        cond b (Some y) (find p xs) ≡ Some x
     go true is here later = ap Some (one y (inl refl) is)
     go false is (inl same) later = absurd (true≢false (sym passes ∙ ap p same ∙ is))
     go false is (inr there) later = later there
 
-find_no : {X : Type 0} (p : X → Bool) (xs : List X) → ((x : X) → Has xs x → p x ≡ true → ⊥) → find p xs ≡ None
+find_no : {X : Type 0} (p : X → Bool) (xs : List X) → ((x : X) → Has xs x → p x ≡ true → ⊥) →
+    find p xs ≡ None
 find_no p [] none = refl
 find_no p (x ∷ xs) none = go (p x) refl (find_no p xs (λ y h. none y (inr h)))
   where
@@ -81,15 +86,18 @@ module _ (prefix : ℕ) where
   abbrev Nearer : Range → Range → Type 0
   Nearer x y = y.low ≤ x.low
 
-  nearest_first : (old new : State) (t : Tables) (runs : List Running) (rows : List Row) → HoldsRows old.now t runs
+  nearest_first : (old new : State) (t : Tables) (runs : List Running) (rows : List Row) →
+      HoldsRows old.now t runs
       → Shown text.nearest_text (number prefix ∷ []) old new rows
       → IsFirst Nearer (filter begins_by t.ranges) range_cells rows
   nearest_first old new t runs rows has shown =
       let ask = asks.nearest_asks in
       let it = query.nearest_query in
-      let all = shows_keyed range_row book_schema 5 t.ranges old new has.schema has.ranges text.nearest_text
+      let all = shows_keyed range_row book_schema 5 t.ranges old new has.schema has.ranges
+      text.nearest_text
       (number prefix ∷ []) _ ask.plain ask.unlisted rows shown it.filter it.project begins_by
-      (λ x. rw (at_most_test x.low prefix, and_true) refl) it.order it.limit range_out (λ x. refl) ask.is in
+      (λ x. rw (at_most_test x.low prefix, and_true) refl) it.order it.limit range_out
+      (λ x. refl) ask.is in
       first_element Nearer (filter begins_by t.ranges) all.0 range_cells rows all.1
       (ascending_weaker _ Nearer (λ x y h. number_at_most y.low x.low
       (ap is_gt (sym (then-Equal (value_cmp (number y.low) (number x.low)))) ∙ h)) all.0 all.2)
@@ -120,17 +128,21 @@ module _ (prefix : ℕ) where
       ] in
       inr (x, is, go (holds_prefix prefix x) refl only)
     where
-      go : (b : Bool) → holds_prefix prefix x ≡ b → ((y : Range) → Has xs y → holds_prefix prefix y ≡ true → y ≡ x)
+      go : (b : Bool) → holds_prefix prefix x ≡ b →
+          ((y : Range) → Has xs y → holds_prefix prefix y ≡ true → y ≡ x)
           → find (holds_prefix prefix) xs ≡ cond b (Some x) None
-      go true holds only = find_only (holds_prefix prefix) xs x (has_filtered begins_by xs x among).0 holds only
+      go true holds only = find_only (holds_prefix prefix) xs x
+          (has_filtered begins_by xs x among).0 holds only
       go false short only = find_no (holds_prefix prefix) xs (λ y here holds.
           absurd (true≢false (sym holds ∙ ap (holds_prefix prefix) (only y here holds) ∙ short)))
 
-  pub nearest_found : (old new : State) (t : Tables) (runs : List Running) (rows : List Row) → HoldsRows old.now t runs
+  pub nearest_found : (old new : State) (t : Tables) (runs : List Running) (rows : List Row) →
+      HoldsRows old.now t runs
       → are_apart t.ranges ≡ true → Shown text.nearest_text (number prefix ∷ []) old new rows
       → IsNearest prefix t.ranges rows
   nearest_found old new t runs rows has apart shown =
-      nearest_is t.ranges rows (precede t.ranges apart has.rising) (nearest_first old new t runs rows has shown)
+      nearest_is t.ranges rows (precede t.ranges apart has.rising)
+      (nearest_first old new t runs rows has shown)
 
 -- ---- of the ranges that overlap, the one of least low
 
@@ -140,7 +152,8 @@ least p [] x up here passes low = absurd here
 least p (y ∷ xs) x up here passes low =
     go (p y) refl here (λ later. least p xs x up.1 later passes (λ z h. low z (inr h)))
   where
-    go : (b : Bool) → p y ≡ b → Has (y ∷ xs) x → (Has xs x → find p xs ≡ Some x) → cond b (Some y) (find p xs) ≡ Some x
+    go : (b : Bool) → p y ≡ b → Has (y ∷ xs) x → (Has xs x → find p xs ≡ Some x) →
+        cond b (Some y) (find p xs) ≡ Some x
     go true is (inl same) later = ap Some (sym same)
     go true is (inr there) later =
         absurd (omega (arith, all_has _ xs x up.0 there, low y (inl refl) is))
@@ -166,7 +179,8 @@ module _ (low high : ℕ) where
       h.0 ∙ ap (λ o. option_to_list (option_map range_cells o)) (sym none)
   least_is xs rows up (inr (x, among, is, first)) =
       let listed = has_filtered overlaps_ends xs x among in
-      let low_is : (y : Range) → Has xs y → overlaps_ends y ≡ true → x.low ≤ y.low = λ y here passes.
+      let low_is : (y : Range) → Has xs y → overlaps_ends y ≡ true →
+      x.low ≤ y.low = λ y here passes.
       elim (first y (has_kept overlaps_ends xs y here passes)) [
         | inl same ↦ rw same (omega arith)
         | inr before ↦ before
@@ -180,9 +194,11 @@ module _ (low high : ℕ) where
   overlapping_found old new t runs rows has shown =
       let ask = asks.overlapping_asks in
       let it = query.overlapping_query in
-      let all = shows_keyed range_row book_schema 5 t.ranges old new has.schema has.ranges text.overlapping_text
+      let all = shows_keyed range_row book_schema 5 t.ranges old new has.schema has.ranges
+      text.overlapping_text
       ends_row _ ask.plain ask.unlisted rows shown it.filter it.project overlaps_ends
-      (λ x. rw (at_most_test low x.high, at_most_test x.low high, and_true) refl) it.order it.limit range_out
+      (λ x. rw (at_most_test low x.high, at_most_test x.low high, and_true) refl) it.order it.limit
+      range_out
       (λ x. refl) ask.is in
       least_is t.ranges rows has.rising
       (first_element NotAbove (filter overlaps_ends t.ranges) all.0 range_cells rows all.1
@@ -200,15 +216,19 @@ same_range a b h =
     let e4 : a.hold_days ≡ b.hold_days = cc in
     λ i. record { low = e1 i; high = e2 i; issuer = e3 i; hold_days = e4 i }
 
-pub no_range : (prefix : ℕ) (xs : List Range) (rows : List Row) → IsNearest prefix xs rows → None ≡ slice_get rows 0
+pub no_range : (prefix : ℕ) (xs : List Range) (rows : List Row) → IsNearest prefix xs rows →
+    None ≡ slice_get rows 0
     → None ≡ range_of_prefix xs prefix
 no_range prefix xs rows (inl none) is = sym none.1
-no_range prefix xs rows (inr (r, one, found)) is = absurd (let e = is ∙ ap (λ l. slice_get l 0) one in cc)
+no_range prefix xs rows (inr (r, one, found)) is =
+    absurd (let e = is ∙ ap (λ l. slice_get l 0) one in cc)
 
-pub range_read : (prefix : ℕ) (xs : List Range) (rows : List Row) (row : Row) (x : Range) → IsNearest prefix xs rows
+pub range_read : (prefix : ℕ) (xs : List Range) (rows : List Row) (row : Row) (x : Range) →
+    IsNearest prefix xs rows
     → Some row ≡ slice_get rows 0 → (length row ≡ 4 → row ≡ range_cells x)
     → if_holds prefix x ≡ range_of_prefix xs prefix
-range_read prefix xs rows row x (inl none) some read = absurd (let e = some ∙ ap (λ l. slice_get l 0) none.0 in cc)
+range_read prefix xs rows row x (inl none) some read =
+    absurd (let e = some ∙ ap (λ l. slice_get l 0) none.0 in cc)
 range_read prefix xs rows row x (inr (r, one, found)) some read =
     let first : row ≡ range_cells r =
     let e : Some row ≡ Some (range_cells r) = some ∙ ap (λ l. slice_get l 0) one in cc in

@@ -1,6 +1,7 @@
 -- The numbers of a merchant's reconciliations of a day count up from 1.
 use Rattle.std.proofs.Common.{◌≡◌, ◌==◌, ◌&&◌, ◌+◌, ℕ, Bool, true, false, cond, List, [], ◌∷◌, ◌++◌}
-use Rattle.std.proofs.Common.{drop, length, Option, None, Some, refl, sym, ap, ap₂, subst, ◌∙◌, arith}
+use Rattle.std.proofs.Common.{drop, length, Option, None, Some, refl, sym, ap, ap₂, subst, ◌∙◌}
+use Rattle.std.proofs.Common.{arith}
 use Rattle.std.specs.List.{range_with_len}
 use Rattle.std.specs.Str.{bytes_eq}
 use Rattle.std.proofs.lemmas.Bool.{and_parts}
@@ -17,14 +18,16 @@ use Rattle.acq_core.specs.Tables.{reconciliations_before, with_next_reconciliati
 use Rattle.acq_book.specs.Order.{last_of}
 use Rattle.acq_invariants.proofs.Runs.{kept}
 use Rattle.acq_sql_writes.proofs.RunningTotals.{bytes_same, number_same}
-use Rattle.acq_sql_lookups.specs.Looked.{reconciliations_of, last_numbered_at, number_or_zero, CountsUpFrom}
+use Rattle.acq_sql_lookups.specs.Looked.{reconciliations_of, last_numbered_at, number_or_zero}
+use Rattle.acq_sql_lookups.specs.Looked.{CountsUpFrom}
 use Rattle.acq_sql_lookups.specs.Looked.{HasNumberedReconciliations}
 use Rattle.acq_sql_lookups.proofs.CountReads.{counted}
 
 abbrev Numbered : Type 0
 Numbered = ℕ × Reconciliation
 
-pub rest_counts : (n : ℕ) (x : Numbered) (xs : List Numbered) → CountsUpFrom n (x ∷ xs) → CountsUpFrom (n + 1) xs
+pub rest_counts : (n : ℕ) (x : Numbered) (xs : List Numbered) → CountsUpFrom n (x ∷ xs) →
+    CountsUpFrom (n + 1) xs
 rest_counts n x xs up = ap (drop 1) up
 
 -- one more, with the next number
@@ -48,17 +51,20 @@ module _ (rows : List Numbered) (p : Reconciliation) where
   of_day m day row = bytes_eq row.1.merchant m && (row.1.day == day)
 
   with_next : ((m : List ℕ) (day : ℕ) → CountsUpFrom 1 (reconciliations_of m day rows))
-      → (m : List ℕ) (day : ℕ) → CountsUpFrom 1 (reconciliations_of m day (with_next_reconciliation rows p))
+      → (m : List ℕ) (day : ℕ) →
+      CountsUpFrom 1 (reconciliations_of m day (with_next_reconciliation rows p))
   with_next up m day = step (of_day m day new) refl
     where
-      step : (b : Bool) → of_day m day new ≡ b → CountsUpFrom 1 (reconciliations_of m day (rows ++ new ∷ []))
+      step : (b : Bool) → of_day m day new ≡ b →
+          CountsUpFrom 1 (reconciliations_of m day (rows ++ new ∷ []))
       step true mine =
           let parts = and_parts _ _ mine in
           let before : reconciliations_before rows p ≡ length (reconciliations_of m day rows) =
           sym (counted (of_day p.merchant p.day) rows)
           ∙ ap₂ (λ a d. length (reconciliations_of a d rows)) (bytes_same p.merchant m parts.0)
           (number_same p.day day parts.1) in
-          let more : reconciliations_of m day (rows ++ new ∷ []) ≡ reconciliations_of m day rows ++ new ∷ [] =
+          let more : reconciliations_of m day (rows ++ new ∷ []) ≡ reconciliations_of m day rows
+          ++ new ∷ [] =
           filter-append (of_day m day) rows (new ∷ [])
           ∙ ap (λ b. reconciliations_of m day rows ++ cond b (new ∷ []) []) mine in
           subst (CountsUpFrom 1) (sym more)
@@ -70,7 +76,8 @@ module _ (rows : List Numbered) (p : Reconciliation) where
           ∙ append-nil (reconciliations_of m day rows) in
           subst (CountsUpFrom 1) (sym same) (up m day)
 
-pub numbered_after : (t : Tables) (c : Change) → HasNumberedReconciliations t → HasNumberedReconciliations (after t c)
+pub numbered_after : (t : Tables) (c : Change) → HasNumberedReconciliations t →
+    HasNumberedReconciliations (after t c)
 numbered_after t (change.Reconciled row p) up = with_next t.reconciliations p up
 numbered_after t c up = up
 
@@ -83,7 +90,8 @@ numbered_after_any t (Some c) up = numbered_after t c up
 pub numbered_by_past : (t : Tables) → HasPast t → HasNumberedReconciliations t
 numbered_by_past t (opening, book) =
     subst HasNumberedReconciliations (sym book.after)
-    (kept HasNumberedReconciliations (λ s a. numbered_after_any s (change_for (known_in s a) a)) (new_tables opening)
+    (kept HasNumberedReconciliations (λ s a. numbered_after_any s (change_for (known_in s a) a))
+    (new_tables opening)
     book.events (λ m day. refl))
 
 -- ---- the last number is how many there are
@@ -103,7 +111,8 @@ number_counts (x ∷ xs) up = let is = last_number 1 x xs up in omega (arith, is
 
 -- the last number, or 0, is how many reconciliations came before the next
 pub last_number_before : (t : Tables) (r : Reconciliation) → HasPast t
-    → number_or_zero (last_numbered_at t r.merchant r.day) ≡ reconciliations_before t.reconciliations r
+    → number_or_zero (last_numbered_at t r.merchant r.day)
+    ≡ reconciliations_before t.reconciliations r
 last_number_before t r past =
     number_counts (reconciliations_of r.merchant r.day t.reconciliations)
     (numbered_by_past t past r.merchant r.day)

@@ -1,5 +1,6 @@
 -- What the look-up of a day's last reconciliation answers.
-use Rattle.std.proofs.Common.{◌≡◌, ◌==◌, ◌&&◌, ◌+◌, ◌≤◌, ℕ, pos, inl, inr, Bool, true, false, List, [], ◌∷◌}
+use Rattle.std.proofs.Common.{◌≡◌, ◌==◌, ◌&&◌, ◌+◌, ◌≤◌, ℕ, pos, inl, inr, Bool, true, false, List}
+use Rattle.std.proofs.Common.{[], ◌∷◌}
 use Rattle.std.proofs.Common.{length, slice_get, Option, None, Some, option_map, refl, sym, ap}
 use Rattle.std.proofs.Common.{◌∙◌, arith}
 use Rattle.std.specs.Option.{option_to_list}
@@ -28,7 +29,8 @@ use Rattle.acq_sql_rows.specs.Rows.{reconciliation_row, bit_of}
 use Rattle.acq_sql_rows.specs.Tallies.{Running}
 use Rattle.acq_sql_rows.specs.Relation.{HoldsRows}
 use Rattle.acq_sql_writes.proofs.RunningTotals.{bytes_same, number_same}
-use Rattle.acq_sql_lookups.specs.Looked.{reconciliations_of, last_numbered_at, CountsUpFrom, balance_cells}
+use Rattle.acq_sql_lookups.specs.Looked.{reconciliations_of, last_numbered_at, CountsUpFrom}
+use Rattle.acq_sql_lookups.specs.Looked.{balance_cells}
 use Rattle.acq_sql_lookups.specs.Texts as text
 use Rattle.acq_sql_lookups.specs.Queries as query
 use Rattle.acq_sql_lookups.proofs.TextLemmas as asks
@@ -62,7 +64,8 @@ greatest_last n (y ∷ z ∷ ys) x up (inr there) most =
     greatest_last (n + 1) (z ∷ ys) x (rest_counts n y (z ∷ ys) up) there (λ w h. most w (inr h))
 
 last_shown : (n : ℕ) (xs : List Numbered) (rows : List Row) → CountsUpFrom n xs
-    → IsFirst Later xs balance_cells rows → rows ≡ option_to_list (option_map balance_cells (last_of xs))
+    → IsFirst Later xs balance_cells rows →
+    rows ≡ option_to_list (option_map balance_cells (last_of xs))
 last_shown n xs rows up (inl none) =
     none.0 ∙ ap (λ l. option_to_list (option_map balance_cells (last_of l))) (sym none.1)
 last_shown n xs rows up (inr (x, here, is, later)) =
@@ -70,11 +73,13 @@ last_shown n xs rows up (inr (x, here, is, later)) =
       | inl same ↦ rw same (omega arith)
       | inr before ↦ before
     ] in
-    is ∙ ap (λ o. option_to_list (option_map balance_cells o)) (sym (greatest_last n xs x up here most))
+    is ∙ ap (λ o. option_to_list (option_map balance_cells o))
+    (sym (greatest_last n xs x up here most))
 
 -- ---- the reconciliation that was read
 
-same_row : (x y : Numbered) → x.1.merchant ≡ y.1.merchant → x.1.day ≡ y.1.day → balance_cells x ≡ balance_cells y
+same_row : (x y : Numbered) → x.1.merchant ≡ y.1.merchant → x.1.day ≡ y.1.day →
+    balance_cells x ≡ balance_cells y
     → x ≡ y
 same_row x y merchant day cells =
     let e0 : x.0 ≡ y.0 = cc in
@@ -98,9 +103,11 @@ module _ (m : List ℕ) (day : ℕ) where
   out x = (number x.0 ∷ [], balance_cells x)
 
   tested : (k : ℕ) (x : Numbered)
-      → picked query.reconciliation_query.filter sought (Int (pos k) ∷ reconciliation_row x) ≡ of_day x
+      → picked query.reconciliation_query.filter sought (Int (pos k) ∷ reconciliation_row x)
+      ≡ of_day x
   tested k x =
-      rw (number_test x.1.day day, text_test x.1.merchant m) (both_ways (x.1.day == day) (bytes_eq x.1.merchant m))
+      rw (number_test x.1.day day, text_test x.1.merchant m)
+      (both_ways (x.1.day == day) (bytes_eq x.1.merchant m))
 
   pub reconciliation_found : (old new : State) (t : Tables) (runs : List Running) (rows : List Row)
       → HoldsRows old.now t runs → HasPast t → Shown text.reconciliation_text sought old new rows
@@ -110,7 +117,8 @@ module _ (m : List ℕ) (day : ℕ) where
       let it = query.reconciliation_query in
       let xs = reconciliations_of m day t.reconciliations in
       let all = shows_ordered reconciliation_row book_schema 11 t.reconciliations old new has.schema
-      has.reconciliations text.reconciliation_text sought _ ask.plain ask.unlisted rows shown it.filter it.project
+      has.reconciliations text.reconciliation_text sought _ ask.plain ask.unlisted rows shown
+      it.filter it.project
       of_day tested it.order it.limit out (λ id x. refl) ask.is in
       last_shown 1 xs rows (numbered_by_past t past m day)
       (first_element Later xs all.0 balance_cells rows all.1

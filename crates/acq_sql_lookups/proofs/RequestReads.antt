@@ -1,6 +1,8 @@
 -- What the look-ups of requests answer.
-use Rattle.std.proofs.Common.{◌≡◌, ◌&&◌, ℕ, pos, Bool, inl, inr, true, false, true≢false, cond, List, [], ◌∷◌}
-use Rattle.std.proofs.Common.{filter, find, length, ◌≤◌, option_map, Option, None, Some, refl, sym, ap, subst, ◌∙◌}
+use Rattle.std.proofs.Common.{◌≡◌, ◌&&◌, ℕ, pos, Bool, inl, inr, true, false, true≢false, cond}
+use Rattle.std.proofs.Common.{List, [], ◌∷◌}
+use Rattle.std.proofs.Common.{filter, find, length, ◌≤◌, option_map, Option, None, Some, refl, sym}
+use Rattle.std.proofs.Common.{ap, subst, ◌∙◌}
 use Rattle.std.specs.Str.{bytes_eq}
 use Rattle.std.specs.Option.{option_to_list}
 use Rattle.std.proofs.lemmas.Bool.{and_parts}
@@ -52,7 +54,8 @@ shown_request : (p : Request → Bool) (xs : List Request) (rows : List Row) →
     → rows ≡ option_to_list (option_map request_row (find p xs)) → ShowsRequest (find p xs) rows
 shown_request p xs rows whole are = go (find p xs) refl are
   where
-    go : (o : Option Request) → find p xs ≡ o → rows ≡ option_to_list (option_map request_row o) → ShowsRequest o rows
+    go : (o : Option Request) → find p xs ≡ o → rows ≡ option_to_list (option_map request_row o) →
+        ShowsRequest o rows
     go None is found = found
     go (Some x) is found = (found, all_has _ xs x whole (has_found p xs x is).0)
 
@@ -62,7 +65,8 @@ abbrev request_key : Index
 request_key = automatic at.the_requests 0 (1 ∷ 2 ∷ 3 ∷ 4 ∷ 5 ∷ []) 7
 
 request_keyed : Has book_schema.tables (bare at.the_requests) × Has book_schema.indexes request_key
-unfolding book_schema schema.up_to_reconciliations schema.up_to_postings schema.up_to_requests schema.up_to_ranges schema.up_to_terminals schema.up_to_merchants schema.up_to_book
+unfolding book_schema schema.up_to_reconciliations schema.up_to_postings schema.up_to_requests
+    schema.up_to_ranges schema.up_to_terminals schema.up_to_merchants schema.up_to_book
 request_keyed = (inr (inr (inr (inr (inl refl)))), inr (inr (inl refl)))
 
 all_five : (a b c d e : Bool) → (a && (b && (c && (d && (e && true))))) ≡ (a && b && c && d && e)
@@ -98,7 +102,8 @@ module _ (key : RequestKey) where
   abbrev has_key : Request → Bool
   has_key row = same_key row.key key
 
-  tested : (k : ℕ) (x : Request) → picked key_is (key_row key) (Int (pos k) ∷ request_row x) ≡ has_key x
+  tested : (k : ℕ) (x : Request) →
+      picked key_is (key_row key) (Int (pos k) ∷ request_row x) ≡ has_key x
   tested k x =
       rw (
         text_test x.key.merchant key.merchant,
@@ -111,7 +116,8 @@ module _ (key : RequestKey) where
       (bytes_eq x.key.transmission key.transmission))
 
   keyed : (a b : ℕ) (x y : Request) → has_key x ≡ true → has_key y ≡ true
-      → agree request_key.order request_key.columns (Int (pos a) ∷ request_row x) request_key.columns
+      → agree request_key.order request_key.columns
+      (Int (pos a) ∷ request_row x) request_key.columns
       (Int (pos b) ∷ request_row y) ≡ true
   unfolding first_key
   keyed a b x y h k =
@@ -141,15 +147,19 @@ module _ (key : RequestKey) where
         bytes_own key.transmission,
       ) refl
 
-  pub request_found : (old new : State) (t : Tables) (runs : List Running) (rows : List Row) → HoldsRows old.now t runs
+  pub request_found : (old new : State) (t : Tables) (runs : List Running) (rows : List Row) →
+      HoldsRows old.now t runs
       → Shown text.request_text (key_row key) old new rows → ShowsRequest (request_at t key) rows
   request_found old new t runs rows has shown =
       let ask = asks.request_asks in
       shown_request has_key t.requests rows has.recorded
-      (shows_one request_row book_schema 6 t.requests old new has.schema has.requests text.request_text (key_row key) _
-      ask.plain ask.unlisted rows shown key_is query.request_query.project has_key tested request_row (λ k x. refl)
+      (shows_one request_row book_schema 6 t.requests old new has.schema has.requests
+      text.request_text (key_row key) _
+      ask.plain ask.unlisted rows shown key_is query.request_query.project has_key tested
+      request_row (λ k x. refl)
       ask.is
-      (one_passes request_row book_schema old.now.trees (bare at.the_requests) request_key (fits_of book_schema old.now.trees has.sound) request_keyed.0
+      (one_passes request_row book_schema old.now.trees (bare at.the_requests) request_key
+      (fits_of book_schema old.now.trees has.sound) request_keyed.0
       request_keyed.1 refl t.requests has.requests key_is (key_row key) has_key tested keyed))
 
 -- ---- by reference
@@ -158,15 +168,18 @@ abbrev reference_key : Index
 reference_key = automatic at.the_requests 1 (1 ∷ 10 ∷ []) 8
 
 reference_keyed : Has book_schema.indexes reference_key
-unfolding book_schema schema.up_to_reconciliations schema.up_to_postings schema.up_to_requests schema.up_to_ranges schema.up_to_terminals schema.up_to_merchants schema.up_to_book
+unfolding book_schema schema.up_to_reconciliations schema.up_to_postings schema.up_to_requests
+    schema.up_to_ranges schema.up_to_terminals schema.up_to_merchants schema.up_to_book
 reference_keyed = inr (inr (inr (inl refl)))
 
-find_filtered : {X : Type 0} (p q : X → Bool) (xs : List X) → find (λ x. p x && q x) xs ≡ find q (filter p xs)
+find_filtered : {X : Type 0} (p q : X → Bool) (xs : List X) →
+    find (λ x. p x && q x) xs ≡ find q (filter p xs)
 find_filtered p q [] = refl
 find_filtered p q (x ∷ xs) =
     let rest = find_filtered p q xs in
     elim (p x)
-    as (λ b. cond (b && q x) (Some x) (find (λ y. p y && q y) xs) ≡ find q (cond b (x ∷ filter p xs) (filter p xs)))
+    as (λ b. cond (b && q x) (Some x) (find (λ y. p y && q y) xs)
+    ≡ find q (cond b (x ∷ filter p xs) (filter p xs)))
     [ true ↦ ap (λ o. cond (q x) (Some x) o) rest | false ↦ rest ]
 
 reference_test : (o : Option ℕ) (n : ℕ)
@@ -188,10 +201,15 @@ module _ (merchant : List ℕ) (reference : ℕ) where
 
   refers : (k : ℕ) (x : Request)
       → picked query.reference_query.filter sought (Int (pos k) ∷ request_row x) ≡ is_it x
-  refers k x = rw (text_test x.key.merchant merchant, reference_test x.reference reference, and_true) refl
+  refers k x = rw (
+    text_test x.key.merchant merchant,
+    reference_test x.reference reference,
+    and_true,
+  ) refl
 
   one_refers : (a b : ℕ) (x y : Request) → is_it x ≡ true → is_it y ≡ true
-      → agree reference_key.order reference_key.columns (Int (pos a) ∷ request_row x) reference_key.columns
+      → agree reference_key.order reference_key.columns
+      (Int (pos a) ∷ request_row x) reference_key.columns
       (Int (pos b) ∷ request_row y) ≡ true
   unfolding first_key
   one_refers a b x y h k =
@@ -216,20 +234,25 @@ module _ (merchant : List ℕ) (reference : ℕ) where
       let ask = asks.reference_asks in
       let test = query.reference_query.filter in
       let found = shown_request is_it t.requests rows has.recorded
-      (shows_one request_row book_schema 6 t.requests old new has.schema has.requests text.reference_text sought _
-      ask.plain ask.unlisted rows shown test query.reference_query.project is_it refers request_row (λ k x. refl)
+      (shows_one request_row book_schema 6 t.requests old new has.schema has.requests
+      text.reference_text sought _
+      ask.plain ask.unlisted rows shown test query.reference_query.project is_it refers request_row
+      (λ k x. refl)
       ask.is
-      (one_passes request_row book_schema old.now.trees (bare at.the_requests) reference_key (fits_of book_schema old.now.trees has.sound) request_keyed.0
+      (one_passes request_row book_schema old.now.trees (bare at.the_requests) reference_key
+      (fits_of book_schema old.now.trees has.sound) request_keyed.0
       reference_keyed refl t.requests has.requests test sought is_it refers one_refers)) in
       rw (find_filtered (λ (x : Request). bytes_eq x.key.merchant merchant)
       (λ (x : Request). is_number reference x.reference) t.requests) at found
 
   -- no two requests of the merchant have one reference
-  pub one_reference : (db : Trees) (xs : List Request) → Fits book_schema db → db 6 ≡ rows_of request_row xs
+  pub one_reference : (db : Trees) (xs : List Request) → Fits book_schema db →
+      db 6 ≡ rows_of request_row xs
       → length (filter is_it xs) ≤ 1
   one_reference db xs fits held =
       let test = query.reference_query.filter in
       let count = numbered_counted request_row (picked test sought) is_it xs refers in
       subst (λ n. n ≤ 1) (ap (λ l. length (filter (picked test sought) l)) held ∙ count)
-      (few_pass_key request_row book_schema db (bare at.the_requests) reference_key fits request_keyed.0
+      (few_pass_key request_row book_schema db (bare at.the_requests) reference_key fits
+      request_keyed.0
       reference_keyed refl xs held test sought is_it refers one_refers)

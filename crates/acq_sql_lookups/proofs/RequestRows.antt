@@ -1,5 +1,6 @@
 -- From the columns that were read to the request.
-use Rattle.std.proofs.Common.{◌≡◌, ◌==◌, ℕ, pos, Bool, List, [], ◌∷◌, length, slice_get, slice_index_or, Option, None, Some}
+use Rattle.std.proofs.Common.{◌≡◌, ◌==◌, ℕ, pos, Bool, List, [], ◌∷◌, length, slice_get}
+use Rattle.std.proofs.Common.{slice_index_or, Option, None, Some}
 use Rattle.std.proofs.Common.{Ok, refl, sym, ap, ◌∙◌, arith}
 use Rattle.sqlite_value.specs.declared.value.Value.TheVariants.{Int, Text}
 use Rattle.sqlite_value.specs.Order.{Row, column}
@@ -13,7 +14,8 @@ use Rattle.acq_core.specs.declared.request.Request.{Request}
 use Rattle.acq_sql_rows.specs.Rows.{request_row, status_number, leg_number, bit_of}
 use Rattle.acq_sql_rows.specs.ReadBack.{request_at}
 use Rattle.acq_sql_lookups.specs.Recorded.{request_cells, IsRowOf, HasKey, ShowsRequest}
-use Rattle.acq_sql_rows.proofs.TablesReadBack.{text_back, number_back, bit_back, leg_back, status_back, service_back}
+use Rattle.acq_sql_rows.proofs.TablesReadBack.{text_back, number_back, bit_back, leg_back}
+use Rattle.acq_sql_rows.proofs.TablesReadBack.{status_back, service_back}
 use Rattle.acq_sql_rows.proofs.TablesReadBack.{request_back}
 
 -- ---- a number stands for one value
@@ -43,13 +45,16 @@ cells_back a reply reads =
       reads,
     ) refl
 
-pub same_request : (a x : Request) (reply : List ℕ) → reading_of reply ≡ Ok a.reply → IsMessage x.reply
+pub same_request : (a x : Request) (reply : List ℕ) → reading_of reply ≡ Ok a.reply →
+    IsMessage x.reply
     → request_cells a reply ≡ request_row x → a ≡ x
 same_request a x reply reads whole h =
-    sym (cells_back a reply reads) ∙ ap (λ row. request_at (Int (pos 0) ∷ row)) h ∙ request_back 0 x whole
+    sym (cells_back a reply reads) ∙ ap (λ row. request_at (Int (pos 0) ∷ row)) h
+    ∙ request_back 0 x whole
 
 -- no row stands for none
-pub none_is : (o : Option Request) (rows : List Row) → ShowsRequest o rows → None ≡ slice_get rows 0 → None ≡ o
+pub none_is : (o : Option Request) (rows : List Row) → ShowsRequest o rows →
+    None ≡ slice_get rows 0 → None ≡ o
 none_is None rows are is = refl
 none_is (Some x) rows are is = absurd (let e = is ∙ ap (λ l. slice_get l 0) are.0 in cc)
 
@@ -66,19 +71,24 @@ row_is (Some x) rows row r are some read =
 -- ---- the columns of a row that was read
 
 eighteen_columns : (row : Row) → length row ≡ 18
-    → row ≡ column row 0 ∷ column row 1 ∷ column row 2 ∷ column row 3 ∷ column row 4 ∷ column row 5 ∷ column row 6
-    ∷ column row 7 ∷ column row 8 ∷ column row 9 ∷ column row 10 ∷ column row 11 ∷ column row 12 ∷ column row 13
+    → row ≡ column row 0 ∷ column row 1 ∷ column row 2 ∷ column row 3 ∷ column row 4 ∷ column row 5
+    ∷ column row 6
+    ∷ column row 7 ∷ column row 8 ∷ column row 9 ∷ column row 10 ∷ column row 11 ∷ column row 12
+    ∷ column row 13
     ∷ column row 14 ∷ column row 15 ∷ column row 16 ∷ column row 17 ∷ []
-eighteen_columns (a ∷ b ∷ c ∷ d ∷ e ∷ f ∷ g ∷ h ∷ i ∷ j ∷ k ∷ l ∷ m ∷ n ∷ o ∷ p ∷ q ∷ r ∷ []) len = refl
+eighteen_columns (a ∷ b ∷ c ∷ d ∷ e ∷ f ∷ g ∷ h ∷ i ∷ j ∷ k ∷ l ∷ m ∷ n ∷ o ∷ p ∷ q ∷ r ∷ []) len =
+    refl
 eighteen_columns row len = absurd (omega arith)
 
 pub request_is : (row : Row) (r : Request) (reply : List ℕ) → length row ≡ 18 → HasKey row r.key
-    → column row 5 ≡ Text r.essence → column row 6 ≡ number r.day → column row 7 ≡ number (status_number r.status)
+    → column row 5 ≡ Text r.essence → column row 6 ≡ number r.day →
+    column row 7 ≡ number (status_number r.status)
     → column row 8 ≡ number (bit_of r.admitted) → column row 9 ≡ number_or_null r.reference
     → column row 10 ≡ number_or_null r.follows → column row 11 ≡ number r.amount
     → column row 12 ≡ number (leg_number r.leg) → column row 13 ≡ text_or_null r.card
     → column row 14 ≡ text_or_null r.acquirer → column row 15 ≡ number_or_null r.hold_days
-    → column row 16 ≡ number_or_null r.hold_end → column row 17 ≡ Text reply → row ≡ request_cells r reply
+    → column row 16 ≡ number_or_null r.hold_end → column row 17 ≡ Text reply →
+    row ≡ request_cells r reply
 request_is row r reply len key e5 e6 e7 e8 e9 e10 e11 e12 e13 e14 e15 e16 e17 =
     eighteen_columns row len
     ∙ rw (

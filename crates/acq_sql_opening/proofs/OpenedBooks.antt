@@ -16,12 +16,14 @@ use Rattle.acq_sql_rows.specs.Relation.{Holds}
 use Rattle.acq_sql_changes.specs.Changed.{IsAt, HoldsAfter}
 
 -- the trees that the last commit left tell the schema, and the rows the tables
-pub opened_at : (s : State) (t : Tables) → Opens s → IsLive s → HoldsAfter t s.committed.trees → IsAt s t
+pub opened_at : (s : State) (t : Tables) → Opens s → IsLive s → HoldsAfter t s.committed.trees →
+    IsAt s t
 opened_at s t opens live left =
     let same : s.now.trees ≡ s.committed.trees = ap (λ (d : Database). d.trees) opens.clean in
     let schema_is : s.now.schema ≡ book_schema =
     one_schema book_schema s.now (live opens.is_open).0 (rw same left.rows.sound) in
-    let now_is : ◌≡◌ {A = Database} (record { schema = book_schema; trees = s.committed.trees }) s.now =
+    let now_is : ◌≡◌ {A = Database} (record { schema = book_schema; trees = s.committed.trees })
+    s.now =
     λ i. record { schema = sym schema_is i; trees = sym same i } in
     record {
       is_open = opens.is_open;
@@ -31,8 +33,10 @@ opened_at s t opens live left =
     }
 
 -- the same over files that hold such trees
-pub opened_over : {D : Type 0} {g : Ghosts D} (image : Image) (c : Held (FileStore D g)) (trees : Trees) (t : Tables)
+pub opened_over : {D : Type 0} {g : Ghosts D} (image : Image) (c : Held (FileStore D g))
+    (trees : Trees) (t : Tables)
     → IsOpened c → FindsIn image (file_state c) → HoldsDatabase image trees → HoldsAfter t trees
     → IsAt (file_state c) t
 opened_over image c trees t opened found holds left =
-    opened_at (file_state c) t opened.0 opened.1 (subst (HoldsAfter t) (sym (found.holds trees holds)) left)
+    opened_at (file_state c) t opened.0 opened.1
+    (subst (HoldsAfter t) (sym (found.holds trees holds)) left)

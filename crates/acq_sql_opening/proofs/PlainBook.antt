@@ -18,11 +18,14 @@ null_is : (value : Value) → is_null value ≡ true → value ≡ Null
 null_is Null is = refl
 null_is value is = absurd (cc)
 
-plain_columns : (cs : List Column) → list_all (λ c. is_null c.default) cs ≡ true → AllByRecursion IsPlainColumn cs
+plain_columns : (cs : List Column) → list_all (λ c. is_null c.default) cs ≡ true →
+    AllByRecursion IsPlainColumn cs
 plain_columns [] is = tt
-plain_columns (c ∷ cs) is = (null_is c.default (and_parts _ _ is).0, plain_columns cs (and_parts _ _ is).1)
+plain_columns (c ∷ cs) is =
+    (null_is c.default (and_parts _ _ is).0, plain_columns cs (and_parts _ _ is).1)
 
-plain_table : (t : Table) → t.checks ≡ [] → t.references ≡ [] → t.computed ≡ [] → t.stamps ≡ no_stamps
+plain_table : (t : Table) → t.checks ≡ [] → t.references ≡ [] → t.computed ≡ [] →
+    t.stamps ≡ no_stamps
     → list_all (λ c. is_null c.default) t.columns ≡ true → IsPlainTable t
 plain_table t checks references computed stamps columns = (
   record { checks = checks; references = references; computed = computed; stamps = stamps },
@@ -30,7 +33,8 @@ plain_table t checks references computed stamps columns = (
 )
 
 pub plain_book : IsPlainSchema book_schema
-unfolding book_schema schema.up_to_reconciliations schema.up_to_postings schema.up_to_requests schema.up_to_ranges schema.up_to_terminals schema.up_to_merchants schema.up_to_book
+unfolding book_schema schema.up_to_reconciliations schema.up_to_postings schema.up_to_requests
+    schema.up_to_ranges schema.up_to_terminals schema.up_to_merchants schema.up_to_book
 plain_book = (
   refl,
   (
@@ -45,7 +49,10 @@ plain_book = (
             plain_table _ refl refl refl refl refl,
             (
               plain_table _ refl refl refl refl refl,
-              (plain_table _ refl refl refl refl refl, (plain_table _ refl refl refl refl refl, tt)),
+              (
+                plain_table _ refl refl refl refl refl,
+                (plain_table _ refl refl refl refl refl, tt),
+              ),
             ),
           ),
         ),

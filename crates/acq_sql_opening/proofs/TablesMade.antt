@@ -12,12 +12,14 @@ use Rattle.row_lemmas.proofs.CreatedTables.{table_made, blank_made}
 use Rattle.acq_sql_rows.specs.Schema as schema
 use Rattle.acq_sql_rows.proofs.SchemaLemmas as text_is
 
-pub table_added : (sql : List ℕ) (old new : State) (res : Result ℕ Error) (schema : Schema) (table : Table)
+pub table_added : (sql : List ℕ) (old new : State) (res : Result ℕ Error) (schema : Schema)
+    (table : Table)
     → Makes schema sql table → IsBlank schema old.now → ExecutesInside 0 sql [] old new res
     → OnOk res (IsBlank (created schema table) new.now)
 table_added sql old new (Err e) schema table makes blank does = tt
 table_added sql old new (Ok count) schema table makes blank does =
-    blank_made schema table old new blank (table_made schema sql table makes old new (Ok count) blank.schema_is does.0)
+    blank_made schema table old new blank
+    (table_made schema sql table makes old new (Ok count) blank.schema_is does.0)
 
 -- ---- what each text makes
 
@@ -66,7 +68,8 @@ makes_ranges =
     }
 
 pub makes_requests : Makes schema.up_to_ranges schema.requests_text schema.requests
-unfolding understood everything schema.up_to_ranges schema.up_to_terminals schema.up_to_merchants schema.up_to_book
+unfolding understood everything schema.up_to_ranges schema.up_to_terminals schema.up_to_merchants
+    schema.up_to_book
 makes_requests =
     record {
       command = refl;
@@ -77,7 +80,8 @@ makes_requests =
     }
 
 pub makes_postings : Makes schema.up_to_requests schema.postings_text schema.postings
-unfolding understood everything schema.up_to_requests schema.up_to_ranges schema.up_to_terminals schema.up_to_merchants schema.up_to_book
+unfolding understood everything schema.up_to_requests schema.up_to_ranges schema.up_to_terminals
+    schema.up_to_merchants schema.up_to_book
 makes_postings =
     record {
       command = refl;
@@ -87,8 +91,10 @@ makes_postings =
       uncounted = refl;
     }
 
-pub makes_reconciliations : Makes schema.up_to_postings schema.reconciliations_text schema.reconciliations
-unfolding understood everything schema.up_to_postings schema.up_to_requests schema.up_to_ranges schema.up_to_terminals schema.up_to_merchants schema.up_to_book
+pub makes_reconciliations : Makes schema.up_to_postings schema.reconciliations_text
+    schema.reconciliations
+unfolding understood everything schema.up_to_postings schema.up_to_requests schema.up_to_ranges
+    schema.up_to_terminals schema.up_to_merchants schema.up_to_book
 makes_reconciliations =
     record {
       command = refl;
@@ -99,7 +105,9 @@ makes_reconciliations =
     }
 
 pub makes_running : Makes schema.up_to_reconciliations schema.running_text schema.running
-unfolding understood everything schema.up_to_reconciliations schema.up_to_postings schema.up_to_requests schema.up_to_ranges schema.up_to_terminals schema.up_to_merchants schema.up_to_book
+unfolding understood everything schema.up_to_reconciliations schema.up_to_postings
+    schema.up_to_requests schema.up_to_ranges schema.up_to_terminals schema.up_to_merchants
+    schema.up_to_book
 makes_running =
     record {
       command = refl;

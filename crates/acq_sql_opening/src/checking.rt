@@ -20,9 +20,9 @@ use sqlite::{Alter, Connection, Error, Row};
 use sqlite_schema::schema::Schema;
 use std::alloc::Global;
 
-/// Whether the database is a book of this version: it has the book's tables and no other object, and
-/// the book's one row, whose version is this one. The allocator is for the tables that it compares
-/// them with.
+/// Whether the database is a book of this version: it has the book's tables and no other object,
+/// and the book's one row, whose version is this one. The allocator is for the tables that it
+/// compares them with.
 pub fn check_book<S: Alter>(conn: &mut Connection<S>, alloc: Global) -> Result<(), OpeningFault>
     ensures judged { HasCleanDisk (state S.Store conn.new)
         → Judges (state S.Store conn.old).now result }

@@ -1,5 +1,6 @@
 -- The tables that a database holds are those that it stands for, so it holds no others.
-use Rattle.std.proofs.Common.{◌≡◌, ℕ, suc, pos, Bool, true, false, List, [], ◌∷◌, map, Option, None, Some}
+use Rattle.std.proofs.Common.{◌≡◌, ℕ, suc, pos, Bool, true, false, List, [], ◌∷◌, map, Option, None}
+use Rattle.std.proofs.Common.{Some}
 use Rattle.std.proofs.Common.{find, unwrap_or, slice_index_or, ◌==◌, refl, sym, ap, ap₂, ◌∙◌}
 use Rattle.std.specs.Str.{bytes_eq}
 use Rattle.std.specs.List.{AllByRecursion}
@@ -15,19 +16,25 @@ use Rattle.iso_codec.proofs.ReadingComputes.{reads_as}
 use Rattle.iso_codec.proofs.SpellingComputes.{spelling_writes}
 use Rattle.day_totals.specs.Totals.{all_legs}
 use Rattle.day_totals.specs.declared.leg.Leg.{Leg}
-use Rattle.day_totals.specs.declared.leg.Leg.TheVariants.{Credit, CreditReversal, Debit, DebitReversal}
+use Rattle.day_totals.specs.declared.leg.Leg.TheVariants.{Credit, CreditReversal, Debit}
+use Rattle.day_totals.specs.declared.leg.Leg.TheVariants.{DebitReversal}
 use Rattle.acq_message.specs.Services.{digits_of}
 use Rattle.acq_message.specs.declared.service.Service.{Service}
-use Rattle.acq_message.specs.declared.service.Service.TheVariants.{Authorization, Financial, Completion, Reversal}
-use Rattle.acq_message.specs.declared.service.Service.TheVariants.{ReversalAdvice, Reconciliation, NetworkManagement}
+use Rattle.acq_message.specs.declared.service.Service.TheVariants.{Authorization, Financial}
+use Rattle.acq_message.specs.declared.service.Service.TheVariants.{Completion, Reversal}
+use Rattle.acq_message.specs.declared.service.Service.TheVariants.{ReversalAdvice, Reconciliation}
+use Rattle.acq_message.specs.declared.service.Service.TheVariants.{NetworkManagement}
 use Rattle.acq_core.specs.declared.request.Request.{Request}
 use Rattle.acq_core.specs.declared.status.Status.{Status}
 use Rattle.acq_core.specs.declared.status.Status.TheVariants as status
 use Rattle.acq_core.specs.Tables.{Tables}
-use Rattle.acq_sql_rows.specs.Rows.{merchant_row, terminal_row, range_row, request_row, posting_row, reconciliation_row}
+use Rattle.acq_sql_rows.specs.Rows.{merchant_row, terminal_row, range_row, request_row, posting_row}
+use Rattle.acq_sql_rows.specs.Rows.{reconciliation_row}
 use Rattle.acq_sql_rows.specs.Rows.{status_number, leg_number, bit_of}
-use Rattle.acq_sql_rows.specs.ReadBack.{tables_in, tables_of, merchant_at, terminal_at, range_at, request_at, posting_at}
-use Rattle.acq_sql_rows.specs.ReadBack.{reconciliation_at, all_statuses, all_services, text_if, number_if, message_read}
+use Rattle.acq_sql_rows.specs.ReadBack.{tables_in, tables_of, merchant_at, terminal_at, range_at}
+use Rattle.acq_sql_rows.specs.ReadBack.{request_at, posting_at}
+use Rattle.acq_sql_rows.specs.ReadBack.{reconciliation_at, all_statuses, all_services, text_if}
+use Rattle.acq_sql_rows.specs.ReadBack.{number_if, message_read}
 use Rattle.acq_sql_rows.specs.Relation.{Holds}
 
 -- ---- values
@@ -71,11 +78,13 @@ service_back Reconciliation = refl
 service_back NetworkManagement = refl
 
 message_back : (m : IsoMessage) → IsMessage m → message_read (reading_of (spelling m)) ≡ m
-message_back m whole = ap message_read (reads_as (spelling m) m (is_read (spelling m) m (spelling_writes m whole)))
+message_back m whole =
+    ap message_read (reads_as (spelling m) m (is_read (spelling m) m (spelling_writes m whole)))
 
 -- ---- rows
 
-pub request_back : (id : ℕ) (r : Request) → IsMessage r.reply → request_at (Int (pos id) ∷ request_row r) ≡ r
+pub request_back : (id : ℕ) (r : Request) → IsMessage r.reply →
+    request_at (Int (pos id) ∷ request_row r) ≡ r
 request_back id r whole =
     rw (
       service_back r.key.service,
@@ -123,7 +132,8 @@ tables_of-holds db t holds =
       keyed_back range_row range_at (λ x. refl) t.ranges,
       requests_back 1 t.requests h.recorded,
       numbered_back posting_row posting_at (λ id p. rw (leg_back p.1.leg) refl) 1 t.postings,
-      numbered_back reconciliation_row reconciliation_at (λ id r. rw (bit_back r.1.in_balance) refl) 1 t.reconciliations,
+      numbered_back reconciliation_row reconciliation_at (λ id r. rw (bit_back r.1.in_balance) refl)
+          1 t.reconciliations,
     ) refl)
 
 -- so it holds no others

@@ -1,7 +1,8 @@
 -- What the texts of the writes mean, computed.
 use Rattle.std.proofs.Common.{◌≡◌, List, ℕ, refl, [], ◌∷◌}
 use Rattle.sqlite_schema.specs.declared.command.Command.{Command}
-use Rattle.sqlite_schema.specs.declared.command.Command.TheVariants.{Insert, InsertOr, Update, Delete}
+use Rattle.sqlite_schema.specs.declared.command.Command.TheVariants.{Insert, InsertOr, Update}
+use Rattle.sqlite_schema.specs.declared.command.Command.TheVariants.{Delete}
 use Rattle.sqlite_schema.specs.declared.command.Conflict.TheVariants.{Abort}
 use Rattle.sqlite_schema.specs.declared.command.Source.TheVariants.{Values}
 use Rattle.sqlite_tied.specs.Compute.{everything}
@@ -20,49 +21,73 @@ Means text command =
     (command_of (understood book_schema text) ≡ command) × IsPlain (understood book_schema text)
 
 pub add_book_means : Means text.add_book_text (Insert 0 (Values (new_row 3) 4))
-unfolding understood everything book_schema schema.up_to_reconciliations schema.up_to_postings schema.up_to_requests schema.up_to_ranges schema.up_to_terminals schema.up_to_merchants schema.up_to_book
+unfolding understood everything book_schema schema.up_to_reconciliations schema.up_to_postings
+    schema.up_to_requests schema.up_to_ranges schema.up_to_terminals schema.up_to_merchants
+    schema.up_to_book
 add_book_means = (refl, (refl, refl))
 
 pub set_day_means : Means text.set_day_text (Update 0 (alone set_day_query))
-unfolding understood everything book_schema schema.up_to_reconciliations schema.up_to_postings schema.up_to_requests schema.up_to_ranges schema.up_to_terminals schema.up_to_merchants schema.up_to_book
+unfolding understood everything book_schema schema.up_to_reconciliations schema.up_to_postings
+    schema.up_to_requests schema.up_to_ranges schema.up_to_terminals schema.up_to_merchants
+    schema.up_to_book
 set_day_means = (refl, (refl, refl))
 
 pub add_merchant_means : Means text.add_merchant_text (Insert 1 (Values (new_row 3) 4))
-unfolding understood everything book_schema schema.up_to_reconciliations schema.up_to_postings schema.up_to_requests schema.up_to_ranges schema.up_to_terminals schema.up_to_merchants schema.up_to_book
+unfolding understood everything book_schema schema.up_to_reconciliations schema.up_to_postings
+    schema.up_to_requests schema.up_to_ranges schema.up_to_terminals schema.up_to_merchants
+    schema.up_to_book
 add_merchant_means = (refl, (refl, refl))
 
 pub add_terminal_means : Means text.add_terminal_text (Insert 2 (Values (new_row 2) 3))
-unfolding understood everything book_schema schema.up_to_reconciliations schema.up_to_postings schema.up_to_requests schema.up_to_ranges schema.up_to_terminals schema.up_to_merchants schema.up_to_book
+unfolding understood everything book_schema schema.up_to_reconciliations schema.up_to_postings
+    schema.up_to_requests schema.up_to_ranges schema.up_to_terminals schema.up_to_merchants
+    schema.up_to_book
 add_terminal_means = (refl, (refl, refl))
 
 pub add_range_means : Means text.add_range_text (Insert 3 (Values new_range 5))
-unfolding understood everything book_schema schema.up_to_reconciliations schema.up_to_postings schema.up_to_requests schema.up_to_ranges schema.up_to_terminals schema.up_to_merchants schema.up_to_book
+unfolding understood everything book_schema schema.up_to_reconciliations schema.up_to_postings
+    schema.up_to_requests schema.up_to_ranges schema.up_to_terminals schema.up_to_merchants
+    schema.up_to_book
 add_range_means = (refl, (refl, refl))
 
 pub drop_range_means : Means text.drop_range_text (Delete 3 (alone drop_range_query))
-unfolding understood everything book_schema schema.up_to_reconciliations schema.up_to_postings schema.up_to_requests schema.up_to_ranges schema.up_to_terminals schema.up_to_merchants schema.up_to_book
+unfolding understood everything book_schema schema.up_to_reconciliations schema.up_to_postings
+    schema.up_to_requests schema.up_to_ranges schema.up_to_terminals schema.up_to_merchants
+    schema.up_to_book
 drop_range_means = (refl, (refl, refl))
 
 pub add_request_means : Means text.add_request_text (Insert 4 (Values (new_row 18) 19))
-unfolding understood everything book_schema schema.up_to_reconciliations schema.up_to_postings schema.up_to_requests schema.up_to_ranges schema.up_to_terminals schema.up_to_merchants schema.up_to_book
+unfolding understood everything book_schema schema.up_to_reconciliations schema.up_to_postings
+    schema.up_to_requests schema.up_to_ranges schema.up_to_terminals schema.up_to_merchants
+    schema.up_to_book
 add_request_means = (refl, (refl, refl))
 
 pub answer_means : Means text.answer_text (Update 4 (alone answer_query))
-unfolding understood everything book_schema schema.up_to_reconciliations schema.up_to_postings schema.up_to_requests schema.up_to_ranges schema.up_to_terminals schema.up_to_merchants schema.up_to_book
+unfolding understood everything book_schema schema.up_to_reconciliations schema.up_to_postings
+    schema.up_to_requests schema.up_to_ranges schema.up_to_terminals schema.up_to_merchants
+    schema.up_to_book
 answer_means = (refl, (refl, refl))
 
 pub follow_means : Means text.follow_text (Update 4 (alone follow_query))
-unfolding understood everything book_schema schema.up_to_reconciliations schema.up_to_postings schema.up_to_requests schema.up_to_ranges schema.up_to_terminals schema.up_to_merchants schema.up_to_book
+unfolding understood everything book_schema schema.up_to_reconciliations schema.up_to_postings
+    schema.up_to_requests schema.up_to_ranges schema.up_to_terminals schema.up_to_merchants
+    schema.up_to_book
 follow_means = (refl, (refl, refl))
 
 pub add_posting_means : Means text.add_posting_text (Insert 5 (Values (new_row 9) 10))
-unfolding understood everything book_schema schema.up_to_reconciliations schema.up_to_postings schema.up_to_requests schema.up_to_ranges schema.up_to_terminals schema.up_to_merchants schema.up_to_book
+unfolding understood everything book_schema schema.up_to_reconciliations schema.up_to_postings
+    schema.up_to_requests schema.up_to_ranges schema.up_to_terminals schema.up_to_merchants
+    schema.up_to_book
 add_posting_means = (refl, (refl, refl))
 
 pub add_reconciliation_means : Means text.add_reconciliation_text (Insert 6 (Values (new_row 4) 5))
-unfolding understood everything book_schema schema.up_to_reconciliations schema.up_to_postings schema.up_to_requests schema.up_to_ranges schema.up_to_terminals schema.up_to_merchants schema.up_to_book
+unfolding understood everything book_schema schema.up_to_reconciliations schema.up_to_postings
+    schema.up_to_requests schema.up_to_ranges schema.up_to_terminals schema.up_to_merchants
+    schema.up_to_book
 add_reconciliation_means = (refl, (refl, refl))
 
 pub raise_means : Means text.raise_text (InsertOr 7 Abort (Values (new_row 11) 12) (raises ∷ []))
-unfolding understood everything book_schema schema.up_to_reconciliations schema.up_to_postings schema.up_to_requests schema.up_to_ranges schema.up_to_terminals schema.up_to_merchants schema.up_to_book
+unfolding understood everything book_schema schema.up_to_reconciliations schema.up_to_postings
+    schema.up_to_requests schema.up_to_ranges schema.up_to_terminals schema.up_to_merchants
+    schema.up_to_book
 raise_means = (refl, (refl, refl))

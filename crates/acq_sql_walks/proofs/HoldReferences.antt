@@ -1,5 +1,6 @@
 -- An approved authorization has a reference.
-use Rattle.std.proofs.Common.{◌≡◌, ◌||◌, Bool, true, false, true≢false, cond, not, inl, inr, List, [], ◌∷◌, ◌++◌, map}
+use Rattle.std.proofs.Common.{◌≡◌, ◌||◌, Bool, true, false, true≢false, cond, not, inl, inr, List}
+use Rattle.std.proofs.Common.{[], ◌∷◌, ◌++◌, map}
 use Rattle.std.proofs.Common.{None, refl, sym, ap, subst, ◌∙◌}
 use Rattle.std.specs.List.{list_any}
 use Rattle.std.proofs.lemmas.Bool.{and_parts}
@@ -14,7 +15,8 @@ use Rattle.acq_core.specs.declared.reply_state.ReplyState.TheVariants.{Kept, Awa
 use Rattle.acq_core.specs.declared.request.Request.{Request}
 use Rattle.acq_core.specs.Changes.{change_of, reversed_status}
 use Rattle.acq_core.specs.Pasts.{HasPast}
-use Rattle.acq_core.specs.Tables.{Tables, new_tables, is_approved, known_in, with_changed, after_any, step_tables}
+use Rattle.acq_core.specs.Tables.{Tables, new_tables, is_approved, known_in, with_changed}
+use Rattle.acq_core.specs.Tables.{after_any, step_tables}
 use Rattle.acq_book.specs.Lookups.{is_authorization}
 use Rattle.acq_history.specs.Entries.{is_reversal}
 use Rattle.acq_history.proofs.Keys.{same_key_from, same_key_is}
@@ -27,7 +29,8 @@ use Rattle.acq_invariants.proofs.Runs.{kept}
 -- if it is an approved authorization, it has a reference
 abbrev IsReferred : Request → Type 0
 IsReferred row =
-    is_authorization row.key.service ≡ true → is_approved row.status ≡ true → row.reference ≡ None → ⊥
+    is_authorization row.key.service ≡ true → is_approved row.status ≡ true → row.reference ≡ None →
+    ⊥
 
 abbrev AreReferred : List Request → Type 0
 AreReferred rows = (row : Request) → In row rows → IsReferred row
@@ -40,14 +43,16 @@ none_alike key (x ∷ rows) b (inl is) same =
     ap (λ c. c || list_any (same_key key) (map (λ row. row.key) rows))
     (same_key_from key x.key (same ∙ ap (λ (r : Request). r.key) (sym is)))
 none_alike key (x ∷ rows) b (inr there) same =
-    ap (λ c. same_key key x.key || c) (none_alike key rows b there same) ∙ either (same_key key x.key)
+    ap (λ c. same_key key x.key || c) (none_alike key rows b there same)
+    ∙ either (same_key key x.key)
   where
     either : (c : Bool) → (c || true) ≡ true
     either true = refl
     either false = refl
 none_alike key [] b here same = absurd here
 
-one_request : (rows : List Request) (a b : Request) → are_distinct same_key (map (λ row. row.key) rows) ≡ true
+one_request : (rows : List Request) (a b : Request) →
+    are_distinct same_key (map (λ row. row.key) rows) ≡ true
     → In a rows → In b rows → a.key ≡ b.key → a ≡ b
 one_request [] a b unique here there same = absurd here
 one_request (x ∷ rows) a b unique (inl is) (inl are) same = sym is ∙ are
@@ -62,19 +67,23 @@ one_request (x ∷ rows) a b unique (inr here) (inr there) same =
 
 -- ---- rows that come, and rows that change
 
-with_row : (rows : List Request) (row : Request) → AreReferred rows → IsReferred row → AreReferred (rows ++ row ∷ [])
+with_row : (rows : List Request) (row : Request) → AreReferred rows → IsReferred row →
+    AreReferred (rows ++ row ∷ [])
 with_row rows row are is x member = elim (In-push x rows row member) [
   | inl old ↦ are x old
   | inr new ↦ subst IsReferred new is
 ]
 
-with_changes : (rows : List Request) (key : RequestKey) (changed : Request → Request) → AreReferred rows
-    → ((y : Request) → In y rows → y.key ≡ key → IsReferred (changed y)) → AreReferred (with_changed key changed rows)
+with_changes : (rows : List Request) (key : RequestKey) (changed : Request → Request) →
+    AreReferred rows
+    → ((y : Request) → In y rows → y.key ≡ key → IsReferred (changed y)) →
+    AreReferred (with_changed key changed rows)
 with_changes rows key changed are keeps x member =
     let it = In-mapped (λ row. cond (same_key row.key key) (changed row) row) x rows member in
     subst IsReferred it.2 (go it.0 it.1 (same_key it.0.key key) refl)
   where
-    go : (y : Request) → In y rows → (b : Bool) → same_key y.key key ≡ b → IsReferred (cond b (changed y) y)
+    go : (y : Request) → In y rows → (b : Bool) → same_key y.key key ≡ b →
+        IsReferred (cond b (changed y) y)
     go y here true is = keeps y here (same_key_is y.key key is)
     go y here false is = are y here
 
@@ -95,7 +104,8 @@ reversed_not Late h = true≢false (sym h)
 abbrev HasBoth : Tables → Type 0
 HasBoth t = HasUniqueKeys t × AreReferred t.requests
 
-referred_after_step : (t : Tables) (a : Arrival) → HasBoth t → AreReferred (step_tables t a).requests
+referred_after_step : (t : Tables) (a : Arrival) → HasBoth t →
+    AreReferred (step_tables t a).requests
 referred_after_step t a (unique, h) =
     by_step t a (λ d. AreReferred (after_any t (change_of (known_in t a) d)).requests)
     (record {
@@ -134,8 +144,12 @@ referred_after_step t a (unique, h) =
 pub holds_referred : (t : Tables) → HasPast t → AreReferred t.requests
 holds_referred t (opening, book) =
     subst (λ (s : Tables). AreReferred s.requests) (sym book.after)
-    (kept HasBoth (λ s a both. (unique_after_step s a both.0, referred_after_step s a both)) (new_tables opening)
-    book.events (record { requests = refl; merchants = refl; terminals = refl }, λ row here. absurd here)).1
+    (kept HasBoth (λ s a both. (unique_after_step s a both.0, referred_after_step s a both))
+    (new_tables opening)
+    book.events (
+      record { requests = refl; merchants = refl; terminals = refl },
+      λ row here. absurd here,
+    )).1
 
 pub in_from_has : (rows : List Request) (row : Request) → Has rows row → In row rows
 in_from_has [] row here = absurd here

@@ -1,7 +1,9 @@
 -- What the walk over a merchant's holds answers.
-use Rattle.std.proofs.Common.{◌≡◌, ◌&&◌, ◌==◌, ◌≤◌, Bool, true, false, true≢false, inl, inr, ℕ, pos, Ordering, Less}
+use Rattle.std.proofs.Common.{◌≡◌, ◌&&◌, ◌==◌, ◌≤◌, Bool, true, false, true≢false, inl, inr, ℕ, pos}
+use Rattle.std.proofs.Common.{Ordering, Less}
 use Rattle.std.proofs.Common.{Equal}
-use Rattle.std.proofs.Common.{cond, codes, Option, None, Some, List, [], ◌∷◌, map, filter, length, nat_lt, refl, sym}
+use Rattle.std.proofs.Common.{cond, codes, Option, None, Some, List, [], ◌∷◌, map, filter, length}
+use Rattle.std.proofs.Common.{nat_lt, refl, sym}
 use Rattle.std.proofs.Common.{ap}
 use Rattle.std.proofs.Common.{subst, ◌∙◌, arith}
 use Rattle.std.specs.List.Sorted.{IsPermutation}
@@ -24,8 +26,10 @@ use Rattle.row_lemmas.proofs.ColumnTests.{text_test, number_test, and_true}
 use Rattle.row_lemmas.proofs.ListReads.{shows_ordered}
 use Rattle.row_lemmas.proofs.QueryRows.{picked}
 use Rattle.acq_message.specs.declared.service.Service.{Service}
-use Rattle.acq_message.specs.declared.service.Service.TheVariants.{Authorization, Financial, Completion, Reversal}
-use Rattle.acq_message.specs.declared.service.Service.TheVariants.{ReversalAdvice, Reconciliation, NetworkManagement}
+use Rattle.acq_message.specs.declared.service.Service.TheVariants.{Authorization, Financial}
+use Rattle.acq_message.specs.declared.service.Service.TheVariants.{Completion, Reversal}
+use Rattle.acq_message.specs.declared.service.Service.TheVariants.{ReversalAdvice, Reconciliation}
+use Rattle.acq_message.specs.declared.service.Service.TheVariants.{NetworkManagement}
 use Rattle.acq_message.specs.Numbers.{is_number}
 use Rattle.acq_message.specs.Services.{digits_of}
 use Rattle.acq_core.specs.declared.request.Request.{Request}
@@ -47,7 +51,8 @@ use Rattle.acq_sql_walks.specs.Queries as query
 use Rattle.acq_sql_walks.proofs.TextLemmas as asks
 use Rattle.acq_sql_walks.proofs.Visiting.{AreOwn}
 use Rattle.acq_sql_walks.proofs.Walking.{ShowsList}
-use Rattle.acq_sql_walks.proofs.Ordering.{sorted_total, ordered_is, in_order_has, filter_both, numbers_compare}
+use Rattle.acq_sql_walks.proofs.Ordering.{sorted_total, ordered_is, in_order_has, filter_both}
+use Rattle.acq_sql_walks.proofs.Ordering.{numbers_compare}
 use Rattle.acq_sql_walks.proofs.Ordering.{numbers_tied}
 use Rattle.acq_sql_walks.proofs.HoldReferences.{holds_referred, in_from_has}
 
@@ -84,7 +89,9 @@ references_tied : (a b : Option ℕ) → value_cmp (number_or_null a) (number_or
 references_tied None None is = refl
 references_tied None (Some n) is = absurd (let e : Less ≡ Equal = sym (null_before n) ∙ is in cc)
 references_tied (Some n) None is =
-    absurd (let e = sym (value_cmp_total.antisymm (number n) Null ∙ ap ordering_reverse (null_before n)) ∙ is in cc)
+    absurd (let e =
+    sym (value_cmp_total.antisymm (number n) Null ∙ ap ordering_reverse (null_before n)) ∙ is in
+    cc)
 references_tied (Some n) (Some m) is = numbers_tied n m (sym (numbers_compare n m) ∙ is)
 
 compare : (a b : Request) → is_lt (by_reference a b) ≡ is_reference_before a.reference b.reference
@@ -127,7 +134,8 @@ fewer p q narrower [] = omega arith
 fewer p q narrower (x ∷ xs) = go (p x) (q x) (narrower x) (fewer p q narrower xs)
   where
     go : (b c : Bool) → (b ≡ true → c ≡ true) → length (filter p xs) ≤ length (filter q xs)
-        → length (cond b (x ∷ filter p xs) (filter p xs)) ≤ length (cond c (x ∷ filter q xs) (filter q xs))
+        → length (cond b (x ∷ filter p xs) (filter p xs))
+        ≤ length (cond c (x ∷ filter q xs) (filter q xs))
     go true true over rest = omega (arith, rest)
     go true false over rest = absurd (true≢false (sym (over refl)))
     go false true over rest = omega (arith, rest)
@@ -138,7 +146,8 @@ none_pass : {X : Type 0} (p : X → Bool) (xs : List X) → ((x : X) → Has xs 
 none_pass p [] none = omega arith
 none_pass p (x ∷ xs) none = go (p x) refl (none_pass p xs (λ y h. none y (inr h)))
   where
-    go : (b : Bool) → p x ≡ b → length (filter p xs) ≤ 1 → length (cond b (x ∷ filter p xs) (filter p xs)) ≤ 1
+    go : (b : Bool) → p x ≡ b → length (filter p xs) ≤ 1 →
+        length (cond b (x ∷ filter p xs) (filter p xs)) ≤ 1
     go true is rest = absurd (none x (inl refl) is)
     go false is rest = rest
 
@@ -167,21 +176,24 @@ module _ (m : List ℕ) where
         status_is x.status,
       ) refl
 
-  once : (t : Tables) → HasPast t → (db : Trees) → Fits book_schema db → db 6 ≡ rows_of request_row t.requests
+  once : (t : Tables) → HasPast t → (db : Trees) → Fits book_schema db →
+      db 6 ≡ rows_of request_row t.requests
       → (o : Option ℕ) → length (filter (λ x. same_reference o x.reference) (holds t.requests)) ≤ 1
   once t past db fits held None =
       none_pass (λ x. same_reference None x.reference) (holds t.requests) (λ x here is.
       let opened = has_filtered is_open (filter mine t.requests) x here in
       let among = has_filtered mine t.requests x opened.0 in
       let both = and_parts _ _ opened.1 in
-      holds_referred t past x (in_from_has t.requests x among.0) both.0 both.1 (none_is x.reference is))
+      holds_referred t past x (in_from_has t.requests x among.0) both.0 both.1
+      (none_is x.reference is))
     where
       none_is : (r : Option ℕ) → same_reference None r ≡ true → r ≡ None
       none_is None is = refl
       none_is (Some n) is = absurd (true≢false (sym is))
   once t past db fits held (Some n) =
       let few = one_reference m n db t.requests fits held in
-      let more = fewer (λ x. passes x && is_number n x.reference) (λ x. mine x && is_number n x.reference)
+      let more = fewer (λ x. passes x && is_number n x.reference)
+      (λ x. mine x && is_number n x.reference)
       (λ x h. keep (mine x) (is_open x) (is_number n x.reference) h) t.requests in
       let numbered = λ (x : Request). is_number n x.reference in
       let same_list = ap length (ap (filter numbered) (filter_both mine is_open t.requests)
@@ -193,19 +205,25 @@ module _ (m : List ℕ) where
       keep true false c h = absurd (true≢false (sym h))
       keep false b c h = h
 
-  holds_found : (old : State) (t : Tables) (runs : List Running) → HoldsRows old.now t runs → HasPast t
-      → (rows : List Row) → Shown text.holds_text (Text m ∷ []) old old rows → rows ≡ map request_row (holds_at t m)
+  holds_found : (old : State) (t : Tables) (runs : List Running) → HoldsRows old.now t runs →
+      HasPast t
+      → (rows : List Row) → Shown text.holds_text (Text m ∷ []) old old rows →
+      rows ≡ map request_row (holds_at t m)
   holds_found old t runs has past rows shown =
       let ask = asks.holds_asks in
       let it = query.holds_query in
-      let all = shows_ordered request_row book_schema 6 t.requests old old has.schema has.requests text.holds_text
-      (Text m ∷ []) _ ask.plain ask.unlisted rows shown it.filter it.project passes tested it.order it.limit out
+      let all = shows_ordered request_row book_schema 6 t.requests old old has.schema has.requests
+      text.holds_text
+      (Text m ∷ []) _ ask.plain ask.unlisted rows shown it.filter it.project passes tested it.order
+      it.limit out
       (λ id x. refl) ask.is in
       all.3
       ∙ ap (map request_row) (ordered_is by_reference (sorted_total query.holds_query out)
-      (λ a b. is_reference_before a.reference b.reference) compare same tied (holds t.requests) all.0
+      (λ a b. is_reference_before a.reference b.reference) compare same tied
+      (holds t.requests) all.0
       (subst (λ l. IsPermutation l all.0) (sym (filter_both mine is_open t.requests)) all.1) all.2
-      (λ a. once t past old.now.trees (fits_of book_schema old.now.trees has.sound) has.requests a.reference))
+      (λ a. once t past old.now.trees (fits_of book_schema old.now.trees has.sound) has.requests
+      a.reference))
 
   -- ---- a row is one request's
 
@@ -220,7 +238,8 @@ module _ (m : List ℕ) where
       let it = read refl in
       same_request x y it.0 it.2 (all_has _ t.requests y recorded listed) (sym it.1)
 
-  pub holds_list : (old : State) (t : Tables) → Holds old.now t → HasPast t → ShowsList text.holds_text
+  pub holds_list : (old : State) (t : Tables) → Holds old.now t → HasPast t →
+      ShowsList text.holds_text
       (Text m ∷ []) old (λ row r. length row ≡ 18 → IsRowOf row r) (holds_at t m)
   holds_list old t kept past =
       record {

@@ -1,5 +1,6 @@
 -- What the walk over merchants answers.
-use Rattle.std.proofs.Common.{◌≡◌, true, Ordering, Equal, List, [], ◌∷◌, map, filter, length, refl, sym}
+use Rattle.std.proofs.Common.{◌≡◌, true, Ordering, Equal, List, [], ◌∷◌, map, filter, length, refl}
+use Rattle.std.proofs.Common.{sym}
 use Rattle.std.proofs.Common.{ap, subst, ◌∙◌}
 use Rattle.std.specs.List.Sorted.{IsPermutation}
 use Rattle.std.specs.Str.{bytes_eq}
@@ -44,13 +45,16 @@ tied a b is =
     sym (is_eq-slice_cmp a.id b.id) ∙ ap is_eq (sym (names_compare a b) ∙ is) in
     ap (λ id. bytes_eq b.id id) (bytes_same a.id b.id alike) ∙ bytes_own b.id
 
-merchants_found : (old : State) (t : Tables) (runs : List Running) → HoldsRows old.now t runs → (rows : List Row)
+merchants_found : (old : State) (t : Tables) (runs : List Running) → HoldsRows old.now t runs →
+    (rows : List Row)
     → Shown text.merchants_text [] old old rows → rows ≡ map merchant_row (merchants_at t)
 merchants_found old t runs has rows shown =
     let ask = asks.merchants_asks in
     let it = query.merchants_query in
-    let all = shows_ordered merchant_row book_schema 1 t.merchants old old has.schema has.merchants text.merchants_text
-    [] _ ask.plain ask.unlisted rows shown it.filter it.project (λ x. true) (λ id x. refl) it.order it.limit out
+    let all = shows_ordered merchant_row book_schema 1 t.merchants old old has.schema has.merchants
+    text.merchants_text
+    [] _ ask.plain ask.unlisted rows shown it.filter it.project (λ x. true)
+    (λ id x. refl) it.order it.limit out
     (λ id x. refl) ask.is in
     let every = filter_all t.merchants in
     all.3
@@ -58,7 +62,8 @@ merchants_found old t runs has rows shown =
     (λ a b. is_lt (slice_cmp nat_cmp a.id b.id))
     (λ a b. ap is_lt (names_compare a b)) (λ a b. bytes_eq b.id a.id) tied t.merchants all.0
     (subst (λ l. IsPermutation l all.0) every all.1) all.2
-    (λ a. one_merchant a.id old.now.trees t.merchants (fits_of book_schema old.now.trees has.sound) has.merchants))
+    (λ a. one_merchant a.id old.now.trees t.merchants (fits_of book_schema old.now.trees has.sound)
+    has.merchants))
   where
     filter_all : (xs : List Merchant) → filter (λ x. true) xs ≡ xs
     filter_all [] = refl
@@ -71,11 +76,13 @@ same_merchant a b h =
     let e2 : a.first_reference ≡ b.first_reference = cc in
     λ i. record { id = e0 i; currency = e1 i; first_reference = e2 i }
 
-merchants_own : (ys : List Merchant) → AreOwn (λ row m. length row ≡ 3 → row ≡ merchant_row m) merchant_row ys
+merchants_own : (ys : List Merchant) →
+    AreOwn (λ row m. length row ≡ 3 → row ≡ merchant_row m) merchant_row ys
 merchants_own ys y x here read = same_merchant x y (sym (read refl))
 
 pub merchants_list : (old : State) (t : Tables) → Holds old.now t
-    → ShowsList text.merchants_text [] old (λ row m. length row ≡ 3 → row ≡ merchant_row m) (merchants_at t)
+    → ShowsList text.merchants_text [] old (λ row m. length row ≡ 3 → row ≡ merchant_row m)
+    (merchants_at t)
 merchants_list old t holds =
     record {
       query = query.merchants_query;

@@ -1,7 +1,9 @@
 -- Rows that rise by a key which comes once are the rows in order.
-use Rattle.std.proofs.Common.{◌≡◌, ◌==◌, ◌⊎◌, ◌&&◌, ◌≤◌, Bool, inl, inr, true, false, true≢false, cond, ℕ, pos, List}
+use Rattle.std.proofs.Common.{◌≡◌, ◌==◌, ◌⊎◌, ◌&&◌, ◌≤◌, Bool, inl, inr, true, false, true≢false}
+use Rattle.std.proofs.Common.{cond, ℕ, pos, List}
 use Rattle.std.proofs.Common.{[], ◌∷◌, filter}
-use Rattle.std.proofs.Common.{length, Ordering, Less, Equal, Greater, refl, sym, ap, subst, ◌∙◌, arith}
+use Rattle.std.proofs.Common.{length, Ordering, Less, Equal, Greater, refl, sym, ap, subst, ◌∙◌}
+use Rattle.std.proofs.Common.{arith}
 use Rattle.std.specs.Cmp.{IsTotalOrder}
 use Rattle.std.specs.List.{AllByRecursion}
 use Rattle.std.specs.List.Sorted.{IsPermutation}
@@ -53,7 +55,8 @@ pub numbers_tied : (a b : ℕ) → nat_cmp a b ≡ Equal → (b == a) ≡ true
 numbers_tied a b is = grind (arith, nat_tests, is)
 
 -- what a query sorts by is a total order
-pub sorted_total : {X : Type 0} (q : Query) (out : X → Output) → IsTotalOrder (λ a b. output_cmp q (out a) (out b))
+pub sorted_total : {X : Type 0} (q : Query) (out : X → Output) →
+    IsTotalOrder (λ a b. output_cmp q (out a) (out b))
 sorted_total q out =
     let o = output_cmp_total q in
     record {
@@ -67,9 +70,11 @@ sorted_total q out =
 passing_permuted : {X : Type 0} (p : X → Bool) (xs ys : List X) → IsPermutation xs ys
     → length (filter p ys) ≡ length (filter p xs)
 passing_permuted p xs ys same =
-    length-filter p ys ∙ sum_by-IsPermutation (λ x. cond (p x) 1 0) xs ys same ∙ sym (length-filter p xs)
+    length-filter p ys ∙ sum_by-IsPermutation (λ x. cond (p x) 1 0) xs ys same
+    ∙ sym (length-filter p xs)
 
-pub filter_both : {X : Type 0} (p q : X → Bool) (xs : List X) → filter q (filter p xs) ≡ filter (λ x. p x && q x) xs
+pub filter_both : {X : Type 0} (p q : X → Bool) (xs : List X) →
+    filter q (filter p xs) ≡ filter (λ x. p x && q x) xs
 filter_both p q [] = refl
 filter_both p q (x ∷ xs) =
     let rest = filter_both p q xs in
@@ -82,7 +87,8 @@ some_there : {X : Type 0} (xs : List X) (x : X) → Has xs x → 1 ≤ length xs
 some_there [] x h = absurd h
 some_there (y ∷ xs) x h = omega arith
 
-all_both : {X : Type 0} (P Q S : X → Type 0) → ((x : X) → P x → Q x → S x) → (xs : List X) → AllByRecursion P xs
+all_both : {X : Type 0} (P Q S : X → Type 0) → ((x : X) → P x → Q x → S x) → (xs : List X) →
+    AllByRecursion P xs
     → AllByRecursion Q xs → AllByRecursion S xs
 all_both P Q S f [] p q = tt
 all_both P Q S f (x ∷ xs) p q = (f x p.0 q.0, all_both P Q S f xs p.1 q.1)
@@ -97,7 +103,8 @@ module _ {X : Type 0} (cmp : X → X → Ordering) (order : IsTotalOrder cmp) (b
   AreApart a b = (cmp a b ≡ Less) ⊎ (cmp b a ≡ Less)
 
   never_both : (a b : X) → IsBefore a b → IsBefore b a → ⊥
-  never_both a b h k = let e : Less ≡ Greater = sym h ∙ order.antisymm a b ∙ ap ordering_reverse k in cc
+  never_both a b h k = let e : Less ≡ Greater = sym h ∙ order.antisymm a b ∙ ap ordering_reverse k
+      in cc
 
   -- no key comes twice
   abbrev pub ComesOnce : List X → Type 0
@@ -106,7 +113,8 @@ module _ {X : Type 0} (cmp : X → X → Ordering) (order : IsTotalOrder cmp) (b
   own_key : (a : X) → same a a ≡ true
   own_key a = tied a a (tied_itself order a)
 
-  apart_from : (x : X) (xs : List X) → length (filter (same x) (x ∷ xs)) ≤ 1 → (u : X) → Has xs u → AreApart x u
+  apart_from : (x : X) (xs : List X) → length (filter (same x) (x ∷ xs)) ≤ 1 → (u : X) → Has xs u →
+      AreApart x u
   apart_from x xs few u here = go (cmp x u) refl
     where
       go : (o : Ordering) → cmp x u ≡ o → AreApart x u
@@ -120,18 +128,21 @@ module _ {X : Type 0} (cmp : X → X → Ordering) (order : IsTotalOrder cmp) (b
 
   apart : (xs : List X) → ComesOnce xs → IsAscending AreApart xs
   apart [] once = tt
-  apart (x ∷ xs) once = (all_from (AreApart x) xs (apart_from x xs (once x)), apart xs (λ a. fewer a (once a)))
+  apart (x ∷ xs) once =
+      (all_from (AreApart x) xs (apart_from x xs (once x)), apart xs (λ a. fewer a (once a)))
     where
       fewer : (a : X) → length (filter (same a) (x ∷ xs)) ≤ 1 → length (filter (same a) xs) ≤ 1
       fewer a =
           elim (same a x)
-          as (λ b. length (cond b (x ∷ filter (same a) xs) (filter (same a) xs)) ≤ 1 → length (filter (same a) xs) ≤ 1)
+          as (λ b. length (cond b (x ∷ filter (same a) xs) (filter (same a) xs)) ≤ 1 →
+          length (filter (same a) xs) ≤ 1)
           [ true ↦ (λ h. omega (arith, h)) | false ↦ (λ h. h) ]
 
   rising : (ys : List X) → IsAscending (λ a b. is_gt (cmp a b) ≡ false) ys → IsAscending AreApart ys
       → IsAscending IsBefore ys
   rising [] up apart = tt
-  rising (y ∷ ys) up apart = (all_both _ (AreApart y) (IsBefore y) one ys up.0 apart.0, rising ys up.1 apart.1)
+  rising (y ∷ ys) up apart =
+      (all_both _ (AreApart y) (IsBefore y) one ys up.0 apart.0, rising ys up.1 apart.1)
     where
       one : (u : X) → is_gt (cmp y u) ≡ false → AreApart y u → IsBefore y u
       one u low (inl less) = less
@@ -144,10 +155,12 @@ module _ {X : Type 0} (cmp : X → X → Ordering) (order : IsTotalOrder cmp) (b
       → AllByRecursion P (put_in_order before x ys)
   all_put P x [] p a = (p, tt)
   all_put P x (y ∷ ys) p a =
-      elim (before y x) as (λ b. AllByRecursion P (cond b (y ∷ put_in_order before x ys) (x ∷ y ∷ ys)))
+      elim (before y x) as
+      (λ b. AllByRecursion P (cond b (y ∷ put_in_order before x ys) (x ∷ y ∷ ys)))
       [ true ↦ (a.0, all_put P x ys p a.1) | false ↦ (p, a) ]
 
-  all_in_order : (P : X → Type 0) (xs : List X) → AllByRecursion P xs → AllByRecursion P (in_order before xs)
+  all_in_order : (P : X → Type 0) (xs : List X) → AllByRecursion P xs →
+      AllByRecursion P (in_order before xs)
   all_in_order P [] a = tt
   all_in_order P (x ∷ xs) a = all_put P x (in_order before xs) a.0 (all_in_order P xs a.1)
 
@@ -160,18 +173,27 @@ module _ {X : Type 0} (cmp : X → X → Ordering) (order : IsTotalOrder cmp) (b
       first is (inl less) = less
       first is (inr more) = absurd (true≢false (sym (ap is_lt more) ∙ tells y x ∙ is))
 
-      go : (b : Bool) → before y x ≡ b → IsAscending IsBefore (put_in_order before x ys) → AreApart x y
+      go : (b : Bool) → before y x ≡ b → IsAscending IsBefore (put_in_order before x ys) →
+          AreApart x y
           → IsAscending IsBefore (cond b (y ∷ put_in_order before x ys) (x ∷ y ∷ ys))
       go true is rest apart =
           (all_put (IsBefore y) x ys (less_is (cmp y x) (tells y x ∙ is)) up.0, rest)
       go false is rest apart =
-          let less = first is apart in
-          ((less, all_both (IsBefore y) (IsBefore y) (IsBefore x) (λ u h k. order.trans x y u less h) ys up.0 up.0), up)
+          let less = first is apart in (
+            (
+              less,
+              all_both (IsBefore y) (IsBefore y) (IsBefore x)
+                  (λ u h k. order.trans x y u less h) ys up.0 up.0,
+            ),
+            up,
+          )
 
-  rising_in_order : (xs : List X) → IsAscending AreApart xs → IsAscending IsBefore (in_order before xs)
+  rising_in_order : (xs : List X) → IsAscending AreApart xs →
+      IsAscending IsBefore (in_order before xs)
   rising_in_order [] apart = tt
   rising_in_order (x ∷ xs) apart =
-      rising_put x (in_order before xs) (rising_in_order xs apart.1) (all_in_order (AreApart x) xs apart.0)
+      rising_put x (in_order before xs) (rising_in_order xs apart.1)
+      (all_in_order (AreApart x) xs apart.0)
 
   has_put : (x : X) (ys : List X) (z : X) → (z ≡ x) ⊎ Has ys z → Has (put_in_order before x ys) z
   has_put x [] z h = h
@@ -188,18 +210,22 @@ module _ {X : Type 0} (cmp : X → X → Ordering) (order : IsTotalOrder cmp) (b
   put_has : (x : X) (ys : List X) (z : X) → Has (put_in_order before x ys) z → (z ≡ x) ⊎ Has ys z
   put_has x [] z = λ h. h
   put_has x (y ∷ ys) z =
-      elim (before y x) as (λ b. Has (cond b (y ∷ put_in_order before x ys) (x ∷ y ∷ ys)) z → (z ≡ x) ⊎ Has (y ∷ ys) z)
+      elim (before y x) as (λ b. Has (cond b (y ∷ put_in_order before x ys) (x ∷ y ∷ ys)) z →
+      (z ≡ x) ⊎ Has (y ∷ ys) z)
       [ true ↦ go (put_has x ys z) | false ↦ (λ h. h) ]
     where
-      go : (Has (put_in_order before x ys) z → (z ≡ x) ⊎ Has ys z) → Has (y ∷ put_in_order before x ys) z
+      go : (Has (put_in_order before x ys) z → (z ≡ x) ⊎ Has ys z) →
+          Has (y ∷ put_in_order before x ys) z
           → (z ≡ x) ⊎ Has (y ∷ ys) z
       go later (inl is) = inr (inl is)
-      go later (inr there) = elim (later there) [ inl is ↦ inl is | inr further ↦ inr (inr further) ]
+      go later (inr there) =
+          elim (later there) [ inl is ↦ inl is | inr further ↦ inr (inr further) ]
 
   has_in_order : (xs : List X) (z : X) → Has xs z → Has (in_order before xs) z
   has_in_order [] z h = h
   has_in_order (x ∷ xs) z (inl is) = has_put x (in_order before xs) z (inl is)
-  has_in_order (x ∷ xs) z (inr there) = has_put x (in_order before xs) z (inr (has_in_order xs z there))
+  has_in_order (x ∷ xs) z (inr there) = has_put x (in_order before xs) z
+      (inr (has_in_order xs z there))
 
   pub in_order_has : (xs : List X) (z : X) → Has (in_order before xs) z → Has xs z
   in_order_has [] z h = h
@@ -209,10 +235,12 @@ module _ {X : Type 0} (cmp : X → X → Ordering) (order : IsTotalOrder cmp) (b
   ]
 
   -- what ORDER BY gives of rows whose key comes once
-  pub ordered_is : (xs ys : List X) → IsPermutation xs ys → IsAscending (λ a b. is_gt (cmp a b) ≡ false) ys
+  pub ordered_is : (xs ys : List X) → IsPermutation xs ys →
+      IsAscending (λ a b. is_gt (cmp a b) ≡ false) ys
       → ComesOnce xs → ys ≡ in_order before xs
   ordered_is xs ys moved up once =
-      let once_ys : ComesOnce ys = λ a. subst (λ n. n ≤ 1) (sym (passing_permuted (same a) xs ys moved)) (once a) in
+      let once_ys : ComesOnce ys =
+      λ a. subst (λ n. n ≤ 1) (sym (passing_permuted (same a) xs ys moved)) (once a) in
       one_order IsBefore never_both ys (in_order before xs) (rising ys up (apart ys once_ys))
       (rising_in_order xs (apart xs once))
       (λ z h. has_in_order xs z (has_permuted ys xs z (IsPermutation-sym xs ys moved) h))

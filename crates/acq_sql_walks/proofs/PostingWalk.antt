@@ -1,5 +1,6 @@
 -- What the walk over the postings of a day answers.
-use Rattle.std.proofs.Common.{◌≡◌, ◌&&◌, ◌==◌, ◌≤◌, Bool, true, inl, inr, ℕ, pos, Ordering, Less, Equal, Greater, List}
+use Rattle.std.proofs.Common.{◌≡◌, ◌&&◌, ◌==◌, ◌≤◌, Bool, true, inl, inr, ℕ, pos, Ordering, Less}
+use Rattle.std.proofs.Common.{Equal, Greater, List}
 use Rattle.std.proofs.Common.{[]}
 use Rattle.std.proofs.Common.{◌∷◌, map, filter, length, refl, sym, ap, ap₂, subst, ◌∙◌}
 use Rattle.std.specs.Str.{bytes_eq}
@@ -45,7 +46,8 @@ use Rattle.acq_sql_walks.specs.Queries as query
 use Rattle.acq_sql_walks.proofs.TextLemmas as asks
 use Rattle.acq_sql_walks.proofs.Visiting.{AreOwn}
 use Rattle.acq_sql_walks.proofs.Walking.{ShowsList}
-use Rattle.acq_sql_walks.proofs.Ordering.{sorted_total, ordered_is, filter_both, numbers_compare, numbers_tied}
+use Rattle.acq_sql_walks.proofs.Ordering.{sorted_total, ordered_is, filter_both, numbers_compare}
+use Rattle.acq_sql_walks.proofs.Ordering.{numbers_tied}
 
 abbrev Numbered : Type 0
 Numbered = ℕ × Posting
@@ -78,7 +80,8 @@ tied a b is =
     let alike : bytes_eq a.1.merchant b.1.merchant ≡ true =
     sym (is_eq-slice_cmp a.1.merchant b.1.merchant) ∙ ap is_eq parts.0 in
     and_from (bytes_eq b.1.merchant a.1.merchant) (b.0 == a.0)
-    (ap (λ m. bytes_eq b.1.merchant m) (bytes_same a.1.merchant b.1.merchant alike) ∙ bytes_own b.1.merchant)
+    (ap (λ m. bytes_eq b.1.merchant m) (bytes_same a.1.merchant b.1.merchant alike)
+    ∙ bytes_own b.1.merchant)
     (numbers_tied a.0 b.0 parts.1)
 
 -- ---- the key
@@ -87,7 +90,8 @@ abbrev posting_key : Index
 posting_key = automatic at.the_postings 0 (2 ∷ 1 ∷ 3 ∷ []) 10
 
 posting_keyed : Has book_schema.tables (bare at.the_postings) × Has book_schema.indexes posting_key
-unfolding book_schema schema.up_to_reconciliations schema.up_to_postings schema.up_to_requests schema.up_to_ranges schema.up_to_terminals schema.up_to_merchants schema.up_to_book
+unfolding book_schema schema.up_to_reconciliations schema.up_to_postings schema.up_to_requests
+    schema.up_to_ranges schema.up_to_terminals schema.up_to_merchants schema.up_to_book
 posting_keyed = (inr (inr (inr (inr (inr (inl refl))))), inr (inr (inr (inr (inl refl)))))
 
 module _ (day : ℕ) where
@@ -111,12 +115,19 @@ module _ (day : ℕ) where
     abbrev sought : Row
     sought = number day ∷ Text a.1.merchant ∷ number a.0 ∷ []
 
-    matched : (k : ℕ) (x : Numbered) → picked key_test sought (Int (pos k) ∷ posting_row x) ≡ is_it x
+    matched : (k : ℕ) (x : Numbered) →
+        picked key_test sought (Int (pos k) ∷ posting_row x) ≡ is_it x
     matched k x =
-        rw (number_test x.1.day day, text_test x.1.merchant a.1.merchant, number_test x.0 a.0, and_true) refl
+        rw (
+          number_test x.1.day day,
+          text_test x.1.merchant a.1.merchant,
+          number_test x.0 a.0,
+          and_true,
+        ) refl
 
     keyed : (i j : ℕ) (x y : Numbered) → is_it x ≡ true → is_it y ≡ true
-        → agree posting_key.order posting_key.columns (Int (pos i) ∷ posting_row x) posting_key.columns
+        → agree posting_key.order posting_key.columns
+        (Int (pos i) ∷ posting_row x) posting_key.columns
         (Int (pos j) ∷ posting_row y) ≡ true
     unfolding first_key
     keyed i j x y h k =
@@ -140,28 +151,35 @@ module _ (day : ℕ) where
           bytes_own a.1.merchant,
         ) refl
 
-    one_posting : (db : Trees) (xs : List Numbered) → Fits book_schema db → db 9 ≡ rows_of posting_row xs
+    one_posting : (db : Trees) (xs : List Numbered) → Fits book_schema db →
+        db 9 ≡ rows_of posting_row xs
         → length (filter (same_number a) (filter on_day xs)) ≤ 1
     one_posting db xs fits held =
         let count = numbered_counted posting_row (picked key_test sought) is_it xs matched in
         subst (λ n. n ≤ 1)
         (ap (λ l. length (filter (picked key_test sought) l)) held ∙ count
         ∙ ap length (sym (filter_both on_day (same_number a) xs)))
-        (few_pass_key posting_row book_schema db (bare at.the_postings) posting_key fits posting_keyed.0
+        (few_pass_key posting_row book_schema db (bare at.the_postings) posting_key fits
+        posting_keyed.0
         posting_keyed.1 refl xs held key_test sought is_it matched keyed)
 
   postings_found : (old : State) (t : Tables) (runs : List Running) → HoldsRows old.now t runs
-      → (rows : List Row) → Shown text.postings_text day_row old old rows → rows ≡ map posting_row (postings_at t day)
+      → (rows : List Row) → Shown text.postings_text day_row old old rows →
+      rows ≡ map posting_row (postings_at t day)
   postings_found old t runs has rows shown =
       let ask = asks.postings_asks in
       let it = query.postings_query in
       let all = shows_ordered posting_row book_schema 9 t.postings old old has.schema has.postings
-      text.postings_text day_row _ ask.plain ask.unlisted rows shown it.filter it.project on_day tested it.order
+      text.postings_text day_row _ ask.plain ask.unlisted rows shown it.filter it.project on_day
+      tested it.order
       it.limit out (λ id x. refl) ask.is in
       all.3
-      ∙ ap (map posting_row) (ordered_is by_number (sorted_total query.postings_query out) is_posting_before
-      (λ a b. ap is_lt (postings_compare a b)) same_number tied (filter on_day t.postings) all.0 all.1 all.2
-      (λ a. one_posting a old.now.trees t.postings (fits_of book_schema old.now.trees has.sound) has.postings))
+      ∙ ap (map posting_row)
+      (ordered_is by_number (sorted_total query.postings_query out) is_posting_before
+      (λ a b. ap is_lt (postings_compare a b)) same_number tied (filter on_day t.postings) all.0
+      all.1 all.2
+      (λ a. one_posting a old.now.trees t.postings (fits_of book_schema old.now.trees has.sound)
+      has.postings))
 
 -- ---- a row is one posting's
 
@@ -191,10 +209,12 @@ same_posting a b h =
       },
     )
 
-postings_own : (ys : List Numbered) → AreOwn (λ row p. length row ≡ 9 → row ≡ posting_row p) posting_row ys
+postings_own : (ys : List Numbered) →
+    AreOwn (λ row p. length row ≡ 9 → row ≡ posting_row p) posting_row ys
 postings_own ys y x here read = same_posting x y (sym (read refl))
 
-pub postings_list : (old : State) (t : Tables) (day : ℕ) → Holds old.now t → ShowsList text.postings_text
+pub postings_list : (old : State) (t : Tables) (day : ℕ) → Holds old.now t →
+    ShowsList text.postings_text
     (number day ∷ []) old (λ row p. length row ≡ 9 → row ≡ posting_row p) (postings_at t day)
 postings_list old t day holds =
     record {

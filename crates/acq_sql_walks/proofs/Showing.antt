@@ -1,11 +1,14 @@
--- A query whose rows are handed over one at a time: what a visitor has seen so far, and what is left of the connection.
-use Rattle.std.proofs.Common.{◌≡◌, ◌⊎◌, ◌++◌, Bool, inl, inr, true, false, true≢false, ℕ, List, [], ◌∷◌}
+-- A query whose rows are handed over one at a time: what a visitor has seen so far, and what is
+-- left of the connection.
+use Rattle.std.proofs.Common.{◌≡◌, ◌⊎◌, ◌++◌, Bool, inl, inr, true, false, true≢false, ℕ, List, []}
+use Rattle.std.proofs.Common.{◌∷◌}
 use Rattle.std.proofs.Common.{IsTrue, Ok}
 use Rattle.std.proofs.Common.{refl, sym, subst, ◌∙◌, arith, Result, Err, OnErr}
 use Rattle.sqlite_trees.specs.declared.store.Store.{Ghosts}
 use Rattle.sqlite_value.specs.Order.{Row}
 use Rattle.sqlite.specs.Listing.{understood, reads_listing, IsSourceOf}
-use Rattle.sqlite.specs.State.{State, HasCleanDisk, IsUnchanged, Shown, Begins, ShowsRows, Survives, CommitsShowing}
+use Rattle.sqlite.specs.State.{State, HasCleanDisk, IsUnchanged, Shown, Begins, ShowsRows, Survives}
+use Rattle.sqlite.specs.State.{CommitsShowing}
 use Rattle.sqlite.specs.State.{Fails, IsRolledBack, IsStatement}
 use Rattle.sqlite_resolve.specs.declared.compiled.Compiled.{Compiled}
 use Rattle.sqlite.specs.Clock.{timed}
@@ -31,7 +34,8 @@ unchanged_itself s opened = (
 
 -- ---- an answer is that of the state before, where nothing has changed since
 
-module _ (sql : List ℕ) (params : Row) (old mid : State) (same : IsUnchanged old mid) (rows : List Row) where
+module _ (sql : List ℕ) (params : Row) (old mid : State) (same : IsUnchanged old mid)
+    (rows : List Row) where
   statement_since : (c : Compiled) → IsStatement mid sql params c → IsStatement old sql params c
   statement_since c it =
       record {
@@ -65,7 +69,8 @@ module _ (sql : List ℕ) (params : Row) (old mid : State) (same : IsUnchanged o
         it,
         subst (ShowsRows old old sql h.0 full rows) (sym none) (
           shows.0,
-          subst (λ (d : Database). IsSourceOf (reads_listing d.schema sql) d shows.0) same.0.now_is shows.1,
+          subst (λ (d : Database). IsSourceOf (reads_listing d.schema sql) d shows.0) same.0.now_is
+              shows.1,
           shows.2,
           still,
         ),
@@ -110,11 +115,13 @@ module _ {S T V : Type 0} {g : Ghosts S} {sql : List ℕ} {params : Row} {first 
     {shows : Row → T → Type 0} {sees : V → T → Bool → V → Type 0} {v u : V} {h : Held S}
     (so_far : HasShown g sql params first shows sees v h u) where
   pub shown_each : (next : Held S) → IsSelect sql
-      → Shown sql params (state g h) (state g next) so_far.rows → SawEach sql params (state g first) shows sees v u
+      → Shown sql params (state g h) (state g next) so_far.rows →
+      SawEach sql params (state g first) shows sees v u
   shown_each next plain shown = (
     so_far.rows,
     so_far.xs,
-    shown_since sql params (state g first) (state g h) so_far.same so_far.rows (state g next) plain shown,
+    shown_since sql params (state g first) (state g h) so_far.same so_far.rows
+        (state g next) plain shown,
     so_far.read,
     so_far.saw,
   )
@@ -132,7 +139,8 @@ module _ {S T V : Type 0} {g : Ghosts S} {sql : List ℕ} {params : Row} {first 
         so_far.saw,
       )
 
-  module _ (next : Held S) (w : V) (last : IsUnchanged (state g h) (state g next)) (row : Row) (x : T)
+  module _ (next : Held S) (w : V) (last : IsUnchanged (state g h) (state g next)) (row : Row)
+      (x : T)
       (given : HasGiven g sql params next (so_far.rows ++ row ∷ [])) (is : shows row x) where
     rows : List Row
     rows = so_far.rows ++ row ∷ []
@@ -159,7 +167,11 @@ module _ {S T V : Type 0} {g : Ghosts S} {sql : List ℕ} {params : Row} {first 
           rows,
           so_far.xs,
           x,
-          inr (same.0.was_open, begins_since sql params (state g first) (state g next) same rows begun),
+          inr (
+            same.0.was_open,
+            begins_since sql params (state g first)
+                (state g next) same rows begun,
+          ),
           read_more shows so_far.rows so_far.xs row x so_far.read is,
           (u, so_far.saw, seen),
         )
@@ -173,7 +185,8 @@ on_err (Err e) is = is
 module _ (sql : List ℕ) (params : Row) (old new : State) (query : IsSelect sql)
     (survives : Survives old new (CommitsShowing sql params old))
     (settled : old.in_transaction ≡ false → new.in_transaction ≡ false) where
-  -- where it succeeded nothing has changed, and where it failed at most the transaction is rolled back
+  -- where it succeeded nothing has changed, and where it failed at most the transaction is rolled
+  -- back
   pub looks_from : (succeeded : Bool)
       → (HasCleanDisk new → IsUnchanged old new ⊎ ((succeeded ≡ false) × IsRolledBack old new))
       → LooksOnly old new succeeded
@@ -183,9 +196,11 @@ module _ (sql : List ℕ) (params : Row) (old new : State) (query : IsSelect sql
           | inl same ↦ same
           | inr failed ↦ absurd (true≢false (sym is ∙ failed.0))
         ];
-        undone = λ clean opened. elim (left clean) [ inl same ↦ inl same | inr failed ↦ inr failed.1 ];
+        undone = λ clean opened. elim
+            (left clean) [ inl same ↦ inl same | inr failed ↦ inr failed.1 ];
         settled = settled;
-        stop = survives_weaker old new _ _ (λ _ db. commits_nothing sql params old new query db) survives;
+        stop = survives_weaker old new _ _ (λ _ db. commits_nothing sql params old new query db)
+            survives;
       }
 
 module _ {S T V : Type 0} {g : Ghosts S} {sql : List ℕ} {params : Row} {first : Held S}
@@ -203,9 +218,11 @@ module _ {S T V : Type 0} {g : Ghosts S} {sql : List ℕ} {params : Row} {first 
     pub settled_on : first.in_transaction ≡ false → next.in_transaction ≡ false
     settled_on out = mode (showing.settled out)
 
-    pub kept_on : Survives (state g first) (state g next) (CommitsShowing sql params (state g first))
+    pub kept_on : Survives (state g first) (state g next)
+        (CommitsShowing sql params (state g first))
     kept_on =
-        survives_then (state g first) (state g h) (state g next) _ _ (CommitsShowing sql params (state g first))
+        survives_then (state g first) (state g h) (state g next) _ _
+        (CommitsShowing sql params (state g first))
         (λ _ db made. made) (λ _ db none. absurd none) showing.kept moved
 
     -- what was shown before the next row
@@ -218,17 +235,22 @@ module _ {S T V : Type 0} {g : Ghosts S} {sql : List ℕ} {params : Row} {first 
         → (HasCleanDisk (state g next) → IsUnchanged (state g h) (state g next))
         → LooksOnly (state g first) (state g next) succeeded
     looks_on plain succeeded last =
-        looks_from sql params (state g first) (state g next) plain kept_on settled_on succeeded (λ clean.
-        inl (unchanged_then (state g first) (state g h) (state g next) (shown_before clean plain).same (last clean)))
+        looks_from sql params (state g first) (state g next) plain kept_on settled_on succeeded
+        (λ clean.
+        inl (unchanged_then (state g first) (state g h) (state g next)
+        (shown_before clean plain).same (last clean)))
 
     -- where the store didn't give it
     pub looks_failed : IsSelect sql → (e : Error)
-        → (HasCleanDisk (state g next) → Fails (state g h) (state g next) ⊥ e ⊎ IsUnchanged (state g h) (state g next))
+        → (HasCleanDisk (state g next) →
+        Fails (state g h) (state g next) ⊥ e ⊎ IsUnchanged (state g h) (state g next))
         → LooksOnly (state g first) (state g next) false
     looks_failed plain e last =
-        looks_from sql params (state g first) (state g next) plain kept_on settled_on false (λ clean.
+        looks_from sql params (state g first) (state g next) plain kept_on settled_on false
+        (λ clean.
         let same = (shown_before clean plain).same in
         elim (last clean) [
-          | inl fails ↦ inr (refl, rolled_back (state g first) (state g h) (state g next) same fails.3)
+          | inl fails ↦ inr
+              (refl, rolled_back (state g first) (state g h) (state g next) same fails.3)
           | inr still ↦ inl (unchanged_then (state g first) (state g h) (state g next) same still)
         ])

@@ -9,19 +9,30 @@ use Rattle.acq_sql_walks.specs.Texts as text
 use Rattle.acq_sql_walks.specs.Queries as query
 
 pub postings_asks : Asks text.postings_text query.postings_query
-    (codes "merchant" ∷ codes "day" ∷ codes "number" ∷ codes "leg" ∷ codes "amount" ∷ codes "reference" ∷ codes "card"
+    (codes "merchant" ∷ codes "day" ∷ codes "number" ∷ codes "leg" ∷ codes "amount"
+    ∷ codes "reference" ∷ codes "card"
     ∷ codes "terminal" ∷ codes "trace" ∷ [])
-unfolding understood everything book_schema schema.up_to_reconciliations schema.up_to_postings schema.up_to_requests schema.up_to_ranges schema.up_to_terminals schema.up_to_merchants schema.up_to_book
+unfolding understood everything book_schema schema.up_to_reconciliations schema.up_to_postings
+    schema.up_to_requests schema.up_to_ranges schema.up_to_terminals schema.up_to_merchants
+    schema.up_to_book
 postings_asks = record { is = refl; plain = (refl, refl); unlisted = refl; begins = refl }
 
 pub merchants_asks :
-    Asks text.merchants_text query.merchants_query (codes "merchant" ∷ codes "currency" ∷ codes "first" ∷ [])
-unfolding understood everything book_schema schema.up_to_reconciliations schema.up_to_postings schema.up_to_requests schema.up_to_ranges schema.up_to_terminals schema.up_to_merchants schema.up_to_book
+    Asks text.merchants_text query.merchants_query
+    (codes "merchant" ∷ codes "currency" ∷ codes "first" ∷ [])
+unfolding understood everything book_schema schema.up_to_reconciliations schema.up_to_postings
+    schema.up_to_requests schema.up_to_ranges schema.up_to_terminals schema.up_to_merchants
+    schema.up_to_book
 merchants_asks = record { is = refl; plain = (refl, refl); unlisted = refl; begins = refl }
 
 pub holds_asks : Asks text.holds_text query.holds_query
-    (codes "merchant" ∷ codes "terminal" ∷ codes "kind" ∷ codes "trace" ∷ codes "stamp" ∷ codes "essence"
-    ∷ codes "day" ∷ codes "status" ∷ codes "admitted" ∷ codes "reference" ∷ codes "follows" ∷ codes "amount"
-    ∷ codes "leg" ∷ codes "card" ∷ codes "acquirer" ∷ codes "hold_days" ∷ codes "until" ∷ codes "reply" ∷ [])
-unfolding understood everything book_schema schema.up_to_reconciliations schema.up_to_postings schema.up_to_requests schema.up_to_ranges schema.up_to_terminals schema.up_to_merchants schema.up_to_book
+    (codes "merchant" ∷ codes "terminal" ∷ codes "kind" ∷ codes "trace" ∷ codes "stamp"
+    ∷ codes "essence"
+    ∷ codes "day" ∷ codes "status" ∷ codes "admitted" ∷ codes "reference" ∷ codes "follows"
+    ∷ codes "amount"
+    ∷ codes "leg" ∷ codes "card" ∷ codes "acquirer" ∷ codes "hold_days" ∷ codes "until"
+    ∷ codes "reply" ∷ [])
+unfolding understood everything book_schema schema.up_to_reconciliations schema.up_to_postings
+    schema.up_to_requests schema.up_to_ranges schema.up_to_terminals schema.up_to_merchants
+    schema.up_to_book
 holds_asks = record { is = refl; plain = (refl, refl); unlisted = refl; begins = refl }

@@ -1,5 +1,6 @@
 -- What a visitor has seen, as rows come and when all have come.
-use Rattle.std.proofs.Common.{◌≡◌, ◌++◌, Bool, inl, inr, true, false, List, [], ◌∷◌, length, map, take, refl, sym, ap}
+use Rattle.std.proofs.Common.{◌≡◌, ◌++◌, Bool, inl, inr, true, false, List, [], ◌∷◌, length, map}
+use Rattle.std.proofs.Common.{take, refl, sym, ap}
 use Rattle.std.proofs.Common.{ap₂, subst}
 use Rattle.sqlite_value.specs.Order.{Row}
 use Rattle.sqlite_rules.specs.Lists.{Has}
@@ -7,7 +8,8 @@ use Rattle.acq_book.specs.Visits.{Saw, SawAll, SawSome}
 use Rattle.acq_sql_walks.specs.Shown.{AreRead, SawLast}
 
 -- one more row was read
-pub read_more : {T : Type 0} (shows : Row → T → Type 0) (rows : List Row) (xs : List T) (row : Row) (x : T)
+pub read_more : {T : Type 0} (shows : Row → T → Type 0) (rows : List Row) (xs : List T) (row : Row)
+    (x : T)
     → AreRead shows rows xs → shows row x → AreRead shows (rows ++ row ∷ []) (xs ++ x ∷ [])
 read_more shows [] [] row x are is = (is, tt)
 read_more shows (r ∷ rows) (y ∷ xs) row x are is = (are.0, read_more shows rows xs row x are.1 is)
@@ -16,7 +18,8 @@ read_more shows (r ∷ rows) [] row x are is = absurd are
 
 module _ {T V : Type 0} (sees : V → T → Bool → V → Type 0) where
   -- one more was seen
-  pub saw_more : (xs : List T) (x : T) (v u w : V) → Saw sees xs v u → sees u x true w → Saw sees (xs ++ x ∷ []) v w
+  pub saw_more : (xs : List T) (x : T) (v u w : V) → Saw sees xs v u → sees u x true w →
+      Saw sees (xs ++ x ∷ []) v w
   saw_more [] x v u w saw sees_x = (w, subst (λ a. sees a x true w) (sym saw) sees_x, refl)
   saw_more (y ∷ xs) x v u w saw sees_x = (saw.0, saw.1, saw_more xs x saw.0 u w saw.2 sees_x)
 
@@ -43,7 +46,8 @@ module _ {T : Type 0} (shows : Row → T → Type 0) (cells : T → Row) where
   abbrev pub AreOwn : List T → Type 0
   AreOwn ys = (y x : T) → Has ys y → shows (cells y) x → x ≡ y
 
-  pub read_front : (ys : List T) (rows tail : List Row) (xs : List T) → AreOwn ys → rows ++ tail ≡ map cells ys
+  pub read_front : (ys : List T) (rows tail : List Row) (xs : List T) → AreOwn ys →
+      rows ++ tail ≡ map cells ys
       → AreRead shows rows xs → (rest : List T) × (ys ≡ xs ++ rest)
   read_front ys [] tail [] own are read = (ys, refl)
   read_front ys [] tail (x ∷ xs) own are read = absurd read

@@ -1,5 +1,6 @@
 -- The tables in the schema, and that a write of one leaves the others.
-use Rattle.std.proofs.Common.{◌≡◌, ◌≢◌, ℕ, List, [], ◌∷◌, map, slice_get, Some, refl, sym, subst, ◌∙◌, arith}
+use Rattle.std.proofs.Common.{◌≡◌, ◌≢◌, ℕ, List, [], ◌∷◌, map, slice_get, Some, refl, sym, subst}
+use Rattle.std.proofs.Common.{◌∙◌, arith}
 use Rattle.sqlite_value.specs.Order.{Row}
 use Rattle.sqlite_trees.specs.Tree.{Trees}
 use Rattle.sqlite_schema.specs.declared.schema.Table.{Table}
@@ -52,40 +53,50 @@ abbrev pub the_running : Table
 the_running = record schema.running { tree = 13 }
 
 pub book_placed : slice_get book_schema.tables 0 ≡ Some (bare the_book)
-unfolding book_schema schema.up_to_reconciliations schema.up_to_postings schema.up_to_requests schema.up_to_ranges schema.up_to_terminals schema.up_to_merchants schema.up_to_book
+unfolding book_schema schema.up_to_reconciliations schema.up_to_postings schema.up_to_requests
+    schema.up_to_ranges schema.up_to_terminals schema.up_to_merchants schema.up_to_book
 book_placed = refl
 
 pub merchants_placed : slice_get book_schema.tables 1 ≡ Some (bare the_merchants)
-unfolding book_schema schema.up_to_reconciliations schema.up_to_postings schema.up_to_requests schema.up_to_ranges schema.up_to_terminals schema.up_to_merchants schema.up_to_book
+unfolding book_schema schema.up_to_reconciliations schema.up_to_postings schema.up_to_requests
+    schema.up_to_ranges schema.up_to_terminals schema.up_to_merchants schema.up_to_book
 merchants_placed = refl
 
 pub terminals_placed : slice_get book_schema.tables 2 ≡ Some (bare the_terminals)
-unfolding book_schema schema.up_to_reconciliations schema.up_to_postings schema.up_to_requests schema.up_to_ranges schema.up_to_terminals schema.up_to_merchants schema.up_to_book
+unfolding book_schema schema.up_to_reconciliations schema.up_to_postings schema.up_to_requests
+    schema.up_to_ranges schema.up_to_terminals schema.up_to_merchants schema.up_to_book
 terminals_placed = refl
 
 pub ranges_placed : slice_get book_schema.tables 3 ≡ Some (bare the_ranges)
-unfolding book_schema schema.up_to_reconciliations schema.up_to_postings schema.up_to_requests schema.up_to_ranges schema.up_to_terminals schema.up_to_merchants schema.up_to_book
+unfolding book_schema schema.up_to_reconciliations schema.up_to_postings schema.up_to_requests
+    schema.up_to_ranges schema.up_to_terminals schema.up_to_merchants schema.up_to_book
 ranges_placed = refl
 
 pub requests_placed : slice_get book_schema.tables 4 ≡ Some (bare the_requests)
-unfolding book_schema schema.up_to_reconciliations schema.up_to_postings schema.up_to_requests schema.up_to_ranges schema.up_to_terminals schema.up_to_merchants schema.up_to_book
+unfolding book_schema schema.up_to_reconciliations schema.up_to_postings schema.up_to_requests
+    schema.up_to_ranges schema.up_to_terminals schema.up_to_merchants schema.up_to_book
 requests_placed = refl
 
 pub postings_placed : slice_get book_schema.tables 5 ≡ Some (bare the_postings)
-unfolding book_schema schema.up_to_reconciliations schema.up_to_postings schema.up_to_requests schema.up_to_ranges schema.up_to_terminals schema.up_to_merchants schema.up_to_book
+unfolding book_schema schema.up_to_reconciliations schema.up_to_postings schema.up_to_requests
+    schema.up_to_ranges schema.up_to_terminals schema.up_to_merchants schema.up_to_book
 postings_placed = refl
 
 pub reconciliations_placed : slice_get book_schema.tables 6 ≡ Some (bare the_reconciliations)
-unfolding book_schema schema.up_to_reconciliations schema.up_to_postings schema.up_to_requests schema.up_to_ranges schema.up_to_terminals schema.up_to_merchants schema.up_to_book
+unfolding book_schema schema.up_to_reconciliations schema.up_to_postings schema.up_to_requests
+    schema.up_to_ranges schema.up_to_terminals schema.up_to_merchants schema.up_to_book
 reconciliations_placed = refl
 
 pub running_placed : slice_get book_schema.tables 7 ≡ Some (bare the_running)
-unfolding book_schema schema.up_to_reconciliations schema.up_to_postings schema.up_to_requests schema.up_to_ranges schema.up_to_terminals schema.up_to_merchants schema.up_to_book
+unfolding book_schema schema.up_to_reconciliations schema.up_to_postings schema.up_to_requests
+    schema.up_to_ranges schema.up_to_terminals schema.up_to_merchants schema.up_to_book
 running_placed = refl
 
 -- no foreign key acts on any of them
-pub lone : (tree : ℕ) (keys : Keys) (taken news : List Row) → works book_schema keys 0 tree taken news ≡ []
-unfolding book_schema schema.up_to_reconciliations schema.up_to_postings schema.up_to_requests schema.up_to_ranges schema.up_to_terminals schema.up_to_merchants schema.up_to_book
+pub lone : (tree : ℕ) (keys : Keys) (taken news : List Row) →
+    works book_schema keys 0 tree taken news ≡ []
+unfolding book_schema schema.up_to_reconciliations schema.up_to_postings schema.up_to_requests
+    schema.up_to_ranges schema.up_to_terminals schema.up_to_merchants schema.up_to_book
 lone tree keys taken news = refl
 
 -- ---- a write of one table
@@ -101,9 +112,11 @@ pub record Others (db next : Trees) (tree : ℕ) : Type 0 where
   pub reconciliations : tree ≢ 11 → next 11 ≡ db 11
   pub running : tree ≢ 13 → next 13 ≡ db 13
 
-pub others_of : (keys : Keys) (db next : Trees) (edit : Edit) → Applies book_schema keys db edit next
+pub others_of : (keys : Keys) (db next : Trees) (edit : Edit) →
+    Applies book_schema keys db edit next
     → Others db next edit.table.tree
-unfolding book_schema schema.up_to_reconciliations schema.up_to_postings schema.up_to_requests schema.up_to_ranges schema.up_to_terminals schema.up_to_merchants schema.up_to_book
+unfolding book_schema schema.up_to_reconciliations schema.up_to_postings schema.up_to_requests
+    schema.up_to_ranges schema.up_to_terminals schema.up_to_merchants schema.up_to_book
 others_of keys db next edit applied =
     let all = applied.tables in
     record {
@@ -117,7 +130,8 @@ others_of keys db next edit applied =
       running = λ other. all.1.1.1.1.1.1.1.0 (λ e. other (sym e));
     }
 
-same_schema : (db : Database) → db.schema ≡ book_schema → IsDatabase db → IsSound book_schema db.trees
+same_schema : (db : Database) → db.schema ≡ book_schema → IsDatabase db →
+    IsSound book_schema db.trees
 same_schema db is sound = subst (λ s. IsSound s db.trees) is sound
 
 -- the book's row, and no other
@@ -125,7 +139,8 @@ pub book_begun : (db next : Database) → IsBlank book_schema db → next.schema
     → IsDatabase next → Others db.trees next.trees 0 → (opening : Opening)
     → next.trees 0 ≡ numbered_from 1 (book_row opening.limit opening.first_day ∷ [])
     → HoldsRows next (new_tables opening) []
-unfolding book_schema schema.up_to_reconciliations schema.up_to_postings schema.up_to_requests schema.up_to_ranges schema.up_to_terminals schema.up_to_merchants schema.up_to_book
+unfolding book_schema schema.up_to_reconciliations schema.up_to_postings schema.up_to_requests
+    schema.up_to_ranges schema.up_to_terminals schema.up_to_merchants schema.up_to_book
 book_begun db next none schema_is sound rest opening now =
     let blank = none.blank in
     record {
@@ -168,7 +183,8 @@ module _ (db next : Database) (t : Tables) (runs : List Running) (has : HoldsRow
       }
 
   -- other merchants
-  pub merchants_turned : Others db.trees next.trees 1 → (rows : List Merchant) → next.trees 1 ≡ rows_of merchant_row rows
+  pub merchants_turned : Others db.trees next.trees 1 → (rows : List Merchant) →
+      next.trees 1 ≡ rows_of merchant_row rows
       → HoldsRows next (record t { merchants = rows }) runs
   merchants_turned rest rows now =
       record {
@@ -188,7 +204,8 @@ module _ (db next : Database) (t : Tables) (runs : List Running) (has : HoldsRow
       }
 
   -- other terminals
-  pub terminals_turned : Others db.trees next.trees 3 → (rows : List Terminal) → next.trees 3 ≡ rows_of terminal_row rows
+  pub terminals_turned : Others db.trees next.trees 3 → (rows : List Terminal) →
+      next.trees 3 ≡ rows_of terminal_row rows
       → HoldsRows next (record t { terminals = rows }) runs
   terminals_turned rest rows now =
       record {
@@ -208,7 +225,8 @@ module _ (db next : Database) (t : Tables) (runs : List Running) (has : HoldsRow
       }
 
   -- other ranges
-  pub ranges_turned : Others db.trees next.trees 5 → (rows : List Range) → next.trees 5 ≡ map range_row rows → AreRising rows
+  pub ranges_turned : Others db.trees next.trees 5 → (rows : List Range) →
+      next.trees 5 ≡ map range_row rows → AreRising rows
       → HoldsRows next (record t { ranges = rows }) runs
   ranges_turned rest rows now then =
       record {
@@ -228,7 +246,8 @@ module _ (db next : Database) (t : Tables) (runs : List Running) (has : HoldsRow
       }
 
   -- other requests
-  pub requests_turned : Others db.trees next.trees 6 → (rows : List Request) → next.trees 6 ≡ rows_of request_row rows → AreRecorded rows
+  pub requests_turned : Others db.trees next.trees 6 → (rows : List Request) →
+      next.trees 6 ≡ rows_of request_row rows → AreRecorded rows
       → HoldsRows next (record t { requests = rows }) runs
   requests_turned rest rows now then =
       record {
@@ -248,7 +267,8 @@ module _ (db next : Database) (t : Tables) (runs : List Running) (has : HoldsRow
       }
 
   -- other postings
-  pub postings_turned : Others db.trees next.trees 9 → (rows : List (ℕ × Posting)) → next.trees 9 ≡ rows_of posting_row rows
+  pub postings_turned : Others db.trees next.trees 9 → (rows : List (ℕ × Posting)) →
+      next.trees 9 ≡ rows_of posting_row rows
       → HoldsRows next (record t { postings = rows }) runs
   postings_turned rest rows now =
       record {
@@ -268,7 +288,8 @@ module _ (db next : Database) (t : Tables) (runs : List Running) (has : HoldsRow
       }
 
   -- other reconciliations
-  pub reconciliations_turned : Others db.trees next.trees 11 → (rows : List (ℕ × Reconciliation)) → next.trees 11 ≡ rows_of reconciliation_row rows
+  pub reconciliations_turned : Others db.trees next.trees 11 → (rows : List (ℕ × Reconciliation)) →
+      next.trees 11 ≡ rows_of reconciliation_row rows
       → HoldsRows next (record t { reconciliations = rows }) runs
   reconciliations_turned rest rows now =
       record {
@@ -288,7 +309,8 @@ module _ (db next : Database) (t : Tables) (runs : List Running) (has : HoldsRow
       }
 
   -- other running totals
-  pub running_turned : Others db.trees next.trees 13 → (rows : List Running) → next.trees 13 ≡ rows_of running_row rows
+  pub running_turned : Others db.trees next.trees 13 → (rows : List Running) →
+      next.trees 13 ≡ rows_of running_row rows
       → AreApart rows → HoldsRows next t rows
   running_turned rest rows now then =
       record {

@@ -8,10 +8,12 @@ use Rattle.acq_commands.specs.declared.fault.Fault as fault
 pub reached_on : (old mid new : Tables) → Reached old mid → Reached mid new → Reached old new
 reached_on old mid new one two = (
   one.0 ++ two.0,
-  two.1 ∙ ap (λ (t : Tables). tables_after t two.0) one.1 ∙ sym (tables_after-append old one.0 two.0),
+  two.1 ∙ ap (λ (t : Tables). tables_after t two.0) one.1
+      ∙ sym (tables_after-append old one.0 two.0),
 )
 
-pub refused_on : (old mid new : Tables) (f : fault.Fault) → Reached old mid → ReachedUnlessRefused mid new (Err f) →
+pub refused_on : (old mid new : Tables) (f : fault.Fault) → Reached old mid →
+    ReachedUnlessRefused mid new (Err f) →
     ReachedUnlessRefused old new (Err f)
 refused_on old mid new fault.TheVariants.Memory one two = tt
 refused_on old mid new fault.TheVariants.Store one two = tt

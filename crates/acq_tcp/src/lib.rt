@@ -1,5 +1,5 @@
-//! Connections to a host over TCP: [`TcpConnections`] come one after the other, each waiting for its
-//! bytes; the connections of a [`TcpGathering`] are served at once, none of them waiting.
+//! Connections to a host over TCP: [`TcpConnections`] come one after the other, each waiting for
+//! its bytes; the connections of a [`TcpGathering`] are served at once, none of them waiting.
 #![tactic(auto)]
 
 mod open_connection;

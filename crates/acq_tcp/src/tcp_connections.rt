@@ -17,8 +17,8 @@ pub struct TcpConnections {
 }
 
 impl TcpConnections {
-    /// The connections of this listener. One that is silent for so many seconds, or takes nothing of
-    /// a reply for so long, is closed; for 0 none is.
+    /// The connections of this listener. One that is silent for so many seconds, or takes nothing
+    /// of a reply for so long, is closed; for 0 none is.
     pub fn new(listener: TcpListener, idle: u64) -> TcpConnections {
         let idle = (idle > 0).then(|| Duration::from_secs(idle));
         TcpConnections { listener, idle }

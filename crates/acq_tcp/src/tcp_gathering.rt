@@ -34,8 +34,8 @@ pub struct TcpGathering<'a, T> {
 }
 
 impl<'a, T: time::Clock> TcpGathering<'a, T> {
-    /// Listens at a port of this machine, for so many connections at once. One that is silent for so
-    /// many seconds, or takes nothing of a reply for so long, is closed; for 0 none is.
+    /// Listens at a port of this machine, for so many connections at once. One that is silent for
+    /// so many seconds, or takes nothing of a reply for so long, is closed; for 0 none is.
     pub fn listen<N: Net>(
         net: &N,
         time: &'a T,

@@ -8,7 +8,8 @@ use Rattle.acq_sql_changes.specs.Changed.{HoldsAfter}
 use Rattle.acq_sql_opening.specs.declared.opening_fault.OpeningFault.{OpeningFault}
 use Rattle.acq_sql_opening.specs.declared.opening_fault.OpeningFault.TheVariants as opening
 use Rattle.acq_commands.specs.declared.fault.Fault.{Fault}
-use Rattle.acq_commands.specs.declared.fault.Fault.TheVariants.{Memory, Store, NotABook, OtherVersion}
+use Rattle.acq_commands.specs.declared.fault.Fault.TheVariants.{Memory, Store, NotABook}
+use Rattle.acq_commands.specs.declared.fault.Fault.TheVariants.{OtherVersion}
 
 -- The database file and its log hold a book at these tables.
 abbrev pub FilesHold : Image → Tables → Type 0

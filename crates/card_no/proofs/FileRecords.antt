@@ -1,12 +1,16 @@
 -- The records of a text, read one after the other, and the list that they make.
-use Rattle.std.proofs.Common.{◌≡◌, ℕ, zero, suc, ◌+◌, ◌-◌, ◌≤◌, true, false, eqb, List, [], ◌∷◌, ◌++◌, length, take}
-use Rattle.std.proofs.Common.{Option, Some, None, Result, Ok, Err, refl, sym, ap, ◌∙◌, arith, inl, inr}
+use Rattle.std.proofs.Common.{◌≡◌, ℕ, zero, suc, ◌+◌, ◌-◌, ◌≤◌, true, false, eqb, List, [], ◌∷◌}
+use Rattle.std.proofs.Common.{◌++◌, length, take}
+use Rattle.std.proofs.Common.{Option, Some, None, Result, Ok, Err, refl, sym, ap, ◌∙◌, arith, inl}
+use Rattle.std.proofs.Common.{inr}
 use Rattle.std.specs.Prelude.{IfSome, ◌||◌, ◌⊎◌}
 use Rattle.std.proofs.lemmas.Bool.{cases_Bool, false≢true, cond_both}
 use Rattle.std.proofs.lemmas.List.{append-nil, take_at, length-append, length_push}
-use Rattle.csv.specs.Machine.{Read, step, in_field, start_field, start_record, is_end, ends_at_end, next_record}
+use Rattle.csv.specs.Machine.{Read, step, in_field, start_field, start_record, is_end, ends_at_end}
+use Rattle.csv.specs.Machine.{next_record}
 use Rattle.csv.specs.Machine.{fields_after, carriage_return, line_feed}
-use Rattle.csv.specs.Reading.{Reached, ReadRecord, default_config, records_from, source_of, strip_bom}
+use Rattle.csv.specs.Reading.{Reached, ReadRecord, default_config, records_from, source_of}
+use Rattle.csv.specs.Reading.{strip_bom}
 use Rattle.csv.specs.declared.reader.Reader.{Reader}
 use Rattle.csv.proofs.ReadFacts.{rows-end, rows-more}
 use Rattle.csv.specs.declared.parser.State.{State}
@@ -14,8 +18,10 @@ use Rattle.csv.specs.declared.parser.State.TheVariants as st
 use Rattle.csv.specs.declared.parser.Action.{Action}
 use Rattle.card_no.specs.declared.range.Range.{Range}
 use Rattle.card_no.specs.declared.range_fault.RangeFault.{RangeFault}
-use Rattle.card_no.specs.declared.range_fault.RangeFault.TheVariants.{Memory, BadRange, Overlap, NoSuchRange, BadLine}
-use Rattle.card_no.specs.RangeFiles.{with_record, with_records, records_of, ranges_of_text, StopsBefore, ReadsRanges}
+use Rattle.card_no.specs.declared.range_fault.RangeFault.TheVariants.{Memory, BadRange, Overlap}
+use Rattle.card_no.specs.declared.range_fault.RangeFault.TheVariants.{NoSuchRange, BadLine}
+use Rattle.card_no.specs.RangeFiles.{with_record, with_records, records_of, ranges_of_text}
+use Rattle.card_no.specs.RangeFiles.{StopsBefore, ReadsRanges}
 use Rattle.card_no.specs.RangeFiles.{◌>>=◌}
 
 -- ---- each record takes bytes
@@ -29,21 +35,25 @@ unfolding EndsBetween
 in_field-between c =
     cond_both (eqb c 44) _ _ EndsBetween (λ e. λ h. absurd (false≢true h))
     (λ e. cond_both ((eqb c carriage_return) || (eqb c line_feed)) _ _ EndsBetween
-    (λ f. λ h. cond_both (eqb c carriage_return) st.AfterCr st.StartRecord (λ s. ends_at_end s ≡ false) (λ g. refl)
+    (λ f. λ h. cond_both (eqb c carriage_return) st.AfterCr st.StartRecord
+    (λ s. ends_at_end s ≡ false) (λ g. refl)
     (λ g. refl))
     (λ f. λ h. absurd (false≢true h)))
 
 start_field-between : (c : ℕ) → EndsBetween (start_field default_config c)
 unfolding EndsBetween
-start_field-between c = cond_both (eqb c 34) _ _ EndsBetween (λ e. λ h. absurd (false≢true h)) (λ e. in_field-between c)
+start_field-between c = cond_both (eqb c 34) _ _ EndsBetween (λ e. λ h. absurd (false≢true h))
+    (λ e. in_field-between c)
 
 start_record-between : (c : ℕ) → EndsBetween (start_record default_config c)
 unfolding EndsBetween
 start_record-between c =
-    cond_both ((eqb c carriage_return) || (eqb c line_feed)) _ _ EndsBetween (λ e. λ h. absurd (false≢true h))
+    cond_both ((eqb c carriage_return) || (eqb c line_feed)) _ _ EndsBetween
+    (λ e. λ h. absurd (false≢true h))
     (λ e. start_field-between c)
 
-step-between : (s : State) (c : ℕ) → is_end (step default_config s c).1 ≡ true → ends_at_end (step default_config s c).0
+step-between : (s : State) (c : ℕ) → is_end (step default_config s c).1 ≡ true →
+    ends_at_end (step default_config s c).0
     ≡ false
 unfolding EndsBetween
 step-between st.StartRecord c = start_record-between c
@@ -52,11 +62,14 @@ step-between st.InField c = in_field-between c
 step-between st.InQuoted c = cond_both (eqb c 34) _ _ EndsBetween (λ e. λ h. absurd (false≢true h))
     (λ e. λ h. absurd (false≢true h))
 step-between st.InEscape c = λ h. absurd (false≢true h)
-step-between st.AfterQuote c = cond_both (eqb c 34) _ _ EndsBetween (λ e. λ h. absurd (false≢true h))
-    (λ e. in_field-between c)
-step-between st.InComment c = cond_both (eqb c line_feed) _ _ EndsBetween (λ e. λ h. absurd (false≢true h))
+step-between st.AfterQuote c = cond_both (eqb c 34) _ _ EndsBetween
     (λ e. λ h. absurd (false≢true h))
-step-between st.AfterCr c = cond_both (eqb c line_feed) _ _ EndsBetween (λ e. λ h. absurd (false≢true h))
+    (λ e. in_field-between c)
+step-between st.InComment c = cond_both (eqb c line_feed) _ _ EndsBetween
+    (λ e. λ h. absurd (false≢true h))
+    (λ e. λ h. absurd (false≢true h))
+step-between st.AfterCr c = cond_both (eqb c line_feed) _ _ EndsBetween
+    (λ e. λ h. absurd (false≢true h))
     (λ e. start_record-between c)
 
 -- what is left after a record: no more than there was, and the reader stands between two records
@@ -75,9 +88,17 @@ next-left s fields field [] p h =
 next-left s fields field (c ∷ rest) p h =
     elim (cases_Bool (is_end (step default_config s c).1)) [
       | inl end ↦
-          let e : Some (fields_after (step default_config s c).1 fields field, (step default_config s c).0, rest)
+          let e : Some (
+            fields_after (step default_config s c).1 fields field,
+            (step default_config s c).0,
+            rest,
+          )
           ≡ Some p = rw end at h in
-          let same : (fields_after (step default_config s c).1 fields field, (step default_config s c).0, rest) ≡ p =
+          let same : (
+            fields_after (step default_config s c).1 fields field,
+            (step default_config s c).0,
+            rest,
+          ) ≡ p =
           cc in
           rw (← same) (omega arith, step-between s c end)
       | inr on ↦
@@ -86,7 +107,8 @@ next-left s fields field (c ∷ rest) p h =
     ]
 
 -- a record that begins between two takes a byte at least
-record-shorter : (s : State) (xs : List ℕ) (p : Read) → ends_at_end s ≡ false → next_record default_config s [] [] xs
+record-shorter : (s : State) (xs : List ℕ) (p : Read) → ends_at_end s ≡ false →
+    next_record default_config s [] [] xs
     ≡ Some p
     → (length p.2 + 1 ≤ length xs) × (ends_at_end p.1 ≡ false)
 unfolding next_record
@@ -94,9 +116,17 @@ record-shorter s [] p between h = let none : None ≡ Some p = rw between at h i
 record-shorter s (c ∷ rest) p between h =
     elim (cases_Bool (is_end (step default_config s c).1)) [
       | inl end ↦
-          let e : Some (fields_after (step default_config s c).1 [] [], (step default_config s c).0, rest) ≡ Some p =
+          let e : Some (
+            fields_after (step default_config s c).1 [] [],
+            (step default_config s c).0,
+            rest,
+          ) ≡ Some p =
           rw end at h in
-          let same : (fields_after (step default_config s c).1 [] [], (step default_config s c).0, rest) ≡ p = cc in
+          let same : (
+            fields_after (step default_config s c).1 [] [],
+            (step default_config s c).0,
+            rest,
+          ) ≡ p = cc in
           rw (← same) (omega arith, step-between s c end)
       | inr on ↦
           let more = next-left (step default_config s c).0 _ _ rest p (rw on at h) in
@@ -104,7 +134,8 @@ record-shorter s (c ∷ rest) p between h =
     ]
 
 -- no more records are reached than there are bytes
-reached-count : (s : State) (xs : List ℕ) (rows : List (List (List ℕ))) (s2 : State) (ys : List ℕ) → ends_at_end s
+reached-count : (s : State) (xs : List ℕ) (rows : List (List (List ℕ))) (s2 : State) (ys : List ℕ) →
+    ends_at_end s
     ≡ false
     → Reached default_config s xs rows s2 ys → length rows + length ys ≤ length xs
 unfolding Reached
@@ -116,12 +147,14 @@ reached-count s xs (r ∷ rows) s2 ys between h =
     omega (arith, left.0, rest)
 
 -- the records of a text begin with those that were reached
-records-reached : (m : ℕ) (s : State) (xs : List ℕ) (rows : List (List (List ℕ))) (s2 : State) (ys : List ℕ)
+records-reached : (m : ℕ) (s : State) (xs : List ℕ) (rows : List (List (List ℕ))) (s2 : State)
+    (ys : List ℕ)
     → length rows ≤ m
     → Reached default_config s xs rows s2 ys → records_from default_config m s xs ≡ rows
     ++ records_from default_config (m - length rows) s2 ys
 unfolding Reached records_from
-records-reached m s xs [] s2 ys le h = let same : m ≡ m - 0 = omega arith in rw (h.0, h.1, ← same) refl
+records-reached m s xs [] s2 ys le h = let same : m ≡ m - 0 = omega arith in
+    rw (h.0, h.1, ← same) refl
 records-reached zero s xs (r ∷ rows) s2 ys le h = absurd (omega arith)
 records-reached (suc m) s xs (r ∷ rows) s2 ys le h =
     let (p, next, same, more) = h in
@@ -144,14 +177,16 @@ all_records text rows state rest h =
     let few = reached-count st.StartRecord (strip_bom text) rows state rest refl h in
     let left = length (strip_bom text) + 1 - length rows in (
       records_from default_config left state rest,
-      records-reached (length (strip_bom text) + 1) st.StartRecord (strip_bom text) rows state rest (omega arith) h,
+      records-reached (length (strip_bom text) + 1) st.StartRecord (strip_bom text) rows state rest
+          (omega arith) h,
       (λ none. records-end left state rest none),
     )
 
 -- ---- what the records make
 
 with_records-append : (n : ℕ) (ranges : List Range) (xs ys : List (List (List ℕ)))
-    → with_records n ranges (xs ++ ys) ≡ (with_records n ranges xs >>= (λ more. with_records (n + length xs) more ys))
+    → with_records n ranges (xs ++ ys)
+    ≡ (with_records n ranges xs >>= (λ more. with_records (n + length xs) more ys))
 with_records-append n ranges [] ys = let same : n + 0 ≡ n = omega arith in rw same refl
 with_records-append n ranges (x ∷ xs) ys =
     let place : n + suc (length xs) ≡ n + 1 + length xs = omega arith in
@@ -161,7 +196,8 @@ with_records-append n ranges (x ∷ xs) ys =
         ≡ (with_records (n + 1) more xs >>= (λ others. with_records (n + 1 + length xs) others ys)))
         → (r : Result (List Range) RangeFault)
         → (r >>= (λ more. with_records (n + 1) more (xs ++ ys)))
-        ≡ ((r >>= (λ more. with_records (n + 1) more xs)) >>= (λ more. with_records (n + 1 + length xs) more ys))
+        ≡ ((r >>= (λ more. with_records (n + 1) more xs)) >>=
+        (λ more. with_records (n + 1 + length xs) more ys))
     go later (Ok more) = later more
     go later (Err e) = refl
 
@@ -179,8 +215,10 @@ made-more rows ranges n fields r made count is =
     last (Ok more) = refl
     last (Err e) = refl
 
--- Where a reader stands: the records read so far made this list, and the record at hand has this number.
-pub record Stands (text : List ℕ) (left : Option (List ℕ)) (state : State) (ranges : List Range) (number : ℕ) : Type 0
+-- Where a reader stands: the records read so far made this list, and the record at hand has this
+-- number.
+pub record Stands (text : List ℕ) (left : Option (List ℕ)) (state : State) (ranges : List Range)
+    (number : ℕ) : Type 0
   where
     pub rows : List (List (List ℕ))
     pub rest : List ℕ
@@ -189,7 +227,8 @@ pub record Stands (text : List ℕ) (left : Option (List ℕ)) (state : State) (
     pub made : with_records 1 [] rows ≡ Ok ranges
     pub count : number ≡ length rows + 1
 
-pub stands-start : (text : List ℕ) (left : Option (List ℕ)) (state : State) (ranges : List Range) → left
+pub stands-start : (text : List ℕ) (left : Option (List ℕ)) (state : State) (ranges : List Range) →
+    left
     ≡ Some (strip_bom text) → state ≡ st.StartRecord → ranges ≡ []
     → Stands text left state ranges 1
 unfolding Reached
@@ -202,12 +241,15 @@ stands-start text left state ranges l s none = record {
   count = refl;
 }
 
-pub stands-more : {R : Type 0} (rem : R → Option (List ℕ)) (text : List ℕ) (a b : Reader R) (ranges more : List Range)
+pub stands-more : {R : Type 0} (rem : R → Option (List ℕ)) (text : List ℕ) (a b : Reader R)
+    (ranges more : List Range)
     (n : ℕ) (fields : List (List ℕ))
-    → Stands text (source_of rem a) a.state ranges n → a.config ≡ default_config → ReadRecord rem a b true fields
+    → Stands text (source_of rem a) a.state ranges n → a.config ≡ default_config →
+    ReadRecord rem a b true fields
     → with_record n ranges fields ≡ Ok more → Stands text (source_of rem b) b.state more (n + 1)
 stands-more rem text a b ranges more n fields p config read is =
-    let (rest, left, reached) = rows-more rem a b fields default_config st.StartRecord (strip_bom text) p.rest p.rows
+    let (rest, left, reached) = rows-more rem a b fields default_config st.StartRecord
+    (strip_bom text) p.rest p.rows
     config p.left_is p.reached read in
     record {
       rows = p.rows ++ fields ∷ [];
@@ -219,12 +261,15 @@ stands-more rem text a b ranges more n fields p config read is =
     }
 
 -- the record that was read is refused
-pub stands-refused : {R : Type 0} (rem : R → Option (List ℕ)) (text : List ℕ) (a b : Reader R) (ranges : List Range)
+pub stands-refused : {R : Type 0} (rem : R → Option (List ℕ)) (text : List ℕ) (a b : Reader R)
+    (ranges : List Range)
     (n : ℕ) (fields : List (List ℕ)) (fault : RangeFault)
-    → Stands text (source_of rem a) a.state ranges n → a.config ≡ default_config → ReadRecord rem a b true fields
+    → Stands text (source_of rem a) a.state ranges n → a.config ≡ default_config →
+    ReadRecord rem a b true fields
     → with_record n ranges fields ≡ Err fault → ranges_of_text text ≡ Err fault
 stands-refused rem text a b ranges n fields fault p config read is =
-    let (rest, left, reached) = rows-more rem a b fields default_config st.StartRecord (strip_bom text) p.rest p.rows
+    let (rest, left, reached) = rows-more rem a b fields default_config st.StartRecord
+    (strip_bom text) p.rest p.rows
     config p.left_is p.reached read in
     let (later, all, end) = all_records text (p.rows ++ fields ∷ []) b.state rest reached in
     let made = made-more p.rows ranges n fields (Err fault) p.made p.count is in
@@ -232,23 +277,28 @@ stands-refused rem text a b ranges n fields fault p config read is =
     ∙ with_records-append 1 [] (p.rows ++ fields ∷ []) later ∙ rw made refl
 
 -- the reader found no other record
-pub stands-end : {R : Type 0} (rem : R → Option (List ℕ)) (text : List ℕ) (a b : Reader R) (ranges : List Range) (n : ℕ)
+pub stands-end : {R : Type 0} (rem : R → Option (List ℕ)) (text : List ℕ) (a b : Reader R)
+    (ranges : List Range) (n : ℕ)
     (fields : List (List ℕ))
-    → Stands text (source_of rem a) a.state ranges n → a.config ≡ default_config → ReadRecord rem a b false fields
+    → Stands text (source_of rem a) a.state ranges n → a.config ≡ default_config →
+    ReadRecord rem a b false fields
     → ranges_of_text text ≡ Ok ranges
 stands-end rem text a b ranges n fields p config read =
     let none = rows-end rem a b fields default_config p.rest config p.left_is read in
     let (later, all, end) = all_records text p.rows a.state p.rest p.reached in
-    let rows : records_of text ≡ p.rows = all ∙ ap (λ (more : List (List (List ℕ))). p.rows ++ more) (end none)
+    let rows : records_of text ≡ p.rows = all ∙ ap (λ (more : List (List (List ℕ))). p.rows ++ more)
+    (end none)
     ∙ append-nil p.rows in
     ap (λ (rs : List (List (List ℕ))). with_records 1 [] rs) rows ∙ p.made
 
 -- the record at hand could not be had
-pub stands-stopped : (text : List ℕ) (left : Option (List ℕ)) (state : State) (ranges : List Range) (n : ℕ)
+pub stands-stopped : (text : List ℕ) (left : Option (List ℕ)) (state : State) (ranges : List Range)
+    (n : ℕ)
     → Stands text left state ranges n → StopsBefore n text
 stands-stopped text left state ranges n p =
     let (later, all, end) = all_records text p.rows state p.rest p.reached in
-    let size : length (records_of text) ≡ length p.rows + length later = ap length all ∙ length-append p.rows later in
+    let size : length (records_of text) ≡ length p.rows + length later =
+    ap length all ∙ length-append p.rows later in
     let before : n - 1 ≡ length p.rows = omega (arith, p.count) in
     let front : take (n - 1) (records_of text) ≡ p.rows =
     rw (all, before) (take_at p.rows later (length p.rows) refl) in
@@ -264,20 +314,25 @@ reads-refused text (Overlap r) h = h
 reads-refused text NoSuchRange h = h
 reads-refused text (BadLine n) h = inl h
 
-pub reads-stopped : (text : List ℕ) (n : ℕ) (fault : RangeFault) → StopsBefore n text → (fault ≡ Memory)
+pub reads-stopped : (text : List ℕ) (n : ℕ) (fault : RangeFault) → StopsBefore n text →
+    (fault ≡ Memory)
     ⊎ (fault ≡ BadLine n) → ReadsRanges text (Err fault)
 reads-stopped text n fault h (inl memory) = rw memory tt
 reads-stopped text n fault h (inr line) = rw line (inr h)
 
-pub when_known : (o : Option (List ℕ)) (P : List ℕ → Type 0) → ((text : List ℕ) → o ≡ Some text → P text) → IfSome o P
+pub when_known : (o : Option (List ℕ)) (P : List ℕ → Type 0) →
+    ((text : List ℕ) → o ≡ Some text → P text) → IfSome o P
 when_known None P h = tt
 when_known (Some text) P h = h text refl
 
 -- the record that was read is refused, or memory ran out for it
-pub reads-failed : {R : Type 0} (rem : R → Option (List ℕ)) (text : List ℕ) (a b : Reader R) (ranges : List Range)
+pub reads-failed : {R : Type 0} (rem : R → Option (List ℕ)) (text : List ℕ) (a b : Reader R)
+    (ranges : List Range)
     (n : ℕ) (fields : List (List ℕ)) (fault : RangeFault)
-    → Stands text (source_of rem a) a.state ranges n → a.config ≡ default_config → ReadRecord rem a b true fields
+    → Stands text (source_of rem a) a.state ranges n → a.config ≡ default_config →
+    ReadRecord rem a b true fields
     → (fault ≡ Memory) ⊎ (with_record n ranges fields ≡ Err fault) → ReadsRanges text (Err fault)
 reads-failed rem text a b ranges n fields fault p config read (inl memory) = rw memory tt
 reads-failed rem text a b ranges n fields fault p config read (inr refused) =
-    reads-refused text fault (stands-refused rem text a b ranges n fields fault p config read refused)
+    reads-refused text fault
+    (stands-refused rem text a b ranges n fields fault p config read refused)

@@ -11,7 +11,8 @@ use Rattle.card_no.proofs.ElementsThatPass.{all-contains}
 use Rattle.card_no.proofs.FirstThatPasses.{find-contains, find-passes}
 use Rattle.card_no.proofs.RangeEnds.{ends_in_order}
 
-least : (rs : List Range) (r s : Range) → list_all is_valid_range rs ≡ true → are_apart rs ≡ true → find (overlaps r) rs
+least : (rs : List Range) (r s : Range) → list_all is_valid_range rs ≡ true → are_apart rs ≡ true →
+    find (overlaps r) rs
     ≡ Some s
     → (t : Range) → Contains rs t → overlaps r t ≡ true → s.low ≤ t.low
 least [] r s v a is t (k, lt, e) o = absurd (omega arith)
@@ -29,13 +30,15 @@ least (x ∷ rs) r s v a is t (suc j, lt, e) o =
           let first : Some x ≡ Some s = rw here at is in
           let same : x ≡ s = cc in
           let low : s.low ≡ x.low = ap (λ (y : Range). y.low) (sym same) in
-          let before = ltb-true x.high t.low (all-contains (is_before x) rs t apart.0 (j, omega arith, e)) in
+          let before = ltb-true x.high t.low
+          (all-contains (is_before x) rs t apart.0 (j, omega arith, e)) in
           let order = ends_in_order x valid.0 in
           omega (arith, low, before, order)
       | inr past ↦ least rs r s valid.1 apart.1 (rw past at is) t (j, omega arith, e) o
     ]
 
-pub least-overlap : (rs : List Range) (r s : Range) → are_ranges rs ≡ true → overlapped_by r rs ≡ Some s
+pub least-overlap : (rs : List Range) (r s : Range) → are_ranges rs ≡ true →
+    overlapped_by r rs ≡ Some s
     → IsLeastOverlap rs r s
 least-overlap rs r s h is =
     let parts = and_parts (list_all is_valid_range rs) (are_apart rs) h in (

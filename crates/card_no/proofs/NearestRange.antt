@@ -1,12 +1,14 @@
 -- Of the ranges that begin at a prefix or below it, the last alone may hold it.
-use Rattle.std.proofs.Common.{◌≡◌, ℕ, zero, suc, ◌-◌, ◌<◌, ◌≤◌, true, false, leb, List, [], ◌∷◌, length, get_or}
+use Rattle.std.proofs.Common.{◌≡◌, ℕ, zero, suc, ◌-◌, ◌<◌, ◌≤◌, true, false, leb, List, [], ◌∷◌}
+use Rattle.std.proofs.Common.{length, get_or}
 use Rattle.std.proofs.Common.{Option, Some, None, refl, sym, ap, subst, ◌∙◌, arith, inl, inr}
 use Rattle.std.specs.List.{list_all, find, AllWithin, Contains}
 use Rattle.std.proofs.lemmas.Bool.{and_parts, true≢false, leb-true, le-leb, cases_lt}
 use Rattle.std.specs.List.Sorted.{IsPartitionedBy}
 use Rattle.std.proofs.lemmas.List.{get_or_default}
 use Rattle.card_no.specs.declared.range.Range.{Range}
-use Rattle.card_no.specs.Ranges.{is_valid_range, holds_prefix, is_before, are_apart, are_ranges, range_of_prefix}
+use Rattle.card_no.specs.Ranges.{is_valid_range, holds_prefix, is_before, are_apart, are_ranges}
+use Rattle.card_no.specs.Ranges.{range_of_prefix}
 use Rattle.card_no.proofs.RangeEnds.{ends_in_order, holds_parts, before_lt}
 use Rattle.card_no.proofs.ElementsThatPass.{all-at, all-contains}
 use Rattle.card_no.proofs.FirstThatPasses.{find-none, find-passes, find-contains, none-all}
@@ -25,12 +27,14 @@ apart_at (r ∷ rs) (suc j) (suc k) d e h lt within =
     apart_at rs j k d e parts.1 (omega arith) (omega arith)
 
 -- those that begin at a number or below it come first
-pub begun_first : (rs : List Range) (n : ℕ) → are_ranges rs ≡ true → IsPartitionedBy (λ (r : Range). leb r.low n) rs
+pub begun_first : (rs : List Range) (n : ℕ) → are_ranges rs ≡ true →
+    IsPartitionedBy (λ (r : Range). leb r.low n) rs
 begun_first rs n h i j d le lt begun =
     let parts = and_parts (list_all is_valid_range rs) (are_apart rs) h in
     elim (cases_lt i j) [
       | inl before ↦
-          let first = ends_in_order (get_or rs i d) (all-at is_valid_range rs i d parts.0 (omega arith)) in
+          let first = ends_in_order (get_or rs i d)
+          (all-at is_valid_range rs i d parts.0 (omega arith)) in
           let apart = apart_at rs i j d d parts.1 before lt in
           let low = leb-true _ _ begun in
           le-leb _ n (omega (arith, first, apart, low))
@@ -58,7 +62,8 @@ last_begun rs p n s h within begun above (k, lt, e) holds =
             let same : n - 1 ≡ k = omega arith in
             (omega arith, ap (λ (j : ℕ). get_or rs j s) same ∙ e)
       ]
-      | inr later ↦ let over = above k s (omega arith) lt in absurd (omega (arith, over, low, ends.0))
+      | inr later ↦ let over = above k s (omega arith) lt in
+          absurd (omega (arith, over, low, ends.0))
     ]
 
 -- the range that is found, by what a range that holds the prefix is
@@ -82,7 +87,8 @@ pub last_fails : (rs : List Range) (p n : ℕ) (r d : Range) → are_ranges rs �
 last_fails rs p n r d h within begun above is fails = found_by rs p _ refl (λ s there holds.
     let last = last_begun rs p n s h within begun above there holds in
     let same : r ≡ s = is ∙ get_or_default rs (n - 1) d s (omega (arith, last.0)) ∙ last.1 in
-    let both : true ≡ false = sym (subst (λ (x : Range). holds_prefix p x ≡ true) (sym same) holds) ∙ fails in
+    let both : true ≡ false = sym (subst (λ (x : Range). holds_prefix p x ≡ true) (sym same) holds)
+    ∙ fails in
     true≢false both)
 
 -- the last that begins there or below holds it
@@ -95,9 +101,11 @@ last_holds rs p n r d h lt is holds = found _ refl
 
     found : (o : Option Range) → find (holds_prefix p) rs ≡ o → o ≡ Some r
     found None none =
-        let passes = all-contains _ rs r (none-all (holds_prefix p) rs (find-none (holds_prefix p) rs none)) there in
+        let passes = all-contains _ rs r
+        (none-all (holds_prefix p) rs (find-none (holds_prefix p) rs none)) there in
         absurd (true≢false (sym (rw holds at passes)))
     found (Some s) some =
         let parts = and_parts (list_all is_valid_range rs) (are_apart rs) h in
-        ap (λ (x : Range). Some x) (holds_one rs p r s parts.1 there (find-contains (holds_prefix p) rs s some) holds
+        ap (λ (x : Range). Some x)
+        (holds_one rs p r s parts.1 there (find-contains (holds_prefix p) rs s some) holds
         (find-passes (holds_prefix p) rs s some))

@@ -1,5 +1,7 @@
--- A card number with one digit changed fails the check: no two digits count for the same at one place.
-use Rattle.std.proofs.Common.{◌≡◌, ◌≢◌, ℕ, zero, suc, ◌+◌, ◌-◌, ◌*◌, ◌%◌, ◌<◌, ◌≤◌, true, false, eqb, leb}
+-- A card number with one digit changed fails the check: no two digits count for the same at one
+-- place.
+use Rattle.std.proofs.Common.{◌≡◌, ◌≢◌, ℕ, zero, suc, ◌+◌, ◌-◌, ◌*◌, ◌%◌, ◌<◌, ◌≤◌, true, false}
+use Rattle.std.proofs.Common.{eqb, leb}
 use Rattle.std.proofs.Common.{List, [], ◌∷◌, length, get_or, set}
 use Rattle.std.proofs.Common.{arith, inl, inr}
 use Rattle.std.specs.Prelude.{◌&&◌}
@@ -18,15 +20,19 @@ counted-one place a b la lb h =
       | inl even ↦ rw even at h
       | inr odd ↦ elim (cases_lt 9 (2 * a)) [
         | inl over ↦ elim (cases_lt 9 (2 * b)) [
-          | inl both ↦ let e : 2 * a - 9 ≡ 2 * b - 9 = rw (odd, lt-ltb 9 (2 * a) over, lt-ltb 9 (2 * b) both) at h in
+          | inl both ↦ let e : 2 * a - 9 ≡ 2 * b - 9 =
+              rw (odd, lt-ltb 9 (2 * a) over, lt-ltb 9 (2 * b) both) at h in
               omega arith
-          | inr one ↦ let e : 2 * a - 9 ≡ 2 * b = rw (odd, lt-ltb 9 (2 * a) over, le-ltb 9 (2 * b) one) at h in
+          | inr one ↦ let e : 2 * a - 9 ≡ 2 * b =
+              rw (odd, lt-ltb 9 (2 * a) over, le-ltb 9 (2 * b) one) at h in
               omega arith
         ]
         | inr under ↦ elim (cases_lt 9 (2 * b)) [
-          | inl one ↦ let e : 2 * a ≡ 2 * b - 9 = rw (odd, le-ltb 9 (2 * a) under, lt-ltb 9 (2 * b) one) at h in
+          | inl one ↦ let e : 2 * a ≡ 2 * b - 9 =
+              rw (odd, le-ltb 9 (2 * a) under, lt-ltb 9 (2 * b) one) at h in
               omega arith
-          | inr none ↦ let e : 2 * a ≡ 2 * b = rw (odd, le-ltb 9 (2 * a) under, le-ltb 9 (2 * b) none) at h in
+          | inr none ↦ let e : 2 * a ≡ 2 * b =
+              rw (odd, le-ltb 9 (2 * a) under, le-ltb 9 (2 * b) none) at h in
               omega arith
         ]
       ]
@@ -54,10 +60,12 @@ sum-changed (x ∷ xs) (suc i) y lt =
 
 sum_is_ten : (xs : List ℕ) → is_valid_card xs ≡ true → check_sum xs % 10 ≡ 0
 sum_is_ten xs h =
-    eqb-true (check_sum xs % 10) 0 (and_parts (leb 10 (length xs) && leb (length xs) 19 && list_all is_ascii_digit xs)
+    eqb-true (check_sum xs % 10) 0
+    (and_parts (leb 10 (length xs) && leb (length xs) 19 && list_all is_ascii_digit xs)
     (eqb (check_sum xs % 10) 0) h).1
 
-pub digit-changed : (xs : List ℕ) (i y : ℕ) → is_valid_card xs ≡ true → i < length xs → y ≢ get_or xs i 0
+pub digit-changed : (xs : List ℕ) (i y : ℕ) → is_valid_card xs ≡ true → i < length xs →
+    y ≢ get_or xs i 0
     → is_valid_card (set xs i y) ≡ false
 digit-changed xs i y valid lt other = false_from_ne_true _ (λ again. other (same again))
   where
@@ -65,7 +73,8 @@ digit-changed xs i y valid lt other = false_from_ne_true _ (λ again. other (sam
     same again =
         let old = digit_at xs i 0 (valid_digits xs valid).2 lt in
         let within : i < length (set xs i y) = rw (length-set xs i y) lt in
-        let new = rw (get_or-set_same xs i y 0 lt) at (digit_at (set xs i y) i 0 (valid_digits (set xs i y) again).2
+        let new = rw (get_or-set_same xs i y 0 lt) at
+        (digit_at (set xs i y) i 0 (valid_digits (set xs i y) again).2
         within) in
         let (place, sums) = sum-changed xs i y lt in
         let a = counted-bound place (get_or xs i 0 - 48) (omega (arith, old.0, old.1)) in

@@ -14,7 +14,8 @@ use Rattle.card_no.proofs.ElementsThatPass.{all-weaker}
 use Rattle.card_no.proofs.FirstThatPasses.{find-none, none-all}
 
 -- two ranges that do not overlap, the first of which does not begin behind the other
-apart_by : (a b : Range) → overlaps a b ≡ false → a.low ≤ a.high → b.low ≤ b.high → (a.low ≤ b.low → a.high < b.low)
+apart_by : (a b : Range) → overlaps a b ≡ false → a.low ≤ a.high → b.low ≤ b.high →
+    (a.low ≤ b.low → a.high < b.low)
     × (b.low ≤ a.low → b.high < a.low)
 apart_by a b h va vb =
     elim (and_cases (leb a.low b.high) (leb b.low a.high) h) [
@@ -28,11 +29,13 @@ all_with p [] r h k = and_from (p r) true k refl
 all_with p (s ∷ rs) r h k =
     let parts = and_parts (p s) (list_all p rs) h in
     elim (cases_Bool (ltb s.low r.low)) [
-      | inl low ↦ rw low (and_from (p s) (list_all p (with_range rs r)) parts.0 (all_with p rs r parts.1 k))
+      | inl low ↦ rw low
+          (and_from (p s) (list_all p (with_range rs r)) parts.0 (all_with p rs r parts.1 k))
       | inr high ↦ rw high (and_from (p r) (list_all p (s ∷ rs)) k h)
     ]
 
-apart_with : (rs : List Range) (r : Range) → list_all is_valid_range rs ≡ true → are_apart rs ≡ true → is_valid_range r
+apart_with : (rs : List Range) (r : Range) → list_all is_valid_range rs ≡ true →
+    are_apart rs ≡ true → is_valid_range r
     ≡ true
     → list_all (λ s. not (overlaps r s)) rs ≡ true → are_apart (with_range rs r) ≡ true
 apart_with [] r v a vr free = refl
@@ -60,7 +63,8 @@ apart_with (s ∷ rs) r v a vr free =
           (and_from (is_before r s) (list_all (is_before r) rs) (lt-ltb _ _ r-first) later) a)
     ]
 
-pub ranges_with : (rs : List Range) (r : Range) → are_ranges rs ≡ true → is_valid_range r ≡ true → find (overlaps r) rs
+pub ranges_with : (rs : List Range) (r : Range) → are_ranges rs ≡ true → is_valid_range r ≡ true →
+    find (overlaps r) rs
     ≡ None → are_ranges (with_range rs r) ≡ true
 ranges_with rs r h v free =
     let parts = and_parts (list_all is_valid_range rs) (are_apart rs) h in

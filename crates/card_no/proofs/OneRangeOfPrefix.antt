@@ -11,7 +11,8 @@ use Rattle.card_no.proofs.ElementsThatPass.{all-contains}
 use Rattle.card_no.proofs.FirstThatPasses.{find-none, find-passes, find-contains}
 
 -- two ranges that hold a prefix are one
-pub holds_one : (rs : List Range) (p : ℕ) (r s : Range) → are_apart rs ≡ true → Contains rs r → Contains rs s
+pub holds_one : (rs : List Range) (p : ℕ) (r s : Range) → are_apart rs ≡ true → Contains rs r →
+    Contains rs s
     → holds_prefix p r ≡ true → holds_prefix p s ≡ true → s ≡ r
 holds_one [] p r s apart (k, lt, e) b h g = absurd (omega arith)
 holds_one (x ∷ rs) p r s apart (zero, lt, e) (zero, lt2, e2) h g = sym e2 ∙ e
@@ -31,7 +32,8 @@ holds_one (x ∷ rs) p r s apart (suc k, lt, e) (suc j, lt2, e2) h g =
     let parts = and_parts (list_all (is_before x) rs) (are_apart rs) apart in
     holds_one rs p r s parts.1 (k, omega arith, e) (j, omega arith, e2) h g
 
-pub range_is_one : (rs : List Range) (p : ℕ) (o : Option Range) → are_ranges rs ≡ true → o ≡ range_of_prefix rs p
+pub range_is_one : (rs : List Range) (p : ℕ) (o : Option Range) → are_ranges rs ≡ true →
+    o ≡ range_of_prefix rs p
     → IsRangeOf rs p o
 range_is_one rs p None h e = find-none (holds_prefix p) rs (sym e)
 range_is_one rs p (Some r) h e =

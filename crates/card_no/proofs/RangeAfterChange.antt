@@ -1,4 +1,5 @@
--- After a range was added or removed, the list is one of ranges, and each prefix has the range that it must.
+-- After a range was added or removed, the list is one of ranges, and each prefix has the range that
+-- it must.
 use Rattle.std.proofs.Common.{◌≡◌, ℕ, ◌≤◌, true, cond, ltb, leb}
 use Rattle.std.proofs.Common.{List, [], ◌∷◌, Option, Some, None, refl, sym, ap, ◌∙◌}
 use Rattle.std.proofs.Common.{arith, inl, inr}
@@ -8,7 +9,8 @@ use Rattle.std.proofs.lemmas.Bool.{and_parts, and_from, cases_Bool, true≢false
 use Rattle.std.proofs.lemmas.Bool.{leb-true, le-leb, lt-leb, not-true}
 use Rattle.card_no.specs.declared.range.Range.{Range}
 use Rattle.card_no.specs.declared.range_fault.RangeFault.TheVariants.{BadRange, Overlap}
-use Rattle.card_no.specs.Ranges.{is_valid_range, holds_prefix, overlaps, is_before, are_apart, are_ranges}
+use Rattle.card_no.specs.Ranges.{is_valid_range, holds_prefix, overlaps, is_before, are_apart}
+use Rattle.card_no.specs.Ranges.{are_ranges}
 use Rattle.card_no.specs.Ranges.{range_of_prefix, overlapped_by, with_range, has_ends, unless_ends}
 use Rattle.card_no.specs.Ranges.{without_range}
 use Rattle.card_no.specs.RangeChanges.{add_fault}
@@ -32,7 +34,8 @@ pub added-ranges : (rs : List Range) (r : Range) → are_ranges rs ≡ true → 
 added-ranges rs r h free = let parts = free_parts rs r free in ranges_with rs r h parts.0 parts.1
 
 -- two ranges that hold one prefix overlap
-both_hold : (p : ℕ) (r s : Range) → holds_prefix p r ≡ true → holds_prefix p s ≡ true → overlaps r s ≡ true
+both_hold : (p : ℕ) (r s : Range) → holds_prefix p r ≡ true → holds_prefix p s ≡ true →
+    overlaps r s ≡ true
 both_hold p r s h g =
     let a = and_parts (leb r.low p) (leb p r.high) h in
     let b = and_parts (leb s.low p) (leb p s.high) g in
@@ -40,10 +43,12 @@ both_hold p r s h g =
     let a1 = leb-true _ _ a.1 in
     let b0 = leb-true _ _ b.0 in
     let b1 = leb-true _ _ b.1 in
-    and_from (leb r.low s.high) (leb s.low r.high) (le-leb _ _ (omega arith)) (le-leb _ _ (omega arith))
+    and_from (leb r.low s.high) (leb s.low r.high) (le-leb _ _ (omega arith))
+    (le-leb _ _ (omega arith))
 
 prefix-with : (rs : List Range) (r : Range) (p : ℕ) → list_all (λ s. not (overlaps r s)) rs ≡ true
-    → find (holds_prefix p) (with_range rs r) ≡ cond (holds_prefix p r) (Some r) (find (holds_prefix p) rs)
+    → find (holds_prefix p) (with_range rs r) ≡ cond (holds_prefix p r) (Some r)
+    (find (holds_prefix p) rs)
 prefix-with [] r p free = refl
 prefix-with (s ∷ rs) r p free =
     let alone = and_parts (not (overlaps r s)) (list_all (λ t. not (overlaps r t)) rs) free in
@@ -73,7 +78,8 @@ none-behind s (x ∷ rs) p h le =
     rw (lt-leb x.low p (omega arith)) (none-behind s rs p parts.1 le)
 
 prefix-without : (rs : List Range) (low high p : ℕ) → are_apart rs ≡ true
-    → find (holds_prefix p) (without_range rs low high) ≡ unless_ends low high (find (holds_prefix p) rs)
+    → find (holds_prefix p) (without_range rs low high) ≡ unless_ends low high
+    (find (holds_prefix p) rs)
 prefix-without [] low high p h = refl
 prefix-without (s ∷ rs) low high p h =
     let parts = and_parts (list_all (is_before s) rs) (are_apart rs) h in

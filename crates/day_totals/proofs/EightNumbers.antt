@@ -14,7 +14,8 @@ same_total : (t other : LegTotal) → t.count ≡ other.count → t.amount ≡ o
 same_total t other count amount = same_parts t.count t.amount other.count other.amount count amount
 
 -- totals with the same eight numbers are the same
-pub same_numbers : (t other : DayTotals) → counts_of t ≡ counts_of other → amounts_of t ≡ amounts_of other → t ≡ other
+pub same_numbers : (t other : DayTotals) → counts_of t ≡ counts_of other →
+    amounts_of t ≡ amounts_of other → t ≡ other
 same_numbers t other counts amounts =
     let a : t.credits.count ≡ other.credits.count = cc in
     let b : t.credit_reversals.count ≡ other.credit_reversals.count = cc in
@@ -25,5 +26,6 @@ same_numbers t other counts amounts =
     let g : t.debits.amount ≡ other.debits.amount = cc in
     let h : t.debit_reversals.amount ≡ other.debit_reversals.amount = cc in
     same_day _ _ _ _ _ _ _ _ (same_total t.credits other.credits a e)
-    (same_total t.credit_reversals other.credit_reversals b f) (same_total t.debits other.debits c g)
+    (same_total t.credit_reversals other.credit_reversals b f)
+    (same_total t.debits other.debits c g)
     (same_total t.debit_reversals other.debit_reversals d h)

@@ -39,7 +39,8 @@ is_year y h = omega (arith, signed_arith)
 
 pub is_first : (y m : ℕ) → y ≤ 9999 → 1 ≤ m → m ≤ 12 → IsCivil y m 1
 is_first y m year low high =
-    let bounds = days_in_month_bounds (pos y) m in (is_year y year, (low, high), (omega arith, omega arith))
+    let bounds = days_in_month_bounds (pos y) m in
+    (is_year y year, (low, high), (omega arith, omega arith))
 
 -- within a month
 day_in_month : (y m d : ℕ) (first : IsCivil y m 1) (h : IsCivil y m d) → day_at y m d h +ℤ pos 1
@@ -47,12 +48,14 @@ day_in_month : (y m d : ℕ) (first : IsCivil y m 1) (h : IsCivil y m d) → day
 day_in_month y m d first h = days_from_civil-day (pos y) m d 1 h.2.0 (omega arith)
 
 -- the next month
-month_next : (y m : ℕ) (first : IsCivil y m 1) (next : IsCivil y (m + 1) 1) → day_at y (m + 1) 1 next
+month_next : (y m : ℕ) (first : IsCivil y m 1) (next : IsCivil y (m + 1) 1) →
+    day_at y (m + 1) 1 next
     ≡ day_at y m 1 first +ℤ pos (days_in_month (pos y) m)
 month_next y m first next =
     let bounds = days_in_month_bounds (pos y) m in
     let last = days_from_civil-next_month (pos y) m (days_in_month (pos y) m) first.1.0 refl in
-    let within = days_from_civil-day (pos y) m 1 (days_in_month (pos y) m) (omega arith) (omega arith) in
+    let within = days_from_civil-day (pos y) m 1 (days_in_month (pos y) m) (omega arith)
+    (omega arith) in
     omega (arith, signed_arith, last, within)
 
 -- the days of a month and of so many months after it
@@ -64,7 +67,8 @@ days_from_month-year : (y : ℕ) → days_from_month 11 y 1 ≡ days_in_year (po
 unfolding days_from_month
 days_from_month-year y = grind arith
 
-IsDateAt-at : (date : CivilDate) (here there : ℤ) → here ≡ there → IsDateAt date here → IsDateAt date there
+IsDateAt-at : (date : CivilDate) (here there : ℤ) → here ≡ there → IsDateAt date here →
+    IsDateAt date there
 IsDateAt-at date here there e h = record { civil = h.civil; at = h.at ∙ e }
 
 in_this_month : (y m days : ℕ) (first : IsCivil y m 1) → days < days_in_month (pos y) m
@@ -78,15 +82,18 @@ in_this_month y m days first h =
     }
 
 date_from_month-at : (later y m days : ℕ) (first : IsCivil y m 1) → y ≤ 9999 → m + later ≤ 12
-    → days < days_from_month later y m → IsDateAt (date_from_month later y m days) (day_at y m 1 first +ℤ pos days)
+    → days < days_from_month later y m →
+    IsDateAt (date_from_month later y m days) (day_at y m 1 first +ℤ pos days)
 unfolding date_from_month days_from_month
 date_from_month-at zero y m days first year high within = in_this_month y m days first within
 date_from_month-at (suc later) y m days first year high within =
     elim (cases_lt days (days_in_month (pos y) m)) [
-      | inl here ↦ rw (lt-ltb days (days_in_month (pos y) m) here) (in_this_month y m days first here)
+      | inl here ↦ rw (lt-ltb days (days_in_month (pos y) m) here)
+          (in_this_month y m days first here)
       | inr past ↦
           let next : IsCivil y (m + 1) 1 = is_first y (m + 1) year (omega arith) (omega arith) in
-          let rest = date_from_month-at later y (m + 1) (days - days_in_month (pos y) m) next year (omega arith)
+          let rest = date_from_month-at later y (m + 1) (days - days_in_month (pos y) m) next year
+          (omega arith)
           (omega arith) in
           let step = month_next y m first next in
           rw (le-ltb days (days_in_month (pos y) m) past)
@@ -94,7 +101,8 @@ date_from_month-at (suc later) y m days first year high within =
     ]
 
 -- from the first of a month to that of December
-to_december : (later y m : ℕ) (first : IsCivil y m 1) (december : IsCivil y 12 1) → y ≤ 9999 → m + later ≡ 12
+to_december : (later y m : ℕ) (first : IsCivil y m 1) (december : IsCivil y 12 1) → y ≤ 9999 →
+    m + later ≡ 12
     → day_at y 12 1 december +ℤ pos 31 ≡ day_at y m 1 first +ℤ pos (days_from_month later y m)
 unfolding days_from_month
 to_december zero y m first december year e = let last : m ≡ 12 = omega arith in rw last
@@ -105,7 +113,8 @@ to_december (suc later) y m first december year e =
     omega (arith, signed_arith, rest, step)
 
 -- the next year
-year_next : (y : ℕ) (first : IsCivil y 1 1) (next : IsCivil (y + 1) 1 1) → y ≤ 9998 → day_at (y + 1) 1 1 next
+year_next : (y : ℕ) (first : IsCivil y 1 1) (next : IsCivil (y + 1) 1 1) → y ≤ 9998 →
+    day_at (y + 1) 1 1 next
     ≡ day_at y 1 1 first +ℤ pos (days_in_year (pos y))
 year_next y first next year =
     let december : IsCivil y 12 1 = is_first y 12 (omega arith) (omega arith) (omega arith) in
@@ -132,11 +141,13 @@ record IsYearDayAt (place : YearDay) (day : ℤ) : Type 0 where
   within : place.before < days_in_year (pos place.year)
   at : day_at place.year 1 1 first +ℤ pos place.before ≡ day
 
-IsYearDayAt-at : (place : YearDay) (here there : ℤ) → here ≡ there → IsYearDayAt place here → IsYearDayAt place there
+IsYearDayAt-at : (place : YearDay) (here there : ℤ) → here ≡ there → IsYearDayAt place here →
+    IsYearDayAt place there
 IsYearDayAt-at place here there e h =
     record { year = h.year; first = h.first; within = h.within; at = h.at ∙ e }
 
-year_day_from-at : (later y days : ℕ) (first : IsCivil y 1 1) → y + later ≤ 9998 → days < days_from_year later y
+year_day_from-at : (later y days : ℕ) (first : IsCivil y 1 1) → y + later ≤ 9998 →
+    days < days_from_year later y
     → IsYearDayAt (year_day_from later y days) (day_at y 1 1 first +ℤ pos days)
 unfolding year_day_from days_from_year
 year_day_from-at zero y days first year within =
@@ -146,8 +157,10 @@ year_day_from-at (suc later) y days first year within =
       | inl here ↦ rw (lt-ltb days (days_in_year (pos y)) here)
           (record { year = omega arith; first = first; within = here; at = refl })
       | inr past ↦
-          let next : IsCivil (y + 1) 1 1 = is_first (y + 1) 1 (omega arith) (omega arith) (omega arith) in
-          let rest = year_day_from-at later (y + 1) (days - days_in_year (pos y)) next (omega arith) (omega arith) in
+          let next : IsCivil (y + 1) 1 1 = is_first (y + 1) 1 (omega arith) (omega arith)
+          (omega arith) in
+          let rest = year_day_from-at later (y + 1) (days - days_in_year (pos y)) next (omega arith)
+          (omega arith) in
           let step = year_next y first next (omega arith) in
           rw (le-ltb days (days_in_year (pos y)) past)
           (IsYearDayAt-at _ _ _ (omega (arith, signed_arith, step)) rest)
@@ -155,7 +168,8 @@ year_day_from-at (suc later) y days first year within =
 
 -- four years from a leap year on, before 2100
 leap_years : (q : ℕ) → q ≤ 24 → (days_in_year (pos (2000 + 4 * q)) ≡ 366)
-    × (days_in_year (pos (2000 + 4 * q + 1)) ≡ 365) × (days_in_year (pos (2000 + 4 * q + 1 + 1)) ≡ 365)
+    × (days_in_year (pos (2000 + 4 * q + 1)) ≡ 365)
+    × (days_in_year (pos (2000 + 4 * q + 1 + 1)) ≡ 365)
     × (days_in_year (pos (2000 + 4 * q + 1 + 1 + 1)) ≡ 365)
 leap_years q h = (
   grind (arith, nat_tests),
@@ -167,13 +181,17 @@ leap_years q h = (
 
 -- four years with these lengths
 four_years : (y : ℕ) (first : IsCivil y 1 1) (next : IsCivil (y + 1 + 1 + 1 + 1) 1 1) → y ≤ 9000
-    → (days_in_year (pos y) ≡ 366) × (days_in_year (pos (y + 1)) ≡ 365) × (days_in_year (pos (y + 1 + 1)) ≡ 365)
+    → (days_in_year (pos y) ≡ 366) × (days_in_year (pos (y + 1)) ≡ 365)
+    × (days_in_year (pos (y + 1 + 1)) ≡ 365)
     × (days_in_year (pos (y + 1 + 1 + 1)) ≡ 365) → day_at (y + 1 + 1 + 1 + 1) 1 1 next
     ≡ day_at y 1 1 first +ℤ pos 1461
 four_years y first next year long =
-    let second : IsCivil (y + 1) 1 1 = is_first (y + 1) 1 (omega arith) (omega arith) (omega arith) in
-    let third : IsCivil (y + 1 + 1) 1 1 = is_first (y + 1 + 1) 1 (omega arith) (omega arith) (omega arith) in
-    let fourth : IsCivil (y + 1 + 1 + 1) 1 1 = is_first (y + 1 + 1 + 1) 1 (omega arith) (omega arith) (omega arith) in
+    let second : IsCivil (y + 1) 1 1 = is_first (y + 1) 1 (omega arith) (omega arith) (omega arith)
+    in
+    let third : IsCivil (y + 1 + 1) 1 1 = is_first (y + 1 + 1) 1 (omega arith) (omega arith)
+    (omega arith) in
+    let fourth : IsCivil (y + 1 + 1 + 1) 1 1 = is_first (y + 1 + 1 + 1) 1 (omega arith)
+    (omega arith) (omega arith) in
     let a = year_next y first second (omega arith) in
     let b = year_next (y + 1) second third (omega arith) in
     let c = year_next (y + 1 + 1) third fourth (omega arith) in
@@ -181,11 +199,13 @@ four_years y first next year long =
     omega (arith, signed_arith, a, b, c, d, long.0, long.1, long.2, long.3)
 
 -- the years from 2000 on that a leap year's four begin
-fours-at : (q y : ℕ) → q ≤ 24 → y ≡ 2000 + 4 * q → (start : IsCivil 2000 1 1) (first : IsCivil y 1 1)
+fours-at : (q y : ℕ) → q ≤ 24 → y ≡ 2000 + 4 * q →
+    (start : IsCivil 2000 1 1) (first : IsCivil y 1 1)
     → day_at y 1 1 first ≡ day_at 2000 1 1 start +ℤ pos (1461 * q)
 fours-at zero y h e start first =
     let same : 2000 ≡ y = omega arith in
-    let P : ℕ → Type 0 = λ n. (k : IsCivil n 1 1) → day_at n 1 1 k ≡ day_at 2000 1 1 start +ℤ pos 0 in
+    let P : ℕ → Type 0 = λ n. (k : IsCivil n 1 1) →
+    day_at n 1 1 k ≡ day_at 2000 1 1 start +ℤ pos 0 in
     subst P same (λ k. omega (arith, signed_arith)) first
 fours-at (suc q) y h e start first =
     let before = 2000 + 4 * q in
@@ -193,7 +213,8 @@ fours-at (suc q) y h e start first =
     let rest = fours-at q before (omega arith) refl start year in
     let long = leap_years q (omega arith) in
     let same : before + 1 + 1 + 1 + 1 ≡ y = omega arith in
-    let P : ℕ → Type 0 = λ n. (k : IsCivil n 1 1) → day_at n 1 1 k ≡ day_at 2000 1 1 start +ℤ pos (1461 * suc q) in
+    let P : ℕ → Type 0 = λ n. (k : IsCivil n 1 1) →
+    day_at n 1 1 k ≡ day_at 2000 1 1 start +ℤ pos (1461 * suc q) in
     subst P same (λ k. let four = four_years before year k (omega arith) long in
     omega (arith, signed_arith, rest, four)) first
 
@@ -208,8 +229,10 @@ unfolding date_of
 date_of-at number h start =
     let q = number / 1461 in
     let few : q ≤ 24 = omega arith in
-    let first : IsCivil (2000 + 4 * q) 1 1 = is_first (2000 + 4 * q) 1 (omega arith) (omega arith) (omega arith) in
-    let within : number % 1461 < days_from_year 3 (2000 + 4 * q) = rw (four_years_long q few) (omega arith) in
+    let first : IsCivil (2000 + 4 * q) 1 1 = is_first (2000 + 4 * q) 1 (omega arith) (omega arith)
+    (omega arith) in
+    let within : number % 1461 < days_from_year 3 (2000 + 4 * q) =
+    rw (four_years_long q few) (omega arith) in
     let place = year_day_from-at 3 (2000 + 4 * q) (number % 1461) first (omega arith) within in
     let date = in_this_year _ _ place.first place.year place.within in
     let before = fours-at q (2000 + 4 * q) few refl start first in

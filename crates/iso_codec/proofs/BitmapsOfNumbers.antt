@@ -1,15 +1,20 @@
 -- Bitmaps that are made of numbers name those numbers.
-use Rattle.std.proofs.Common.{◌≡◌, ◌≢◌, ℕ, zero, suc, ◌+◌, ◌-◌, ◌*◌, ◌/◌, ◌%◌, ◌^◌, ◌<◌, ◌≤◌, Bool, true, false, ◌||◌, eqb, leb, ltb, List, [], ◌∷◌, ◌++◌, refl, sym, ap, subst, ◌∙◌, arith, inl, inr, bit_or, get_or}
+use Rattle.std.proofs.Common.{◌≡◌, ◌≢◌, ℕ, zero, suc, ◌+◌, ◌-◌, ◌*◌, ◌/◌, ◌%◌, ◌^◌, ◌<◌, ◌≤◌, Bool}
+use Rattle.std.proofs.Common.{true, false, ◌||◌, eqb, leb, ltb, List, [], ◌∷◌, ◌++◌, refl, sym, ap}
+use Rattle.std.proofs.Common.{subst, ◌∙◌, arith, inl, inr, bit_or, get_or}
 use Rattle.std.specs.List.{list_all, list_any, filter, range_with_len}
 use Rattle.std.specs.Int.{w64, to_be_bytes}
-use Rattle.std.proofs.lemmas.Bool.{and_parts, and_from, or_left, or_right, leb-true, le-leb, lt-leb, ne_eqb, eq-eqb, lt-ltb, le-ltb, cases_eq, cases_lt, cases_Bool, agree_below_at, true≢false}
+use Rattle.std.proofs.lemmas.Bool.{and_parts, and_from, or_left, or_right, leb-true, le-leb, lt-leb}
+use Rattle.std.proofs.lemmas.Bool.{ne_eqb, eq-eqb, lt-ltb, le-ltb, cases_eq, cases_lt, cases_Bool}
+use Rattle.std.proofs.lemmas.Bool.{agree_below_at, true≢false}
 use Rattle.std.proofs.lemmas.List.Folds.{list_any-append}
 use Rattle.std.proofs.lemmas.Nat.{from_be_bytes-to_be_bytes_8}
 use Rattle.std.proofs.lemmas.Nat.Bits.{bit_at_set_same, bit_at_set_other, bit_at-zero}
 use Rattle.hex.specs.Hex.{encode_upper, encode_with, upper_digits, IsBytes}
 use Rattle.hex.proofs.HexLemmas.{length-encode_with, decode_of-encode_upper}
 use Rattle.iso_codec.specs.declared.bitmaps.Bitmaps.{Bitmaps}
-use Rattle.iso_codec.specs.Message.{bit, names, named, numbers, Ascends, IsBitmap, is_element, is_upper_hex}
+use Rattle.iso_codec.specs.Message.{bit, names, named, numbers, Ascends, IsBitmap, is_element}
+use Rattle.iso_codec.specs.Message.{is_upper_hex}
 use Rattle.iso_codec.specs.Setting.{Marks, is_in}
 use Rattle.iso_codec.proofs.TableBounds.{format_in_bounds}
 use Rattle.iso_codec.proofs.OneMessage.{format_of_element}
@@ -20,7 +25,8 @@ or_false false = refl
 
 pub any_push : {X : Type 0} (p : X → Bool) (xs : List X) (x : X) →
     list_any p (xs ++ x ∷ []) ≡ (list_any p xs || p x)
-any_push p xs x = list_any-append p xs (x ∷ []) ∙ ap (λ (b : Bool). list_any p xs || b) (or_false (p x))
+any_push p xs x = list_any-append p xs (x ∷ []) ∙ ap (λ (b : Bool). list_any p xs || b)
+    (or_false (p x))
 
 -- ---- one bit
 
@@ -32,7 +38,8 @@ bit_more bits n k a b d e =
           let place : 64 - k ≡ 64 - n = omega arith in
           let within : 64 - n < 64 = omega arith in
           let set = bit_at_set_same w64 bits (64 - n) within in
-          let there : bit (bit_or bits (1 * 2 ^ (64 - n) % 2 ^ 64)) k ≡ true = rw (place, set) refl in
+          let there : bit (bit_or bits (1 * 2 ^ (64 - n) % 2 ^ 64)) k ≡ true = rw (place, set) refl
+          in
           there ∙ sym (or_right (bit bits k) (eqb k n) (eq-eqb k n same))
       | inr other ↦
           let apart : 64 - k ≢ 64 - n = omega arith in
@@ -63,7 +70,8 @@ Adds old new n = (k : ℕ) → 1 ≤ k → k ≤ 64 → bit new k ≡ (bit old k
 same_or : (a b d : Bool) → a ≡ b → d ≡ false → a ≡ (b || d)
 same_or a b d e f = rw (e, f) (sym (or_false b))
 
-pub marks_low : (ns : List ℕ) (p q s n : ℕ) → Marks ns (record { primary = p; secondary = s }) → 2 ≤ n → n ≤ 64
+pub marks_low : (ns : List ℕ) (p q s n : ℕ) → Marks ns (record { primary = p; secondary = s }) →
+    2 ≤ n → n ≤ 64
     → Adds p q n → Marks (ns ++ n ∷ []) (record { primary = q; secondary = s })
 marks_low ns p q s n m lo hi adds =
     let first : bit q 1 ≡ bit p 1 = adds 1 (omega arith) (omega arith)
@@ -81,15 +89,18 @@ marks_low ns p q s n m lo hi adds =
             rw near (adds k (omega arith) below ∙ ap (λ (x : Bool). x || eqb k n) old
             ∙ sym (any_push (λ (x : ℕ). eqb k x) ns n))
       ];
-      second = first ∙ same_or (bit p 1) (list_any (λ x. ltb 64 x) ns) (ltb 64 n) m.second (le-ltb 64 n hi)
+      second = first ∙ same_or (bit p 1) (list_any (λ x. ltb 64 x) ns) (ltb 64 n) m.second
+          (le-ltb 64 n hi)
           ∙ sym (any_push (λ (x : ℕ). ltb 64 x) ns n);
       none = λ h. m.none (sym first ∙ h);
     }
 
-pub marks_high : (ns : List ℕ) (p q s t n : ℕ) → Marks ns (record { primary = p; secondary = s }) → 64 < n → n ≤ 128
+pub marks_high : (ns : List ℕ) (p q s t n : ℕ) → Marks ns (record { primary = p; secondary = s }) →
+    64 < n → n ≤ 128
     → Adds p q 1 → Adds s t (n - 64) → Marks (ns ++ n ∷ []) (record { primary = q; secondary = t })
 marks_high ns p q s t n m lo hi adds more =
-    let first : bit q 1 ≡ true = adds 1 (omega arith) (omega arith) ∙ or_right (bit p 1) true refl in
+    let first : bit q 1 ≡ true = adds 1 (omega arith) (omega arith) ∙ or_right (bit p 1) true refl
+    in
     record {
       named_each = λ k a b. elim (cases_lt 64 k) [
         | inl above ↦
@@ -101,7 +112,8 @@ marks_high ns p q s t n m lo hi adds more =
               | inr e ↦
                   ne_eqb (k - 64) (n - 64) (omega arith) ∙ sym (ne_eqb k n e)
             ] in
-            rw far (more (k - 64) (omega arith) (omega arith) ∙ ap (λ (x : Bool). x || eqb (k - 64) (n - 64)) old
+            rw far (more (k - 64) (omega arith) (omega arith)
+            ∙ ap (λ (x : Bool). x || eqb (k - 64) (n - 64)) old
             ∙ ap (λ (x : Bool). is_in ns k || x) shift ∙ sym (any_push (λ (x : ℕ). eqb k x) ns n))
         | inr below ↦
             let near : leb k 64 ≡ true = le-leb k 64 below in
@@ -122,7 +134,8 @@ pub not_in : (low n : ℕ) (xs : List ℕ) → Ascends low xs → n ≤ low → 
 not_in low n [] h le = refl
 not_in low n (x ∷ xs) h le = rw (ne_eqb n x (omega arith)) (not_in x n xs h.1 (omega arith))
 
-pub filter_is : (p : ℕ → Bool) (k low start top : ℕ) (xs : List ℕ) → start ≡ low + 1 → top ≡ low + k →
+pub filter_is : (p : ℕ → Bool) (k low start top : ℕ) (xs : List ℕ) → start ≡ low + 1 →
+    top ≡ low + k →
     Ascends low xs
     → list_all (λ n. leb n top) xs ≡ true → ((n : ℕ) → low < n → n ≤ top → p n ≡ is_in xs n)
     → filter p (range_with_len start k) ≡ xs
@@ -133,7 +146,8 @@ filter_is p zero low start top (x ∷ xs) e f asc all h =
     absurd (omega arith)
 filter_is p (suc k) low start top [] e f asc all h =
     let here : p start ≡ false = h start (omega arith) (omega arith) in
-    rw here (filter_is p k start (start + 1) top [] refl (omega arith) tt refl (λ n a b. h n (omega arith) b))
+    rw here (filter_is p k start (start + 1) top [] refl (omega arith) tt refl
+    (λ n a b. h n (omega arith) b))
 filter_is p (suc k) low start top (x ∷ xs) e f asc all h =
     let parts = and_parts (leb x top) (list_all (λ n. leb n top) xs) all in
     elim (cases_eq x start) [
@@ -142,12 +156,14 @@ filter_is p (suc k) low start top (x ∷ xs) e f asc all h =
           ∙ or_left (eqb start x) (is_in xs start) (eq-eqb start x (sym same)) in
           let asc' : Ascends start xs = subst (λ (m : ℕ). Ascends m xs) same asc.1 in
           let rest = filter_is p k start (start + 1) top xs refl (omega arith) asc' parts.1
-          (λ n a b. h n (omega arith) b ∙ ap (λ (c : Bool). c || is_in xs n) (ne_eqb n x (omega arith))) in
+          (λ n a b. h n (omega arith) b ∙ ap (λ (c : Bool). c || is_in xs n)
+          (ne_eqb n x (omega arith))) in
           rw (here, rest, same) refl
       | inr other ↦
           let here : p start ≡ false = h start (omega arith) (omega arith)
           ∙ rw (ne_eqb start x (omega arith)) (not_in x start xs asc.1 (omega arith)) in
-          rw here (filter_is p k start (start + 1) top (x ∷ xs) refl (omega arith) (omega arith, asc.1) all
+          rw here (filter_is p k start (start + 1) top (x ∷ xs) refl (omega arith)
+          (omega arith, asc.1) all
           (λ n a b. h n (omega arith) b))
     ]
 
@@ -164,13 +180,15 @@ pub names_marked : (bitmaps : Bitmaps) (es : List (ℕ × List ℕ)) → Marks (
     Ascends 1 (numbers es)
     → list_all is_element es ≡ true → numbers es ≡ named bitmaps
 unfolding named
-names_marked bitmaps es m asc all = sym (filter_is (names bitmaps) 127 1 2 128 (numbers es) refl refl asc
+names_marked bitmaps es m asc all =
+    sym (filter_is (names bitmaps) 127 1 2 128 (numbers es) refl refl asc
     (small_numbers es all) (λ n a b. m.named_each n a b))
 
 -- ---- digits in capitals
 
 capital : (d : ℕ) → d < 16 → is_upper_hex (get_or upper_digits d 0) ≡ true
-capital d h = agree_below_at (λ (x : ℕ). is_upper_hex (get_or upper_digits x 0)) (λ (_ : ℕ). true) 16 d refl h
+capital d h = agree_below_at (λ (x : ℕ). is_upper_hex (get_or upper_digits x 0))
+    (λ (_ : ℕ). true) 16 d refl h
 
 pub upper_case : (xs : List ℕ) → IsBytes xs → list_all is_upper_hex (encode_upper xs) ≡ true
 unfolding encode_with

@@ -1,11 +1,15 @@
 -- Setting an element's content: at its place, in a message that stays one, and looked up again.
-use Rattle.std.proofs.Common.{◌≡◌, ◌≢◌, ℕ, ◌+◌, ◌<◌, ◌≤◌, true, cond, eqb, leb, List, [], ◌∷◌, ◌++◌, length, take, drop, get_or, Option, Some, None, refl, sym, ap, subst, ◌∙◌, arith, add-one, inl, inr, Bor}
+use Rattle.std.proofs.Common.{◌≡◌, ◌≢◌, ℕ, ◌+◌, ◌<◌, ◌≤◌, true, cond, eqb, leb, List, [], ◌∷◌, ◌++◌}
+use Rattle.std.proofs.Common.{length, take, drop, get_or, Option, Some, None, refl, sym, ap, subst}
+use Rattle.std.proofs.Common.{◌∙◌, arith, add-one, inl, inr, Bor}
 use Rattle.std.specs.Prelude.{IfSome, slice_set}
 use Rattle.std.specs.Option.{option_copied}
 use Rattle.std.specs.List.{list_all, insert}
-use Rattle.std.proofs.lemmas.Bool.{and_parts, and_from, le-leb, lt-leb, ne_eqb, eq-eqb, ltb-true, cases_eq, cases_lt, cases_order, cases_Bool, true≢false}
+use Rattle.std.proofs.lemmas.Bool.{and_parts, and_from, le-leb, lt-leb, ne_eqb, eq-eqb, ltb-true}
+use Rattle.std.proofs.lemmas.Bool.{cases_eq, cases_lt, cases_order, cases_Bool, true≢false}
 use Rattle.std.proofs.lemmas.List.{take-append-drop, drop_more, drop_all, set_split}
-use Rattle.iso_codec.specs.Message.{numbers, is_element, Ascends, IsMessage, with_content, content_of}
+use Rattle.iso_codec.specs.Message.{numbers, is_element, Ascends, IsMessage, with_content}
+use Rattle.iso_codec.specs.Message.{content_of}
 use Rattle.iso_codec.specs.declared.element_format.ElementFormat.{ElementFormat}
 use Rattle.iso_codec.specs.declared.set_fault.SetFault.TheVariants.{BadLength, BadContent}
 use Rattle.iso_codec.specs.Table.{format_of}
@@ -15,7 +19,8 @@ use Rattle.iso_codec.proofs.TableBounds.{format_in_bounds}
 use Rattle.iso_codec.proofs.OneMessage.{format_of_element}
 
 -- behind elements below n
-pub with_after : (es fs : List (ℕ × List ℕ)) (n : ℕ) (text : List ℕ) → list_all (is_below n) es ≡ true
+pub with_after : (es fs : List (ℕ × List ℕ)) (n : ℕ) (text : List ℕ) →
+    list_all (is_below n) es ≡ true
     → with_content (es ++ fs) n text ≡ es ++ with_content fs n text
 with_after [] fs n text h = refl
 with_after (e ∷ es) fs n text h =
@@ -29,7 +34,8 @@ pub with_at : (e : ℕ × List ℕ) (es : List (ℕ × List ℕ)) (n : ℕ) (tex
 with_at e es n text h = rw (le-leb e.0 n (omega arith), eq-eqb n e.0 (sym h)) refl
 
 pub with_before : (es : List (ℕ × List ℕ)) (n : ℕ) (text : List ℕ) → StartsFrom n es
-    → ((e : ℕ × List ℕ) (fs : List (ℕ × List ℕ)) → es ≡ e ∷ fs → e.0 ≢ n) → with_content es n text ≡ (n, text) ∷ es
+    → ((e : ℕ × List ℕ) (fs : List (ℕ × List ℕ)) → es ≡ e ∷ fs → e.0 ≢ n) →
+    with_content es n text ≡ (n, text) ∷ es
 with_before [] n text h ne = refl
 with_before (e ∷ es) n text h ne = let apart = ne e es refl in rw (lt-leb e.0 n (omega arith)) refl
 
@@ -42,14 +48,17 @@ all_with (e ∷ es) n text h k =
     let parts = and_parts (is_element e) (list_all is_element es) h in
     elim (cases_Bool (leb e.0 n)) [
       | inl low ↦ elim (cases_Bool (eqb n e.0)) [
-        | inl same ↦ rw (low, same) (and_from (is_element (n, text)) (list_all is_element es) k parts.1)
-        | inr other ↦ rw (low, other) (and_from (is_element e) (list_all is_element (with_content es n text)) parts.0
+        | inl same ↦ rw (low, same)
+            (and_from (is_element (n, text)) (list_all is_element es) k parts.1)
+        | inr other ↦ rw (low, other)
+            (and_from (is_element e) (list_all is_element (with_content es n text)) parts.0
             (all_with es n text parts.1 k))
       ]
       | inr high ↦ rw high (and_from (is_element (n, text)) (list_all is_element (e ∷ es)) k h)
     ]
 
-pub ascends_with : (low : ℕ) (es : List (ℕ × List ℕ)) (n : ℕ) (text : List ℕ) → Ascends low (numbers es) → low < n
+pub ascends_with : (low : ℕ) (es : List (ℕ × List ℕ)) (n : ℕ) (text : List ℕ) →
+    Ascends low (numbers es) → low < n
     → Ascends low (numbers (with_content es n text))
 ascends_with low [] n text h k = (k, tt)
 ascends_with low (e ∷ es) n text h k =
@@ -58,7 +67,8 @@ ascends_with low (e ∷ es) n text h k =
       | inr le ↦ elim (cases_eq n e.0) [
         | inl same ↦ rw (le-leb e.0 n le, eq-eqb n e.0 same)
             (k, subst (λ (m : ℕ). Ascends m (numbers es)) (sym same) h.1)
-        | inr other ↦ rw (le-leb e.0 n le, ne_eqb n e.0 other) (h.0, ascends_with e.0 es n text h.1 (omega arith))
+        | inr other ↦ rw (le-leb e.0 n le, ne_eqb n e.0 other)
+            (h.0, ascends_with e.0 es n text h.1 (omega arith))
       ]
     ]
 
@@ -74,11 +84,13 @@ content_past (e ∷ es) fs n h =
     ]
 
 -- where the element at a place is n, its content is changed there
-pub with_content-same : (es : List (ℕ × List ℕ)) (n i : ℕ) (text : List ℕ) (d : ℕ × List ℕ) → IsPlace es n i
+pub with_content-same : (es : List (ℕ × List ℕ)) (n i : ℕ) (text : List ℕ) (d : ℕ × List ℕ) →
+    IsPlace es n i
     → i < length es → (get_or es i d).0 ≡ n → slice_set es i (n, text) ≡ with_content es n text
 with_content-same es n i text d p lt same =
     let left : slice_set es i (n, text) ≡ take i es ++ ((n, text) ∷ drop (i + 1) es) =
-    set_split es i (n, text) lt ∙ ap (λ (k : ℕ). take i es ++ (n, text) ∷ drop k es) (sym (add-one i)) in
+    set_split es i (n, text) lt ∙ ap (λ (k : ℕ). take i es ++ (n, text) ∷ drop k es)
+    (sym (add-one i)) in
     let right : with_content es n text ≡ take i es ++ with_content (drop i es) n text =
     ap (λ (x : List (ℕ × List ℕ)). with_content x n text) (sym (take-append-drop i es))
     ∙ with_after (take i es) (drop i es) n text p.before in
@@ -87,7 +99,8 @@ with_content-same es n i text d p lt same =
     ∙ with_at (get_or es i d) (drop (i + 1) es) n text same in
     left ∙ sym (right ∙ ap (λ (x : List (ℕ × List ℕ)). take i es ++ x) here)
 
-not_there : (es : List (ℕ × List ℕ)) (i : ℕ) (d : ℕ × List ℕ) (n : ℕ) → (i < length es → (get_or es i d).0 ≢ n)
+not_there : (es : List (ℕ × List ℕ)) (i : ℕ) (d : ℕ × List ℕ) (n : ℕ) →
+    (i < length es → (get_or es i d).0 ≢ n)
     → (e : ℕ × List ℕ) (fs : List (ℕ × List ℕ)) → drop i es ≡ e ∷ fs → e.0 ≢ n
 not_there es i d n h e fs is same =
     elim (cases_lt i (length es)) [
@@ -99,7 +112,8 @@ not_there es i d n h e fs is same =
     ]
 
 -- where it isn't, the element goes there
-pub with_content-new : (es : List (ℕ × List ℕ)) (n i : ℕ) (text : List ℕ) (d : ℕ × List ℕ) → IsPlace es n i
+pub with_content-new : (es : List (ℕ × List ℕ)) (n i : ℕ) (text : List ℕ) (d : ℕ × List ℕ) →
+    IsPlace es n i
     → (i < length es → (get_or es i d).0 ≢ n) → insert es i (n, text) ≡ with_content es n text
 with_content-new es n i text d p ne =
     let right : with_content es n text ≡ take i es ++ with_content (drop i es) n text =
@@ -111,7 +125,8 @@ with_content-new es n i text d p ne =
 
 -- ---- the whole message
 
-pub fits_by : (o : Option ElementFormat) (n : ℕ) (text : List ℕ) → set_fault_by o n text ≡ None → allows o text ≡ true
+pub fits_by : (o : Option ElementFormat) (n : ℕ) (text : List ℕ) → set_fault_by o n text ≡ None →
+    allows o text ≡ true
 fits_by None n text h = absurd cc
 fits_by (Some r) n text h =
     elim (cases_Bool (has_length r.form (length text))) [
@@ -160,7 +175,8 @@ text_with (e ∷ es) n text k =
             eq-eqb k e.0 here,
             ne_eqb k n (λ x. other (sym x ∙ here)),
           ) refl
-          | inr there ↦ rw (le-leb e.0 n le, ne_eqb n e.0 other, ne_eqb k e.0 there) (text_with es n text k)
+          | inr there ↦ rw (le-leb e.0 n le, ne_eqb n e.0 other, ne_eqb k e.0 there)
+              (text_with es n text k)
         ]
       ]
     ]
@@ -168,17 +184,20 @@ text_with (e ∷ es) n text k =
 pub none_below : (low : ℕ) (es : List (ℕ × List ℕ)) (k : ℕ) → Ascends low (numbers es) → k ≤ low
     → content_of es k ≡ None
 none_below low [] k h le = refl
-none_below low (e ∷ es) k h le = rw (ne_eqb k e.0 (omega (arith, h.0))) (none_below e.0 es k h.1 (omega (arith, h.0)))
+none_below low (e ∷ es) k h le = rw (ne_eqb k e.0 (omega (arith, h.0)))
+    (none_below e.0 es k h.1 (omega (arith, h.0)))
 
 first_text : (e : ℕ × List ℕ) (es : List (ℕ × List ℕ)) → content_of (e ∷ es) e.0 ≡ Some e.1
 first_text e es = rw (eq-eqb e.0 e.0 refl) refl
 
 -- elements in order are determined by what look-ups give
-pub same_texts : (low : ℕ) (es fs : List (ℕ × List ℕ)) → Ascends low (numbers es) → Ascends low (numbers fs)
+pub same_texts : (low : ℕ) (es fs : List (ℕ × List ℕ)) → Ascends low (numbers es) →
+    Ascends low (numbers fs)
     → ((k : ℕ) → content_of es k ≡ content_of fs k) → es ≡ fs
 same_texts low [] [] a b h = refl
 same_texts low [] (f ∷ fs) a b h = let e : None ≡ Some f.1 = h f.0 ∙ first_text f fs in absurd cc
-same_texts low (e ∷ es) [] a b h = let d : Some e.1 ≡ None = sym (first_text e es) ∙ h e.0 in absurd cc
+same_texts low (e ∷ es) [] a b h = let d : Some e.1 ≡ None = sym (first_text e es) ∙ h e.0 in
+    absurd cc
 same_texts low (e ∷ es) (f ∷ fs) a b h =
     elim (cases_order e.0 f.0) [
       | inl same ↦
@@ -186,9 +205,11 @@ same_texts low (e ∷ es) (f ∷ fs) a b h =
           ∙ ap (λ (k : ℕ). content_of (f ∷ fs) k) same ∙ first_text f fs in
           let text : e.1 ≡ f.1 = cc in
           let heads : e ≡ f = ap (λ (n : ℕ). (n, e.1)) same ∙ ap (λ (t : List ℕ). (f.0, t)) text in
-          let later : Ascends e.0 (numbers fs) = subst (λ (n : ℕ). Ascends n (numbers fs)) (sym same) b.1 in
+          let later : Ascends e.0 (numbers fs) = subst (λ (n : ℕ). Ascends n (numbers fs))
+          (sym same) b.1 in
           let rest = same_texts e.0 es fs a.1 later (λ k. elim (cases_lt e.0 k) [
-            | inl above ↦ sym (rw (ne_eqb k e.0 (omega arith)) refl) ∙ h k ∙ rw (ne_eqb k f.0 (omega arith)) refl
+            | inl above ↦ sym (rw (ne_eqb k e.0 (omega arith)) refl) ∙ h k
+                ∙ rw (ne_eqb k f.0 (omega arith)) refl
             | inr le ↦ none_below e.0 es k a.1 le ∙ sym (none_below e.0 fs k later le)
           ]) in
           ap (λ (x : ℕ × List ℕ). x ∷ es) heads ∙ ap (λ (x : List (ℕ × List ℕ)). f ∷ x) rest
@@ -208,9 +229,11 @@ same_texts low (e ∷ es) (f ∷ fs) a b h =
 
 -- ---- what a message has may be set
 
-allowed_by : (o : Option ElementFormat) (n : ℕ) (text : List ℕ) → allows o text ≡ true → set_fault_by o n text ≡ None
+allowed_by : (o : Option ElementFormat) (n : ℕ) (text : List ℕ) → allows o text ≡ true →
+    set_fault_by o n text ≡ None
 allowed_by None n text h = absurd (true≢false (sym h))
-allowed_by (Some r) n text h = let parts = and_parts (has_length r.form (length text)) (has_class r.class text) h in
+allowed_by (Some r) n text h = let parts = and_parts (has_length r.form (length text))
+    (has_class r.class text) h in
     rw (parts.0, parts.1) refl
 
 pub text_fits : (es : List (ℕ × List ℕ)) (n : ℕ) (text : List ℕ) → list_all is_element es ≡ true
@@ -222,12 +245,14 @@ text_fits (e ∷ es) n text h k =
       | inl same ↦
           let both : Some e.1 ≡ Some text = sym (rw (eq-eqb n e.0 same) refl) ∙ k in
           let text-is : e.1 ≡ text = cc in
-          allowed_by (format_of n) n text (subst (λ (t : List ℕ). allows (format_of n) t ≡ true) text-is
+          allowed_by (format_of n) n text
+          (subst (λ (t : List ℕ). allows (format_of n) t ≡ true) text-is
           (subst (λ (m : ℕ). allows (format_of m) e.1 ≡ true) (sym same) parts.0))
       | inr other ↦ text_fits es n text parts.1 (sym (rw (ne_eqb n e.0 other) refl) ∙ k)
     ]
 
-pub got_fits : (es : List (ℕ × List ℕ)) (n : ℕ) (o : Option (Bor (List ℕ))) → list_all is_element es ≡ true
+pub got_fits : (es : List (ℕ × List ℕ)) (n : ℕ) (o : Option (Bor (List ℕ))) →
+    list_all is_element es ≡ true
     → option_copied o ≡ content_of es n → IfSome o (λ t. set_fault n t.now ≡ None)
 got_fits es n (Some t) h e = text_fits es n t.now h (sym e)
 got_fits es n None h e = tt

@@ -1,5 +1,7 @@
 -- A text with a fault spells no message.
-use Rattle.std.proofs.Common.{◌≡◌, ℕ, ◌+◌, ◌<◌, ◌≤◌, true, List, [], ◌∷◌, ◌++◌, length, take, drop, Option, Some, None, Result, Ok, Err, refl, sym, ap, subst, ◌∙◌, append_assoc, arith, ◌⊎◌, inl, inr}
+use Rattle.std.proofs.Common.{◌≡◌, ℕ, ◌+◌, ◌<◌, ◌≤◌, true, List, [], ◌∷◌, ◌++◌, length, take, drop}
+use Rattle.std.proofs.Common.{Option, Some, None, Result, Ok, Err, refl, sym, ap, subst, ◌∙◌}
+use Rattle.std.proofs.Common.{append_assoc, arith, ◌⊎◌, inl, inr}
 use Rattle.std.specs.Prelude.{MatchResult, IfErr, IfOk, is_some}
 use Rattle.std.specs.List.{list_all}
 use Rattle.std.proofs.lemmas.Bool.{and_parts, and_from, true≢false, MatchBool-at_true}
@@ -8,13 +10,20 @@ use Rattle.hex.specs.Hex.{is_hex_digit}
 use Rattle.iso_codec.specs.declared.bitmaps.Bitmaps.{Bitmaps}
 use Rattle.iso_codec.specs.declared.element_format.ElementFormat.{ElementFormat}
 use Rattle.iso_codec.specs.declared.decode_fault.DecodeFault.{DecodeFault}
-use Rattle.iso_codec.specs.declared.decode_fault.DecodeFault.TheVariants.{Memory, BadType, BadBitmap, UnknownElement, Truncated, BadLength, BadContent, Trailing}
+use Rattle.iso_codec.specs.declared.decode_fault.DecodeFault.TheVariants.{Memory, BadType}
+use Rattle.iso_codec.specs.declared.decode_fault.DecodeFault.TheVariants.{BadBitmap, UnknownElement}
+use Rattle.iso_codec.specs.declared.decode_fault.DecodeFault.TheVariants.{Truncated, BadLength}
+use Rattle.iso_codec.specs.declared.decode_fault.DecodeFault.TheVariants.{BadContent, Trailing}
 use Rattle.std.specs.Char.{is_ascii_digit}
 use Rattle.iso_codec.specs.Content.{prefix_size, length_of, digits_of, has_class}
-use Rattle.iso_codec.specs.Message.{IsoMessage, IsKind, IsBitmap, bit, named, numbers, is_element, body, Reads}
-use Rattle.iso_codec.specs.Faults.{HasHeader, AwaitsBitmap, AwaitsElement, IsFirstUnknown, is_known, IsCut, HasBadLength, HasBadContent, FirstFault}
+use Rattle.iso_codec.specs.Message.{IsoMessage, IsKind, IsBitmap, bit, named, numbers, is_element}
+use Rattle.iso_codec.specs.Message.{body, Reads}
+use Rattle.iso_codec.specs.Faults.{HasHeader, AwaitsBitmap, AwaitsElement, IsFirstUnknown, is_known}
+use Rattle.iso_codec.specs.Faults.{IsCut, HasBadLength, HasBadContent, FirstFault}
 use Rattle.iso_codec.proofs.ElementReading.{all_of_mid}
-use Rattle.iso_codec.proofs.OneMessage.{same_front, Stands, stands, format_of_element, body_after, bitmap_once, bitmap_hex, header_once, reads_header, header_at, one_spelling, read_once}
+use Rattle.iso_codec.proofs.OneMessage.{same_front, Stands, stands, format_of_element, body_after}
+use Rattle.iso_codec.proofs.OneMessage.{bitmap_once, bitmap_hex, header_once, reads_header}
+use Rattle.iso_codec.proofs.OneMessage.{header_at, one_spelling, read_once}
 
 nothing : (xs : List ℕ) → xs ++ [] ≡ xs
 nothing xs = append-nil xs
@@ -27,14 +36,17 @@ pub record Room (r : ElementFormat) (rest text : List ℕ) : Type 0 where
   pub digits_are : take (prefix_size r.form) rest ≡ digits_of r.form (length text)
   pub content_is : take (length text) (drop (prefix_size r.form) rest) ≡ text
 
-pub room : (r : ElementFormat) (rest text more : List ℕ) → Stands r rest text more → Room r rest text
+pub room : (r : ElementFormat) (rest text more : List ℕ) → Stands r rest text more →
+    Room r rest text
 room r rest text more s =
     let digits : List ℕ = digits_of r.form (length text) in
     let size : length rest ≡ length digits + (length text + length more) = ap length s.parts
-    ∙ length-append digits (text ++ more) ∙ ap (λ (n : ℕ). length digits + n) (length-append text more) in
+    ∙ length-append digits (text ++ more) ∙ ap (λ (n : ℕ). length digits + n)
+    (length-append text more) in
     let front : take (prefix_size r.form) rest ≡ digits = ap (take (prefix_size r.form)) s.parts
     ∙ take_at digits (text ++ more) (prefix_size r.form) s.prefix_is in
-    let back : drop (prefix_size r.form) rest ≡ text ++ more = ap (drop (prefix_size r.form)) s.parts
+    let back : drop (prefix_size r.form) rest ≡ text ++ more =
+    ap (drop (prefix_size r.form)) s.parts
     ∙ drop_at digits (text ++ more) (prefix_size r.form) s.prefix_is in
     record {
       long = omega (arith, s.prefix_is, size);
@@ -45,21 +57,26 @@ room r rest text more s =
 same_some : (a b : ℕ) (o : Option ℕ) → o ≡ Some a → o ≡ Some b → a ≡ b
 same_some a b o h k = let e : Some a ≡ Some b = sym h ∙ k in cc
 
-pub not_cut : (r : ElementFormat) (rest text more : List ℕ) → Stands r rest text more → IsCut r rest → ⊥
-not_cut r rest text more s (inl short) = let m = room r rest text more s in omega (arith, m.long, short)
+pub not_cut : (r : ElementFormat) (rest text more : List ℕ) → Stands r rest text more →
+    IsCut r rest → ⊥
+not_cut r rest text more s (inl short) = let m = room r rest text more s in
+    omega (arith, m.long, short)
 not_cut r rest text more s (inr h) =
     let m = room r rest text more s in
     let len = same_some (h.1) (length text) (length_of r.form (digits_of r.form (length text)))
     (ap (length_of r.form) (sym m.digits_are) ∙ h.2) s.stated_is in
     omega (arith, m.long, h.3, len)
 
-pub not_bad_length : (r : ElementFormat) (rest text more : List ℕ) → Stands r rest text more → HasBadLength r rest → ⊥
+pub not_bad_length : (r : ElementFormat) (rest text more : List ℕ) → Stands r rest text more →
+    HasBadLength r rest → ⊥
 not_bad_length r rest text more s h =
     let m = room r rest text more s in
-    let e : None ≡ Some (length text) = sym h.1 ∙ ap (length_of r.form) m.digits_are ∙ s.stated_is in
+    let e : None ≡ Some (length text) = sym h.1 ∙ ap (length_of r.form) m.digits_are ∙ s.stated_is
+    in
     cc
 
-pub not_bad_content : (r : ElementFormat) (rest text more : List ℕ) → Stands r rest text more → HasBadContent r rest
+pub not_bad_content : (r : ElementFormat) (rest text more : List ℕ) → Stands r rest text more →
+    HasBadContent r rest
     → ⊥
 not_bad_content r rest text more s h =
     let m = room r rest text more s in
@@ -71,13 +88,15 @@ not_bad_content r rest text more s h =
 
 -- where element n has to come, its spelling stands
 element_comes : (text : List ℕ) (n : ℕ) (r : ElementFormat) (rest : List ℕ) (m : IsoMessage)
-    → AwaitsElement text n r rest → Reads text m → (content more : List ℕ) × Stands r rest content more
+    → AwaitsElement text n r rest → Reads text m →
+    (content more : List ℕ) × Stands r rest content more
 element_comes text n r rest m a b =
     let o = header_at (text ++ []) text m.kind (body m.elements ++ []) b.bitmaps (nothing text)
     (reads_header text [] m b) in
     let heads = header_once text a.kind m.kind (body a.elements ++ rest)
     (body m.elements ++ []) a.bitmaps b.bitmaps a.header o in
-    let ns : numbers m.elements ≡ numbers a.elements ++ n ∷ a.later = b.names_all ∙ ap named (sym heads.bitmaps)
+    let ns : numbers m.elements ≡ numbers a.elements ++ n ∷ a.later =
+    b.names_all ∙ ap named (sym heads.bitmaps)
     ∙ a.numbers_are in
     let next = body_after a.elements m.elements n a.later rest ns a.each b.is_message.each
     (heads.rests ∙ nothing (body m.elements)) in (
@@ -89,12 +108,14 @@ element_comes text n r rest m a b =
 
 -- ---- the head
 
-pub known_numbers : (es : List (ℕ × List ℕ)) → list_all is_element es ≡ true → list_all is_known (numbers es) ≡ true
+pub known_numbers : (es : List (ℕ × List ℕ)) → list_all is_element es ≡ true →
+    list_all is_known (numbers es) ≡ true
 known_numbers [] h = refl
 known_numbers (e ∷ es) h =
     let p = and_parts (is_element e) (list_all is_element es) h in
     let format = format_of_element e.0 e.1 p.0 in
-    and_from (is_known e.0) (list_all is_known (numbers es)) (ap is_some format.1) (known_numbers es p.1)
+    and_from (is_known e.0) (list_all is_known (numbers es)) (ap is_some format.1)
+    (known_numbers es p.1)
 
 not_unknown : (text kind rest : List ℕ) (bitmaps : Bitmaps) (n : ℕ) (m : IsoMessage)
     → HasHeader text kind bitmaps rest → IsFirstUnknown bitmaps n → Reads text m → ⊥
@@ -102,18 +123,22 @@ not_unknown text kind rest bitmaps n m a u b =
     let o = header_at (text ++ []) text m.kind (body m.elements ++ []) b.bitmaps (nothing text)
     (reads_header text [] m b) in
     let heads = header_once text kind m.kind rest (body m.elements ++ []) bitmaps b.bitmaps a o in
-    let ns : numbers m.elements ≡ u.earlier ++ n ∷ u.later = b.names_all ∙ ap named (sym heads.bitmaps)
+    let ns : numbers m.elements ≡ u.earlier ++ n ∷ u.later =
+    b.names_all ∙ ap named (sym heads.bitmaps)
     ∙ u.numbers_are in
     let all : list_all is_known (u.earlier ++ n ∷ u.later) ≡ true =
-    subst (λ (x : List ℕ). list_all is_known x ≡ true) ns (known_numbers m.elements b.is_message.each) in
+    subst (λ (x : List ℕ). list_all is_known x ≡ true) ns
+    (known_numbers m.elements b.is_message.each) in
     let here : is_known n ≡ true = all_of_mid is_known u.earlier u.later n all in
     true≢false (sym here ∙ ap is_some u.unknown)
 
 -- what stands behind the kind, in a text that is read
-after_kind : (text kind rest : List ℕ) (m : IsoMessage) → IsKind kind → text ≡ kind ++ rest → (b : Reads text m)
+after_kind : (text kind rest : List ℕ) (m : IsoMessage) → IsKind kind → text ≡ kind ++ rest →
+    (b : Reads text m)
     → rest ≡ b.digits_fit.first ++ (b.digits_fit.second ++ body m.elements)
 after_kind text kind rest m k e b =
-    let f = same_front kind m.kind rest (b.digits ++ body m.elements) (k.size ∙ sym b.is_message.kind_fits.size)
+    let f = same_front kind m.kind rest (b.digits ++ body m.elements)
+    (k.size ∙ sym b.is_message.kind_fits.size)
     (sym e ∙ b.parts) in
     f.1 ∙ ap (λ (d : List ℕ). d ++ body m.elements) b.digits_fit.parts
     ∙ append_assoc b.digits_fit.first b.digits_fit.second (body m.elements)
@@ -133,8 +158,13 @@ bitmap_comes text rest m (inr a) b =
     let f = same_front a.1 b.digits_fit.first rest (b.digits_fit.second ++ body m.elements)
     (a.4.size ∙ sym b.digits_fit.primary.size) e in
     let p = bitmap_once a.1 b.digits_fit.first a.2 b.bitmaps.primary f.0 a.4 b.digits_fit.primary in
-    let set : bit b.bitmaps.primary 1 ≡ true = ap (λ (v : ℕ). bit v 1) (sym p) ∙ a.5 in
-    (b.digits_fit.second, body m.elements, b.bitmaps.secondary, MatchBool-at_true _ _ set b.digits_fit.secondary, f.1)
+    let set : bit b.bitmaps.primary 1 ≡ true = ap (λ (v : ℕ). bit v 1) (sym p) ∙ a.5 in (
+      b.digits_fit.second,
+      body m.elements,
+      b.bitmaps.secondary,
+      MatchBool-at_true _ _ set b.digits_fit.secondary,
+      f.1,
+    )
 
 pub bitmap_long : (rest digits more : List ℕ) (v : ℕ) → IsBitmap digits v → rest ≡ digits ++ more
     → (16 ≤ length rest) × (take 16 rest ≡ digits)
@@ -147,7 +177,8 @@ bitmap_long rest digits more v b e = (
 not_cut_head : (text : List ℕ) → ((length text < 4) ⊎ ((rest : List ℕ) × AwaitsBitmap text rest
     × (length rest < 16))) → (m : IsoMessage) → Reads text m → ⊥
 not_cut_head text (inl short) m b =
-    let size : length text ≡ length m.kind + length (b.digits ++ body m.elements) = ap length b.parts
+    let size : length text ≡ length m.kind + length (b.digits ++ body m.elements) =
+    ap length b.parts
     ∙ length-append m.kind (b.digits ++ body m.elements) in
     omega (arith, short, size, b.is_message.kind_fits.size)
 not_cut_head text (inr h) m b =
@@ -157,7 +188,8 @@ not_cut_head text (inr h) m b =
 
 -- ---- the whole
 
-pub not_read : (text : List ℕ) (f : DecodeFault) → FirstFault text f → (m : IsoMessage) → Reads text m → ⊥
+pub not_read : (text : List ℕ) (f : DecodeFault) → FirstFault text f → (m : IsoMessage) →
+    Reads text m → ⊥
 not_read text Memory h m b = h
 not_read text BadType h m b =
     let front : take 4 text ≡ m.kind = ap (take 4) b.parts
@@ -187,7 +219,8 @@ err_none text (Err f) (inl e) = inl e
 err_none text (Err f) (inr h) = inr (not_read text f h)
 
 pub only_read : {X : Type 0} (text : List ℕ) (view : X → IsoMessage) (r : Result X DecodeFault)
-    → IfOk r (λ x. Reads text (view x)) → IfErr r (λ f. (f ≡ Memory) ⊎ FirstFault text f) → (m : IsoMessage)
+    → IfOk r (λ x. Reads text (view x)) → IfErr r (λ f. (f ≡ Memory) ⊎ FirstFault text f) →
+    (m : IsoMessage)
     → Reads text m → MatchResult r (λ x. view x ≡ m) (λ f. f ≡ Memory)
 only_read text view (Ok x) h k m b = read_once text (view x) m h b
 only_read text view (Err f) h (inl e) m b = e

@@ -1,5 +1,6 @@
 -- The numbers that bitmaps name: in ascending order, and one after the other.
-use Rattle.std.proofs.Common.{◌≡◌, ◌≢◌, ℕ, zero, suc, ◌+◌, ◌<◌, ◌≤◌, Bool, true, false, ◌&&◌, cond, List, [], ◌∷◌, ◌++◌, refl, sym, ap, ◌∙◌, arith, inl, inr}
+use Rattle.std.proofs.Common.{◌≡◌, ◌≢◌, ℕ, zero, suc, ◌+◌, ◌<◌, ◌≤◌, Bool, true, false, ◌&&◌, cond}
+use Rattle.std.proofs.Common.{List, [], ◌∷◌, ◌++◌, refl, sym, ap, ◌∙◌, arith, inl, inr}
 use Rattle.std.specs.Prelude.{not}
 use Rattle.std.specs.List.{list_all, filter, range_with_len}
 use Rattle.std.proofs.lemmas.Bool.{cases_Bool, cases_eq, and_from}
@@ -7,7 +8,8 @@ use Rattle.iso_codec.specs.declared.bitmaps.Bitmaps.{Bitmaps}
 use Rattle.iso_codec.specs.Message.{names, named, Ascends}
 
 -- what a filter leaves of a range ascends
-pub filter_ascends : (p : ℕ → Bool) (low a k : ℕ) → low < a → Ascends low (filter p (range_with_len a k))
+pub filter_ascends : (p : ℕ → Bool) (low a k : ℕ) → low < a →
+    Ascends low (filter p (range_with_len a k))
 filter_ascends p low a zero h = tt
 filter_ascends p low a (suc k) h =
     elim (p a) as (λ b. Ascends low (cond b (a ∷ filter p (range_with_len (a + 1) k))
@@ -34,7 +36,8 @@ pub filter_none : (p : ℕ → Bool) (a k : ℕ) → ((n : ℕ) → a ≤ n → 
     → filter p (range_with_len a k) ≡ []
 filter_none p a zero h = refl
 filter_none p a (suc k) h =
-    rw (h a (omega arith) (omega arith)) (filter_none p (a + 1) k (λ n lo hi. h n (omega arith) (omega arith)))
+    rw (h a (omega arith) (omega arith))
+    (filter_none p (a + 1) k (λ n lo hi. h n (omega arith) (omega arith)))
 
 -- n is the first that p keeps, and q keeps the others
 pub filter_first : (p q : ℕ → Bool) (n a k : ℕ) → a ≤ n → n < a + k → p n ≡ true → q n ≡ false
@@ -53,7 +56,8 @@ filter_first p q n a (suc k) lo hi here gone before others =
           let out : p a ≡ false = before a (omega arith) (omega arith) in
           let out' : q a ≡ false = others a (omega arith) (omega arith) other ∙ out in
           rw (out, out') (filter_first p q n (a + 1) k (omega arith) (omega arith) here gone
-          (λ m lo' hi'. before m (omega arith) hi') (λ m lo' hi' ne. others m (omega arith) (omega arith) ne))
+          (λ m lo' hi'. before m (omega arith) hi')
+          (λ m lo' hi' ne. others m (omega arith) (omega arith) ne))
     ]
 
 -- a filter of a filter
@@ -80,7 +84,8 @@ pub record FirstFails (p : ℕ → Bool) (ns : List ℕ) (n : ℕ) : Type 0 wher
   pub pass : list_all p earlier ≡ true
   pub fails : p n ≡ false
 
-pub first_fails : (p : ℕ → Bool) (ns : List ℕ) (n : ℕ) (more : List ℕ) → filter (λ m. not (p m)) ns ≡ n ∷ more
+pub first_fails : (p : ℕ → Bool) (ns : List ℕ) (n : ℕ) (more : List ℕ) →
+    filter (λ m. not (p m)) ns ≡ n ∷ more
     → FirstFails p ns n
 first_fails p [] n more h = absurd cc
 first_fails p (m ∷ ns) n more h =
@@ -106,7 +111,8 @@ first_fails p (m ∷ ns) n more h =
           }
     ]
 
-pub none_fails : (p : ℕ → Bool) (ns : List ℕ) → filter (λ m. not (p m)) ns ≡ [] → list_all p ns ≡ true
+pub none_fails : (p : ℕ → Bool) (ns : List ℕ) → filter (λ m. not (p m)) ns ≡ [] →
+    list_all p ns ≡ true
 none_fails p [] h = refl
 none_fails p (m ∷ ns) h =
     elim (cases_Bool (p m)) [

@@ -1,5 +1,7 @@
 -- At most one message is read from a text, and no spelling begins another.
-use Rattle.std.proofs.Common.{◌≡◌, ℕ, ◌+◌, ◌/◌, ◌%◌, ◌<◌, ◌≤◌, Bool, true, false, leb, List, [], ◌∷◌, ◌++◌, length, Option, Some, None, Ok, refl, sym, ap, subst, ◌∙◌, append_assoc, arith}
+use Rattle.std.proofs.Common.{◌≡◌, ℕ, ◌+◌, ◌/◌, ◌%◌, ◌<◌, ◌≤◌, Bool, true, false, leb, List, []}
+use Rattle.std.proofs.Common.{◌∷◌, ◌++◌, length, Option, Some, None, Ok, refl, sym, ap, subst, ◌∙◌}
+use Rattle.std.proofs.Common.{append_assoc, arith}
 use Rattle.std.specs.Prelude.{MatchBool}
 use Rattle.std.specs.List.{list_all}
 use Rattle.std.specs.Int.{w64, from_be_bytes}
@@ -15,8 +17,10 @@ use Rattle.iso_codec.specs.Table.{format_of}
 use Rattle.std.specs.Char.{is_ascii_digit, digit_value}
 use Rattle.std.proofs.lemmas.Str.{digit_value_digit}
 use Rattle.std.specs.Str.Parse.{digits_value}
-use Rattle.iso_codec.specs.Content.{prefix_size, length_of, digits_of, has_length, has_class, allows, spelled_by}
-use Rattle.iso_codec.specs.Message.{IsoMessage, IsBitmap, bit, named, numbers, is_element, spelled, body, Reads}
+use Rattle.iso_codec.specs.Content.{prefix_size, length_of, digits_of, has_length, has_class}
+use Rattle.iso_codec.specs.Content.{allows, spelled_by}
+use Rattle.iso_codec.specs.Message.{IsoMessage, IsBitmap, bit, named, numbers, is_element, spelled}
+use Rattle.iso_codec.specs.Message.{body, Reads}
 use Rattle.iso_codec.specs.Faults.{HasHeader}
 use Rattle.std.proofs.lemmas.List.Sums.{list_all-from_AllPass}
 use Rattle.iso_codec.specs.Setting.{is_sound}
@@ -41,8 +45,11 @@ digit_is : (d : ℕ) → d < 10 → (is_ascii_digit (48 + d) ≡ true) × (digit
 digit_is d h =
     let low : 48 ≤ 48 + d = omega arith in
     let high : 48 + d ≤ 57 = omega arith in
-    let e = digit_value_digit (48 + d) (low, high) in
-    (and_from (leb 48 (48 + d)) (leb (48 + d) 57) (le-leb 48 (48 + d) low) (le-leb (48 + d) 57 high), omega arith)
+    let e = digit_value_digit (48 + d) (low, high) in (
+      and_from (leb 48 (48 + d)) (leb (48 + d) 57) (le-leb 48 (48 + d) low)
+          (le-leb (48 + d) 57 high),
+      omega arith,
+    )
 
 -- the digits of a length are read as that length
 pub length_again : (f : Form) (n : ℕ) → is_sound f ≡ true → has_length f n ≡ true
@@ -53,7 +60,8 @@ length_again (Llvar greatest) n s h =
     let fits = leb-true n greatest h in
     let a = digit_is (n / 10) (omega arith) in
     let b = digit_is (n % 10) (omega arith) in
-    let number : digits_value 10 ((48 + n / 10) ∷ (48 + n % 10) ∷ []) ≡ n = omega (arith, a.1, b.1) in
+    let number : digits_value 10 ((48 + n / 10) ∷ (48 + n % 10) ∷ []) ≡ n = omega (arith, a.1, b.1)
+    in
     (refl, rw (a.0, b.0, number, h) refl)
 length_again (Lllvar greatest) n s h =
     let top = leb-true greatest 999 s in
@@ -72,17 +80,20 @@ pub record Stands (r : ElementFormat) (rest text more : List ℕ) : Type 0 where
   pub stated_is : length_of r.form (digits_of r.form (length text)) ≡ Some (length text)
   pub class_fits : has_class r.class text ≡ true
 
-pub stands : (n : ℕ) (r : ElementFormat) (text more : List ℕ) → format_of n ≡ Some r → is_element (n, text) ≡ true
+pub stands : (n : ℕ) (r : ElementFormat) (text more : List ℕ) → format_of n ≡ Some r →
+    is_element (n, text) ≡ true
     → Stands r (spelled (n, text) ++ more) text more
 stands n r text more format h =
     let good : allows (Some r) text ≡ true = rw format at h in
     let parts = and_parts (has_length r.form (length text)) (has_class r.class text) good in
     let again = length_again r.form (length text) (format_in_bounds n r format).0 parts.0 in
-    let whole : spelled_by (format_of n) text ++ more ≡ digits_of r.form (length text) ++ (text ++ more) =
+    let whole : spelled_by (format_of n) text ++ more ≡ digits_of r.form (length text)
+    ++ (text ++ more) =
     rw format (append_assoc (digits_of r.form (length text)) text more) in
     record { parts = whole; prefix_is = again.0; stated_is = again.1; class_fits = parts.1 }
 
-format_there : (o : Option ElementFormat) (text : List ℕ) → allows o text ≡ true → (r : ElementFormat) × (o ≡ Some r)
+format_there : (o : Option ElementFormat) (text : List ℕ) → allows o text ≡ true →
+    (r : ElementFormat) × (o ≡ Some r)
 format_there (Some r) text h = (r, refl)
 format_there None text h = absurd (true≢false (sym h))
 
@@ -97,9 +108,11 @@ spelled_once n s t x y hs ht e =
     let r = format.0 in
     let a = stands n r s x format.1 hs in
     let b = stands n r t y format.1 ht in
-    let front = same_front (digits_of r.form (length s)) (digits_of r.form (length t)) (s ++ x) (t ++ y)
+    let front = same_front (digits_of r.form (length s)) (digits_of r.form (length t)) (s ++ x)
+    (t ++ y)
     (a.prefix_is ∙ sym b.prefix_is) (sym a.parts ∙ e ∙ b.parts) in
-    let same : Some (length s) ≡ Some (length t) = sym a.stated_is ∙ ap (length_of r.form) front.0 ∙ b.stated_is in
+    let same : Some (length s) ≡ Some (length t) = sym a.stated_is ∙ ap (length_of r.form) front.0
+    ∙ b.stated_is in
     let size : length s ≡ length t = cc in
     same_front s t x y size front.1
 
@@ -116,19 +129,23 @@ bodies_once (e ∷ es) (f ∷ fs) x y ns he hf h =
     let pf = and_parts (is_element f) (list_all is_element fs) hf in
     let heads : e.0 ≡ f.0 = cc in
     let tails : numbers es ≡ numbers fs = cc in
-    let here : is_element (e.0, f.1) ≡ true = subst (λ (n : ℕ). is_element (n, f.1) ≡ true) (sym heads) pf.0 in
+    let here : is_element (e.0, f.1) ≡ true = subst (λ (n : ℕ). is_element (n, f.1) ≡ true)
+    (sym heads) pf.0 in
     let left : body (e ∷ es) ++ x ≡ spelled e ++ (body es ++ x) =
-    ap (λ (l : List ℕ). l ++ x) (flat_map-cons spelled e es) ∙ append_assoc (spelled e) (body es) x in
+    ap (λ (l : List ℕ). l ++ x) (flat_map-cons spelled e es) ∙ append_assoc (spelled e) (body es) x
+    in
     let right : body (f ∷ fs) ++ y ≡ spelled (e.0, f.1) ++ (body fs ++ y) =
     ap (λ (l : List ℕ). l ++ y) (flat_map-cons spelled f fs) ∙ append_assoc (spelled f) (body fs) y
     ∙ ap (λ (n : ℕ). spelled (n, f.1) ++ (body fs ++ y)) (sym heads) in
-    let one = spelled_once e.0 e.1 f.1 (body es ++ x) (body fs ++ y) pe.0 here (sym left ∙ h ∙ right) in
+    let one = spelled_once e.0 e.1 f.1 (body es ++ x) (body fs ++ y) pe.0 here
+    (sym left ∙ h ∙ right) in
     let rest = bodies_once es fs x y tails pe.1 pf.1 one.1 in
     let same : e ≡ f = ap (λ (n : ℕ). (n, e.1)) heads ∙ ap (λ (t : List ℕ). (f.0, t)) one.0 in
     (ap (λ (g : ℕ × List ℕ). g ∷ es) same ∙ ap (λ (gs : List (ℕ × List ℕ)). f ∷ gs) rest.0, rest.1)
 
 -- where es are the first of fs, rest begins with the spelling of the next
-pub body_after : (es fs : List (ℕ × List ℕ)) (n : ℕ) (later rest : List ℕ) → numbers fs ≡ numbers es ++ n ∷ later
+pub body_after : (es fs : List (ℕ × List ℕ)) (n : ℕ) (later rest : List ℕ) →
+    numbers fs ≡ numbers es ++ n ∷ later
     → list_all is_element es ≡ true → list_all is_element fs ≡ true → body es ++ rest ≡ body fs
     → (text more : List ℕ) × (is_element (n, text) ≡ true) × (rest ≡ spelled (n, text) ++ more)
 body_after [] [] n later rest ns he hf e = absurd cc
@@ -147,12 +164,15 @@ body_after (e ∷ es) (f ∷ fs) n later rest ns he hf h =
     let pf = and_parts (is_element f) (list_all is_element fs) hf in
     let heads : f.0 ≡ e.0 = cc in
     let tails : numbers fs ≡ numbers es ++ n ∷ later = cc in
-    let here : is_element (e.0, f.1) ≡ true = subst (λ (n : ℕ). is_element (n, f.1) ≡ true) heads pf.0 in
+    let here : is_element (e.0, f.1) ≡ true =
+    subst (λ (n : ℕ). is_element (n, f.1) ≡ true) heads pf.0 in
     let left : body (e ∷ es) ++ rest ≡ spelled e ++ (body es ++ rest) =
-    ap (λ (l : List ℕ). l ++ rest) (flat_map-cons spelled e es) ∙ append_assoc (spelled e) (body es) rest in
+    ap (λ (l : List ℕ). l ++ rest) (flat_map-cons spelled e es) ∙ append_assoc (spelled e)
+    (body es) rest in
     let right : body (f ∷ fs) ≡ spelled (e.0, f.1) ++ body fs = flat_map-cons spelled f fs
     ∙ ap (λ (n : ℕ). spelled (n, f.1) ++ body fs) heads in
-    let one = spelled_once e.0 e.1 f.1 (body es ++ rest) (body fs) pe.0 here (sym left ∙ h ∙ right) in
+    let one = spelled_once e.0 e.1 f.1 (body es ++ rest) (body fs) pe.0 here (sym left ∙ h ∙ right)
+    in
     body_after es fs n later rest tails pe.1 pf.1 one.1
 
 -- ---- bitmaps
@@ -162,21 +182,24 @@ some_bytes s b d h k = let e : decode_of s ≡ Ok b = h in let same : Ok b ≡ O
 
 pub bitmap_once : (s t : List ℕ) (v w : ℕ) → s ≡ t → IsBitmap s v → IsBitmap t w → v ≡ w
 bitmap_once s t v w e a b =
-    a.value ∙ ap (from_be_bytes w64) (some_bytes s a.bytes b.bytes a.decoded (ap decode_of e ∙ b.decoded))
+    a.value ∙ ap (from_be_bytes w64)
+    (some_bytes s a.bytes b.bytes a.decoded (ap decode_of e ∙ b.decoded))
     ∙ sym b.value
 
 pub bitmap_hex : (s : List ℕ) (v : ℕ) → IsBitmap s v → list_all is_hex_digit s ≡ true
 bitmap_hex s v a = list_all-from_AllPass is_hex_digit s (decode_pairs-ok 0 s a.bytes
     (sym (decode_of-even s (omega (arith, a.size))) ∙ a.decoded)).0
 
-seconds_once : (b : Bool) (s t x y : List ℕ) (v w : ℕ) → MatchBool b (IsBitmap s v) ((s ≡ []) × (v ≡ 0))
+seconds_once : (b : Bool) (s t x y : List ℕ) (v w : ℕ) →
+    MatchBool b (IsBitmap s v) ((s ≡ []) × (v ≡ 0))
     → MatchBool b (IsBitmap t w) ((t ≡ []) × (w ≡ 0)) → s ++ x ≡ t ++ y → (v ≡ w) × (x ≡ y)
 seconds_once true s t x y v w a b e =
     let f = same_front s t x y (a.size ∙ sym b.size) e in
     (bitmap_once s t v w f.0 a b, f.1)
 seconds_once false s t x y v w a b e = (a.1 ∙ sym b.1, rw (a.0, b.0) at e)
 
-pub record SameHead (kind1 kind2 : List ℕ) (bitmaps1 bitmaps2 : Bitmaps) (rest1 rest2 : List ℕ) : Type 0 where
+pub record SameHead (kind1 kind2 : List ℕ) (bitmaps1 bitmaps2 : Bitmaps)
+    (rest1 rest2 : List ℕ) : Type 0 where
   pub kinds : kind1 ≡ kind2
   pub bitmaps : bitmaps1 ≡ bitmaps2
   pub rests : rest1 ≡ rest2
@@ -196,14 +219,17 @@ header_once text kind1 kind2 rest1 rest2 bitmaps1 bitmaps2 a b =
     let firsts = same_front a.digits_fit.first b.digits_fit.first (a.digits_fit.second ++ rest1)
     (b.digits_fit.second ++ rest2) (a.digits_fit.primary.size ∙ sym b.digits_fit.primary.size)
     (sym one ∙ kinds.1 ∙ two) in
-    let primaries = bitmap_once a.digits_fit.first b.digits_fit.first bitmaps1.primary bitmaps2.primary firsts.0
+    let primaries = bitmap_once a.digits_fit.first b.digits_fit.first bitmaps1.primary
+    bitmaps2.primary firsts.0
     a.digits_fit.primary b.digits_fit.primary in
-    let second1 : MatchBool (bit bitmaps2.primary 1) (IsBitmap a.digits_fit.second bitmaps1.secondary)
+    let second1 : MatchBool (bit bitmaps2.primary 1)
+    (IsBitmap a.digits_fit.second bitmaps1.secondary)
     ((a.digits_fit.second ≡ []) × (bitmaps1.secondary ≡ 0)) =
     subst (λ (p : ℕ). MatchBool (bit p 1) (IsBitmap a.digits_fit.second bitmaps1.secondary)
     ((a.digits_fit.second ≡ []) × (bitmaps1.secondary ≡ 0))) primaries a.digits_fit.secondary in
     let seconds = seconds_once (bit bitmaps2.primary 1)
-    a.digits_fit.second b.digits_fit.second rest1 rest2 bitmaps1.secondary bitmaps2.secondary second1
+    a.digits_fit.second b.digits_fit.second rest1 rest2 bitmaps1.secondary bitmaps2.secondary
+    second1
     b.digits_fit.secondary firsts.1 in
     let made : Bitmaps → ℕ → ℕ → Bitmaps = λ m p s. record { primary = p; secondary = s } in
     record {
@@ -229,14 +255,19 @@ pub header_at : (s t kind rest : List ℕ) (bitmaps : Bitmaps) → s ≡ t → H
 header_at s t kind rest bitmaps e o = subst (λ (x : List ℕ). HasHeader x kind bitmaps rest) e o
 
 -- no spelling of a message begins another, and each spells one message
-pub one_spelling : (s t x y : List ℕ) (m n : IsoMessage) → Reads s m → Reads t n → s ++ x ≡ t ++ y → (m ≡ n) × (x ≡ y)
+pub one_spelling : (s t x y : List ℕ) (m n : IsoMessage) → Reads s m → Reads t n → s ++ x ≡ t ++ y →
+    (m ≡ n) × (x ≡ y)
 one_spelling s t x y m n a b e =
-    let heads = header_once (t ++ y) m.kind n.kind (body m.elements ++ x) (body n.elements ++ y) a.bitmaps b.bitmaps
+    let heads = header_once (t ++ y) m.kind n.kind (body m.elements ++ x)
+    (body n.elements ++ y) a.bitmaps b.bitmaps
     (header_at (s ++ x) (t ++ y) m.kind (body m.elements ++ x) a.bitmaps e (reads_header s x m a))
     (reads_header t y n b) in
-    let same : numbers m.elements ≡ numbers n.elements = a.names_all ∙ ap named heads.bitmaps ∙ sym b.names_all in
-    let bodies = bodies_once m.elements n.elements x y same a.is_message.each b.is_message.each heads.rests in
-    let made : List ℕ → List (ℕ × List ℕ) → IsoMessage = λ k es. record { kind = k; elements = es } in (
+    let same : numbers m.elements ≡ numbers n.elements = a.names_all ∙ ap named heads.bitmaps
+    ∙ sym b.names_all in
+    let bodies = bodies_once m.elements n.elements x y same a.is_message.each b.is_message.each
+    heads.rests in
+    let made : List ℕ → List (ℕ × List ℕ) →
+    IsoMessage = λ k es. record { kind = k; elements = es } in (
       ap (λ (k : List ℕ). made k m.elements) heads.kinds
           ∙ ap (λ (es : List (ℕ × List ℕ)). made n.kind es) bodies.0,
       bodies.1,

@@ -1,5 +1,7 @@
 -- The place of a fault is where the piece stands of which its rule speaks.
-use Rattle.std.proofs.Common.{◌≡◌, ℕ, ◌+◌, ◌<◌, Bool, true, false, List, [], ◌∷◌, ◌++◌, length, drop, Some, None, Result, Ok, Err, refl, sym, ap, subst, ◌∙◌, append_assoc, arith}
+use Rattle.std.proofs.Common.{◌≡◌, ℕ, ◌+◌, ◌<◌, Bool, true, false, List, [], ◌∷◌, ◌++◌, length}
+use Rattle.std.proofs.Common.{drop, Some, None, Result, Ok, Err, refl, sym, ap, subst, ◌∙◌}
+use Rattle.std.proofs.Common.{append_assoc, arith}
 use Rattle.std.specs.Prelude.{MatchBool, take_while, nat_lt}
 use Rattle.std.specs.List.{list_all}
 use Rattle.std.specs.Result.{result_ok}
@@ -10,7 +12,8 @@ use Rattle.iso_codec.specs.declared.element_format.ElementFormat.{ElementFormat}
 use Rattle.iso_codec.specs.declared.decode_fault.DecodeFault.TheVariants.{Trailing}
 use Rattle.iso_codec.specs.Table.{format_of}
 use Rattle.iso_codec.specs.Content.{length_of}
-use Rattle.iso_codec.specs.Message.{IsoMessage, IsBitmap, AreBitmaps, Ascends, bit, named, numbers, is_element, spelled, body, Reads}
+use Rattle.iso_codec.specs.Message.{IsoMessage, IsBitmap, AreBitmaps, Ascends, bit, named, numbers}
+use Rattle.iso_codec.specs.Message.{is_element, spelled, body, Reads}
 use Rattle.iso_codec.specs.Faults.{AwaitsElement, HasHeader, IsContent, BeginsWithBitmap}
 use Rattle.iso_codec.specs.Reading.{bitmaps_at, content_by}
 use Rattle.iso_codec.specs.FaultPlaces.{behind, standing_from, element_place, fault_place}
@@ -18,14 +21,16 @@ use Rattle.iso_codec.proofs.NamedNumbers.{named_ascends}
 use Rattle.iso_codec.proofs.TableBounds.{format_in_bounds}
 use Rattle.iso_codec.proofs.OneMessage.{Stands, stands, format_of_element}
 use Rattle.iso_codec.proofs.FaultsSpellNothing.{room, bitmap_long}
-use Rattle.iso_codec.proofs.PlacesOfFaults.{content_found, one_bitmap, two_bitmaps, below_more, below_none}
+use Rattle.iso_codec.proofs.PlacesOfFaults.{content_found, one_bitmap, two_bitmaps, below_more}
+use Rattle.iso_codec.proofs.PlacesOfFaults.{below_none}
 
 abbrev below : ℕ → List ℕ → List ℕ
 below n ns = take_while (λ k. nat_lt k n) ns
 
 -- ---- bitmaps
 
-begins : (first more : List ℕ) (bits : ℕ) → IsBitmap first bits → BeginsWithBitmap (first ++ more) bits more
+begins : (first more : List ℕ) (bits : ℕ) → IsBitmap first bits →
+    BeginsWithBitmap (first ++ more) bits more
 begins first more bits b =
     let long = bitmap_long (first ++ more) first more bits b refl in
     record {
@@ -35,14 +40,16 @@ begins first more bits b =
     }
 
 bitmaps_by : (first second more : List ℕ) (primary secondary : ℕ) (b : Bool) → bit primary 1 ≡ b
-    → IsBitmap first primary → MatchBool b (IsBitmap second secondary) ((second ≡ []) × (secondary ≡ 0))
+    → IsBitmap first primary →
+    MatchBool b (IsBitmap second secondary) ((second ≡ []) × (secondary ≡ 0))
     → result_ok (bitmaps_at (first ++ (second ++ more)))
     ≡ Some (record { primary = primary; secondary = secondary }, more)
 bitmaps_by first second more primary secondary true set p q =
     two_bitmaps (first ++ (second ++ more)) (second ++ more) more primary secondary
     (begins first (second ++ more) primary p) set (begins second more secondary q)
 bitmaps_by first second more primary secondary false unset p q =
-    let one : result_ok (bitmaps_at (first ++ more)) ≡ Some (record { primary = primary; secondary = 0 }, more) =
+    let one : result_ok (bitmaps_at (first ++ more))
+    ≡ Some (record { primary = primary; secondary = 0 }, more) =
     one_bitmap (first ++ more) more primary (begins first more primary p) unset in
     rw (q.0, q.1) one
 
@@ -51,7 +58,8 @@ bitmaps_found : (digits more : List ℕ) (bitmaps : Bitmaps) → AreBitmaps digi
 bitmaps_found digits more bitmaps a =
     ap (λ (x : List ℕ). result_ok (bitmaps_at x))
     (ap (λ (x : List ℕ). x ++ more) a.parts ∙ append_assoc a.first a.second more)
-    ∙ bitmaps_by a.first a.second more bitmaps.primary bitmaps.secondary (bit bitmaps.primary 1) refl a.primary
+    ∙ bitmaps_by a.first a.second more bitmaps.primary bitmaps.secondary
+    (bit bitmaps.primary 1) refl a.primary
     a.secondary
 
 -- ---- elements
@@ -76,7 +84,8 @@ behind_body [] rest h = refl
 behind_body (e ∷ es) rest h =
     let parts = and_parts (is_element e) (list_all is_element es) h in
     let format = format_of_element e.0 e.1 parts.0 in
-    let found : content_by e.0 (format_of e.0) (spelled e ++ (body es ++ rest)) ≡ Ok (e.1, body es ++ rest) =
+    let found : content_by e.0 (format_of e.0) (spelled e ++ (body es ++ rest))
+    ≡ Ok (e.1, body es ++ rest) =
     content_found e.0 format.0 (spelled e ++ (body es ++ rest)) e.1 (body es ++ rest) format.1
     (content_is format.0 (spelled e ++ (body es ++ rest)) e.1 (body es ++ rest)
     (stands e.0 format.0 e.1 (body es ++ rest) format.1 parts.0)) in
@@ -88,13 +97,15 @@ low_less : (low n : ℕ) (ms later : List ℕ) → Ascends low (ms ++ n ∷ late
 low_less low n [] later a = a.0
 low_less low n (m ∷ ms) later a = let next = low_less m n ms later a.1 in omega (arith, next, a.0)
 
-below_these : (low n : ℕ) (ms later : List ℕ) → Ascends low (ms ++ n ∷ later) → below n (ms ++ n ∷ later) ≡ ms
+below_these : (low n : ℕ) (ms later : List ℕ) → Ascends low (ms ++ n ∷ later) →
+    below n (ms ++ n ∷ later) ≡ ms
 below_these low n [] later a = below_none n n later (omega arith)
 below_these low n (m ∷ ms) later a =
     below_more n m (ms ++ n ∷ later) (low_less m n ms later a.1)
     ∙ ap (λ (x : List ℕ). m ∷ x) (below_these m n ms later a.1)
 
-below_all : (es : List (ℕ × List ℕ)) → list_all is_element es ≡ true → below 129 (numbers es) ≡ numbers es
+below_all : (es : List (ℕ × List ℕ)) → list_all is_element es ≡ true →
+    below 129 (numbers es) ≡ numbers es
 below_all [] h = refl
 below_all (e ∷ es) h =
     let parts = and_parts (is_element e) (list_all is_element es) h in
@@ -129,7 +140,8 @@ stands_from n text kind rest bitmaps es h each ns =
     ∙ ap (λ (k : ℕ). length h.digits + k) (length-append (body es) rest)) in
     rw (read, left) (omega (arith, size))
 
-pub element_stands : (text rest : List ℕ) (n : ℕ) (format : ElementFormat) → AwaitsElement text n format rest
+pub element_stands : (text rest : List ℕ) (n : ℕ) (format : ElementFormat) →
+    AwaitsElement text n format rest
     → element_place n text + length rest ≡ length text
 element_stands text rest n format a =
     let ascends : Ascends 1 (numbers a.elements ++ n ∷ a.later) =

@@ -4,7 +4,8 @@ use Rattle.std.specs.List.{list_all, filter}
 use Rattle.std.proofs.lemmas.Bool.{and_parts, and_from, cases_Bool}
 use Rattle.iso_codec.specs.Message.{IsMessage, IsKind, numbers, Ascends, is_element}
 
-pub elements-filter : (p : ℕ × List ℕ → Bool) (es : List (ℕ × List ℕ)) → list_all is_element es ≡ true
+pub elements-filter : (p : ℕ × List ℕ → Bool) (es : List (ℕ × List ℕ)) →
+    list_all is_element es ≡ true
     → list_all is_element (filter p es) ≡ true
 elements-filter p [] k = refl
 elements-filter p (e ∷ es) k =
@@ -19,7 +20,8 @@ ascends_lower : (low m : ℕ) (ns : List ℕ) → low ≤ m → Ascends m ns →
 ascends_lower low m [] le up = tt
 ascends_lower low m (n ∷ ns) le up = let above = up.0 in (omega arith, up.1)
 
-pub ascends-filter : (p : ℕ × List ℕ → Bool) (low : ℕ) (es : List (ℕ × List ℕ)) → Ascends low (numbers es)
+pub ascends-filter : (p : ℕ × List ℕ → Bool) (low : ℕ) (es : List (ℕ × List ℕ)) →
+    Ascends low (numbers es)
     → Ascends low (numbers (filter p es))
 ascends-filter p low [] up = tt
 ascends-filter p low (e ∷ es) up =

@@ -1,5 +1,6 @@
 -- What holds of each row of the table.
-use Rattle.std.proofs.Common.{◌≡◌, ℕ, ◌<◌, ◌≤◌, Bool, true, ◌&&◌, eqb, leb, List, [], ◌∷◌, Option, Some, None, refl, sym, subst, arith, inl, inr}
+use Rattle.std.proofs.Common.{◌≡◌, ℕ, ◌<◌, ◌≤◌, Bool, true, ◌&&◌, eqb, leb, List, [], ◌∷◌, Option}
+use Rattle.std.proofs.Common.{Some, None, refl, sym, subst, arith, inl, inr}
 use Rattle.std.specs.List.{list_all}
 use Rattle.std.proofs.lemmas.Bool.{and_parts, leb-true, eqb-true, cases_Bool}
 use Rattle.iso_codec.specs.declared.element_format.ElementFormat.{ElementFormat}
@@ -12,7 +13,8 @@ is_sound_row r = is_sound r.1.form && (leb 2 r.0 && leb r.0 128)
 rows_sound : list_all is_sound_row rows ≡ true
 rows_sound = refl
 
-row_at : (rs : List (ℕ × ElementFormat)) (n : ℕ) (r : ElementFormat) → list_all is_sound_row rs ≡ true
+row_at : (rs : List (ℕ × ElementFormat)) (n : ℕ) (r : ElementFormat) →
+    list_all is_sound_row rs ≡ true
     → row_of rs n ≡ Some r → is_sound_row (n, r) ≡ true
 row_at [] n r h e = absurd cc
 row_at (x ∷ rs) n r h e =

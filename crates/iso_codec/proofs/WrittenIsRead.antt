@@ -4,11 +4,13 @@ use Rattle.std.specs.List.{list_all}
 use Rattle.std.proofs.lemmas.List.{append-nil}
 use Rattle.std.proofs.lemmas.List.Folds.{list_all-append}
 use Rattle.iso_codec.specs.declared.bitmaps.Bitmaps.{Bitmaps}
-use Rattle.iso_codec.specs.Message.{IsoMessage, IsMessage, IsBitmap, AreBitmaps, bit, numbers, body, is_upper_hex, Writes, Reads}
+use Rattle.iso_codec.specs.Message.{IsoMessage, IsMessage, IsBitmap, AreBitmaps, bit, numbers, body}
+use Rattle.iso_codec.specs.Message.{is_upper_hex, Writes, Reads}
 use Rattle.iso_codec.specs.Setting.{Marks}
 use Rattle.iso_codec.proofs.BitmapsOfNumbers.{names_marked}
 
-pub all_append : {X : Type 0} (p : X → Bool) (xs ys : List X) → list_all p xs ≡ true → list_all p ys ≡ true
+pub all_append : {X : Type 0} (p : X → Bool) (xs ys : List X) → list_all p xs ≡ true →
+    list_all p ys ≡ true
     → list_all p (xs ++ ys) ≡ true
 all_append p xs ys h k = list_all-append p xs ys ∙ rw (h, k) refl
 
@@ -23,7 +25,8 @@ one_bitmap digits bitmaps b unset none = record {
 }
 
 pub two_bitmaps : (first second : List ℕ) (bitmaps : Bitmaps) → IsBitmap first bitmaps.primary
-    → bit bitmaps.primary 1 ≡ true → IsBitmap second bitmaps.secondary → AreBitmaps (first ++ second) bitmaps
+    → bit bitmaps.primary 1 ≡ true → IsBitmap second bitmaps.secondary →
+    AreBitmaps (first ++ second) bitmaps
 two_bitmaps first second bitmaps b set d = record {
   first = first;
   second = second;
@@ -33,7 +36,8 @@ two_bitmaps first second bitmaps b set d = record {
 }
 
 pub written : (m : IsoMessage) (bitmaps : Bitmaps) (digits : List ℕ) → IsMessage m
-    → Marks (numbers m.elements) bitmaps → AreBitmaps digits bitmaps → list_all is_upper_hex digits ≡ true
+    → Marks (numbers m.elements) bitmaps → AreBitmaps digits bitmaps →
+    list_all is_upper_hex digits ≡ true
     → Writes (m.kind ++ (digits ++ body m.elements)) m
 written m bitmaps digits l k a c = record {
   digits = digits;

@@ -3,22 +3,26 @@
 //! `$` begins a run of the program. Below it stand its input behind `<`, its output behind `>`, its
 //! fault lines behind `!`, and behind `?` its status, where that isn't 0. Behind `<`, `>` and `@`
 //! stands a space and a line; or `frame` and a message in parts, which comes behind its length;
-//! `bytes` and bytes that no line ends; `times COUNT` and bytes, so many times; `event` and a message
-//! in parts, as the event line that it comes on; or `hex` and a message in parts, in hexadecimal. `>has`
-//! and `!has` name a part of what is written.
+//! `bytes` and bytes that no line ends; `times COUNT` and bytes, so many times; `event` and a
+//! message in parts, as the event line that it comes on; or `hex` and a message in parts, in
+//! hexadecimal. `>has` and `!has` name a part of what is written.
 //!
-//! What stands on the machine comes before: `@setup EVENT` is an event that each book of the file has
-//! taken; `@book` a book, and `@book EVENT` a further event of it; `@refused NUMBER VERSION` a book
-//! that is refused; `@issuers` a file of issuers' answers, and `@issuers RECORD` a record of it; `@port`
-//! a port, and `@connection` a connection, which sends what `@frame` and `@bytes` behind it say.
-//! `@piece COUNT` says how many bytes a read gives and a write takes, `@read COUNT` that the read after so many fails, and
-//! `@writes frame`, `@writes line` or `@writes text` that it runs again with each write failing, where
-//! the fault's line counts bytes so.
+//! What stands on the machine comes before: `@setup EVENT` is an event that each book of the file
+//! has taken; `@book` a book, and `@book EVENT` a further event of it; `@refused NUMBER` a book
+//! that is refused with this fault, and `@refused 41 VERSION` one of another version; `@issuers` a
+//! file of issuers' answers, and `@issuers RECORD` a record of it; `@port` a port, and
+//! `@connection` a connection, which sends what `@frame` and `@bytes` behind it say. `@piece COUNT`
+//! says how many bytes a read gives and a write takes, `@read COUNT` that the read after so many
+//! fails, and `@writes frame`, `@writes line` or `@writes text` that it runs again with each write
+//! failing, where the fault's line counts bytes so.
 
-use crate::command_run::{CommandRun, Counted, Text};
+use crate::command_run::CommandRun;
+use crate::counted::Counted;
 use crate::escapes::{put_bytes, put_hex};
+use crate::expected_text::ExpectedText;
 use crate::findings::Findings;
-use crate::machine_at_hand::MachineTerms;
+use crate::machine_terms::MachineTerms;
+use crate::refusal::Refusal;
 use crate::row_fault::RowFault;
 use crate::running_commands::run_command;
 use std::alloc::Global;
@@ -76,14 +80,14 @@ fn new_run(alloc: Global) -> CommandRun {
     CommandRun {
         line: 0,
         machine: MachineTerms {
-            book: Err((2, 0)),
+            book: Err(Refusal::Store),
             answers: None,
             connections: None,
         },
         args: Vec::new(alloc),
         input: Vec::new(alloc),
-        output: Text::new(alloc),
-        faults: Text::new(alloc),
+        output: ExpectedText::new(alloc),
+        faults: ExpectedText::new(alloc),
         status: 0,
         piece: 97,
         failing_read: None,
@@ -97,21 +101,31 @@ impl Reader {
             return Ok(());
         }
         let (head, rest) = text.split_once(' ').unwrap_or((text, ""));
+        if head == "$" {
+            self.begin(line, rest)
+        } else if let Some(word) = head.strip_prefix('@') {
+            self.end_run()?;
+            self.take_machine(word, rest, line)
+        } else if self.has_begun {
+            self.take_stream(head, rest, line)
+        } else {
+            Err(RowFault::Malformed(line))
+        }
+    }
+
+    /// Takes what the run in hand reads or writes, or its status.
+    fn take_stream(&mut self, head: &str, rest: &str, line: usize) -> Result<(), RowFault> {
         if let Some(kind) = head.strip_prefix('<') {
             put(self.alloc, kind, rest, line, &mut self.run.input)
         } else if let Some(kind) = head.strip_prefix('>') {
             put_text(self.alloc, kind, rest, line, &mut self.run.output)
         } else if let Some(kind) = head.strip_prefix('!') {
             put_text(self.alloc, kind, rest, line, &mut self.run.faults)
-        } else if let Some(word) = head.strip_prefix('@') {
-            self.end_run()?;
-            self.take_machine(word, rest, line)
+        } else if head == "?" {
+            self.run.status = read_number(rest, line)?;
+            Ok(())
         } else {
-            match head {
-                "$" => self.begin(line, rest),
-                "?" => Ok(self.run.status = read_number(rest, line)?),
-                _ => Err(RowFault::Malformed(line)),
-            }
+            Err(RowFault::Malformed(line))
         }
     }
 
@@ -149,8 +163,7 @@ impl Reader {
             "setup" => put(self.alloc, "", rest, line, &mut self.setup),
             "book" => self.take_book(rest, line),
             "refused" => {
-                let (number, version) = rest.split_once(' ').unwrap_or((rest, "0"));
-                let refusal = (read_number(number, line)?, read_number(version, line)?);
+                let refusal = Refusal::read(rest).ok_or(RowFault::Malformed(line))?;
                 self.run.machine.book = Err(refusal);
                 Ok(())
             }
@@ -228,7 +241,7 @@ fn put_text(
     kind: &str,
     rest: &str,
     line: usize,
-    text: &mut Text,
+    text: &mut ExpectedText,
 ) -> Result<(), RowFault> {
     if kind == "has" {
         text.parts.push(rest.to_string(alloc)?)?;

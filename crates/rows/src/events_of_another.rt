@@ -2,7 +2,7 @@
 
 use crate::escapes::put_hex;
 use crate::row_fault::RowFault;
-use acq_core::Event;
+use crate::step::Step;
 use acq_link::SliceSource;
 use acq_out::read_events;
 use std::alloc::Global;
@@ -64,9 +64,9 @@ impl Lines {
 }
 
 /// The events of a lot of merchant MERCHANT0000002: so many sales and a hold, approvals of the
-/// first sale and of the hold, a reversal of that sale, a repeat of it and one of a pending sale, and
-/// a frame that spells no message. `place` tells such lots apart, and counts from 0.
-pub fn lot_of_another(alloc: Global, place: u64, sales: u64) -> Result<Vec<Event>, RowFault> {
+/// first sale and of the hold, a reversal of that sale, a repeat of it and one of a pending sale,
+/// and a frame that spells no message. `place` tells such lots apart, and counts from 0.
+pub fn lot_of_another(alloc: Global, place: u64, sales: u64) -> Result<Vec<Step>, RowFault> {
     let mut lines = Lines {
         alloc,
         text: Vec::new(alloc),
@@ -86,8 +86,22 @@ pub fn lot_of_another(alloc: Global, place: u64, sales: u64) -> Result<Vec<Event
     lines.put_sale(first)?;
     lines.put_sale(last)?;
     lines.put_message("02007220000000C08000204111")?;
-    match read_events(alloc, &mut SliceSource::new(lines.text.as_slice())) {
-        Ok(events) => Ok(events),
-        Err(_) => Err(RowFault::Memory),
+    steps_of(alloc, lines.text.as_slice())
+}
+
+/// The events of event lines, of which nothing is compared.
+fn steps_of(alloc: Global, lines: &[u8]) -> Result<Vec<Step>, RowFault> {
+    let Ok(events) = read_events(alloc, &mut SliceSource::new(lines)) else {
+        return Err(RowFault::Memory);
+    };
+    let mut steps = Vec::new(alloc);
+    for event in events {
+        let said = Step::NOT_COMPARED.to_vec(alloc)?;
+        steps.push(Step {
+            line: 0,
+            event,
+            said,
+        })?;
     }
+    Ok(steps)
 }

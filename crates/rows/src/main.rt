@@ -2,17 +2,24 @@
 //! is not what a row says.
 //!
 //! A file is of one of three kinds, by the end of its name: scenarios are events and what the host
-//! says to each, command lines are runs of `acqd`, and tables are texts and what they read as. A row
-//! of any kind stands on a line of its own, and `#` begins a line that says why.
+//! says to each, command lines are runs of `acqd`, and tables are texts and what they read as. A
+//! row of any kind stands on a line of its own, and `#` begins a line that says why.
 #![tactic(auto)]
 
+mod asked;
 mod command_file;
 mod command_run;
+mod connections_at_hand;
+mod counted;
 mod escapes;
 mod events_of_another;
+mod expected_text;
 mod findings;
 mod machine_at_hand;
+mod machine_terms;
+mod no_gathering;
 mod no_progress;
+mod refusal;
 mod report_asked;
 mod row_fault;
 mod running_commands;
@@ -57,7 +64,10 @@ fn run(rt: &HostRuntime) -> io::Result<bool> {
 
 /// Runs the rows of a file, and prints a line for it, and one for each row that differs.
 fn run_file(rt: &HostRuntime, name: &str) -> io::Result<bool> {
-    let text = fs::read_to_string(rt, name)?;
+    let Ok(text) = fs::read_to_string(rt, name) else {
+        println!(rt; "{name}: can't be read")?;
+        return Ok(false);
+    };
     let mut findings = Findings::new(rt.alloc());
     let ended = run_rows(rt, name, text.as_str(), &mut findings);
     match ended {

@@ -1,54 +1,6 @@
-//! A text that is asked of a book.
+//! A text that a scenario asks of its book at its end.
 
-use acq_book::Book;
-use acq_core::{MerchantId, Moment};
-use acq_link::Sink;
-use acq_reports::{ReportFault, clearing, open_holds, settlement};
-use day_totals::Day;
-use std::alloc::Global;
-
-/// What is asked of a book.
-#[derive(Clone, Copy, Debug)]
-pub enum Asked {
-    /// A day's clearing file.
-    Clearing(Day),
-    /// A day's settlement report.
-    Settlement(Day),
-    /// The holds of a merchant that are open at a moment.
-    Holds(MerchantId, Moment),
-}
-
-impl Asked {
-    /// What these words ask for: `clearing DAY`, `report DAY` or `holds MOMENT MERCHANT`.
-    pub fn read(word: &str, rest: &str) -> Option<Asked> {
-        match word {
-            "clearing" => Some(Asked::Clearing(Day::read(rest)?)),
-            "report" => Some(Asked::Settlement(Day::read(rest)?)),
-            "holds" => {
-                let (moment, merchant) = rest.split_once(' ')?;
-                Some(Asked::Holds(
-                    MerchantId::read(merchant.as_bytes())?,
-                    Moment::from_seconds(moment.parse().ok()?)?,
-                ))
-            }
-            _ => None,
-        }
-    }
-
-    /// Writes the text.
-    pub fn write<B: Book, K: Sink>(
-        self,
-        alloc: Global,
-        book: &mut B,
-        text: &mut K,
-    ) -> Result<(), ReportFault> {
-        match self {
-            Asked::Clearing(day) => clearing(alloc, book, day, text),
-            Asked::Settlement(day) => settlement(alloc, book, day, text),
-            Asked::Holds(merchant, moment) => open_holds(alloc, book, merchant, moment, text),
-        }
-    }
-}
+use crate::asked::Asked;
 
 /// A text that a scenario asks of its book at its end.
 #[derive(Drop)]

@@ -1,6 +1,8 @@
 //! Command lines, run over a machine in memory.
 
-use crate::command_run::{CommandRun, Counted, Text};
+use crate::command_run::CommandRun;
+use crate::counted::Counted;
+use crate::expected_text::ExpectedText;
 use crate::findings::Findings;
 use crate::machine_at_hand::MachineAtHand;
 use crate::no_progress::NoProgress;
@@ -41,11 +43,7 @@ pub fn run_command(
         findings,
     )?;
     findings.set_book(", status");
-    findings.compare(
-        run.line,
-        &[b'0' + run.status % 10],
-        &[b'0' + came.status % 10],
-    )?;
+    compare_status(alloc, run.line, run.status, came.status, findings)?;
     if let Some(counted) = run.failing_writes {
         run_failing(rt, alloc, run, counted, findings)?;
     }
@@ -120,15 +118,30 @@ fn run_failing(
         let line = format!(in alloc; "acqd: {fault}\n")?;
         findings.set_book(", faults of a write that fails");
         findings.compare(run.line, line.as_bytes(), came.faults.as_bytes())?;
+        findings.set_book(", status of a write that fails");
+        compare_status(alloc, run.line, 1, came.status, findings)?;
     }
     Ok(())
+}
+
+/// Compares two statuses.
+fn compare_status(
+    alloc: Global,
+    line: usize,
+    expected: u8,
+    came: u8,
+    findings: &mut Findings,
+) -> Result<(), RowFault> {
+    let expected = format!(in alloc; "{expected}")?;
+    let came = format!(in alloc; "{came}")?;
+    findings.compare(line, expected.as_bytes(), came.as_bytes())
 }
 
 /// Compares what came with all that is known of it.
 fn compare(
     alloc: Global,
     line: usize,
-    text: &Text,
+    text: &ExpectedText,
     came: &[u8],
     findings: &mut Findings,
 ) -> Result<(), RowFault> {

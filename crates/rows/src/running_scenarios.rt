@@ -22,9 +22,6 @@ use std::fmt::Write;
 use std::hash::RandomState;
 use std::random::RandomSource;
 
-/// What stands below an event of which nothing is compared.
-const NOT_COMPARED: &[u8] = b"?\n";
-
 /// Runs all scenarios of a file.
 pub fn run_scenarios(
     rt: &impl RandomSource,
@@ -174,20 +171,8 @@ fn take_among<B: Book + Drop>(
 ) -> Result<(), RowFault> {
     for (place, step) in (0..).zip(steps) {
         let lot = lot_of_another(alloc, place, sales)?;
-        take_unseen(alloc, host, lot.as_slice())?;
+        take_steps(alloc, host, lot.as_slice(), findings)?;
         take_step(alloc, host, step, findings)?;
-    }
-    Ok(())
-}
-
-/// Takes events of which nothing is compared.
-fn take_unseen<B: Book + Drop>(
-    alloc: Global,
-    host: &mut Host<B>,
-    events: &[Event],
-) -> Result<(), RowFault> {
-    for event in events {
-        said_to(alloc, host, event)?;
     }
     Ok(())
 }
@@ -199,7 +184,7 @@ fn take_step<B: Book + Drop>(
     findings: &mut Findings,
 ) -> Result<(), RowFault> {
     let said = said_to(alloc, host, &step.event)?;
-    if step.said.as_slice() == NOT_COMPARED {
+    if step.said.as_slice() == Step::NOT_COMPARED {
         return Ok(());
     }
     findings.compare(step.line, step.said.as_slice(), said.as_bytes())
@@ -242,8 +227,8 @@ fn said_to<B: Book + Drop>(
     }
 }
 
-/// The text that is asked of a book, or the fault line. Where memory runs out once, the book's or that
-/// of what the text is written to, it is asked for again.
+/// The text that is asked of a book, or the fault line. Where memory runs out once, the book's or
+/// that of what the text is written to, it is asked for again.
 fn text_of<B: Book>(
     alloc: Global,
     book: &mut B,

@@ -9,7 +9,8 @@ use std::alloc::Global;
 /// What happens to a host over a new book, and what it says; and then what the book's texts are.
 #[derive(Drop)]
 pub struct Scenario {
-    /// What the book is opened with: how many messages of a merchant a day admits, and its first day.
+    /// What the book is opened with: how many messages of a merchant a day admits, and its first
+    /// day.
     pub limit: Limit,
     pub first_day: Day,
     /// Where it also runs among another merchant's events, how many sales of that merchant stand

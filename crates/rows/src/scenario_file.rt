@@ -2,12 +2,13 @@
 //!
 //! A line is `scenario NAME`, `limit COUNT`, `day DAY`, `at MOMENT`, `others COUNT`, an event, or
 //! what is asked of the book at the end: `clearing DAY`, `report DAY`, `holds MOMENT MERCHANT`. An
-//! event is a line of `acqd replay`, or `frame PARTS` for a message that comes at the moment at hand.
-//! What the host says, or what the text is, stands behind four spaces on the lines below; `?` where it
-//! isn't compared. What stands before the first scenario is the setup of each.
+//! event is a line of `acqd replay`, or `frame PARTS` for a message that comes at the moment at
+//! hand. What the host says, or what the text is, stands behind four spaces on the lines below; `?`
+//! where it isn't compared. What stands before the first scenario is the setup of each.
 
+use crate::asked::Asked;
 use crate::escapes::{put_bytes, put_hex};
-use crate::report_asked::{Asked, ReportAsked};
+use crate::report_asked::ReportAsked;
 use crate::row_fault::RowFault;
 use crate::scenario::Scenario;
 use crate::step::Step;

@@ -11,3 +11,8 @@ pub struct Step {
     /// The line that `acqd replay` writes of it.
     pub said: Vec<u8>,
 }
+
+impl Step {
+    /// What stands below an event of which nothing is compared.
+    pub const NOT_COMPARED: &'static [u8] = b"?\n";
+}

@@ -1,11 +1,11 @@
 //! What the kinds of tables read, and what they say of it.
 //!
 //! `card`, `track2`, `class` and `hex` read bytes; `ranges` a file of ranges; `find`, `add` and
-//! `remove` a prefix or a range, on the ranges 400000 to 499999 and 500000 to 599999; `issuers` a file
-//! of issuers' answers, of which the card 4111111111111111 is asked; `day` a date, and `resolve` a
-//! month and day and the day that it is today; `element` an element's number and a content; `type` a
-//! message's type; `totals` four counts and four amounts, of credits, their reversals, debits and theirs;
-//! and the names of numbers and texts say whether one is taken.
+//! `remove` a prefix or a range, on the ranges 400000 to 499999 and 500000 to 599999; `issuers` a
+//! file of issuers' answers, of which the card 4111111111111111 is asked; `day` a date, and
+//! `resolve` a month and day and the day that it is today; `element` an element's number and a
+//! content; `type` a message's type; `totals` four counts and four amounts, of credits, their
+//! reversals, debits and theirs; and the names of numbers and texts say whether one is taken.
 
 use crate::escapes::put_shown;
 use crate::row_fault::RowFault;

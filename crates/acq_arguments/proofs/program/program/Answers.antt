@@ -7,7 +7,8 @@ use Rattle.acq_arguments.proofs.program.program.Goals as goal
 pub returns : goal.returns
 returns c =
     let clearing_is = ap (λ (a : App). a.top) c.in_ok-clearing.ensures in
-    let plain_clearing = plain_fields c.in_ok-clearing.clearing (ap (λ s. s.is_plain) clearing_is) in
+    let plain_clearing = plain_fields c.in_ok-clearing.clearing (ap (λ s. s.is_plain) clearing_is)
+    in
     let with_clearing = c.in_ok-subcommand.ensures.shape plain_clearing.globals
     ∙ ap₂ with_subcommand c.in_ok-own_books.ensures clearing_is in
     let report_is = ap (λ (a : App). a.top) c.in_ok-report.ensures in

@@ -6,14 +6,16 @@ use Rattle.clap.specs.Words.{Text}
 use Rattle.day_totals.specs.Day.{IsNoDateText, date_text_of}
 use Rattle.acq_arguments.specs.Arguments.{report_on}
 use Rattle.acq_arguments.specs.declared.option_name.OptionName.TheVariants.{Report}
-use Rattle.acq_arguments.proofs.WantedReports.{was_none, was_some, text_at, texts_next, reports_next}
+use Rattle.acq_arguments.proofs.WantedReports.{was_none, was_some, text_at, texts_next}
+use Rattle.acq_arguments.proofs.WantedReports.{reports_next}
 use Rattle.acq_arguments.proofs.wanted_reports.add_each.Goals as goal
 
 pub returns-in_err-day-clause-refused : goal.returns-in_err-day-clause-refused
 returns-in_err-day-clause-refused c =
     let other : Bor Text = record { ref_ptr = (0, 0); now = [] } in
     let p = err_from_is_err_and c.from_residual.result c.from_residual.ensures.1 in
-    let was = was_none c.read.result (Report c.args.kind) c.in_err-day.field-0.0 c.in_err-day.ensures.value in
+    let was = was_none c.read.result (Report c.args.kind) c.in_err-day.field-0.0
+    c.in_err-day.ensures.value in
     let i = c.loop-text.text-index in
     let texts = c.args.texts.now in
     let text = (slice_index_or texts i other).now in
@@ -30,9 +32,11 @@ loop-text-preserved c =
     let text = (slice_index_or c.args.texts.now i other).now in
     let spelled : text ≡ date_text_of day =
     subst (λ (o : Option ℕ). IfSome o (λ d. text ≡ date_text_of d)) was c.read.ensures.found in
-    let pushed : c.push.new.self.items ≡ c.loop-text.reports.items ++ report_on c.args.kind day ∷ [] = search rules in (
+    let pushed : c.push.new.self.items ≡ c.loop-text.reports.items ++ report_on c.args.kind day
+    ∷ [] = search rules in (
       so.0 ++ day ∷ [],
       texts_next c.args.kind c.args.texts.now i other (omega arith) so.0 day so.1 spelled,
-      reports_next c.args.kind c.args.texts.now i other (omega arith) so.0 day c.args.reports.now.items
+      reports_next c.args.kind c.args.texts.now i other
+          (omega arith) so.0 day c.args.reports.now.items
           c.loop-text.reports.items c.push.new.self.items so.2 pushed,
     )

@@ -11,7 +11,8 @@ pub returns : goal.returns
 returns c =
     let key : Bor Merchant → List ℕ = λ row. row.now.id in
     let rows = c.args.rows.items in
-    ap (map (deref {X = Merchant})) (sorted-in_order (λ a b. is_lt (slice_cmp nat_cmp (key a) (key b)))
+    ap (map (deref {X = Merchant}))
+    (sorted-in_order (λ a b. is_lt (slice_cmp nat_cmp (key a) (key b)))
     (ranks_by (lists_total nat_cmp_total) key) rows c.sort_by_key.new.self.items
     (c.in_ok-sort_by_key.ensures.sorted key (answers_always _ _ _ (λ f a r q k. search rules)))
     (c.sort_by_key.ensures.stable key (answers_always _ _ _ (λ f a r q k. search rules))))

@@ -13,9 +13,12 @@ pub returns : goal.returns
 returns c =
     let key : Bor Request → Option ℕ = λ row. row.now.reference in
     let rows = c.args.rows.items in
-    ap (map (deref {X = Request})) (sorted-in_order (λ a b. is_lt (option_cmp nat_cmp (key a) (key b)))
+    ap (map (deref {X = Request}))
+    (sorted-in_order (λ a b. is_lt (option_cmp nat_cmp (key a) (key b)))
     (ranks_by (options_total nat_cmp_total) key) rows c.sort_by_key.new.self.items
     (c.in_ok-sort_by_key.ensures.sorted key (answers_always _ _ _ (λ f a r q k. search rules)))
     (c.sort_by_key.ensures.stable key (answers_always _ _ _ (λ f a r q k. search rules))))
-    ∙ (in_order-map deref (λ (a b : Request). is_lt (option_cmp nat_cmp a.reference b.reference)) rows
-    ∙ (λ i. in_order (λ (a b : Request). reference-order a.reference b.reference i) (map deref rows)))
+    ∙ (in_order-map deref (λ (a b : Request). is_lt (option_cmp nat_cmp a.reference b.reference))
+    rows
+    ∙ (λ i. in_order (λ (a b : Request). reference-order a.reference b.reference i)
+    (map deref rows)))

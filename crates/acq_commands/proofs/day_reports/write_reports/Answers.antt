@@ -16,7 +16,8 @@ loop-report-preserved g c =
     let i = loop.report-index in
     let reports = c.args.reports.now in
     let r = c.report-item.result in (
-      looks_more g.B.Book.tables g.B.Book.is_honest g.B.Book.is_open g.B.Book.may_leave g.B.Book.failures
+      looks_more g.B.Book.tables g.B.Book.is_honest g.B.Book.is_open g.B.Book.may_leave
+          g.B.Book.failures
           c.args.book.now loop.book c.write_report.new.book true loop.invariant.0 looks,
       (λ honest opened.
           let before = looks.was_honest honest in
@@ -48,7 +49,9 @@ returns-in_err-write_report-clause-texts g c = λ honest opened.
     let p = err_from_is_err_and c.from_residual.result c.from_residual.ensures.1 in
     let cause = c.in_err-write_report.field-0.0 in
     rw (p.1, p.2)
-    (stops_here (g.B.Book.tables c.args.book.now) c.args.reports.now loop.report-index r (omega arith) c.report-item.is
+    (stops_here (g.B.Book.tables c.args.book.now) c.args.reports.now loop.report-index r
+    (omega arith) c.report-item.is
     (g.K.Sink.sent c.args.output.now) between after cause so.0 so.1
-    (subst (λ (t : Tables). Reports {T = Unit {0}} (day_refusal t r.day) (report_text t r) between after (Err cause))
+    (subst (λ (t : Tables). Reports {T = Unit {0}} (day_refusal t r.day)
+    (report_text t r) between after (Err cause))
     (loop.invariant.0.same middle) (c.in_err-write_report.ensures.text honest middle)))

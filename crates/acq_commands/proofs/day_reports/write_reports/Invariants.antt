@@ -6,9 +6,11 @@ use Rattle.acq_commands.proofs.day_reports.write_reports.Given as goal
 
 abbrev pub invariant-loop-report : goal.invariant-loop-report
 invariant-loop-report g l =
-    Looks g.B.Book.tables g.B.Book.is_honest g.B.Book.is_open g.B.Book.may_leave g.B.Book.failures l.fn.book l.book true
+    Looks g.B.Book.tables g.B.Book.is_honest g.B.Book.is_open g.B.Book.may_leave g.B.Book.failures
+    l.fn.book l.book true
     × (g.B.Book.is_honest l.book → g.B.Book.is_open l.fn.book
     → AreGiven (g.B.Book.tables l.fn.book) (take l.report-index l.reports)
     × (g.K.Sink.sent l.output
-    ≡ g.K.Sink.sent l.fn.output ++ report_texts (g.B.Book.tables l.fn.book) (take l.report-index l.reports))
+    ≡ g.K.Sink.sent l.fn.output ++ report_texts (g.B.Book.tables l.fn.book)
+    (take l.report-index l.reports))
     × (g.K.Sink.failures l.output ≡ g.K.Sink.failures l.fn.output))

@@ -28,7 +28,8 @@ loop-preserved g c =
             so.0 ++ s.0 ∷ [],
             (let size = length_push so.0 s.0 in omega (arith, size, so.1)),
             one_more give say old mid new so.0 s.0 so.2
-                (weaker_one (g.C.Clock.may_give c.loop.clock) give inv.3 (g.I.Issuer.may_say c.loop.issuer) say inv.2
+                (weaker_one (g.C.Clock.may_give c.loop.clock) give inv.3
+                (g.I.Issuer.may_say c.loop.issuer) say inv.2
                 (g.B.Book.is_open c.serve_one.new.host) (Unit {0}) (λ u. still) mid new s.0 s.1),
             still,
           )),
@@ -55,7 +56,8 @@ returns-in_err-serve_one g c = record {
         s.0,
         mid,
         so.2,
-        weaker_one (g.C.Clock.may_give c.loop.clock) give inv.3 (g.I.Issuer.may_say c.loop.issuer) say inv.2 still still (λ u. u) mid new s.0 s.1,
+        weaker_one (g.C.Clock.may_give c.loop.clock) give inv.3 (g.I.Issuer.may_say c.loop.issuer)
+            say inv.2 still still (λ u. u) mid new s.0 s.1,
         sym s.2,
       );
 }

@@ -8,9 +8,11 @@ use Rattle.acq_commands.proofs.listening.serve_all.Given as goal
 abbrev pub invariant-loop : goal.invariant-loop
 invariant-loop g l = (g.B.Book.is_honest l.host → g.B.Book.is_open l.fn.host → (all : List Served)
     × (length all ≡ l.counter)
-    × ServesEach (g.C.Clock.may_give l.fn.clock) (g.I.Issuer.may_say l.fn.issuer) (g.B.Book.tables l.fn.host)
+    × ServesEach (g.C.Clock.may_give l.fn.clock) (g.I.Issuer.may_say l.fn.issuer)
+    (g.B.Book.tables l.fn.host)
     (g.B.Book.tables l.host) all
     × g.B.Book.is_open l.host)
     × (g.B.Book.is_honest l.host → g.B.Book.is_honest l.fn.host)
-    × ((q : Query) (v : Verdict) → g.I.Issuer.may_say l.issuer q v → g.I.Issuer.may_say l.fn.issuer q v)
+    × ((q : Query) (v : Verdict) → g.I.Issuer.may_say l.issuer q v →
+    g.I.Issuer.may_say l.fn.issuer q v)
     × ((m : ℕ) → g.C.Clock.may_give l.clock m → g.C.Clock.may_give l.fn.clock m)

@@ -7,7 +7,8 @@ pub returns-clause-served : goal.returns-clause-served
 returns-clause-served g c =
     let book : c.into_book.result ≡ new_tables widest_opening =
     c.into_book.ensures.book ∙ c.in_memory-host.ensures
-    ∙ ap₂ (λ limit day. new_tables (record { limit = limit; first_day = day })) c.greatest_limit.ensures
+    ∙ ap₂ (λ limit day. new_tables (record { limit = limit; first_day = day }))
+    c.greatest_limit.ensures
     c.first_day_of_all.ensures in
     let s = (rw book at c.once_on.ensures.served) in
     (s.0, s.1 tt tt)

@@ -21,8 +21,10 @@ loop-event-preserved g c =
     let sent = g.K.Sink.sent c.args.output.now in (
       (
         so.0 ++ o ∷ [],
-        took_next g.B.Book.tables g.B.Book.is_honest g.B.Book.is_open g.B.Book.may_leave g.B.Book.failures
-            c.args.host.now c.loop-event.host c.take_next.new.host c.args.events.now c.loop-event.event-index e
+        took_next g.B.Book.tables g.B.Book.is_honest g.B.Book.is_open g.B.Book.may_leave
+            g.B.Book.failures
+            c.args.host.now c.loop-event.host c.take_next.new.host c.args.events.now
+            c.loop-event.event-index e
             so.0 (so.0 ++ o ∷ []) (omega arith) c.event-item.is so.1 made (λ _ _. refl),
         λ h opened.
             let between = so.1.stays_open (made.was_honest h) opened in
@@ -69,14 +71,16 @@ returns-in_err-take_next-clause-stops g c = λ h opened.
     let is = output_next t events at e
     (slice_get_read events (length events) at e refl (omega arith) c.event-item.is)
     ∙ ap (λ u. Some (step_output u (arrival_of e))) (sym (so.1.leads was opened)) in
-    let line = reaches_line said at (step_output (g.B.Book.tables c.loop-event.host) (arrival_of e)) is taken.0
+    let line = reaches_line said at (step_output (g.B.Book.tables c.loop-event.host) (arrival_of e))
+    is taken.0
     (g.K.Sink.sent c.loop-event.output) (g.K.Sink.sent c.take_next.new.output)
     (taken.3 h between) in record {
       taken = at + 1;
       written = at;
       part = line.0;
       lines_sent =
-          line.1 ∙ (ap (λ x. x ++ line.0) (so_far was) ∙ append_assoc sent (lines t (take at events)) line.0);
+          line.1 ∙ (ap (λ x. x ++ line.0) (so_far was) ∙ append_assoc sent
+          (lines t (take at events)) line.0);
       in_hand = omega arith;
       next = subst (Reaches said (at + 1) at line.0) (sym taken.1) line.2;
       leads = λ o.

@@ -16,18 +16,25 @@ returns-clause-runs g c =
     let ended = c.report_if_taken-ended in (
       so.0,
       so.1,
-      ends_reports (record { limit = c.args.options.now.limit; first_day = c.args.options.now.first_day }) book reports
-          so.0 (g.K.Sink.sent c.args.output.now) (g.K.Sink.sent ended.new.output) c.take_events-taken.result ended.result
+      ends_reports (record {
+        limit = c.args.options.now.limit;
+        first_day =
+            c.args.options.now.first_day;
+      }) book reports
+          so.0 (g.K.Sink.sent c.args.output.now) (g.K.Sink.sent ended.new.output)
+          c.take_events-taken.result ended.result
           (subst (λ (t : Tables). Takes (λ (u : Tables). u) (λ (u : Tables). Unit {0}) t book so.0
           c.take_events-taken.result) c.in_memory-host.ensures so.2)
           ended.ensures.stopped
           (subst (λ (asked : List DayReport). OnOk c.take_events-taken.result (Unit {0} → Unit {0}
           → (written : Result (Unit {0}) ReportFault) × (ended.result ≡ told written)
-          × WritesReports book asked (g.K.Sink.sent c.args.output.now) (g.K.Sink.sent ended.new.output) written))
+          × WritesReports book asked (g.K.Sink.sent c.args.output.now)
+          (g.K.Sink.sent ended.new.output) written))
           c.as_slice.ensures.value
           (subst (λ (t : Tables). OnOk c.take_events-taken.result (Unit {0} → Unit {0}
           → (written : Result (Unit {0}) ReportFault) × (ended.result ≡ told written)
-          × WritesReports t c.as_slice.result.now (g.K.Sink.sent c.args.output.now) (g.K.Sink.sent ended.new.output)
+          × WritesReports t c.as_slice.result.now (g.K.Sink.sent c.args.output.now)
+          (g.K.Sink.sent ended.new.output)
           written)) c.into_book-book.ensures.book ended.ensures.written)),
     )
 
@@ -36,4 +43,5 @@ returns-clause-whole g c =
     let ended = c.report_if_taken-ended in
     still_after c.take_events-taken.result ended.result
     (TakesAll (g.S.Source.remaining c.args.input.now) (g.S.Source.received c.args.input.now)
-    (g.S.Source.received c.take_events-taken.new.input)) _ c.take_events-taken.ensures.whole ended.ensures.stopped
+    (g.S.Source.received c.take_events-taken.new.input)) _ c.take_events-taken.ensures.whole
+    ended.ensures.stopped

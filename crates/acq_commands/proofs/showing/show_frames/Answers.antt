@@ -12,7 +12,8 @@ loop-rest-preserved g c =
       (
         so.0 ++ message ∷ [],
         so.1 ++ more,
-        shows_more c.args.frames.now so.1 c.loop-rest.rest.now message c.in_ok-message.after.now so.0 so.2
+        shows_more c.args.frames.now so.1 c.loop-rest.rest.now message c.in_ok-message.after.now
+            so.0 so.2
             front.whole front.fits,
         c.in_ok-show_one.ensures.sent ∙ ap (λ (x : List ℕ). x ++ more) so.3
             ∙ append_assoc (g.K.Sink.sent c.args.output.now) so.1 more,

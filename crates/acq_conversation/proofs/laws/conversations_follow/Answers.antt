@@ -1,4 +1,5 @@
-use Rattle.acq_conversation.proofs.Following.{follows_none, follows_fed, follows_written, follows_took, tables_more, follows_other}
+use Rattle.acq_conversation.proofs.Following.{follows_none, follows_fed, follows_written}
+use Rattle.acq_conversation.proofs.Following.{follows_took, tables_more, follows_other}
 use Rattle.acq_conversation.proofs.laws.conversations_follow.Goals as goal
 
 pub returns : goal.returns

@@ -11,5 +11,6 @@ pub returns-in-None-clause-served : goal.returns-in-None-clause-served
 returns-in-None-clause-served g c = λ h o. (
   nothing_yet,
   All-nil _,
-  none_served (g.I.Issuer.may_say c.args.issuer.now) (g.B.Book.tables c.args.host.now) (g.B.Book.is_open c.args.host.now),
+  none_served (g.I.Issuer.may_say c.args.issuer.now) (g.B.Book.tables c.args.host.now)
+      (g.B.Book.is_open c.args.host.now),
 )

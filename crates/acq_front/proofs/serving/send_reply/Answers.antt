@@ -7,7 +7,8 @@ returns-then-is_empty-clause-store g c = λ fits.
     let fit = fits c.in-Reply.field-0 c.in-Reply.reply c.in-Reply.is in
     let is = c.as_bytes-text.ensures in
     elim c.then-is_empty.either [
-      | inl e ↦ empty_unfit c.in-Reply.reply (ap (λ (l : List ℕ). length l == 0) (sym is) ∙ sym c.is_empty.ensures ∙ e) fit
+      | inl e ↦ empty_unfit c.in-Reply.reply
+          (ap (λ (l : List ℕ). length l == 0) (sym is) ∙ sym c.is_empty.ensures ∙ e) fit
       | inr e ↦ long_unfit c.in-Reply.reply (subst (λ (l : List ℕ). 4096 < length l) is e.1) fit
     ]
 

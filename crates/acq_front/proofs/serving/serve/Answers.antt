@@ -1,12 +1,16 @@
-use Rattle.std.proofs.Common.{[], Ok, Err, ◌≡◌, ◌++◌, List, ℕ, take, refl, sym, ap, ◌∙◌, append-nil, arith}
+use Rattle.std.proofs.Common.{[], Ok, Err, ◌≡◌, ◌++◌, List, ℕ, take, refl, sym, ap, ◌∙◌, append-nil}
+use Rattle.std.proofs.Common.{arith}
 use Rattle.std.proofs.lemmas.Result.{err_from_is_err_and}
 use Rattle.std.proofs.lemmas.List.{take-append-le}
 use Rattle.acq_message.specs.declared.verdict.Verdict.TheVariants.{NoAnswer}
 use Rattle.acq_front.specs.Talk.{first_moment}
 use Rattle.std.proofs.lemmas.List.Elements.{All-nil}
 use Rattle.acq_front.proofs.GivenInOrder.{gives_none, gives_append, gives_along, may_append}
-use Rattle.acq_front.proofs.StreamRead.{consumes_none, consumes_append, received_more, received_none, empty_of, not_empty_of}
-use Rattle.acq_front.proofs.Served.{nothing_yet, going_none, going_held, with_piece, going_read, with_message, going_more, stream_stops, read_stops, ends_well, ends_inside, stopped, turns_weaker}
+use Rattle.acq_front.proofs.StreamRead.{consumes_none, consumes_append, received_more}
+use Rattle.acq_front.proofs.StreamRead.{received_none, empty_of, not_empty_of}
+use Rattle.acq_front.proofs.Served.{nothing_yet, going_none, going_held, with_piece, going_read}
+use Rattle.acq_front.proofs.Served.{with_message, going_more, stream_stops, read_stops, ends_well}
+use Rattle.acq_front.proofs.Served.{ends_inside, stopped, turns_weaker}
 use Rattle.acq_front.proofs.serving.serve.Goals as goal
 
 pub loop-message-init : goal.loop-message-init
@@ -19,7 +23,8 @@ loop-message-init g c =
         gives_none _ _,
         All-nil _,
         gives_none _ _,
-        going_held may_say (going_none may_say (g.B.Book.tables c.args.host.now)) c.new-input.ensures,
+        going_held may_say (going_none may_say (g.B.Book.tables c.args.host.now))
+            c.new-input.ensures,
         o,
       )),
       (λ h. h),
@@ -42,13 +47,15 @@ returns-in_err-message-clause-served g c = λ h o.
       i.4,
       i.5,
       rw (p.1, p.2) (stream_stops (g.I.Issuer.may_say c.args.issuer.now) c.in_err-message.field-0.0
-          (g.B.Book.is_open c.loop-message.host) i.6 (λ is. c.in_err-message.ensures.bad (ap Err is))),
+          (g.B.Book.is_open c.loop-message.host) i.6
+          (λ is. c.in_err-message.ensures.bad (ap Err is))),
     )
 
 pub returns-in_err-answer_message-clause-served : goal.returns-in_err-answer_message-clause-served
 returns-in_err-answer_message-clause-served g c = λ h o.
     let may_say = g.I.Issuer.may_say c.args.issuer.now in
-    let p = err_from_is_err_and c.from_residual-in_err-answer_message.result c.from_residual-in_err-answer_message.ensures.1 in
+    let p = err_from_is_err_and c.from_residual-in_err-answer_message.result
+    c.from_residual-in_err-answer_message.ensures.1 in
     let i = c.loop-message.invariant.0 (c.in_err-answer_message.ensures.was_honest h) o in
     let e = c.in_err-answer_message.ensures.turns h i.7 in
     let begins = rw c.in-Some.is at c.in_ok-message.ensures.some in
@@ -58,14 +65,17 @@ returns-in_err-answer_message-clause-served g c = λ h o.
     let new = g.B.Book.tables c.answer_message.new.host in
     let still = g.B.Book.is_open c.answer_message.new.host in
     let message = c.in-Some.message.items in
-    let w = turns_weaker (g.I.Issuer.may_say c.loop-message.issuer) may_say c.loop-message.invariant.5 mid still new message e.0 e.1 e.2 (Err fault) e.7 in
-    let x = stopped may_say old mid still new i.0 c.loop-message.input message c.take_message.new.self e.0 e.1 e.2 i.6 begins fault w in (
+    let w = turns_weaker (g.I.Issuer.may_say c.loop-message.issuer) may_say
+    c.loop-message.invariant.5 mid still new message e.0 e.1 e.2 (Err fault) e.7 in
+    let x = stopped may_say old mid still new i.0 c.loop-message.input message
+    c.take_message.new.self e.0 e.1 e.2 i.6 begins fault w in (
       x.0,
       i.1 ∙ ap (λ (l : List ℕ). g.S.Source.received c.args.source.now ++ l) (sym x.1.input),
       received_more (g.K.Sink.sent c.args.sink.now) _ _ i.0.output e.0 i.2 e.3
           ∙ ap (λ (l : List ℕ). g.K.Sink.sent c.args.sink.now ++ l) (sym x.1.output),
       gives_along first_moment _ _ _ i.0.moments e.1 _ x.1.moments_are i.3 e.4,
-      may_append (g.C.Clock.may_give c.args.clock.now) (g.C.Clock.may_give c.loop-message.clock) i.0.moments e.1 _
+      may_append (g.C.Clock.may_give c.args.clock.now) (g.C.Clock.may_give c.loop-message.clock)
+          i.0.moments e.1 _
           x.1.moments_are c.loop-message.invariant.6 i.4 e.5,
       gives_along NoAnswer _ _ _ i.0.verdicts e.2 _ x.1.verdicts_are i.5 e.6,
       rw (p.1, p.2) x.2,
@@ -83,13 +93,16 @@ loop-message-preserved-in-Some g c =
           let new = g.B.Book.tables c.answer_message.new.host in
           let still = g.B.Book.is_open c.answer_message.new.host in
           let message = c.in-Some.message.items in
-          let w = turns_weaker (g.I.Issuer.may_say c.loop-message.issuer) may_say c.loop-message.invariant.5 mid still new message e.0 e.1 e.2 (Ok tt) e.7 in
-          let so = going_more may_say message e.0 e.1 c.take_message.new.self e.2 i.6 begins w.1 w.0 in (
+          let w = turns_weaker (g.I.Issuer.may_say c.loop-message.issuer) may_say
+          c.loop-message.invariant.5 mid still new message e.0 e.1 e.2 (Ok tt) e.7 in
+          let so = going_more may_say message e.0 e.1 c.take_message.new.self e.2 i.6 begins w.1 w.0
+          in (
             with_message i.0 message e.0 e.1 e.2 c.take_message.new.self,
             i.1,
             received_more (g.K.Sink.sent c.args.sink.now) _ _ i.0.output e.0 i.2 e.3,
             gives_append first_moment _ _ _ i.0.moments e.1 i.3 e.4,
-            may_append (g.C.Clock.may_give c.args.clock.now) (g.C.Clock.may_give c.loop-message.clock) i.0.moments e.1 _
+            may_append (g.C.Clock.may_give c.args.clock.now)
+                (g.C.Clock.may_give c.loop-message.clock) i.0.moments e.1 _
                 refl c.loop-message.invariant.6 i.4 e.5,
             gives_append NoAnswer _ _ _ i.0.verdicts e.2 i.5 e.6,
             so,
@@ -100,13 +113,15 @@ loop-message-preserved-in-Some g c =
       c.loop-message.invariant.3,
       omega (arith, c.in_ok-answer_message.ensures.writes, c.loop-message.invariant.4),
       (λ q v said. c.loop-message.invariant.5 q v (c.in_ok-answer_message.ensures.later q v said)),
-      (λ m given. c.loop-message.invariant.6 m (c.in_ok-answer_message.ensures.moments_later m given)),
+      (λ m given. c.loop-message.invariant.6 m
+          (c.in_ok-answer_message.ensures.moments_later m given)),
       omega (arith, c.in_ok-answer_message.ensures.rise, c.loop-message.invariant.7),
     )
 
 pub returns-in_err-n-clause-served : goal.returns-in_err-n-clause-served
 returns-in_err-n-clause-served g c = λ h o.
-    let p = err_from_is_err_and c.from_residual-in_err-n.result c.from_residual-in_err-n.ensures.1 in
+    let p = err_from_is_err_and c.from_residual-in_err-n.result c.from_residual-in_err-n.ensures.1
+    in
     let i = c.loop-message.invariant.0 h o in
     let begun = rw c.in_default.is at c.in_ok-message.ensures.none in (
       i.0,
@@ -115,21 +130,26 @@ returns-in_err-n-clause-served g c = λ h o.
       i.3,
       i.4,
       i.5,
-      rw (p.1, p.2) (read_stops (g.I.Issuer.may_say c.args.issuer.now) (g.B.Book.is_open c.loop-message.host) i.6 begun.1),
+      rw (p.1, p.2)
+          (read_stops (g.I.Issuer.may_say c.args.issuer.now) (g.B.Book.is_open c.loop-message.host)
+          i.6 begun.1),
     )
 
 pub returns-then-is_empty-clause-served : goal.returns-then-is_empty-clause-served
 returns-then-is_empty-clause-served g c = λ h o.
     let i = c.loop-message.invariant.0 h o in
     let begun = rw c.in_default.is at c.in_ok-message.ensures.none in
-    let none = sym begun.0 ∙ empty_of c.take_message.new.self (sym c.is_empty.ensures ∙ c.if-is_empty.true) in (
+    let none = sym begun.0 ∙ empty_of c.take_message.new.self
+    (sym c.is_empty.ensures ∙ c.if-is_empty.true) in (
       i.0,
-      received_none (g.S.Source.received c.args.source.now) _ _ i.0.input _ _ c.if-n-eq0.true i.1 c.in_ok-n.ensures.received,
+      received_none (g.S.Source.received c.args.source.now) _ _ i.0.input _ _ c.if-n-eq0.true i.1
+          c.in_ok-n.ensures.received,
       i.2,
       i.3,
       i.4,
       i.5,
-      ends_well (g.I.Issuer.may_say c.args.issuer.now) (g.B.Book.is_open c.loop-message.host) i.6 none,
+      ends_well (g.I.Issuer.may_say c.args.issuer.now) (g.B.Book.is_open c.loop-message.host) i.6
+          none,
     )
 
 pub returns-else-is_empty-clause-served : goal.returns-else-is_empty-clause-served
@@ -137,13 +157,16 @@ returns-else-is_empty-clause-served g c = λ h o.
     let i = c.loop-message.invariant.0 h o in
     let begun = rw c.in_default.is at c.in_ok-message.ensures.none in (
       i.0,
-      received_none (g.S.Source.received c.args.source.now) _ _ i.0.input _ _ c.if-n-eq0.true i.1 c.in_ok-n.ensures.received,
+      received_none (g.S.Source.received c.args.source.now) _ _ i.0.input _ _ c.if-n-eq0.true i.1
+          c.in_ok-n.ensures.received,
       i.2,
       i.3,
       i.4,
       i.5,
-      ends_inside (g.I.Issuer.may_say c.args.issuer.now) (g.B.Book.is_open c.loop-message.host) i.6 begun.1
-          (λ none. not_empty_of c.take_message.new.self (sym c.is_empty.ensures ∙ c.if-is_empty.false) (begun.0 ∙ none)),
+      ends_inside (g.I.Issuer.may_say c.args.issuer.now) (g.B.Book.is_open c.loop-message.host) i.6
+          begun.1
+          (λ none. not_empty_of c.take_message.new.self
+          (sym c.is_empty.ensures ∙ c.if-is_empty.false) (begun.0 ∙ none)),
     )
 
 pub loop-message-preserved : goal.loop-message-preserved
@@ -156,7 +179,8 @@ loop-message-preserved g c =
           let begun = rw c.in_default.is at c.in_ok-message.ensures.none in
           let fed : c.feed.new.self ≡ c.loop-message.input ++ piece =
           c.feed.ensures
-          ∙ ap (λ (l : List ℕ). c.take_message.new.self ++ l) (take-append-le _ c.read.new.buffer _ c.in_ok-n.ensures.bound.0)
+          ∙ ap (λ (l : List ℕ). c.take_message.new.self ++ l)
+          (take-append-le _ c.read.new.buffer _ c.in_ok-n.ensures.bound.0)
           ∙ ap (λ (l : List ℕ). l ++ piece) begun.0 in (
             with_piece i.0 piece,
             received_more _ _ _ _ piece i.1 c.in_ok-n.ensures.received,
@@ -168,7 +192,11 @@ loop-message-preserved g c =
             i.7,
           )),
       c.loop-message.invariant.1,
-      (read.0 ++ piece, received_more _ _ _ _ piece read.1 c.in_ok-n.ensures.received, consumes_append _ _ _ _ piece read.2 c.in_ok-n.ensures.remaining.0),
+      (
+        read.0 ++ piece,
+        received_more _ _ _ _ piece read.1 c.in_ok-n.ensures.received,
+        consumes_append _ _ _ _ piece read.2 c.in_ok-n.ensures.remaining.0,
+      ),
       c.in_ok-n.ensures.failures ∙ c.loop-message.invariant.3,
       c.loop-message.invariant.4,
       c.loop-message.invariant.5,

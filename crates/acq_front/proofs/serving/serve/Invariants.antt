@@ -12,19 +12,23 @@ use Rattle.acq_front.proofs.Served.{Going}
 use Rattle.acq_front.proofs.serving.serve.Given as goal
 
 abbrev pub invariant-loop-message : goal.invariant-loop-message
-invariant-loop-message g l = (g.B.Book.is_honest l.host → g.B.Book.is_open l.fn.host → (c : Connection)
+invariant-loop-message g l = (g.B.Book.is_honest l.host → g.B.Book.is_open l.fn.host →
+    (c : Connection)
     × (g.S.Source.received l.source ≡ g.S.Source.received l.fn.source ++ c.input)
     × (g.K.Sink.sent l.sink ≡ g.K.Sink.sent l.fn.sink ++ c.output)
     × GivesAll first_moment (g.C.Clock.coming l.fn.clock) (g.C.Clock.coming l.clock) c.moments
     × All (g.C.Clock.may_give l.fn.clock) c.moments
     × GivesAll NoAnswer (g.I.Issuer.coming l.fn.issuer) (g.I.Issuer.coming l.issuer) c.verdicts
-    × Going (g.I.Issuer.may_say l.fn.issuer) (g.B.Book.tables l.fn.host) (g.B.Book.tables l.host) c l.input
+    × Going (g.I.Issuer.may_say l.fn.issuer) (g.B.Book.tables l.fn.host)
+    (g.B.Book.tables l.host) c l.input
     × g.B.Book.is_open l.host)
     × (g.B.Book.is_honest l.host → g.B.Book.is_honest l.fn.host)
-    × ((input : List ℕ) × (g.S.Source.received l.source ≡ g.S.Source.received l.fn.source ++ input) × Consumes (g.S.Source.remaining l.fn.source) (g.S.Source.remaining l.source) input)
+    × ((input : List ℕ) × (g.S.Source.received l.source ≡ g.S.Source.received l.fn.source ++ input)
+    × Consumes (g.S.Source.remaining l.fn.source) (g.S.Source.remaining l.source) input)
     × (g.S.Source.failures l.source ≡ g.S.Source.failures l.fn.source)
     × (g.K.Sink.failures l.sink ≡ g.K.Sink.failures l.fn.sink)
-    × ((q : Query) (v : Verdict) → g.I.Issuer.may_say l.issuer q v → g.I.Issuer.may_say l.fn.issuer q v)
+    × ((q : Query) (v : Verdict) → g.I.Issuer.may_say l.issuer q v →
+    g.I.Issuer.may_say l.fn.issuer q v)
     × ((m : ℕ) → g.C.Clock.may_give l.clock m → g.C.Clock.may_give l.fn.clock m)
     × (g.B.Book.failures l.fn.host ≤ g.B.Book.failures l.host)
 

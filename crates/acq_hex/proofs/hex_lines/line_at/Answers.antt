@@ -7,7 +7,8 @@ pub returns-in-Some-clause-lines : goal.returns-in-Some-clause-lines
 returns-in-Some-clause-lines c =
     let text = c.args.text.now in
     let end = c.in-Some.end in
-    let all = take_all (length text - (end + 1)) (drop (end + 1) text) (omega (arith, length-drop (end + 1) text)) in
+    let all = take_all (length text - (end + 1)) (drop (end + 1) text)
+    (omega (arith, length-drop (end + 1) text)) in
     rw (all, add-one) (ended-line text end c.in-Some.ensures)
 
 pub returns-in-None-clause-lines : goal.returns-in-None-clause-lines

@@ -20,12 +20,14 @@ returns-clause-output g c = λ o3.
     let t1 = c.day.ensures.looks.same o1 in
     let same = c.limit.ensures.looks.same o2 ∙ t1 in
     let today = c.in_ok-today.ensures.value o1 ∙ sym (ap (λ t. t.day) same) in
-    let limit = c.in_ok-limit.ensures.value o2 ∙ ap (λ t. t.limit) t1 ∙ sym (ap (λ t. t.limit) same) in
+    let limit = c.in_ok-limit.ensures.value o2 ∙ ap (λ t. t.limit) t1 ∙ sym (ap (λ t. t.limit) same)
+    in
     let nothing = c.nothing_looked-looked.ensures (g.B.Book.tables c.limit.new.self) today limit in
     let known : known_of c.look_up.new.looked ≡ known_in t a =
     c.in_ok-look_up.ensures.known o3 nothing ∙ ap (λ t. known_in t a) same in
     c.in_ok-decide.ensures.output
-    ∙ (ap (λ k. output_of (merchant_named a) (outcome k a)) known ∙ ap (λ b. step_output t b) c.in_ok-arrival.ensures)
+    ∙ (ap (λ k. output_of (merchant_named a) (outcome k a)) known
+    ∙ ap (λ b. step_output t b) c.in_ok-arrival.ensures)
 
 pub returns-clause-change : goal.returns-clause-change
 returns-clause-change g c = λ o3.
@@ -36,18 +38,23 @@ returns-clause-change g c = λ o3.
     let t1 = c.day.ensures.looks.same o1 in
     let same = c.limit.ensures.looks.same o2 ∙ t1 in
     let today = c.in_ok-today.ensures.value o1 ∙ sym (ap (λ t. t.day) same) in
-    let limit = c.in_ok-limit.ensures.value o2 ∙ ap (λ t. t.limit) t1 ∙ sym (ap (λ t. t.limit) same) in
+    let limit = c.in_ok-limit.ensures.value o2 ∙ ap (λ t. t.limit) t1 ∙ sym (ap (λ t. t.limit) same)
+    in
     let nothing = c.nothing_looked-looked.ensures (g.B.Book.tables c.limit.new.self) today limit in
     let known : known_of c.look_up.new.looked ≡ known_in t a =
     c.in_ok-look_up.ensures.known o3 nothing ∙ ap (λ t. known_in t a) same in
     c.in_ok-decide.ensures.change
-    ∙ (ap (λ k. change_for k a) known ∙ ap (λ b. change_for (known_in t b) b) c.in_ok-arrival.ensures)
+    ∙ (ap (λ k. change_for k a) known
+    ∙ ap (λ b. change_for (known_in t b) b) c.in_ok-arrival.ensures)
 
 pub returns-in_err-look_up-clause-store : goal.returns-in_err-look_up-clause-store
 returns-in_err-look_up-clause-store g c =
     let p =
-    err_from_is_err_and c.from_residual-in_err-look_up.result c.from_residual-in_err-look_up.ensures.1 in
+    err_from_is_err_and c.from_residual-in_err-look_up.result
+    c.from_residual-in_err-look_up.ensures.1 in
     rw (p.1, p.2)
-    (store_after (Unit {0}) (Output × Option Change) (g.B.Book.failures c.args.book.now) (g.B.Book.failures c.limit.new.self) (g.B.Book.failures c.look_up.new.book)
-    c.in_err-look_up.field-0.0 (omega (arith, c.day.ensures.looks.rise, c.limit.ensures.looks.rise)) c.look_up.ensures.looks.rise
+    (store_after (Unit {0}) (Output × Option Change) (g.B.Book.failures c.args.book.now)
+    (g.B.Book.failures c.limit.new.self) (g.B.Book.failures c.look_up.new.book)
+    c.in_err-look_up.field-0.0 (omega (arith, c.day.ensures.looks.rise, c.limit.ensures.looks.rise))
+    c.look_up.ensures.looks.rise
     c.in_err-look_up.ensures.store)

@@ -11,7 +11,8 @@ use Rattle.acq_message.specs.Cards.{track_in}
 use Rattle.acq_message.proofs.ElementsFit.{fits_both}
 use Rattle.acq_message.proofs.card.card_number_of.Goals as goal
 
-may_be : (parts : Option (List ℕ × List ℕ)) (number after : List ℕ) → Some (number, after) ≡ if_number parts
+may_be : (parts : Option (List ℕ × List ℕ)) (number after : List ℕ) →
+    Some (number, after) ≡ if_number parts
     → may_be_number number ≡ true
 may_be None number after h = absurd cc
 may_be (Some p) number after h =
@@ -22,12 +23,16 @@ may_be (Some p) number after h =
       | inr bad ↦ let none = rw bad at h in absurd cc
     ]
 
-track_fits : (track : Option (List ℕ)) (number after : List ℕ) → Some (number, after) ≡ track_in track
+track_fits : (track : Option (List ℕ)) (number after : List ℕ) →
+    Some (number, after) ≡ track_in track
     → set_fault 2 number ≡ None
 unfolding format_of has_class
 track_fits None number after h = absurd cc
 track_fits (Some content) number after h =
-    fits_both (leb (length number) 19) (list_all is_ascii_digit number) _ _ (may_be (parts_of content) number after h)
+    fits_both (leb (length number) 19) (list_all is_ascii_digit number) _ _
+    (may_be (parts_of content) number after h)
 
 pub returns-in-Some-track_of-clause-fits : goal.returns-in-Some-track_of-clause-fits
-returns-in-Some-track_of-clause-fits c = track_fits (content_of c.args.message.now.elements 35) c.in-Some-track_of.number.now _ c.in-Some-track_of.ensures
+returns-in-Some-track_of-clause-fits c =
+    track_fits (content_of c.args.message.now.elements 35) c.in-Some-track_of.number.now _
+    c.in-Some-track_of.ensures

@@ -1,4 +1,5 @@
-use Rattle.std.proofs.Common.{◌≡◌, ◌≢◌, ℕ, ◌^◌, ◌<◌, ◌⊎◌, inl, inr, true, List, [], ◌∷◌, length, None, refl, subst, arith, pos, ◌-ℤ◌}
+use Rattle.std.proofs.Common.{◌≡◌, ◌≢◌, ℕ, ◌^◌, ◌<◌, ◌⊎◌, inl, inr, true, List, [], ◌∷◌, length}
+use Rattle.std.proofs.Common.{None, refl, subst, arith, pos, ◌-ℤ◌}
 use Rattle.std.specs.List.{list_all}
 use Rattle.std.specs.Char.{is_ascii_digit}
 use Rattle.std.specs.Str.Parse.{digits_value}
@@ -26,34 +27,40 @@ after_sign text sign digits (inr fits) is =
 sixteen : (n size : ℕ) → n < 10 ^ size → size ≡ 16 → n < 10_000_000_000_000_000
 sixteen n size h is = subst (λ (k : ℕ). n < 10 ^ k) is h
 
-debit : (text : List ℕ) (sign : ℕ) (digits : List ℕ) (n : ℕ) → text ≡ sign ∷ digits → n ≡ digits_value 10 digits
+debit : (text : List ℕ) (sign : ℕ) (digits : List ℕ) (n : ℕ) → text ≡ sign ∷ digits →
+    n ≡ digits_value 10 digits
     → sign ≡ 68 → net_in text ≡ pos 0 -ℤ pos n
 debit text sign digits n is value minus = rw (is, minus, value) refl
 
-credit : (text : List ℕ) (sign : ℕ) (digits : List ℕ) (n : ℕ) → text ≡ sign ∷ digits → n ≡ digits_value 10 digits
+credit : (text : List ℕ) (sign : ℕ) (digits : List ℕ) (n : ℕ) → text ≡ sign ∷ digits →
+    n ≡ digits_value 10 digits
     → sign ≢ 68 → net_in text ≡ pos n
 credit text sign digits n is value plus = rw (is, ne_eqb sign 68 plus, value) refl
 
 pub digits_value-net-requires : goal.digits_value-net-requires
 digits_value-net-requires c =
-    let fit = after_sign c.args.text.now c.in-Some.sign.now c.in-Some.digits.now c.requires c.in-Some.ensures.cases.0 in
+    let fit = after_sign c.args.text.now c.in-Some.sign.now c.in-Some.digits.now c.requires
+    c.in-Some.ensures.cases.0 in
     record { each = fit.1; size = omega (arith, fit.0) }
 
 pub overflow_cast-net : goal.overflow_cast-net
 overflow_cast-net c =
-    let fit = after_sign c.args.text.now c.in-Some.sign.now c.in-Some.digits.now c.requires c.in-Some.ensures.cases.0 in
+    let fit = after_sign c.args.text.now c.in-Some.sign.now c.in-Some.digits.now c.requires
+    c.in-Some.ensures.cases.0 in
     let small = sixteen c.digits_value-net.result _ c.digits_value-net.ensures.bound fit.0 in
     omega (arith, ints)
 
 pub overflow_sub-result : goal.overflow_sub-result
 overflow_sub-result c =
-    let fit = after_sign c.args.text.now c.in-Some.sign.now c.in-Some.digits.now c.requires c.in-Some.ensures.cases.0 in
+    let fit = after_sign c.args.text.now c.in-Some.sign.now c.in-Some.digits.now c.requires
+    c.in-Some.ensures.cases.0 in
     let small = sixteen c.digits_value-net.result _ c.digits_value-net.ensures.bound fit.0 in
     omega (arith, ints)
 
 pub returns-then-sign-eq68 : goal.returns-then-sign-eq68
 returns-then-sign-eq68 c =
-    let fit = after_sign c.args.text.now c.in-Some.sign.now c.in-Some.digits.now c.requires c.in-Some.ensures.cases.0 in
+    let fit = after_sign c.args.text.now c.in-Some.sign.now c.in-Some.digits.now c.requires
+    c.in-Some.ensures.cases.0 in
     let small = sixteen c.digits_value-net.result _ c.digits_value-net.ensures.bound fit.0 in
     let is = debit c.args.text.now c.in-Some.sign.now c.in-Some.digits.now c.digits_value-net.result
     c.in-Some.ensures.cases.0 c.digits_value-net.ensures.value c.if-sign-eq68.true in
@@ -61,8 +68,10 @@ returns-then-sign-eq68 c =
 
 pub returns-else-sign-eq68 : goal.returns-else-sign-eq68
 returns-else-sign-eq68 c =
-    let fit = after_sign c.args.text.now c.in-Some.sign.now c.in-Some.digits.now c.requires c.in-Some.ensures.cases.0 in
+    let fit = after_sign c.args.text.now c.in-Some.sign.now c.in-Some.digits.now c.requires
+    c.in-Some.ensures.cases.0 in
     let small = sixteen c.digits_value-net.result _ c.digits_value-net.ensures.bound fit.0 in
-    let is = credit c.args.text.now c.in-Some.sign.now c.in-Some.digits.now c.digits_value-net.result
+    let is = credit c.args.text.now c.in-Some.sign.now c.in-Some.digits.now
+    c.digits_value-net.result
     c.in-Some.ensures.cases.0 c.digits_value-net.ensures.value c.if-sign-eq68.false in
     omega (arith, ints, is)

@@ -14,4 +14,5 @@ unreachable-requires c =
     let fit = amount_digits c.args.message.now c.content_at.result.now c.content_at.ensures.value
     c.content_at.ensures.fits in
     c.in_default.ensures (le-leb c.digits_value.result 999_999_999_999
-    (below_twelve c.digits_value.result (length c.content_at.result.now) c.digits_value.ensures.bound fit.0))
+    (below_twelve c.digits_value.result (length c.content_at.result.now)
+    c.digits_value.ensures.bound fit.0))

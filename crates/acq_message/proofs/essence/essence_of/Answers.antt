@@ -1,11 +1,15 @@
-use Rattle.std.proofs.Common.{◌≡◌, ℕ, true, false, leb, ltb, List, [], ◌∷◌, ◌++◌, Some, None, get_or, refl, inl, inr, subst}
+use Rattle.std.proofs.Common.{◌≡◌, ℕ, true, false, leb, ltb, List, [], ◌∷◌, ◌++◌, Some, None}
+use Rattle.std.proofs.Common.{get_or, refl, inl, inr, subst}
 use Rattle.std.specs.Prelude.{codes, IfOk}
 use Rattle.std.specs.List.{filter}
 use Rattle.std.proofs.lemmas.Bool.{cases_Bool, ltb-true, lt-leb}
 use Rattle.iso_codec.specs.Message.{IsoMessage, with_content, is_among}
 use Rattle.iso_codec.specs.Reading.{spelling}
 use Rattle.acq_message.specs.declared.service.Service.{Service}
-use Rattle.acq_message.specs.declared.service.Service.TheVariants.{Authorization, Financial, Completion, Reversal, ReversalAdvice, Reconciliation, NetworkManagement}
+use Rattle.acq_message.specs.declared.service.Service.TheVariants.{Authorization, Financial}
+use Rattle.acq_message.specs.declared.service.Service.TheVariants.{Completion, Reversal}
+use Rattle.acq_message.specs.declared.service.Service.TheVariants.{ReversalAdvice, Reconciliation}
+use Rattle.acq_message.specs.declared.service.Service.TheVariants.{NetworkManagement}
 use Rattle.acq_message.specs.Services.{digits_of}
 use Rattle.acq_message.specs.Cards.{card_of}
 use Rattle.acq_message.specs.Elements.{essential, essence_of}
@@ -14,7 +18,8 @@ use Rattle.acq_message.proofs.essence.essence_of.Goals as goal
 use Rattle.acq_message.proofs.essence.essence_of.Goals.{in-Some+in_ok-put, in_default}
 
 -- the card number stands before all essential elements
-front : (es : List (ℕ × List ℕ)) (text : List ℕ) → with_content (filter (is_among essential) es) 2 text
+front : (es : List (ℕ × List ℕ)) (text : List ℕ) →
+    with_content (filter (is_among essential) es) 2 text
     ≡ (2, text) ∷ filter (is_among essential) es
 front [] text = refl
 front (e ∷ es) text =
@@ -30,7 +35,8 @@ four_digits : (s : Service) (digits : List ℕ) → digits ≡ digits_of s
     → get_or digits 0 0 ∷ get_or digits 1 0 ∷ get_or digits 2 0 ∷ 48 ∷ [] ≡ digits_of s ++ codes "0"
 four_digits s digits is = rw is (computed s)
   where
-    computed : (s : Service) → get_or (digits_of s) 0 0 ∷ get_or (digits_of s) 1 0 ∷ get_or (digits_of s) 2 0 ∷ 48 ∷ []
+    computed : (s : Service) →
+        get_or (digits_of s) 0 0 ∷ get_or (digits_of s) 1 0 ∷ get_or (digits_of s) 2 0 ∷ 48 ∷ []
         ≡ digits_of s ++ codes "0"
     computed Authorization = refl
     computed Financial = refl
@@ -47,13 +53,16 @@ selection m digits numbers = record {
   elements = filter (is_among numbers) m.elements;
 }
 
-with_card : (s : Service) (m essence : IsoMessage) (digits numbers number : List ℕ) → digits ≡ digits_of s
+with_card : (s : Service) (m essence : IsoMessage) (digits numbers number : List ℕ) →
+    digits ≡ digits_of s
     → numbers ≡ essential → Some number ≡ card_of m → essence ≡ selection m digits numbers
-    → spelling (record { kind = essence.kind; elements = with_content essence.elements 2 number }) ≡ essence_of s m
+    → spelling (record { kind = essence.kind; elements = with_content essence.elements 2 number })
+    ≡ essence_of s m
 with_card s m essence digits numbers number are_digits are_numbers is so =
     rw (so, four_digits s digits are_digits, are_numbers, front m.elements number, ← is) refl
 
-without_card : (s : Service) (m essence : IsoMessage) (digits numbers : List ℕ) → digits ≡ digits_of s
+without_card : (s : Service) (m essence : IsoMessage) (digits numbers : List ℕ) →
+    digits ≡ digits_of s
     → numbers ≡ essential → None ≡ card_of m → essence ≡ selection m digits numbers
     → spelling essence ≡ essence_of s m
 without_card s m essence digits numbers are_digits are_numbers is so =
@@ -65,8 +74,10 @@ whole c =
     let m = c.args.message.now in
     elim c.match-card_number_of.branch [
       | in-Some+in_ok-put w ↦
-          rw (w.essence-is, w.in_ok-put.ensures) (with_card c.args.service m c.in_ok-essence.essence c.digits.result
-          c.essential.result.now w.in-Some.number.now c.digits.ensures c.essential.ensures w.in-Some.ensures.value
+          rw (w.essence-is, w.in_ok-put.ensures)
+          (with_card c.args.service m c.in_ok-essence.essence c.digits.result
+          c.essential.result.now w.in-Some.number.now c.digits.ensures c.essential.ensures
+          w.in-Some.ensures.value
           c.in_ok-essence.ensures)
       | in_default w ↦
           rw w.essence-is (without_card c.args.service m c.in_ok-essence.essence c.digits.result

@@ -9,7 +9,9 @@ put-requires-2 c = net_fits _ c.net_text.result c.net_text.ensures
 
 pub returns : goal.returns
 returns c =
-    totals_set c.args.request.now c.args.day c.args.code c.args.in_balance c.args.totals.now c.in_ok-message.message
-    c.put.new.message c.put_counts.new.message c.put_amounts.new.message c.put-2.new.message c.balance_text.result
+    totals_set c.args.request.now c.args.day c.args.code c.args.in_balance c.args.totals.now
+    c.in_ok-message.message
+    c.put.new.message c.put_counts.new.message c.put_amounts.new.message c.put-2.new.message
+    c.balance_text.result
     c.net_text.result c.in_ok-message.ensures c.in_ok-put.ensures c.in_ok-put_counts.ensures
     c.in_ok-put_amounts.ensures c.in_ok-put-2.ensures c.balance_text.ensures c.net_text.ensures

@@ -5,4 +5,5 @@ use Rattle.acq_records.proofs.reading.field.Goals as goal
 
 pub unreachable-requires : goal.unreachable-requires
 unreachable-requires c =
-    field_there (fields_of c.args.fields.now) c.args.place c.requires (sym (rw c.in_default.is at c.get.ensures.value))
+    field_there (fields_of c.args.fields.now) c.args.place c.requires
+    (sym (rw c.in_default.is at c.get.ensures.value))

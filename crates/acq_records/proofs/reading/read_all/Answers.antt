@@ -9,7 +9,8 @@ loop-number-init g c = record {
   trim = c.requires.trim;
   ready = c.requires.ready;
   config = c.requires.config;
-  known = λ text left. stands-start g.F.RecordForm.spelled text _ _ _ left c.requires.start c.requires.empty;
+  known = λ text left. stands-start g.F.RecordForm.spelled text _ _ _ left c.requires.start
+      c.requires.empty;
 }
 
 pub loop-number-preserved : goal.loop-number-preserved
@@ -21,25 +22,31 @@ loop-number-preserved g c =
       trim = read.3 ∙ inv.trim;
       ready = inl (c.in-Ok-true.ensures.ready inv.trim);
       config = read.2 ∙ inv.config;
-      known = λ text left. stands-more g.F.RecordForm.spelled g.R.Read.remaining text c.loop-number.records c.read_byte_record.new.self
+      known = λ text left. stands-more g.F.RecordForm.spelled g.R.Read.remaining text
+          c.loop-number.records c.read_byte_record.new.self
           c.loop-number.values.items c.add_record.new.values.items c.loop-number.number
-          (fields_of c.read_byte_record.new.row) made.0 (inv.known text left) inv.config read made.1 made.2;
+          (fields_of c.read_byte_record.new.row) made.0 (inv.known text left) inv.config read made.1
+          made.2;
     }
 
 pub returns-in-Ok-false-clause-values : goal.returns-in-Ok-false-clause-values
 returns-in-Ok-false-clause-values g c = λ text left.
     let inv = c.loop-number.invariant in
     let read = rw c.in-Ok-false.field-0-test at (c.in-Ok-false.ensures.reads inv.trim inv.ready) in
-    stands-end g.F.RecordForm.spelled g.R.Read.remaining text c.loop-number.records c.read_byte_record.new.self c.loop-number.values.items
+    stands-end g.F.RecordForm.spelled g.R.Read.remaining text c.loop-number.records
+    c.read_byte_record.new.self c.loop-number.values.items
     c.loop-number.number
     (fields_of c.read_byte_record.new.row) (inv.known text left) inv.config read
 
-pub returns-in_err-add_record-in-Ok-true-clause-values : goal.returns-in_err-add_record-in-Ok-true-clause-values
+pub returns-in_err-add_record-in-Ok-true-clause-values
+    : goal.returns-in_err-add_record-in-Ok-true-clause-values
 returns-in_err-add_record-in-Ok-true-clause-values g c = λ text left.
     let inv = c.loop-number.invariant in
     let read = rw c.in-Ok-true.field-0-test at (c.in-Ok-true.ensures.reads inv.trim inv.ready) in
     let p = err_from_is_err_and c.from_residual.result c.from_residual.ensures.1 in
-    rw (p.1, p.2) (reads-failed g.F.RecordForm.spelled g.R.Read.remaining text c.loop-number.records c.read_byte_record.new.self
+    rw (p.1, p.2)
+    (reads-failed g.F.RecordForm.spelled g.R.Read.remaining text c.loop-number.records
+    c.read_byte_record.new.self
     c.loop-number.values.items c.loop-number.number
     (fields_of c.read_byte_record.new.row) _ (inv.known text left) inv.config read
     c.in_err-add_record-in-Ok-true.ensures.fault)

@@ -20,18 +20,22 @@ returns-clause-text g c = λ honest opened.
       | then-put w ↦
           let walked = w.walk_postings-walked in
           let h = rw (w.book-is) at honest in
-          let out = progress_more sent failures clearing_header lines start.result c.put.new.self walked.new.visitor
+          let out = progress_more sent failures clearing_header lines start.result c.put.new.self
+          walked.new.visitor
           walked.result w.if-put.ensures
           (progress sent failures (λ r. r) posting_line (λ r. Unit {0})
-          (λ old row more new. Puts sent failures (posting_line row) old more new) (λ v row more u kept seen. (seen, tt))
+          (λ old row more new. Puts sent failures (posting_line row) old more new)
+          (λ v row more u kept seen. (seen, tt))
           rows c.put.new.self walked.new.visitor walked.result tt (walked.ensures.seen h opened)
           (walked.ensures.begun h opened)) in
           rw (w.report-is, w.walked-is) out
       | else-put w ↦
-          let out = progress_stopped sent failures clearing_header lines start.result c.put.new.self w.if-put.ensures.0
+          let out = progress_stopped sent failures clearing_header lines start.result c.put.new.self
+          w.if-put.ensures.0
           w.if-put.ensures.1 in
           rw (w.report-is, w.walked-is) out
     ] in
-    finished sent failures text start.result c.if-put.report c.if-put.walked c.args.writer.now _ c.end.result
+    finished sent failures text start.result c.if-put.report c.if-put.walked c.args.writer.now _
+    c.end.result
     start.ensures.written start.ensures.stop start.ensures.writer
     (λ same. c.writer-1.given.1 (sym start.ensures.same_writer ∙ same)) c.end.ensures rest

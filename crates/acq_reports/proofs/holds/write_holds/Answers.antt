@@ -24,18 +24,23 @@ returns-clause-text g c = λ honest opened.
           let out = progress_more sent failures holds_header lines start.result c.put.new.self
           walked.new.visitor.report walked.result w.if-put.ensures
           (progress sent failures (λ v. v.report) (hold_line moment) (λ v. v.moment ≡ moment)
-          (λ old row more new. Puts sent failures (hold_line old.moment row) old.report more new.report
+          (λ old row more new. Puts sent failures (hold_line old.moment row) old.report more
+          new.report
           × (new.moment ≡ old.moment))
-          (λ v row more u kept seen.
-          (subst (λ m. Puts sent failures (hold_line m row) v.report more u.report) kept seen.0, seen.1 ∙ kept))
+          (λ v row more u kept seen. (
+            subst (λ m. Puts sent failures (hold_line m row) v.report more u.report) kept seen.0,
+            seen.1 ∙ kept,
+          ))
           rows _ walked.new.visitor walked.result refl (walked.ensures.seen h opened)
           (walked.ensures.begun h opened)) in
           rw (w.holds-is, w.walked-is) out
       | else-put w ↦
-          let out = progress_stopped sent failures holds_header lines start.result c.put.new.self w.if-put.ensures.0
+          let out = progress_stopped sent failures holds_header lines start.result c.put.new.self
+          w.if-put.ensures.0
           w.if-put.ensures.1 in
           rw (w.holds-is, w.walked-is) out
     ] in
-    finished sent failures text start.result c.if-put.holds.report c.if-put.walked c.args.writer.now _ c.end.result
+    finished sent failures text start.result c.if-put.holds.report c.if-put.walked c.args.writer.now
+    _ c.end.result
     start.ensures.written start.ensures.stop start.ensures.writer
     (λ same. c.writer-1.given.1 (sym start.ensures.same_writer ∙ same)) c.end.ensures rest

@@ -7,5 +7,6 @@ use Rattle.acq_reports.proofs.names.merchant_names.Goals as goal
 pub returns-clause-names : goal.returns-clause-names
 returns-clause-names g c = λ honest opened.
     let rows = merchants_at (g.B.Book.tables c.args.book.now) in
-    named rows _ c.walk_merchants.new.visitor (c.in_ok-walk_merchants.ensures.seen honest opened) c.if-seen.false
+    named rows _ c.walk_merchants.new.visitor (c.in_ok-walk_merchants.ensures.seen honest opened)
+    c.if-seen.false
     ∙ ap (λ names. names ++ names_of rows) c.new.ensures.items

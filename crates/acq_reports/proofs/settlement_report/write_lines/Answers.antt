@@ -9,8 +9,10 @@ pub returns-then-not-put_made-clause-text : goal.returns-then-not-put_made-claus
 returns-then-not-put_made-clause-text g c = λ honest opened.
     let day = c.args.day in
     let lines = flat_map (merchant_line (g.B.Book.tables c.args.book.now) day) c.args.names.now in
-    stopped_first g.K.Sink.sent g.K.Sink.failures (first_line day) lines (last_line (length c.args.names.now))
-    c.args.report.now c.put_made.new.self (c.if-not-put_made.ensures (first_line day) c.first_text.ensures)
+    stopped_first g.K.Sink.sent g.K.Sink.failures (first_line day) lines
+    (last_line (length c.args.names.now))
+    c.args.report.now c.put_made.new.self
+    (c.if-not-put_made.ensures (first_line day) c.first_text.ensures)
 
 pub returns-in-Ok-true-clause-text : goal.returns-in-Ok-true-clause-text
 returns-in-Ok-true-clause-text g c = λ honest opened.
@@ -19,7 +21,9 @@ returns-in-Ok-true-clause-text g c = λ honest opened.
     let day = c.args.day in
     let last = last_line (length c.args.names.now) in
     let lines = flat_map (merchant_line (g.B.Book.tables c.args.book.now) day) c.args.names.now in
-    let through = subst (λ more. Puts sent failures lines c.put_made.new.self more c.write_merchants.new.report)
+    let through =
+    subst (λ more. Puts sent failures lines c.put_made.new.self more
+    c.write_merchants.new.report)
     c.in-Ok-true.field-0-test (c.in-Ok-true.ensures.text honest opened) in
     put_last sent failures (first_line day) lines last c.args.report.now c.put_made.new.self
     c.write_merchants.new.report c.put_made-in-Ok-true.new.self c.put_made-in-Ok-true.result
@@ -32,9 +36,12 @@ returns-in-Ok-false-clause-text g c = λ honest opened.
     let failures = g.K.Sink.failures in
     let day = c.args.day in
     let lines = flat_map (merchant_line (g.B.Book.tables c.args.book.now) day) c.args.names.now in
-    let stopped = subst (λ more. Puts sent failures lines c.put_made.new.self more c.write_merchants.new.report)
+    let stopped =
+    subst (λ more. Puts sent failures lines c.put_made.new.self more
+    c.write_merchants.new.report)
     c.in-Ok-false.field-0-test (c.in-Ok-false.ensures.text honest opened) in
-    stopped_between sent failures (first_line day) lines (last_line (length c.args.names.now)) c.args.report.now
+    stopped_between sent failures (first_line day) lines (last_line (length c.args.names.now))
+    c.args.report.now
     c.put_made.new.self c.write_merchants.new.report
     (c.if-not-put_made.ensures (first_line day) c.first_text.ensures) stopped
 
@@ -42,6 +49,8 @@ pub returns-in-Err-clause-text : goal.returns-in-Err-clause-text
 returns-in-Err-clause-text g c = λ honest opened.
     let day = c.args.day in
     let lines = flat_map (merchant_line (g.B.Book.tables c.args.book.now) day) c.args.names.now in
-    failed_between g.K.Sink.sent g.K.Sink.failures (first_line day) lines (last_line (length c.args.names.now))
+    failed_between g.K.Sink.sent g.K.Sink.failures (first_line day) lines
+    (last_line (length c.args.names.now))
     c.args.report.now c.put_made.new.self c.write_merchants.new.report c.in-Err.fault
-    (c.if-not-put_made.ensures (first_line day) c.first_text.ensures) (c.in-Err.ensures.text honest opened)
+    (c.if-not-put_made.ensures (first_line day) c.first_text.ensures)
+    (c.in-Err.ensures.text honest opened)

@@ -15,19 +15,26 @@ returns-in-Ok-false-clause-text g c = λ honest opened.
     let middle = loop.invariant.0.stays_open refl before opened in
     let same = loop.invariant.0.same middle in
     let put = c.in-Ok-false.ensures.put (looks.stays_open refl honest middle) in
-    let stopped = subst (λ more. Puts sent failures (merchant_line (g.B.Book.tables loop.book) c.args.day
-    c.name-item.result) loop.report more c.write_merchant.new.report) c.in-Ok-false.field-0-test put in
-    stopped_here sent failures (merchant_line (g.B.Book.tables c.args.book.now) c.args.day) c.args.names.now
-    loop.name-index c.name-item.result c.loop-name-test.true c.name-item.is c.args.report.now loop.report
+    let stopped =
+    subst (λ more. Puts sent failures (merchant_line (g.B.Book.tables loop.book) c.args.day
+    c.name-item.result) loop.report more c.write_merchant.new.report) c.in-Ok-false.field-0-test put
+    in
+    stopped_here sent failures (merchant_line (g.B.Book.tables c.args.book.now) c.args.day)
+    c.args.names.now
+    loop.name-index c.name-item.result c.loop-name-test.true c.name-item.is c.args.report.now
+    loop.report
     c.write_merchant.new.report (loop.invariant.1 before opened) (rw (same) at stopped)
 
 pub returns-in-Err-clause-text : goal.returns-in-Err-clause-text
 returns-in-Err-clause-text g c = λ honest opened.
     let loop = c.loop-name in
     let before = c.in-Err.ensures.looks.was_honest honest in
-    failed_here g.K.Sink.sent g.K.Sink.failures (merchant_line (g.B.Book.tables c.args.book.now) c.args.day)
-    c.args.names.now loop.name-index c.name-item.result c.loop-name-test.true c.name-item.is c.args.report.now
-    loop.report c.write_merchant.new.report c.in-Err.fault (loop.invariant.1 before opened) c.in-Err.ensures.unput
+    failed_here g.K.Sink.sent g.K.Sink.failures
+    (merchant_line (g.B.Book.tables c.args.book.now) c.args.day)
+    c.args.names.now loop.name-index c.name-item.result c.loop-name-test.true c.name-item.is
+    c.args.report.now
+    loop.report c.write_merchant.new.report c.in-Err.fault (loop.invariant.1 before opened)
+    c.in-Err.ensures.unput
 
 pub loop-name-preserved : goal.loop-name-preserved
 loop-name-preserved g c =
@@ -35,16 +42,21 @@ loop-name-preserved g c =
     let failures = g.K.Sink.failures in
     let loop = c.loop-name in
     let looks = c.in-Ok-true.ensures.looks in (
-      looks_more g.B.Book.tables g.B.Book.is_honest g.B.Book.is_open g.B.Book.may_leave g.B.Book.failures
+      looks_more g.B.Book.tables g.B.Book.is_honest g.B.Book.is_open g.B.Book.may_leave
+          g.B.Book.failures
           c.args.book.now loop.book c.write_merchant.new.book true loop.invariant.0 looks,
       (λ honest opened.
           let before = looks.was_honest honest in
           let middle = loop.invariant.0.stays_open refl before opened in
           let same = loop.invariant.0.same middle in
           let put = c.in-Ok-true.ensures.put (looks.stays_open refl honest middle) in
-          let went = subst (λ more. Puts sent failures (merchant_line (g.B.Book.tables loop.book) c.args.day
-          c.name-item.result) loop.report more c.write_merchant.new.report) c.in-Ok-true.field-0-test put in
-          went_here sent failures (merchant_line (g.B.Book.tables c.args.book.now) c.args.day) c.args.names.now
-          loop.name-index c.name-item.result c.loop-name-test.true c.name-item.is c.args.report.now loop.report
+          let went = subst (λ more. Puts sent failures
+          (merchant_line (g.B.Book.tables loop.book) c.args.day
+          c.name-item.result) loop.report more c.write_merchant.new.report)
+          c.in-Ok-true.field-0-test put in
+          went_here sent failures (merchant_line (g.B.Book.tables c.args.book.now) c.args.day)
+          c.args.names.now
+          loop.name-index c.name-item.result c.loop-name-test.true c.name-item.is c.args.report.now
+          loop.report
           c.write_merchant.new.report (loop.invariant.1 before opened) (rw (same) at went)),
     )

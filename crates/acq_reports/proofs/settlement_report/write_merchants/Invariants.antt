@@ -8,7 +8,9 @@ use Rattle.acq_reports.proofs.settlement_report.write_merchants.Given as goal
 
 abbrev pub invariant-loop-name : goal.invariant-loop-name
 invariant-loop-name g l =
-    Looks g.B.Book.tables g.B.Book.is_honest g.B.Book.is_open g.B.Book.may_leave g.B.Book.failures l.fn.book l.book true
+    Looks g.B.Book.tables g.B.Book.is_honest g.B.Book.is_open g.B.Book.may_leave g.B.Book.failures
+    l.fn.book l.book true
     × (g.B.Book.is_honest l.book → g.B.Book.is_open l.fn.book
     → WentOut g.K.Sink.sent g.K.Sink.failures
-    (flat_map (merchant_line (g.B.Book.tables l.fn.book) l.day) (take l.name-index l.names)) l.fn.report l.report)
+    (flat_map (merchant_line (g.B.Book.tables l.fn.book) l.day) (take l.name-index l.names))
+    l.fn.report l.report)

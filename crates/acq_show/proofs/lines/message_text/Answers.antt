@@ -9,7 +9,8 @@ pub loop-number-init : goal.loop-number-init
 loop-number-init c =
     let m = c.args.message.now in
     lines_begin element_line m c.put_type.new.text.items (type_line m.kind) c.requires
-    (c.in_ok-put_type.ensures ∙ ap (λ (x : List ℕ). x ++ type_line c.kind.result) c.new-text.ensures.items
+    (c.in_ok-put_type.ensures ∙ ap (λ (x : List ℕ). x ++ type_line c.kind.result)
+    c.new-text.ensures.items
     ∙ ap type_line c.kind.ensures)
 
 pub loop-number-preserved : goal.loop-number-preserved
@@ -20,12 +21,14 @@ loop-number-preserved c =
     let front = type_line m.kind in
     elim c.match-get.branch [
       | in-Some+in_ok-put_element w ↦
-          lines_more element_line m n old c.match-get.text.items front w.in-Some.content.now c.requires
+          lines_more element_line m n old c.match-get.text.items front w.in-Some.content.now
+          c.requires
           w.in-Some.ensures.value c.loop-number.invariant
           (ap (λ text. text.items) w.text-is ∙ w.in_ok-put_element.ensures)
       | in_default w ↦
           ap (λ text. text.items) w.text-is
-          ∙ lines_same element_line m n old front c.requires w.in_default.ensures.value c.loop-number.invariant
+          ∙ lines_same element_line m n old front c.requires w.in_default.ensures.value
+          c.loop-number.invariant
     ]
 
 pub returns : goal.returns
@@ -33,5 +36,6 @@ returns c =
     let m = c.args.message.now in
     let all : c.loop-number.number ≡ 129 = omega arith in
     lines_end element_line m c.loop-number.text.items (type_line m.kind) c.requires
-    (subst (λ (n : ℕ). c.loop-number.text.items ≡ type_line m.kind ++ flat_map element_line (below n m.elements)) all
+    (subst (λ (n : ℕ). c.loop-number.text.items ≡ type_line m.kind ++ flat_map element_line
+    (below n m.elements)) all
     c.loop-number.invariant)

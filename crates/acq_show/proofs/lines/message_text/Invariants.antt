@@ -6,4 +6,5 @@ use Rattle.acq_show.proofs.lines.message_text.Given as goal
 
 abbrev pub invariant-loop-number : goal.invariant-loop-number
 invariant-loop-number l =
-    l.text.items ≡ type_line l.message.kind ++ flat_map element_line (below l.number l.message.elements)
+    l.text.items ≡ type_line l.message.kind ++ flat_map element_line
+    (below l.number l.message.elements)

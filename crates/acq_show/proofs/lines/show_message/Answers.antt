@@ -7,7 +7,8 @@ use Rattle.acq_show.specs.Shown.{shown, fault_line}
 use Rattle.acq_show.proofs.lines.show_message.Goals as goal
 
 -- the text's own fault, where memory sufficed
-own_fault : (text : List ℕ) (f : DecodeFault) → (f ≡ Memory → ⊥) → (f ≡ Memory) ⊎ (reading_of text ≡ Err f)
+own_fault : (text : List ℕ) (f : DecodeFault) → (f ≡ Memory → ⊥) →
+    (f ≡ Memory) ⊎ (reading_of text ≡ Err f)
     → reading_of text ≡ Err f
 own_fault text f not (inl memory) = absurd (not memory)
 own_fault text f not (inr read) = read
@@ -21,5 +22,6 @@ unfolding shown
 returns-in_default c =
     let f = c.in-Err.fault in
     let read = own_fault c.args.message.now f c.in_default.not-Memory c.in-Err.ensures.exact in
-    rw read (subst (λ (place : ℕ). IfOk c.fault_text.result (λ text. text.items ≡ fault_line f place))
+    rw read (subst (λ (place : ℕ). IfOk c.fault_text.result
+    (λ text. text.items ≡ fault_line f place))
     c.fault_place.ensures c.fault_text.ensures)

@@ -27,4 +27,5 @@ returns-in-Some-clause-crash g c =
 
 pub returns-clause-crash : goal.returns-clause-crash
 returns-clause-crash g c =
-    rw c.in-None.is (survives_weaker _ _ _ _ (λ _ db left t at suits. left t at) c.answer.ensures.crash)
+    rw c.in-None.is
+    (survives_weaker _ _ _ _ (λ _ db left t at suits. left t at) c.answer.ensures.crash)

@@ -25,5 +25,6 @@ returns-clause-crash g c =
     let of = c.args.original in
     let status = c.args.status in
     rw c.in-None.is
-    (stops_for _ _ (Suits (change.Follow r of status None)) (HasRoomFor r) (with_follow r of status None)
+    (stops_for _ _ (Suits (change.Follow r of status None)) (HasRoomFor r)
+    (with_follow r of status None)
     (λ t suits. suits.0.0.used) c.follow.ensures.crash)

@@ -8,5 +8,6 @@ use Rattle.acq_sql_apply.proofs.requests.add_request.Goals as goal
 pub returns-clause-crash : goal.returns-clause-crash
 returns-clause-crash g c =
     let r = c.args.request.now in
-    stops_for _ _ (Suits (change.AddRequest r)) (HasRoomFor r) (with_request r) (λ t suits. suits.0.used)
+    stops_for _ _ (Suits (change.AddRequest r)) (HasRoomFor r) (with_request r)
+    (λ t suits. suits.0.used)
     c.record_request.ensures.crash

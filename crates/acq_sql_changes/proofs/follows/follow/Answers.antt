@@ -4,8 +4,10 @@ use Rattle.acq_core.specs.Tables.{Tables, followed_row}
 use Rattle.acq_sql_rows.specs.Tallies.{request_tally}
 use Rattle.acq_sql_writes.specs.Written.{with_status, with_request}
 use Rattle.acq_sql_changes.specs.Changed.{HasRoomFor, with_follow}
-use Rattle.acq_sql_changes.proofs.Commits.{Makes, began, wrote, makes_raised, committed, stops_within}
-use Rattle.acq_sql_changes.proofs.ListTallies.{LeavesDay, changed_tally, comes_after, tally_requested}
+use Rattle.acq_sql_changes.proofs.Commits.{Makes, began, wrote, makes_raised, committed}
+use Rattle.acq_sql_changes.proofs.Commits.{stops_within}
+use Rattle.acq_sql_changes.proofs.ListTallies.{LeavesDay, changed_tally, comes_after}
+use Rattle.acq_sql_changes.proofs.ListTallies.{tally_requested}
 use Rattle.acq_sql_changes.proofs.Room.{changed_short, changed_room, request_short}
 use Rattle.acq_sql_changes.proofs.follows.follow.Given.{Over}
 use Rattle.acq_sql_changes.proofs.follows.follow.Goals as goal
@@ -35,14 +37,16 @@ made g c =
     (HasRoomFor r) (with_follow r of status None)
     (λ t _. comes_after t (early t) (with_request r (early t)) _ _ _ (changed_tally t of u kept)
     (tally_requested (early t) r))
-    (λ t room short. request_short (early t) r (changed_short t of u kept short) (changed_room t of u kept r room))
+    (λ t room short. request_short (early t) r (changed_short t of u kept short)
+    (changed_room t of u kept r room))
     (λ t _. refl)
 
 pub returns-clause-done : goal.returns-clause-done
 returns-clause-done g c =
     let same : c.commit.new.self.0 ≡ c.conn-2-1.given.0 = search rules in
     let whole = made g (goal.at.returns-clause-done g c).After-commit in
-    committed (state g.S.Store) _ _ _ _ same _ _ whole c.commit.ensures.survives c.commit.result c.commit.ensures.ok
+    committed (state g.S.Store) _ _ _ _ same _ _ whole c.commit.ensures.survives c.commit.result
+    c.commit.ensures.ok
 
 pub returns-clause-crash : goal.returns-clause-crash
 returns-clause-crash g c =

@@ -3,8 +3,10 @@ use Rattle.sqlite.specs.Held.{state}
 use Rattle.acq_core.specs.Tables.{Tables, followed_row}
 use Rattle.acq_sql_writes.specs.Written.{with_status, with_request, with_posting}
 use Rattle.acq_sql_changes.specs.Changed.{HasRoomToFollow, with_follow}
-use Rattle.acq_sql_changes.proofs.Commits.{Makes, began, wrote, makes_raised, committed, stops_within}
-use Rattle.acq_sql_changes.proofs.ListTallies.{LeavesDay, request_and_posting_tally, changed_tally, comes_after}
+use Rattle.acq_sql_changes.proofs.Commits.{Makes, began, wrote, makes_raised, committed}
+use Rattle.acq_sql_changes.proofs.Commits.{stops_within}
+use Rattle.acq_sql_changes.proofs.ListTallies.{LeavesDay, request_and_posting_tally, changed_tally}
+use Rattle.acq_sql_changes.proofs.ListTallies.{comes_after}
 use Rattle.acq_sql_changes.proofs.ListTallies.{tally_followed}
 use Rattle.acq_sql_changes.proofs.Room.{changed_short, changed_room, request_short, posting_short}
 use Rattle.acq_sql_changes.proofs.follows.follow_and_post.Given.{Over}
@@ -12,7 +14,8 @@ use Rattle.acq_sql_changes.proofs.follows.follow_and_post.Goals as goal
 use Rattle.acq_sql_changes.proofs.follows.follow_and_post.Goals.{After-commit}
 
 made : (g : Over) (c : After-commit g) → Makes (state g.S.Store c.args.conn.now)
-    (state g.S.Store c.raise.new.tx.conn.now) (HasRoomToFollow c.args.request.now c.args.number c.args.posting.now)
+    (state g.S.Store c.raise.new.tx.conn.now)
+    (HasRoomToFollow c.args.request.now c.args.number c.args.posting.now)
     (with_follow c.args.request.now c.args.original c.args.status (Some c.args.posting.now))
 made g c =
     let r = c.args.request.now in
@@ -38,17 +41,20 @@ made g c =
     r.key.merchant r.day (request_and_posting_tally r p)
     (rw (c.used_by-used.ensures.value, c.totals_of_posting-posted.ensures) at raise.ensures.raises)
     (HasRoomToFollow r n p) (with_follow r of status (Some p))
-    (λ t room. comes_after t (early t) (with_posting n p (with_request r (early t))) _ _ _ (changed_tally t of u kept)
+    (λ t room. comes_after t (early t) (with_posting n p (with_request r (early t))) _ _ _
+    (changed_tally t of u kept)
     (tally_followed (early t) n r p room.2))
     (λ t room short. posting_short (with_request r (early t)) n p
-    (request_short (early t) r (changed_short t of u kept short) (changed_room t of u kept r room.0)) room.1.0)
+    (request_short (early t) r (changed_short t of u kept short)
+    (changed_room t of u kept r room.0)) room.1.0)
     (λ t room. ap (λ k. with_posting k p (with_request r (early t))) room.1.1)
 
 pub returns-clause-done : goal.returns-clause-done
 returns-clause-done g c =
     let same : c.commit.new.self.0 ≡ c.conn-2-1.given.0 = search rules in
     let whole = made g (goal.at.returns-clause-done g c).After-commit in
-    committed (state g.S.Store) _ _ _ _ same _ _ whole c.commit.ensures.survives c.commit.result c.commit.ensures.ok
+    committed (state g.S.Store) _ _ _ _ same _ _ whole c.commit.ensures.survives c.commit.result
+    c.commit.ensures.ok
 
 pub returns-clause-crash : goal.returns-clause-crash
 returns-clause-crash g c =

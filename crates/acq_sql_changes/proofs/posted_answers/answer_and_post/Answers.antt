@@ -4,7 +4,8 @@ use Rattle.acq_core.specs.Tables.{Tables, answered_row}
 use Rattle.acq_sql_rows.specs.Tallies.{posting_tally}
 use Rattle.acq_sql_writes.specs.Written.{with_answer, with_posting}
 use Rattle.acq_sql_changes.specs.Changed.{HasRoomToPost, with_whole_answer}
-use Rattle.acq_sql_changes.proofs.Commits.{Makes, began, wrote, makes_raised, committed, stops_within}
+use Rattle.acq_sql_changes.proofs.Commits.{Makes, began, wrote, makes_raised, committed}
+use Rattle.acq_sql_changes.proofs.Commits.{stops_within}
 use Rattle.acq_sql_changes.proofs.ListTallies.{LeavesDay, changed_tally, comes_after, tally_posted}
 use Rattle.acq_sql_changes.proofs.Room.{changed_short, posting_short}
 use Rattle.acq_sql_changes.proofs.posted_answers.answer_and_post.Given.{Over}
@@ -34,7 +35,8 @@ made g c =
     (with_posting n p) post.ensures.changes in
     let raise = c.in_ok-raise in
     makes_raised _ _ _ _ raise.field-0 posted raise.ensures.inside raise.ensures.survives
-    p.merchant p.day (posting_tally p) (rw c.totals_of_posting-posted.ensures at raise.ensures.raises)
+    p.merchant p.day (posting_tally p)
+    (rw c.totals_of_posting-posted.ensures at raise.ensures.raises)
     (HasRoomToPost n p) (with_whole_answer of status reply end (Some p))
     (λ t _. comes_after t (early t) (with_posting n p (early t)) _ _ _ (changed_tally t of u kept)
     (tally_posted (early t) n p))
@@ -45,7 +47,8 @@ pub returns-clause-done : goal.returns-clause-done
 returns-clause-done g c =
     let same : c.commit.new.self.0 ≡ c.conn-2-1.given.0 = search rules in
     let whole = made g (goal.at.returns-clause-done g c).After-commit in
-    committed (state g.S.Store) _ _ _ _ same _ _ whole c.commit.ensures.survives c.commit.result c.commit.ensures.ok
+    committed (state g.S.Store) _ _ _ _ same _ _ whole c.commit.ensures.survives c.commit.result
+    c.commit.ensures.ok
 
 pub returns-clause-crash : goal.returns-clause-crash
 returns-clause-crash g c =

@@ -1,7 +1,8 @@
 use Rattle.std.proofs.Common.{◌≡◌, refl, rules}
 use Rattle.sqlite.specs.Held.{state}
 use Rattle.acq_sql_writes.specs.Written.{with_added_range}
-use Rattle.acq_sql_changes.proofs.Commits.{Makes, began, wrote, makes, committed, stops_within, of_all}
+use Rattle.acq_sql_changes.proofs.Commits.{Makes, began, wrote, makes, committed, stops_within}
+use Rattle.acq_sql_changes.proofs.Commits.{of_all}
 use Rattle.acq_sql_changes.proofs.ranges.add_range.Given.{Over}
 use Rattle.acq_sql_changes.proofs.ranges.add_range.Goals as goal
 use Rattle.acq_sql_changes.proofs.ranges.add_range.Goals.{After-commit}
@@ -20,7 +21,8 @@ pub returns-clause-done : goal.returns-clause-done
 returns-clause-done g c clean t at =
     let same : c.commit.new.self.0 ≡ c.conn-2-1.given.0 = search rules in
     let whole = made g (goal.at.returns-clause-done g c).After-commit in
-    committed (state g.S.Store) _ _ _ _ same _ _ whole c.commit.ensures.survives c.commit.result c.commit.ensures.ok
+    committed (state g.S.Store) _ _ _ _ same _ _ whole c.commit.ensures.survives c.commit.result
+    c.commit.ensures.ok
     clean t at tt
 
 pub returns-clause-crash : goal.returns-clause-crash

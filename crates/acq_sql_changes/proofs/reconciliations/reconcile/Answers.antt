@@ -3,7 +3,8 @@ use Rattle.sqlite.specs.Held.{state}
 use Rattle.acq_sql_rows.specs.Tallies.{request_tally}
 use Rattle.acq_sql_writes.specs.Written.{with_request, with_reconciliation}
 use Rattle.acq_sql_changes.specs.Changed.{HasRoomToReconcile, with_reconciled}
-use Rattle.acq_sql_changes.proofs.Commits.{Makes, began, wrote, makes_raised, committed, stops_within}
+use Rattle.acq_sql_changes.proofs.Commits.{Makes, began, wrote, makes_raised, committed}
+use Rattle.acq_sql_changes.proofs.Commits.{stops_within}
 use Rattle.acq_sql_changes.proofs.ListTallies.{tally_requested}
 use Rattle.acq_sql_changes.proofs.Room.{request_short}
 use Rattle.acq_sql_changes.proofs.reconciliations.reconcile.Given.{Over}
@@ -23,7 +24,8 @@ made g c =
     let added = wrote _ _ _ _ add.field-0 begin add.ensures.inside add.ensures.survives
     (with_request r) add.ensures.changes in
     let reconcile = c.in_ok-add_reconciliation in
-    let reconciled = wrote _ _ _ _ reconcile.field-0 added reconcile.ensures.inside reconcile.ensures.survives
+    let reconciled =
+    wrote _ _ _ _ reconcile.field-0 added reconcile.ensures.inside reconcile.ensures.survives
     (with_reconciliation n x) reconcile.ensures.changes in
     let raise = c.in_ok-raise in
     makes_raised _ _ _ _ raise.field-0 reconciled raise.ensures.inside raise.ensures.survives
@@ -37,7 +39,8 @@ pub returns-clause-done : goal.returns-clause-done
 returns-clause-done g c =
     let same : c.commit.new.self.0 ≡ c.conn-2-1.given.0 = search rules in
     let whole = made g (goal.at.returns-clause-done g c).After-commit in
-    committed (state g.S.Store) _ _ _ _ same _ _ whole c.commit.ensures.survives c.commit.result c.commit.ensures.ok
+    committed (state g.S.Store) _ _ _ _ same _ _ whole c.commit.ensures.survives c.commit.result
+    c.commit.ensures.ok
 
 pub returns-clause-crash : goal.returns-clause-crash
 returns-clause-crash g c =

@@ -3,7 +3,8 @@ use Rattle.sqlite.specs.Held.{state}
 use Rattle.acq_sql_rows.specs.Tallies.{request_tally}
 use Rattle.acq_sql_writes.specs.Written.{with_request}
 use Rattle.acq_sql_changes.specs.Changed.{HasRoomFor}
-use Rattle.acq_sql_changes.proofs.Commits.{Makes, began, wrote, makes_raised, committed, stops_within}
+use Rattle.acq_sql_changes.proofs.Commits.{Makes, began, wrote, makes_raised, committed}
+use Rattle.acq_sql_changes.proofs.Commits.{stops_within}
 use Rattle.acq_sql_changes.proofs.ListTallies.{tally_requested}
 use Rattle.acq_sql_changes.proofs.Room.{request_short}
 use Rattle.acq_sql_changes.proofs.requests.record_request.Given.{Over}
@@ -23,14 +24,16 @@ made g c =
     makes_raised _ _ _ _ raise.field-0 added raise.ensures.inside raise.ensures.survives
     r.key.merchant r.day (request_tally r)
     (rw (c.used_by-used.ensures.value, c.zero-none.ensures.value) at raise.ensures.raises)
-    (HasRoomFor r) (with_request r) (λ t _. tally_requested t r) (λ t room short. request_short t r short room)
+    (HasRoomFor r) (with_request r) (λ t _. tally_requested t r)
+    (λ t room short. request_short t r short room)
     (λ t _. refl)
 
 pub returns-clause-done : goal.returns-clause-done
 returns-clause-done g c =
     let same : c.commit.new.self.0 ≡ c.conn-2-1.given.0 = search rules in
     let whole = made g (goal.at.returns-clause-done g c).After-commit in
-    committed (state g.S.Store) _ _ _ _ same _ _ whole c.commit.ensures.survives c.commit.result c.commit.ensures.ok
+    committed (state g.S.Store) _ _ _ _ same _ _ whole c.commit.ensures.survives c.commit.result
+    c.commit.ensures.ok
 
 pub returns-clause-crash : goal.returns-clause-crash
 returns-clause-crash g c =

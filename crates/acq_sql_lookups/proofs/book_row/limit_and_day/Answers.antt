@@ -8,6 +8,7 @@ pub returns-in-Some-clause-answers : goal.returns-in-Some-clause-answers
 returns-in-Some-clause-answers g c clean t holds =
     let rows = c.in_ok-rows.rows.items in
     IfOk-weaker c.read_row.result _ _
-    (λ x read. pair_read t.limit t.day rows c.in-Some.row.now x (c.in_ok-rows.ensures.answers clean t holds)
+    (λ x read. pair_read t.limit t.day rows c.in-Some.row.now x
+    (c.in_ok-rows.ensures.answers clean t holds)
     (c.in-Some.ensures.value ∙ ap (λ l. slice_get l 0) c.deref.ensures.value) read)
     c.read_row.ensures

@@ -15,7 +15,8 @@ returns-in_default-clause-answers g c clean t holds past =
 pub returns-in_err-greatest-clause-looks : goal.returns-in_err-greatest-clause-looks
 returns-in_err-greatest-clause-looks g c =
     let looks = looks_then (state g.S.Store c.args.conn.now) (state g.S.Store c.merchant.new.conn)
-    (state g.S.Store c.greatest_reference.new.conn) c.in_ok-enrolled.ensures.looks _ c.in_err-greatest.ensures.looks in
+    (state g.S.Store c.greatest_reference.new.conn) c.in_ok-enrolled.ensures.looks _
+    c.in_err-greatest.ensures.looks in
     search rules
 
 pub returns-clause-answers : goal.returns-clause-answers
@@ -26,6 +27,7 @@ returns-clause-answers g c clean t holds past =
     let first = c.in_ok-enrolled.ensures.looks in
     let before = clean_before old mid new first c.in_ok-greatest.ensures.looks.stop clean in
     let enrolled = sym (sym c.in-Some.is ∙ c.in_ok-enrolled.ensures.answers before t holds) in
-    let many = c.in_ok-greatest.ensures.answers clean t (holds_still old mid new first before t holds) past
+    let many = c.in_ok-greatest.ensures.answers clean t
+    (holds_still old mid new first before t holds) past
     c.in-Some.enrolled enrolled in
     IfOk-weaker c.count_from.result _ _ (λ n is. is ∙ sym many) c.count_from.ensures

@@ -20,5 +20,6 @@ pub returns-clause-looks : goal.returns-clause-looks
 returns-clause-looks g c =
     looks greatest_text (Text c.to_bytes-merchant.result ∷ [])
     (state g.S.Store c.args.conn.now) (state g.S.Store c.query_all.new.self)
-    greatest_asks.begins (λ rows. rows.items) c.query_all.result c.query_all.ensures.ok c.query_all.ensures.err c.query_all.ensures.mode
+    greatest_asks.begins (λ rows. rows.items) c.query_all.result c.query_all.ensures.ok
+    c.query_all.ensures.err c.query_all.ensures.mode
     c.query_all.ensures.survives

@@ -12,7 +12,8 @@ use Rattle.acq_sql_lookups.proofs.counts.pending_rows.Goals as goal
 pub returns-clause-answers : goal.returns-clause-answers
 returns-clause-answers g c clean t holds =
     IfOk-weaker c.query_all.result _ _
-    (λ rows shown. pending_found c.args.day (state g.S.Store c.args.conn.now) (state g.S.Store c.query_all.new.self)
+    (λ rows shown. pending_found c.args.day (state g.S.Store c.args.conn.now)
+    (state g.S.Store c.query_all.new.self)
     t holds.runs rows.items holds.rows (rw (c.day_value.ensures) at shown))
     (c.query_all.ensures.ok clean)
 
@@ -20,5 +21,6 @@ pub returns-clause-looks : goal.returns-clause-looks
 returns-clause-looks g c =
     looks pending_text (bound_value (owned c.day_value.result) ∷ [])
     (state g.S.Store c.args.conn.now) (state g.S.Store c.query_all.new.self)
-    pending_asks.begins (λ rows. rows.items) c.query_all.result c.query_all.ensures.ok c.query_all.ensures.err c.query_all.ensures.mode
+    pending_asks.begins (λ rows. rows.items) c.query_all.result c.query_all.ensures.ok
+    c.query_all.ensures.err c.query_all.ensures.mode
     c.query_all.ensures.survives

@@ -11,7 +11,8 @@ use Rattle.acq_sql_lookups.proofs.enrolments.merchant_rows.Goals as goal
 pub returns-clause-answers : goal.returns-clause-answers
 returns-clause-answers g c clean t holds =
     IfOk-weaker c.query_all.result _ _
-    (λ rows shown. merchant_found c.args.id (state g.S.Store c.args.conn.now) (state g.S.Store c.query_all.new.self)
+    (λ rows shown. merchant_found c.args.id (state g.S.Store c.args.conn.now)
+    (state g.S.Store c.query_all.new.self)
     t holds.runs rows.items holds.rows (rw (c.to_bytes-id.ensures.value) at shown))
     (c.query_all.ensures.ok clean)
 
@@ -19,5 +20,6 @@ pub returns-clause-looks : goal.returns-clause-looks
 returns-clause-looks g c =
     looks merchant_text (Text c.to_bytes-id.result ∷ [])
     (state g.S.Store c.args.conn.now) (state g.S.Store c.query_all.new.self)
-    merchant_asks.begins (λ rows. rows.items) c.query_all.result c.query_all.ensures.ok c.query_all.ensures.err c.query_all.ensures.mode
+    merchant_asks.begins (λ rows. rows.items) c.query_all.result c.query_all.ensures.ok
+    c.query_all.ensures.err c.query_all.ensures.mode
     c.query_all.ensures.survives

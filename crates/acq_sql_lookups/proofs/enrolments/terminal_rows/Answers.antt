@@ -13,12 +13,14 @@ returns-clause-answers g c clean t holds =
     IfOk-weaker c.query_all.result _ _
     (λ rows shown. terminal_found c.args.merchant c.args.id
     (state g.S.Store c.args.conn.now) (state g.S.Store c.query_all.new.self)
-    t holds.runs rows.items holds.rows (rw (c.to_bytes-merchant.ensures.value, c.to_bytes-id.ensures.value) at shown))
+    t holds.runs rows.items holds.rows
+    (rw (c.to_bytes-merchant.ensures.value, c.to_bytes-id.ensures.value) at shown))
     (c.query_all.ensures.ok clean)
 
 pub returns-clause-looks : goal.returns-clause-looks
 returns-clause-looks g c =
     looks terminal_text (Text c.to_bytes-merchant.result ∷ Text c.to_bytes-id.result ∷ [])
     (state g.S.Store c.args.conn.now) (state g.S.Store c.query_all.new.self)
-    terminal_asks.begins (λ rows. rows.items) c.query_all.result c.query_all.ensures.ok c.query_all.ensures.err c.query_all.ensures.mode
+    terminal_asks.begins (λ rows. rows.items) c.query_all.result c.query_all.ensures.ok
+    c.query_all.ensures.err c.query_all.ensures.mode
     c.query_all.ensures.survives

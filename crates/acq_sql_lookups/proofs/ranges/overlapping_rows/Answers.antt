@@ -14,12 +14,15 @@ returns-clause-answers g c clean t holds =
     IfOk-weaker c.query_all.result _ _
     (λ rows shown. overlapping_found c.args.low c.args.high
     (state g.S.Store c.args.conn.now) (state g.S.Store c.query_all.new.self)
-    t holds.runs rows.items holds.rows (rw (c.short_value.ensures, c.short_value-2.ensures) at shown))
+    t holds.runs rows.items holds.rows
+    (rw (c.short_value.ensures, c.short_value-2.ensures) at shown))
     (c.query_all.ensures.ok clean)
 
 pub returns-clause-looks : goal.returns-clause-looks
 returns-clause-looks g c =
-    looks overlapping_text (bound_value (owned c.short_value.result) ∷ bound_value (owned c.short_value-2.result) ∷ [])
+    looks overlapping_text
+    (bound_value (owned c.short_value.result) ∷ bound_value (owned c.short_value-2.result) ∷ [])
     (state g.S.Store c.args.conn.now) (state g.S.Store c.query_all.new.self)
-    overlapping_asks.begins (λ rows. rows.items) c.query_all.result c.query_all.ensures.ok c.query_all.ensures.err c.query_all.ensures.mode
+    overlapping_asks.begins (λ rows. rows.items) c.query_all.result c.query_all.ensures.ok
+    c.query_all.ensures.err c.query_all.ensures.mode
     c.query_all.ensures.survives

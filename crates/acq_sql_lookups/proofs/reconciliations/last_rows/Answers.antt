@@ -15,12 +15,15 @@ returns-clause-answers g c clean t holds past =
     IfOk-weaker c.query_all.result _ _
     (λ rows shown. reconciliation_found c.args.merchant c.args.day
     (state g.S.Store c.args.conn.now) (state g.S.Store c.query_all.new.self)
-    t holds.runs rows.items holds.rows past (rw (c.to_bytes-merchant.ensures.value, c.day_value.ensures) at shown))
+    t holds.runs rows.items holds.rows past
+    (rw (c.to_bytes-merchant.ensures.value, c.day_value.ensures) at shown))
     (c.query_all.ensures.ok clean)
 
 pub returns-clause-looks : goal.returns-clause-looks
 returns-clause-looks g c =
-    looks reconciliation_text (bound_value (owned c.day_value.result) ∷ Text c.to_bytes-merchant.result ∷ [])
+    looks reconciliation_text
+    (bound_value (owned c.day_value.result) ∷ Text c.to_bytes-merchant.result ∷ [])
     (state g.S.Store c.args.conn.now) (state g.S.Store c.query_all.new.self)
-    reconciliation_asks.begins (λ rows. rows.items) c.query_all.result c.query_all.ensures.ok c.query_all.ensures.err c.query_all.ensures.mode
+    reconciliation_asks.begins (λ rows. rows.items) c.query_all.result c.query_all.ensures.ok
+    c.query_all.ensures.err c.query_all.ensures.mode
     c.query_all.ensures.survives

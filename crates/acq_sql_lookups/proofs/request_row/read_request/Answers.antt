@@ -23,7 +23,8 @@ returns c len =
             reply = c.in_ok-reply.reply;
           })
           reply.0 len c.in_ok-key.ensures c.in_ok-essence.ensures c.in_ok-day.ensures
-          c.in_ok-status.ensures c.in_ok-admitted.ensures c.in_ok-reference.ensures c.in_ok-follows.ensures
+          c.in_ok-status.ensures c.in_ok-admitted.ensures c.in_ok-reference.ensures
+          c.in_ok-follows.ensures
           c.in_ok-amount.ensures c.in_ok-leg.ensures c.in_ok-card.ensures c.in_ok-acquirer.ensures
           c.in_ok-hold_days.ensures c.in_ok-hold_end.ensures reply.1,
       reply.2,

@@ -11,7 +11,8 @@ use Rattle.acq_sql_lookups.proofs.requests.request_rows.Goals as goal
 pub returns-clause-answers : goal.returns-clause-answers
 returns-clause-answers g c clean t holds =
     IfOk-weaker c.query_all.result _ _
-    (λ rows shown. request_found c.args.key (state g.S.Store c.args.conn.now) (state g.S.Store c.query_all.new.self)
+    (λ rows shown. request_found c.args.key (state g.S.Store c.args.conn.now)
+    (state g.S.Store c.query_all.new.self)
     t holds.runs rows.items holds.rows
     (rw (
       c.to_bytes-merchant.ensures.value,
@@ -28,5 +29,6 @@ returns-clause-looks g c =
     (Text c.to_bytes-merchant.result ∷ Text c.to_bytes-terminal.result ∷ Text c.digits-kind.result
     ∷ Text c.to_bytes-trace.result ∷ Text c.to_bytes-stamp.result ∷ [])
     (state g.S.Store c.args.conn.now) (state g.S.Store c.query_all.new.self)
-    request_asks.begins (λ rows. rows.items) c.query_all.result c.query_all.ensures.ok c.query_all.ensures.err c.query_all.ensures.mode
+    request_asks.begins (λ rows. rows.items) c.query_all.result c.query_all.ensures.ok
+    c.query_all.ensures.err c.query_all.ensures.mode
     c.query_all.ensures.survives

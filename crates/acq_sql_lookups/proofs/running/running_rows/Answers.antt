@@ -20,7 +20,9 @@ returns-clause-answers g c clean t holds =
 
 pub returns-clause-looks : goal.returns-clause-looks
 returns-clause-looks g c =
-    looks running_text (Text c.to_bytes-merchant.result ∷ bound_value (owned c.day_value.result) ∷ [])
+    looks running_text
+    (Text c.to_bytes-merchant.result ∷ bound_value (owned c.day_value.result) ∷ [])
     (state g.S.Store c.args.conn.now) (state g.S.Store c.query_all.new.self)
-    running_asks.begins (λ rows. rows.items) c.query_all.result c.query_all.ensures.ok c.query_all.ensures.err c.query_all.ensures.mode
+    running_asks.begins (λ rows. rows.items) c.query_all.result c.query_all.ensures.ok
+    c.query_all.ensures.err c.query_all.ensures.mode
     c.query_all.ensures.survives

@@ -13,7 +13,8 @@ returns-in-len1-clause-read g c clean has =
     let only : items ≡ c.row-item.result ∷ [] =
     only_row items c.row-item.result c.in-len1.len_at_least c.in-len1.len_below c.row-item.is in
     one_version trees c.row-item.result c.in_ok-get-in-len1.field-0
-    (subst (IsPermutation (cells trees)) (sym c.as_slice.ensures.value ∙ only) (c.in_ok-rows.ensures.shows clean has))
+    (subst (IsPermutation (cells trees)) (sym c.as_slice.ensures.value ∙ only)
+    (c.in_ok-rows.ensures.shows clean has))
     c.in_ok-get-in-len1.ensures.ok.1
 
 pub returns-clause-read : goal.returns-clause-read
@@ -21,7 +22,8 @@ returns-clause-read g c clean has =
     let trees = (state g.S.Store c.args.conn.now).now.trees in
     let moved = c.in_ok-rows.ensures.shows clean has in
     let same = ap length c.as_slice.ensures.value in
-    let none : length c.in_ok-rows.rows.items ≢ 1 → IfOk c.if-as_slice-lt1.result (HasVersion trees) = λ other.
+    let none : length c.in_ok-rows.rows.items ≢ 1 →
+    IfOk c.if-as_slice-lt1.result (HasVersion trees) = λ other.
     elim c.if-as_slice-lt1.branch as (λ _. IfOk c.if-as_slice-lt1.result (HasVersion trees)) [
       | in_default w ↦ subst (λ r. IfOk r (HasVersion trees)) (sym w.result-is)
           (no_version trees c.in_ok-rows.rows.items moved other)

@@ -24,7 +24,8 @@ returns-clause-done g c clean =
     (c.in_ok-write_tables.ensures.begins last_clean (rw begun refl) (rw begun c.requires.empty)) in
     subst (λ x. OnOk c.commit.result (IsAt (state g.S.Store x) (new_tables opening))) same
     (IfOk-weaker c.commit.result _ _
-    (λ _ shown. at_commit last (state g.S.Store end) (new_tables opening) all shown.1) (c.commit.ensures.ok late))
+    (λ _ shown. at_commit last (state g.S.Store end) (new_tables opening) all shown.1)
+    (c.commit.ensures.ok late))
 
 pub returns-clause-crash : goal.returns-clause-crash
 returns-clause-crash g c =
@@ -34,12 +35,14 @@ returns-clause-crash g c =
     let begun = c.transaction-tx.ensures.begun in
     let same : end ≡ c.conn-2-1.given.0 = search rules in
     let opening : Opening = record { limit = c.args.limit; first_day = c.args.first_day } in
-    let all : HasCleanDisk last → Holds last.now (new_tables opening) = λ clean. new_holds last.now opening
+    let all : HasCleanDisk last →
+    Holds last.now (new_tables opening) = λ clean. new_holds last.now opening
     (c.in_ok-write_tables.ensures.begins clean (rw begun refl) (rw begun c.requires.empty)) in
     let P = HoldsAfter (new_tables opening) in
     let whole = survives_then (state g.S.Store old) last (state g.S.Store end) _ _ P
     (λ _ db none. absurd none)
     (λ clean db is. left_holds last.now db (new_tables opening)
     (all (was_clean _ _ c.commit.ensures.survives.clean clean)) is)
-    (survives_begin g.S.Store old last _ (rw begun at c.write_tables.ensures.survives)) c.commit.ensures.survives in
+    (survives_begin g.S.Store old last _ (rw begun at c.write_tables.ensures.survives))
+    c.commit.ensures.survives in
     subst (λ x. Survives (state g.S.Store old) (state g.S.Store x) P) same whole

@@ -4,7 +4,8 @@ use Rattle.acq_sql_writes.proofs.answers.follow_request.Goals as goal
 
 pub returns-clause-changes : goal.returns-clause-changes
 returns-clause-changes g c clean inside t runs has =
-    follow_inside (state g.S.Store c.args.tx.now.conn.now) (state g.S.Store c.execute.new.self.conn.now) c.execute.result
+    follow_inside (state g.S.Store c.args.tx.now.conn.now)
+    (state g.S.Store c.execute.new.self.conn.now) c.execute.result
     t runs has c.args.key c.args.status
     (rw (
       c.to_bytes-merchant.ensures.value,

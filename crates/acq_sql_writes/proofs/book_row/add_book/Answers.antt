@@ -4,7 +4,8 @@ use Rattle.acq_sql_writes.proofs.book_row.add_book.Goals as goal
 
 pub returns-clause-begins : goal.returns-clause-begins
 returns-clause-begins g c clean inside blank =
-    book_inside (state g.S.Store c.args.tx.now.conn.now) (state g.S.Store c.execute.new.self.conn.now) c.execute.result
+    book_inside (state g.S.Store c.args.tx.now.conn.now)
+    (state g.S.Store c.execute.new.self.conn.now) c.execute.result
     (record { limit = c.args.limit; first_day = c.args.first_day }) blank
     (rw (
       c.short_value.ensures,

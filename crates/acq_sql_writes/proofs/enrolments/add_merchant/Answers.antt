@@ -4,7 +4,8 @@ use Rattle.acq_sql_writes.proofs.enrolments.add_merchant.Goals as goal
 
 pub returns-clause-changes : goal.returns-clause-changes
 returns-clause-changes g c clean inside t runs has =
-    merchant_inside (state g.S.Store c.args.tx.now.conn.now) (state g.S.Store c.execute.new.self.conn.now) c.execute.result
+    merchant_inside (state g.S.Store c.args.tx.now.conn.now)
+    (state g.S.Store c.execute.new.self.conn.now) c.execute.result
     t runs has c.args.merchant.now
     (rw (
       c.to_bytes-id.ensures.value,

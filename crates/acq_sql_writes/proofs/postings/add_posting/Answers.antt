@@ -4,7 +4,8 @@ use Rattle.acq_sql_writes.proofs.postings.add_posting.Goals as goal
 
 pub returns-clause-changes : goal.returns-clause-changes
 returns-clause-changes g c clean inside t runs has =
-    posting_inside (state g.S.Store c.args.tx.now.conn.now) (state g.S.Store c.execute.new.self.conn.now) c.execute.result
+    posting_inside (state g.S.Store c.args.tx.now.conn.now)
+    (state g.S.Store c.execute.new.self.conn.now) c.execute.result
     t runs has c.args.number c.args.posting.now
     (rw (
       c.to_bytes-merchant.ensures.value,

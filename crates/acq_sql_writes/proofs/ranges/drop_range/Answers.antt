@@ -4,7 +4,8 @@ use Rattle.acq_sql_writes.proofs.ranges.drop_range.Goals as goal
 
 pub returns-clause-changes : goal.returns-clause-changes
 returns-clause-changes g c clean inside t runs has =
-    range_dropped_inside (state g.S.Store c.args.tx.now.conn.now) (state g.S.Store c.execute.new.self.conn.now) c.execute.result
+    range_dropped_inside (state g.S.Store c.args.tx.now.conn.now)
+    (state g.S.Store c.execute.new.self.conn.now) c.execute.result
     t runs has c.args.low c.args.high
     (rw (
       c.short_value.ensures,

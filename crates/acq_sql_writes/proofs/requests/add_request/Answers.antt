@@ -6,7 +6,8 @@ use Rattle.acq_sql_writes.proofs.requests.add_request.Goals as goal
 pub returns-clause-changes : goal.returns-clause-changes
 returns-clause-changes g c clean inside t runs has =
     let r = c.args.request.now in
-    request_inside (state g.S.Store c.args.tx.now.conn.now) (state g.S.Store c.execute.new.self.conn.now) c.execute.result
+    request_inside (state g.S.Store c.args.tx.now.conn.now)
+    (state g.S.Store c.execute.new.self.conn.now) c.execute.result
     t runs has r c.requires.whole
     (rw (
       c.to_bytes-merchant.ensures.value,

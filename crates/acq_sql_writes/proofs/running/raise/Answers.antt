@@ -5,7 +5,8 @@ use Rattle.acq_sql_writes.proofs.running.raise.Goals as goal
 
 pub returns-clause-raises : goal.returns-clause-raises
 returns-clause-raises g c clean inside t runs has room =
-    raised_inside (state g.S.Store c.args.tx.now.conn.now) (state g.S.Store c.execute.new.self.conn.now) c.execute.result
+    raised_inside (state g.S.Store c.args.tx.now.conn.now)
+    (state g.S.Store c.execute.new.self.conn.now) c.execute.result
     t runs has c.args.merchant c.args.day (tally_from c.args.used c.args.posted.now) room
     (rw (
       c.to_bytes-merchant.ensures.value,

@@ -1,7 +1,8 @@
 use Rattle.std.proofs.Common.{◌∙◌, inl}
 use Rattle.std.proofs.lemmas.Result.{err_from_is_err_and}
 use Rattle.csv.specs.Records.{fields_of}
-use Rattle.card_no.proofs.FileRecords.{stands-start, stands-more, stands-end, stands-stopped, reads-failed}
+use Rattle.card_no.proofs.FileRecords.{stands-start, stands-more, stands-end, stands-stopped}
+use Rattle.card_no.proofs.FileRecords.{reads-failed}
 use Rattle.card_no.proofs.FileRecords.{reads-stopped}
 use Rattle.card_no.proofs.range_file.read_records.Goals as goal
 
@@ -21,7 +22,8 @@ loop-number-preserved g c =
       trim = read.3 ∙ inv.trim;
       ready = inl (c.in-Ok-true.ensures.ready inv.trim);
       config = read.2 ∙ inv.config;
-      known = λ text left. stands-more g.R.Read.remaining text c.loop-number.records c.read_byte_record.new.self
+      known = λ text left. stands-more g.R.Read.remaining text c.loop-number.records
+          c.read_byte_record.new.self
           c.loop-number.ranges c.add_record.new.ranges c.loop-number.number
           (fields_of c.read_byte_record.new.row) (inv.known text left) inv.config read
           c.in_ok-add_record-in-Ok-true.ensures.ok;
@@ -32,7 +34,8 @@ returns-in_err-add_record-in-Ok-true g c = λ text left.
     let inv = c.loop-number.invariant in
     let read = rw c.in-Ok-true.field-0-test at (c.in-Ok-true.ensures.reads inv.trim inv.ready) in
     let p = err_from_is_err_and c.from_residual.result c.from_residual.ensures.1 in
-    rw (p.1, p.2) (reads-failed g.R.Read.remaining text c.loop-number.records c.read_byte_record.new.self
+    rw (p.1, p.2)
+    (reads-failed g.R.Read.remaining text c.loop-number.records c.read_byte_record.new.self
     c.loop-number.ranges c.loop-number.number
     (fields_of c.read_byte_record.new.row) _ (inv.known text left) inv.config read
     c.in_err-add_record-in-Ok-true.ensures.fault)
@@ -41,11 +44,13 @@ pub returns-in-Ok-false : goal.returns-in-Ok-false
 returns-in-Ok-false g c = λ text left.
     let inv = c.loop-number.invariant in
     let read = rw c.in-Ok-false.field-0-test at (c.in-Ok-false.ensures.reads inv.trim inv.ready) in
-    stands-end g.R.Read.remaining text c.loop-number.records c.read_byte_record.new.self c.loop-number.ranges
+    stands-end g.R.Read.remaining text c.loop-number.records c.read_byte_record.new.self
+    c.loop-number.ranges
     c.loop-number.number
     (fields_of c.read_byte_record.new.row) (inv.known text left) inv.config read
 
 pub returns-in-Err : goal.returns-in-Err
 returns-in-Err g c = λ text left.
     reads-stopped text c.loop-number.number c.read_fault.result
-    (stands-stopped text _ _ _ _ (c.loop-number.invariant.known text left)) c.read_fault.ensures.either
+    (stands-stopped text _ _ _ _ (c.loop-number.invariant.known text left))
+    c.read_fault.ensures.either

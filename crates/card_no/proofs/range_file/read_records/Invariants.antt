@@ -1,5 +1,6 @@
 use Rattle.std.proofs.Common.{◌≡◌, ℕ, List, Some}
-use Rattle.csv.specs.Reading.{Ready, default_config, reader_config, reader_state, reader_trim, source_of, strip_bom}
+use Rattle.csv.specs.Reading.{Ready, default_config, reader_config, reader_state, reader_trim}
+use Rattle.csv.specs.Reading.{source_of, strip_bom}
 use Rattle.csv.specs.declared.reader.Trim.TheVariants as trim
 use Rattle.card_no.proofs.FileRecords.{Stands}
 use Rattle.card_no.proofs.range_file.read_records.Given as goal
@@ -10,5 +11,6 @@ invariant-loop-number g l = record {
   ready : Ready l.records;
   config : reader_config l.records ≡ default_config;
   known : (text : List ℕ) → source_of g.R.Read.remaining l.fn.records ≡ Some (strip_bom text)
-      → Stands text (source_of g.R.Read.remaining l.records) (reader_state l.records) l.ranges l.number;
+      → Stands text (source_of g.R.Read.remaining l.records) (reader_state l.records) l.ranges
+      l.number;
 }

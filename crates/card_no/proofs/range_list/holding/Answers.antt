@@ -13,7 +13,8 @@ returns-in_err-checked_sub c =
     ] in
     let begun = c.begun_at.ensures in
     ap option_copied c.from_residual.ensures
-    ∙ sym (none_begun c.args.ranges.now c.args.prefix c.begun_at.result c.requires begun.within begun.begun begun.above
+    ∙ sym (none_begun c.args.ranges.now c.args.prefix c.begun_at.result c.requires begun.within
+    begun.begun begun.above
     none)
 
 pub returns-in_err-nearest : goal.returns-in_err-nearest
@@ -25,7 +26,8 @@ returns-in_err-nearest c =
 pub returns-then-holds : goal.returns-then-holds
 returns-then-holds c =
     let found = c.in_ok-nearest.ensures.lookup in
-    sym (last_holds c.args.ranges.now c.args.prefix c.in_ok-checked_sub.field-0 c.in_ok-nearest.nearest.now _ c.requires
+    sym (last_holds c.args.ranges.now c.args.prefix c.in_ok-checked_sub.field-0
+    c.in_ok-nearest.nearest.now _ c.requires
     (ltb-true _ _ (sym found.0)) found.1 (sym c.if-holds.ensures))
 
 pub returns-else-holds : goal.returns-else-holds
@@ -34,5 +36,6 @@ returns-else-holds c =
     let at = c.in_ok-checked_sub.ensures.1 in
     let r = c.in_ok-nearest.nearest.now in
     let last = c.in_ok-nearest.ensures.lookup.1 ∙ ap (λ (i : ℕ). get_or c.args.ranges.now i r) at in
-    sym (last_fails c.args.ranges.now c.args.prefix c.begun_at.result r r c.requires begun.within begun.begun
+    sym (last_fails c.args.ranges.now c.args.prefix c.begun_at.result r r c.requires begun.within
+    begun.begun
     begun.above last (sym c.if-holds.ensures))

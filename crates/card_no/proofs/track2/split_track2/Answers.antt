@@ -13,7 +13,8 @@ pub returns-then-not-may_be_number : goal.returns-then-not-may_be_number
 returns-then-not-may_be_number c =
     let track = c.args.track.now in
     let at = parts-at track c.in-Some.place (sym c.separator_place.ensures ∙ c.in-Some.is) in
-    let not-number : may_be_number (take c.in-Some.place track) ≡ false = sym c.may_be_number.ensures
+    let not-number : may_be_number (take c.in-Some.place track) ≡ false =
+    sym c.may_be_number.ensures
     ∙ c.if-not-may_be_number.true in
     sym (ap if_number at ∙ rw not-number refl)
 
@@ -22,5 +23,6 @@ returns c =
     let track = c.args.track.now in
     let place = c.in-Some.place in
     let at = parts-at track place (sym c.separator_place.ensures ∙ c.in-Some.is) in
-    let number : may_be_number (take place track) ≡ true = sym c.may_be_number.ensures ∙ c.if-not-may_be_number.false in
+    let number : may_be_number (take place track) ≡ true = sym c.may_be_number.ensures
+    ∙ c.if-not-may_be_number.false in
     rw (take_rest track (place + 1)) (sym (ap if_number at ∙ rw number refl))

@@ -4,7 +4,8 @@ use Rattle.day_totals.proofs.ZeroPadded.{zero_padded-step}
 use Rattle.day_totals.proofs.digits.write_digits.Goals as goal
 
 pub loop-place-preserved : goal.loop-place-preserved
-loop-place-preserved c = zero_padded-step c.loop-place.place c.loop-place.number _ c.loop-place.text _ (omega arith)
+loop-place-preserved c = zero_padded-step c.loop-place.place c.loop-place.number _ c.loop-place.text
+    _ (omega arith)
     (omega arith) refl c.loop-place.invariant
 
 pub returns : goal.returns

@@ -1,4 +1,5 @@
-use Rattle.day_totals.proofs.ZeroPadded.{length-zero_padded, all_digits-zero_padded, digits_value-zero_padded}
+use Rattle.day_totals.proofs.ZeroPadded.{length-zero_padded, all_digits-zero_padded}
+use Rattle.day_totals.proofs.ZeroPadded.{digits_value-zero_padded}
 use Rattle.day_totals.proofs.laws.digits_spell_numbers.Goals as goal
 
 pub returns-clause-length : goal.returns-clause-length

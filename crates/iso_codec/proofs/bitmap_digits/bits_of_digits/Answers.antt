@@ -11,11 +11,13 @@ loop-i-preserved c =
     let bytes = c.loop-i.bytes in
     let i = c.loop-i.i in
     let size = c.loop-i.invariant.size in
-    let pair = pair_value-ok (get_or digits (2 * i) 0) (get_or digits (2 * i + 1) 0) (2 * i) _ _ c.value.ensures
+    let pair = pair_value-ok (get_or digits (2 * i) 0) (get_or digits (2 * i + 1) 0)
+    (2 * i) _ _ c.value.ensures
     c.value-in-loop-i.ensures in
     record {
       size = length-set bytes _ _ ∙ size;
-      read = decode_step digits bytes i _ (omega (arith, c.requires.size)) (omega arith) pair c.loop-i.invariant.read;
+      read = decode_step digits bytes i _ (omega (arith, c.requires.size))
+          (omega arith) pair c.loop-i.invariant.read;
     }
 
 pub returns : goal.returns
@@ -27,6 +29,7 @@ returns c =
       bytes = bytes;
       size = c.requires.size;
       decoded = decode_of-even digits (omega (arith, c.requires.size))
-          ∙ decode_done digits bytes c.loop-i.i (omega arith) (omega (arith, c.requires.size)) c.loop-i.invariant.read;
+          ∙ decode_done digits bytes c.loop-i.i (omega arith) (omega (arith, c.requires.size))
+          c.loop-i.invariant.read;
       value = c.from_be_bytes.ensures;
     }

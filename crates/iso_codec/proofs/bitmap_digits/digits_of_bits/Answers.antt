@@ -26,7 +26,8 @@ returns-clause-digits c =
     let bytes = c.to_be_bytes-bytes.result in
     let eight : length bytes ≡ 8 = ap length c.to_be_bytes-bytes.ensures in
     let whole : c.loop-i.digits ≡ encode_upper (to_be_bytes w64 c.args.bits) =
-    encode_done upper_digits bytes c.loop-i.digits c.loop-i.i (omega (arith, eight)) (omega (arith, eight, c.loop-i.invariant.size))
+    encode_done upper_digits bytes c.loop-i.digits c.loop-i.i (omega (arith, eight))
+    (omega (arith, eight, c.loop-i.invariant.size))
     c.loop-i.invariant.written
     ∙ ap encode_upper c.to_be_bytes-bytes.ensures in
     subst (λ (x : List ℕ). IsBitmap x c.args.bits) (sym whole)
@@ -37,7 +38,9 @@ returns-clause-capitals c =
     let bytes = c.to_be_bytes-bytes.result in
     let eight : length bytes ≡ 8 = ap length c.to_be_bytes-bytes.ensures in
     let whole : c.loop-i.digits ≡ encode_upper (to_be_bytes w64 c.args.bits) =
-    encode_done upper_digits bytes c.loop-i.digits c.loop-i.i (omega (arith, eight)) (omega (arith, eight, c.loop-i.invariant.size))
+    encode_done upper_digits bytes c.loop-i.digits c.loop-i.i (omega (arith, eight))
+    (omega (arith, eight, c.loop-i.invariant.size))
     c.loop-i.invariant.written
     ∙ ap encode_upper c.to_be_bytes-bytes.ensures in
-    ap (list_all is_upper_hex) whole ∙ upper_case (to_be_bytes w64 c.args.bits) (bytes_small c.args.bits)
+    ap (list_all is_upper_hex) whole ∙ upper_case (to_be_bytes w64 c.args.bits)
+    (bytes_small c.args.bits)

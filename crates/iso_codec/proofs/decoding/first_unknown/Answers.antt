@@ -20,14 +20,17 @@ some_is_first : (bitmaps unknown after : Bitmaps) (o : Option ℕ)
     → MatchOption o (named unknown ≡ []) (λ n. named unknown ≡ n ∷ named after)
     → IfSome o (λ n. IsFirstUnknown bitmaps n)
 some_is_first bitmaps unknown after None same h = tt
-some_is_first bitmaps unknown after (Some n) same h = first_unknown_is bitmaps n (named after) (sym same ∙ h)
+some_is_first bitmaps unknown after (Some n) same h = first_unknown_is bitmaps n (named after)
+    (sym same ∙ h)
 
 pub returns-clause-none : goal.returns-clause-none
 returns-clause-none c =
-    none_is_known c.args.bitmaps.now c.of_unknown-unknown.result c.take_first.new.self c.take_first.result
+    none_is_known c.args.bitmaps.now c.of_unknown-unknown.result c.take_first.new.self
+    c.take_first.result
     c.of_unknown-unknown.ensures.same c.take_first.ensures.first
 
 pub returns-clause-some : goal.returns-clause-some
 returns-clause-some c =
-    some_is_first c.args.bitmaps.now c.of_unknown-unknown.result c.take_first.new.self c.take_first.result
+    some_is_first c.args.bitmaps.now c.of_unknown-unknown.result c.take_first.new.self
+    c.take_first.result
     c.of_unknown-unknown.ensures.same c.take_first.ensures.first

@@ -1,4 +1,5 @@
-use Rattle.std.proofs.Common.{sym, ◌∙◌, ap, subst, arith, ◌≡◌, ◌++◌, ◌∷◌, ◌-◌, [], List, ℕ, true, length, take, append_assoc, inr}
+use Rattle.std.proofs.Common.{sym, ◌∙◌, ap, subst, arith, ◌≡◌, ◌++◌, ◌∷◌, ◌-◌, [], List, ℕ, true}
+use Rattle.std.proofs.Common.{length, take, append_assoc, inr}
 use Rattle.std.specs.List.{list_all}
 use Rattle.std.proofs.lemmas.Bool.{eqb-false}
 use Rattle.std.proofs.lemmas.List.{map_push}
@@ -28,9 +29,11 @@ loop-number-preserved c =
       start = length front - length after - length content;
       len = length content;
     } in
-    let next = subst (λ (ns : List ℕ). Goes c.args.bitmaps.now front es rest ns) c.in-Some.ensures.first
+    let next = subst (λ (ns : List ℕ). Goes c.args.bitmaps.now front es rest ns)
+    c.in-Some.ensures.first
     c.loop-number.invariant.goes in
-    let more = goes_on c.args.bitmaps.now front es rest (named c.take_first.new.self) n format content after next
+    let more = goes_on c.args.bitmaps.now front es rest (named c.take_first.new.self) n format
+    content after next
     (sym c.format_at.ensures ∙ c.in-Some-format_at.is) found in
     let parts : front ≡ (body es ++ digits) ++ (content ++ after) =
     next.parts ∙ ap (λ (x : List ℕ). body es ++ x) found.parts
@@ -44,7 +47,12 @@ loop-number-preserved c =
     between_within front (body es ++ digits) content after n parts in
     let all : list_all (is_within (length front)) (old ++ span ∷ []) ≡ true =
     all_push (is_within (length front)) old span c.loop-number.invariant.within fits in
-    record { goes = rw e more; unset = c.take_first.ensures.unset; within = rw c.in_ok-push.ensures.items all }
+    record {
+      goes = rw e more;
+      unset = c.take_first.ensures.unset;
+      within =
+          rw c.in_ok-push.ensures.items all;
+    }
 
 pub returns-then-not-is_empty-clause-fault : goal.returns-then-not-is_empty-clause-fault
 returns-then-not-is_empty-clause-fault c =

@@ -19,4 +19,5 @@ returns-then-number-lt129 c =
     ∙ get_or-map-range_with_len format_of 0 129 n n None c.if-number-lt129.true (omega arith)
 
 pub returns-else-number-lt129 : goal.returns-else-number-lt129
-returns-else-number-lt129 c = sym (format_of-beyond c.args.number (omega (arith, c.if-number-lt129.false)))
+returns-else-number-lt129 c =
+    sym (format_of-beyond c.args.number (omega (arith, c.if-number-lt129.false)))

@@ -37,7 +37,8 @@ loop-span-preserved c =
           rw (w.primary-is, w.secondary-is) (marks_low ns p w.with_bit-primary.result q s.number
           c.loop-span.invariant r.0 w.if-number-le64.true w.with_bit-primary.ensures)
       | else-number-le64 w ↦
-          rw (w.primary-is, w.secondary-is) (marks_high ns p w.with_bit-primary-else-number-le64.result q
+          rw (w.primary-is, w.secondary-is)
+          (marks_high ns p w.with_bit-primary-else-number-le64.result q
           w.with_bit-secondary.result s.number c.loop-span.invariant (omega arith) r.1
           w.with_bit-primary-else-number-le64.ensures w.with_bit-secondary.ensures)
     ])

@@ -5,4 +5,5 @@ use Rattle.iso_codec.proofs.encoding.bitmaps_of.Given as goal
 
 abbrev pub invariant-loop-span : goal.invariant-loop-span
 invariant-loop-span l =
-    Marks (numbers_of (take l.span-index l.spans)) (record { primary = l.primary; secondary = l.secondary })
+    Marks (numbers_of (take l.span-index l.spans))
+    (record { primary = l.primary; secondary = l.secondary })

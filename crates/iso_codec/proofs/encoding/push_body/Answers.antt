@@ -13,8 +13,10 @@ push_element-requires c =
 
 pub returns-in_err-push_element-clause-grows : goal.returns-in_err-push_element-clause-grows
 returns-in_err-push_element-clause-grows c =
-    let front = body (elements_in c.args.bytes.now (take c.loop-span.span-index c.args.spans.now)) in
+    let front = body (elements_in c.args.bytes.now (take c.loop-span.span-index c.args.spans.now))
+    in
     let more = c.in_err-push_element.ensures.grows in (
       front ++ more.0,
-      more.1 ∙ ap (λ (x : List ℕ). x ++ more.0) c.loop-span.invariant ∙ append_assoc c.args.out.now.items front more.0,
+      more.1 ∙ ap (λ (x : List ℕ). x ++ more.0) c.loop-span.invariant
+          ∙ append_assoc c.args.out.now.items front more.0,
     )

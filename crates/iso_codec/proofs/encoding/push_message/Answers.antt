@@ -19,12 +19,16 @@ returns-clause-ok c =
     let es = c.parts.ensures.value in
     let stored = c.parts.ensures.stored.message in
     let p = c.in_ok-push_bitmaps.ensures.ok in
-    let ns : numbers_of spans ≡ numbers m.elements = sym (numbers-elements_in bytes spans) ∙ ap numbers es in
-    let marks = subst (λ (x : List ℕ). Marks x c.bitmaps_of-bitmaps.result) ns c.bitmaps_of-bitmaps.ensures in
-    let whole = subst (λ (x : List (ℕ × List ℕ)). IsMessage (record { kind = m.kind; elements = x })) es stored in
+    let ns : numbers_of spans ≡ numbers m.elements = sym (numbers-elements_in bytes spans)
+    ∙ ap numbers es in
+    let marks = subst (λ (x : List ℕ). Marks x c.bitmaps_of-bitmaps.result) ns
+    c.bitmaps_of-bitmaps.ensures in
+    let whole = subst (λ (x : List (ℕ × List ℕ)). IsMessage
+    (record { kind = m.kind; elements = x })) es stored in
     let text : List ℕ = m.kind ++ (p.0 ++ body m.elements) in
     let head : c.extend_from_slice.new.self.items ≡ c.args.out.now.items ++ m.kind =
-    c.in_ok-extend_from_slice.ensures.items ∙ ap (λ (k : List ℕ). c.reserve.new.self.items ++ k) c.kind.ensures
+    c.in_ok-extend_from_slice.ensures.items ∙ ap (λ (k : List ℕ). c.reserve.new.self.items ++ k)
+    c.kind.ensures
     ∙ ap (λ (x : List ℕ). x ++ m.kind) c.reserve.ensures.items in
     on_ok_weaker c.push_body.result (λ h. (
       text,

@@ -1,10 +1,12 @@
-use Rattle.std.proofs.Common.{◌≡◌, ℕ, ◌-◌, List, [], length, Some, None, Result, Ok, Err, refl, sym, ap, arith, ◌∙◌}
+use Rattle.std.proofs.Common.{◌≡◌, ℕ, ◌-◌, List, [], length, Some, None, Result, Ok, Err, refl, sym}
+use Rattle.std.proofs.Common.{ap, arith, ◌∙◌}
 use Rattle.std.specs.Result.{result_ok, result_unwrap_or}
 use Rattle.iso_codec.specs.declared.decode_fault.DecodeFault.{DecodeFault}
 use Rattle.iso_codec.specs.FaultPlaces.{standing_from, element_place}
 use Rattle.iso_codec.proofs.fault_places.element_place.Goals as goal
 
-there : (rest : List ℕ) (r : Result (List ℕ) DecodeFault) → Some rest ≡ result_ok r → result_unwrap_or r [] ≡ rest
+there : (rest : List ℕ) (r : Result (List ℕ) DecodeFault) → Some rest ≡ result_ok r →
+    result_unwrap_or r [] ≡ rest
 there rest (Ok x) h = let some : Some rest ≡ Some x = h in cc
 there rest (Err e) h = let some : Some rest ≡ None = h in cc
 

@@ -4,7 +4,8 @@ use Rattle.iso_codec.proofs.fault_places.fault_place.Goals as goal
 
 pub returns-in-Ok : goal.returns-in-Ok
 returns-in-Ok c =
-    let found = bitmap_found c.behind_type.result.now c.in-Ok.field-0.0 c.in-Ok.field-0.1.now c.in-Ok.ensures.found in
+    let found = bitmap_found c.behind_type.result.now c.in-Ok.field-0.0 c.in-Ok.field-0.1.now
+    c.in-Ok.ensures.found in
     rw (c.in-BadBitmap.is, ← c.behind_type.ensures, found) refl
 
 pub returns-in-Err : goal.returns-in-Err

@@ -14,5 +14,6 @@ pub loop-span-preserved : goal.loop-span-preserved
 loop-span-preserved c =
     let spans = c.args.spans.now in
     let i = c.loop-span.span-index in
-    past_at c.args.bytes.now spans i (span_at spans i) c.args.number c.loop-span.invariant c.loop-span-test.true
+    past_at c.args.bytes.now spans i (span_at spans i) c.args.number c.loop-span.invariant
+    c.loop-span-test.true
     (span_at_is spans i c.loop-span-test.true) c.if-span-number.false

@@ -1,9 +1,11 @@
 use Rattle.std.proofs.Common.{◌≡◌, sym, ap, ◌∙◌, arith, ◌<◌, ◌++◌, ◌∷◌, [], List, ℕ, length, take}
 use Rattle.std.specs.Prelude.{slice_set}
 use Rattle.iso_codec.specs.Span.{element_at, elements_in}
-use Rattle.iso_codec.proofs.SpanElements.{span_at, span_at_is, element_of_span, set_more-same, set_more-other, length-elements_in}
+use Rattle.iso_codec.proofs.SpanElements.{span_at, span_at_is, element_of_span, set_more-same}
+use Rattle.iso_codec.proofs.SpanElements.{set_more-other, length-elements_in}
 use Rattle.iso_codec.proofs.message.replaced.Goals as goal
-use Rattle.iso_codec.proofs.message.replaced.Goals.{then-i-at+in_ok-append, else-i-at+in_ok-append-2}
+use Rattle.iso_codec.proofs.message.replaced.Goals.{then-i-at+in_ok-append}
+use Rattle.iso_codec.proofs.message.replaced.Goals.{else-i-at+in_ok-append-2}
 
 pub loop-i-preserved : goal.loop-i-preserved
 loop-i-preserved c =
@@ -17,7 +19,8 @@ loop-i-preserved c =
     let lt' : i < length es = omega (arith, length-elements_in bytes spans) in
     elim c.if-i-at.branch [
       | then-i-at+in_ok-append w ↦
-          let made = w.in_ok-append.ensures.ok ∙ ap (λ (l : List (ℕ × List ℕ)). l ++ new ∷ []) c.loop-i.invariant.elements
+          let made = w.in_ok-append.ensures.ok ∙ ap (λ (l : List (ℕ × List ℕ)). l ++ new ∷ [])
+          c.loop-i.invariant.elements
           ∙ sym (set_more-same es at i new lt' w.if-i-at.true) in
           record {
             elements = rw (w.fresh_spans-is, w.fresh_bytes-is) made;

@@ -10,7 +10,8 @@ push-requires-clause-new c =
     let k = c.args.original.now in
     let rows = c.args.self.now.requests in
     let now : c.follow.new.self.rows ≡ with_changed k f rows =
-    c.follow.ensures.rows ∙ ap (with_changed k f) (c.reserve.ensures.rows ∙ ap (λ t. t.requests) c.self.view_is) in
+    c.follow.ensures.rows ∙ ap (with_changed k f)
+    (c.reserve.ensures.rows ∙ ap (λ t. t.requests) c.self.view_is) in
     let new : IsNewRow rows c.args.request.now = record {
       key = c.requires.0.key;
       reference = c.requires.0.reference;

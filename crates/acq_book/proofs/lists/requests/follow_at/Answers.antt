@@ -8,7 +8,8 @@ use Rattle.acq_book.proofs.lists.requests.follow_at.Goals as goal
 pub returns-in-Some-clause-entries : goal.returns-in-Some-clause-entries
 returns-in-Some-clause-entries c =
     (c.get_mut.follows.holds _).0
-    ∙ set-changed (key_eq c.args.key.now) (followed_row c.args.status) c.args.rows.now.entries c.in-Some.row.now
+    ∙ set-changed (key_eq c.args.key.now) (followed_row c.args.status) c.args.rows.now.entries
+    c.in-Some.row.now
     (sym c.get_mut.ensures.value ∙ ap option_copied_mut c.in-Some.is)
 
 pub returns-in_default-clause-entries : goal.returns-in_default-clause-entries

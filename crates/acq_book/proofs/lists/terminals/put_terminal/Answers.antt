@@ -7,4 +7,5 @@ use Rattle.acq_book.proofs.lists.terminals.put_terminal.Goals as goal
 pub returns-clause-entries : goal.returns-clause-entries
 returns-clause-entries c =
     of_ok c.insert.result (c.insert.ensures.succeeds c.requires.room) c.insert.ensures.entries
-    ∙ insert_entry-new terminal_eq c.args.rows.now (key_of_terminal c.args.row) c.args.row c.requires.new
+    ∙ insert_entry-new terminal_eq c.args.rows.now (key_of_terminal c.args.row) c.args.row
+    c.requires.new

@@ -16,13 +16,15 @@ use Rattle.acq_core.specs.Outcome.{is_in_balance, balance_code}
 use Rattle.acq_core.proofs.deciding.reconciliation.reconciled.Goals as goal
 
 -- the same reply, by what its parts are
-totals_replied : (day : ℕ) (made r : RequestMessage) (code : ResponseCode) (b balance : Bool) (totals : DayTotals) →
+totals_replied : (day : ℕ) (made r : RequestMessage) (code : ResponseCode) (b balance : Bool)
+    (totals : DayTotals) →
     made ≡ r → code ≡ balance_code b → b ≡ balance →
     totals_reply day made code b totals ≡ totals_reply day r (balance_code balance) balance totals
 totals_replied day made r code b balance totals same coded is = rw (same, coded, is) refl
 
 -- the same change, by what its parts are
-changed : (made row : Request) (merchant m : List ℕ) (day : ℕ) (b balance : Bool) → made ≡ row → merchant ≡ m →
+changed : (made row : Request) (merchant m : List ℕ) (day : ℕ) (b balance : Bool) → made ≡ row →
+    merchant ≡ m →
     b ≡ balance →
     Some (Reconciled (record made { status = status.Reconciled })
     (record { merchant = merchant; day = day; in_balance = b }))
@@ -34,8 +36,10 @@ pub returns-clause-output : goal.returns-clause-output
 returns-clause-output c =
     c.in_ok-output.ensures
     ∙ ap (λ (m : IsoMessage). Reply c.args.merchant (spelling m)) (c.in_ok-reply.ensures
-    ∙ totals_replied c.args.day c.as_request-message.result.now c.args.request.now c.balance_code-code.result
-    c.is_in_balance-in_balance.result (is_in_balance (known_of c.args.looked.now) c.args.request.now)
+    ∙ totals_replied c.args.day c.as_request-message.result.now c.args.request.now
+    c.balance_code-code.result
+    c.is_in_balance-in_balance.result
+    (is_in_balance (known_of c.args.looked.now) c.args.request.now)
     c.args.looked.now.totals c.as_request-message.ensures.value c.balance_code-code.ensures
     c.is_in_balance-in_balance.ensures)
 
@@ -45,10 +49,14 @@ returns-clause-change c =
     (totals_reply c.args.day c.args.request.now
     (balance_code (is_in_balance (known_of c.args.looked.now) c.args.request.now))
     (is_in_balance (known_of c.args.looked.now) c.args.request.now) c.args.looked.now.totals))
-    c.merchant_of.result (text_at c.args.request.now.message 42) c.args.day c.is_in_balance-in_balance.result
+    c.merchant_of.result (text_at c.args.request.now.message 42) c.args.day
+    c.is_in_balance-in_balance.result
     (is_in_balance (known_of c.args.looked.now) c.args.request.now)
-    (c.in_ok-row.ensures ∙ ap (recorded_row c.args.looked.now.today c.args.request.now) (c.in_ok-reply.ensures
-    ∙ totals_replied c.args.day c.as_request-message.result.now c.args.request.now c.balance_code-code.result
-    c.is_in_balance-in_balance.result (is_in_balance (known_of c.args.looked.now) c.args.request.now)
+    (c.in_ok-row.ensures ∙ ap (recorded_row c.args.looked.now.today c.args.request.now)
+    (c.in_ok-reply.ensures
+    ∙ totals_replied c.args.day c.as_request-message.result.now c.args.request.now
+    c.balance_code-code.result
+    c.is_in_balance-in_balance.result
+    (is_in_balance (known_of c.args.looked.now) c.args.request.now)
     c.args.looked.now.totals c.as_request-message.ensures.value c.balance_code-code.ensures
     c.is_in_balance-in_balance.ensures)) c.merchant_of.ensures c.is_in_balance-in_balance.ensures

@@ -11,19 +11,25 @@ use Rattle.acq_host.proofs.host.Host.run.Goals as goal
 pub loop-at-init : goal.loop-at-init
 loop-at-init g c = record {
   took =
-      subst (HasTaken g.B.Book.tables g.B.Book.is_honest g.B.Book.is_open g.B.Book.may_leave g.B.Book.failures
+      subst (HasTaken g.B.Book.tables g.B.Book.is_honest g.B.Book.is_open g.B.Book.may_leave
+      g.B.Book.failures
       c.args.self.now c.args.self.now []) (sym c.new-said.ensures.items)
-      (took_none g.B.Book.tables g.B.Book.is_honest g.B.Book.is_open g.B.Book.may_leave g.B.Book.failures
+      (took_none g.B.Book.tables g.B.Book.is_honest g.B.Book.is_open g.B.Book.may_leave
+      g.B.Book.failures
       c.args.self.now);
-  past = subst (λ b. g.B.Book.is_open b → HasPast (g.B.Book.tables b)) c.self.view_is c.self.invariant;
+  past = subst (λ b. g.B.Book.is_open b → HasPast (g.B.Book.tables b)) c.self.view_is
+      c.self.invariant;
 }
 
 pub loop-at-preserved : goal.loop-at-preserved
 loop-at-preserved g c = record {
   took =
-      took_next g.B.Book.tables g.B.Book.is_honest g.B.Book.is_open g.B.Book.may_leave g.B.Book.failures
-      c.args.self.now c.loop-at.self c.take_next.new.self c.args.events.now c.loop-at.at c.index-events-at.result
-      c.loop-at.said.items c.take_next.new.said.items (omega arith) c.index-events-at.is c.loop-at.invariant.took
+      took_next g.B.Book.tables g.B.Book.is_honest g.B.Book.is_open g.B.Book.may_leave
+      g.B.Book.failures
+      c.args.self.now c.loop-at.self c.take_next.new.self c.args.events.now c.loop-at.at
+      c.index-events-at.result
+      c.loop-at.said.items c.take_next.new.said.items (omega arith) c.index-events-at.is
+      c.loop-at.invariant.took
       c.in_default.ensures.tables c.in_default.ensures.said;
   past = c.in_default.ensures.past;
 }
@@ -46,14 +52,18 @@ returns-in-Err-clause-postings g c = λ o end.
     let before = makes.was_honest (g.met.B.Book.honest c.take_next.new.self end) in
     keeps_postings (g.B.Book.tables c.args.self.now) (g.B.Book.tables c.take_next.new.self)
     (take c.loop-at.at c.args.events.now)
-    (subst (λ b. g.B.Book.is_open b → HasPast (g.B.Book.tables b)) c.self.view_is c.self.invariant o)
+    (subst (λ b. g.B.Book.is_open b → HasPast (g.B.Book.tables b)) c.self.view_is c.self.invariant
+    o)
     (makes.unmade refl (first.stays_open before o) end ∙ first.leads before o)
 
 pub returns-in-Err-clause-fault_stop : goal.returns-in-Err-clause-fault_stop
 returns-in-Err-clause-fault_stop g c =
-    may_stop_at g.B.Book.tables g.B.Book.is_honest g.B.Book.is_open g.B.Book.may_leave g.B.Book.failures
-    c.args.self.now c.loop-at.self c.take_next.new.self c.args.events.now c.loop-at.at c.index-events-at.result
-    c.loop-at.said.items (omega arith) c.index-events-at.is c.loop-at.invariant.took c.in-Err.ensures.tables
+    may_stop_at g.B.Book.tables g.B.Book.is_honest g.B.Book.is_open g.B.Book.may_leave
+    g.B.Book.failures
+    c.args.self.now c.loop-at.self c.take_next.new.self c.args.events.now c.loop-at.at
+    c.index-events-at.result
+    c.loop-at.said.items (omega arith) c.index-events-at.is c.loop-at.invariant.took
+    c.in-Err.ensures.tables
 
 pub returns-clause-alone : goal.returns-clause-alone
 returns-clause-alone g c = λ h o.
@@ -71,7 +81,8 @@ returns-clause-postings g c = λ o end.
     let t = g.B.Book.tables c.args.self.now in
     let first = c.loop-at.invariant.took in
     keeps_postings t (g.B.Book.tables c.loop-at.self) all
-    (subst (λ b. g.B.Book.is_open b → HasPast (g.B.Book.tables b)) c.self.view_is c.self.invariant o)
+    (subst (λ b. g.B.Book.is_open b → HasPast (g.B.Book.tables b)) c.self.view_is c.self.invariant
+    o)
     (first.leads (g.met.B.Book.honest c.loop-at.self end) o ∙ ap (tables_after t) whole)
 
 pub returns-in-Err-clause-clearing : goal.returns-in-Err-clause-clearing
@@ -82,7 +93,8 @@ returns-in-Err-clause-clearing g c = λ o end.
     let between = first.stays_open before o in
     keeps_clearing (g.B.Book.tables c.args.self.now) (g.B.Book.tables c.take_next.new.self)
     (take c.loop-at.at c.args.events.now)
-    (subst (λ b. g.B.Book.is_open b → HasPast (g.B.Book.tables b)) c.self.view_is c.self.invariant o)
+    (subst (λ b. g.B.Book.is_open b → HasPast (g.B.Book.tables b)) c.self.view_is c.self.invariant
+    o)
     (subst HasPast (sym (makes.unmade refl between end)) (c.loop-at.invariant.past between))
     (makes.unmade refl between end ∙ first.leads before o)
 
@@ -93,5 +105,7 @@ returns-clause-clearing g c = λ o end.
     let t = g.B.Book.tables c.args.self.now in
     let first = c.loop-at.invariant.took in
     keeps_clearing t (g.B.Book.tables c.loop-at.self) all
-    (subst (λ b. g.B.Book.is_open b → HasPast (g.B.Book.tables b)) c.self.view_is c.self.invariant o)
-    (c.loop-at.invariant.past end) (first.leads (g.met.B.Book.honest c.loop-at.self end) o ∙ ap (tables_after t) whole)
+    (subst (λ b. g.B.Book.is_open b → HasPast (g.B.Book.tables b)) c.self.view_is c.self.invariant
+    o)
+    (c.loop-at.invariant.past end)
+    (first.leads (g.met.B.Book.honest c.loop-at.self end) o ∙ ap (tables_after t) whole)

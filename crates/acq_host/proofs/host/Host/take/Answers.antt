@@ -19,7 +19,8 @@ apply-requires g c = record {
       let looks = c.in_ok-output.ensures.looks in
       let past = c.self.invariant (looks.was_open o) in
       subst (λ t. IfSome c.in_ok-output.change (Fits t)) (sym (looks.same o))
-      (subst (λ x. IfSome x (Fits (g.B.Book.tables c.self.inside.book))) (sym (c.in_ok-output.ensures.change o))
+      (subst (λ x. IfSome x (Fits (g.B.Book.tables c.self.inside.book)))
+      (sym (c.in_ok-output.ensures.change o))
       (changes_fit past.0 (g.B.Book.tables c.self.inside.book) e past.1 c.every_event.ensures));
   past = λ o.
       let looks = c.in_ok-output.ensures.looks in
@@ -33,14 +34,20 @@ pub returns-in_err-apply-clause-tables : goal.returns-in_err-apply-clause-tables
 returns-in_err-apply-clause-tables g c =
     let looks = c.in_ok-output.ensures.looks in
     let failed : is_ok c.from_residual-in_err-apply.result ≡ false = search rules in
-    subst (λ ok. Makes g.B.Book.tables g.B.Book.is_honest g.B.Book.is_open g.B.Book.may_leave g.B.Book.failures
-    c.args.self.now c.apply.new.book ok (step_tables (g.B.Book.tables c.args.self.now) (arrival_of c.args.event.now)))
+    subst (λ ok. Makes g.B.Book.tables g.B.Book.is_honest g.B.Book.is_open g.B.Book.may_leave
+    g.B.Book.failures
+    c.args.self.now c.apply.new.book ok
+    (step_tables (g.B.Book.tables c.args.self.now) (arrival_of c.args.event.now)))
     (sym failed)
-    (subst (λ b. Makes g.B.Book.tables g.B.Book.is_honest g.B.Book.is_open g.B.Book.may_leave g.B.Book.failures b
-    c.apply.new.book false (step_tables (g.B.Book.tables b) (arrival_of c.args.event.now))) c.self.view_is
-    (makes_after g.B.Book.tables g.B.Book.is_honest g.B.Book.is_open g.B.Book.may_leave g.B.Book.failures
+    (subst (λ b. Makes g.B.Book.tables g.B.Book.is_honest g.B.Book.is_open g.B.Book.may_leave
+    g.B.Book.failures b
+    c.apply.new.book false (step_tables (g.B.Book.tables b) (arrival_of c.args.event.now)))
+    c.self.view_is
+    (makes_after g.B.Book.tables g.B.Book.is_honest g.B.Book.is_open g.B.Book.may_leave
+    g.B.Book.failures
     g.met.B.Book.honest c.self.inside.book c.decide.new.book c.apply.new.book _ _ _
-    (λ o i. after_any (looks.same o i) (c.in_ok-output.ensures.change o i)) looks c.in_err-apply.ensures.makes))
+    (λ o i. after_any (looks.same o i) (c.in_ok-output.ensures.change o i)) looks
+    c.in_err-apply.ensures.makes))
 
 pub invariant_of-self-2 : goal.invariant_of-self-2
 invariant_of-self-2 g c = λ o.
@@ -48,7 +55,8 @@ invariant_of-self-2 g c = λ o.
     let looks = c.in_ok-output.ensures.looks in
     let makes = c.in_ok-apply.ensures.makes in
     let t = g.B.Book.tables c.self.inside.book in
-    let went_on : g.B.Book.is_open c.decide.new.book → HasPast (g.B.Book.tables c.apply.new.book) = λ between.
+    let went_on : g.B.Book.is_open c.decide.new.book →
+    HasPast (g.B.Book.tables c.apply.new.book) = λ between.
     let past = c.self.invariant (looks.was_open between) in (
       past.0,
       subst (IsBook past.0)
@@ -65,7 +73,8 @@ pub returns-clause-output : goal.returns-clause-output
 returns-clause-output g c = λ h o.
     let looks = c.in_ok-output.ensures.looks in
     let was_open = subst g.B.Book.is_open (sym c.self.view_is) o in
-    c.in_ok-output.ensures.output (looks.stays_open refl (c.in_ok-apply.ensures.makes.was_honest h) was_open)
+    c.in_ok-output.ensures.output
+    (looks.stays_open refl (c.in_ok-apply.ensures.makes.was_honest h) was_open)
     ∙ ap (λ b. step_output (g.B.Book.tables b) (arrival_of c.args.event.now)) c.self.view_is
 
 pub returns-clause-reply : goal.returns-clause-reply
@@ -74,14 +83,20 @@ returns-clause-reply g c = λ h o party text is.
     let looks = c.in_ok-output.ensures.looks in
     let was_open = subst g.B.Book.is_open (sym c.self.view_is) o in
     let past = c.self.invariant was_open in
-    let output = c.in_ok-output.ensures.output (looks.stays_open refl (c.in_ok-apply.ensures.makes.was_honest h) was_open) in
-    (books_are_sound past.0 t past.1).next_reply c.args.event.now party text c.every_event.ensures (sym output ∙ is)
+    let output = c.in_ok-output.ensures.output
+    (looks.stays_open refl (c.in_ok-apply.ensures.makes.was_honest h) was_open) in
+    (books_are_sound past.0 t past.1).next_reply c.args.event.now party text c.every_event.ensures
+    (sym output ∙ is)
 
 pub returns-clause-tables : goal.returns-clause-tables
 returns-clause-tables g c =
     let looks = c.in_ok-output.ensures.looks in
-    subst (λ b. Makes g.B.Book.tables g.B.Book.is_honest g.B.Book.is_open g.B.Book.may_leave g.B.Book.failures b
-    c.apply.new.book true (step_tables (g.B.Book.tables b) (arrival_of c.args.event.now))) c.self.view_is
-    (makes_after g.B.Book.tables g.B.Book.is_honest g.B.Book.is_open g.B.Book.may_leave g.B.Book.failures
+    subst (λ b. Makes g.B.Book.tables g.B.Book.is_honest g.B.Book.is_open g.B.Book.may_leave
+    g.B.Book.failures b
+    c.apply.new.book true (step_tables (g.B.Book.tables b) (arrival_of c.args.event.now)))
+    c.self.view_is
+    (makes_after g.B.Book.tables g.B.Book.is_honest g.B.Book.is_open g.B.Book.may_leave
+    g.B.Book.failures
     g.met.B.Book.honest c.self.inside.book c.decide.new.book c.apply.new.book _ _ _
-    (λ o i. after_any (looks.same o i) (c.in_ok-output.ensures.change o i)) looks c.in_ok-apply.ensures.makes)
+    (λ o i. after_any (looks.same o i) (c.in_ok-output.ensures.change o i)) looks
+    c.in_ok-apply.ensures.makes)

@@ -1,10 +1,12 @@
--- `after` makes the empty struct, and picks the bytes and failures that its clauses name. Assumes `Logic`.
+-- `after` makes the empty struct, and picks the bytes and failures that its clauses name. Assumes
+-- `Logic`.
 use Rattle.std.proofs.Common.{List, [], ◌∷◌, ◌++◌, ◌+◌, refl}
 use Rattle.std.proofs.raw_atomic.Walks.{proved_at}
 use mir.Val.{Val, vptr}
 use contract.Running.{tables}
 use prog.Wp.{WpFn}
-use types.Kit.{‵, raw, ◌⊛◌, prop, ◌$◌, ◌∵◌, !, qed, move, keep, drop, split, fsplit, fjoin, feq_l, regoal, suffices, done}
+use types.Kit.{‵, raw, ◌⊛◌, prop, ◌$◌, ◌∵◌, !, qed, move, keep, drop, split, fsplit, fjoin, feq_l}
+use types.Kit.{regoal, suffices, done}
 use types.Part.{agg}
 use types.Run.{enter, returns, no_more}
 use types.ByLocal.{alloc_all, pass_all, free_all, look_at, sets}
@@ -28,9 +30,11 @@ stayed = (stay_dropped _ yes, (stay_dropped _ yes, tt))
 
 pub after_spec : {M : Type 1} → statement M
 after_spec 𝓤 𝓛 𝓜 𝓡 wired =
-    let c = f.clauses 𝓛 𝓜.mem 𝓡.returns in let W = walk_of 𝓛 f.ended stayed c in let 𝓣 = tables 𝓤 𝓛.H 𝓜 𝓡 𝓡.env in
+    let c = f.clauses 𝓛 𝓜.mem 𝓡.returns in let W = walk_of 𝓛 f.ended stayed c in let 𝓣 =
+    tables 𝓤 𝓛.H 𝓜 𝓡 𝓡.env in
     proved_at 𝓛 f.ended stayed c 𝓜 𝓡 (
-      Goes-dropped 𝓛 3 (RefOf (0 ∷ []) tt (plain (λ _. Transcript.the_row)) (λ _. tt)) yes (λ κs x w. refl),
+      Goes-dropped 𝓛 3 (RefOf (0 ∷ []) tt (plain (λ _. Transcript.the_row)) (λ _. tt)) yes
+          (λ κs x w. refl),
       (
         Goes-dropped 𝓛 3 (RefOf (1 ∷ []) tt (plain (λ κs. Call.the_row (named_lft 3 2 tt κs))) (λ _.
             tt)) yes (λ κs x w. refl),
@@ -46,7 +50,8 @@ after_spec 𝓤 𝓛 𝓜 𝓡 wired =
           ++ moved_bytes a.1.0.now;
       failures = a.0.now.failures + failed_calls a.1.0.now;
     } in
-    qed 𝓛 ((raw (alive 𝓛 f.signature z.0.0 z.0.1) ⊛ ‵ (owns (types_at f.signature.params z.0.0) a vss)) ∷ raw
+    qed 𝓛 ((raw (alive 𝓛 f.signature z.0.0 z.0.1) ⊛ ‵
+    (owns (types_at f.signature.params z.0.0) a vss)) ∷ raw
     ((c z.0.0 a).requires z.1) ∷ []) ∵
     keep ! (0 ∷ []) $ split ! $ move ! (1 ∷ []) $ fsplit ! $ fsplit ! $ feq_l ! (λ is_self.
     drop ! $ fsplit ! $ fsplit ! $ feq_l ! (λ is_call. drop ! $ drop ! $
@@ -54,10 +59,12 @@ after_spec 𝓤 𝓛 𝓜 𝓡 wired =
     ++ [])) (W.post z))) is_self refl $
     regoal ! (λ (us : List Val). prop (WpFn 𝓤 𝓛.H 𝓣.C 𝓣.Λ code.function ((self ∷ []) ++ (us
     ++ [])) (W.post z))) is_call refl $
-    enter ! _ _ _ (self ∷ call ∷ []) _ $ alloc_all ! (λ l. pass_all ! refl ((tt, tt), ((tt, tt), tt)) $
+    enter ! _ _ _ (self ∷ call ∷ []) _
+    $ alloc_all ! (λ l. pass_all ! refl ((tt, tt), ((tt, tt), tt)) $
     sets ! (agg ! (no_more !)) refl (tt, tt) $
     nothing ! $ owns_empty ! $ fjoin ! $
     returns ! (look_at ! 0 refl) $ free_all ! refl $
-    suffices ! _ (ends_at 𝓛 f.ended stayed c z empty_value made (tt, (tt, tt)) (tt, (tt, tt))) $ says !
+    suffices ! _ (ends_at 𝓛 f.ended stayed c z empty_value made (tt, (tt, tt)) (tt, (tt, tt)))
+    $ says !
     (record { bytes = refl; failures = refl }) $
     nothing ! $ nothing ! $ fjoin ! $ nothing ! $ fjoin ! $ move ! (2 ∷ 0 ∷ 1 ∷ []) $ done !))))

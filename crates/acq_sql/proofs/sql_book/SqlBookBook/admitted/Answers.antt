@@ -5,7 +5,9 @@ use Rattle.acq_sql.proofs.sql_book.SqlBookBook.admitted.Goals as goal
 pub returns-clause-value : goal.returns-clause-value
 returns-clause-value g c o =
     value_of g.S.Store _ _
-    (record { connection = c.admitted-answer.new.conn; failures = c.counted.new.failures }) c.self.view_is
-    c.admitted-answer.result c.counted.result c.admitted-answer.ensures.looks c.self.invariant c.settled.ensures
+    (record { connection = c.admitted-answer.new.conn; failures = c.counted.new.failures })
+    c.self.view_is
+    c.admitted-answer.result c.counted.result c.admitted-answer.ensures.looks c.self.invariant
+    c.settled.ensures
     c.counted.ensures.same c.counted.ensures.succeeds (λ t. admitted_at t c.args.merchant)
     c.admitted-answer.ensures.answers o

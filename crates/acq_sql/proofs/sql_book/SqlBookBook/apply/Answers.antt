@@ -10,18 +10,27 @@ use Rattle.acq_sql.proofs.sql_book.SqlBookBook.apply.Goals as goal
 
 pub returns-clause-makes : goal.returns-clause-makes
 returns-clause-makes g c =
-    let old : Kept _ = record { connection = c.self.inside.connection; failures = c.self.inside.failures } in
-    let now : Kept _ = record { connection = c.apply-made.new.conn; failures = c.counted.new.failures } in
+    let old : Kept _ =
+    record { connection = c.self.inside.connection; failures = c.self.inside.failures } in
+    let now : Kept _ =
+    record { connection = c.apply-made.new.conn; failures = c.counted.new.failures } in
     let change = c.args.change.now in
-    subst (λ (k : Kept _). Makes (tables g.S.Store) (is_honest g.S.Store) (is_open g.S.Store) (may_leave g.S.Store)
-    (λ (book : Kept _). book.failures) k now (is_ok c.counted.result) (after (tables g.S.Store k) change))
+    subst (λ (k : Kept _). Makes (tables g.S.Store) (is_honest g.S.Store) (is_open g.S.Store)
+    (may_leave g.S.Store)
+    (λ (book : Kept _). book.failures) k now (is_ok c.counted.result)
+    (after (tables g.S.Store k) change))
     c.self.view_is
-    (subst (λ b. Makes (tables g.S.Store) (is_honest g.S.Store) (is_open g.S.Store) (may_leave g.S.Store)
-    (λ (book : Kept _). book.failures) old now b (after (tables g.S.Store old) change)) (sym c.counted.ensures.succeeds)
-    (makes_at g.S.Store g.met.S.Store.settled old now change c.apply-made.result c.apply-made.ensures.done
+    (subst (λ b. Makes (tables g.S.Store) (is_honest g.S.Store) (is_open g.S.Store)
+    (may_leave g.S.Store)
+    (λ (book : Kept _). book.failures) old now b (after (tables g.S.Store old) change))
+    (sym c.counted.ensures.succeeds)
+    (makes_at g.S.Store g.met.S.Store.settled old now change c.apply-made.result
+    c.apply-made.ensures.done
     c.apply-made.ensures.undone c.apply-made.ensures.crash
-    (subst (λ (k : Kept _). is_open g.S.Store k → Fits (tables g.S.Store k) change) (sym c.self.view_is)
+    (subst (λ (k : Kept _). is_open g.S.Store k → Fits (tables g.S.Store k) change)
+    (sym c.self.view_is)
     c.requires.fits)
-    (subst (λ (k : Kept _). is_open g.S.Store k → HasPast (after (tables g.S.Store k) change)) (sym c.self.view_is)
+    (subst (λ (k : Kept _). is_open g.S.Store k → HasPast (after (tables g.S.Store k) change))
+    (sym c.self.view_is)
     c.requires.past)
     c.counted.ensures.rise))

@@ -5,7 +5,10 @@ use Rattle.acq_sql.proofs.sql_book.SqlBookBook.by_reference.Goals as goal
 pub returns-clause-value : goal.returns-clause-value
 returns-clause-value g c o =
     value_of g.S.Store _ _
-    (record { connection = c.by_reference-answer.new.conn; failures = c.counted.new.failures }) c.self.view_is
-    c.by_reference-answer.result c.counted.result c.by_reference-answer.ensures.looks c.self.invariant c.settled.ensures
-    c.counted.ensures.same c.counted.ensures.succeeds (λ t. referred_at t c.args.merchant c.args.reference)
+    (record { connection = c.by_reference-answer.new.conn; failures = c.counted.new.failures })
+    c.self.view_is
+    c.by_reference-answer.result c.counted.result c.by_reference-answer.ensures.looks
+    c.self.invariant c.settled.ensures
+    c.counted.ensures.same c.counted.ensures.succeeds
+    (λ t. referred_at t c.args.merchant c.args.reference)
     (λ clean t holds past. c.by_reference-answer.ensures.answers clean t holds) o

@@ -5,7 +5,10 @@ use Rattle.acq_sql.proofs.sql_book.SqlBookBook.has_terminal.Goals as goal
 pub returns-clause-value : goal.returns-clause-value
 returns-clause-value g c o =
     value_of g.S.Store _ _
-    (record { connection = c.has_terminal-answer.new.conn; failures = c.counted.new.failures }) c.self.view_is
-    c.has_terminal-answer.result c.counted.result c.has_terminal-answer.ensures.looks c.self.invariant c.settled.ensures
-    c.counted.ensures.same c.counted.ensures.succeeds (λ t. has_terminal_at t c.args.merchant c.args.id)
+    (record { connection = c.has_terminal-answer.new.conn; failures = c.counted.new.failures })
+    c.self.view_is
+    c.has_terminal-answer.result c.counted.result c.has_terminal-answer.ensures.looks
+    c.self.invariant c.settled.ensures
+    c.counted.ensures.same c.counted.ensures.succeeds
+    (λ t. has_terminal_at t c.args.merchant c.args.id)
     (λ clean t holds past. c.has_terminal-answer.ensures.answers clean t holds) o

@@ -9,7 +9,11 @@ returns-clause-value g c o =
     c.without_number.ensures ∙ ap (option_map (λ row. row.1))
     (rw c.in_ok-last.was at
     (value_of g.S.Store _ _
-    (record { connection = c.last_reconciliation-answer.new.conn; failures = c.counted.new.failures }) c.self.view_is
+    (record {
+      connection = c.last_reconciliation-answer.new.conn;
+      failures =
+          c.counted.new.failures;
+    }) c.self.view_is
     c.last_reconciliation-answer.result c.counted.result c.last_reconciliation-answer.ensures.looks
     c.self.invariant c.settled.ensures c.counted.ensures.same c.counted.ensures.succeeds
     (λ t. last_numbered_at t c.args.merchant c.args.day)

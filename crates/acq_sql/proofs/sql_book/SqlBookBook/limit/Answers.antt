@@ -7,7 +7,9 @@ returns-clause-value g c o =
     ap (λ p. p.0)
     (rw c.in_ok-limit.was at
     (value_of g.S.Store _ _
-    (record { connection = c.limit_and_day-answer.new.conn; failures = c.counted.new.failures }) c.self.view_is
+    (record { connection = c.limit_and_day-answer.new.conn; failures = c.counted.new.failures })
+    c.self.view_is
     c.limit_and_day-answer.result c.counted.result c.limit_and_day-answer.ensures.looks
-    c.self.invariant c.settled.ensures c.counted.ensures.same c.counted.ensures.succeeds (λ t. (t.limit, t.day))
+    c.self.invariant c.settled.ensures c.counted.ensures.same c.counted.ensures.succeeds
+    (λ t. (t.limit, t.day))
     (λ clean t holds past. c.limit_and_day-answer.ensures.answers clean t holds) o))

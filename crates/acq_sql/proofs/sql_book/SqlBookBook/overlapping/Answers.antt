@@ -5,7 +5,9 @@ use Rattle.acq_sql.proofs.sql_book.SqlBookBook.overlapping.Goals as goal
 pub returns-clause-value : goal.returns-clause-value
 returns-clause-value g c o =
     value_of g.S.Store _ _
-    (record { connection = c.overlapping-answer.new.conn; failures = c.counted.new.failures }) c.self.view_is
-    c.overlapping-answer.result c.counted.result c.overlapping-answer.ensures.looks c.self.invariant c.settled.ensures
+    (record { connection = c.overlapping-answer.new.conn; failures = c.counted.new.failures })
+    c.self.view_is
+    c.overlapping-answer.result c.counted.result c.overlapping-answer.ensures.looks c.self.invariant
+    c.settled.ensures
     c.counted.ensures.same c.counted.ensures.succeeds (λ t. overlapping_at t c.args.low c.args.high)
     (λ clean t holds past. c.overlapping-answer.ensures.answers clean t holds) o

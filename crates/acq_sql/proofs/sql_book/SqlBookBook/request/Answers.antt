@@ -5,7 +5,9 @@ use Rattle.acq_sql.proofs.sql_book.SqlBookBook.request.Goals as goal
 pub returns-clause-value : goal.returns-clause-value
 returns-clause-value g c o =
     value_of g.S.Store _ _
-    (record { connection = c.request-answer.new.conn; failures = c.counted.new.failures }) c.self.view_is
-    c.request-answer.result c.counted.result c.request-answer.ensures.looks c.self.invariant c.settled.ensures
+    (record { connection = c.request-answer.new.conn; failures = c.counted.new.failures })
+    c.self.view_is
+    c.request-answer.result c.counted.result c.request-answer.ensures.looks c.self.invariant
+    c.settled.ensures
     c.counted.ensures.same c.counted.ensures.succeeds (λ t. request_at t c.args.key)
     (λ clean t holds past. c.request-answer.ensures.answers clean t holds) o

@@ -5,7 +5,9 @@ use Rattle.acq_sql.proofs.sql_book.SqlBookBook.totals.Goals as goal
 pub returns-clause-value : goal.returns-clause-value
 returns-clause-value g c o =
     value_of g.S.Store _ _
-    (record { connection = c.totals-answer.new.conn; failures = c.counted.new.failures }) c.self.view_is
-    c.totals-answer.result c.counted.result c.totals-answer.ensures.looks c.self.invariant c.settled.ensures
+    (record { connection = c.totals-answer.new.conn; failures = c.counted.new.failures })
+    c.self.view_is
+    c.totals-answer.result c.counted.result c.totals-answer.ensures.looks c.self.invariant
+    c.settled.ensures
     c.counted.ensures.same c.counted.ensures.succeeds (λ t. totals_at t c.args.merchant c.args.day)
     (λ clean t holds past. c.totals-answer.ensures.answers clean t holds) o

@@ -11,7 +11,8 @@ returns-in_err-give_round-clause-reached g c = λ h o.
     let before = inv.1 (one.was_honest h) o in
     let p = err_from_is_err_and c.from_residual.result c.from_residual.ensures.1 in
     rw (p.1, p.2)
-    (refused_on (g.B.Book.tables c.args.host.now) (g.B.Book.tables c.loop-place.host) (g.B.Book.tables c.give_round.new.host)
+    (refused_on (g.B.Book.tables c.args.host.now) (g.B.Book.tables c.loop-place.host)
+    (g.B.Book.tables c.give_round.new.host)
     c.in_err-give_round.field-0.0 before.0 (one.reached h before.1))
 
 pub loop-place-preserved : goal.loop-place-preserved
@@ -21,7 +22,8 @@ loop-place-preserved g c =
       length-set c.loop-place.self.places.items c.loop-place.place c.give_round.new.place ∙ inv.0,
       (λ h o.
           let before = inv.1 (one.was_honest h) o in (
-            reached_on (g.B.Book.tables c.args.host.now) (g.B.Book.tables c.loop-place.host) (g.B.Book.tables c.give_round.new.host)
+            reached_on (g.B.Book.tables c.args.host.now) (g.B.Book.tables c.loop-place.host)
+                (g.B.Book.tables c.give_round.new.host)
                 before.0 (one.reached h before.1),
             one.stays_open h before.1,
           )),

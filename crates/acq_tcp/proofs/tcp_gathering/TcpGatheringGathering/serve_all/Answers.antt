@@ -10,7 +10,8 @@ returns-in_err-give_rounds g c = record {
       let before = inv.0 (one.was_honest h) o in
       let p = err_from_is_err_and c.from_residual.result c.from_residual.ensures.1 in
       rw (p.1, p.2)
-      (refused_on (g.B.Book.tables c.args.host.now) (g.B.Book.tables c.loop.host) (g.B.Book.tables c.give_rounds.new.host)
+      (refused_on (g.B.Book.tables c.args.host.now) (g.B.Book.tables c.loop.host)
+      (g.B.Book.tables c.give_rounds.new.host)
       c.in_err-give_rounds.field-0.0 before.0 (one.reached h before.1));
 }
 
@@ -20,7 +21,8 @@ loop-preserved g c =
     let one = c.in_ok-give_rounds.ensures in (
       (λ h o.
           let before = inv.0 (one.was_honest h) o in (
-            reached_on (g.B.Book.tables c.args.host.now) (g.B.Book.tables c.loop.host) (g.B.Book.tables c.give_rounds.new.host)
+            reached_on (g.B.Book.tables c.args.host.now) (g.B.Book.tables c.loop.host)
+                (g.B.Book.tables c.give_rounds.new.host)
                 before.0 (one.reached h before.1),
             one.stays_open h before.1,
           )),

@@ -7,7 +7,8 @@ of-requires-clause-least c = let valid = valid_digits c.digits.result.now c.digi
     omega (arith, valid.0)
 
 pub of-requires-clause-greatest : goal.of-requires-clause-greatest
-of-requires-clause-greatest c = let valid = valid_digits c.digits.result.now c.digits.ensures.valid in
+of-requires-clause-greatest c = let valid = valid_digits c.digits.result.now c.digits.ensures.valid
+    in
     omega (arith, valid.1)
 
 pub of-requires-clause-each : goal.of-requires-clause-each

@@ -14,7 +14,8 @@ slice_bounds-of_digits-end c =
 pub of_digits-requires-clause-each : goal.of_digits-requires-clause-each
 of_digits-requires-clause-each c =
     let digits = c.digits-digits.result.now in
-    all-take is_ascii_digit prefix_digits digits (valid_digits digits c.digits-digits.ensures.valid).2
+    all-take is_ascii_digit prefix_digits digits
+    (valid_digits digits c.digits-digits.ensures.valid).2
 
 pub of_digits-requires-clause-size : goal.of_digits-requires-clause-size
 of_digits-requires-clause-size c =

@@ -8,5 +8,6 @@ invariant_of-result c =
     let text = c.args.text.now in
     let valid : is_valid_card text ≡ true = sym c.is_valid.ensures ∙ c.if-not-is_valid.false in
     let least = (valid_digits text valid).1 in
-    let kept = kept-card text c.copy_from_slice.new.self least valid c.copy_from_slice.ensures.after in
+    let kept = kept-card text c.copy_from_slice.new.self least valid c.copy_from_slice.ensures.after
+    in
     (least, kept.0, kept.1)

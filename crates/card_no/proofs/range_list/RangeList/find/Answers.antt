@@ -8,4 +8,5 @@ pub returns-clause-only : goal.returns-clause-only
 returns-clause-only c =
     let is = c.holding.ensures ∙ ap (λ (rs : List Range). range_of_prefix rs c.args.prefix)
     c.as_slice.ensures.value in
-    rw (← c.self.view_is) (range_is_one c.self.inside.ranges.items c.args.prefix _ c.self.invariant is)
+    rw (← c.self.view_is)
+    (range_is_one c.self.inside.ranges.items c.args.prefix _ c.self.invariant is)

@@ -10,7 +10,8 @@ add-requires c =
     let kept = simp to_z-of_z at c.days.ensures in
     let only = rw c.from.ensures at kept in
     (can_add-days c.first_date.result (pos c.self.inside.number) c.days.result only).1
-    (IsEpochDay-number c.self.inside.number c.first_date.result c.self.invariant c.first_date.ensures)
+    (IsEpochDay-number c.self.inside.number c.first_date.result c.self.invariant
+    c.first_date.ensures)
 
 pub returns : goal.returns
 returns c =
@@ -18,6 +19,8 @@ returns c =
     let kept = simp to_z-of_z at c.days.ensures in
     let only = rw c.from.ensures at kept in
     let moved = date_add-days c.first_date.result (pos c.self.inside.number) c.days.result only in
-    let after = IsDaysAfterFirst-one (pos c.self.inside.number) c.first_date.result c.add.result c.first_date.ensures
+    let after = IsDaysAfterFirst-one (pos c.self.inside.number) c.first_date.result c.add.result
+    c.first_date.ensures
     (c.add.ensures ∙ moved) in
-    rw (← c.self.view_is) ((dates_of_days c.self.inside.number c.add.result c.self.invariant).0 after)
+    rw (← c.self.view_is)
+    ((dates_of_days c.self.inside.number c.add.result c.self.invariant).0 after)

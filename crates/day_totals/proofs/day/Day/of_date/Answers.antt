@@ -1,4 +1,5 @@
-use Rattle.std.proofs.Common.{arith, ◌≡◌, ℕ, ℤ, pos, negsuc, unsigned_abs, FitsSigned, w32, IfSome, IfNone, SomeIff}
+use Rattle.std.proofs.Common.{arith, ◌≡◌, ℕ, ℤ, pos, negsuc, unsigned_abs, FitsSigned, w32, IfSome}
+use Rattle.std.proofs.Common.{IfNone, SomeIff}
 use Rattle.std.proofs.Common.{Option, Some, None, ap, sym, subst}
 use Rattle.std.proofs.lemmas.Int.{ints, to_z-of_z}
 use Rattle.std.specs.Int.{FitsUnsignedBits}
@@ -7,12 +8,14 @@ use Rattle.day_totals.specs.Day.{IsDayNumber, IsDaysAfterFirst}
 use Rattle.day_totals.proofs.DatesOfDays.{dates_of_days, same_distance}
 use Rattle.day_totals.proofs.day.Day.of_date.Goals as goal
 
-found : (P : ℕ → Type 0) (r : Option ℕ) (fits : Type 0) (number : ℕ) → SomeIff r fits number → (fits → P number)
+found : (P : ℕ → Type 0) (r : Option ℕ) (fits : Type 0) (number : ℕ) → SomeIff r fits number →
+    (fits → P number)
     → IfSome r P
 found P None fits number h k = tt
 found P (Some n) fits number h k = subst P (sym h.1) (k h.0)
 
-none : (P : Type 0) (r : Option ℕ) (fits : Type 0) (number : ℕ) → SomeIff r fits number → ((fits → ⊥) → P) → IfNone r P
+none : (P : Type 0) (r : Option ℕ) (fits : Type 0) (number : ℕ) → SomeIff r fits number →
+    ((fits → ⊥) → P) → IfNone r P
 none P None fits number h k = k h
 none P (Some n) fits number h k = tt
 
@@ -29,7 +32,8 @@ returns-in-Ok-clause-found c =
     let kept = simp to_z-of_z at c.in-Ok.ensures in
     let after : IsDaysAfterFirst (pos c.in-Ok.number) c.args.date =
     rw (natural c.days_after_first.result c.in-Ok.number kept) at c.days_after_first.ensures in
-    found _ c.from_number.result _ _ c.from_number.ensures (λ h. (dates_of_days c.in-Ok.number c.args.date h).0 after)
+    found _ c.from_number.result _ _ c.from_number.ensures
+    (λ h. (dates_of_days c.in-Ok.number c.args.date h).0 after)
 
 pub returns-in-Ok-clause-none : goal.returns-in-Ok-clause-none
 returns-in-Ok-clause-none c =
@@ -37,7 +41,8 @@ returns-in-Ok-clause-none c =
     let kept = simp to_z-of_z at c.in-Ok.ensures in
     none _ c.from_number.result _ _ c.from_number.ensures
     (λ not n h parts.
-    let same = same_distance _ _ c.args.date c.days_after_first.ensures ((dates_of_days n c.args.date h).1 parts) in
+    let same = same_distance _ _ c.args.date c.days_after_first.ensures
+    ((dates_of_days n c.args.date h).1 parts) in
     let number = natural c.days_after_first.result c.in-Ok.number kept in
     not (omega (arith, signed_arith, same, number)))
 

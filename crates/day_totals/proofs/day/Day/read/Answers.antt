@@ -16,7 +16,8 @@ pub returns-else-eq-clause-none : goal.returns-else-eq-clause-none
 returns-else-eq-clause-none c = λ n h e.
     let parts = parsed c.args.text.now n h e c.in-Ok.date c.in-Ok.ensures.value in
     let same = date_text_of-same c.in_ok-day.day n c.in-Ok.date c.in_ok-day.ensures.found parts in
-    let texts : c.as_slice.result.now ≡ c.as_bytes.result.now = c.as_slice.ensures ∙ c.date_text.ensures ∙ same ∙ sym e
+    let texts : c.as_slice.result.now ≡ c.as_bytes.result.now = c.as_slice.ensures
+    ∙ c.date_text.ensures ∙ same ∙ sym e
     ∙ sym c.as_bytes.ensures.value in
     let equal = (bytes_eq-Decides c.as_slice.result.now c.as_bytes.result.now).1 texts in
     let answer : true ≡ false = sym equal ∙ sym c.eq.ensures ∙ c.if-eq.false in

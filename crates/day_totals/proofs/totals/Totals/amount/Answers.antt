@@ -3,4 +3,5 @@ use Rattle.day_totals.proofs.totals.Totals.amount.Goals as goal
 
 pub returns-clause-bound : goal.returns-clause-bound
 returns-clause-bound c =
-    rw c.total_for.ensures.value (total_for-within c.args.self.now c.args.leg c.total_for.ensures.within).1
+    rw c.total_for.ensures.value
+    (total_for-within c.args.self.now c.args.leg c.total_for.ensures.within).1

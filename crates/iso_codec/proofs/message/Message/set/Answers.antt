@@ -10,7 +10,8 @@ invariant_of-self-2 c =
     let old = elements_in c.self.inside.bytes.items c.self.inside.spans.items in
     record {
       within = c.put.ensures.within;
-      message = subst (λ (es : List (ℕ × List ℕ)). IsMessage (record { kind = kind; elements = es }))
+      message = subst (λ (es : List (ℕ × List ℕ)). IsMessage
+          (record { kind = kind; elements = es }))
           (sym c.in_ok-put.ensures.ok)
           (message_with kind old c.args.number c.args.content.now c.self.invariant.message
           (sym c.refusal.ensures ∙ c.in_default.is));

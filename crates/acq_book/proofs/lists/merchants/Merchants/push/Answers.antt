@@ -20,7 +20,8 @@ invariant_of-self c =
     let y = c.args.row in
     record {
       keyed = subst (IsKeyedBy (λ (row : Merchant). row.id)) (sym c.put_merchant.ensures.entries)
-          (keyed-push (λ (row : Merchant). row.id) s.rows.entries y.id y refl c.self.invariant.keyed);
+          (keyed-push (λ (row : Merchant). row.id) s.rows.entries y.id y refl
+          c.self.invariant.keyed);
       room = omega (arith, c.put_merchant.ensures.spare, c.self.invariant.room);
     }
 

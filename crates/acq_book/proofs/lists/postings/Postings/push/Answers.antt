@@ -10,7 +10,8 @@ use Rattle.acq_book.proofs.lists.postings.Postings.push.Goals as goal
 
 pub count_posting-number-requires-clause-small : goal.count_posting-number-requires-clause-small
 count_posting-number-requires-clause-small c =
-    let key : MerchantDay = record { merchant = c.args.posting.merchant; day = c.args.posting.day } in
+    let key : MerchantDay = record { merchant = c.args.posting.merchant; day = c.args.posting.day }
+    in
     let rows = c.self.inside.rows in
     omega (
       arith,

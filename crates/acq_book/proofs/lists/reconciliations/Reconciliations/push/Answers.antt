@@ -41,9 +41,11 @@ invariant_of-self c =
           c.put_next-number.ensures.last k
           ∙ sym (ap (λ rows. last_of (reconciliations_in rows k)) grown);
       number =
-          λ k. number_more s.rows.items y s.last c.put_next-number.new.last c.put_next-number.ensures.number
+          λ k. number_more s.rows.items y s.last c.put_next-number.new.last
+          c.put_next-number.ensures.number
           c.self.invariant.number c.put_next-number.ensures.last k
-          ∙ sym (ap (count (λ row. bytes_eq row.1.merchant k.merchant && eqb row.1.day k.day)) grown);
+          ∙ sym (ap (count (λ row. bytes_eq row.1.merchant k.merchant && eqb row.1.day k.day))
+          grown);
       room_rows =
           omega (
             arith,

@@ -15,7 +15,8 @@ invariant_of-self c =
 pub returns-clause-rows : goal.returns-clause-rows
 returns-clause-rows c =
     ap values_of c.answer_at.ensures.entries
-    ∙ (changed-rows c.args.key.now (answered_row c.args.status c.args.reply c.args.hold_end) c.self.inside.rows.entries
+    ∙ (changed-rows c.args.key.now (answered_row c.args.status c.args.reply c.args.hold_end)
+    c.self.inside.rows.entries
     c.self.invariant.keyed c.answer_at.ensures.unique
     ∙ ap (λ s. with_changed c.args.key.now
     (answered_row c.args.status c.args.reply c.args.hold_end) s.rows) c.self.view_is)

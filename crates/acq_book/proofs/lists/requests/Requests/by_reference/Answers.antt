@@ -11,7 +11,8 @@ use Rattle.acq_book.proofs.lists.requests.Requests.by_reference.Goals as goal
 pub returns-in-Some : goal.returns-in-Some
 returns-in-Some c =
     let s = c.self.inside in
-    let r : MerchantReference = record { merchant = c.args.merchant; reference = c.args.reference } in
+    let r : MerchantReference = record { merchant = c.args.merchant; reference = c.args.reference }
+    in
     c.row_at.ensures
     ∙ (found-at r (values s.rows) _ (sym (c.self.invariant.places r)
     ∙ (sym c.get.ensures.value ∙ ap option_copied c.in-Some.is))
@@ -21,7 +22,8 @@ returns-in-Some c =
 pub returns-in-None : goal.returns-in-None
 returns-in-None c =
     let s = c.self.inside in
-    let r : MerchantReference = record { merchant = c.args.merchant; reference = c.args.reference } in
+    let r : MerchantReference = record { merchant = c.args.merchant; reference = c.args.reference }
+    in
     found-at r (values s.rows) _ (sym (c.self.invariant.places r)
     ∙ (sym c.get.ensures.value ∙ ap option_copied c.in-None.is))
     ∙ ap (λ t. find (λ row. is_number c.args.reference row.reference)

@@ -8,7 +8,8 @@ use Rattle.acq_book.proofs.lists.requests.Requests.follow.Goals as goal
 pub invariant_of-self : goal.invariant_of-self
 invariant_of-self c =
     let done = c.follow_at.ensures in
-    requests_changed c.args.key.now (followed_row c.args.status) (edit_follow c.args.status) c.self.inside
+    requests_changed c.args.key.now (followed_row c.args.status)
+    (edit_follow c.args.status) c.self.inside
     c.follow_at.new.rows c.self.invariant done.entries done.unique done.spare
 
 pub returns-clause-rows : goal.returns-clause-rows

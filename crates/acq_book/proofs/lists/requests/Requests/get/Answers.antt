@@ -10,6 +10,7 @@ use Rattle.acq_book.proofs.lists.requests.Requests.get.Goals as goal
 pub returns : goal.returns
 returns c =
     c.get.ensures.value
-    ∙ found-keyed key_eq key_of (λ k row. same_key row.key k) (λ k row. key_eq-same k row.key) c.args.key.now
+    ∙ found-keyed key_eq key_of (λ k row. same_key row.key k) (λ k row. key_eq-same k row.key)
+    c.args.key.now
     c.self.inside.rows.entries c.self.invariant.keyed
     ∙ ap (λ s. find (λ row. same_key row.key c.args.key.now) s.rows) c.self.view_is

@@ -2,7 +2,8 @@ use Rattle.std.proofs.Common.{◌≡◌, rules, map, subst, IfOk}
 use Rattle.std.specs.Prelude.{◌&&◌, filter}
 use Rattle.std.specs.Map.Iter.{deref}
 use Rattle.std.specs.Str.{bytes_eq}
-use Rattle.std.proofs.lemmas.Iterator.Consumers.{map_from_collect, YieldsList-at, YieldsList-from_filter}
+use Rattle.std.proofs.lemmas.Iterator.Consumers.{map_from_collect, YieldsList-at}
+use Rattle.std.proofs.lemmas.Iterator.Consumers.{YieldsList-from_filter}
 use Rattle.std.proofs.lemmas.Iterator.Consumers.{YieldsList-from_rest}
 use borrow.Author.Tests.{tests}
 use Rattle.indexmap.specs.IndexMap.{values}
@@ -17,9 +18,11 @@ returns c =
     ≡ filter (λ row. is_authorization row.key.service && is_approved row.status)
     (requests_of c.args.merchant s.rows))) c.self.view_is
     (map_from_collect _ c.collect.ensures.ran
-    (YieldsList-from_filter _ (λ (row : Request). is_authorization row.key.service && is_approved row.status)
+    (YieldsList-from_filter _
+    (λ (row : Request). is_authorization row.key.service && is_approved row.status)
     (YieldsList-at c.filter-2.ensures.source
     (YieldsList-from_filter _ (λ (row : Request). bytes_eq row.key.merchant c.args.merchant)
-    (YieldsList-at c.filter.ensures.source (YieldsList-from_rest (values c.self.inside.rows) c.values.ensures.rest))
+    (YieldsList-at c.filter.ensures.source
+    (YieldsList-from_rest (values c.self.inside.rows) c.values.ensures.rest))
     c.filter.ensures.closure (λ x r q k. search (rules, tests))))
     c.filter-2.ensures.closure (λ x r q k. search (rules, tests))))

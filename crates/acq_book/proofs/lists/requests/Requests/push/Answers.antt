@@ -1,4 +1,5 @@
-use Rattle.std.proofs.Common.{◌≡◌, ◌∙◌, ◌+◌, ap, sym, refl, arith, subst, None, Some, MatchOption, IfSome}
+use Rattle.std.proofs.Common.{◌≡◌, ◌∙◌, ◌+◌, ap, sym, refl, arith, subst, None, Some, MatchOption}
+use Rattle.std.proofs.Common.{IfSome}
 use Rattle.std.proofs.Common.{if◌then◌else◌}
 use Rattle.std.specs.Prelude.{find, ◌&&◌}
 use Rattle.std.specs.Map.{count_at, values_of}
@@ -9,7 +10,8 @@ use Rattle.acq_message.specs.Elements.{same_key}
 use Rattle.acq_core.specs.Numbers.{is_used_count, is_admitted_count}
 use Rattle.acq_core.specs.Tables.{requests_of, used_in, admitted_in}
 use Rattle.acq_book.specs.declared.lists.merchant_reference.MerchantReference.{MerchantReference}
-use Rattle.acq_book.specs.Keys.{IsKeyedBy, key_eq, merchant_eq, reference_eq, place, refers, day_of_request}
+use Rattle.acq_book.specs.Keys.{IsKeyedBy, key_eq, merchant_eq, reference_eq, place, refers}
+use Rattle.acq_book.specs.Keys.{day_of_request}
 use Rattle.acq_book.proofs.KeyTests.{key_eq-same}
 use Rattle.acq_book.proofs.Keyed.{found-keyed, keyed-push, values-push}
 use Rattle.acq_book.proofs.Edits.{key_of}
@@ -19,9 +21,11 @@ use Rattle.acq_book.proofs.lists.requests.Requests.push.Goals as goal
 
 pub put_request-requires-clause-new : goal.put_request-requires-clause-new
 put_request-requires-clause-new c =
-    found-keyed key_eq key_of (λ k row. same_key row.key k) (λ k row. key_eq-same k row.key) c.args.row.key
+    found-keyed key_eq key_of (λ k row. same_key row.key k) (λ k row. key_eq-same k row.key)
+    c.args.row.key
     c.self.inside.rows.entries c.self.invariant.keyed
-    ∙ (ap (λ s. find (λ row. same_key row.key c.args.row.key) s.rows) c.self.view_is ∙ c.requires.new.key)
+    ∙ (ap (λ s. find (λ row. same_key row.key c.args.row.key) s.rows) c.self.view_is
+    ∙ c.requires.new.key)
 
 pub count_used-requires-clause-fits : goal.count_used-requires-clause-fits
 count_used-requires-clause-fits c = λ e.
@@ -42,26 +46,32 @@ invariant_of-self c =
     let new = c.put_request.ensures.entries in
     let grown = ap values_of new ∙ values-push s.rows.entries y.key y in
     record {
-      keyed = subst (IsKeyedBy key_of) (sym new) (keyed-push key_of s.rows.entries y.key y refl c.self.invariant.keyed);
+      keyed = subst (IsKeyedBy key_of) (sym new)
+          (keyed-push key_of s.rows.entries y.key y refl c.self.invariant.keyed);
       places = λ r.
-          referred_push _ (values_of s.rows.entries) y s.places c.put_place.new.places c.self.invariant.places
+          referred_push _ (values_of s.rows.entries) y s.places c.put_place.new.places
+          c.self.invariant.places
           (subst (λ n. MatchOption y.reference (c.put_place.new.places.entries ≡ s.places.entries)
           (λ number. (q : MerchantReference) →
           get reference_eq c.put_place.new.places q
-          ≡ (if reference_eq (record { merchant = y.key.merchant; reference = number }) q then Some n
+          ≡ (if reference_eq (record { merchant = y.key.merchant; reference = number }) q then
+          Some n
           else get reference_eq s.places q)))
-          (c.len-place.ensures.len ∙ sym (length-values_of s.rows.entries)) c.put_place.ensures.places)
+          (c.len-place.ensures.len ∙ sym (length-values_of s.rows.entries))
+          c.put_place.ensures.places)
           (subst (λ rows. IfSome y.reference (λ n. find (λ old. is_number n old.reference)
           (requests_of y.key.merchant rows) ≡ None))
           (sym (ap (λ t. t.rows) c.self.view_is)) c.requires.new.reference)
           r
           ∙ sym (ap (place (refers r)) grown);
       used =
-          λ k. used_more (values_of s.rows.entries) y s.used c.count_used.new.counts c.self.invariant.used
+          λ k. used_more (values_of s.rows.entries) y s.used c.count_used.new.counts
+          c.self.invariant.used
           c.count_used.ensures.counts k
           ∙ sym (ap (λ rows. used_in (requests_of k.merchant rows) k.day) grown);
       admitted =
-          λ m. given_more (values_of s.rows.entries) y s.admitted c.count_admitted.new.counts c.self.invariant.admitted
+          λ m. given_more (values_of s.rows.entries) y s.admitted c.count_admitted.new.counts
+          c.self.invariant.admitted
           (λ q. c.count_admitted.ensures.counts q
           ∙ ap (λ b. if b && merchant_eq y.key.merchant q
           then 1 + count_at (get merchant_eq s.admitted) y.key.merchant

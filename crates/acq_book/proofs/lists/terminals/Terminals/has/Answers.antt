@@ -14,8 +14,11 @@ returns c =
     let s = c.self.inside in
     let k : MerchantTerminal = record { merchant = c.args.merchant; id = c.args.id } in
     let found = found-keyed terminal_eq key_of_terminal
-    (λ k row. bytes_eq row.merchant k.merchant && bytes_eq row.id k.id) terminal_eq-same k s.rows.entries
+    (λ k row. bytes_eq row.merchant k.merchant && bytes_eq row.id k.id) terminal_eq-same k
+    s.rows.entries
     c.self.invariant.keyed in
     c.contains_key.ensures ∙ (ap is_some found
-    ∙ (found-any (λ row. bytes_eq row.merchant k.merchant && bytes_eq row.id k.id) (values_of s.rows.entries)
-    ∙ ap (λ t. list_any (λ row. bytes_eq row.merchant k.merchant && bytes_eq row.id k.id) t.rows) c.self.view_is))
+    ∙ (found-any (λ row. bytes_eq row.merchant k.merchant && bytes_eq row.id k.id)
+    (values_of s.rows.entries)
+    ∙ ap (λ t. list_any (λ row. bytes_eq row.merchant k.merchant && bytes_eq row.id k.id) t.rows)
+    c.self.view_is))

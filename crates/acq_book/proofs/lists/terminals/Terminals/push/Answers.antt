@@ -13,11 +13,14 @@ put_terminal-requires-clause-new c =
     let s = c.self.inside in
     let k = key_of_terminal c.args.row in
     let found = found-keyed terminal_eq key_of_terminal
-    (λ k row. bytes_eq row.merchant k.merchant && bytes_eq row.id k.id) terminal_eq-same k s.rows.entries
+    (λ k row. bytes_eq row.merchant k.merchant && bytes_eq row.id k.id) terminal_eq-same k
+    s.rows.entries
     c.self.invariant.keyed in
     none-found _ (ap is_some found
-    ∙ (found-any (λ row. bytes_eq row.merchant k.merchant && bytes_eq row.id k.id) (values_of s.rows.entries)
-    ∙ (ap (λ t. list_any (λ row. bytes_eq row.merchant k.merchant && bytes_eq row.id k.id) t.rows) c.self.view_is
+    ∙ (found-any (λ row. bytes_eq row.merchant k.merchant && bytes_eq row.id k.id)
+    (values_of s.rows.entries)
+    ∙ (ap (λ t. list_any (λ row. bytes_eq row.merchant k.merchant && bytes_eq row.id k.id) t.rows)
+    c.self.view_is
     ∙ c.requires.new)))
 
 pub invariant_of-self : goal.invariant_of-self
@@ -26,7 +29,8 @@ invariant_of-self c =
     let y = c.args.row in
     record {
       keyed = subst (IsKeyedBy key_of_terminal) (sym c.put_terminal.ensures.entries)
-          (keyed-push key_of_terminal s.rows.entries (key_of_terminal y) y refl c.self.invariant.keyed);
+          (keyed-push key_of_terminal s.rows.entries
+          (key_of_terminal y) y refl c.self.invariant.keyed);
       room = omega (arith, c.put_terminal.ensures.spare, c.self.invariant.room);
     }
 

@@ -1,7 +1,8 @@
-//! Connections through `listen_on`: one over TCP, in one process; and three of which the first can't
-//! be written to its end.
+//! Connections through `listen_on`: one over TCP, in one process; and three of which the first
+//! can't be written to its end.
 
-use super::connections::{APPROVED, NOT_ANSWERED, SALE, new_host};
+use super::connections::{APPROVED, NOT_ANSWERED, SALE};
+use super::hosts::new_host;
 use acq_book::Book;
 use acq_commands::listen_on;
 use acq_core::{Moment, Verdict};
@@ -111,7 +112,8 @@ impl Connections for Three<'_> {
     }
 }
 
-/// A reconciliation that claims this one debit, as a frame, and the frame that answers it in balance.
+/// A reconciliation that claims this one debit, as a frame, and the frame that answers it in
+/// balance.
 const CLAIMED: &[u8] =
     b"\x00\xC805008222000000C00000007807808000000005011000000000100501TERM0001MERCHA\
 NT0000001000000000000000000000000000001000000000000000000000000000000000000000000000000000\
@@ -122,8 +124,8 @@ const POSTED: &[u8] =
 HANT00000011000000000000000000000000000001000000000000000000000000000000000000000000000000\
 00000010000000000000000000D0000000000001000";
 
-/// Of the reply to a sale ten bytes go out. On the next connection the sale's repeat gets all of it,
-/// and the day has one posting.
+/// Of the reply to a sale ten bytes go out. On the next connection the sale's repeat gets all of
+/// it, and the day has one posting.
 #[test]
 fn a_repeat_after_a_cut_reply(rt: HostRuntime) -> Result<(), Fail> {
     let alloc = rt.alloc();

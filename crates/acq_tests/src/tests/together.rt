@@ -33,13 +33,21 @@ const LACKING: &str = "\x00\x24080002200000000000000101120000000001";
 
 const LACKING_REPLY: &str = "\x00\x2608100220000002000000010112000000000130";
 
-/// What a connection sends, and what it is answered.
-fn talk(place: usize) -> (&'static str, &'static str) {
+/// What connections send, and what they are answered: the silent one, the one that is cut, and the
+/// others by turns.
+const TALKS: [(&str, &str); 4] = [
+    ("", ""),
+    ("\x00\x240800", ""),
+    (ECHOES, ECHO_REPLIES),
+    (LACKING, LACKING_REPLY),
+];
+
+/// Which of them the connection at this place has.
+fn talk(place: usize) -> usize {
     match place {
-        SILENT => ("", ""),
-        CUT => ("\x00\x240800", ""),
-        _ if place % 2 == 0 => (ECHOES, ECHO_REPLIES),
-        _ => (LACKING, LACKING_REPLY),
+        SILENT => 0,
+        CUT => 1,
+        _ => 2 + place % 2,
     }
 }
 
@@ -50,7 +58,7 @@ fn each_gets_its_own(rt: HostRuntime) -> Result<(), Fail> {
     let mut terminals = Vec::new(alloc);
     for place in 0..TOGETHER {
         let mut terminal = TcpStream::connect(&rt, gathering.local_addr()?)?;
-        terminal.write_all(talk(place).0.as_bytes())?;
+        terminal.write_all(TALKS[talk(place) % 4].0.as_bytes())?;
         if place != SILENT {
             terminal.shutdown(Shutdown::Write)?;
         }
@@ -75,7 +83,8 @@ fn each_gets_its_own(rt: HostRuntime) -> Result<(), Fail> {
     for (place, terminal) in terminals.iter_mut().enumerate() {
         let mut reply = Vec::new(alloc);
         terminal.read_to_end(&mut reply)?;
-        assert_eq!(rt; reply.as_slice(), talk(place).1.as_bytes(), "{place}");
+        let answered = TALKS[talk(place) % 4].1;
+        assert_eq!(rt; reply.as_slice(), answered.as_bytes(), "{place}");
     }
     assert_eq!(rt;
         faults.as_bytes(),

@@ -1,18 +1,14 @@
 //! The frames of two days on connections whose reads and writes fail in turn.
 
+use super::hosts::{new_host, served};
 use super::script_event::MORNING;
 use super::script_event::ScriptEvent::{self, Frame, FrameAt};
-use super::setup::{GREATEST_LIMIT, MAY_1, events_behind_setup};
 use super::two_days::{FIRST_DAY, FIRST_REPLIES, SECOND_DAY, SECOND_REPLY};
 use super::wording::bytes_in;
-use acq_book::{Book, ListBook};
-use acq_core::{Event, Limit, Moment, Verdict};
-use acq_front::{FixedClock, FrontFault, SliceIssuer, serve};
-use acq_host::Host;
+use acq_core::{Event, Moment, Verdict};
+use acq_front::{FrontFault, SliceIssuer};
 use acq_link::{MemorySink, SliceSource};
-use day_totals::Day;
 use std::alloc::Global;
-use std::hash::RandomState;
 use std::process::Abort;
 use std::random::RandomSource;
 use std::test::Fail;
@@ -48,45 +44,6 @@ fn talk_of(alloc: Global, day: &[ScriptEvent], said: &[&str]) -> Result<Talk, Fa
 /// The first day.
 fn first_talk(alloc: Global) -> Result<Talk, Fail> {
     talk_of(alloc, &FIRST_DAY, &FIRST_REPLIES)
-}
-
-/// A host over a new book behind the setup.
-fn new_host(rt: &impl RandomSource, alloc: Global) -> Result<Host<ListBook>, Fail> {
-    let limit = Limit::from_number(GREATEST_LIMIT).ok_or("a limit")?;
-    let first_day = Day::from_number(MAY_1).ok_or("a day")?;
-    let keys = RandomState::new(rt)?;
-    let events = events_behind_setup(alloc, &[])?;
-    let mut host = Host::in_memory(alloc, keys, limit, first_day);
-    take_all(&mut host, events.as_slice());
-    Ok(host)
-}
-
-/// Has a host take events.
-fn take_all<B: Book + Drop>(host: &mut Host<B>, events: &[Event]) {
-    for event in events {
-        let _ = host.take(event);
-    }
-}
-
-/// Serves a connection in the morning.
-fn served(
-    host: &mut Host<ListBook>,
-    alloc: Global,
-    source: &mut SliceSource<'_>,
-    sink: &mut MemorySink,
-    issuer: &mut SliceIssuer<'_>,
-) -> Result<(), FrontFault> {
-    let Some(morning) = Moment::from_seconds(MORNING) else {
-        return Err(FrontFault::Store);
-    };
-    serve(
-        alloc,
-        host,
-        source,
-        sink,
-        &mut FixedClock::new(morning),
-        issuer,
-    )
 }
 
 /// Serves the first day on a connection that fails, and again on one that doesn't, and then the
@@ -148,8 +105,8 @@ fn reads_fail_in_turn(rt: HostRuntime) -> Result<(), Fail> {
     Ok(())
 }
 
-/// Where a write fails, as much as the fault tells of the last reply is out, and the next connection
-/// gets all.
+/// Where a write fails, as much as the fault tells of the last reply is out, and the next
+/// connection gets all.
 #[test]
 fn writes_fail_in_turn(rt: HostRuntime) -> Result<(), Fail> {
     let alloc = rt.alloc();

@@ -1,11 +1,8 @@
 //! Each form of a line, and faults in mid-stream.
 
-use acq_core::{Amount, Event, MerchantId, MessageText, Output, Query, Reference, Service};
-use acq_link::{MemorySink, SliceSource};
-use acq_out::{OutFault, read_events, write_output};
-use card_no::{CardNumber, IssuerId, Range};
-use day_totals::Leg;
-use iso_codec::DecodeFault;
+use acq_core::Event;
+use acq_link::SliceSource;
+use acq_out::{OutFault, read_events};
 use std::alloc::Global;
 use std::test::Fail;
 
@@ -139,76 +136,6 @@ fn merchants_and_terminals(rt: HostRuntime) -> Result<(), Fail> {
         b"MERCHANT0000001".as_slice()
     );
     assert_eq!(rt; terminal.to_bytes().as_slice(), b"T 1     ".as_slice());
-    Ok(())
-}
-
-/// The line of an output.
-fn written(alloc: Global, output: &Output) -> Result<MemorySink, OutFault> {
-    let mut sink = MemorySink::in_pieces(alloc, 5);
-    write_output(alloc, output, &mut sink)?;
-    Ok(sink)
-}
-
-#[test]
-fn overlaps(rt: HostRuntime) -> Result<(), Fail> {
-    let alloc = rt.alloc();
-    let range = Range {
-        low: 4_999,
-        high: 499_999,
-        issuer: IssuerId::from_slice(alloc, b"12345")?,
-        hold_days: 7,
-    };
-    let sink = written(alloc, &Output::Overlap(range))?;
-    assert_eq!(rt; sink.as_bytes(), b"refused 21 004999 499999\n".as_slice());
-    Ok(())
-}
-
-/// The other outputs, and their lines.
-const PLAIN_LINES: [(Output, &[u8]); 16] = [
-    (Output::Done, b"done\n"),
-    (Output::BadRange, b"refused 20\n"),
-    (Output::NoSuchRange, b"refused 22\n"),
-    (
-        Output::Undecodable(DecodeFault::BadType),
-        b"refused 30 2 0\n",
-    ),
-    (
-        Output::Undecodable(DecodeFault::BadBitmap),
-        b"refused 30 3 0\n",
-    ),
-    (
-        Output::Undecodable(DecodeFault::UnknownElement(65)),
-        b"refused 30 4 65\n",
-    ),
-    (
-        Output::Undecodable(DecodeFault::Truncated(0)),
-        b"refused 30 5 0\n",
-    ),
-    (
-        Output::Undecodable(DecodeFault::BadLength(128)),
-        b"refused 30 6 128\n",
-    ),
-    (
-        Output::Undecodable(DecodeFault::Trailing),
-        b"refused 30 8 0\n",
-    ),
-    (Output::UnservedType(*b"0420"), b"refused 31 0420\n"),
-    (Output::Waiting, b"refused 32\n"),
-    (Output::Late, b"refused 33\n"),
-    (Output::UnknownReference, b"refused 34\n"),
-    (Output::AlreadyAnswered, b"refused 35\n"),
-    (Output::AlreadyEnrolled, b"refused 36\n"),
-    (Output::NoSuchMerchant, b"refused 37\n"),
-];
-
-#[test]
-fn plain_lines(rt: HostRuntime) -> Result<(), Fail> {
-    for (output, line) in PLAIN_LINES {
-        let sink = written(rt.alloc(), &output)?;
-        assert_eq!(rt; sink.as_bytes(), line);
-    }
-    let sink = written(rt.alloc(), &Output::LastDay)?;
-    assert_eq!(rt; sink.as_bytes(), b"refused 38\n".as_slice());
     Ok(())
 }
 

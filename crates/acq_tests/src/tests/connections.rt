@@ -1,18 +1,13 @@
-//! Connections over a book in memory: frames cut anywhere, issuers that are asked, reads and writes
-//! that fail, and a reply that is out before more is read.
+//! Connections over a book in memory: a reply that is cut short, and one that is out before more is
+//! read.
 
 use super::counted::{Counted, OneFrame};
-use acq_book::{Book, ListBook};
-use acq_core::{Event, Limit, Moment, Verdict};
+use super::hosts::{new_host, served};
+use acq_core::Verdict;
 use acq_front::{FrontFault, SliceClock, SliceIssuer, serve};
-use acq_host::Host;
 use acq_link::{MemorySink, ReadSource, SliceSource, WriteSink};
-use acq_out::read_events;
-use day_totals::Day;
 use std::alloc::Global;
 use std::cell::Cell;
-use std::hash::RandomState;
-use std::random::RandomSource;
 use std::test::Fail;
 
 /// An echo test as a frame, and the frame that answers it.
@@ -33,53 +28,6 @@ pub(super) const APPROVED: &str =
 pub(super) const NOT_ANSWERED: &str =
     "\x00\x740210722200000AC0800016411111111111111100000000000000100005010930000000010501\
 00000000000191TERM0001MERCHANT0000001978";
-
-/// 2024-05-01 at 09:30.
-const MORNING: u64 = 1_714_555_800;
-
-/// The number of 2024-05-01.
-const MAY_1: u32 = 8887;
-
-/// An issuer's range, and a merchant with one terminal.
-const SETUP: &str = "addrange,400000,499999,12345,7,
-enrol,MERCHANT0000001,978,1,,
-terminal,MERCHANT0000001,TERM0001,,,
-";
-
-/// A host over a new book behind the setup.
-pub(super) fn new_host(rt: &impl RandomSource, alloc: Global) -> Result<Host<ListBook>, Fail> {
-    let limit = Limit::from_number(999_999).ok_or("a limit")?;
-    let day = Day::from_number(MAY_1).ok_or("a day")?;
-    let keys = RandomState::new(rt)?;
-    let events = read_events(alloc, &mut SliceSource::new(SETUP.as_bytes()))?;
-    let mut host = Host::in_memory(alloc, keys, limit, day);
-    take_all(&mut host, events.as_slice());
-    Ok(host)
-}
-
-/// Has a host take events.
-fn take_all<B: Book + Drop>(host: &mut Host<B>, events: &[Event]) {
-    for event in events {
-        let _ = host.take(event);
-    }
-}
-
-/// Serves a connection at one moment, with these verdicts.
-fn served(
-    host: &mut Host<ListBook>,
-    alloc: Global,
-    source: &mut SliceSource<'_>,
-    sink: &mut MemorySink,
-    verdicts: &[Verdict],
-) -> Result<(), FrontFault> {
-    let moments: [Moment; 4] = match Moment::from_seconds(MORNING) {
-        Some(moment) => [moment; 4],
-        None => return Err(FrontFault::Store),
-    };
-    let mut clock = SliceClock::new(&moments);
-    let mut issuer = SliceIssuer::new(verdicts);
-    serve(alloc, host, source, sink, &mut clock, &mut issuer)
-}
 
 /// Two frames one behind the other.
 fn both(alloc: Global, first: &str, second: &str) -> Result<Vec<u8>, Fail> {
@@ -104,8 +52,9 @@ fn a_reply_cut_short_is_given_again(rt: HostRuntime) -> Result<(), Fail> {
     let repeat = both(alloc, "\x00\x620201", SALE.get(6..).ok_or("a sale")?)?;
     let mut repeated = SliceSource::new(repeat.as_slice());
     let mut host = new_host(&rt, alloc)?;
-    let ended = served(&mut host, alloc, &mut source, &mut sink, &verdicts);
-    let later = served(&mut host, alloc, &mut repeated, &mut again, &[]);
+    let mut issuer = SliceIssuer::new(&verdicts);
+    let ended = served(&mut host, alloc, &mut source, &mut sink, &mut issuer);
+    let later = served(&mut host, alloc, &mut repeated, &mut again, &mut issuer);
     drop(host);
     assert_eq!(rt; ended, Err(FrontFault::Write(10)));
     assert_eq!(rt; sink.as_bytes(), APPROVED.as_bytes().split_at(10).0);

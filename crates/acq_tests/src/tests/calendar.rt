@@ -1,22 +1,24 @@
 //! The calendar, counted by the lengths of its months.
 
-ghost use Rattle.std.specs.Prelude.{◌≤◌};
-
 use day_totals::Day;
 use std::test::Fail;
+
+/// The lengths of the months, from the first on; nothing is the month 0.
+const COMMON: [u8; 13] = [0, 31, 28, 31, 30, 31, 30, 31, 31, 30, 31, 30, 31];
+
+const LEAP: [u8; 13] = [0, 31, 29, 31, 30, 31, 30, 31, 31, 30, 31, 30, 31];
 
 fn day(number: u32) -> Result<Day, Fail> {
     Ok(Day::from_number(number).ok_or("no such day")?)
 }
 
-fn month_length(year: u32, month: u32) -> u32
-    ensures { result ≤ 31 }
-{
-    match month {
-        2 if year % 4 == 0 && (year % 100 != 0 || year % 400 == 0) => 29,
-        2 => 28,
-        4 | 6 | 9 | 11 => 30,
-        _ => 31,
+/// How many days a month has.
+fn month_length(year: u32, month: usize) -> u8 {
+    let is_leap = year % 4 == 0 && (year % 100 != 0 || year % 400 == 0);
+    let lengths = if is_leap { LEAP } else { COMMON };
+    match lengths.get(month) {
+        Some(length) => *length,
+        None => 0,
     }
 }
 
@@ -29,8 +31,8 @@ fn every_day_has_its_date(rt: HostRuntime) -> Result<(), Fail> {
     let mut number = 0u32;
     let mut next = Some(day(0)?);
     for year in 2000u32..2100 {
-        for month in 1u32..13 {
-            for day_of_month in 1..month_length(year, month) + 1 {
+        for month in 1usize..13 {
+            for day_of_month in 0..month_length(year, month) {
                 let today = day(number)?;
                 assert_eq!(rt; next, Some(today), "at {number}");
                 assert_eq!(rt; today.number(), number);
@@ -41,11 +43,11 @@ fn every_day_has_its_date(rt: HostRuntime) -> Result<(), Fail> {
                     digit(year / 10),
                     digit(year),
                     b'-',
-                    digit(month / 10),
-                    digit(month),
+                    digit(month as u32 / 10),
+                    digit(month as u32),
                     b'-',
-                    digit(day_of_month / 10),
-                    digit(day_of_month),
+                    digit((u32::from(day_of_month) + 1) / 10),
+                    digit(u32::from(day_of_month) + 1),
                 ];
                 assert_eq!(rt; text, want, "at {number}");
                 assert_eq!(rt; today.mmdd(), [want[5], want[6], want[8], want[9]]);

@@ -1,5 +1,5 @@
-//! A host whose files stop at some call: what is left of them holds all events so far, and a host over
-//! it goes on as if nothing had stopped.
+//! A host whose files stop at some call: what is left of them holds all events so far, and a host
+//! over it goes on as if nothing had stopped.
 
 ghost use Rattle.std.specs.Prelude.{◌≡◌, IfSome, false};
 
@@ -36,8 +36,8 @@ struct Run {
     said: Vec<Output>,
 }
 
-/// A run that doesn't stop: what the book was opened with, what the host said, and that as text with the
-/// settlement of the first day.
+/// A run that doesn't stop: what the book was opened with, what the host said, and that as text
+/// with the settlement of the first day.
 #[derive(Drop)]
 struct Undisturbed {
     limit: Limit,
@@ -140,7 +140,8 @@ fn said_by<B: Book + Drop>(host: &mut Host<B>, events: &[Event]) -> Vec<Output> 
 
 /// The files of a host, with no call of them.
 fn files_of<D: Disk + Drop>(host: Host<SqlBook<FileStore<D>>>) -> Files<D> {
-    host.into_book().release().into_store().close()
+    let connection = host.into_book().release();
+    connection.into_store().close()
 }
 
 /// Runs events over a new book in files, if it can be made there; and gives the files back.
@@ -150,8 +151,12 @@ fn run_over<D: Disk + Drop>(
     (limit, first_day): (Limit, Day),
     events: &[Event],
 ) -> Option<(Files<D>, Vec<Output>)> {
-    let connection = open(alloc, files)?;
-    let mut host = new_host(alloc, connection, limit, first_day)?;
+    let Some(connection) = open(alloc, files) else {
+        return None;
+    };
+    let Some(mut host) = new_host(alloc, connection, limit, first_day) else {
+        return None;
+    };
     let said = said_by(&mut host, events);
     Some((files_of(host), said))
 }
@@ -191,13 +196,17 @@ fn go_on<D: Disk + Drop>(
     day: Day,
     text: &mut String,
 ) -> Result<(), Fail> {
-    let connection = open(alloc, files).ok_or("files that open")?;
-    let host = host_again(alloc, connection).ok_or("a book")?;
+    let Some(connection) = open(alloc, files) else {
+        return Err(Fail::from("files that don't open"));
+    };
+    let Some(host) = host_again(alloc, connection) else {
+        return Err(Fail::from("no book"));
+    };
     add_said_and_settled(alloc, host, events, day, text)
 }
 
-/// Whether a stopped run, and then a host over what it left, say all that the undisturbed one says: with
-/// this said between, and these events to come.
+/// Whether a stopped run, and then a host over what it left, say all that the undisturbed one says:
+/// with this said between, and these events to come.
 fn ends_alike(
     alloc: Global,
     stopped: &Run,
@@ -213,9 +222,9 @@ fn ends_alike(
     Ok(text == undisturbed.text)
 }
 
-/// Whether a host over what a stopped run left goes on as the undisturbed one: from the event at which
-/// it stopped, or, where the book has that one, from the next. A frame that gets a reply gets the same
-/// again, and posts nothing twice.
+/// Whether a host over what a stopped run left goes on as the undisturbed one: from the event at
+/// which it stopped, or, where the book has that one, from the next. A frame that gets a reply gets
+/// the same again, and posts nothing twice.
 fn goes_on(
     alloc: Global,
     stopped: &Run,
@@ -233,8 +242,8 @@ fn goes_on(
     Ok(!is_replied && ends_alike(alloc, stopped, output, later, undisturbed)?)
 }
 
-/// Runs events over new files, and where it stops goes on over what was written, and over what is left
-/// of it when the machine stops too, which is what was synced.
+/// Runs events over new files, and where it stops goes on over what was written, and over what is
+/// left of it when the machine stops too, which is what was synced.
 fn run_and_go_on(
     rt: &impl Abort,
     alloc: Global,
@@ -281,8 +290,8 @@ fn run_undisturbed(alloc: Global, events: &[Event]) -> Result<Undisturbed, Fail>
     })
 }
 
-/// Stops a file at each of its calls in turn, from the first on at which there is a book, until a run
-/// needs no more of them. The last event shows the other merchant's terminal.
+/// Stops a file at each of its calls in turn, from the first on at which there is a book, until a
+/// run needs no more of them. The last event shows the other merchant's terminal.
 fn stop_in_turn(rt: &impl Abort, alloc: Global, stopping: Stopping) -> Result<(), Fail> {
     let mut events = events_behind_setup(alloc, &FIRST_DAY)?;
     for script_event in SECOND_DAY.iter().chain(&[OTHERS_SALE]) {

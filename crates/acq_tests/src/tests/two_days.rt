@@ -7,7 +7,8 @@ use super::script_event::ScriptEvent::{self, Approve, Cutover, Frame, FrameAt};
 /// The last second of a hold of one day that was approved in the morning.
 const LAST_SECOND: u64 = MORNING + 86_400;
 
-/// The first day: a sale, its approval and its reversal, and a hold, its approval and its completion.
+/// The first day: a sale, its approval and its reversal, and a hold, its approval and its
+/// completion.
 pub(super) const FIRST_DAY: [ScriptEvent; 6] = [
     Frame(SALE),
     Approve("A", 1, "A1B2C3"),

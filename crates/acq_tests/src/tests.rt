@@ -1,0 +1,25 @@
+//! Tests, a file a subject; `hosts`, `output_text`, `script_event`, `setup`, `two_days` and `wording`
+//! have what several of them use.
+
+mod calendar;
+mod clocks;
+mod connections;
+mod counted;
+mod debug_texts;
+mod hosts;
+mod issuers_files;
+mod lines;
+mod listens;
+mod long_runs;
+mod opening;
+mod output_text;
+mod range_files;
+mod read_back;
+mod readers;
+mod script_event;
+mod setup;
+mod stops;
+mod talks;
+mod together;
+mod two_days;
+mod wording;
