@@ -111,7 +111,8 @@ class Build:
         """Proves and builds the program, has it say its version, and returns whether that went well."""
         self.say("at work on the program")
         self.crates[PROGRAM].held = []
-        process = self.begin(PROGRAM, min(3, self.processors), lambda crate, flags: crate.run(flags, ["--version"]))
+        jobs = min(3, self.processors)
+        process = self.begin(PROGRAM, jobs, lambda crate, flags: crate.run(flags, ["--version"]))
         if os.waitpid(process, 0)[1]:
             self.tell_failure(PROGRAM)
             return False
@@ -155,7 +156,7 @@ class Build:
 
 def build_by(module):
     """Builds the program by rt's own module, and returns whether it was built."""
-    # A crate's sum takes in those of all crates below it, each by each way that leads to it.
+    # The sum of a crate takes in those of all below it, which would be made anew for each way down.
     module.Crate.stamp = functools.cache(module.Crate.stamp)
     work = Build(module)
     held = module.lock(list(work.crates.values()))
