@@ -4,10 +4,10 @@ use Rattle.std.specs.Fmt.{decimal}
 use Rattle.iso_codec.specs.FaultTexts.{number_of_fault, element_of_fault}
 use Rattle.acq_book.specs.declared.book_fault.BookFault as book
 use Rattle.acq_front.specs.declared.front_fault.FrontFault as front
-use Rattle.acq_hex.specs.declared.hex_fault.HexFault as hex
+use Rattle.acq_link.specs.declared.hex_frames.hex_fault.HexFault as hex
 use Rattle.acq_link.specs.declared.input_fault.InputFault as input
 use Rattle.acq_out.specs.declared.out_fault.OutFault as out
-use Rattle.acq_records.specs.declared.record_fault.RecordFault as records
+use Rattle.acq_out.specs.declared.records.record_fault.RecordFault as records
 use Rattle.acq_reports.specs.declared.report_fault.ReportFault as report
 use Rattle.acq_commands.specs.declared.fault.Fault.{Fault}
 use Rattle.acq_commands.specs.declared.fault.Fault.TheVariants.{Memory, Store, BadAnswer}

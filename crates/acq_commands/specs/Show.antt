@@ -2,7 +2,7 @@
 use Rattle.std.specs.Prelude.{◌≡◌, ◌⊎◌, ◌<◌, ℕ, true, List, [], ◌++◌, codes, length, take}
 use Rattle.std.specs.Prelude.{Result, Ok, Err}
 use Rattle.std.specs.List.{flat_map}
-use Rattle.acq_hex.specs.HexLines.{messages_of_text}
+use Rattle.acq_link.specs.HexLines.{messages_of_text}
 use Rattle.acq_link.specs.Frames.{Frames, FramesThen, framed, is_partial, has_bad_length}
 use Rattle.acq_link.specs.FramesAt.{BeginsWithFrame}
 use Rattle.acq_show.specs.Shown.{shown}

@@ -4,10 +4,10 @@ ghost use Rattle.std.specs.Prelude.{◌≡◌};
 
 use acq_book::BookFault;
 use acq_front::FrontFault;
-use acq_hex::HexFault;
+use acq_link::hex_frames::HexFault;
 use acq_link::InputFault;
 use acq_out::OutFault;
-use acq_records::RecordFault;
+use acq_out::records::RecordFault;
 use acq_reports::ReportFault;
 use iso_codec::DecodeFault;
 use std::alloc::AllocError;

@@ -9,7 +9,7 @@ ghost use Rattle.acq_commands.specs.Show.{FrameFault, RunsShow, Shows, ShowsHex,
 
 use crate::fault::Fault;
 use crate::input_form::InputForm;
-use acq_hex::frames_of_hex;
+use acq_link::hex_frames::frames_of_hex;
 use acq_link::{Front, Sink, Source, frame_at, read_to_end, write_out};
 use acq_show::show_message;
 use std::alloc::{AllocError, Global};

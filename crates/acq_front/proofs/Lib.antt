@@ -7,3 +7,6 @@ pub mod StreamRead
 pub mod TalkGoesOn
 pub mod Turned
 pub mod ServedWeaker
+pub mod Following
+pub mod Rounds
+pub mod Turning

@@ -13,7 +13,7 @@ use Rattle.acq_message.specs.declared.verdict.Verdict.{Verdict}
 use Rattle.acq_core.specs.declared.event.Event.{Event}
 use Rattle.acq_core.specs.declared.query.Query.{Query}
 use Rattle.acq_core.specs.Tables.{Tables, outputs, tables_after}
-use Rattle.acq_bookkeeping.proofs.FinalDays.{tables_after-append}
+use Rattle.acq_history.proofs.FinalDays.{tables_after-append}
 use Rattle.acq_host.specs.Headline.{IsAlone}
 use Rattle.acq_host.proofs.PartiesAlone.{is_alone}
 use Rattle.acq_front.specs.declared.front_fault.FrontFault as fault

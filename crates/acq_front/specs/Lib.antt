@@ -4,3 +4,8 @@ pub mod Talk
 pub mod Faults
 pub mod Turns
 pub mod Serving
+pub mod Exchanges
+pub mod Lines
+pub mod Log
+pub mod Outgoing
+pub mod Ends

@@ -1,27 +1,17 @@
-//! The history of each party: what one party's own events say, with no tables.
+//! The history of each party, and the laws of every run of events.
 //!
-//! The definitions stand whole, in `specs`: the entries of a history (`Entries.antt`), what a
-//! history says (`History.antt`), and a party's own events with what it gets of them
-//! (`PartyHistory.antt`). The lemmas in `proofs` serve the crates of laws above.
+//! What one party's own events say, with no tables, stands whole in `specs`: the entries of a
+//! history (`Entries.antt`), what a history says (`History.antt`), and a party's own events with
+//! what it gets of them (`PartyHistory.antt`). The laws hold of these definitions and of those of
+//! `acq_core`, whatever comes: what histories keep ([`history_laws`]) and what the tables keep
+//! ([`book_laws`]), that parties are isolated ([`party_laws`]), and the laws of the books
+//! ([`posting_laws`]).
 #![tactic(auto)]
 
-ghost use Rattle.std.specs.Prelude.{◌≡◌, ◌↔◌, true};
-ghost use Rattle.acq_message.specs.declared.request_key.RequestKey.{RequestKey};
-ghost use Rattle.acq_message.specs.Elements.{same_key};
-ghost use Rattle.acq_history.specs.HistoryLaws.{ReferencesCountUp, RequestsPostToday};
+pub mod book_laws;
+pub mod history_laws;
+pub mod party_laws;
+pub mod posting_laws;
+mod types;
 
-/// Two keys are the same exactly where they are one, so a history finds no other request under a
-/// key.
-pub fn same_keys_are_one()
-    ensures { (a b : RequestKey) → (same_key a b ≡ true) ↔ (a ≡ b) }
-{}
-
-/// The references of a merchant count up from its first: one more after each admitted request.
-pub fn references_count_up()
-    ensures { ReferencesCountUp }
-{}
-
-/// What a request posts is of the day on which it came; only an approval posts to an earlier day.
-pub fn requests_post_today()
-    ensures { RequestsPostToday }
-{}
+pub use types::{every_event, every_opening, every_verdict};

@@ -6,12 +6,12 @@ use Rattle.std.specs.List.{list_any}
 use Rattle.std.proofs.lemmas.Bool.Decides.{nat_tests}
 use Rattle.acq_core.specs.declared.event.Event.{Event}
 use Rattle.acq_core.specs.Tables.{Tables, count, is_pending, tables_after}
-use Rattle.acq_bookkeeping.specs.DaySums.{postings_on}
-use Rattle.acq_bookkeeping.specs.Finality.{has_pending}
-use Rattle.acq_bookkeeping.proofs.FinalDays.{closed_day_stays, postings_of_closed_day}
+use Rattle.acq_history.specs.DaySums.{postings_on}
+use Rattle.acq_history.specs.Finality.{has_pending}
+use Rattle.acq_history.proofs.FinalDays.{closed_day_stays, postings_of_closed_day}
 use Rattle.acq_book.specs.Lookups.{is_posting_before, pending_at}
 use Rattle.acq_book.specs.Order.{in_order}
-use Rattle.acq_invariants.proofs.BooksAreSound.{books_are_sound}
+use Rattle.acq_history.proofs.BooksAreSound.{books_are_sound}
 use Rattle.acq_reports.specs.declared.report_fault.ReportFault.TheVariants.{DayNotOver}
 use Rattle.acq_reports.specs.declared.report_fault.ReportFault.TheVariants.{StillPending}
 use Rattle.acq_reports.specs.ClearedSums.{HasAmounts, cleared_totals}

@@ -27,8 +27,8 @@ use Rattle.acq_history.proofs.Keys.{bytes_eq_itself, eqb_itself, same_key_is}
 use Rattle.acq_history.proofs.Lookups.{some_is, map-push, filter-push_in, clash}
 use Rattle.acq_history.proofs.Members.{In, In-find, any_none}
 use Rattle.acq_core.specs.Events.{IsOpening}
-use Rattle.acq_invariants.specs.References.{AreRowsOf, references_in}
-use Rattle.acq_invariants.proofs.CountsOfRows.{one_if, count-filter_push}
+use Rattle.acq_history.specs.References.{AreRowsOf, references_in}
+use Rattle.acq_history.proofs.CountsOfRows.{one_if, count-filter_push}
 
 -- ---- what isn't there
 

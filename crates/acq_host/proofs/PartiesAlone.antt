@@ -12,18 +12,18 @@ use Rattle.acq_core.specs.Tables.{Opening, Tables, new_tables, prior_of, request
 use Rattle.acq_core.specs.Tables.{outputs, step_output}
 use Rattle.acq_core.specs.Tables.{tables_after}
 use Rattle.acq_history.specs.PartyHistory.{known_by, history_of, book_after}
-use Rattle.acq_isolation.specs.Isolation.{open_at}
-use Rattle.acq_isolation.proofs.IsolatedParties.{isolated}
-use Rattle.acq_isolation.proofs.MerchantsRuns.{from_new, posted, holds}
-use Rattle.acq_isolation.proofs.TablesAgreeWithHistory.{known_in_mine}
-use Rattle.acq_bookkeeping.specs.Conservation.{IsConserved}
-use Rattle.acq_bookkeeping.specs.DaySums.{postings_on}
-use Rattle.acq_bookkeeping.proofs.BalanceOfReconciliation.{balanced}
-use Rattle.acq_bookkeeping.proofs.ConservationStep.{conserved}
-use Rattle.acq_bookkeeping.proofs.FinalDays.{postings_of_closed_day}
+use Rattle.acq_history.specs.Isolation.{open_at}
+use Rattle.acq_history.proofs.IsolatedParties.{isolated}
+use Rattle.acq_history.proofs.MerchantsRuns.{from_new, posted, holds}
+use Rattle.acq_history.proofs.TablesAgreeWithHistory.{known_in_mine}
+use Rattle.acq_history.specs.Conservation.{IsConserved}
+use Rattle.acq_history.specs.DaySums.{postings_on}
+use Rattle.acq_history.proofs.BalanceOfReconciliation.{balanced}
+use Rattle.acq_history.proofs.ConservationStep.{conserved}
+use Rattle.acq_history.proofs.FinalDays.{postings_of_closed_day}
 use Rattle.acq_host.specs.Headline.{AreBalanced, RanAlone, IsAlone, KeptItsPostings}
 use Rattle.acq_core.specs.Pasts.{HasPast}
-use Rattle.acq_bookkeeping.proofs.FinalDays.{tables_after-append}
+use Rattle.acq_history.proofs.FinalDays.{tables_after-append}
 use Rattle.acq_host.proofs.Runs.{output_at}
 
 -- ---- from a past that is known

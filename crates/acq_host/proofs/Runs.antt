@@ -10,7 +10,7 @@ use Rattle.acq_core.specs.declared.output.Output.{Output}
 use Rattle.acq_core.specs.Arrivals.{arrival_of}
 use Rattle.acq_core.specs.Tables.{Tables, outputs, tables_after, step_output, step_tables}
 use Rattle.acq_book.specs.Promise.{Makes}
-use Rattle.acq_bookkeeping.proofs.FinalDays.{tables_after-append}
+use Rattle.acq_history.proofs.FinalDays.{tables_after-append}
 use Rattle.acq_host.specs.Runs.{after_first}
 
 -- ---- outputs and tables

@@ -11,11 +11,11 @@ use Rattle.acq_core.specs.Tables.{Opening, Tables, prior_of, requests_of, postin
 use Rattle.acq_history.specs.History.{prior, postings}
 use Rattle.acq_history.specs.PartyHistory.{Party, own, known_by, history_of, book_after}
 use Rattle.acq_history.specs.PartyHistory.{outputs_at, outputs_alone}
-use Rattle.acq_isolation.specs.Isolation.{all_recorded, open_at}
-use Rattle.acq_bookkeeping.specs.Balance.{IsBalanced}
-use Rattle.acq_bookkeeping.specs.Conservation.{IsConserved}
-use Rattle.acq_bookkeeping.specs.DaySums.{postings_on}
-use Rattle.acq_bookkeeping.specs.Finality.{has_pending}
+use Rattle.acq_history.specs.Isolation.{all_recorded, open_at}
+use Rattle.acq_history.specs.Balance.{IsBalanced}
+use Rattle.acq_history.specs.Conservation.{IsConserved}
+use Rattle.acq_history.specs.DaySums.{postings_on}
+use Rattle.acq_history.specs.Finality.{has_pending}
 
 -- what a merchant's reconciliation gets: its reply says in balance exactly where what it claims are
 -- the totals over the merchant's own postings

@@ -4,7 +4,7 @@ use Rattle.acq_core.specs.declared.event.Event.{Event}
 use Rattle.acq_core.specs.declared.output.Output.{Output}
 use Rattle.acq_core.specs.declared.output.Output.TheVariants.{Reply}
 use Rattle.acq_core.specs.Tables.{Tables, outputs, tables_after}
-use Rattle.acq_invariants.specs.Replies.{IsReplyText}
+use Rattle.acq_history.specs.Replies.{IsReplyText}
 
 -- what the host says, if it is a reply, is the text of one
 abbrev pub IsWellSaid : Output → Type 0

@@ -15,7 +15,7 @@ use crate::deciding::{apply, decide};
 use crate::run_fault::RunFault;
 use acq_book::{Book, BookFault, ListBook};
 use acq_core::{Event, Limit, Output};
-use acq_invariants::{books_are_sound, every_event, every_opening};
+use acq_history::{books_are_sound, every_event, every_opening};
 use day_totals::Day;
 use std::alloc::Global;
 use std::hash::RandomState;

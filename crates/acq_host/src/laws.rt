@@ -2,8 +2,8 @@
 
 ghost use Rattle.std.specs.Prelude.{ℕ, List};
 ghost use Rattle.acq_history.specs.PartyHistory.{Party};
-ghost use Rattle.acq_isolation.specs.Isolation.{IsSameInTwoRuns};
-ghost use Rattle.acq_isolation.specs.QuietRepeats.{RepeatsAreQuiet};
+ghost use Rattle.acq_history.specs.Isolation.{IsSameInTwoRuns};
+ghost use Rattle.acq_history.specs.QuietRepeats.{RepeatsAreQuiet};
 
 /// A repeat changes nothing of what its merchant gets of all else: where any of a merchant's
 /// requests whose keys are recorded are left out of the events that [`Host::run`] takes, each other

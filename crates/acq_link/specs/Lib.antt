@@ -10,3 +10,5 @@ pub mod ReadSource
 pub mod SliceSource
 pub mod Transcript
 pub mod WriteSink
+pub mod HexLines
+pub mod HexFaults

@@ -7,6 +7,7 @@ mod deframer;
 mod failed;
 mod frames;
 mod front;
+pub mod hex_frames;
 mod input_fault;
 pub mod laws;
 mod memory_sink;

@@ -6,7 +6,7 @@ use Rattle.std.specs.List.{list_all}
 use Rattle.std.specs.Str.{bytes_eq}
 use Rattle.card_no.specs.Prefix.{prefix_of_text}
 use Rattle.card_no.specs.RangeFiles.{range_of_fields}
-use Rattle.acq_records.specs.Records.{values_of_text}
+use Rattle.acq_out.specs.Records.{values_of_text}
 use Rattle.acq_message.specs.declared.verdict.Verdict.{Verdict}
 use Rattle.acq_core.specs.declared.event.Event.{Event}
 use Rattle.acq_core.specs.declared.event.Event.TheVariants as event

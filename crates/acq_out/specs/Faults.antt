@@ -1,7 +1,7 @@
 -- The faults' numbers and texts, and how many reads and writes failed.
 use Rattle.std.specs.Prelude.{ℕ, List, ◌++◌, [], codes, Result, Ok, Err}
 use Rattle.std.specs.Fmt.{decimal}
-use Rattle.acq_records.specs.declared.record_fault.RecordFault as records
+use Rattle.acq_out.specs.declared.records.record_fault.RecordFault as records
 use Rattle.acq_out.specs.declared.out_fault.OutFault.{OutFault}
 use Rattle.acq_out.specs.declared.out_fault.OutFault.TheVariants.{Memory, Read, Write, BadLine}
 

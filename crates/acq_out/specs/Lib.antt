@@ -5,3 +5,6 @@ pub mod Lines
 pub mod Reads
 pub mod OutputLines
 pub mod Worked
+pub mod RecordFaults
+pub mod RecordReads
+pub mod Records

@@ -10,8 +10,8 @@ use crate::fields::{
     verdict_of,
 };
 use crate::line_name::LineName;
+use crate::records::field;
 use acq_core::Event;
-use acq_records::field;
 use card_no::{Prefix, Range};
 use csv::ByteRecord;
 use std::alloc::{AllocError, Global};

@@ -9,9 +9,9 @@ ghost use Rattle.acq_out.specs.declared.out_fault.OutFault.TheVariants.{BadLine}
 
 use crate::event_line::EventLine;
 use crate::out_fault::OutFault;
+use crate::records::{RecordForm, read_records};
 use acq_core::Event;
 use acq_link::Source;
-use acq_records::{RecordForm, read_records};
 use csv::ByteRecord;
 use std::alloc::{AllocError, Global};
 

@@ -12,6 +12,7 @@ pub mod laws;
 mod line_name;
 mod out_fault;
 mod output_lines;
+pub mod records;
 
 pub use event_lines::read_events;
 pub use fields::{merchant_of, moment_of, verdict_of};

@@ -1,1 +1,5 @@
 pub mod Quiet
+pub mod AskedCommands
+pub mod OptionsRead
+pub mod ProgramIsSimple
+pub mod WantedReports

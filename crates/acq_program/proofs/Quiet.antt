@@ -1,10 +1,10 @@
 -- What is told where all is well.
 use Rattle.std.proofs.Common.{◌≡◌, List, ℕ, Ok, Err, ◌∙◌, inl, inr, arith}
 use Rattle.std.specs.Prelude.{Result, OnOk}
-use Rattle.acq_arguments.specs.Arguments.{AsksFor}
-use Rattle.acq_arguments.specs.declared.action.Action.{Action}
-use Rattle.acq_arguments.specs.declared.action.Action.TheVariants.{Init, Once, Listen, Replay}
-use Rattle.acq_arguments.specs.declared.action.Action.TheVariants.{Report, Holds, Show}
+use Rattle.acq_program.specs.Arguments.{AsksFor}
+use Rattle.acq_program.specs.declared.action.Action.{Action}
+use Rattle.acq_program.specs.declared.action.Action.TheVariants.{Init, Once, Listen, Replay}
+use Rattle.acq_program.specs.declared.action.Action.TheVariants.{Report, Holds, Show}
 use Rattle.acq_commands.specs.Faults.{status_after, status_of}
 use Rattle.acq_commands.specs.declared.fault.Fault.{Fault}
 use Rattle.acq_commands.specs.declared.fault.Fault.TheVariants as fault

@@ -2,11 +2,11 @@
 use Rattle.std.specs.Prelude.{◌≡◌, ◌⊎◌, ℕ, List, Option, None, Some, Result, Ok, Err, OnOk, String}
 use Rattle.std.specs.declared.alloc.Global.{Global}
 use Rattle.acq_link.specs.Moves.{TakesAll}
-use Rattle.acq_arguments.specs.declared.action.Action.{Action}
-use Rattle.acq_arguments.specs.declared.action.Action.TheVariants.{Init, Once, Listen, Replay}
-use Rattle.acq_arguments.specs.declared.action.Action.TheVariants.{Report, Holds, Show}
-use Rattle.acq_arguments.specs.declared.option_name.OptionName.{OptionName}
-use Rattle.acq_arguments.specs.Arguments.{AsksFor}
+use Rattle.acq_program.specs.declared.action.Action.{Action}
+use Rattle.acq_program.specs.declared.action.Action.TheVariants.{Init, Once, Listen, Replay}
+use Rattle.acq_program.specs.declared.action.Action.TheVariants.{Report, Holds, Show}
+use Rattle.acq_program.specs.declared.option_name.OptionName.{OptionName}
+use Rattle.acq_program.specs.Arguments.{AsksFor}
 use Rattle.acq_front.specs.Talk.{Saying, says_nothing}
 use Rattle.acq_commands.specs.declared.fault.Fault.{Fault}
 use Rattle.acq_commands.specs.declared.listen_options.ListenOptions.{ListenOptions}

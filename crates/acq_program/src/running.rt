@@ -3,14 +3,14 @@
 ghost use Rattle.std.specs.Prelude.{◌≡◌, ◌≤◌, [], map, IfErr, MatchResult, OnOk};
 ghost use Rattle.clap.specs.Words.{fault_of, kind_of};
 ghost use Rattle.clap.specs.declared.error.kind.ErrorKind.TheVariants.{OutOfMemory};
-ghost use Rattle.acq_arguments.specs.Program.{program};
+ghost use Rattle.acq_program.specs.Program.{program};
 ghost use Rattle.acq_program.specs.BookFaults.{IsOpening};
 ghost use Rattle.acq_commands.specs.Faults.{status_after};
 ghost use Rattle.acq_program.specs.Runs.{Does, IsQuiet, IsUntouched, MayCome, ReadsWhole, Runs};
 ghost use Rattle.acq_program.specs.Runs.{ServesAsked, ServesIn, Tells};
 
 use crate::machine::Machine;
-use acq_arguments::{Action, UsageFault, action_of};
+use crate::{Action, UsageFault, action_of};
 use acq_book::Book;
 use acq_commands::{
     Fault, ListenOptions, NewBook, OnceOptions, Progress, ReplayOptions, TextSink, holds_of,

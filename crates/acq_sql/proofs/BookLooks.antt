@@ -11,14 +11,14 @@ use Rattle.acq_core.specs.Tables.{Tables}
 use Rattle.std.specs.List.{list_all}
 use Rattle.std.proofs.lemmas.Bool.{and_parts}
 use Rattle.card_no.specs.Ranges.{are_apart, is_valid_range}
-use Rattle.acq_invariants.proofs.BooksAreSound.{books_are_sound}
+use Rattle.acq_history.proofs.BooksAreSound.{books_are_sound}
 use Rattle.acq_book.specs.declared.book_fault.BookFault.{BookFault}
 use Rattle.acq_book.specs.Promise.{Looks}
 use Rattle.acq_sql_rows.specs.Relation.{Holds}
 use Rattle.acq_sql_rows.specs.ReadBack.{tables_of}
 use Rattle.acq_sql_changes.specs.Changed.{IsAt}
-use Rattle.acq_sql_lookups.specs.Looked.{LooksOnly}
-use Rattle.acq_sql_lookups.proofs.Leaves.{at_unchanged}
+use Rattle.acq_sql_reads.specs.Looked.{LooksOnly}
+use Rattle.acq_sql_reads.proofs.Leaves.{at_unchanged}
 use Rattle.acq_sql.specs.Kept.{Kept}
 use Rattle.acq_sql.specs.Opened.{tables, is_honest, is_open, may_leave}
 

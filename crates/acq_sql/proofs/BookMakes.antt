@@ -15,7 +15,7 @@ use Rattle.acq_book.specs.Promise.{Makes}
 use Rattle.acq_sql_rows.specs.ReadBack.{tables_in}
 use Rattle.acq_sql_rows.proofs.TablesReadBack.{tables_of-holds}
 use Rattle.acq_sql_changes.specs.Changed.{IsAt, LeavesTables}
-use Rattle.acq_sql_apply.specs.Applied.{Applies, StopsWhole, Suits}
+use Rattle.acq_sql.specs.Applied.{Applies, StopsWhole, Suits}
 use Rattle.acq_sql.specs.Kept.{Kept}
 use Rattle.acq_sql.specs.Opened.{tables, is_honest, is_open, may_leave}
 

@@ -1,2 +1,7 @@
 pub mod Kept
 pub mod Opened
+pub mod Applied
+pub mod Faults
+pub mod Made
+pub mod Plain
+pub mod Checked

@@ -6,9 +6,11 @@
 #![tactic(auto)]
 
 mod answers;
+mod apply;
+pub mod opening;
 mod refusal;
 mod sql_book;
 
-pub use acq_sql_opening::OpeningFault;
+pub use opening::OpeningFault;
 pub use refusal::Refusal;
 pub use sql_book::SqlBook;

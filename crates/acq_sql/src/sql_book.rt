@@ -8,19 +8,19 @@ ghost use Rattle.acq_core.specs.Pasts.{HasPast};
 ghost use Rattle.acq_core.specs.Tables.{Tables, new_tables};
 ghost use Rattle.acq_sql_rows.specs.Schema.{no_schema};
 ghost use Rattle.acq_sql_changes.specs.Changed.{HoldsAfter, IsAt};
-ghost use Rattle.acq_sql_opening.specs.Checked.{IsFailure, Judges};
-ghost use Rattle.acq_sql_opening.specs.declared.opening_fault.OpeningFault.TheVariants.{NotABook};
+ghost use Rattle.acq_sql.specs.Checked.{IsFailure, Judges};
+ghost use Rattle.acq_sql.specs.declared.opening.opening_fault.OpeningFault.TheVariants.{NotABook};
 ghost use Rattle.acq_sql.specs.Opened.{IsOpenAt};
 
 use crate::answers::counted;
+use crate::opening::{check_book, make_book};
 use crate::refusal::Refusal;
 use acq_book::{Book, BookFault, Visit};
 use acq_core::{
     AdmittedCount, Change, Limit, Merchant, MerchantId, Posting, Reconciliation, Reference,
     Request, RequestKey, TerminalId, UsedCount,
 };
-use acq_invariants::every_opening;
-use acq_sql_opening::{check_book, make_book};
+use acq_history::every_opening;
 use card_no::{Prefix, Range};
 use day_totals::{Day, Totals};
 use sqlite::{Alter, Connection};
@@ -150,45 +150,45 @@ impl<S: Alter> Book for SqlBook<S> {
 
     fn limit(&mut self) -> Result<Limit, BookFault> {
         self.settled();
-        let answer = acq_sql_lookups::limit_and_day(&mut self.connection);
+        let answer = acq_sql_reads::limit_and_day(&mut self.connection);
         let (limit, _) = counted(&mut self.failures, answer)?;
         Ok(limit)
     }
 
     fn day(&mut self) -> Result<Day, BookFault> {
         self.settled();
-        let answer = acq_sql_lookups::limit_and_day(&mut self.connection);
+        let answer = acq_sql_reads::limit_and_day(&mut self.connection);
         let (_, day) = counted(&mut self.failures, answer)?;
         Ok(day)
     }
 
     fn merchant(&mut self, id: MerchantId) -> Result<Option<Merchant>, BookFault> {
         self.settled();
-        let answer = acq_sql_lookups::merchant(&mut self.connection, id);
+        let answer = acq_sql_reads::merchant(&mut self.connection, id);
         counted(&mut self.failures, answer)
     }
 
     fn has_terminal(&mut self, merchant: MerchantId, id: TerminalId) -> Result<bool, BookFault> {
         self.settled();
-        let answer = acq_sql_lookups::has_terminal(&mut self.connection, merchant, id);
+        let answer = acq_sql_reads::has_terminal(&mut self.connection, merchant, id);
         counted(&mut self.failures, answer)
     }
 
     fn range(&mut self, prefix: Prefix) -> Result<Option<Range>, BookFault> {
         self.settled();
-        let answer = acq_sql_lookups::range(&mut self.connection, self.alloc, prefix);
+        let answer = acq_sql_reads::range(&mut self.connection, self.alloc, prefix);
         counted(&mut self.failures, answer)
     }
 
     fn overlapping(&mut self, low: u32, high: u32) -> Result<Option<Range>, BookFault> {
         self.settled();
-        let answer = acq_sql_lookups::overlapping(&mut self.connection, self.alloc, low, high);
+        let answer = acq_sql_reads::overlapping(&mut self.connection, self.alloc, low, high);
         counted(&mut self.failures, answer)
     }
 
     fn request(&mut self, key: RequestKey) -> Result<Option<Request>, BookFault> {
         self.settled();
-        let answer = acq_sql_lookups::request(&mut self.connection, self.alloc, key);
+        let answer = acq_sql_reads::request(&mut self.connection, self.alloc, key);
         counted(&mut self.failures, answer)
     }
 
@@ -198,7 +198,7 @@ impl<S: Alter> Book for SqlBook<S> {
         reference: Reference,
     ) -> Result<Option<Request>, BookFault> {
         self.settled();
-        let answer = acq_sql_lookups::by_reference(
+        let answer = acq_sql_reads::by_reference(
             &mut self.connection,
             self.alloc,
             merchant,
@@ -209,25 +209,25 @@ impl<S: Alter> Book for SqlBook<S> {
 
     fn admitted(&mut self, merchant: MerchantId) -> Result<AdmittedCount, BookFault> {
         self.settled();
-        let answer = acq_sql_lookups::admitted(&mut self.connection, merchant);
+        let answer = acq_sql_reads::admitted(&mut self.connection, merchant);
         counted(&mut self.failures, answer)
     }
 
     fn used(&mut self, merchant: MerchantId, day: Day) -> Result<UsedCount, BookFault> {
         self.settled();
-        let answer = acq_sql_lookups::used(&mut self.connection, merchant, day);
+        let answer = acq_sql_reads::used(&mut self.connection, merchant, day);
         counted(&mut self.failures, answer)
     }
 
     fn totals(&mut self, merchant: MerchantId, day: Day) -> Result<Totals, BookFault> {
         self.settled();
-        let answer = acq_sql_lookups::totals(&mut self.connection, merchant, day);
+        let answer = acq_sql_reads::totals(&mut self.connection, merchant, day);
         counted(&mut self.failures, answer)
     }
 
     fn pending(&mut self, day: Day) -> Result<u64, BookFault> {
         self.settled();
-        let answer = acq_sql_lookups::pending(&mut self.connection, day);
+        let answer = acq_sql_reads::pending(&mut self.connection, day);
         counted(&mut self.failures, answer)
     }
 
@@ -237,7 +237,7 @@ impl<S: Alter> Book for SqlBook<S> {
         day: Day,
     ) -> Result<Option<Reconciliation>, BookFault> {
         self.settled();
-        let answer = acq_sql_lookups::last_reconciliation(&mut self.connection, merchant, day);
+        let answer = acq_sql_reads::last_reconciliation(&mut self.connection, merchant, day);
         let last = counted(&mut self.failures, answer)?;
         Ok(without_number(last))
     }
@@ -248,13 +248,13 @@ impl<S: Alter> Book for SqlBook<S> {
         visitor: &mut V,
     ) -> Result<(), BookFault> {
         self.settled();
-        let walked = acq_sql_walks::walk_postings(&mut self.connection, self.alloc, day, visitor);
+        let walked = acq_sql_reads::walk_postings(&mut self.connection, self.alloc, day, visitor);
         counted(&mut self.failures, walked)
     }
 
     fn walk_merchants<V: Visit<Merchant>>(&mut self, visitor: &mut V) -> Result<(), BookFault> {
         self.settled();
-        let walked = acq_sql_walks::walk_merchants(&mut self.connection, visitor);
+        let walked = acq_sql_reads::walk_merchants(&mut self.connection, visitor);
         counted(&mut self.failures, walked)
     }
 
@@ -264,12 +264,12 @@ impl<S: Alter> Book for SqlBook<S> {
         visitor: &mut V,
     ) -> Result<(), BookFault> {
         self.settled();
-        let walked = acq_sql_walks::walk_holds(&mut self.connection, self.alloc, merchant, visitor);
+        let walked = acq_sql_reads::walk_holds(&mut self.connection, self.alloc, merchant, visitor);
         counted(&mut self.failures, walked)
     }
 
     fn apply(&mut self, change: &Change) -> Result<(), BookFault> {
-        let made = acq_sql_apply::apply(&mut self.connection, self.alloc, change);
+        let made = crate::apply::apply(&mut self.connection, self.alloc, change);
         counted(&mut self.failures, made)
     }
 }

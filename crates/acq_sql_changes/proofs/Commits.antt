@@ -14,8 +14,8 @@ use Rattle.sqlite.proofs.Callers.{survives_begin}
 use Rattle.acq_core.specs.Tables.{Tables}
 use Rattle.acq_sql_rows.specs.Tallies.{Tally, Running, Tallies, FitsTally, plus, tally_in, raised}
 use Rattle.acq_sql_rows.specs.Relation.{Holds, HoldsRows}
-use Rattle.acq_sql_writes.specs.Written.{Changes, Raises, StaysInside, CommitsNothing}
-use Rattle.acq_sql_writes.proofs.RunningTotals.{is_key, tally_raised, number_itself}
+use Rattle.acq_sql_changes.specs.Written.{Changes, Raises, StaysInside, CommitsNothing}
+use Rattle.acq_sql_changes.proofs.writes.RunningTotals.{is_key, tally_raised, number_itself}
 use Rattle.acq_sql_changes.specs.Changed.{IsAt, HoldsAfter}
 use Rattle.acq_sql_changes.proofs.ListTallies.{LeavesTallies, ComesToMore, more_tallied}
 use Rattle.acq_sql_changes.proofs.Room.{HasShortDays}

@@ -4,12 +4,12 @@ ghost use Rattle.std.specs.Prelude.{◌≡◌, false, None};
 ghost use Rattle.sqlite.specs.Held.{state};
 ghost use Rattle.iso_codec.specs.Message.{IsMessage};
 ghost use Rattle.iso_codec.specs.Reading.{spelling};
-ghost use Rattle.acq_sql_writes.specs.Written.{IsShortEnd};
+ghost use Rattle.acq_sql_changes.specs.Written.{IsShortEnd};
 ghost use Rattle.acq_sql_changes.specs.Changed.{LeadsTo, LeavesTables, StopsWithin};
 ghost use Rattle.acq_sql_changes.specs.Changed.{with_whole_answer};
 
 use crate::issuer_answer::IssuerAnswer;
-use acq_sql_writes::answer_request;
+use crate::writes::answer_request;
 use sqlite::{Alter, Connection, Error};
 
 /// Answers a request. Nothing is posted.

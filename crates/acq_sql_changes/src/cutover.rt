@@ -2,10 +2,10 @@
 
 ghost use Rattle.std.specs.Prelude.{◌≡◌, false};
 ghost use Rattle.sqlite.specs.Held.{state};
-ghost use Rattle.acq_sql_writes.specs.Written.{on_day};
+ghost use Rattle.acq_sql_changes.specs.Written.{on_day};
 ghost use Rattle.acq_sql_changes.specs.Changed.{LeadsTo, LeavesTables, StopsWithin};
 
-use acq_sql_writes::set_day;
+use crate::writes::set_day;
 use day_totals::Day;
 use sqlite::{Alter, Connection, Error};
 

@@ -2,11 +2,11 @@
 
 ghost use Rattle.std.specs.Prelude.{◌≡◌, false};
 ghost use Rattle.sqlite.specs.Held.{state};
-ghost use Rattle.acq_sql_writes.specs.Written.{with_merchant, with_terminal};
+ghost use Rattle.acq_sql_changes.specs.Written.{with_merchant, with_terminal};
 ghost use Rattle.acq_sql_changes.specs.Changed.{LeadsTo, LeavesTables, StopsWithin};
 
+use crate::writes::{add_merchant, add_terminal};
 use acq_core::{Merchant, Terminal};
-use acq_sql_writes::{add_merchant, add_terminal};
 use sqlite::{Alter, Connection, Error};
 
 /// Enrols a merchant.

@@ -4,13 +4,13 @@ ghost use Rattle.std.specs.Prelude.{◌≡◌, ◌<◌, ◌^◌, false, None, So
 ghost use Rattle.sqlite.specs.Held.{state};
 ghost use Rattle.iso_codec.specs.Message.{IsMessage};
 ghost use Rattle.iso_codec.specs.Reading.{spelling};
-ghost use Rattle.acq_sql_writes.specs.Written.{IsShortEnd};
+ghost use Rattle.acq_sql_changes.specs.Written.{IsShortEnd};
 ghost use Rattle.acq_sql_changes.specs.Changed.{LeadsToWhere, LeavesTables, StopsWithinWhere};
 ghost use Rattle.acq_sql_changes.specs.Changed.{HasRoomFor, HasRoomToFollow, with_follow};
 
 use crate::tallies::{totals_of_posting, used_by};
+use crate::writes::{add_posting, add_request, follow_request, raise};
 use acq_core::{Posting, Request, RequestKey, Status};
-use acq_sql_writes::{add_posting, add_request, follow_request, raise};
 use day_totals::Totals;
 use sqlite::{Alter, Connection, Error};
 

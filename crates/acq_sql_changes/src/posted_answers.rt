@@ -4,14 +4,14 @@ ghost use Rattle.std.specs.Prelude.{◌≡◌, ◌<◌, ◌^◌, false, Some};
 ghost use Rattle.sqlite.specs.Held.{state};
 ghost use Rattle.iso_codec.specs.Message.{IsMessage};
 ghost use Rattle.iso_codec.specs.Reading.{spelling};
-ghost use Rattle.acq_sql_writes.specs.Written.{IsShortEnd};
+ghost use Rattle.acq_sql_changes.specs.Written.{IsShortEnd};
 ghost use Rattle.acq_sql_changes.specs.Changed.{LeadsToWhere, LeavesTables, StopsWithinWhere};
 ghost use Rattle.acq_sql_changes.specs.Changed.{HasRoomToPost, with_whole_answer};
 
 use crate::issuer_answer::IssuerAnswer;
 use crate::tallies::totals_of_posting;
+use crate::writes::{add_posting, answer_request, raise};
 use acq_core::Posting;
-use acq_sql_writes::{add_posting, answer_request, raise};
 use sqlite::{Alter, Connection, Error};
 
 /// Answers a request, and posts.

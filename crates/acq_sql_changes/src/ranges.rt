@@ -2,7 +2,7 @@
 
 ghost use Rattle.std.specs.Prelude.{◌≡◌, false};
 ghost use Rattle.sqlite.specs.Held.{state};
-ghost use Rattle.acq_sql_writes.specs.Written.{with_added_range, with_dropped_range};
+ghost use Rattle.acq_sql_changes.specs.Written.{with_added_range, with_dropped_range};
 ghost use Rattle.acq_sql_changes.specs.Changed.{LeadsTo, LeavesTables, StopsWithin};
 
 use card_no::Range;
@@ -19,7 +19,7 @@ pub fn add_range<S: Alter>(conn: &mut Connection<S>, range: &Range) -> Result<()
         (with_added_range range.now) }
 {
     let mut tx = conn.transaction();
-    acq_sql_writes::add_range(&mut tx, range)?;
+    crate::writes::add_range(&mut tx, range)?;
     tx.commit()
 }
 
@@ -34,6 +34,6 @@ pub fn drop_range<S: Alter>(conn: &mut Connection<S>, low: u32, high: u32) -> Re
         (with_dropped_range low high) }
 {
     let mut tx = conn.transaction();
-    acq_sql_writes::drop_range(&mut tx, low, high)?;
+    crate::writes::drop_range(&mut tx, low, high)?;
     tx.commit()
 }

@@ -4,13 +4,13 @@ ghost use Rattle.std.specs.Prelude.{◌≡◌, false};
 ghost use Rattle.sqlite.specs.Held.{state};
 ghost use Rattle.iso_codec.specs.Message.{IsMessage};
 ghost use Rattle.iso_codec.specs.Reading.{spelling};
-ghost use Rattle.acq_sql_writes.specs.Written.{with_request, IsShortEnd};
+ghost use Rattle.acq_sql_changes.specs.Written.{with_request, IsShortEnd};
 ghost use Rattle.acq_sql_changes.specs.Changed.{LeadsToWhere, LeavesTables, StopsWithinWhere};
 ghost use Rattle.acq_sql_changes.specs.Changed.{HasRoomFor};
 
 use crate::tallies::used_by;
+use crate::writes::{add_request, raise};
 use acq_core::Request;
-use acq_sql_writes::{add_request, raise};
 use day_totals::Totals;
 use sqlite::{Alter, Connection, Error};
 

@@ -8,7 +8,7 @@ use Rattle.acq_message.specs.declared.verdict.Verdict.{Verdict}
 use Rattle.acq_message.specs.declared.verdict.Verdict.TheVariants.{NoAnswer}
 use Rattle.acq_core.specs.declared.query.Query.{Query}
 use Rattle.acq_out.specs.Fields.{verdict_of_texts}
-use Rattle.acq_records.specs.Records.{values_of_text}
+use Rattle.acq_out.specs.Records.{values_of_text}
 use Rattle.acq_stand_in.specs.declared.card_answer.CardAnswer.{CardAnswer}
 
 -- the card that a text names: one that is no valid card number is no request's card

@@ -6,7 +6,7 @@ ghost use Rattle.acq_stand_in.specs.Answers.{answer_of_fields, card_of_text};
 
 use crate::card_answer::CardAnswer;
 use acq_out::verdict_of;
-use acq_records::{RecordForm, field};
+use acq_out::records::{RecordForm, field};
 use card_no::CardNumber;
 use csv::ByteRecord;
 use std::alloc::{AllocError, Global};

@@ -4,9 +4,9 @@ ghost use Rattle.std.specs.Prelude.{◌≡◌, ◌+◌, ◌++◌, ℕ, List, Ok,
 ghost use Rattle.std.specs.Prelude.{find};
 ghost use Rattle.std.specs.Option.{option_copied};
 ghost use Rattle.acq_link.specs.Moves.{TakesAll};
-ghost use Rattle.acq_records.specs.Faults.{failed_reads};
-ghost use Rattle.acq_records.specs.Reads.{ReadsValues};
-ghost use Rattle.acq_records.specs.declared.record_fault.RecordFault.TheVariants.{BadRecord};
+ghost use Rattle.acq_out.specs.RecordFaults.{failed_reads};
+ghost use Rattle.acq_out.specs.RecordReads.{ReadsValues};
+ghost use Rattle.acq_out.specs.declared.records.record_fault.RecordFault.TheVariants.{BadRecord};
 ghost use Rattle.acq_stand_in.specs.Answers.{answer_of_fields, is_for, verdict_for};
 
 use crate::answer_form::AnswerForm;
@@ -14,7 +14,7 @@ use crate::card_answer::CardAnswer;
 use acq_core::{Query, Verdict};
 use acq_front::Issuer;
 use acq_link::Source;
-use acq_records::{RecordFault, read_records};
+use acq_out::records::{RecordFault, read_records};
 use card_no::CardNumber;
 use std::alloc::Global;
 use std::marker::Model;

@@ -1,7 +1,7 @@
 -- What one part reaches, and the next one from there, both reach.
 use Rattle.std.proofs.Common.{◌++◌, ◌∙◌, ap, sym, Err}
 use Rattle.acq_core.specs.Tables.{Tables, tables_after}
-use Rattle.acq_bookkeeping.proofs.FinalDays.{tables_after-append}
+use Rattle.acq_history.proofs.FinalDays.{tables_after-append}
 use Rattle.acq_commands.specs.Listening.{Reached, ReachedUnlessRefused}
 use Rattle.acq_commands.specs.declared.fault.Fault as fault
 

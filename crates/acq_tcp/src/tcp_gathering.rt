@@ -7,7 +7,7 @@ ghost use Rattle.acq_commands.specs.Listening.{ReachedUnlessRefused};
 use crate::open_connection::OpenConnection;
 use acq_book::Book;
 use acq_commands::{Fault, Gathering, end_connection};
-use acq_conversation::{Line, StreamLine};
+use acq_front::{Line, StreamLine};
 use acq_front::{Clock, FrontFault, Issuer};
 use acq_host::Host;
 use acq_link::Sink;

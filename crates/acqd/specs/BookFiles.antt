@@ -5,8 +5,8 @@ use Rattle.sqlite_wal.specs.Recovery.{Image}
 use Rattle.sqlite.specs.Files.{HoldsDatabase}
 use Rattle.acq_core.specs.Tables.{Tables}
 use Rattle.acq_sql_changes.specs.Changed.{HoldsAfter}
-use Rattle.acq_sql_opening.specs.declared.opening_fault.OpeningFault.{OpeningFault}
-use Rattle.acq_sql_opening.specs.declared.opening_fault.OpeningFault.TheVariants as opening
+use Rattle.acq_sql.specs.declared.opening.opening_fault.OpeningFault.{OpeningFault}
+use Rattle.acq_sql.specs.declared.opening.opening_fault.OpeningFault.TheVariants as opening
 use Rattle.acq_commands.specs.declared.fault.Fault.{Fault}
 use Rattle.acq_commands.specs.declared.fault.Fault.TheVariants.{Memory, Store, NotABook}
 use Rattle.acq_commands.specs.declared.fault.Fault.TheVariants.{OtherVersion}

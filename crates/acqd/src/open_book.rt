@@ -12,7 +12,7 @@ ghost use Rattle.acqd.specs.BookFiles.{FilesHold};
 
 use acq_core::Limit;
 use acq_sql::{OpeningFault, Refusal, SqlBook};
-use acq_sql_opening::an_open_finds_the_book;
+use acq_sql::opening::an_open_finds_the_book;
 use day_totals::Day;
 use sqlite::Connection;
 use sqlite_disk::Start;

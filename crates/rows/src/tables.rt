@@ -14,7 +14,7 @@ use acq_core::{
     AdmittedCount, Amount, Currency, FirstReference, Limit, MerchantId, Moment, Reference, Service,
     TerminalId, Trace, Transmission, UsedCount, Verdict,
 };
-use acq_hex::frames_of_hex;
+use acq_link::hex_frames::frames_of_hex;
 use acq_link::SliceSource;
 use acq_stand_in::StandIn;
 use card_no::{CardNumber, IssuerId, Prefix, Range, RangeFault, RangeList, split_track2};

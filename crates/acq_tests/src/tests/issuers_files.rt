@@ -1,7 +1,7 @@
 //! A file of issuers' answers that can't be read to its end.
 
 use acq_link::SliceSource;
-use acq_records::RecordFault;
+use acq_out::records::RecordFault;
 use acq_stand_in::StandIn;
 
 #[test]

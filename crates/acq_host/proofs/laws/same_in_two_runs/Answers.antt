@@ -1,4 +1,4 @@
-use Rattle.acq_isolation.proofs.IsolatedParties.{two_runs}
+use Rattle.acq_history.proofs.IsolatedParties.{two_runs}
 use Rattle.acq_host.proofs.laws.same_in_two_runs.Goals as goal
 
 pub returns : goal.returns

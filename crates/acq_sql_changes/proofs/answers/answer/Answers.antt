@@ -1,7 +1,7 @@
 use Rattle.std.proofs.Common.{◌≡◌, None, refl, rules}
 use Rattle.sqlite.specs.Held.{state}
 use Rattle.acq_core.specs.Tables.{answered_row}
-use Rattle.acq_sql_writes.specs.Written.{with_answer}
+use Rattle.acq_sql_changes.specs.Written.{with_answer}
 use Rattle.acq_sql_changes.specs.Changed.{with_whole_answer}
 use Rattle.acq_sql_changes.proofs.Commits.{Makes, began, wrote, makes, committed, stops_within}
 use Rattle.acq_sql_changes.proofs.Commits.{of_all}

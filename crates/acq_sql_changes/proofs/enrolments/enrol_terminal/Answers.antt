@@ -1,6 +1,6 @@
 use Rattle.std.proofs.Common.{◌≡◌, refl, rules}
 use Rattle.sqlite.specs.Held.{state}
-use Rattle.acq_sql_writes.specs.Written.{with_terminal}
+use Rattle.acq_sql_changes.specs.Written.{with_terminal}
 use Rattle.acq_sql_changes.proofs.Commits.{Makes, began, wrote, makes, committed, stops_within}
 use Rattle.acq_sql_changes.proofs.Commits.{of_all}
 use Rattle.acq_sql_changes.proofs.enrolments.enrol_terminal.Given.{Over}

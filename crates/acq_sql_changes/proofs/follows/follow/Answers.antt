@@ -2,7 +2,7 @@ use Rattle.std.proofs.Common.{◌≡◌, None, refl, rules}
 use Rattle.sqlite.specs.Held.{state}
 use Rattle.acq_core.specs.Tables.{Tables, followed_row}
 use Rattle.acq_sql_rows.specs.Tallies.{request_tally}
-use Rattle.acq_sql_writes.specs.Written.{with_status, with_request}
+use Rattle.acq_sql_changes.specs.Written.{with_status, with_request}
 use Rattle.acq_sql_changes.specs.Changed.{HasRoomFor, with_follow}
 use Rattle.acq_sql_changes.proofs.Commits.{Makes, began, wrote, makes_raised, committed}
 use Rattle.acq_sql_changes.proofs.Commits.{stops_within}

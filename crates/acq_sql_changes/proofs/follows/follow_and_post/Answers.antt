@@ -1,7 +1,7 @@
 use Rattle.std.proofs.Common.{◌≡◌, Some, refl, ap, rules}
 use Rattle.sqlite.specs.Held.{state}
 use Rattle.acq_core.specs.Tables.{Tables, followed_row}
-use Rattle.acq_sql_writes.specs.Written.{with_status, with_request, with_posting}
+use Rattle.acq_sql_changes.specs.Written.{with_status, with_request, with_posting}
 use Rattle.acq_sql_changes.specs.Changed.{HasRoomToFollow, with_follow}
 use Rattle.acq_sql_changes.proofs.Commits.{Makes, began, wrote, makes_raised, committed}
 use Rattle.acq_sql_changes.proofs.Commits.{stops_within}

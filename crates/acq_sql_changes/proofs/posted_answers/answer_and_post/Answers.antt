@@ -2,7 +2,7 @@ use Rattle.std.proofs.Common.{◌≡◌, Some, refl, ap, rules}
 use Rattle.sqlite.specs.Held.{state}
 use Rattle.acq_core.specs.Tables.{Tables, answered_row}
 use Rattle.acq_sql_rows.specs.Tallies.{posting_tally}
-use Rattle.acq_sql_writes.specs.Written.{with_answer, with_posting}
+use Rattle.acq_sql_changes.specs.Written.{with_answer, with_posting}
 use Rattle.acq_sql_changes.specs.Changed.{HasRoomToPost, with_whole_answer}
 use Rattle.acq_sql_changes.proofs.Commits.{Makes, began, wrote, makes_raised, committed}
 use Rattle.acq_sql_changes.proofs.Commits.{stops_within}

@@ -1,7 +1,7 @@
 use Rattle.std.proofs.Common.{◌≡◌, ap, rules}
 use Rattle.sqlite.specs.Held.{state}
 use Rattle.acq_sql_rows.specs.Tallies.{request_tally}
-use Rattle.acq_sql_writes.specs.Written.{with_request, with_reconciliation}
+use Rattle.acq_sql_changes.specs.Written.{with_request, with_reconciliation}
 use Rattle.acq_sql_changes.specs.Changed.{HasRoomToReconcile, with_reconciled}
 use Rattle.acq_sql_changes.proofs.Commits.{Makes, began, wrote, makes_raised, committed}
 use Rattle.acq_sql_changes.proofs.Commits.{stops_within}

@@ -1,6 +1,6 @@
 use Rattle.std.proofs.Common.{arith}
 use Rattle.csv.specs.Records.{fields_of}
-use Rattle.acq_records.proofs.RecordFields.{fields_three}
+use Rattle.acq_out.proofs.records.RecordFields.{fields_three}
 use Rattle.acq_stand_in.proofs.answer_form.texts_in.Goals as goal
 
 pub returns-clause-three : goal.returns-clause-three

@@ -6,8 +6,8 @@ use Rattle.acq_core.specs.Tables.{after_any, step_output, step_tables}
 use Rattle.acq_book.specs.Fits.{Fits}
 use Rattle.acq_book.specs.Promise.{Makes}
 use Rattle.acq_core.specs.Pasts.{IsBook, HasPast}
-use Rattle.acq_invariants.proofs.BooksAreSound.{books_are_sound}
-use Rattle.acq_invariants.proofs.BooksGoOn.{books_go_on}
+use Rattle.acq_history.proofs.BooksAreSound.{books_are_sound}
+use Rattle.acq_history.proofs.BooksGoOn.{books_go_on}
 use Rattle.acq_host.proofs.Chains.{makes_after}
 use Rattle.acq_host.proofs.ChangesFit.{changes_fit}
 use Rattle.acq_host.proofs.host.Host.take.Goals as goal

@@ -1,6 +1,6 @@
 use Rattle.std.proofs.Common.{arith}
 use Rattle.csv.specs.Records.{fields_of}
-use Rattle.acq_records.proofs.RecordFields.{fields_six}
+use Rattle.acq_out.proofs.records.RecordFields.{fields_six}
 use Rattle.acq_out.proofs.event_line.EventLine.of.Goals as goal
 
 pub returns-clause-six : goal.returns-clause-six

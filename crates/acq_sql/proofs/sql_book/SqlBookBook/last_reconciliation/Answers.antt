@@ -1,5 +1,5 @@
 use Rattle.std.proofs.Common.{◌∙◌, ap}
-use Rattle.acq_sql_lookups.specs.Looked.{last_numbered_at}
+use Rattle.acq_sql_reads.specs.Looked.{last_numbered_at}
 use Rattle.std.specs.Prelude.{option_map}
 use Rattle.acq_sql.proofs.BookLooks.{value_of}
 use Rattle.acq_sql.proofs.sql_book.SqlBookBook.last_reconciliation.Goals as goal

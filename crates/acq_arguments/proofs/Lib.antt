@@ -1,4 +1,0 @@
-pub mod AskedCommands
-pub mod OptionsRead
-pub mod ProgramIsSimple
-pub mod WantedReports

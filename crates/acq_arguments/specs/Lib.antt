@@ -1,3 +1,0 @@
-pub mod Arguments
-pub mod Program
-pub mod WantedReports

@@ -1,7 +1,0 @@
-use Rattle.std.proofs.Common.{Some}
-use Rattle.acq_history.specs.PartyHistory.{history_of}
-use Rattle.acq_bookkeeping.proofs.BalanceOfReconciliation.{balanced}
-use Rattle.acq_bookkeeping.proofs.reconciliations_balance_exactly.Goals as goal
-
-pub returns : goal.returns
-returns c = λ m opening day es r e. balanced opening day (history_of opening (Some m) es) r e

@@ -1,5 +1,0 @@
-pub mod DaySums
-pub mod Balance
-pub mod KeptRepeats
-pub mod Conservation
-pub mod Finality

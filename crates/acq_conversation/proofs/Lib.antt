@@ -1,3 +1,0 @@
-pub mod Following
-pub mod Rounds
-pub mod Turning

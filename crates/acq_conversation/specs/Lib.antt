@@ -1,5 +1,0 @@
-pub mod Exchanges
-pub mod Lines
-pub mod Log
-pub mod Outgoing
-pub mod Turns

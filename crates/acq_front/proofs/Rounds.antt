@@ -1,0 +1,163 @@
+-- How one round goes.
+use Rattle.std.proofs.Common.{◌≡◌, ℕ, true, List, [], ◌∷◌, ◌++◌, take, drop, Ok, Err, inl, inr}
+use Rattle.std.proofs.Common.{refl, sym, subst, ◌∙◌, ◌==◌, Bool, false, length, true≢false}
+use Rattle.std.proofs.Common.{append-nil, arith}
+use Rattle.std.proofs.lemmas.Bool.Decides.{nat_tests}
+use Rattle.std.specs.Prelude.{Result}
+use Rattle.std.specs.List.{All}
+use Rattle.acq_link.specs.Frames.{Frames}
+use Rattle.acq_link.specs.FramesAt.{BeginsWithFrame}
+use Rattle.acq_message.specs.declared.verdict.Verdict.{Verdict}
+use Rattle.acq_core.specs.Tables.{Tables}
+use Rattle.acq_front.specs.Talk.{Saying, replies}
+use Rattle.acq_front.specs.Turns as front
+use Rattle.acq_front.specs.declared.front_fault.FrontFault as fault
+use Rattle.acq_front.specs.Exchanges.{EndsWith, FollowsLog, Goes, Passed, UnlessCut}
+use Rattle.acq_front.specs.Log.{Entry}
+use Rattle.acq_front.specs.Ends.{Steps, StopsAt, UnlessRefused}
+use Rattle.acq_front.specs.declared.round.Round.{Round}
+use Rattle.acq_front.specs.declared.round.Round.TheVariants.{GoesOn}
+use Rattle.acq_front.specs.declared.turn.Turn.TheVariants.{Took}
+use Rattle.acq_front.proofs.Following.{follows_fed, follows_written, follows_took}
+
+pub unless_refused : {X : Type 0} (r : Result X fault.FrontFault) {p : Type 0} → p →
+    UnlessRefused r p
+unless_refused (Ok x) h = h
+unless_refused (Err fault.TheVariants.Memory) h = tt
+unless_refused (Err fault.TheVariants.Store) h = tt
+unless_refused (Err fault.TheVariants.BadLength) h = h
+unless_refused (Err fault.TheVariants.Ended) h = h
+unless_refused (Err (fault.TheVariants.Undecodable u)) h = h
+unless_refused (Err fault.TheVariants.Read) h = h
+unless_refused (Err (fault.TheVariants.Write n)) h = h
+
+unless_cut : (r : Result Round fault.FrontFault) {p : Type 0} → p → UnlessCut r p
+unless_cut (Ok x) h = h
+unless_cut (Err fault.TheVariants.Memory) h = h
+unless_cut (Err fault.TheVariants.Store) h = h
+unless_cut (Err fault.TheVariants.BadLength) h = h
+unless_cut (Err fault.TheVariants.Ended) h = h
+unless_cut (Err (fault.TheVariants.Undecodable u)) h = h
+unless_cut (Err fault.TheVariants.Read) h = h
+unless_cut (Err (fault.TheVariants.Write n)) h = tt
+
+-- where a turn stopped the connection, so does the round
+pub stops_ends : (held unsent : List ℕ) (f : fault.FrontFault) → StopsAt held unsent (Err f) →
+    EndsWith held unsent (Err f)
+stops_ends held unsent fault.TheVariants.Memory h = tt
+stops_ends held unsent fault.TheVariants.Store h = tt
+stops_ends held unsent fault.TheVariants.BadLength h = h
+stops_ends held unsent fault.TheVariants.Ended h = absurd h
+stops_ends held unsent (fault.TheVariants.Undecodable u) h = tt
+stops_ends held unsent fault.TheVariants.Read h = tt
+stops_ends held unsent (fault.TheVariants.Write n) h = tt
+
+-- nothing is left, where that was seen
+pub none_left : (seen left : List ℕ) (b : Bool) → b ≡ (length seen == 0) → b ≡ true → seen ≡ left →
+    left ≡ []
+none_left [] left b is on same = sym same
+none_left (x ∷ seen) left b is on same =
+    let some : (length (x ∷ seen) == 0) ≡ false = grind (arith, nat_tests) in
+    absurd (true≢false (sym on ∙ is ∙ some))
+
+-- what passed, by its parts
+abbrev pub parts : List ℕ → List ℕ → List ℕ → List ℕ → Passed
+parts came held went unsent = record { came = came; held = held; went = went; unsent = unsent }
+
+module _ (may_give : ℕ → Type 0) (may_say : Saying) (old new : Tables) where
+  -- the host took nothing
+  goes_quietly : (before after : Passed) (ended : Result Round fault.FrontFault) → new ≡ old →
+      ((k : ℕ) (t : Tables) (log : List Entry) → FollowsLog k t log before →
+      FollowsLog k t log after) →
+      Goes may_give may_say old new before after ended
+  goes_quietly before after ended is on = record {
+    events = [];
+    took = inl refl;
+    tables = is;
+    follows = λ k t log at f.
+        unless_cut ended
+        (subst (λ (l : List Entry). FollowsLog k t l after) (sym (append-nil log))
+        (on k t log f));
+  }
+
+  -- bytes of a reply were written
+  pub writes_on : (came held went unsent : List ℕ) (n : ℕ) (ended : Result Round fault.FrontFault) →
+      new ≡ old →
+      Goes may_give may_say old new (parts came held went unsent)
+      (parts came held (went ++ take n unsent) (drop n unsent)) ended
+  writes_on came held went unsent n ended is =
+      goes_quietly (parts came held went unsent)
+      (parts came held (went ++ take n unsent) (drop n unsent)) ended is
+      (λ k t log f. follows_written k t log came went held unsent n f)
+
+  -- a piece came
+  pub reads_on : (came held went unsent piece : List ℕ) (ended : Result Round fault.FrontFault) →
+      new ≡ old →
+      Goes may_give may_say old new (parts came held went unsent)
+      (parts (came ++ piece) (held ++ piece) went unsent) ended
+  reads_on came held went unsent piece ended is =
+      goes_quietly (parts came held went unsent) (parts (came ++ piece) (held ++ piece) went unsent)
+      ended is
+      (λ k t log f. follows_fed k t log came went held unsent piece f)
+
+  -- a message was taken and answered
+  answers : (came held left went unsent message moments : List ℕ) (verdicts : List Verdict)
+      (ended : Result Round fault.FrontFault) → All may_give moments →
+      BeginsWithFrame held message left →
+      front.Answered may_say old new message unsent moments verdicts →
+      Goes may_give may_say old new (parts came held went []) (parts came left went unsent) ended
+  answers came held left went unsent message moments verdicts ended given begins a = record {
+    events = a.events;
+    took = inr (record {
+      message = message;
+      moments = moments;
+      given = given;
+      verdicts = verdicts;
+      took = a.took;
+    });
+    tables = a.took.tables;
+    follows = λ k t log at f.
+        unless_cut ended
+        (follows_took k t log came went held left unsent message moments verdicts a.events f
+        begins
+        (subst (λ (b : Tables). front.Makes b message moments verdicts a.events) at a.took.makes)
+        (subst (λ (b : Tables). Frames unsent (replies b a.events)) at a.written));
+  }
+
+  module _ (stays_open : Type 0) (came held left went unsent : List ℕ) where
+    -- a turn took a message
+    pub takes_on : Steps may_give may_say old stays_open new held left unsent (Ok Took) →
+        Goes may_give may_say old new (parts came held went []) (parts came left went unsent)
+        (Ok GoesOn)
+    takes_on s = answers came held left went unsent s.message s.moments s.verdicts
+        (Ok GoesOn) s.given s.begins s.turns.0
+
+    -- a turn stopped the connection
+    pub stops : (f : fault.FrontFault) →
+        Steps may_give may_say old stays_open new held left unsent (Err f) →
+        UnlessRefused {X = Round} (Err f)
+        (Goes may_give may_say old new (parts came held went []) (parts came left went unsent)
+        (Err f))
+    stops fault.TheVariants.Memory s = tt
+    stops fault.TheVariants.Store s = tt
+    stops fault.TheVariants.BadLength s =
+        rw (s.0.same, s.0.none)
+        (goes_quietly (parts came held went []) (parts came held went [])
+        (Err fault.TheVariants.BadLength) s.0.tables (λ k t log f. f))
+    stops fault.TheVariants.Ended s = absurd s.turns
+    stops (fault.TheVariants.Undecodable u) s =
+        answers came held left went unsent s.message s.moments s.verdicts
+        (Err (fault.TheVariants.Undecodable u)) s.given s.begins s.turns.0
+    stops fault.TheVariants.Read s = absurd s.turns
+    stops (fault.TheVariants.Write n) s = record {
+      events = s.turns.events;
+      took = inr (record {
+        message = s.message;
+        moments = s.moments;
+        given = s.given;
+        verdicts = s.verdicts;
+        took = s.turns.took;
+      });
+      tables = s.turns.took.tables;
+      follows = λ k t log at f. tt;
+    }

@@ -1,0 +1,94 @@
+use Rattle.std.proofs.Common.{rules, ◌≡◌, [], Ok, refl, subst}
+use Rattle.std.proofs.lemmas.Result.{err_from_is_err_and}
+use Rattle.std.specs.Prelude.{Result}
+use Rattle.acq_front.specs.declared.front_fault.FrontFault as fault
+use Rattle.acq_front.specs.Ends as turns
+use Rattle.acq_front.specs.Ends.{Steps}
+use Rattle.acq_front.specs.declared.turn.Turn.{Turn}
+use Rattle.acq_front.specs.declared.turn.Turn.TheVariants.{Took, Waits}
+use Rattle.acq_front.specs.Exchanges.{held_of, unsent_of}
+use Rattle.acq_front.proofs.Rounds.{none_left, reads_on, stops, stops_ends, takes_on}
+use Rattle.acq_front.proofs.Rounds.{unless_refused, writes_on}
+use Rattle.acq_front.proofs.exchange.Exchange.round.Goals as goal
+
+pub returns-then-not-is_empty-clause-goes : goal.returns-then-not-is_empty-clause-goes
+returns-then-not-is_empty-clause-goes g c = λ h o.
+    let give = g.C.Clock.may_give c.args.clock.now in
+    let say = g.I.Issuer.may_say c.args.issuer.now in
+    let tables = g.B.Book.tables c.args.host.now in
+    let it = c.args.self.now in
+    let sent = c.send.ensures.sent in
+    unless_refused c.send.result
+    (rw (c.send.ensures.received, c.send.ensures.held, sent.1, sent.2)
+    (writes_on give say tables tables (g.L.Line.received it.line) (held_of it)
+    (g.L.Line.sent it.line) (unsent_of it) sent.0 c.send.result refl))
+
+pub returns-in_err-turn-clause-goes : goal.returns-in_err-turn-clause-goes
+returns-in_err-turn-clause-goes g c = λ h o.
+    let give = g.C.Clock.may_give c.args.clock.now in
+    let say = g.I.Issuer.may_say c.args.issuer.now in
+    let it = c.args.self.now in
+    let f = c.in_err-turn.field-0.0 in
+    let p = err_from_is_err_and c.from_residual.result c.from_residual.ensures.1 in
+    let none = none_left c.unsent.result.now (unsent_of it) c.is_empty.result c.is_empty.ensures
+    c.if-not-is_empty.false c.unsent.ensures in
+    rw (p.1, p.2, none)
+    (stops give say (g.B.Book.tables c.args.host.now) (g.B.Book.tables c.turn.new.host)
+    (g.B.Book.is_open c.turn.new.host)
+    (g.L.Line.received it.line) (held_of it) (turns.held_of c.turn.new.self) (g.L.Line.sent it.line)
+    (turns.unsent_of c.turn.new.self) f
+    (c.in_err-turn.ensures.steps h o))
+
+pub returns-in_err-turn-clause-ends : goal.returns-in_err-turn-clause-ends
+returns-in_err-turn-clause-ends g c =
+    let p = err_from_is_err_and c.from_residual.result c.from_residual.ensures.1 in
+    rw (p.1, p.2)
+    (stops_ends (turns.held_of c.turn.new.self) (turns.unsent_of c.turn.new.self)
+    c.in_err-turn.field-0.0 c.in_err-turn.ensures.stops)
+
+pub returns-in-Took-clause-goes : goal.returns-in-Took-clause-goes
+returns-in-Took-clause-goes g c = λ h o.
+    let give = g.C.Clock.may_give c.args.clock.now in
+    let say = g.I.Issuer.may_say c.args.issuer.now in
+    let it = c.args.self.now in
+    let none = none_left c.unsent.result.now (unsent_of it) c.is_empty.result c.is_empty.ensures
+    c.if-not-is_empty.false c.unsent.ensures in
+    let took : c.turn.result ≡ Ok Took = search rules in
+    rw (none)
+    (takes_on give say (g.B.Book.tables c.args.host.now) (g.B.Book.tables c.turn.new.host)
+    (g.B.Book.is_open c.turn.new.host)
+    (g.L.Line.received it.line) (held_of it) (turns.held_of c.turn.new.self) (g.L.Line.sent it.line)
+    (turns.unsent_of c.turn.new.self)
+    (subst (λ (r : Result Turn fault.FrontFault). Steps give say (g.B.Book.tables c.args.host.now)
+    (g.B.Book.is_open c.turn.new.host)
+    (g.B.Book.tables c.turn.new.host) (held_of it) (turns.held_of c.turn.new.self)
+    (turns.unsent_of c.turn.new.self) r) took
+    (c.turn.ensures.steps h o)))
+
+pub returns-in-Waits-clause-goes : goal.returns-in-Waits-clause-goes
+returns-in-Waits-clause-goes g c = λ h o.
+    let give = g.C.Clock.may_give c.args.clock.now in
+    let say = g.I.Issuer.may_say c.args.issuer.now in
+    let it = c.args.self.now in
+    let none = none_left c.unsent.result.now (unsent_of it) c.is_empty.result c.is_empty.ensures
+    c.if-not-is_empty.false c.unsent.ensures in
+    let waits : c.turn.result ≡ Ok Waits = search rules in
+    let turned = subst (λ (r : Result Turn fault.FrontFault). Steps give say
+    (g.B.Book.tables c.args.host.now) (g.B.Book.is_open c.turn.new.host)
+    (g.B.Book.tables c.turn.new.host) (held_of it) (turns.held_of c.turn.new.self)
+    (turns.unsent_of c.turn.new.self) r) waits
+    (c.turn.ensures.steps h o) in
+    let came = c.receive.ensures.received in
+    unless_refused c.receive.result
+    (rw (
+      c.receive.ensures.unsent,
+      c.receive.ensures.sent,
+      came.1,
+      came.2,
+      turned.0.same,
+      turned.0.none,
+      none,
+    )
+    (reads_on give say (g.B.Book.tables c.args.host.now) (g.B.Book.tables c.turn.new.host)
+    (g.L.Line.received it.line) (held_of it)
+    (g.L.Line.sent it.line) [] came.0 c.receive.result turned.0.tables))

@@ -1,0 +1,69 @@
+-- One end of a connection, a turn at a time.
+use Rattle.std.specs.Prelude.{◌≡◌, ◌⊎◌, ℕ, true, List, [], Result, Ok, Err}
+use Rattle.std.specs.List.{All}
+use Rattle.acq_link.specs.Frames.{has_bad_length}
+use Rattle.acq_link.specs.FramesAt.{BeginsWithFrame, MayBecomeFrame}
+use Rattle.acq_message.specs.declared.verdict.Verdict.{Verdict}
+use Rattle.acq_core.specs.Tables.{Tables}
+use Rattle.acq_front.specs.Talk.{Saying}
+use Rattle.acq_front.specs.Turns as front
+use Rattle.acq_front.specs.declared.front_fault.FrontFault as fault
+use Rattle.acq_front.specs.Outgoing.{bytes_of}
+use Rattle.acq_front.specs.declared.conversation.Conversation.{Conversation}
+use Rattle.acq_front.specs.declared.turn.Turn.{Turn}
+use Rattle.acq_front.specs.declared.turn.Turn.TheVariants.{Waits, Took}
+
+-- what came and belongs to no message yet
+abbrev pub held_of : Conversation → List ℕ
+held_of c = c.input
+
+-- what of a reply is still to be written
+abbrev pub unsent_of : Conversation → List ℕ
+unsent_of c = bytes_of c.output
+
+-- nothing was taken
+pub record TookNothing (old new : Tables) (held left unsent : List ℕ) : Type 0 where
+  pub tables : new ≡ old
+  pub same : left ≡ held
+  pub none : unsent ≡ []
+
+module _ (may_give : ℕ → Type 0) (may_say : Saying) (old : Tables) (stays_open : Type 0)
+    (new : Tables) where
+  -- The next message was taken, at moments that may be given, and answered as `serve` answers one;
+  -- what is to be written is what went out there.
+  pub record TakesNext (held left unsent : List ℕ) (ended : Result (Unit {0}) fault.FrontFault)
+      : Type 0 where
+    pub message : List ℕ
+    pub begins : BeginsWithFrame held message left
+    pub moments : List ℕ
+    pub given : All may_give moments
+    pub verdicts : List Verdict
+    pub turns : front.Turns may_say old stays_open new message unsent moments verdicts ended
+
+  -- one turn
+  abbrev pub Steps : List ℕ → List ℕ → List ℕ → Result Turn fault.FrontFault → Type 0
+  Steps held left unsent (Ok Waits) = TookNothing old new held left unsent × MayBecomeFrame held
+  Steps held left unsent (Ok Took) = TakesNext held left unsent (Ok tt)
+  Steps held left unsent (Err fault.TheVariants.BadLength) =
+      TookNothing old new held left unsent × (has_bad_length held ≡ true)
+  Steps held left unsent (Err fault.TheVariants.Memory) =
+      TookNothing old new held left unsent
+      ⊎ TakesNext held left unsent (Err fault.TheVariants.Memory)
+  Steps held left unsent (Err f) = TakesNext held left unsent (Err f)
+
+-- Where no message could be taken, what stands in front: nothing or a frame that is begun, and then
+-- nothing is to be written; or a bad length. Whether the input ended, and whether it could be read,
+-- is
+-- not known here.
+abbrev pub StopsAt : List ℕ → List ℕ → Result Turn fault.FrontFault → Type 0
+StopsAt held unsent (Ok Waits) = MayBecomeFrame held × (unsent ≡ [])
+StopsAt held unsent (Err fault.TheVariants.BadLength) = has_bad_length held ≡ true
+StopsAt held unsent (Err fault.TheVariants.Ended) = ⊥
+StopsAt held unsent (Err fault.TheVariants.Read) = ⊥
+StopsAt held unsent other = Unit {0}
+
+-- this holds where neither memory nor the store stopped it
+abbrev pub UnlessRefused : {X : Type 0} → Result X fault.FrontFault → Type 0 → Type 0
+UnlessRefused (Err fault.TheVariants.Memory) p = Unit {0}
+UnlessRefused (Err fault.TheVariants.Store) p = Unit {0}
+UnlessRefused other p = p

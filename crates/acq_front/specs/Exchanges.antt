@@ -1,0 +1,83 @@
+-- One connection to a host that has many, a round at a time.
+use Rattle.std.specs.Prelude.{◌≡◌, ◌⊎◌, ℕ, true, List, [], ◌++◌, map, Result, Ok, Err}
+use Rattle.std.specs.List.{All}
+use Rattle.acq_link.specs.Frames.{has_bad_length, is_partial}
+use Rattle.acq_message.specs.declared.verdict.Verdict.{Verdict}
+use Rattle.acq_core.specs.declared.event.Event.{Event}
+use Rattle.acq_core.specs.Tables.{Tables, tables_after}
+use Rattle.acq_front.specs.Talk.{Saying}
+use Rattle.acq_front.specs.Turns.{TookMessage}
+use Rattle.acq_front.specs.declared.front_fault.FrontFault as fault
+use Rattle.acq_front.specs.Log.{Entry, Follows, after_log, by}
+use Rattle.acq_front.specs.Ends as turns
+use Rattle.acq_front.specs.declared.exchange.Exchange.{Exchange}
+use Rattle.acq_front.specs.declared.round.Round.{Round}
+use Rattle.acq_front.specs.declared.round.Round.TheVariants.{Ended, Waits}
+
+-- what passed over a connection so far
+pub record Passed : Type 0 where
+  -- what came, and what of it belongs to no message yet
+  pub came : List ℕ
+  pub held : List ℕ
+  -- what went out, and what of a reply is still to be written
+  pub went : List ℕ
+  pub unsent : List ℕ
+
+module _ {L : Type 0} where
+  abbrev pub line_of : Exchange L → L
+  line_of e = e.line
+
+  abbrev pub held_of : Exchange L → List ℕ
+  held_of e = turns.held_of e.conversation
+
+  abbrev pub unsent_of : Exchange L → List ℕ
+  unsent_of e = turns.unsent_of e.conversation
+
+  -- what passed over it, by what its line received and sent
+  abbrev pub passed : (L → List ℕ) → (L → List ℕ) → Exchange L → Passed
+  passed received sent e = record {
+    came = received (line_of e);
+    held = held_of e;
+    went = sent (line_of e);
+    unsent = unsent_of e;
+  }
+
+-- what passed over connection k follows the log of all connections to a host
+abbrev pub FollowsLog : ℕ → Tables → List Entry → Passed → Type 0
+FollowsLog k t log p = Follows k t log p.came p.went p.held p.unsent
+
+-- this holds where no reply was cut short
+abbrev pub UnlessCut : Result Round fault.FrontFault → Type 0 → Type 0
+UnlessCut (Err (fault.TheVariants.Write n)) p = Unit {0}
+UnlessCut other p = p
+
+-- this holds where the round waits
+abbrev pub IfWaits : Result Round fault.FrontFault → Type 0 → Type 0
+IfWaits (Ok Waits) p = p
+IfWaits other p = Unit {0}
+
+-- Where the connection ended, what it holds and has still to write: at its own end neither.
+abbrev pub EndsWith : List ℕ → List ℕ → Result Round fault.FrontFault → Type 0
+EndsWith held unsent (Ok Ended) = (held ≡ []) × (unsent ≡ [])
+EndsWith held unsent (Err fault.TheVariants.BadLength) = has_bad_length held ≡ true
+EndsWith held unsent (Err fault.TheVariants.Ended) = is_partial held ≡ true
+EndsWith held unsent other = Unit {0}
+
+module _ (may_give : ℕ → Type 0) (may_say : Saying) (old new : Tables) where
+  -- the host took the events of one message, at moments that may be given
+  pub record TookOne (events : List Event) : Type 0 where
+    pub message : List ℕ
+    pub moments : List ℕ
+    pub given : All may_give moments
+    pub verdicts : List Verdict
+    pub took : TookMessage may_say old new message moments verdicts events
+
+  -- A round: the host took nothing, or the events of one message; and behind any log, by whichever
+  -- connections its events came, the connection goes on to follow it.
+  pub record Goes (before after : Passed) (ended : Result Round fault.FrontFault) : Type 0 where
+    pub events : List Event
+    pub took : (events ≡ []) ⊎ TookOne events
+    pub tables : new ≡ tables_after old events
+    pub follows : (k : ℕ) (t : Tables) (log : List Entry) → old ≡ after_log t log →
+        FollowsLog k t log before →
+        UnlessCut ended (FollowsLog k t (log ++ map (by k) events) after)

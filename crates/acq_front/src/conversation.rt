@@ -1,0 +1,113 @@
+//! One end of a connection, without its reads and writes.
+
+ghost use Rattle.std.specs.Prelude.{◌≡◌, ◌==◌, ◌+◌, ◌≤◌, ◌<◌, ◌++◌, ℕ, [], length, drop};
+ghost use Rattle.acq_link.specs.Deframing.{longest_frame};
+ghost use Rattle.acq_link.specs.FramesAt.{MayBecomeFrame};
+ghost use Rattle.acq_front.specs.Ends.{held_of, unsent_of, Steps, StopsAt};
+ghost use Rattle.acq_front.specs.Ends.{UnlessRefused};
+
+use crate::outgoing::Outgoing;
+use crate::turn::Turn;
+use crate::{Clock, FrontFault, Issuer, answer_message};
+use acq_book::Book;
+use acq_core::{Query, Verdict};
+use acq_host::Host;
+use acq_link::Deframer;
+use std::alloc::Global;
+
+/// One end of a connection: what came and belongs to no message yet, and what of a reply is still
+/// to be written. It takes memory for one message at a time.
+#[derive(Drop)]
+pub struct Conversation {
+    input: Deframer,
+    output: Outgoing,
+}
+
+impl Conversation {
+    /// Nothing came yet, and nothing is to be written.
+    pub fn new() -> Conversation
+        ensures held { held_of result ≡ [] }
+        ensures unsent { unsent_of result ≡ [] }
+    {
+        Conversation {
+            input: Deframer::new(),
+            output: Outgoing::new(),
+        }
+    }
+
+    /// How many bytes it has room for: some, where what it holds may become a frame.
+    pub fn room(&self) -> usize
+        ensures room { result + length (held_of self.now) ≡ longest_frame }
+        ensures some { MayBecomeFrame (held_of self.now) → 0 < result }
+    {
+        self.input.room()
+    }
+
+    /// Takes in the next piece of what comes.
+    pub fn feed(&mut self, piece: &[u8])
+        requires { length (held_of self.old) + length piece.now ≤ longest_frame }
+        ensures held { held_of self.new ≡ held_of self.old ++ piece.now }
+        ensures unsent { unsent_of self.new ≡ unsent_of self.old }
+    {
+        self.input.feed(piece);
+    }
+
+    /// Whether it holds nothing that belongs to no message yet.
+    pub fn is_between_frames(&self) -> bool
+        ensures { result ≡ (length (held_of self.now) == 0) }
+    {
+        self.input.is_empty()
+    }
+
+    /// What is to be written before the next turn.
+    pub fn unsent(&self) -> &[u8]
+        ensures { result.now ≡ unsent_of self.now }
+    {
+        self.output.as_slice()
+    }
+
+    /// How many bytes of the reply were written.
+    pub fn gone(&self) -> usize {
+        self.output.gone()
+    }
+
+    /// So many bytes of it were written.
+    pub fn advance(&mut self, n: usize)
+        requires { n ≤ length (unsent_of self.old) }
+        ensures held { held_of self.new ≡ held_of self.old }
+        ensures unsent { unsent_of self.new ≡ drop n (unsent_of self.old) }
+    {
+        self.output.advance(n);
+    }
+
+    /// Has the host take the next message, if one is whole, and the issuer's answer where it is
+    /// asked; the reply is then to be written.
+    pub fn turn<B: Book + Drop, C: Clock, I: Issuer>(
+        &mut self,
+        alloc: Global,
+        host: &mut Host<B>,
+        clock: &mut C,
+        issuer: &mut I,
+    ) -> Result<Turn, FrontFault>
+        requires { unsent_of self.old ≡ [] }
+        ensures steps { B.is_honest host.new → B.is_open host.old
+            → Steps (C.may_give clock.old) (I.may_say issuer.old) (B.tables host.old)
+            (B.is_open host.new) (B.tables host.new) (held_of self.old) (held_of self.new)
+            (unsent_of self.new) result }
+        // Where no message could be taken, what stands in front.
+        ensures stops { StopsAt (held_of self.new) (unsent_of self.new) result }
+        ensures was_honest { B.is_honest host.new → B.is_honest host.old }
+        ensures stays_open { B.is_honest host.new → B.is_open host.old
+            → UnlessRefused result (B.is_open host.new) }
+        ensures said_later { (q : Query) (v : Verdict) → I.may_say issuer.new q v
+            → I.may_say issuer.old q v }
+        ensures given_later { (m : ℕ) → C.may_give clock.new m → C.may_give clock.old m }
+    {
+        self.output.clear();
+        let Some(message) = self.input.take_message(alloc)? else {
+            return Ok(Turn::Waits);
+        };
+        answer_message(message, host, &mut self.output, clock, issuer)?;
+        Ok(Turn::Took)
+    }
+}

@@ -1,0 +1,139 @@
+//! Connections whose lines don't wait.
+
+ghost use Rattle.std.specs.Prelude.{◌≡◌, ◌≤◌, ◌++◌, ℕ, List, [], length, take, drop};
+ghost use Rattle.acq_link.specs.FramesAt.{MayBecomeFrame};
+ghost use Rattle.acq_front.specs.Exchanges.{line_of, held_of, unsent_of, passed};
+ghost use Rattle.acq_front.specs.Exchanges.{EndsWith, Goes, IfWaits};
+ghost use Rattle.acq_front.specs.Ends.{UnlessRefused};
+
+use crate::conversation::Conversation;
+use crate::line::Line;
+use crate::round::Round;
+use crate::turn::Turn;
+use crate::{Clock, FrontFault, Issuer};
+use acq_book::Book;
+use acq_core::{Query, Verdict};
+use acq_host::Host;
+use std::alloc::Global;
+
+/// The most bytes that are read at once.
+const PIECE: usize = 4096;
+
+/// A connection: a conversation over a line that doesn't wait. It takes memory for one message and
+/// its reply.
+#[derive(Drop)]
+pub struct Exchange<L> {
+    line: L,
+    conversation: Conversation,
+}
+
+impl<L: Line> Exchange<L> {
+    /// A connection from its first byte on.
+    pub fn new(line: L) -> Exchange<L>
+        ensures line { line_of result ≡ line }
+        ensures held { held_of result ≡ [] }
+        ensures unsent { unsent_of result ≡ [] }
+    {
+        Exchange {
+            line,
+            conversation: Conversation::new(),
+        }
+    }
+
+    /// Its line.
+    pub fn line(&self) -> &L
+        ensures { result.now ≡ line_of self.now }
+    {
+        &self.line
+    }
+
+    /// One round: writes on what is to be written; or else has the host take the next message, with
+    /// its issuer's answer where one is asked; or, where none is whole, reads on.
+    pub fn round<B: Book + Drop, C: Clock, I: Issuer>(
+        &mut self,
+        alloc: Global,
+        host: &mut Host<B>,
+        clock: &mut C,
+        issuer: &mut I,
+    ) -> Result<Round, FrontFault>
+        ensures goes { B.is_honest host.new → B.is_open host.old → UnlessRefused result
+            (Goes (C.may_give clock.old) (I.may_say issuer.old) (B.tables host.old)
+            (B.tables host.new) (passed L.received L.sent self.old)
+            (passed L.received L.sent self.new) result) }
+        ensures ends { EndsWith (held_of self.new) (unsent_of self.new) result }
+        // A round that waits did nothing.
+        ensures idle { B.is_honest host.new → B.is_open host.old → IfWaits result
+            ((B.tables host.new ≡ B.tables host.old)
+            × (passed L.received L.sent self.new ≡ passed L.received L.sent self.old)) }
+        ensures was_honest { B.is_honest host.new → B.is_honest host.old }
+        ensures stays_open { B.is_honest host.new → B.is_open host.old
+            → UnlessRefused result (B.is_open host.new) }
+        ensures said_later { (q : Query) (v : Verdict) → I.may_say issuer.new q v
+            → I.may_say issuer.old q v }
+        ensures given_later { (m : ℕ) → C.may_give clock.new m → C.may_give clock.old m }
+    {
+        if !self.conversation.unsent().is_empty() {
+            return self.send();
+        }
+        match self.conversation.turn(alloc, host, clock, issuer)? {
+            Turn::Took => Ok(Round::GoesOn),
+            Turn::Waits => self.receive(),
+        }
+    }
+
+    /// What it is to have waited too long: a failed write where a reply is to be written, and else
+    /// a failed read.
+    pub fn timed_out(&self) -> FrontFault {
+        if self.conversation.unsent().is_empty() {
+            FrontFault::Read
+        } else {
+            FrontFault::Write(self.conversation.gone() as u64)
+        }
+    }
+
+    /// Writes on.
+    fn send(&mut self) -> Result<Round, FrontFault>
+        ensures received { L.received (line_of self.new) ≡ L.received (line_of self.old) }
+        ensures held { held_of self.new ≡ held_of self.old }
+        ensures sent { (n : ℕ) × (unsent_of self.new ≡ drop n (unsent_of self.old))
+            × (L.sent (line_of self.new) ≡ L.sent (line_of self.old)
+            ++ take n (unsent_of self.old)) }
+        ensures ends { EndsWith (held_of self.new) (unsent_of self.new) result }
+        ensures idle { IfWaits result
+            (passed L.received L.sent self.new ≡ passed L.received L.sent self.old) }
+    {
+        match self.line.write(self.conversation.unsent()) {
+            Ok(None) => Ok(Round::Waits),
+            Ok(Some(n)) if n > 0 => {
+                self.conversation.advance(n);
+                Ok(Round::GoesOn)
+            }
+            Ok(Some(_)) | Err(_) => Err(FrontFault::Write(self.conversation.gone() as u64)),
+        }
+    }
+
+    /// Reads on.
+    fn receive(&mut self) -> Result<Round, FrontFault>
+        requires begun { MayBecomeFrame (held_of self.old) }
+        requires written { unsent_of self.old ≡ [] }
+        ensures received { (piece : List ℕ) × (held_of self.new ≡ held_of self.old ++ piece)
+            × (L.received (line_of self.new) ≡ L.received (line_of self.old) ++ piece) }
+        ensures unsent { unsent_of self.new ≡ unsent_of self.old }
+        ensures sent { L.sent (line_of self.new) ≡ L.sent (line_of self.old) }
+        ensures ends { EndsWith (held_of self.new) (unsent_of self.new) result }
+        ensures idle { IfWaits result
+            (passed L.received L.sent self.new ≡ passed L.received L.sent self.old) }
+    {
+        let mut buffer = [0; PIECE];
+        let room = self.conversation.room().min(PIECE);
+        match self.line.read(&mut buffer[..room])? {
+            None => Ok(Round::Waits),
+            Some(0) if self.conversation.is_between_frames() => Ok(Round::Ended),
+            Some(0) => Err(FrontFault::Ended),
+            Some(n) => {
+                self.conversation.feed(&buffer[..n]);
+                Ok(Round::GoesOn)
+            }
+        }
+    }
+}

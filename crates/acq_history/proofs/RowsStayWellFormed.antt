@@ -1,0 +1,502 @@
+-- What stays true of the rows of requests.
+use Rattle.std.proofs.Common.{◌≡◌, ℕ, ◌+◌, ◌<◌, ◌≤◌, List, [], ◌∷◌, ◌++◌, Option, Some, Bool, true}
+use Rattle.std.proofs.Common.{false, cond, ◌⊎◌, inl, inr, refl, sym, ap, ◌∙◌, subst, arith}
+use Rattle.std.specs.Prelude.{find, is_some, map}
+use Rattle.std.specs.Option.{option_or}
+use Rattle.std.specs.Str.{bytes_eq}
+use Rattle.std.proofs.lemmas.List.Folds.{find-append}
+use Rattle.acq_message.specs.declared.service.Service.TheVariants.{Authorization, Completion}
+use Rattle.acq_message.specs.declared.request_key.RequestKey.{RequestKey}
+use Rattle.acq_core.specs.declared.request.Request.{Request}
+use Rattle.acq_core.specs.declared.merchant.Merchant.{Merchant}
+use Rattle.acq_core.specs.declared.status.Status.TheVariants.{Completed}
+use Rattle.acq_message.specs.Elements.{same_key}
+use Rattle.acq_core.specs.Tables.{requests_of, admitted_in, with_changed}
+use Rattle.acq_history.specs.Entries.{is_admissible, is_reversal}
+use Rattle.acq_history.specs.Conservation.{is_reversal_leg}
+use Rattle.acq_history.proofs.Members.{In, In-first, In-push, In-map}
+use Rattle.acq_history.proofs.GroundsOfDecision.{Other, Made, changed_is}
+use Rattle.acq_history.proofs.Keys.{bytes_eq_itself, same_key_is, same_key_from}
+use Rattle.acq_history.proofs.Lookups.{some_is}
+
+-- the merchant with a name
+abbrev pub merchant_in : List Merchant → List ℕ → Option Merchant
+merchant_in merchants m = find (λ row. bytes_eq row.id m) merchants
+
+-- how many of a merchant's requests were admitted
+abbrev pub admitted_by : List ℕ → List Request → ℕ
+admitted_by m rows = admitted_in (requests_of m rows)
+
+-- a reference is one of those that its merchant has given
+pub record IsGiven (merchants : List Merchant) (rows : List Request) (m : List ℕ)
+    (n : ℕ) : Type 0 where
+  pub merchant : Merchant
+  pub enrolled : merchant_in merchants m ≡ Some merchant
+  pub below : n < merchant.first_reference + admitted_by m rows
+
+-- the completed hold with a reference
+pub record IsHeld (rows : List Request) (m : List ℕ) (n : ℕ) : Type 0 where
+  pub hold : Request
+  pub member : In hold rows
+  pub merchant : hold.key.merchant ≡ m
+  pub service : hold.key.service ≡ Authorization
+  pub reference : hold.reference ≡ Some n
+  pub completed : hold.status ≡ Completed
+
+-- a completion of the hold with a reference
+pub record IsCompleting (row : Request) (m : List ℕ) (n : ℕ) : Type 0 where
+  pub merchant : row.key.merchant ≡ m
+  pub service : row.key.service ≡ Completion
+  pub follows : row.follows ≡ Some n
+
+-- what holds of the rows: keys and references are unique, and what they name is there
+pub record IsWellFormed (day : ℕ) (merchants : List Merchant) (rows : List Request) : Type 0 where
+  pub keys : (a b : Request) → In a rows → In b rows → a.key ≡ b.key → a ≡ b
+  pub references : (a b : Request) (n : ℕ) → In a rows → In b rows →
+      a.key.merchant ≡ b.key.merchant →
+      a.reference ≡ Some n → b.reference ≡ Some n → a ≡ b
+  pub given : (a : Request) (n : ℕ) → In a rows → a.reference ≡ Some n →
+      IsGiven merchants rows a.key.merchant n
+  pub admissible : (a : Request) (n : ℕ) → In a rows → a.reference ≡ Some n →
+      is_admissible a.key.service ≡ true
+  pub held : (a : Request) (n : ℕ) → In a rows → IsCompleting a a.key.merchant n →
+      IsHeld rows a.key.merchant n
+  pub one_completion : (a b : Request) (n : ℕ) → In a rows → In b rows →
+      IsCompleting a a.key.merchant n →
+      IsCompleting b a.key.merchant n → a ≡ b
+  pub legs : (a : Request) → In a rows → is_reversal a.key.service ≡ false →
+      is_reversal_leg a.leg ≡ false
+  pub days : (a : Request) → In a rows → a.day ≤ day
+
+-- ---- a day later, a merchant more
+
+-- on a later day
+pub well_formed_later : (day later : ℕ) (merchants : List Merchant) (rows : List Request) →
+    day ≤ later →
+    IsWellFormed day merchants rows → IsWellFormed later merchants rows
+well_formed_later day later merchants rows le k = record {
+  keys = k.keys;
+  references = k.references;
+  given = k.given;
+  admissible = k.admissible;
+  held = k.held;
+  one_completion = k.one_completion;
+  legs = k.legs;
+  days = λ a i. let on = k.days a i in omega arith;
+}
+
+-- with one merchant more
+pub well_formed_with_merchant : (day : ℕ) (merchants : List Merchant) (merchant : Merchant)
+    (rows : List Request) →
+    IsWellFormed day merchants rows → IsWellFormed day (merchants ++ merchant ∷ []) rows
+well_formed_with_merchant day merchants merchant rows k = record {
+  keys = k.keys;
+  references = k.references;
+  given = λ a n i e. more a.key.merchant n (k.given a n i e);
+  admissible = k.admissible;
+  held = k.held;
+  one_completion = k.one_completion;
+  legs = k.legs;
+  days = k.days;
+}
+  where
+    more : (m : List ℕ) (n : ℕ) → IsGiven merchants rows m n →
+        IsGiven (merchants ++ merchant ∷ []) rows m n
+    more m n g = record {
+      merchant = g.merchant;
+      enrolled =
+          find-append (λ row. bytes_eq row.id m) merchants (merchant ∷ [])
+          ∙ ap (λ o. option_or o (merchant_in (merchant ∷ []) m)) g.enrolled;
+      below = g.below;
+    }
+
+-- ---- a row more
+
+-- the admitted are counted apart
+admitted_by-push : (m : List ℕ) (rows : List Request) (row : Request) →
+    admitted_by m (rows ++ row ∷ []) ≡ admitted_by m rows + admitted_by m (row ∷ [])
+admitted_by-push m [] row =
+    elim (bytes_eq row.key.merchant m) as (λ b. admitted_in (cond b (row ∷ []) [])
+    ≡ 0 + admitted_in (cond b (row ∷ []) [])) [ true ↦ omega arith | false ↦ refl ]
+admitted_by-push m (x ∷ xs) row =
+    let rest = admitted_by-push m xs row in
+    elim (bytes_eq x.key.merchant m) as (λ b.
+    admitted_in (cond b (x ∷ requests_of m (xs ++ row ∷ [])) (requests_of m (xs ++ row ∷ [])))
+    ≡ admitted_in (cond b (x ∷ requests_of m xs) (requests_of m xs)) + admitted_by m (row ∷ [])) [
+      | true ↦
+          elim (is_some x.reference) as (λ b.
+          cond b (1 + admitted_by m (xs ++ row ∷ [])) (admitted_by m (xs ++ row ∷ []))
+          ≡ cond b (1 + admitted_by m xs) (admitted_by m xs) + admitted_by m (row ∷ [])) [
+            | true ↦ omega arith
+            | false ↦ rest
+          ]
+      | false ↦ rest
+    ]
+
+admitted_one : (row : Request) (n : ℕ) → row.reference ≡ Some n →
+    admitted_by row.key.merchant (row ∷ []) ≡ 1
+admitted_one row n e =
+    ap (λ b. admitted_in (cond b (row ∷ []) [])) (bytes_eq_itself row.key.merchant)
+    ∙ ap (λ o. cond (is_some o) (1 + 0) 0) e
+
+-- a given reference stays given
+IsGiven-push : (merchants : List Merchant) (rows : List Request) (row : Request) (m : List ℕ)
+    (n : ℕ) →
+    IsGiven merchants rows m n → IsGiven merchants (rows ++ row ∷ []) m n
+IsGiven-push merchants rows row m n g = record {
+  merchant = g.merchant;
+  enrolled = g.enrolled;
+  below = let below = g.below in let more = admitted_by-push m rows row in omega arith;
+}
+
+-- a completed hold stays
+IsHeld-push : (rows : List Request) (row : Request) (m : List ℕ) (n : ℕ) → IsHeld rows m n →
+    IsHeld (rows ++ row ∷ []) m n
+IsHeld-push rows row m n h = record {
+  hold = h.hold;
+  member = In-first h.hold rows _ h.member;
+  merchant = h.merchant;
+  service = h.service;
+  reference = h.reference;
+  completed = h.completed;
+}
+
+-- the reference that a merchant gives next
+pub record IsNext (merchants : List Merchant) (rows : List Request) (m : List ℕ)
+    (n : ℕ) : Type 0 where
+  pub merchant : Merchant
+  pub enrolled : merchant_in merchants m ≡ Some merchant
+  pub next : n ≡ merchant.first_reference + admitted_by m rows
+
+-- a row that may be added
+pub record IsFit (day : ℕ) (merchants : List Merchant) (rows : List Request)
+    (row : Request) : Type 0 where
+  pub new : (a : Request) → In a rows → a.key ≡ row.key → ⊥
+  pub next : (n : ℕ) → row.reference ≡ Some n → IsNext merchants rows row.key.merchant n
+  pub admissible : (n : ℕ) → row.reference ≡ Some n → is_admissible row.key.service ≡ true
+  pub held : (n : ℕ) → IsCompleting row row.key.merchant n → IsHeld rows row.key.merchant n
+  pub only : (a : Request) (n : ℕ) → In a rows → IsCompleting row row.key.merchant n →
+      IsCompleting a row.key.merchant n → ⊥
+  pub leg : is_reversal row.key.service ≡ false → is_reversal_leg row.leg ≡ false
+  pub dated : row.day ≤ day
+
+-- no request has the reference that comes next
+not_next : (merchants : List Merchant) (rows : List Request) (m : List ℕ) (n : ℕ) →
+    IsGiven merchants rows m n →
+    IsNext merchants rows m n → ⊥
+not_next merchants rows m n g x =
+    let same : g.merchant ≡ x.merchant = some_is _ _ (sym g.enrolled ∙ x.enrolled) in
+    let firsts : g.merchant.first_reference ≡ x.merchant.first_reference =
+    ap (λ y. y.first_reference) same in
+    let below = g.below in
+    let next = x.next in
+    omega arith
+
+-- with a row more that fits
+pub well_formed_with_row : (day : ℕ) (merchants : List Merchant) (rows : List Request)
+    (row : Request) →
+    IsWellFormed day merchants rows → IsFit day merchants rows row →
+    IsWellFormed day merchants (rows ++ row ∷ [])
+well_formed_with_row day merchants rows row k f = record {
+  keys = λ a b i j e. elim (In-push a rows row i) [
+    | inl old ↦ elim (In-push b rows row j) [
+      | inl older ↦ k.keys a b old older e
+      | inr new ↦ absurd (f.new a old (e ∙ ap (λ x. x.key) (sym new)))
+    ]
+    | inr new ↦ elim (In-push b rows row j) [
+      | inl old ↦ absurd (f.new b old (sym e ∙ ap (λ x. x.key) (sym new)))
+      | inr newer ↦ sym new ∙ newer
+    ]
+  ];
+  references = λ a b n i j m e g. elim (In-push a rows row i) [
+    | inl old ↦ elim (In-push b rows row j) [
+      | inl older ↦ k.references a b n old older m e g
+      | inr new ↦ absurd (fresh a n old e (m ∙ ap (λ x. x.key.merchant) (sym new))
+          (ap (λ x. x.reference) new ∙ g))
+    ]
+    | inr new ↦ elim (In-push b rows row j) [
+      | inl old ↦ absurd (fresh b n old g (sym m ∙ ap (λ x. x.key.merchant) (sym new))
+          (ap (λ x. x.reference) new ∙ e))
+      | inr newer ↦ sym new ∙ newer
+    ]
+  ];
+  given = λ a n i e. elim (In-push a rows row i) [
+    | inl old ↦ IsGiven-push merchants rows row a.key.merchant n (k.given a n old e)
+    | inr new ↦
+        subst (λ x. IsGiven merchants (rows ++ row ∷ []) x.key.merchant n) new
+        (just_given n (ap (λ x. x.reference) new ∙ e))
+  ];
+  admissible = λ a n i e. elim (In-push a rows row i) [
+    | inl old ↦ k.admissible a n old e
+    | inr new ↦ subst (λ x. is_admissible x.key.service ≡ true) new
+        (f.admissible n (ap (λ x. x.reference) new ∙ e))
+  ];
+  held = λ a n i c. elim (In-push a rows row i) [
+    | inl old ↦ IsHeld-push rows row a.key.merchant n (k.held a n old c)
+    | inr new ↦
+        subst (λ x. IsHeld (rows ++ row ∷ []) x.key.merchant n) new
+        (IsHeld-push rows row row.key.merchant n
+        (f.held n (subst (λ x. IsCompleting x x.key.merchant n) (sym new) c)))
+  ];
+  one_completion = λ a b n i j c d. elim (In-push a rows row i) [
+    | inl old ↦ elim (In-push b rows row j) [
+      | inl older ↦ k.one_completion a b n old older c d
+      | inr new ↦
+          absurd (f.only a n old
+          (record {
+            merchant = refl;
+            service = ap (λ x. x.key.service) new ∙ d.service;
+            follows = ap (λ x. x.follows) new ∙ d.follows;
+          }) (record {
+            merchant = sym (ap (λ x. x.key.merchant) new ∙ d.merchant);
+            service = c.service;
+            follows =
+                c.follows;
+          }))
+    ]
+    | inr new ↦ elim (In-push b rows row j) [
+      | inl old ↦
+          absurd (f.only b n old (subst (λ x. IsCompleting x x.key.merchant n) (sym new) c)
+          (record {
+            merchant = d.merchant ∙ ap (λ x. x.key.merchant) (sym new);
+            service = d.service;
+            follows = d.follows;
+          }))
+      | inr newer ↦ sym new ∙ newer
+    ]
+  ];
+  legs = λ a i s. elim (In-push a rows row i) [
+    | inl old ↦ k.legs a old s
+    | inr new ↦ subst (λ x. is_reversal_leg x.leg ≡ false) new
+        (f.leg (ap (λ x. is_reversal x.key.service) new ∙ s))
+  ];
+  days = λ a i. elim (In-push a rows row i) [
+    | inl old ↦ k.days a old
+    | inr new ↦ subst (λ x. x.day ≤ day) new f.dated
+  ];
+}
+  where
+    fresh : (a : Request) (n : ℕ) → In a rows → a.reference ≡ Some n →
+        a.key.merchant ≡ row.key.merchant →
+        row.reference ≡ Some n → ⊥
+    fresh a n i e m g =
+        not_next merchants rows row.key.merchant n
+        (subst (λ x. IsGiven merchants rows x n) m (k.given a n i e))
+        (f.next n g)
+
+    just_given : (n : ℕ) → row.reference ≡ Some n →
+        IsGiven merchants (rows ++ row ∷ []) row.key.merchant n
+    just_given n e =
+        let x = f.next n e in
+        let next = x.next in
+        let one = admitted_one row n e in
+        let more = admitted_by-push row.key.merchant rows row in
+        record { merchant = x.merchant; enrolled = x.enrolled; below = omega arith }
+
+-- ---- a row changed
+
+-- a row and what it is changed to: another status, perhaps another reply and end
+pub record IsChange (p q : Request) : Type 0 where
+  pub key : q.key ≡ p.key
+  pub reference : q.reference ≡ p.reference
+  pub follows : q.follows ≡ p.follows
+  pub leg : q.leg ≡ p.leg
+  pub day : q.day ≡ p.day
+  pub amount : q.amount ≡ p.amount
+  pub card : q.card ≡ p.card
+
+-- rows in which one was changed so
+pub record IsReplaced (rows later : List Request) (p q : Request) : Type 0 where
+  pub before : (x : Request) → In x later → (In x rows × (x.key ≡ p.key → ⊥)) ⊎ (q ≡ x)
+  pub after : (x : Request) → In x rows → In x later ⊎ (p ≡ x)
+  pub changed : In q later
+  pub admitted : (m : List ℕ) → admitted_by m later ≡ admitted_by m rows
+
+-- with a row changed
+pub well_formed_changed : (day : ℕ) (merchants : List Merchant) (rows later : List Request)
+    (p q : Request) →
+    In p rows → IsChange p q → (p.status ≡ Completed → ⊥) → IsReplaced rows later p q →
+    IsWellFormed day merchants rows → IsWellFormed day merchants later
+well_formed_changed day merchants rows later p q member c incomplete r k = record {
+  keys = λ a b i j e. elim (r.before a i) [
+    | inl old ↦ elim (r.before b j) [
+      | inl older ↦ k.keys a b old.0 older.0 e
+      | inr new ↦ absurd (old.1 (e ∙ (ap (λ x. x.key) (sym new) ∙ c.key)))
+    ]
+    | inr new ↦ elim (r.before b j) [
+      | inl old ↦ absurd (old.1 (sym e ∙ (ap (λ x. x.key) (sym new) ∙ c.key)))
+      | inr newer ↦ sym new ∙ newer
+    ]
+  ];
+  references = λ a b n i j m e g. elim (r.before a i) [
+    | inl old ↦ elim (r.before b j) [
+      | inl older ↦ k.references a b n old.0 older.0 m e g
+      | inr new ↦
+          absurd (old.1
+          (ap (λ x. x.key)
+          (k.references a p n old.0 member
+          (m ∙ (ap (λ x. x.key.merchant) (sym new) ∙ ap (λ x. x.merchant) c.key)) e
+          (sym c.reference ∙ (ap (λ x. x.reference) new ∙ g)))))
+    ]
+    | inr new ↦ elim (r.before b j) [
+      | inl old ↦
+          absurd (old.1
+          (ap (λ x. x.key)
+          (k.references b p n old.0 member
+          (sym m ∙ (ap (λ x. x.key.merchant) (sym new) ∙ ap (λ x. x.merchant) c.key)) g
+          (sym c.reference ∙ (ap (λ x. x.reference) new ∙ e)))))
+      | inr newer ↦ sym new ∙ newer
+    ]
+  ];
+  given = λ a n i e. elim (r.before a i) [
+    | inl old ↦ still a.key.merchant n (k.given a n old.0 e)
+    | inr new ↦
+        still a.key.merchant n
+        (subst (λ m. IsGiven merchants rows m n)
+        (sym (ap (λ x. x.merchant) c.key) ∙ ap (λ x. x.key.merchant) new)
+        (k.given p n member (sym c.reference ∙ (ap (λ x. x.reference) new ∙ e))))
+  ];
+  admissible = λ a n i e. elim (r.before a i) [
+    | inl old ↦ k.admissible a n old.0 e
+    | inr new ↦
+        subst (λ s. is_admissible s ≡ true)
+        (sym (ap (λ x. x.service) c.key) ∙ ap (λ x. x.key.service) new)
+        (k.admissible p n member (sym c.reference ∙ (ap (λ x. x.reference) new ∙ e)))
+  ];
+  held = λ a n i d. elim (r.before a i) [
+    | inl old ↦ still_held a.key.merchant n (k.held a n old.0 d)
+    | inr new ↦
+        still_held a.key.merchant n
+        (subst (λ m. IsHeld rows m n) (same_merchant a new)
+        (k.held p n member
+        (earlier a p.key.merchant n new
+        (record {
+          merchant = sym (same_merchant a new);
+          service = d.service;
+          follows =
+              d.follows;
+        }))))
+  ];
+  one_completion = λ a b n i j d e. elim (r.before a i) [
+    | inl old ↦ elim (r.before b j) [
+      | inl older ↦ k.one_completion a b n old.0 older.0 d e
+      | inr new ↦
+          absurd (old.1
+          (ap (λ x. x.key)
+          (k.one_completion a p n old.0 member d (earlier b a.key.merchant n new e))))
+    ]
+    | inr new ↦ elim (r.before b j) [
+      | inl old ↦
+          absurd (old.1
+          (ap (λ x. x.key)
+          (k.one_completion b p n old.0 member
+          (record { merchant = refl; service = e.service; follows = e.follows })
+          (earlier a b.key.merchant n new
+          (record { merchant = sym e.merchant; service = d.service; follows = d.follows })))))
+      | inr newer ↦ sym new ∙ newer
+    ]
+  ];
+  legs = λ a i s. elim (r.before a i) [
+    | inl old ↦ k.legs a old.0 s
+    | inr new ↦
+        subst (λ l. is_reversal_leg l ≡ false) (sym c.leg ∙ ap (λ x. x.leg) new)
+        (k.legs p member
+        (ap is_reversal (ap (λ x. x.service) (sym c.key) ∙ ap (λ x. x.key.service) new) ∙ s))
+  ];
+  days = λ a i. elim (r.before a i) [
+    | inl old ↦ k.days a old.0
+    | inr new ↦ subst (λ d. d ≤ day) (sym c.day ∙ ap (λ x. x.day) new) (k.days p member)
+  ];
+}
+  where
+    still : (m : List ℕ) (n : ℕ) → IsGiven merchants rows m n → IsGiven merchants later m n
+    still m n g =
+        record {
+          merchant = g.merchant;
+          enrolled = g.enrolled;
+          below = let below = g.below in let same = r.admitted m in
+              omega arith;
+        }
+
+    still_held : (m : List ℕ) (n : ℕ) → IsHeld rows m n → IsHeld later m n
+    still_held m n h = elim (r.after h.hold h.member) [
+      | inl stays ↦
+          record {
+            hold = h.hold;
+            member = stays;
+            merchant = h.merchant;
+            service = h.service;
+            reference = h.reference;
+            completed = h.completed;
+          }
+      | inr same ↦ absurd (incomplete (ap (λ x. x.status) same ∙ h.completed))
+    ]
+
+    same_merchant : (a : Request) → q ≡ a → p.key.merchant ≡ a.key.merchant
+    same_merchant a new = sym (ap (λ x. x.merchant) c.key) ∙ ap (λ x. x.key.merchant) new
+
+    -- the changed row completed before what it completes
+    earlier : (a : Request) (m : List ℕ) (n : ℕ) → q ≡ a → IsCompleting a m n → IsCompleting p m n
+    earlier a m n new d = record {
+      merchant = sym (ap (λ x. x.merchant) c.key) ∙ (ap (λ x. x.key.merchant) new ∙ d.merchant);
+      service = sym (ap (λ x. x.service) c.key) ∙ (ap (λ x. x.key.service) new ∙ d.service);
+      follows = sym c.follows ∙ (ap (λ x. x.follows) new ∙ d.follows);
+    }
+
+-- ---- what a change by key replaces
+
+-- a change that keeps keys and references keeps the counts
+admitted-changed : (m : List ℕ) (u : Request → Request) → ((x : Request) → (u x).key ≡ x.key) →
+    ((x : Request) → (u x).reference ≡ x.reference) → (rows : List Request) →
+    admitted_by m (map u rows) ≡ admitted_by m rows
+admitted-changed m u k r [] = refl
+admitted-changed m u k r (x ∷ xs) =
+    let rest = admitted-changed m u k r xs in
+    ap (λ b. admitted_in (cond b (u x ∷ requests_of m (map u xs)) (requests_of m (map u xs))))
+    (ap (λ key. bytes_eq key.merchant m) (k x))
+    ∙ elim (bytes_eq x.key.merchant m) as (λ b.
+    admitted_in (cond b (u x ∷ requests_of m (map u xs)) (requests_of m (map u xs)))
+    ≡ admitted_in (cond b (x ∷ requests_of m xs) (requests_of m xs))) [
+      | true ↦
+          ap (λ o. cond (is_some o) (1 + admitted_by m (map u xs)) (admitted_by m (map u xs))) (r x)
+          ∙ ap (λ n. cond (is_some x.reference) (1 + n) n) rest
+      | false ↦ rest
+    ]
+
+-- the rows in which the one with a key was changed
+pub replaced : (day : ℕ) (merchants : List Merchant) (rows : List Request) (p : Request)
+    (key : RequestKey)
+    (changed : Request → Request) → In p rows → p.key ≡ key →
+    ((x : Request) → (changed x).key ≡ x.key) →
+    ((x : Request) → (changed x).reference ≡ x.reference) → IsWellFormed day merchants rows →
+    IsReplaced rows (with_changed key changed rows) p (changed p)
+replaced day merchants rows p key changed member same k r kept = record {
+  before = λ x i. elim (changed_is key changed rows x i) [
+    | Other old other ↦ inl (old, (λ e. other (e ∙ same)))
+    | Made y old e made ↦ inr (ap changed (kept.keys p y member old (same ∙ sym e)) ∙ made)
+  ];
+  after = λ x i. step x i (same_key x.key key) refl;
+  changed =
+      subst (λ x. In x (map u rows)) (ap (λ b. cond b (changed p) p) (same_key_from p.key key same))
+      (In-map u p rows member);
+  admitted =
+      λ m. admitted-changed m u (λ x. cond_key x (same_key x.key key))
+      (λ x. cond_reference x (same_key x.key key)) rows;
+}
+  where
+    u : Request → Request
+    u = λ row. cond (same_key row.key key) (changed row) row
+
+    step : (x : Request) → In x rows → (b : Bool) → same_key x.key key ≡ b →
+        In x (with_changed key changed rows) ⊎ (p ≡ x)
+    step x i true e = inr (kept.keys p x member i (same ∙ sym (same_key_is x.key key e)))
+    step x i false e =
+        inl (subst (λ y. In y (map u rows)) (ap (λ b. cond b (changed x) x) e) (In-map u x rows i))
+
+    cond_key : (x : Request) (b : Bool) → (cond b (changed x) x).key ≡ x.key
+    cond_key x true = k x
+    cond_key x false = refl
+
+    cond_reference : (x : Request) (b : Bool) → (cond b (changed x) x).reference ≡ x.reference
+    cond_reference x true = r x
+    cond_reference x false = refl

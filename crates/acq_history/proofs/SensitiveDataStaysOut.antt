@@ -1,0 +1,282 @@
+-- No row keeps a track, a PIN block or chip data, and no reply has them, whatever comes.
+use Rattle.std.proofs.Common.{◌≡◌, ℕ, List, [], ◌∷◌, ◌++◌, Option, Some, None, Bool, true, false}
+use Rattle.std.proofs.Common.{eqb, ltb, inl, inr, refl, ap, ◌∙◌, subst, arith}
+use Rattle.std.specs.Prelude.{All, IfSome, filter, option_map, not, codes, ◌||◌, if◌then◌else◌}
+use Rattle.std.specs.Option.{option_or}
+use Rattle.std.specs.List.{list_all, list_any}
+use Rattle.std.proofs.lemmas.Bool.{and_parts, and_from, cases_Bool, ltb-true}
+use Rattle.std.proofs.lemmas.List.Elements.{All-nil, All-push}
+use Rattle.card_no.specs.Track2.{may_be_number, parts_of, if_number}
+use Rattle.iso_codec.specs.Content.{has_class}
+use Rattle.iso_codec.specs.Table.{format_of}
+use Rattle.iso_codec.specs.Message.{IsoMessage, IsMessage, IsKind, numbers, Ascends, is_element}
+use Rattle.iso_codec.specs.Message.{content_of, is_among}
+use Rattle.acq_message.specs.declared.service.Service.{Service}
+use Rattle.acq_message.specs.declared.service.Service.TheVariants.{Authorization, Financial}
+use Rattle.acq_message.specs.declared.service.Service.TheVariants.{Completion, Reversal}
+use Rattle.acq_message.specs.declared.service.Service.TheVariants.{ReversalAdvice, Reconciliation}
+use Rattle.acq_message.specs.declared.service.Service.TheVariants.{NetworkManagement}
+use Rattle.acq_message.specs.Services.{digits_of}
+use Rattle.acq_message.specs.Cards.{card_of, track_in, track_of}
+use Rattle.acq_message.specs.Elements.{essential, element_if, essence_of}
+use Rattle.acq_core.specs.declared.arrival.Arrival.{Arrival}
+use Rattle.acq_core.specs.declared.request.Request.{Request}
+use Rattle.acq_core.specs.Changes.{change_of}
+use Rattle.acq_core.specs.Tables.{Tables, new_tables, known_in, after_any, step_tables}
+use Rattle.acq_core.specs.Tables.{tables_after}
+use Rattle.acq_history.proofs.Lookups.{or_true}
+use Rattle.acq_history.specs.Replies.{reply_elements, IsReplyText}
+use Rattle.acq_history.specs.CardData.{sensitive_elements, IsEssence, may_be_acquirer}
+use Rattle.acq_history.specs.CardData.{KeepsNoSensitiveData, SpellsNoSensitiveData}
+use Rattle.acq_history.specs.CardData.{SensitiveDataStaysOut}
+use Rattle.acq_history.proofs.StepCases.{by_step}
+use Rattle.acq_history.proofs.Arrivals.{IsArrival, kept_by_events}
+use Rattle.acq_history.proofs.RowsWithChanges.{All-with_changed, All-member}
+use Rattle.acq_history.proofs.ContentsFit.{content-fits}
+use Rattle.acq_history.proofs.ReplyBodies.{all_weaker, among_passes, kept_ascends}
+use Rattle.acq_history.proofs.RepliesAreMessages.{IsRowReply, replies_are_messages}
+
+-- ---- elements
+
+-- none of these numbers is of sensitive data
+abbrev pub are_public : List ℕ → Bool
+are_public ks = list_all (λ k. not (is_among sensitive_elements (k, []))) ks
+
+-- so a message with these elements alone lacks sensitive data
+lacks_by : (ks : List ℕ) (es : List (ℕ × List ℕ)) → are_public ks ≡ true →
+    list_all (is_among ks) es ≡ true →
+    not (list_any (is_among sensitive_elements) es) ≡ true
+lacks_by ks [] h k = refl
+lacks_by ks (e ∷ es) h k =
+    let parts = and_parts (is_among ks e) (list_all (is_among ks) es) k in
+    let one = among_passes (λ n. not (is_among sensitive_elements (n, []))) ks e h parts.0 in
+    neither (is_among sensitive_elements e) (list_any (is_among sensitive_elements) es) one
+    (lacks_by ks es h parts.1)
+  where
+    neither : (a b : Bool) → not a ≡ true → not b ≡ true → not (a || b) ≡ true
+    neither true b f g = f
+    neither false b f g = g
+
+-- what a filter keeps passes
+filter_all : {X : Type 0} (p : X → Bool) (xs : List X) → list_all p (filter p xs) ≡ true
+filter_all p [] = refl
+filter_all p (x ∷ xs) =
+    elim (cases_Bool (p x)) [
+      | inl kept ↦ rw kept (and_from (p x) (list_all p (filter p xs)) kept (filter_all p xs))
+      | inr dropped ↦ rw dropped (filter_all p xs)
+    ]
+
+kept_elements : (p : ℕ × List ℕ → Bool) (es : List (ℕ × List ℕ)) → list_all is_element es ≡ true →
+    list_all is_element (filter p es) ≡ true
+kept_elements p [] h = refl
+kept_elements p (e ∷ es) h =
+    let parts = and_parts (is_element e) (list_all is_element es) h in
+    elim (cases_Bool (p e)) [
+      | inl kept ↦ rw kept (and_from (is_element e) (list_all is_element (filter p es)) parts.0
+          (kept_elements p es parts.1))
+      | inr dropped ↦ rw dropped (kept_elements p es parts.1)
+    ]
+
+-- ---- the card number and the acquirer
+
+number_in_element : (text : List ℕ) → is_element (2, text) ≡ true → may_be_number text ≡ true
+unfolding format_of has_class
+number_in_element text h = h
+
+element_of_number : (text : List ℕ) → may_be_number text ≡ true → is_element (2, text) ≡ true
+unfolding format_of has_class
+element_of_number text h = h
+
+acquirer_in_element : (text : List ℕ) → is_element (32, text) ≡ true → may_be_acquirer text ≡ true
+unfolding format_of has_class
+acquirer_in_element text h = h
+
+abbrev pub IsNumber : Option (List ℕ) → Type 0
+IsNumber o = IfSome o (λ text. may_be_number text ≡ true)
+
+number_in_parts : (o : Option (List ℕ × List ℕ)) →
+    IsNumber (option_map (λ track. track.0) (if_number o))
+number_in_parts None = tt
+number_in_parts (Some p) =
+    let step : (b : Bool) → may_be_number p.0 ≡ b →
+    IsNumber (option_map (λ (track : List ℕ × List ℕ). track.0) (if b then Some p else None)) =
+    elim [ true ↦ (λ e. e) | false ↦ (λ e. tt) ] in
+    step (may_be_number p.0) refl
+
+number_in_track : (o : Option (List ℕ)) → IsNumber (option_map (λ track. track.0) (track_in o))
+number_in_track None = tt
+number_in_track (Some content) = number_in_parts (parts_of content)
+
+card_of-number : (m : IsoMessage) → IsMessage m → IsNumber (card_of m)
+card_of-number m whole = step (content_of m.elements 2) refl
+  where
+    step : (o : Option (List ℕ)) → content_of m.elements 2 ≡ o →
+        IsNumber (option_or o (option_map (λ track. track.0) (track_of m)))
+    step (Some text) e = number_in_element text (content-fits m 2 text whole e)
+    step None e = number_in_track (content_of m.elements 35)
+
+acquirer-fits : (m : IsoMessage) → IsMessage m → (o : Option (List ℕ)) →
+    content_of m.elements 32 ≡ o →
+    IfSome o (λ text. may_be_acquirer text ≡ true)
+acquirer-fits m whole None e = tt
+acquirer-fits m whole (Some text) e = acquirer_in_element text (content-fits m 32 text whole e)
+
+-- ---- the essence
+
+-- the type of an essence
+essence_kind : (service : Service) → IsKind (digits_of service ++ codes "0")
+essence_kind Authorization = record { size = refl; digits = refl }
+essence_kind Financial = record { size = refl; digits = refl }
+essence_kind Completion = record { size = refl; digits = refl }
+essence_kind Reversal = record { size = refl; digits = refl }
+essence_kind ReversalAdvice = record { size = refl; digits = refl }
+essence_kind Reconciliation = record { size = refl; digits = refl }
+essence_kind NetworkManagement = record { size = refl; digits = refl }
+
+-- elements that all stand above 2
+above_two : (es : List (ℕ × List ℕ)) → Ascends 1 (numbers es) →
+    list_all (is_among essential) es ≡ true →
+    Ascends 2 (numbers es)
+above_two [] up all = tt
+above_two (e ∷ es) up all =
+    let parts = and_parts (is_among essential e) (list_all (is_among essential) es) all in
+    (ltb-true 2 e.0 (among_passes (λ n. ltb 2 n) essential e refl parts.0), up.1)
+
+-- a card number in front of the essential elements
+module _ (es : List (ℕ × List ℕ)) (each : list_all is_element es ≡ true)
+    (up : Ascends 1 (numbers es))
+    (among : list_all (is_among essential) es ≡ true) where
+  essence_each : (o : Option (List ℕ)) → IsNumber o →
+      list_all is_element (element_if 2 o ++ es) ≡ true
+  essence_each None is = each
+  essence_each (Some text) is = and_from (is_element (2, text)) (list_all is_element es)
+      (element_of_number text is) each
+
+  essence_ascends : (o : Option (List ℕ)) → Ascends 1 (numbers (element_if 2 o ++ es))
+  essence_ascends None = up
+  essence_ascends (Some text) = (omega arith, above_two es up among)
+
+  essence_among : (o : Option (List ℕ)) →
+      list_all (is_among (2 ∷ essential)) (element_if 2 o ++ es) ≡ true
+  essence_among None =
+      all_weaker (is_among essential) (is_among (2 ∷ essential))
+      (λ e h. ap (λ b. eqb 2 e.0 || b) h ∙ or_true (eqb 2 e.0)) es among
+  essence_among (Some text) =
+      all_weaker (is_among essential) (is_among (2 ∷ essential))
+      (λ e h. ap (λ b. eqb 2 e.0 || b) h ∙ or_true (eqb 2 e.0)) es among
+
+essence_of-is : (service : Service) (m : IsoMessage) → IsMessage m →
+    IsEssence (essence_of service m)
+essence_of-is service m whole =
+    let kept = filter (is_among essential) m.elements in
+    let each = kept_elements (is_among essential) m.elements whole.each in
+    let up = kept_ascends (is_among essential) 1 m.elements whole.ascends in
+    let among = filter_all (is_among essential) m.elements in
+    let all = essence_among kept each up among (card_of m) in
+    record {
+      message = record {
+        kind = digits_of service ++ codes "0";
+        elements = element_if 2 (card_of m) ++ filter (is_among essential) m.elements;
+      };
+      is_message = record {
+        kind_fits = essence_kind service;
+        each = essence_each kept each up among (card_of m) (card_of-number m whole);
+        ascends = essence_ascends kept each up among (card_of m);
+      };
+      spelled = refl;
+      elements = all;
+      lacks = lacks_by (2 ∷ essential)
+          (element_if 2 (card_of m) ++ filter (is_among essential) m.elements) refl all;
+    }
+
+-- ---- rows
+
+-- what a row keeps of its request
+record IsClean (row : Request) : Type 0 where
+  essence : IsEssence row.essence
+  card : IsNumber row.card
+  acquirer : IfSome row.acquirer (λ text. may_be_acquirer text ≡ true)
+
+abbrev AreClean : Tables → Type 0
+AreClean t = All IsClean t.requests
+
+step : (t : Tables) (a : Arrival) → IsArrival a → AreClean t → AreClean (step_tables t a)
+step t a is h =
+    by_step t a (λ d. AreClean (after_any t (change_of (known_in t a) d)))
+    (record {
+      reported = λ o not. h;
+      malformed = λ r came. h;
+      replied = λ r came given hosts. h;
+      repeated = λ row member. h;
+      refused = λ r came merchant g given hosts.
+          All-push IsClean t.requests _ h (record {
+            essence = essence_of-is r.service r.message (subst IsArrival came is).message;
+            card = card_of-number r.message (subst IsArrival came is).message;
+            acquirer = acquirer-fits r.message (subst IsArrival came is).message _ refl;
+          });
+      admitted = λ r came merchant g service amount room range held.
+          All-push IsClean t.requests _ h (record {
+            essence = essence_of-is r.service r.message (subst IsArrival came is).message;
+            card = card_of-number r.message (subst IsArrival came is).message;
+            acquirer = acquirer-fits r.message (subst IsArrival came is).message _ refl;
+          });
+      completed = λ r came merchant g service amount room hold own.
+          All-push IsClean _ _
+          (All-with_changed IsClean hold.key _ t.requests
+          (λ x same p. record { essence = p.essence; card = p.card; acquirer = p.acquirer }) h)
+          (record {
+            essence = essence_of-is r.service r.message (subst IsArrival came is).message;
+            card = (All-member IsClean t.requests hold h own.member).card;
+            acquirer = acquirer-fits r.message (subst IsArrival came is).message _ refl;
+          });
+      reversed = λ r came merchant g service room row own.
+          All-push IsClean _ _
+          (All-with_changed IsClean row.key _ t.requests
+          (λ x same p. record { essence = p.essence; card = p.card; acquirer = p.acquirer }) h)
+          (record {
+            essence = essence_of-is r.service r.message (subst IsArrival came is).message;
+            card = card_of-number r.message (subst IsArrival came is).message;
+            acquirer = acquirer-fits r.message (subst IsArrival came is).message _ refl;
+          });
+      reconciled = λ r came merchant g service day on.
+          All-push IsClean t.requests _ h (record {
+            essence = essence_of-is r.service r.message (subst IsArrival came is).message;
+            card = card_of-number r.message (subst IsArrival came is).message;
+            acquirer = acquirer-fits r.message (subst IsArrival came is).message _ refl;
+          });
+      answered = λ moment merchant reference v came row member pending n under.
+          All-with_changed IsClean row.key _ t.requests
+          (λ x same p. record { essence = p.essence; card = p.card; acquirer = p.acquirer }) h;
+      cut_over = λ before. h;
+      range_added = λ range valid free. h;
+      range_dropped = λ low high. h;
+      enrolled = λ merchant came new. h;
+      terminal_added = λ terminal came new. h;
+    })
+
+-- with what replies have
+with_reply : (row : Request) → IsClean row → IsRowReply row → KeepsNoSensitiveData row
+with_reply row c r = record {
+  essence = c.essence;
+  card = c.card;
+  acquirer = c.acquirer;
+  reply = lacks_by reply_elements row.reply.elements refl r.elements;
+}
+
+-- a reply's text
+text_without : (text : List ℕ) → IsReplyText text → SpellsNoSensitiveData text
+text_without text r = record {
+  message = r.reply;
+  is_message = r.is_reply.is_message;
+  spelled = r.spelled;
+  lacks = lacks_by reply_elements r.reply.elements refl r.is_reply.elements;
+}
+
+pub sensitive_data_stays_out : SensitiveDataStaysOut
+sensitive_data_stays_out opening es begins are =
+    let clean : AreClean (tables_after (new_tables opening) es) =
+    kept_by_events AreClean step (new_tables opening) es are (All-nil IsClean) in
+    let replies = replies_are_messages opening es begins are in (
+      λ k d lt. with_reply _ (clean k d lt) (replies.0 k d lt),
+      λ k d lt party text is. text_without text (replies.1 k d lt party text is),
+    )

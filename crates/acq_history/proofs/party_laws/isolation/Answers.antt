@@ -1,0 +1,6 @@
+use Rattle.acq_history.proofs.MerchantsRuns.{posted, holds}
+use Rattle.acq_history.proofs.IsolatedParties.{isolated, two_runs}
+use Rattle.acq_history.proofs.party_laws.isolation.Goals as goal
+
+pub returns : goal.returns
+returns c = record { isolated = isolated; two_runs = two_runs; posted = posted; holds = holds }

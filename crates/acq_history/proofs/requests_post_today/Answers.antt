@@ -1,5 +1,0 @@
-use Rattle.acq_history.proofs.DayOfPosting.{requests_post_today}
-use Rattle.acq_history.proofs.requests_post_today.Goals as goal
-
-pub returns : goal.returns
-returns c = requests_post_today

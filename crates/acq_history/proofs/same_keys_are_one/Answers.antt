@@ -1,5 +1,0 @@
-use Rattle.acq_history.proofs.Keys.{same_key_is, same_key_from}
-use Rattle.acq_history.proofs.same_keys_are_one.Goals as goal
-
-pub returns : goal.returns
-returns c = λ a b. (same_key_is a b, same_key_from a b)

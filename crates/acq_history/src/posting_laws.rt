@@ -1,0 +1,37 @@
+//! Laws of the books: balance, repeats, sums, conservation and finality.
+
+ghost use Rattle.std.specs.Prelude.{List, ℕ};
+ghost use Rattle.acq_history.specs.Balance.{BalancesExactly};
+ghost use Rattle.acq_history.specs.KeptRepeats.{RepeatsAreKept};
+ghost use Rattle.acq_history.specs.DaySums.{SumsAreTotals};
+ghost use Rattle.acq_history.specs.Conservation.{Conserves};
+ghost use Rattle.acq_history.specs.Finality.{IsFinal};
+
+/// Every reconciliation whose day resolves is in balance exactly where what it claims are the
+/// totals over its merchant's own postings of that day, and its reply says so.
+pub fn reconciliations_balance_exactly()
+    ensures { (m : List ℕ) → BalancesExactly m }
+{}
+
+/// A request whose key is recorded with the same essence gets the reply that was kept, or the
+/// output that it has to wait or comes too late.
+pub fn repeats_are_kept()
+    ensures { (m : List ℕ) → RepeatsAreKept m }
+{}
+
+/// The sums by leg of a merchant among a day's postings are its totals of the day.
+pub fn sums_are_totals()
+    ensures { SumsAreTotals }
+{}
+
+/// Nothing is posted twice and nothing reversed twice, whatever comes: of each merchant and
+/// reference there is at most one posting of an original and at most one of a reversal, and where a
+/// reversal stands, so does its original, earlier and of the same amount and card.
+pub fn postings_are_conserved()
+    ensures { Conserves }
+{}
+
+/// Once a day is past and none of its requests is pending, its postings stay as they are.
+pub fn closed_days_are_final()
+    ensures { IsFinal }
+{}

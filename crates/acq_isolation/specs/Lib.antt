@@ -1,3 +1,0 @@
-pub mod Isolation
-pub mod Splitting
-pub mod QuietRepeats

@@ -1,0 +1,141 @@
+use Rattle.std.proofs.Common.{refl}
+use Rattle.std.proofs.lemmas.Result.{err_from_is_err_and}
+use Rattle.std.specs.Prelude.{Err, Ok, Result}
+use Rattle.clap.specs.Words.{found_of}
+use Rattle.acq_program.specs.declared.action.Action.{Action}
+use Rattle.acq_program.specs.declared.action.Action.TheVariants.{Listen}
+use Rattle.acq_program.specs.declared.usage_fault.UsageFault.{UsageFault}
+use Rattle.acq_program.specs.Arguments.{AsksListen, CountIs, FileIs, IdleIs, IsListen, ListenAt}
+use Rattle.acq_program.specs.Arguments.{ListenBeside, ListenFor, ListenIn, ListenOn}
+use Rattle.acq_program.specs.Arguments.{MomentIfThere, PortIs, TogetherIs, found_texts}
+use Rattle.acq_program.proofs.OptionsRead.{first_fails, no_memory, then_rest}
+use Rattle.acq_program.proofs.arguments.listen_of.Goals as goal
+
+pub returns-in_err-path : goal.returns-in_err-path
+returns-in_err-path c =
+    let texts = found_texts (found_of c.args.options.now) in
+    let p = err_from_is_err_and c.from_residual.result c.from_residual.ensures.1 in
+    rw (p.1, p.2)
+    (first_fails (FileIs texts) (ListenIn texts) c.in_err-path.field-0.0 c.in_err-path.ensures)
+
+pub returns-in_err-port : goal.returns-in_err-port
+returns-in_err-port c =
+    let texts = found_texts (found_of c.args.options.now) in
+    let p = err_from_is_err_and c.from_residual-in_err-port.result
+    c.from_residual-in_err-port.ensures.1 in
+    rw (p.1, p.2)
+    (then_rest (FileIs texts) (ListenIn texts) c.in_ok-path.path
+    (Err c.in_err-port.field-0.0) c.in_ok-path.ensures
+    (first_fails (PortIs texts) (ListenOn texts c.in_ok-path.path) c.in_err-port.field-0.0
+    c.in_err-port.ensures))
+
+pub returns-in_err-count : goal.returns-in_err-count
+returns-in_err-count c =
+    let texts = found_texts (found_of c.args.options.now) in
+    let p = err_from_is_err_and c.from_residual-in_err-count.result
+    c.from_residual-in_err-count.ensures.1 in
+    rw (p.1, p.2)
+    (then_rest (FileIs texts) (ListenIn texts) c.in_ok-path.path
+    (Err c.in_err-count.field-0.0) c.in_ok-path.ensures
+    (then_rest (PortIs texts) (ListenOn texts c.in_ok-path.path) c.in_ok-port.port
+    (Err c.in_err-count.field-0.0) c.in_ok-port.ensures
+    (first_fails (CountIs texts) (ListenFor texts c.in_ok-path.path c.in_ok-port.port)
+    c.in_err-count.field-0.0 c.in_err-count.ensures)))
+
+pub returns-in_err-moment : goal.returns-in_err-moment
+returns-in_err-moment c =
+    let texts = found_texts (found_of c.args.options.now) in
+    let p = err_from_is_err_and c.from_residual-in_err-moment.result
+    c.from_residual-in_err-moment.ensures.1 in
+    rw (p.1, p.2)
+    (then_rest (FileIs texts) (ListenIn texts) c.in_ok-path.path (Err c.in_err-moment.field-0.0)
+    c.in_ok-path.ensures
+    (then_rest (PortIs texts) (ListenOn texts c.in_ok-path.path) c.in_ok-port.port
+    (Err c.in_err-moment.field-0.0) c.in_ok-port.ensures
+    (then_rest (CountIs texts) (ListenFor texts c.in_ok-path.path c.in_ok-port.port)
+    c.in_ok-count.count (Err c.in_err-moment.field-0.0) c.in_ok-count.ensures
+    (first_fails (MomentIfThere texts)
+    (ListenAt texts c.in_ok-path.path c.in_ok-port.port c.in_ok-count.count)
+    c.in_err-moment.field-0.0 c.in_err-moment.ensures))))
+
+pub returns-in_err-idle : goal.returns-in_err-idle
+returns-in_err-idle c =
+    let texts = found_texts (found_of c.args.options.now) in
+    let p = err_from_is_err_and c.from_residual-in_err-idle.result
+    c.from_residual-in_err-idle.ensures.1 in
+    rw (p.1, p.2)
+    (then_rest (FileIs texts) (ListenIn texts) c.in_ok-path.path
+    (Err c.in_err-idle.field-0.0) c.in_ok-path.ensures
+    (then_rest (PortIs texts) (ListenOn texts c.in_ok-path.path) c.in_ok-port.port
+    (Err c.in_err-idle.field-0.0) c.in_ok-port.ensures
+    (then_rest (CountIs texts) (ListenFor texts c.in_ok-path.path c.in_ok-port.port)
+    c.in_ok-count.count (Err c.in_err-idle.field-0.0) c.in_ok-count.ensures
+    (then_rest (MomentIfThere texts)
+    (ListenAt texts c.in_ok-path.path c.in_ok-port.port c.in_ok-count.count)
+    c.in_ok-moment.moment (Err c.in_err-idle.field-0.0) c.in_ok-moment.ensures
+    (first_fails (IdleIs texts)
+    (ListenBeside texts c.in_ok-path.path c.in_ok-port.port c.in_ok-count.count
+    c.in_ok-moment.moment)
+    c.in_err-idle.field-0.0 c.in_err-idle.ensures)))))
+
+pub returns-in_err-together : goal.returns-in_err-together
+returns-in_err-together c =
+    let texts = found_texts (found_of c.args.options.now) in
+    let p = err_from_is_err_and c.from_residual-in_err-together.result
+    c.from_residual-in_err-together.ensures.1 in
+    rw (p.1, p.2)
+    (then_rest (FileIs texts) (ListenIn texts) c.in_ok-path.path (Err c.in_err-together.field-0.0)
+    c.in_ok-path.ensures
+    (then_rest (PortIs texts) (ListenOn texts c.in_ok-path.path) c.in_ok-port.port
+    (Err c.in_err-together.field-0.0) c.in_ok-port.ensures
+    (then_rest (CountIs texts) (ListenFor texts c.in_ok-path.path c.in_ok-port.port)
+    c.in_ok-count.count (Err c.in_err-together.field-0.0) c.in_ok-count.ensures
+    (then_rest (MomentIfThere texts)
+    (ListenAt texts c.in_ok-path.path c.in_ok-port.port c.in_ok-count.count)
+    c.in_ok-moment.moment (Err c.in_err-together.field-0.0) c.in_ok-moment.ensures
+    (then_rest (IdleIs texts)
+    (ListenBeside texts c.in_ok-path.path c.in_ok-port.port c.in_ok-count.count
+    c.in_ok-moment.moment) c.in_ok-idle.idle
+    (Err c.in_err-together.field-0.0) c.in_ok-idle.ensures
+    (first_fails (TogetherIs texts)
+    (IsListen c.in_ok-path.path c.in_ok-port.port c.in_ok-count.count texts.issuers
+    c.in_ok-moment.moment c.in_ok-idle.idle)
+    c.in_err-together.field-0.0 c.in_err-together.ensures))))))
+
+pub returns-in_err-issuers : goal.returns-in_err-issuers
+returns-in_err-issuers c =
+    let texts = found_texts (found_of c.args.options.now) in
+    let p = err_from_is_err_and c.from_residual-in_err-issuers.result
+    c.from_residual-in_err-issuers.ensures.1 in
+    rw (p.1, p.2)
+    (no_memory (AsksListen texts) c.in_err-issuers.field-0.0 c.in_err-issuers.ensures.refused)
+
+pub returns : goal.returns
+returns c =
+    let texts = found_texts (found_of c.args.options.now) in
+    let read : Result Action UsageFault = Ok (Listen (record {
+      path = c.in_ok-path.path;
+      port = c.in_ok-port.port;
+      count = c.in_ok-count.count;
+      together = c.in_ok-together.together;
+      idle = c.in_ok-idle.idle;
+      issuers = c.in_ok-issuers.issuers;
+      moment = c.in_ok-moment.moment;
+    })) in
+    then_rest (FileIs texts) (ListenIn texts) c.in_ok-path.path read c.in_ok-path.ensures
+    (then_rest (PortIs texts) (ListenOn texts c.in_ok-path.path) c.in_ok-port.port read
+    c.in_ok-port.ensures
+    (then_rest (CountIs texts) (ListenFor texts c.in_ok-path.path c.in_ok-port.port)
+    c.in_ok-count.count read c.in_ok-count.ensures
+    (then_rest (MomentIfThere texts)
+    (ListenAt texts c.in_ok-path.path c.in_ok-port.port c.in_ok-count.count)
+    c.in_ok-moment.moment read c.in_ok-moment.ensures
+    (then_rest (IdleIs texts)
+    (ListenBeside texts c.in_ok-path.path c.in_ok-port.port c.in_ok-count.count
+    c.in_ok-moment.moment)
+    c.in_ok-idle.idle read c.in_ok-idle.ensures
+    (then_rest (TogetherIs texts)
+    (IsListen c.in_ok-path.path c.in_ok-port.port c.in_ok-count.count texts.issuers
+    c.in_ok-moment.moment c.in_ok-idle.idle)
+    c.in_ok-together.together read c.in_ok-together.ensures
+    (refl, refl, refl, c.in_ok-issuers.ensures.given, refl, refl, refl))))))

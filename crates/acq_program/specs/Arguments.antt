@@ -1,0 +1,414 @@
+-- What the arguments ask for, by the values of their options.
+use Rattle.std.specs.Prelude.{◌≡◌, ◌⊎◌, ◌-◌, ◌^◌, ℕ, Bool, ◌&&◌, nat_le, List, [], ◌++◌, length}
+use Rattle.std.specs.Prelude.{codes}
+use Rattle.std.specs.Prelude.{map, Option, Some, None, unwrap_or, option_map, option_and_then}
+use Rattle.std.specs.Prelude.{ok_or, Result, Ok, Err}
+use Rattle.std.specs.Prelude.{if◌then◌else◌}
+use Rattle.std.specs.Prelude.{slice_get, String, string_bytes}
+use Rattle.std.specs.declared.alloc.Global.{Global}
+use Rattle.std.specs.List.{list_all}
+use Rattle.std.specs.Char.{is_ascii_digit}
+use Rattle.std.specs.Str.{bytes_eq}
+use Rattle.std.specs.Str.Parse.{digits_value}
+use Rattle.clap.specs.Words.{Row, Text, HasKind, all_of, fault_of, first_of, first_value}
+use Rattle.clap.specs.Words.{kind_of, matched_of, raw_values, subcommand_of}
+use Rattle.clap.specs.declared.error.kind.ErrorKind.TheVariants.{OutOfMemory}
+use Rattle.clap.specs.declared.parser.matches.Found.{Found}
+use Rattle.day_totals.specs.Day.{IsNoDateText, date_text_of}
+use Rattle.acq_core.specs.Numbers.{is_limit}
+use Rattle.acq_out.specs.Fields.{merchant_of_text, moment_of_text}
+use Rattle.acq_program.specs.Program.{program}
+use Rattle.acq_program.specs.declared.action.Action.{Action}
+use Rattle.acq_program.specs.declared.action.Action.TheVariants.{Init, Once, Listen}
+use Rattle.acq_program.specs.declared.action.Action.TheVariants.{Replay, Report, Holds, Show}
+use Rattle.acq_commands.specs.declared.day_report.DayReport.{DayReport}
+use Rattle.acq_commands.specs.declared.input_form.InputForm.{InputForm}
+use Rattle.acq_commands.specs.declared.input_form.InputForm.TheVariants as form
+use Rattle.acq_program.specs.declared.option_name.OptionName.{OptionName}
+use Rattle.acq_program.specs.declared.option_name.OptionName.TheVariants as option
+use Rattle.acq_commands.specs.declared.report_kind.ReportKind.{ReportKind}
+use Rattle.acq_commands.specs.declared.report_kind.ReportKind.TheVariants as kinds
+use Rattle.acq_program.specs.declared.usage_fault.UsageFault.{UsageFault}
+use Rattle.acq_program.specs.declared.usage_fault.UsageFault.TheVariants.{Words, BadValue}
+
+-- an option's name, as it stands on the command line
+abbrev pub name_of_option : OptionName → Text
+name_of_option option.Db = codes "--db"
+name_of_option option.Limit = codes "--limit"
+name_of_option option.Day = codes "--day"
+name_of_option option.Merchant = codes "--merchant"
+name_of_option option.At = codes "--at"
+name_of_option option.Port = codes "--port"
+name_of_option option.Count = codes "--count"
+name_of_option option.Idle = codes "--idle"
+name_of_option option.Together = codes "--together"
+name_of_option (option.Report kinds.Clearing) = codes "--clearing"
+name_of_option (option.Report kinds.Settlement) = codes "--report"
+
+-- the values of the options of a command, as they stand in the arguments
+pub record OptionTexts : Type 0 where
+  pub db : Option Text
+  pub limit : Option Text
+  pub day : Option Text
+  pub merchant : Option Text
+  pub moment : Option Text
+  pub clearing : List Text
+  pub report : List Text
+  pub hex : Option Text
+  pub issuers : Option Text
+  pub port : Option Text
+  pub count : Option Text
+  pub idle : Option Text
+  pub together : Option Text
+
+-- all values of an option
+abbrev pub values_of : Text → List Row → List Text
+values_of id rows = unwrap_or (all_of id rows) []
+
+-- as clap's rules read them
+abbrev pub option_texts : List Row → OptionTexts
+option_texts rows = record {
+  db = first_of (codes "db") rows;
+  limit = first_of (codes "limit") rows;
+  day = first_of (codes "day") rows;
+  merchant = first_of (codes "merchant") rows;
+  moment = first_of (codes "at") rows;
+  clearing = values_of (codes "clearing") rows;
+  report = values_of (codes "report") rows;
+  hex = first_of (codes "hex") rows;
+  issuers = first_of (codes "issuers") rows;
+  port = first_of (codes "port") rows;
+  count = first_of (codes "count") rows;
+  idle = first_of (codes "idle") rows;
+  together = first_of (codes "together") rows;
+}
+
+-- all values of an option, as they were found
+abbrev pub values_found : Found → Text → List Text
+values_found found id = unwrap_or (option_map raw_values (matched_of found id)) []
+
+-- as the crate found them
+abbrev pub found_texts : Found → OptionTexts
+found_texts found = record {
+  db = first_value found (codes "db");
+  limit = first_value found (codes "limit");
+  day = first_value found (codes "day");
+  merchant = first_value found (codes "merchant");
+  moment = first_value found (codes "at");
+  clearing = values_found found (codes "clearing");
+  report = values_found found (codes "report");
+  hex = first_value found (codes "hex");
+  issuers = first_value found (codes "issuers");
+  port = first_value found (codes "port");
+  count = first_value found (codes "count");
+  idle = first_value found (codes "idle");
+  together = first_value found (codes "together");
+}
+
+-- ---- the value of an option, or the name of the option where it has none in its form
+
+-- 1 to 6 digits, leading zeros allowed
+abbrev pub is_limit_text : Text → Bool
+is_limit_text text =
+    nat_le 1 (length text) && nat_le (length text) 6 && list_all is_ascii_digit text
+
+-- a limit, 1 to 999,999
+abbrev pub limit_of_text : Text → Option ℕ
+limit_of_text text =
+    if is_limit_text text && is_limit (digits_value 10 text) then Some (digits_value 10 text)
+    else None
+
+-- a number of 1 to so many digits, leading zeros allowed, from the least to the greatest
+abbrev pub is_number_text : ℕ → ℕ → ℕ → Text → Bool
+is_number_text digits least greatest text =
+    nat_le 1 (length text) && nat_le (length text) digits && list_all is_ascii_digit text
+    && nat_le least (digits_value 10 text) && nat_le (digits_value 10 text) greatest
+
+abbrev pub number_of_text : ℕ → ℕ → ℕ → Text → Option ℕ
+number_of_text digits least greatest text =
+    if is_number_text digits least greatest text then Some (digits_value 10 text) else None
+
+-- a port of TCP, 1 to 65,535
+abbrev pub port_of_text : Text → Option ℕ
+port_of_text text = number_of_text 5 1 65535 text
+
+-- a number of connections, 1 to 999,999
+abbrev pub count_of_text : Text → Option ℕ
+count_of_text text = number_of_text 6 1 999999 text
+
+-- a number of seconds, 0 to 999,999
+abbrev pub seconds_of_text : Text → Option ℕ
+seconds_of_text text = number_of_text 6 0 999999 text
+
+-- how many connections are served at once, 2 to 1,024
+abbrev pub together_of_text : Text → Option ℕ
+together_of_text text = number_of_text 4 2 1024 text
+
+-- the path of a book's file
+abbrev pub FileIs : OptionTexts → Result (String Global) OptionName → Type 0
+FileIs texts (Ok path) = texts.db ≡ Some (string_bytes path)
+FileIs texts (Err name) = (name ≡ option.Db) × (texts.db ≡ None)
+
+-- the limit, the greatest where the option isn't there
+abbrev pub LimitIs : OptionTexts → Result ℕ OptionName → Type 0
+LimitIs texts read =
+    read ≡ ok_or (unwrap_or (option_map limit_of_text texts.limit) (Some 999999)) option.Limit
+
+-- the day, written YYYY-MM-DD; 2000-01-01 where the option isn't there
+abbrev pub GivesDay : Option Text → ℕ → Type 0
+GivesDay None day = day ≡ 0
+GivesDay (Some text) day = text ≡ date_text_of day
+
+-- an option is there whose value is no day's date
+abbrev pub GivesNoDay : Option Text → Type 0
+GivesNoDay None = ⊥
+GivesNoDay (Some text) = IsNoDateText text
+
+abbrev pub DayIs : OptionTexts → Result ℕ OptionName → Type 0
+DayIs texts (Ok day) = GivesDay texts.day day
+DayIs texts (Err name) = (name ≡ option.Day) × GivesNoDay texts.day
+
+-- a merchant, as event lines have it
+abbrev pub MerchantIs : OptionTexts → Result (List ℕ) OptionName → Type 0
+MerchantIs texts read =
+    read ≡ ok_or (option_and_then merchant_of_text texts.merchant) option.Merchant
+
+-- a moment, where there is a text
+abbrev pub moment_if_there : Option Text → Result (Option ℕ) OptionName
+moment_if_there None = Ok None
+moment_if_there (Some text) = ok_or (option_map (λ m. Some m) (moment_of_text text)) option.At
+
+-- a moment, as event lines have it
+abbrev pub MomentIs : OptionTexts → Result ℕ OptionName → Type 0
+MomentIs texts read = read ≡ ok_or (option_and_then moment_of_text texts.moment) option.At
+
+-- such a moment, where the option is there
+abbrev pub MomentIfThere : OptionTexts → Result (Option ℕ) OptionName → Type 0
+MomentIfThere texts read = read ≡ moment_if_there texts.moment
+
+-- a port
+abbrev pub PortIs : OptionTexts → Result ℕ OptionName → Type 0
+PortIs texts read = read ≡ ok_or (option_and_then port_of_text texts.port) option.Port
+
+-- so many connections: without the option, as many as can be counted
+abbrev pub count_if_there : Option Text → Result ℕ OptionName
+count_if_there None = Ok (2 ^ 64 - 1)
+count_if_there (Some text) = ok_or (count_of_text text) option.Count
+
+abbrev pub CountIs : OptionTexts → Result ℕ OptionName → Type 0
+CountIs texts read = read ≡ count_if_there texts.count
+
+-- so many seconds of silence: without the option 60
+abbrev pub idle_if_there : Option Text → Result ℕ OptionName
+idle_if_there None = Ok 60
+idle_if_there (Some text) = ok_or (seconds_of_text text) option.Idle
+
+abbrev pub IdleIs : OptionTexts → Result ℕ OptionName → Type 0
+IdleIs texts read = read ≡ idle_if_there texts.idle
+
+-- so many connections at once: without the option 1
+abbrev pub together_if_there : Option Text → Result ℕ OptionName
+together_if_there None = Ok 1
+together_if_there (Some text) = ok_or (together_of_text text) option.Together
+
+abbrev pub TogetherIs : OptionTexts → Result ℕ OptionName → Type 0
+TogetherIs texts read = read ≡ together_if_there texts.together
+
+-- a report of a kind on a day
+abbrev pub report_on : ReportKind → ℕ → DayReport
+report_on kind day = record { kind = kind; day = day }
+
+-- the reports of a kind that an option's values give: one on each day, written YYYY-MM-DD
+abbrev pub GivesReports : ReportKind → List Text → List DayReport → Type 0
+GivesReports kind texts reports =
+    (days : List ℕ) × (texts ≡ map date_text_of days) × (reports ≡ map (report_on kind) days)
+
+-- one of an option's values is no day's date
+abbrev pub GivesNoReports : List Text → Type 0
+GivesNoReports texts =
+    (at : ℕ) × (text : Text) × (slice_get texts at ≡ Some text) × IsNoDateText text
+
+-- the reports of a kind, or an option's name where one of its values is out of form
+abbrev pub ReportsAre : ReportKind → List Text → Result (List DayReport) OptionName → Type 0
+ReportsAre kind texts (Ok reports) = GivesReports kind texts reports
+ReportsAre kind texts (Err name) = (name ≡ option.Report kind) × GivesNoReports texts
+
+-- the form of the input: lines of hexadecimal where the flag is there, else frames
+abbrev pub form_of_flag : Option Text → InputForm
+form_of_flag None = form.Frames
+form_of_flag (Some text) = if bytes_eq text (codes "true") then form.HexLines else form.Frames
+
+-- ---- what a command is asked for
+
+-- a first option is read, and the rest by its value, or the first is out of its form
+abbrev pub Then
+    : {A B : Type 0} → (Result A OptionName → Type 0) → (A → Result B OptionName → Type 0)
+    → Result B OptionName → Type 0
+Then {A} {B} First Rest read =
+    ((name : OptionName) × (read ≡ Err name) × First (Err name))
+    ⊎ ((value : A) × First (Ok value) × Rest value read)
+
+-- a new book in this file, with this limit and this first day
+abbrev pub IsInit : String Global → ℕ → ℕ → Result Action OptionName → Type 0
+IsInit path limit day read =
+    read ≡ Ok (Init (record { path = path; limit = limit; first_day = day }))
+
+abbrev pub InitWith : OptionTexts → String Global → ℕ → Result Action OptionName → Type 0
+InitWith texts path limit = Then (DayIs texts) (IsInit path limit)
+
+abbrev pub InitIn : OptionTexts → String Global → Result Action OptionName → Type 0
+InitIn texts path = Then (LimitIs texts) (InitWith texts path)
+
+-- what `init` is asked for: the file first, then the limit, then the day
+abbrev pub AsksInit : OptionTexts → Result Action OptionName → Type 0
+AsksInit texts = Then (FileIs texts) (InitIn texts)
+
+-- frames over this book, with this file of issuers' answers, at this moment
+abbrev pub IsOnce : Option Text → Option Text → Option ℕ → Result Action OptionName → Type 0
+IsOnce book issuers moment (Ok (Once asked)) =
+    (option_map string_bytes asked.book ≡ book)
+    × (option_map string_bytes asked.issuers ≡ issuers) × (asked.moment ≡ moment)
+IsOnce book issuers moment other = ⊥
+
+-- what `once` is asked for
+abbrev pub AsksOnce : OptionTexts → Result Action OptionName → Type 0
+AsksOnce texts = Then (MomentIfThere texts) (IsOnce texts.db texts.issuers)
+
+-- so many connections on this port over this book, with this file of issuers' answers, at this
+-- moment, each closed after so many seconds of silence, so many of them at once
+abbrev pub IsListen : String Global → ℕ → ℕ → Option Text → Option ℕ → ℕ → ℕ →
+    Result Action OptionName → Type 0
+IsListen path port count issuers moment idle together (Ok (Listen asked)) =
+    (asked.path ≡ path) × (asked.port ≡ port) × (asked.count ≡ count)
+    × (option_map string_bytes asked.issuers ≡ issuers) × (asked.moment ≡ moment)
+    × (asked.idle ≡ idle) × (asked.together ≡ together)
+IsListen path port count issuers moment idle together other = ⊥
+
+abbrev pub ListenBeside : OptionTexts → String Global → ℕ → ℕ → Option ℕ → ℕ →
+    Result Action OptionName → Type 0
+ListenBeside texts path port count moment idle =
+    Then (TogetherIs texts) (IsListen path port count texts.issuers moment idle)
+
+abbrev pub ListenAt
+    : OptionTexts → String Global → ℕ → ℕ → Option ℕ → Result Action OptionName → Type 0
+ListenAt texts path port count moment =
+    Then (IdleIs texts) (ListenBeside texts path port count moment)
+
+abbrev pub ListenFor
+    : OptionTexts → String Global → ℕ → ℕ → Result Action OptionName → Type 0
+ListenFor texts path port count = Then (MomentIfThere texts) (ListenAt texts path port count)
+
+abbrev pub ListenOn : OptionTexts → String Global → ℕ → Result Action OptionName → Type 0
+ListenOn texts path port = Then (CountIs texts) (ListenFor texts path port)
+
+abbrev pub ListenIn : OptionTexts → String Global → Result Action OptionName → Type 0
+ListenIn texts path = Then (PortIs texts) (ListenOn texts path)
+
+-- what `listen` is asked for: the file first, then the port, how many connections, the moment, the
+-- seconds of silence and how many at once
+abbrev pub AsksListen : OptionTexts → Result Action OptionName → Type 0
+AsksListen texts = Then (FileIs texts) (ListenIn texts)
+
+-- a replay over this book, with these reports
+abbrev pub IsReplay
+    : Option Text → ℕ → ℕ → List DayReport → Result Action OptionName → Type 0
+IsReplay book limit day reports (Ok (Replay asked)) =
+    (option_map string_bytes asked.book ≡ book) × (asked.limit ≡ limit) × (asked.first_day ≡ day)
+    × (asked.reports.items ≡ reports)
+IsReplay book limit day reports other = ⊥
+
+abbrev pub ReplayBehind
+    : OptionTexts → ℕ → ℕ → List DayReport → List DayReport → Result Action OptionName → Type 0
+ReplayBehind texts limit day clearings settlements =
+    IsReplay texts.db limit day (clearings ++ settlements)
+
+abbrev pub ReplayWith
+    : OptionTexts → ℕ → ℕ → List DayReport → Result Action OptionName → Type 0
+ReplayWith texts limit day clearings =
+    Then (ReportsAre kinds.Settlement texts.report) (ReplayBehind texts limit day clearings)
+
+abbrev pub ReplayOn : OptionTexts → ℕ → ℕ → Result Action OptionName → Type 0
+ReplayOn texts limit day =
+    Then (ReportsAre kinds.Clearing texts.clearing) (ReplayWith texts limit day)
+
+abbrev pub ReplayUpTo : OptionTexts → ℕ → Result Action OptionName → Type 0
+ReplayUpTo texts limit = Then (DayIs texts) (ReplayOn texts limit)
+
+-- what `replay` is asked for: the limit first, then the day, then the clearing files and the
+-- settlement reports
+abbrev pub AsksReplay : OptionTexts → Result Action OptionName → Type 0
+AsksReplay texts = Then (LimitIs texts) (ReplayUpTo texts)
+
+-- a report of this kind on the book in this file
+abbrev pub IsReport : ReportKind → String Global → ℕ → Result Action OptionName → Type 0
+IsReport kind path day read =
+    read ≡ Ok (Report (record { path = path; report = report_on kind day }))
+
+abbrev pub ReportIn : ReportKind → OptionTexts → String Global → Result Action OptionName → Type 0
+ReportIn kind texts path = Then (DayIs texts) (IsReport kind path)
+
+-- what `clearing` or `report` is asked for: the file first, then the day
+abbrev pub AsksReport : ReportKind → OptionTexts → Result Action OptionName → Type 0
+AsksReport kind texts = Then (FileIs texts) (ReportIn kind texts)
+
+-- the open holds of this merchant at this moment
+abbrev pub IsHolds : String Global → List ℕ → ℕ → Result Action OptionName → Type 0
+IsHolds path merchant moment read =
+    read ≡ Ok (Holds (record { path = path; merchant = merchant; moment = moment }))
+
+abbrev pub HoldsOf : OptionTexts → String Global → List ℕ → Result Action OptionName → Type 0
+HoldsOf texts path merchant = Then (MomentIs texts) (IsHolds path merchant)
+
+abbrev pub HoldsIn : OptionTexts → String Global → Result Action OptionName → Type 0
+HoldsIn texts path = Then (MerchantIs texts) (HoldsOf texts path)
+
+-- what `holds` is asked for: the file first, then the merchant, then the moment
+abbrev pub AsksHolds : OptionTexts → Result Action OptionName → Type 0
+AsksHolds texts = Then (FileIs texts) (HoldsIn texts)
+
+abbrev pub AsksShow : OptionTexts → Result Action OptionName → Type 0
+AsksShow texts read = read ≡ Ok (Show (form_of_flag texts.hex))
+
+-- ---- what the arguments ask for
+
+-- the command has this name, and asks for this by its options
+abbrev pub Names
+    : Text → (OptionTexts → Result Action OptionName → Type 0) → Text × List Row
+    → Result Action OptionName → Type 0
+Names name Asked command asked = (command.0 ≡ name) × Asked (option_texts command.1) asked
+
+-- what a command is asked for, by its name and its options as clap's rules read them
+abbrev pub Asks : Option (Text × List Row) → Result Action OptionName → Type 0
+Asks None asked = ⊥
+Asks (Some command) asked =
+    Names (codes "init") AsksInit command asked
+    ⊎ Names (codes "once") AsksOnce command asked
+    ⊎ Names (codes "replay") AsksReplay command asked
+    ⊎ Names (codes "clearing") (AsksReport kinds.Clearing) command asked
+    ⊎ Names (codes "report") (AsksReport kinds.Settlement) command asked
+    ⊎ Names (codes "holds") AsksHolds command asked
+    ⊎ Names (codes "show") AsksShow command asked
+    ⊎ Names (codes "listen") AsksListen command asked
+
+-- nothing is wrong with the words by clap's rules, and they ask for this
+abbrev pub AsksFor : List Text → Result Action OptionName → Type 0
+AsksFor words asked = (fault_of program words ≡ []) × Asks (subcommand_of program words) asked
+
+-- there was no memory for the words
+abbrev pub IsNoMemory : UsageFault → Type 0
+IsNoMemory (Words error) = kind_of error ≡ OutOfMemory
+IsNoMemory (BadValue name) = ⊥
+
+-- this is read, or there was no memory for it
+abbrev pub Reads
+    : {A : Type 0} → (Result A OptionName → Type 0) → Result A UsageFault → Type 0
+Reads Asked (Ok value) = Asked (Ok value)
+Reads Asked (Err (BadValue name)) = Asked (Err name)
+Reads Asked (Err (Words error)) = IsNoMemory (Words error)
+
+-- What reading the arguments gives: what they ask for, an option whose value is out of form, or
+-- an error that clap's rules give for these words, or want of memory.
+abbrev pub ReadsArguments : List Text → Result Action UsageFault → Type 0
+ReadsArguments words (Ok action) = AsksFor words (Ok action)
+ReadsArguments words (Err (BadValue name)) = AsksFor words (Err name)
+ReadsArguments words (Err (Words error)) = HasKind (fault_of program words) error

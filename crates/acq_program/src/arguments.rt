@@ -1,0 +1,285 @@
+//! The program's arguments.
+
+ghost use Rattle.std.specs.Prelude.{◌≡◌, IfErr, IfOk, codes, map, option_map, string_bytes};
+ghost use Rattle.clap.specs.Words.{first_value, found_of};
+ghost use Rattle.acq_program.specs.Arguments.{AsksHolds, AsksInit, AsksListen, AsksOnce};
+ghost use Rattle.acq_program.specs.Arguments.{AsksReplay, AsksReport, CountIs, DayIs, FileIs};
+ghost use Rattle.acq_program.specs.Arguments.{IdleIs, IsNoMemory, LimitIs, MerchantIs};
+ghost use Rattle.acq_program.specs.Arguments.{MomentIfThere, MomentIs, PortIs, Reads, TogetherIs};
+ghost use Rattle.acq_program.specs.Arguments.{ReadsArguments, form_of_flag, found_texts};
+
+use crate::action::Action;
+use crate::option_name::OptionName;
+use crate::options::{count_of, limit_of, port_of, seconds_of, together_of};
+use crate::program::program;
+use crate::usage_fault::UsageFault;
+use crate::wanted_reports::add_reports;
+use acq_commands::{
+    BookReport, DayReport, HoldsOptions, InputForm, ListenOptions, NewBook, OnceOptions,
+    ReplayOptions, ReportKind, first_day_of_all, greatest_limit,
+};
+use acq_core::{Limit, MerchantId, Moment};
+use acq_out::{merchant_of, moment_of};
+use clap::{ArgMatches, Error};
+use day_totals::Day;
+use std::alloc::{AllocError, Global};
+use std::convert::AsStr;
+
+/// For how many seconds a connection may be silent, where nothing else is asked for.
+const USUAL_IDLE: u64 = 60;
+
+/// What the arguments ask for, the program's own name first, or what is wrong with them. A call for
+/// help or for the version is an error, too, as clap has it.
+pub fn action_of<W: AsStr>(alloc: Global, args: &[W]) -> Result<Action, UsageFault>
+    ensures { ReadsArguments (map W.text args.now) result }
+{
+    let matches = program(alloc)?.try_get_matches_from(args)?;
+    match matches.subcommand() {
+        Some(("init", options)) => init_of(alloc, options),
+        Some(("once", options)) => once_of(alloc, options),
+        Some(("listen", options)) => listen_of(alloc, options),
+        Some(("replay", options)) => replay_of(alloc, options),
+        Some(("clearing", options)) => report_of(alloc, ReportKind::Clearing, options),
+        Some(("report", options)) => report_of(alloc, ReportKind::Settlement, options),
+        Some(("holds", options)) => holds_of(alloc, options),
+        Some(("show", options)) => Ok(Action::Show(form_of(options))),
+        _ => Err(Error::from(AllocError).into()),
+    }
+}
+
+/// What `init` is asked for. Options are looked at in the order of help.
+fn init_of(alloc: Global, options: &ArgMatches) -> Result<Action, UsageFault>
+    ensures { Reads (AsksInit (found_texts (found_of options.now))) result }
+{
+    let path = file_option(alloc, options)?;
+    let limit = limit_option(options)?;
+    let first_day = day_option(options)?;
+    Ok(Action::Init(NewBook {
+        path,
+        limit,
+        first_day,
+    }))
+}
+
+/// What `once` is asked for.
+fn once_of(alloc: Global, options: &ArgMatches) -> Result<Action, UsageFault>
+    ensures { Reads (AsksOnce (found_texts (found_of options.now))) result }
+{
+    let moment = moment_if_there(options)?;
+    let book = book_option(alloc, options)?;
+    let issuers = issuers_option(alloc, options)?;
+    Ok(Action::Once(OnceOptions {
+        book,
+        issuers,
+        moment,
+    }))
+}
+
+/// What `listen` is asked for.
+fn listen_of(alloc: Global, options: &ArgMatches) -> Result<Action, UsageFault>
+    ensures { Reads (AsksListen (found_texts (found_of options.now))) result }
+{
+    let path = file_option(alloc, options)?;
+    let port = port_option(options)?;
+    let count = count_option(options)?;
+    let moment = moment_if_there(options)?;
+    let idle = idle_option(options)?;
+    let together = together_option(options)?;
+    let issuers = issuers_option(alloc, options)?;
+    Ok(Action::Listen(ListenOptions {
+        path,
+        port,
+        count,
+        together,
+        idle,
+        issuers,
+        moment,
+    }))
+}
+
+/// What `replay` is asked for.
+fn replay_of(alloc: Global, options: &ArgMatches) -> Result<Action, UsageFault>
+    ensures { Reads (AsksReplay (found_texts (found_of options.now))) result }
+{
+    let limit = limit_option(options)?;
+    let first_day = day_option(options)?;
+    let mut reports = Vec::new(alloc);
+    add_reports(
+        &mut reports,
+        ReportKind::Clearing,
+        options.get_strs("clearing"),
+    )?;
+    add_reports(
+        &mut reports,
+        ReportKind::Settlement,
+        options.get_strs("report"),
+    )?;
+    let book = book_option(alloc, options)?;
+    Ok(Action::Replay(ReplayOptions {
+        book,
+        limit,
+        first_day,
+        reports,
+    }))
+}
+
+/// What a command that writes a report of a kind is asked for.
+fn report_of(alloc: Global, kind: ReportKind, options: &ArgMatches) -> Result<Action, UsageFault>
+    ensures { Reads (AsksReport kind (found_texts (found_of options.now))) result }
+{
+    let path = file_option(alloc, options)?;
+    let day = day_option(options)?;
+    let report = DayReport { kind, day };
+    Ok(Action::Report(BookReport { path, report }))
+}
+
+/// What `holds` is asked for.
+fn holds_of(alloc: Global, options: &ArgMatches) -> Result<Action, UsageFault>
+    ensures { Reads (AsksHolds (found_texts (found_of options.now))) result }
+{
+    let path = file_option(alloc, options)?;
+    let merchant = merchant_option(options)?;
+    let moment = moment_option(options)?;
+    Ok(Action::Holds(HoldsOptions {
+        path,
+        merchant,
+        moment,
+    }))
+}
+
+/// The path of the book's file.
+fn file_option(alloc: Global, options: &ArgMatches) -> Result<String, UsageFault>
+    ensures { Reads (FileIs (found_texts (found_of options.now))) result }
+{
+    match options.get_str("db") {
+        Some(path) => Ok(String::from_str(alloc, path)?),
+        None => Err(UsageFault::BadValue(OptionName::Db)),
+    }
+}
+
+/// The path of the book's file, where the option is there.
+fn book_option(alloc: Global, options: &ArgMatches) -> Result<Option<String>, UsageFault>
+    ensures given { IfOk result (λ book. option_map string_bytes book
+        ≡ (found_texts (found_of options.now)).db) }
+    ensures refused { IfErr result IsNoMemory }
+{
+    match options.get_str("db") {
+        Some(path) => Ok(Some(String::from_str(alloc, path)?)),
+        None => Ok(None),
+    }
+}
+
+/// The path of the file of issuers' answers, where the option is there.
+fn issuers_option(alloc: Global, options: &ArgMatches) -> Result<Option<String>, UsageFault>
+    ensures given { IfOk result (λ issuers. option_map string_bytes issuers
+        ≡ (found_texts (found_of options.now)).issuers) }
+    ensures refused { IfErr result IsNoMemory }
+{
+    match options.get_str("issuers") {
+        Some(path) => Ok(Some(String::from_str(alloc, path)?)),
+        None => Ok(None),
+    }
+}
+
+/// The limit that is asked for.
+fn limit_option(options: &ArgMatches) -> Result<Limit, UsageFault>
+    ensures { Reads (LimitIs (found_texts (found_of options.now))) result }
+{
+    match options.get_str("limit") {
+        Some(text) => limit_of(text).ok_or(UsageFault::BadValue(OptionName::Limit)),
+        None => Ok(greatest_limit()),
+    }
+}
+
+/// The day that is asked for.
+fn day_option(options: &ArgMatches) -> Result<Day, UsageFault>
+    ensures { Reads (DayIs (found_texts (found_of options.now))) result }
+{
+    match options.get_str("day") {
+        Some(text) => Day::read(text).ok_or(UsageFault::BadValue(OptionName::Day)),
+        None => Ok(first_day_of_all()),
+    }
+}
+
+/// The merchant that is asked for.
+fn merchant_option(options: &ArgMatches) -> Result<MerchantId, UsageFault>
+    ensures { Reads (MerchantIs (found_texts (found_of options.now))) result }
+{
+    options
+        .get_str("merchant")
+        .and_then(|text| merchant_of(text.as_bytes()))
+        .ok_or(UsageFault::BadValue(OptionName::Merchant))
+}
+
+/// The moment that is asked for.
+fn moment_option(options: &ArgMatches) -> Result<Moment, UsageFault>
+    ensures { Reads (MomentIs (found_texts (found_of options.now))) result }
+{
+    options
+        .get_str("at")
+        .and_then(|text| moment_of(text.as_bytes()))
+        .ok_or(UsageFault::BadValue(OptionName::At))
+}
+
+/// The moment that is asked for, where the option is there.
+fn moment_if_there(options: &ArgMatches) -> Result<Option<Moment>, UsageFault>
+    ensures { Reads (MomentIfThere (found_texts (found_of options.now))) result }
+{
+    let Some(text) = options.get_str("at") else {
+        return Ok(None);
+    };
+    match moment_of(text.as_bytes()) {
+        Some(moment) => Ok(Some(moment)),
+        None => Err(UsageFault::BadValue(OptionName::At)),
+    }
+}
+
+/// The port that is asked for.
+fn port_option(options: &ArgMatches) -> Result<u16, UsageFault>
+    ensures { Reads (PortIs (found_texts (found_of options.now))) result }
+{
+    options
+        .get_str("port")
+        .and_then(port_of)
+        .ok_or(UsageFault::BadValue(OptionName::Port))
+}
+
+/// How many connections are asked for: without the option, as many as can be counted.
+fn count_option(options: &ArgMatches) -> Result<u64, UsageFault>
+    ensures { Reads (CountIs (found_texts (found_of options.now))) result }
+{
+    match options.get_str("count") {
+        Some(text) => count_of(text).ok_or(UsageFault::BadValue(OptionName::Count)),
+        None => Ok(u64::MAX),
+    }
+}
+
+/// How many seconds of silence are asked for: without the option 60.
+fn idle_option(options: &ArgMatches) -> Result<u64, UsageFault>
+    ensures { Reads (IdleIs (found_texts (found_of options.now))) result }
+{
+    match options.get_str("idle") {
+        Some(text) => seconds_of(text).ok_or(UsageFault::BadValue(OptionName::Idle)),
+        None => Ok(USUAL_IDLE),
+    }
+}
+
+/// How many connections are to be served at once: without the option 1.
+fn together_option(options: &ArgMatches) -> Result<usize, UsageFault>
+    ensures { Reads (TogetherIs (found_texts (found_of options.now))) result }
+{
+    match options.get_str("together") {
+        Some(text) => together_of(text).ok_or(UsageFault::BadValue(OptionName::Together)),
+        None => Ok(1),
+    }
+}
+
+/// The form of what `show` is to show.
+fn form_of(options: &ArgMatches) -> InputForm
+    ensures { result ≡ form_of_flag (first_value (found_of options.now) (codes "hex")) }
+{
+    match options.get_str("hex") {
+        Some("true") => InputForm::HexLines,
+        _ => InputForm::Frames,
+    }
+}

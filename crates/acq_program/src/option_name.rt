@@ -1,0 +1,52 @@
+//! Options that have a value.
+
+use acq_commands::ReportKind;
+use std::fmt;
+
+/// An option that has a value. Its text is its name on the command line.
+#[derive(Clone, Copy, Debug, PartialEq, Eq)]
+pub enum OptionName {
+    /// The file of the book.
+    Db,
+    /// How many messages of one merchant a business day admits.
+    Limit,
+    /// The first business day of a new book, or the day of a report.
+    Day,
+    /// The merchant whose open holds are asked for.
+    Merchant,
+    /// The moment at which something is.
+    At,
+    /// The port that is listened on.
+    Port,
+    /// How many connections are served.
+    Count,
+    /// For how many seconds a connection may be silent.
+    Idle,
+    /// How many connections are served at once.
+    Together,
+    /// A day of which a report is asked for.
+    Report(ReportKind),
+}
+
+impl fmt::Display for OptionName {
+    ghost use Rattle.std.specs.Prelude.{Some};
+    ghost use Rattle.acq_program.specs.Arguments.{name_of_option};
+
+    ghost output = { λ option. Some (name_of_option option) };
+
+    fn fmt<W: fmt::Write>(&self, f: &mut fmt::Formatter<W>) -> fmt::Result {
+        match self {
+            OptionName::Db => write!(f, "--db"),
+            OptionName::Limit => write!(f, "--limit"),
+            OptionName::Day => write!(f, "--day"),
+            OptionName::Merchant => write!(f, "--merchant"),
+            OptionName::At => write!(f, "--at"),
+            OptionName::Port => write!(f, "--port"),
+            OptionName::Count => write!(f, "--count"),
+            OptionName::Idle => write!(f, "--idle"),
+            OptionName::Together => write!(f, "--together"),
+            OptionName::Report(ReportKind::Clearing) => write!(f, "--clearing"),
+            OptionName::Report(ReportKind::Settlement) => write!(f, "--report"),
+        }
+    }
+}

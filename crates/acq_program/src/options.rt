@@ -1,0 +1,96 @@
+//! The values of a limit, a port, and numbers of connections and seconds.
+
+ghost use Rattle.std.specs.Prelude.{◌≡◌, ◌≤◌, IfSome};
+ghost use Rattle.acq_program.specs.Arguments.{count_of_text, limit_of_text, number_of_text};
+ghost use Rattle.acq_program.specs.Arguments.{port_of_text, seconds_of_text, together_of_text};
+
+use acq_core::Limit;
+use acq_message::digits_value;
+use iso_codec::all_digits;
+
+/// The most digits of a limit.
+const MOST_LIMIT_DIGITS: usize = 6;
+
+/// The most digits of a port.
+const MOST_PORT_DIGITS: usize = 5;
+
+/// The most digits of a number of connections, or of seconds.
+const MOST_COUNT_DIGITS: usize = 6;
+
+/// The greatest port.
+const GREATEST_PORT: u64 = 65_535;
+
+/// The greatest number of connections, or of seconds.
+const GREATEST_COUNT: u64 = 999_999;
+
+/// The most digits of how many connections are served at once.
+const MOST_TOGETHER_DIGITS: usize = 4;
+
+/// The fewest connections that are served at once.
+const LEAST_TOGETHER: u64 = 2;
+
+/// The most connections that are served at once.
+const GREATEST_TOGETHER: u64 = 1_024;
+
+/// The limit that a text spells: one to six digits, 1 to 999,999 (own profile).
+pub(crate) fn limit_of(text: &str) -> Option<Limit>
+    ensures { result ≡ limit_of_text text.now }
+{
+    let digits = text.as_bytes();
+    if digits.is_empty() || digits.len() > MOST_LIMIT_DIGITS || !all_digits(digits) {
+        return None;
+    }
+    Limit::from_number(u32::try_from(digits_value(digits)).ok()?)
+}
+
+/// The port that a text spells: one to five digits, 1 to 65,535 (own profile).
+pub(crate) fn port_of(text: &str) -> Option<u16>
+    ensures { result ≡ port_of_text text.now }
+{
+    let number = number_of(text, MOST_PORT_DIGITS, 1, GREATEST_PORT)?;
+    Some(number as u16)
+}
+
+/// The number of connections that a text spells: one to six digits, 1 to 999,999 (own profile).
+pub(crate) fn count_of(text: &str) -> Option<u64>
+    ensures { result ≡ count_of_text text.now }
+{
+    number_of(text, MOST_COUNT_DIGITS, 1, GREATEST_COUNT)
+}
+
+/// The number of seconds that a text spells: one to six digits, 0 to 999,999 (own profile).
+pub(crate) fn seconds_of(text: &str) -> Option<u64>
+    ensures { result ≡ seconds_of_text text.now }
+{
+    number_of(text, MOST_COUNT_DIGITS, 0, GREATEST_COUNT)
+}
+
+/// How many connections a text has served at once: one to four digits, 2 to 1,024 (own profile).
+pub(crate) fn together_of(text: &str) -> Option<usize>
+    ensures { result ≡ together_of_text text.now }
+{
+    let number = number_of(
+        text,
+        MOST_TOGETHER_DIGITS,
+        LEAST_TOGETHER,
+        GREATEST_TOGETHER,
+    )?;
+    Some(number as usize)
+}
+
+/// The number that a text spells in so many digits at most, from the least to the greatest.
+fn number_of(text: &str, most_digits: usize, least: u64, greatest: u64) -> Option<u64>
+    requires { most_digits ≤ 16 }
+    ensures value { result ≡ number_of_text most_digits least greatest text.now }
+    ensures bound { IfSome result (λ number. number ≤ greatest) }
+{
+    let digits = text.as_bytes();
+    if digits.is_empty() || digits.len() > most_digits || !all_digits(digits) {
+        return None;
+    }
+    let number = digits_value(digits);
+    if number < least || number > greatest {
+        return None;
+    }
+    Some(number)
+}

@@ -1,0 +1,445 @@
+//! The program's commands and their options, with their help.
+
+ghost use Rattle.std.specs.Prelude.{◌≡◌, false, IfOk};
+ghost use Rattle.clap.specs.Words.{app_of, new_app, rule_of, with_rule};
+ghost use Rattle.clap.specs.declared.builder.action.ArgAction.TheVariants.{Append};
+ghost use Rattle.acq_program.specs.Program.{holds, init, listen, listen_at_port, making, on_a_day};
+ghost use Rattle.acq_program.specs.Program.{once, option};
+ghost use Rattle.acq_program.specs.Program.{option_with_value, program, replay, required, show};
+
+use clap::{Arg, ArgAction, Command};
+use std::alloc::{AllocError, Global};
+
+const ABOUT: &str = "An acquirer host for cards: ISO 8583:1987 in, replies out.
+
+A book holds merchants, terminals, card ranges, requests, holds, postings and reconciliations. It is
+kept in a file, which `acqd init` makes; `once` and `replay` without a file work on a book of their
+own, which is kept in memory and given back at the end.";
+
+const ABOUT_INIT: &str = "Makes a new book in a file";
+
+const MORE_OF_INIT: &str = "\
+The file is a database of SQLite; its log stands beside it, under the same name with -wal behind it,
+and the two are one: move and copy them together. Where the file holds a book already, or another
+database that isn't empty, it is left as it is.
+
+The status is 0 where all is well, 1 for a fault, 2 for wrong usage, 3 where memory ran out or the
+file can't be used. A fault is one line on standard error:
+  acqd: 1 Memory
+  acqd: 2 Store                    the file can't be opened or written
+  acqd: 40 NotABook                the file isn't empty
+
+Example:
+  acqd init --db book.db --limit 999999 --day 2024-05-01";
+
+const ABOUT_ONCE: &str =
+    "Answers the frames on standard input with reply frames on standard output";
+
+const MORE_OF_ONCE: &str = "\
+A frame is two bytes of length, high byte first, and then so many bytes of a message, 1 to 4,096.
+Each is answered as soon as it is whole, and its reply is out before more is read. With --db they
+are taken over the book in this file, where what they change is in the file before the reply goes
+out. Without it nobody is enrolled: network management (0800 and 0801: echo tests, sign-ons and
+sign-offs) is answered, a merchant's request gets code 03, or 30 where it is malformed, and any
+other type gets no reply. MOMENT counts seconds since 1970-01-01 00:00:00 UTC.
+
+With --issuers this file stands in for the cards' issuers: a record of three fields of CSV for each
+card, `CARD,approved,ID`, `CARD,declined,CODE` or `CARD,none,`, of which the first with a card
+decides. Without it, and for a card that isn't there, no issuer can be reached, so what one is asked
+for gets code 91.
+
+The status is 0 where all is well, 1 for a fault, 2 for wrong usage, 3 where memory ran out or the
+file failed. A fault is one line on standard error, and what was written before it stands:
+  acqd: 1 Memory
+  acqd: 2 Store                    the file can't be opened, read or written
+  acqd: 23 BadLine RECORD          this record of the issuers' file is out of its form
+  acqd: 40 NotABook                the file holds no book
+  acqd: 41 OtherVersion VERSION    the file holds a book of this other version
+  acqd: 50 BadLength               a frame's length is 0 or above 4,096
+  acqd: 51 Ended                   the input ends inside a frame
+  acqd: 52 Undecodable FAULT ELEMENT   a frame spells no message
+  acqd: 53 Read                    a read failed, of the input or the issuers' file
+  acqd: 54 Write BYTES             a write failed after so many bytes of a reply's frame
+
+Example: an echo test
+  printf '\\000\\067%s' 0800822000000000000004000000000000000101120000000001301 |
+      acqd once | od -c";
+
+const ABOUT_LISTEN: &str = "Answers the frames of connections over TCP";
+
+const MORE_OF_LISTEN: &str = "\
+Connections are taken on 127.0.0.1 at this port, so that a proxy on the same machine can stand in
+front. The frames of each are answered as `once` answers those on standard input; then the next one
+is served. With --together M, up to M connections are served at once, one message of each in turn, so
+that none waits for another one's bytes. What they change is in the file before the reply goes out; a
+stop at any moment leaves all events so far.
+
+A connection that is silent for SECONDS, or takes nothing of a reply for so long, is closed as one
+whose read or write failed. A connection's fault is one line on standard error, and the next one is
+served; 1 and 2 end the program. The status is 0 where all connections were served, 1 for another
+fault, 2 for wrong usage, 3 where memory ran out or the file failed:
+  acqd: 1 Memory
+  acqd: 2 Store                    the file can't be opened, read or written
+  acqd: 23 BadLine RECORD          this record of the issuers' file is out of its form
+  acqd: 40 NotABook                the file holds no book
+  acqd: 41 OtherVersion VERSION    the file holds a book of this other version
+  acqd: 50 BadLength               a frame's length is 0 or above 4,096
+  acqd: 51 Ended                   a connection ends inside a frame
+  acqd: 52 Undecodable FAULT ELEMENT   a frame spells no message
+  acqd: 53 Read                    a read failed, or the port or a connection can't be had
+  acqd: 54 Write BYTES             a write failed after so many bytes of a reply's frame
+
+Example:
+  acqd listen --db book.db --port 8583 --issuers issuers.csv";
+
+const ABOUT_REPLAY: &str =
+    "Takes the event lines on standard input, and writes a line of what comes of each";
+
+const MORE_OF_REPLAY: &str = "\
+An event line is a record of six fields of CSV, with no header line; fields not used are empty:
+  addrange,LOW,HIGH,ISSUER,HOLD,       an issuer's card range, and how many days a hold lasts
+  droprange,LOW,HIGH,,,                no such range any more
+  enrol,MERCHANT,CURRENCY,FIRST,,      a merchant, its currency and its first reference
+  terminal,MERCHANT,TERMINAL,,,        a terminal of a merchant
+  frame,MOMENT,HEX,,,                  a terminal's message, in hexadecimal
+  answer,MOMENT,MERCHANT,REFERENCE,VERDICT,TEXT
+                                       an issuer's answer to what was asked: `approved` and an
+                                       authorization id, `declined` and a code, or `none`
+  cutover,MOMENT,,,,                   the business day ends, and the next begins
+MOMENT counts seconds since 1970-01-01 00:00:00 UTC.
+
+What comes of an event is one line:
+  reply MESSAGE                        this goes to the terminal
+  ask MERCHANT REFERENCE CARD AMOUNT ISSUER
+                                       this is asked of the issuer, whose answer is an event
+  done                                 it is in the book
+  refused NUMBER ..                    it isn't: 20 to 22 a range, 30 and 31 a message, 32 and 33 a
+                                       repeat or an answer come late, 34 and 35 an answer, 36 and 37
+                                       a merchant, 38 the last day
+
+With --db the book is the one in this file, and --limit and --day are not used. Each event is in the
+file, whole, before its line is written; a stop at any moment leaves all events so far.
+
+With --clearing or --report these texts are written in place of the lines, once all events are
+taken: first the clearing files in the order given, then the settlement reports.
+
+All lines are read before the first event is taken. The status is 0 where all is well, 1 for a
+fault, 2 for wrong usage, 3 where memory ran out or the file failed. A fault is one line on standard
+error, and what was written before it stands:
+  acqd: 1 Memory
+  acqd: 2 Store                        the file can't be opened, read or written
+  acqd: 40 NotABook                    the file holds no book
+  acqd: 41 OtherVersion VERSION        the file holds a book of this other version
+  acqd: 53 Read                        a read failed; no event was taken
+  acqd: 54 Write BYTES                 a write failed after so many bytes of a line or a report
+  acqd: 60 DayNotOver                  the business day of this report isn't over
+  acqd: 61 StillPending REQUESTS       so many requests of that day have no answer yet
+  acqd: 62 BadLine RECORD              this record is out of its form; no event was taken
+
+Examples:
+  acqd replay --day 2024-05-01 < examples/day.csv
+  acqd replay --day 2024-05-01 --clearing 2024-05-01 < examples/day.csv
+  acqd replay --db book.db < examples/day.csv";
+
+const ABOUT_CLEARING: &str = "Writes the clearing file of a business day that is over";
+
+const ABOUT_REPORT: &str = "Writes the settlement report of a business day that is over";
+
+const MORE_OF_REPORTS: &str = "\
+The text goes to standard output. Nothing in the book is changed.
+
+The status is 0 where all is well, 1 for a fault, 2 for wrong usage, 3 where memory ran out or the
+file failed. A fault is one line on standard error, and what was written before it stands:
+  acqd: 1 Memory
+  acqd: 2 Store                    the file can't be opened or read
+  acqd: 40 NotABook                the file holds no book
+  acqd: 41 OtherVersion VERSION    the file holds a book of this other version
+  acqd: 54 Write BYTES             a write failed after so many bytes of the text
+  acqd: 60 DayNotOver              the business day isn't over
+  acqd: 61 StillPending REQUESTS   so many requests of that day have no answer yet";
+
+const ABOUT_HOLDS: &str = "Writes the open holds of a merchant at a moment";
+
+const MORE_OF_HOLDS: &str = "\
+A hold is an approved authorization that was neither completed nor reversed, up to its last second.
+They are CSV with a header line, in order of reference, the card numbers masked. MOMENT counts
+seconds since 1970-01-01 00:00:00 UTC. Nothing in the book is changed.
+
+The status is 0 where all is well, 1 for a fault, 2 for wrong usage, 3 where memory ran out or the
+file failed. A fault is one line on standard error, and what was written before it stands:
+  acqd: 1 Memory
+  acqd: 2 Store                    the file can't be opened or read
+  acqd: 37 NoSuchMerchant          the merchant isn't enrolled
+  acqd: 40 NotABook                the file holds no book
+  acqd: 41 OtherVersion VERSION    the file holds a book of this other version
+  acqd: 54 Write BYTES             a write failed after so many bytes of the text
+
+Example:
+  acqd holds --db book.db --merchant MERCHANT0000001 --at 1714555800";
+
+const ABOUT_SHOW: &str = "Shows the messages on standard input to a person";
+
+const MORE_OF_SHOW: &str = "\
+The messages stand on standard input as frames, as `acqd once` reads and writes them, or with --hex
+as lines, each a message in hexadecimal. Each is shown by its type, and by the number, the name and
+the content of each element; card numbers and tracks are masked, PIN blocks and chip data left out.
+What spells no message is shown by what is wrong with it, and where, and the next is shown all the
+same.
+
+The status is 0 where all is well, 1 for a fault, 2 for wrong usage, 3 where memory ran out. A
+fault is one line on standard error, and what was written before it stands:
+  acqd: 1 Memory
+  acqd: 50 BadLength               a frame's length is 0 or above 4,096
+  acqd: 51 Ended                   the input ends inside a frame
+  acqd: 53 Read                    a read failed
+  acqd: 54 Write BYTES             a write failed after so many bytes of a message's text
+  acqd: 62 BadLine LINE            this line holds no message in hexadecimal; nothing is shown
+
+Example: what comes back for an echo test
+  acqd once < examples/echo.frame | acqd show";
+
+const FILE_OR_MEMORY: &str = "The file of the book [default: a new book in memory]";
+
+const ISSUERS: &str = "The file of issuers' answers [default: no issuer can be reached]";
+
+const COMING_AT: &str =
+    "The moment at which all frames come, 946684800 to 4102444799 [default: the clock's]";
+
+pub(crate) fn program<'a>(alloc: Global) -> Result<Command<'a>, AllocError>
+    ensures { IfOk result (λ made. app_of made ≡ program) }
+{
+    let clearing = day_command(alloc, "clearing", ABOUT_CLEARING)?;
+    let report = day_command(alloc, "report", ABOUT_REPORT)?;
+    own_books(alloc)?
+        .subcommand(clearing)?
+        .subcommand(report)?
+        .subcommand(holds_command(alloc)?)?
+        .subcommand(show_command(alloc)?)
+}
+
+/// The program with the commands that make a book, or take what comes in.
+fn own_books<'a>(alloc: Global) -> Result<Command<'a>, AllocError>
+    ensures { IfOk result (λ made. app_of made ≡ making) }
+{
+    Command::new(alloc, "acqd")
+        .version("0.1.0")
+        .about(ABOUT)
+        .subcommand_required(true)
+        .arg_required_else_help(false)
+        .subcommand(init_command(alloc)?)?
+        .subcommand(once_command(alloc)?)?
+        .subcommand(listen_command(alloc)?)?
+        .subcommand(replay_command(alloc)?)
+}
+
+fn init_command<'a>(alloc: Global) -> Result<Command<'a>, AllocError>
+    ensures { IfOk result (λ made. app_of made ≡ init) }
+{
+    let command = command(alloc, "init", ABOUT_INIT, MORE_OF_INIT);
+    let command = with_required(alloc, command, "db", "FILE", "The file of the new book")?;
+    let command = with_required(
+        alloc,
+        command,
+        "limit",
+        "N",
+        "How many messages of one merchant a day admits, 1 to 999999",
+    )?;
+    with_required(
+        alloc,
+        command,
+        "day",
+        "YYYY-MM-DD",
+        "The first business day, 2000-01-01 to 2099-12-31",
+    )
+}
+
+fn once_command<'a>(alloc: Global) -> Result<Command<'a>, AllocError>
+    ensures { IfOk result (λ made. app_of made ≡ once) }
+{
+    let command = command(alloc, "once", ABOUT_ONCE, MORE_OF_ONCE);
+    let command = with_option(alloc, command, "db", "FILE", FILE_OR_MEMORY)?;
+    let command = with_option(alloc, command, "issuers", "FILE", ISSUERS)?;
+    with_option(alloc, command, "at", "MOMENT", COMING_AT)
+}
+
+fn listen_command<'a>(alloc: Global) -> Result<Command<'a>, AllocError>
+    ensures { IfOk result (λ made. app_of made ≡ listen) }
+{
+    let command = listen_at_port(alloc)?;
+    let command = with_option(alloc, command, "issuers", "FILE", ISSUERS)?;
+    let command = with_option(alloc, command, "at", "MOMENT", COMING_AT)?;
+    let command = with_option(
+        alloc,
+        command,
+        "idle",
+        "SECONDS",
+        "How long a connection may be silent, 0 to 999999, 0 for ever [default: 60]",
+    )?;
+    with_option(
+        alloc,
+        command,
+        "together",
+        "M",
+        "How many connections are served at once, 2 to 1024 [default: 1]",
+    )
+}
+
+/// `listen` with its file, its port and how many connections come.
+fn listen_at_port<'a>(alloc: Global) -> Result<Command<'a>, AllocError>
+    ensures { IfOk result (λ made. app_of made ≡ listen_at_port) }
+{
+    let command = command(alloc, "listen", ABOUT_LISTEN, MORE_OF_LISTEN);
+    let command = with_required(alloc, command, "db", "FILE", "The file of the book")?;
+    let command = with_required(alloc, command, "port", "P", "The port, 1 to 65535")?;
+    with_option(
+        alloc,
+        command,
+        "count",
+        "N",
+        "How many connections are served, 1 to 999999 [default: all that come]",
+    )
+}
+
+fn replay_command<'a>(alloc: Global) -> Result<Command<'a>, AllocError>
+    ensures { IfOk result (λ made. app_of made ≡ replay) }
+{
+    let command = command(alloc, "replay", ABOUT_REPLAY, MORE_OF_REPLAY);
+    let command = with_option(alloc, command, "db", "FILE", FILE_OR_MEMORY)?;
+    let command = with_option(
+        alloc,
+        command,
+        "limit",
+        "N",
+        "How many messages of one merchant a day admits, 1 to 999999 [default: 999999]",
+    )?;
+    let command = with_option(
+        alloc,
+        command,
+        "day",
+        "YYYY-MM-DD",
+        "The first business day, 2000-01-01 to 2099-12-31 [default: 2000-01-01]",
+    )?;
+    let command = with_days(
+        alloc,
+        command,
+        "clearing",
+        "In place of the lines: the clearing file of a day that is over; may be repeated",
+    )?;
+    with_days(
+        alloc,
+        command,
+        "report",
+        "In place of the lines: the settlement report of such a day; may be repeated",
+    )
+}
+
+/// A command that writes a report on a day.
+fn day_command<'a>(alloc: Global, name: &'a str, about: &'a str) -> Result<Command<'a>, AllocError>
+    ensures { IfOk result (λ made. app_of made ≡ on_a_day name.now) }
+{
+    let command = command(alloc, name, about, MORE_OF_REPORTS);
+    let command = with_required(alloc, command, "db", "FILE", "The file of the book")?;
+    with_required(alloc, command, "day", "YYYY-MM-DD", "The business day")
+}
+
+fn holds_command<'a>(alloc: Global) -> Result<Command<'a>, AllocError>
+    ensures { IfOk result (λ made. app_of made ≡ holds) }
+{
+    let command = command(alloc, "holds", ABOUT_HOLDS, MORE_OF_HOLDS);
+    let command = with_required(alloc, command, "db", "FILE", "The file of the book")?;
+    let command = with_required(
+        alloc,
+        command,
+        "merchant",
+        "MERCHANT",
+        "The merchant, 1 to 15 bytes",
+    )?;
+    with_required(
+        alloc,
+        command,
+        "at",
+        "MOMENT",
+        "The moment, 946684800 to 4102444799",
+    )
+}
+
+fn show_command<'a>(alloc: Global) -> Result<Command<'a>, AllocError>
+    ensures { IfOk result (λ made. app_of made ≡ show) }
+{
+    let hex = Arg::new(alloc, "hex")
+        .long("hex")
+        .help("The input is lines, each a message in hexadecimal")
+        .action(ArgAction::SetTrue);
+    command(alloc, "show", ABOUT_SHOW, MORE_OF_SHOW).arg(hex)
+}
+
+/// A command without options, with its help.
+fn command<'a>(alloc: Global, name: &'a str, about: &'a str, more: &'a str) -> Command<'a>
+    ensures { app_of result ≡ new_app name.now }
+{
+    let command = Command::new(alloc, name);
+    let command = command.about(about);
+    command.after_help(more)
+}
+
+/// A command with one more option, which has to be there.
+fn with_required<'a>(
+    alloc: Global,
+    command: Command<'a>,
+    name: &'a str,
+    value: &'a str,
+    help: &'a str,
+) -> Result<Command<'a>, AllocError>
+    ensures { IfOk result (λ made. app_of made
+        ≡ with_rule (app_of command.entry) (required name.now)) }
+{
+    let arg = option_with_value(alloc, name, value, help, ArgAction::Set).required(true);
+    command.arg(arg)
+}
+
+/// A command with one more option, which may be there once.
+fn with_option<'a>(
+    alloc: Global,
+    command: Command<'a>,
+    name: &'a str,
+    value: &'a str,
+    help: &'a str,
+) -> Result<Command<'a>, AllocError>
+    ensures { IfOk result (λ made. app_of made
+        ≡ with_rule (app_of command.entry) (option name.now)) }
+{
+    let arg = option_with_value(alloc, name, value, help, ArgAction::Set);
+    command.arg(arg)
+}
+
+/// A command with one more option, which names a day each time that it is there.
+fn with_days<'a>(
+    alloc: Global,
+    command: Command<'a>,
+    name: &'a str,
+    help: &'a str,
+) -> Result<Command<'a>, AllocError>
+    ensures { IfOk result (λ made. app_of made
+        ≡ with_rule (app_of command.entry) (option_with_value name.now Append)) }
+{
+    let arg = option_with_value(alloc, name, "YYYY-MM-DD", help, ArgAction::Append);
+    command.arg(arg)
+}
+
+/// An option with a value, as `--name VALUE`.
+fn option_with_value<'a>(
+    alloc: Global,
+    name: &'a str,
+    value: &'a str,
+    help: &'a str,
+    action: ArgAction,
+) -> Arg<'a>
+    ensures rule { rule_of result ≡ option_with_value name.now action }
+    ensures own { result.global ≡ false }
+{
+    Arg::new(alloc, name)
+        .long(name)
+        .value_name(value)
+        .help(help)
+        .action(action)
+}

@@ -1,0 +1,48 @@
+use Rattle.std.proofs.Common.{◌≡◌, OnOk, refl, subst, rules}
+use Rattle.std.proofs.lemmas.Result.{IfOk-weaker}
+use Rattle.sqlite.specs.State.{HasCleanDisk, Survives}
+use Rattle.sqlite.specs.Held.{state}
+use Rattle.sqlite.proofs.StateLemmas.{survives_then}
+use Rattle.sqlite.proofs.Callers.{survives_begin}
+use Rattle.acq_core.specs.Tables.{Opening, new_tables}
+use Rattle.acq_sql_rows.specs.Relation.{Holds}
+use Rattle.acq_sql_changes.specs.Changed.{IsAt, HoldsAfter}
+use Rattle.acq_sql_changes.proofs.Commits.{at_commit, left_holds, was_clean}
+use Rattle.acq_sql.proofs.opening.NewBook.{new_holds}
+use Rattle.acq_sql.proofs.opening.making.write_book.Goals as goal
+
+pub returns-clause-done : goal.returns-clause-done
+returns-clause-done g c clean =
+    let last = state g.S.Store c.write_tables.new.tx.conn.now in
+    let end = c.commit.new.self.0 in
+    let begun = c.transaction-tx.ensures.begun in
+    let same : end ≡ c.conn-2-1.given.0 = search rules in
+    let late : HasCleanDisk (state g.S.Store end) = search rules in
+    let last_clean : HasCleanDisk last = was_clean _ _ c.commit.ensures.survives.clean late in
+    let opening : Opening = record { limit = c.args.limit; first_day = c.args.first_day } in
+    let all : Holds last.now (new_tables opening) = new_holds last.now opening
+    (c.in_ok-write_tables.ensures.begins last_clean (rw begun refl) (rw begun c.requires.empty)) in
+    subst (λ x. OnOk c.commit.result (IsAt (state g.S.Store x) (new_tables opening))) same
+    (IfOk-weaker c.commit.result _ _
+    (λ _ shown. at_commit last (state g.S.Store end) (new_tables opening) all shown.1)
+    (c.commit.ensures.ok late))
+
+pub returns-clause-crash : goal.returns-clause-crash
+returns-clause-crash g c =
+    let old = c.args.conn.now in
+    let last = state g.S.Store c.write_tables.new.tx.conn.now in
+    let end = c.commit.new.self.0 in
+    let begun = c.transaction-tx.ensures.begun in
+    let same : end ≡ c.conn-2-1.given.0 = search rules in
+    let opening : Opening = record { limit = c.args.limit; first_day = c.args.first_day } in
+    let all : HasCleanDisk last →
+    Holds last.now (new_tables opening) = λ clean. new_holds last.now opening
+    (c.in_ok-write_tables.ensures.begins clean (rw begun refl) (rw begun c.requires.empty)) in
+    let P = HoldsAfter (new_tables opening) in
+    let whole = survives_then (state g.S.Store old) last (state g.S.Store end) _ _ P
+    (λ _ db none. absurd none)
+    (λ clean db is. left_holds last.now db (new_tables opening)
+    (all (was_clean _ _ c.commit.ensures.survives.clean clean)) is)
+    (survives_begin g.S.Store old last _ (rw begun at c.write_tables.ensures.survives))
+    c.commit.ensures.survives in
+    subst (λ x. Survives (state g.S.Store old) (state g.S.Store x) P) same whole

@@ -1,0 +1,49 @@
+-- What a check of a book says of its database.
+use Rattle.std.specs.Prelude.{◌≡◌, ◌≢◌, ◌⊎◌, ℕ, List, [], ◌∷◌, map, length, codes}
+use Rattle.std.specs.Prelude.{Option, Some, None, Result, Ok, Err}
+use Rattle.sqlite_value.specs.declared.value.Value.{Value}
+use Rattle.sqlite_value.specs.Order.{column}
+use Rattle.sqlite_sql.specs.Query.{Query}
+use Rattle.sqlite_trees.specs.Tree.{Trees}
+use Rattle.sqlite.specs.Effect.{Database}
+use Rattle.row_lemmas.specs.Values.{number}
+use Rattle.row_lemmas.specs.Queries as query
+use Rattle.acq_sql_rows.specs.Schema.{book_schema}
+use Rattle.acq_sql_rows.specs.Rows.{version}
+use Rattle.acq_sql.specs.declared.opening.opening_fault.OpeningFault.{OpeningFault}
+use Rattle.acq_sql.specs.declared.opening.opening_fault.OpeningFault.TheVariants.{Memory, Store}
+use Rattle.acq_sql.specs.declared.opening.opening_fault.OpeningFault.TheVariants.{NotABook}
+use Rattle.acq_sql.specs.declared.opening.opening_fault.OpeningFault.TheVariants.{OtherVersion}
+
+-- ---- the version
+
+abbrev pub version_text : List ℕ
+version_text = codes "SELECT version FROM book"
+
+abbrev pub version_query : Query
+version_query = query.plain_query 0 [] (query.column 1 ∷ []) []
+
+-- the versions of the book's rows
+abbrev pub versions_in : Trees → List Value
+versions_in trees = map (λ row. column row 1) (trees 0)
+
+-- the book has one row, with this version; or it has none, or several
+abbrev pub HasVersion : Trees → Option ℕ → Type 0
+HasVersion trees None = length (versions_in trees) ≢ 1
+HasVersion trees (Some n) = versions_in trees ≡ number n ∷ []
+
+-- ---- the answer
+
+-- what each answer says
+abbrev pub Judges : {T : Type 0} → Database → Result T OpeningFault → Type 0
+Judges db (Ok x) = (db.schema ≡ book_schema) × HasVersion db.trees (Some version)
+Judges db (Err NotABook) =
+    (db.schema ≢ book_schema) ⊎ ((db.schema ≡ book_schema) × HasVersion db.trees None)
+Judges db (Err (OtherVersion n)) =
+    (db.schema ≡ book_schema) × HasVersion db.trees (Some n) × (n ≢ version)
+Judges db (Err Memory) = Unit {0}
+Judges db (Err Store) = Unit {0}
+
+-- a failure of the memory or the store
+abbrev pub IsFailure : OpeningFault → Type 0
+IsFailure fault = (fault ≡ Memory) ⊎ (fault ≡ Store)

@@ -1,0 +1,39 @@
+-- The faults' numbers and texts.
+use Rattle.std.specs.Prelude.{ℕ, List, ◌++◌, [], codes}
+use Rattle.std.specs.Fmt.{decimal}
+use Rattle.sqlite.specs.declared.error.Error.{Error}
+use Rattle.sqlite.specs.declared.error.Error.TheVariants.{SqliteFailure}
+use Rattle.sqlite.specs.declared.error.ErrorCode.TheVariants as code
+use Rattle.acq_sql.specs.declared.opening.opening_fault.OpeningFault.{OpeningFault}
+use Rattle.acq_sql.specs.declared.opening.opening_fault.OpeningFault.TheVariants.{Memory, Store}
+use Rattle.acq_sql.specs.declared.opening.opening_fault.OpeningFault.TheVariants.{NotABook}
+use Rattle.acq_sql.specs.declared.opening.opening_fault.OpeningFault.TheVariants.{OtherVersion}
+
+abbrev pub number_of : OpeningFault → ℕ
+number_of Memory = 1
+number_of Store = 2
+number_of NotABook = 40
+number_of (OtherVersion n) = 41
+
+-- a fault's name
+abbrev pub name_of : OpeningFault → List ℕ
+name_of Memory = codes "Memory"
+name_of Store = codes "Store"
+name_of NotABook = codes "NotABook"
+name_of (OtherVersion n) = codes "OtherVersion"
+
+-- its value, behind a space
+abbrev pub values_of : OpeningFault → List ℕ
+values_of Memory = []
+values_of Store = []
+values_of NotABook = []
+values_of (OtherVersion n) = codes " " ++ decimal n
+
+-- the fault as printed lines have it
+abbrev pub text_of : OpeningFault → List ℕ
+text_of fault = decimal (number_of fault) ++ codes " " ++ name_of fault ++ values_of fault
+
+-- what an error of the database is
+abbrev pub fault_of : Error → OpeningFault
+fault_of (SqliteFailure code.OutOfMemory) = Memory
+fault_of e = Store

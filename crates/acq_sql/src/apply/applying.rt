@@ -1,0 +1,54 @@
+//! Any change.
+
+ghost use Rattle.std.specs.Prelude.{◌≡◌, false};
+ghost use Rattle.sqlite.specs.Held.{state};
+ghost use Rattle.acq_sql_changes.specs.Changed.{LeavesTables};
+ghost use Rattle.acq_sql.specs.Applied.{Applies, StopsWhole};
+
+use crate::apply::answers::answer;
+use crate::apply::follows::follow;
+use crate::apply::requests::{add_reconciliation, add_request};
+use acq_core::Change;
+use acq_sql_changes::{add_range, cut_over, drop_range, enrol, enrol_terminal};
+use sqlite::{Alter, Connection, Error};
+use std::alloc::Global;
+
+/// Makes all of a change, or none of it. The end of a hold past 2^63 - 1 is refused as out of
+/// range, before anything is written, and so is a reconciliation after the one with that number.
+pub fn apply<S: Alter>(
+    conn: &mut Connection<S>,
+    alloc: Global,
+    change: &Change,
+) -> Result<(), Error>
+    requires settled { conn.old.in_transaction ≡ false }
+    ensures settled { conn.new.in_transaction ≡ false }
+    ensures done { Applies (state S.Store conn.old) (state S.Store conn.new) result change.now }
+    ensures undone { LeavesTables (state S.Store conn.old) (state S.Store conn.new) result }
+    ensures crash { StopsWhole (state S.Store conn.old) (state S.Store conn.new) change.now }
+{
+    match change {
+        Change::AddMerchant(merchant) => enrol(conn, merchant),
+        Change::AddTerminal(terminal) => enrol_terminal(conn, terminal),
+        Change::AddRange(range) => add_range(conn, range),
+        Change::DropRange { low, high } => drop_range(conn, *low, *high),
+        Change::SetDay(day) => cut_over(conn, *day),
+        Change::AddRequest(request) => add_request(conn, alloc, request),
+        Change::Answered {
+            key,
+            status,
+            reply,
+            hold_end,
+            posting,
+        } => answer(conn, alloc, *key, *status, reply, *hold_end, posting),
+        Change::Follow {
+            request,
+            original,
+            status,
+            posting,
+        } => follow(conn, alloc, request, *original, *status, posting),
+        Change::Reconciled {
+            request,
+            reconciliation,
+        } => add_reconciliation(conn, alloc, request, reconciliation),
+    }
+}

@@ -1,0 +1,42 @@
+//! Completions and reversals.
+
+ghost use Rattle.std.specs.Prelude.{◌≡◌, false};
+ghost use Rattle.sqlite.specs.Held.{state};
+ghost use Rattle.acq_core.specs.declared.change.Change.TheVariants as change;
+ghost use Rattle.acq_sql_changes.specs.Changed.{LeavesTables};
+ghost use Rattle.acq_sql.specs.Applied.{Applies, StopsWhole};
+
+use crate::apply::numbers::number_of_posting;
+use crate::apply::request_columns::{check_hold_end, spelled};
+use acq_core::{Posting, Request, RequestKey, Status};
+use acq_sql_changes::follow_and_post;
+use sqlite::{Alter, Connection, Error};
+use std::alloc::Global;
+
+/// Records a request that follows the one with a key, and posts, if there is a posting.
+pub fn follow<'x, S: Alter>(
+    conn: &mut Connection<S>,
+    alloc: Global,
+    request: &'x Request,
+    original: RequestKey,
+    status: Status,
+    posting: &'x Option<Posting>,
+) -> Result<(), Error>
+    requires settled { conn.old.in_transaction ≡ false }
+    ensures settled { conn.new.in_transaction ≡ false }
+    ensures done { Applies (state S.Store conn.old) (state S.Store conn.new) result
+        (change.Follow request.now original status posting.now) }
+    ensures undone { LeavesTables (state S.Store conn.old) (state S.Store conn.new) result }
+    ensures crash { StopsWhole (state S.Store conn.old) (state S.Store conn.new)
+        (change.Follow request.now original status posting.now) }
+{
+    check_hold_end(request.hold_end)?;
+    let reply = spelled(alloc, &request.reply)?;
+    match posting {
+        Some(posting) => {
+            let number = number_of_posting(conn, posting)?;
+            follow_and_post(conn, request, &reply, original, status, number, posting)
+        }
+        None => acq_sql_changes::follow(conn, request, &reply, original, status),
+    }
+}

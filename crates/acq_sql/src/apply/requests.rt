@@ -1,0 +1,54 @@
+//! Requests with nothing posted.
+
+ghost use Rattle.std.specs.Prelude.{◌≡◌, false};
+ghost use Rattle.sqlite.specs.Held.{state};
+ghost use Rattle.acq_core.specs.declared.change.Change.TheVariants as change;
+ghost use Rattle.acq_sql_changes.specs.Changed.{LeavesTables};
+ghost use Rattle.acq_sql.specs.Applied.{Applies, StopsWhole};
+
+use crate::apply::numbers::number_of_reconciliation;
+use crate::apply::request_columns::{check_hold_end, spelled};
+use acq_core::{Reconciliation, Request};
+use acq_sql_changes::{reconcile, record_request};
+use sqlite::{Alter, Connection, Error};
+use std::alloc::Global;
+
+/// Records a request.
+pub fn add_request<'x, S: Alter>(
+    conn: &mut Connection<S>,
+    alloc: Global,
+    request: &'x Request,
+) -> Result<(), Error>
+    requires settled { conn.old.in_transaction ≡ false }
+    ensures settled { conn.new.in_transaction ≡ false }
+    ensures done { Applies (state S.Store conn.old) (state S.Store conn.new) result
+        (change.AddRequest request.now) }
+    ensures undone { LeavesTables (state S.Store conn.old) (state S.Store conn.new) result }
+    ensures crash { StopsWhole (state S.Store conn.old) (state S.Store conn.new)
+        (change.AddRequest request.now) }
+{
+    check_hold_end(request.hold_end)?;
+    let reply = spelled(alloc, &request.reply)?;
+    record_request(conn, request, &reply)
+}
+
+/// Records a request that reconciles a day.
+pub fn add_reconciliation<'x, S: Alter>(
+    conn: &mut Connection<S>,
+    alloc: Global,
+    request: &'x Request,
+    reconciliation: &'x Reconciliation,
+) -> Result<(), Error>
+    requires settled { conn.old.in_transaction ≡ false }
+    ensures settled { conn.new.in_transaction ≡ false }
+    ensures done { Applies (state S.Store conn.old) (state S.Store conn.new) result
+        (change.Reconciled request.now reconciliation.now) }
+    ensures undone { LeavesTables (state S.Store conn.old) (state S.Store conn.new) result }
+    ensures crash { StopsWhole (state S.Store conn.old) (state S.Store conn.new)
+        (change.Reconciled request.now reconciliation.now) }
+{
+    check_hold_end(request.hold_end)?;
+    let reply = spelled(alloc, &request.reply)?;
+    let number = number_of_reconciliation(conn, reconciliation)?;
+    reconcile(conn, request, &reply, number, reconciliation)
+}

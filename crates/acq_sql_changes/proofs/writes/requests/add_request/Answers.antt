@@ -1,0 +1,37 @@
+use Rattle.sqlite.specs.Held.{state}
+use Rattle.acq_sql_changes.proofs.writes.Bound.{bound_number, bound_text}
+use Rattle.acq_sql_changes.proofs.writes.Inside.{request_inside}
+use Rattle.acq_sql_changes.proofs.writes.requests.add_request.Goals as goal
+
+pub returns-clause-changes : goal.returns-clause-changes
+returns-clause-changes g c clean inside t runs has =
+    let r = c.args.request.now in
+    request_inside (state g.S.Store c.args.tx.now.conn.now)
+    (state g.S.Store c.execute.new.self.conn.now) c.execute.result
+    t runs has r c.requires.whole
+    (rw (
+      c.to_bytes-merchant.ensures.value,
+      c.to_bytes-terminal.ensures.value,
+      c.digits-kind.ensures,
+      c.to_bytes-trace.ensures.value,
+      c.to_bytes-stamp.ensures.value,
+      c.as_bytes.ensures,
+      c.day_value.ensures,
+      c.status_value.ensures,
+      c.bit_value.ensures,
+      c.reference_if.ensures,
+      c.reference_if-2.ensures,
+      c.amount_value.ensures,
+      c.leg_value.ensures,
+      c.text_if.ensures,
+      c.text_if-2.ensures,
+      c.hold_days_value.ensures,
+      c.hold_end_value.ensures,
+      c.requires.spelled,
+      bound_number r.reference,
+      bound_number r.follows,
+      bound_text r.card,
+      bound_text r.acquirer,
+      bound_number r.hold_days,
+      bound_number r.hold_end,
+    ) at (c.execute.ensures.runs clean inside))

@@ -1,0 +1,88 @@
+//! What becomes of a recorded request.
+
+ghost use Rattle.std.specs.Prelude.{◌≡◌};
+ghost use Rattle.sqlite.specs.Held.{state};
+ghost use Rattle.acq_sql_changes.specs.Written.{Changes, StaysInside, KeepsCommitted, CommitsNothing};
+ghost use Rattle.acq_sql_changes.specs.Written.{with_answer, with_status, IsShortEnd};
+ghost use Rattle.iso_codec.specs.Message.{IsMessage};
+ghost use Rattle.iso_codec.specs.Reading.{spelling};
+
+use acq_core::{RequestKey, Status};
+use acq_sql_rows::{hold_end_value, status_value};
+use iso_codec::Message;
+use sqlite::types::ValueRef;
+use sqlite::{Alter, Error, Transaction};
+
+/// Gives the request with a key a status, a reply, which is spelled so, and the end of its hold.
+pub fn answer_request<'x, S: Alter>(
+    tx: &mut Transaction<'_, S>,
+    key: RequestKey,
+    status: Status,
+    hold_end: Option<u64>,
+    reply: &'x Message,
+    spelled: &'x [u8],
+) -> Result<usize, Error>
+    requires whole { IsMessage reply.now }
+    requires spelled { spelled.now ≡ spelling reply.now }
+    requires hold_end { IsShortEnd hold_end }
+    ensures same_reference { tx.new.conn.ghost_name ≡ tx.old.conn.ghost_name }
+    ensures changes { Changes (state S.Store tx.old.conn.now) (state S.Store tx.new.conn.now) result
+        (with_answer key status reply.now hold_end) }
+    ensures inside { StaysInside (state S.Store tx.old.conn.now) (state S.Store tx.new.conn.now)
+        result }
+    ensures kept { KeepsCommitted (state S.Store tx.old.conn.now) (state S.Store tx.new.conn.now) }
+    ensures survives { CommitsNothing (state S.Store tx.old.conn.now)
+        (state S.Store tx.new.conn.now) }
+{
+    let merchant = key.merchant.to_bytes();
+    let terminal = key.terminal.to_bytes();
+    let kind = key.service.digits();
+    let trace = key.trace.to_bytes();
+    let stamp = key.transmission.to_bytes();
+    tx.execute(
+        "UPDATE requests SET status = ?6, until = ?7, reply = ?8 WHERE merchant = ?1 AND terminal = ?2 AND kind = ?3 AND trace = ?4 AND stamp = ?5",
+        &[
+            ValueRef::Text(&merchant),
+            ValueRef::Text(&terminal),
+            ValueRef::Text(&kind),
+            ValueRef::Text(&trace),
+            ValueRef::Text(&stamp),
+            status_value(status),
+            hold_end_value(hold_end),
+            ValueRef::Text(spelled),
+        ],
+    )
+}
+
+/// Gives the request with a key a status.
+pub fn follow_request<S: Alter>(
+    tx: &mut Transaction<'_, S>,
+    key: RequestKey,
+    status: Status,
+) -> Result<usize, Error>
+    ensures same_reference { tx.new.conn.ghost_name ≡ tx.old.conn.ghost_name }
+    ensures changes { Changes (state S.Store tx.old.conn.now) (state S.Store tx.new.conn.now) result
+        (with_status key status) }
+    ensures inside { StaysInside (state S.Store tx.old.conn.now) (state S.Store tx.new.conn.now)
+        result }
+    ensures kept { KeepsCommitted (state S.Store tx.old.conn.now) (state S.Store tx.new.conn.now) }
+    ensures survives { CommitsNothing (state S.Store tx.old.conn.now)
+        (state S.Store tx.new.conn.now) }
+{
+    let merchant = key.merchant.to_bytes();
+    let terminal = key.terminal.to_bytes();
+    let kind = key.service.digits();
+    let trace = key.trace.to_bytes();
+    let stamp = key.transmission.to_bytes();
+    tx.execute(
+        "UPDATE requests SET status = ?6 WHERE merchant = ?1 AND terminal = ?2 AND kind = ?3 AND trace = ?4 AND stamp = ?5",
+        &[
+            ValueRef::Text(&merchant),
+            ValueRef::Text(&terminal),
+            ValueRef::Text(&kind),
+            ValueRef::Text(&trace),
+            ValueRef::Text(&stamp),
+            status_value(status),
+        ],
+    )
+}

@@ -1,0 +1,40 @@
+//! The book's row.
+
+ghost use Rattle.std.specs.Prelude.{◌≡◌};
+ghost use Rattle.sqlite.specs.Held.{state};
+ghost use Rattle.acq_sql_changes.specs.Written.{BeginsBook, StaysInside, KeepsCommitted};
+ghost use Rattle.acq_sql_changes.specs.Written.{CommitsNothing};
+
+use acq_core::Limit;
+use acq_sql_rows::{day_value, short_value};
+use day_totals::Day;
+use sqlite::{Alter, Error, Transaction};
+
+/// The version of the tables.
+pub const VERSION: u32 = 1;
+
+/// Writes the row of a new book: how many messages of a merchant a day admits, and the first
+/// business day.
+pub fn add_book<S: Alter>(
+    tx: &mut Transaction<'_, S>,
+    limit: Limit,
+    first_day: Day,
+) -> Result<usize, Error>
+    ensures same_reference { tx.new.conn.ghost_name ≡ tx.old.conn.ghost_name }
+    ensures begins { BeginsBook (state S.Store tx.old.conn.now) (state S.Store tx.new.conn.now)
+        result (record { limit = limit; first_day = first_day }) }
+    ensures inside { StaysInside (state S.Store tx.old.conn.now) (state S.Store tx.new.conn.now)
+        result }
+    ensures kept { KeepsCommitted (state S.Store tx.old.conn.now) (state S.Store tx.new.conn.now) }
+    ensures survives { CommitsNothing (state S.Store tx.old.conn.now)
+        (state S.Store tx.new.conn.now) }
+{
+    tx.execute(
+        "INSERT INTO book VALUES (?1, ?2, ?3)",
+        &[
+            short_value(VERSION),
+            short_value(limit.number()),
+            day_value(first_day),
+        ],
+    )
+}

@@ -1,0 +1,54 @@
+//! The business day, and reconciliations.
+
+ghost use Rattle.std.specs.Prelude.{◌≡◌, ◌<◌, ◌^◌};
+ghost use Rattle.sqlite.specs.Held.{state};
+ghost use Rattle.acq_sql_changes.specs.Written.{Changes, StaysInside, KeepsCommitted, CommitsNothing};
+ghost use Rattle.acq_sql_changes.specs.Written.{on_day, with_reconciliation};
+
+use acq_core::Reconciliation;
+use acq_sql_rows::{bit_value, day_value, number_value};
+use day_totals::Day;
+use sqlite::types::ValueRef;
+use sqlite::{Alter, Error, Transaction};
+
+/// Begins a business day.
+pub fn set_day<S: Alter>(tx: &mut Transaction<'_, S>, day: Day) -> Result<usize, Error>
+    ensures same_reference { tx.new.conn.ghost_name ≡ tx.old.conn.ghost_name }
+    ensures changes { Changes (state S.Store tx.old.conn.now) (state S.Store tx.new.conn.now) result
+        (on_day day) }
+    ensures inside { StaysInside (state S.Store tx.old.conn.now) (state S.Store tx.new.conn.now)
+        result }
+    ensures kept { KeepsCommitted (state S.Store tx.old.conn.now) (state S.Store tx.new.conn.now) }
+    ensures survives { CommitsNothing (state S.Store tx.old.conn.now)
+        (state S.Store tx.new.conn.now) }
+{
+    tx.execute("UPDATE book SET day = ?1", &[day_value(day)])
+}
+
+/// Adds a reconciliation, with its number of the merchant and day.
+pub fn add_reconciliation<S: Alter>(
+    tx: &mut Transaction<'_, S>,
+    number: u64,
+    reconciliation: &Reconciliation,
+) -> Result<usize, Error>
+    requires { number < 2 ^ 63 }
+    ensures same_reference { tx.new.conn.ghost_name ≡ tx.old.conn.ghost_name }
+    ensures changes { Changes (state S.Store tx.old.conn.now) (state S.Store tx.new.conn.now) result
+        (with_reconciliation number reconciliation.now) }
+    ensures inside { StaysInside (state S.Store tx.old.conn.now) (state S.Store tx.new.conn.now)
+        result }
+    ensures kept { KeepsCommitted (state S.Store tx.old.conn.now) (state S.Store tx.new.conn.now) }
+    ensures survives { CommitsNothing (state S.Store tx.old.conn.now)
+        (state S.Store tx.new.conn.now) }
+{
+    let merchant = reconciliation.merchant.to_bytes();
+    tx.execute(
+        "INSERT INTO reconciliations VALUES (?1, ?2, ?3, ?4)",
+        &[
+            ValueRef::Text(&merchant),
+            day_value(reconciliation.day),
+            number_value(number),
+            bit_value(reconciliation.in_balance),
+        ],
+    )
+}

@@ -1,0 +1,59 @@
+//! Merchants and terminals.
+
+ghost use Rattle.std.specs.Prelude.{◌≡◌};
+ghost use Rattle.sqlite.specs.Held.{state};
+ghost use Rattle.acq_sql_changes.specs.Written.{Changes, StaysInside, KeepsCommitted, CommitsNothing};
+ghost use Rattle.acq_sql_changes.specs.Written.{with_merchant, with_terminal};
+
+use acq_core::{Merchant, Terminal};
+use acq_sql_rows::first_reference_value;
+use sqlite::types::ValueRef;
+use sqlite::{Alter, Error, Transaction};
+
+/// Adds a merchant.
+pub fn add_merchant<S: Alter>(
+    tx: &mut Transaction<'_, S>,
+    merchant: &Merchant,
+) -> Result<usize, Error>
+    ensures same_reference { tx.new.conn.ghost_name ≡ tx.old.conn.ghost_name }
+    ensures changes { Changes (state S.Store tx.old.conn.now) (state S.Store tx.new.conn.now) result
+        (with_merchant merchant.now) }
+    ensures inside { StaysInside (state S.Store tx.old.conn.now) (state S.Store tx.new.conn.now)
+        result }
+    ensures kept { KeepsCommitted (state S.Store tx.old.conn.now) (state S.Store tx.new.conn.now) }
+    ensures survives { CommitsNothing (state S.Store tx.old.conn.now)
+        (state S.Store tx.new.conn.now) }
+{
+    let id = merchant.id.to_bytes();
+    let currency = merchant.currency.to_bytes();
+    tx.execute(
+        "INSERT INTO merchants VALUES (?1, ?2, ?3)",
+        &[
+            ValueRef::Text(&id),
+            ValueRef::Text(&currency),
+            first_reference_value(merchant.first_reference),
+        ],
+    )
+}
+
+/// Adds a terminal.
+pub fn add_terminal<S: Alter>(
+    tx: &mut Transaction<'_, S>,
+    terminal: &Terminal,
+) -> Result<usize, Error>
+    ensures same_reference { tx.new.conn.ghost_name ≡ tx.old.conn.ghost_name }
+    ensures changes { Changes (state S.Store tx.old.conn.now) (state S.Store tx.new.conn.now) result
+        (with_terminal terminal.now) }
+    ensures inside { StaysInside (state S.Store tx.old.conn.now) (state S.Store tx.new.conn.now)
+        result }
+    ensures kept { KeepsCommitted (state S.Store tx.old.conn.now) (state S.Store tx.new.conn.now) }
+    ensures survives { CommitsNothing (state S.Store tx.old.conn.now)
+        (state S.Store tx.new.conn.now) }
+{
+    let merchant = terminal.merchant.to_bytes();
+    let id = terminal.id.to_bytes();
+    tx.execute(
+        "INSERT INTO terminals VALUES (?1, ?2)",
+        &[ValueRef::Text(&merchant), ValueRef::Text(&id)],
+    )
+}

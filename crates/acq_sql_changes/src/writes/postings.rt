@@ -1,0 +1,46 @@
+//! Postings.
+
+ghost use Rattle.std.specs.Prelude.{◌≡◌, ◌<◌, ◌^◌};
+ghost use Rattle.sqlite.specs.Held.{state};
+ghost use Rattle.acq_sql_changes.specs.Written.{Changes, StaysInside, KeepsCommitted, CommitsNothing};
+ghost use Rattle.acq_sql_changes.specs.Written.{with_posting};
+
+use acq_core::Posting;
+use acq_sql_rows::{amount_value, day_value, leg_value, number_value, reference_value};
+use sqlite::types::ValueRef;
+use sqlite::{Alter, Error, Transaction};
+
+/// Adds a posting, with its number of the merchant and day.
+pub fn add_posting<S: Alter>(
+    tx: &mut Transaction<'_, S>,
+    number: u64,
+    posting: &Posting,
+) -> Result<usize, Error>
+    requires { number < 2 ^ 63 }
+    ensures same_reference { tx.new.conn.ghost_name ≡ tx.old.conn.ghost_name }
+    ensures changes { Changes (state S.Store tx.old.conn.now) (state S.Store tx.new.conn.now) result
+        (with_posting number posting.now) }
+    ensures inside { StaysInside (state S.Store tx.old.conn.now) (state S.Store tx.new.conn.now)
+        result }
+    ensures kept { KeepsCommitted (state S.Store tx.old.conn.now) (state S.Store tx.new.conn.now) }
+    ensures survives { CommitsNothing (state S.Store tx.old.conn.now)
+        (state S.Store tx.new.conn.now) }
+{
+    let merchant = posting.merchant.to_bytes();
+    let terminal = posting.terminal.to_bytes();
+    let trace = posting.trace.to_bytes();
+    tx.execute(
+        "INSERT INTO postings VALUES (?1, ?2, ?3, ?4, ?5, ?6, ?7, ?8, ?9)",
+        &[
+            ValueRef::Text(&merchant),
+            day_value(posting.day),
+            number_value(number),
+            leg_value(posting.leg),
+            amount_value(posting.amount),
+            reference_value(posting.reference),
+            ValueRef::Text(posting.card.as_bytes()),
+            ValueRef::Text(&terminal),
+            ValueRef::Text(&trace),
+        ],
+    )
+}

@@ -1,0 +1,67 @@
+//! Running totals.
+
+ghost use Rattle.std.specs.Prelude.{◌≡◌, ◌<◌, ◌^◌};
+ghost use Rattle.sqlite_value.specs.Value.{owned};
+ghost use Rattle.sqlite.specs.Held.{state};
+ghost use Rattle.row_lemmas.specs.Values.{number};
+ghost use Rattle.day_totals.specs.Totals.{total_for};
+ghost use Rattle.acq_sql_changes.specs.Written.{Raises, StaysInside, KeepsCommitted, CommitsNothing};
+ghost use Rattle.acq_sql_changes.specs.Written.{tally_from};
+
+use acq_core::MerchantId;
+use acq_sql_rows::{day_value, number_value};
+use day_totals::{Day, Leg, Totals};
+use sqlite::types::ValueRef;
+use sqlite::{Alter, Error, Transaction};
+
+/// Adds what came to the running totals of a merchant and day: how many messages that count against
+/// its limit, and postings.
+pub fn raise<S: Alter>(
+    tx: &mut Transaction<'_, S>,
+    merchant: MerchantId,
+    day: Day,
+    used: u64,
+    posted: &Totals,
+) -> Result<usize, Error>
+    requires { used < 2 ^ 63 }
+    ensures same_reference { tx.new.conn.ghost_name ≡ tx.old.conn.ghost_name }
+    ensures raises { Raises (state S.Store tx.old.conn.now) (state S.Store tx.new.conn.now) result
+        merchant day (tally_from used posted.now) }
+    ensures inside { StaysInside (state S.Store tx.old.conn.now) (state S.Store tx.new.conn.now)
+        result }
+    ensures kept { KeepsCommitted (state S.Store tx.old.conn.now) (state S.Store tx.new.conn.now) }
+    ensures survives { CommitsNothing (state S.Store tx.old.conn.now)
+        (state S.Store tx.new.conn.now) }
+{
+    let merchant = merchant.to_bytes();
+    tx.execute(
+        "INSERT INTO running VALUES (?1, ?2, ?3, ?4, ?5, ?6, ?7, ?8, ?9, ?10, ?11) ON CONFLICT (merchant, day) DO UPDATE SET used = used + ?3, credits = credits + ?4, credit_reversals = credit_reversals + ?5, debits = debits + ?6, debit_reversals = debit_reversals + ?7, credit_amount = credit_amount + ?8, credit_reversal_amount = credit_reversal_amount + ?9, debit_amount = debit_amount + ?10, debit_reversal_amount = debit_reversal_amount + ?11",
+        &[
+            ValueRef::Text(&merchant),
+            day_value(day),
+            number_value(used),
+            count_value(posted, Leg::Credit),
+            count_value(posted, Leg::CreditReversal),
+            count_value(posted, Leg::Debit),
+            count_value(posted, Leg::DebitReversal),
+            sum_value(posted, Leg::Credit),
+            sum_value(posted, Leg::CreditReversal),
+            sum_value(posted, Leg::Debit),
+            sum_value(posted, Leg::DebitReversal),
+        ],
+    )
+}
+
+/// How many postings of a leg there are.
+fn count_value(totals: &Totals, leg: Leg) -> ValueRef<'static>
+    ensures { owned result ≡ number (total_for totals.now leg).count }
+{
+    number_value(totals.count(leg))
+}
+
+/// What the postings of a leg come to.
+fn sum_value(totals: &Totals, leg: Leg) -> ValueRef<'static>
+    ensures { owned result ≡ number (total_for totals.now leg).amount }
+{
+    number_value(totals.amount(leg))
+}

@@ -1,9 +1,0 @@
-use Rattle.sqlite.specs.Held.{state}
-use Rattle.acq_sql_opening.proofs.TablesMade.{table_added}
-use Rattle.acq_sql_opening.proofs.tables.create.Goals as goal
-
-pub returns-clause-adds : goal.returns-clause-adds
-returns-clause-adds g c clean inside schema table makes blank =
-    table_added c.args.sql.now (state g.S.Store c.args.tx.now.conn.now)
-    (state g.S.Store c.execute.new.self.conn.now)
-    c.execute.result schema table makes blank (c.execute.ensures.runs clean inside)

@@ -1,4 +1,0 @@
-pub mod Faults
-pub mod Opened
-pub mod Plain
-pub mod Checked

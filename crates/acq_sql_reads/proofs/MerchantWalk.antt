@@ -1,0 +1,95 @@
+-- What the walk over merchants answers.
+use Rattle.std.proofs.Common.{◌≡◌, true, Ordering, Equal, List, [], ◌∷◌, map, filter, length, refl}
+use Rattle.std.proofs.Common.{sym}
+use Rattle.std.proofs.Common.{ap, subst, ◌∙◌}
+use Rattle.std.specs.List.Sorted.{IsPermutation}
+use Rattle.std.specs.Str.{bytes_eq}
+use Rattle.std.specs.Ordering.{is_lt, is_eq, nat_cmp}
+use Rattle.std.specs.Cmp.Lexicographic.{slice_cmp}
+use Rattle.std.proofs.lemmas.Map.Text.{is_eq-slice_cmp}
+use Rattle.sqlite_value.specs.declared.value.Value.TheVariants.{Text}
+use Rattle.sqlite_value.specs.Order.{Row, value_cmp}
+use Rattle.sqlite_value.proofs.OrderLemmas.{then-Equal, value_cmp-Text}
+use Rattle.sqlite_sql.specs.Query.{Output, output_cmp}
+use Rattle.sqlite.specs.State.{State, Shown}
+use Rattle.row_lemmas.proofs.ListReads.{shows_ordered}
+use Rattle.acq_core.specs.declared.merchant.Merchant.{Merchant}
+use Rattle.acq_core.specs.Tables.{Tables}
+use Rattle.acq_book.specs.Lookups.{merchants_at}
+use Rattle.row_lemmas.proofs.UniqueKeys.{fits_of}
+use Rattle.acq_sql_rows.specs.Schema.{book_schema}
+use Rattle.acq_sql_rows.specs.Rows.{merchant_row}
+use Rattle.acq_sql_rows.specs.Tallies.{Running}
+use Rattle.acq_sql_rows.specs.Relation.{Holds, HoldsRows}
+use Rattle.acq_sql_changes.proofs.writes.RunningTotals.{bytes_same}
+use Rattle.acq_sql_reads.proofs.KeyReads.{bytes_own, one_merchant}
+use Rattle.acq_sql_reads.specs.WalkTexts as text
+use Rattle.acq_sql_reads.specs.WalkQueries as query
+use Rattle.acq_sql_reads.proofs.WalkTextLemmas as asks
+use Rattle.acq_sql_reads.proofs.Visiting.{AreOwn}
+use Rattle.acq_sql_reads.proofs.Walking.{ShowsList}
+use Rattle.acq_sql_reads.proofs.Ordering.{sorted_total, ordered_is}
+
+abbrev out : Merchant → Output
+out x = (Text x.id ∷ [], merchant_row x)
+
+abbrev by_name : Merchant → Merchant → Ordering
+by_name a b = output_cmp query.merchants_query (out a) (out b)
+
+names_compare : (a b : Merchant) → by_name a b ≡ slice_cmp nat_cmp a.id b.id
+names_compare a b = then-Equal (value_cmp (Text a.id) (Text b.id)) ∙ value_cmp-Text a.id b.id
+
+tied : (a b : Merchant) → by_name a b ≡ Equal → bytes_eq b.id a.id ≡ true
+tied a b is =
+    let alike : bytes_eq a.id b.id ≡ true =
+    sym (is_eq-slice_cmp a.id b.id) ∙ ap is_eq (sym (names_compare a b) ∙ is) in
+    ap (λ id. bytes_eq b.id id) (bytes_same a.id b.id alike) ∙ bytes_own b.id
+
+merchants_found : (old : State) (t : Tables) (runs : List Running) → HoldsRows old.now t runs →
+    (rows : List Row)
+    → Shown text.merchants_text [] old old rows → rows ≡ map merchant_row (merchants_at t)
+merchants_found old t runs has rows shown =
+    let ask = asks.merchants_asks in
+    let it = query.merchants_query in
+    let all = shows_ordered merchant_row book_schema 1 t.merchants old old has.schema has.merchants
+    text.merchants_text
+    [] _ ask.plain ask.unlisted rows shown it.filter it.project (λ x. true)
+    (λ id x. refl) it.order it.limit out
+    (λ id x. refl) ask.is in
+    let every = filter_all t.merchants in
+    all.3
+    ∙ ap (map merchant_row) (ordered_is by_name (sorted_total query.merchants_query out)
+    (λ a b. is_lt (slice_cmp nat_cmp a.id b.id))
+    (λ a b. ap is_lt (names_compare a b)) (λ a b. bytes_eq b.id a.id) tied t.merchants all.0
+    (subst (λ l. IsPermutation l all.0) every all.1) all.2
+    (λ a. one_merchant a.id old.now.trees t.merchants (fits_of book_schema old.now.trees has.sound)
+    has.merchants))
+  where
+    filter_all : (xs : List Merchant) → filter (λ x. true) xs ≡ xs
+    filter_all [] = refl
+    filter_all (x ∷ xs) = ap (λ l. x ∷ l) (filter_all xs)
+
+same_merchant : (a b : Merchant) → merchant_row a ≡ merchant_row b → a ≡ b
+same_merchant a b h =
+    let e0 : a.id ≡ b.id = cc in
+    let e1 : a.currency ≡ b.currency = cc in
+    let e2 : a.first_reference ≡ b.first_reference = cc in
+    λ i. record { id = e0 i; currency = e1 i; first_reference = e2 i }
+
+merchants_own : (ys : List Merchant) →
+    AreOwn (λ row m. length row ≡ 3 → row ≡ merchant_row m) merchant_row ys
+merchants_own ys y x here read = same_merchant x y (sym (read refl))
+
+pub merchants_list : (old : State) (t : Tables) → Holds old.now t
+    → ShowsList text.merchants_text [] old (λ row m. length row ≡ 3 → row ≡ merchant_row m)
+    (merchants_at t)
+merchants_list old t holds =
+    record {
+      query = query.merchants_query;
+      names = _;
+      ask = asks.merchants_asks;
+      has = holds.rows.schema;
+      cells = merchant_row;
+      found = merchants_found old t holds.runs holds.rows;
+      own = merchants_own (merchants_at t);
+    }

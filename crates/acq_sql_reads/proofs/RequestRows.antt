@@ -1,0 +1,113 @@
+-- From the columns that were read to the request.
+use Rattle.std.proofs.Common.{◌≡◌, ◌==◌, ℕ, pos, Bool, List, [], ◌∷◌, length, slice_get}
+use Rattle.std.proofs.Common.{slice_index_or, Option, None, Some}
+use Rattle.std.proofs.Common.{Ok, refl, sym, ap, ◌∙◌, arith}
+use Rattle.sqlite_value.specs.declared.value.Value.TheVariants.{Int, Text}
+use Rattle.sqlite_value.specs.Order.{Row, column}
+use Rattle.row_lemmas.specs.Values.{number, number_or_null, text_or_null}
+use Rattle.iso_codec.specs.Message.{IsMessage}
+use Rattle.iso_codec.specs.Reading.{reading_of}
+use Rattle.day_totals.specs.Totals.{all_legs}
+use Rattle.day_totals.specs.declared.leg.Leg.{Leg}
+use Rattle.day_totals.specs.declared.leg.Leg.TheVariants.{Credit}
+use Rattle.acq_core.specs.declared.request.Request.{Request}
+use Rattle.acq_sql_rows.specs.Rows.{request_row, status_number, leg_number, bit_of}
+use Rattle.acq_sql_rows.specs.ReadBack.{request_at}
+use Rattle.acq_sql_reads.specs.Recorded.{request_cells, IsRowOf, HasKey, ShowsRequest}
+use Rattle.acq_sql_rows.proofs.TablesReadBack.{text_back, number_back, bit_back, leg_back}
+use Rattle.acq_sql_rows.proofs.TablesReadBack.{status_back, service_back}
+use Rattle.acq_sql_rows.proofs.TablesReadBack.{request_back}
+
+-- ---- a number stands for one value
+
+pub bit_same : (a b : Bool) → bit_of a ≡ bit_of b → a ≡ b
+bit_same a b h = sym (bit_back a) ∙ ap (λ n. n == 1) h ∙ bit_back b
+
+pub leg_same : (a b : Leg) → leg_number a ≡ leg_number b → a ≡ b
+leg_same a b h = sym (leg_back a) ∙ ap (λ n. slice_index_or all_legs n Credit) h ∙ leg_back b
+
+-- ---- a row is one request's
+
+cells_back : (a : Request) (reply : List ℕ) → reading_of reply ≡ Ok a.reply
+    → request_at (Int (pos 0) ∷ request_cells a reply) ≡ a
+cells_back a reply reads =
+    rw (
+      service_back a.key.service,
+      status_back a.status,
+      bit_back a.admitted,
+      number_back a.reference,
+      number_back a.follows,
+      leg_back a.leg,
+      text_back a.card,
+      text_back a.acquirer,
+      number_back a.hold_days,
+      number_back a.hold_end,
+      reads,
+    ) refl
+
+pub same_request : (a x : Request) (reply : List ℕ) → reading_of reply ≡ Ok a.reply →
+    IsMessage x.reply
+    → request_cells a reply ≡ request_row x → a ≡ x
+same_request a x reply reads whole h =
+    sym (cells_back a reply reads) ∙ ap (λ row. request_at (Int (pos 0) ∷ row)) h
+    ∙ request_back 0 x whole
+
+-- no row stands for none
+pub none_is : (o : Option Request) (rows : List Row) → ShowsRequest o rows →
+    None ≡ slice_get rows 0 → None ≡ o
+none_is None rows are is = refl
+none_is (Some x) rows are is = absurd (let e = is ∙ ap (λ l. slice_get l 0) are.0 in cc)
+
+-- the row that was found is the request's
+pub row_is : (o : Option Request) (rows : List Row) (row : Row) (r : Request) → ShowsRequest o rows
+    → Some row ≡ slice_get rows 0 → (length row ≡ 18 → IsRowOf row r) → Some r ≡ o
+row_is None rows row r are some read = absurd (let e = some ∙ ap (λ l. slice_get l 0) are in cc)
+row_is (Some x) rows row r are some read =
+    let first : row ≡ request_row x =
+    let e : Some row ≡ Some (request_row x) = some ∙ ap (λ l. slice_get l 0) are.0 in cc in
+    let it = read (ap length first) in
+    ap Some (same_request r x it.0 it.2 are.1 (sym it.1 ∙ first))
+
+-- ---- the columns of a row that was read
+
+eighteen_columns : (row : Row) → length row ≡ 18
+    → row ≡ column row 0 ∷ column row 1 ∷ column row 2 ∷ column row 3 ∷ column row 4 ∷ column row 5
+    ∷ column row 6
+    ∷ column row 7 ∷ column row 8 ∷ column row 9 ∷ column row 10 ∷ column row 11 ∷ column row 12
+    ∷ column row 13
+    ∷ column row 14 ∷ column row 15 ∷ column row 16 ∷ column row 17 ∷ []
+eighteen_columns (a ∷ b ∷ c ∷ d ∷ e ∷ f ∷ g ∷ h ∷ i ∷ j ∷ k ∷ l ∷ m ∷ n ∷ o ∷ p ∷ q ∷ r ∷ []) len =
+    refl
+eighteen_columns row len = absurd (omega arith)
+
+pub request_is : (row : Row) (r : Request) (reply : List ℕ) → length row ≡ 18 → HasKey row r.key
+    → column row 5 ≡ Text r.essence → column row 6 ≡ number r.day →
+    column row 7 ≡ number (status_number r.status)
+    → column row 8 ≡ number (bit_of r.admitted) → column row 9 ≡ number_or_null r.reference
+    → column row 10 ≡ number_or_null r.follows → column row 11 ≡ number r.amount
+    → column row 12 ≡ number (leg_number r.leg) → column row 13 ≡ text_or_null r.card
+    → column row 14 ≡ text_or_null r.acquirer → column row 15 ≡ number_or_null r.hold_days
+    → column row 16 ≡ number_or_null r.hold_end → column row 17 ≡ Text reply →
+    row ≡ request_cells r reply
+request_is row r reply len key e5 e6 e7 e8 e9 e10 e11 e12 e13 e14 e15 e16 e17 =
+    eighteen_columns row len
+    ∙ rw (
+      key.merchant,
+      key.terminal,
+      key.kind,
+      key.trace,
+      key.stamp,
+      e5,
+      e6,
+      e7,
+      e8,
+      e9,
+      e10,
+      e11,
+      e12,
+      e13,
+      e14,
+      e15,
+      e16,
+      e17,
+    ) refl

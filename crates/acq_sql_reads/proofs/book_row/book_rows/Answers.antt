@@ -1,0 +1,23 @@
+use Rattle.std.proofs.Common.{[]}
+use Rattle.std.proofs.lemmas.Result.{IfOk-weaker}
+use Rattle.sqlite.specs.Held.{state}
+use Rattle.acq_sql_reads.specs.Texts.{business_text}
+use Rattle.acq_sql_reads.proofs.TextLemmas.{business_asks}
+use Rattle.acq_sql_reads.proofs.Leaves.{looks}
+use Rattle.acq_sql_reads.proofs.KeyReads.{business_found}
+use Rattle.acq_sql_reads.proofs.book_row.book_rows.Goals as goal
+
+pub returns-clause-answers : goal.returns-clause-answers
+returns-clause-answers g c clean t holds =
+    IfOk-weaker c.query_all.result _ _
+    (λ rows shown. business_found (state g.S.Store c.args.conn.now)
+    (state g.S.Store c.query_all.new.self) t holds.runs
+    rows.items holds.rows shown)
+    (c.query_all.ensures.ok clean)
+
+pub returns-clause-looks : goal.returns-clause-looks
+returns-clause-looks g c =
+    looks business_text [] (state g.S.Store c.args.conn.now) (state g.S.Store c.query_all.new.self)
+    business_asks.begins
+    (λ rows. rows.items) c.query_all.result c.query_all.ensures.ok c.query_all.ensures.err
+    c.query_all.ensures.mode c.query_all.ensures.survives

@@ -1,0 +1,33 @@
+use Rattle.std.proofs.Common.{rules, sym, ◌∙◌}
+use Rattle.std.proofs.lemmas.Result.{IfOk-weaker}
+use Rattle.sqlite.specs.Held.{state}
+use Rattle.acq_sql_reads.proofs.Leaves.{holds_still, clean_before, looks_then}
+use Rattle.acq_sql_reads.proofs.GreatestReads.{number_read, none_admitted}
+use Rattle.acq_sql_reads.proofs.counts.admitted.Goals as goal
+
+pub returns-in_default-clause-answers : goal.returns-in_default-clause-answers
+returns-in_default-clause-answers g c clean t holds past =
+    let none = sym c.in_default.is ∙ c.in_ok-enrolled.ensures.answers clean t holds in
+    IfOk-weaker c.read.result _ _
+    (λ n is. is ∙ none_admitted c.args.merchant t past none)
+    (number_read c.read.result c.from_number.result _ 0 c.read.ensures c.from_number.ensures)
+
+pub returns-in_err-greatest-clause-looks : goal.returns-in_err-greatest-clause-looks
+returns-in_err-greatest-clause-looks g c =
+    let looks = looks_then (state g.S.Store c.args.conn.now) (state g.S.Store c.merchant.new.conn)
+    (state g.S.Store c.greatest_reference.new.conn) c.in_ok-enrolled.ensures.looks _
+    c.in_err-greatest.ensures.looks in
+    search rules
+
+pub returns-clause-answers : goal.returns-clause-answers
+returns-clause-answers g c clean t holds past =
+    let old = state g.S.Store c.args.conn.now in
+    let mid = state g.S.Store c.merchant.new.conn in
+    let new = state g.S.Store c.greatest_reference.new.conn in
+    let first = c.in_ok-enrolled.ensures.looks in
+    let before = clean_before old mid new first c.in_ok-greatest.ensures.looks.stop clean in
+    let enrolled = sym (sym c.in-Some.is ∙ c.in_ok-enrolled.ensures.answers before t holds) in
+    let many = c.in_ok-greatest.ensures.answers clean t
+    (holds_still old mid new first before t holds) past
+    c.in-Some.enrolled enrolled in
+    IfOk-weaker c.count_from.result _ _ (λ n is. is ∙ sym many) c.count_from.ensures

@@ -1,0 +1,28 @@
+use Rattle.std.proofs.Common.{[], ◌∷◌}
+use Rattle.std.proofs.lemmas.Result.{IfOk-weaker}
+use Rattle.sqlite_value.specs.declared.value.Value.TheVariants.{Text}
+use Rattle.sqlite_value.specs.Value.{owned}
+use Rattle.sqlite.specs.Values.{bound_value}
+use Rattle.sqlite.specs.Held.{state}
+use Rattle.acq_sql_reads.specs.Texts.{running_text}
+use Rattle.acq_sql_reads.proofs.TextLemmas.{running_asks}
+use Rattle.acq_sql_reads.proofs.Leaves.{looks}
+use Rattle.acq_sql_reads.proofs.KeyReads.{running_found}
+use Rattle.acq_sql_reads.proofs.running.running_rows.Goals as goal
+
+pub returns-clause-answers : goal.returns-clause-answers
+returns-clause-answers g c clean t holds =
+    IfOk-weaker c.query_all.result _ _
+    (λ rows shown. running_found c.args.merchant c.args.day
+    (state g.S.Store c.args.conn.now) (state g.S.Store c.query_all.new.self)
+    t rows.items holds (rw (c.to_bytes-merchant.ensures.value, c.day_value.ensures) at shown))
+    (c.query_all.ensures.ok clean)
+
+pub returns-clause-looks : goal.returns-clause-looks
+returns-clause-looks g c =
+    looks running_text
+    (Text c.to_bytes-merchant.result ∷ bound_value (owned c.day_value.result) ∷ [])
+    (state g.S.Store c.args.conn.now) (state g.S.Store c.query_all.new.self)
+    running_asks.begins (λ rows. rows.items) c.query_all.result c.query_all.ensures.ok
+    c.query_all.ensures.err c.query_all.ensures.mode
+    c.query_all.ensures.survives

@@ -1,0 +1,111 @@
+//! Counts of requests.
+
+ghost use Rattle.std.specs.Prelude.{◌≡◌, ◌∷◌, [], Some, IfOk, is_ok};
+ghost use Rattle.sqlite_sql.specs.Aggregate.{count};
+ghost use Rattle.sqlite.specs.State.{HasCleanDisk};
+ghost use Rattle.sqlite.specs.Held.{state};
+ghost use Rattle.acq_core.specs.declared.merchant.Merchant.{Merchant};
+ghost use Rattle.acq_core.specs.Tables.{Tables};
+ghost use Rattle.acq_core.specs.Pasts.{HasPast};
+ghost use Rattle.acq_book.specs.Lookups.{merchant_at, admitted_at, pending_at};
+ghost use Rattle.acq_sql_rows.specs.Relation.{Holds};
+ghost use Rattle.acq_sql_reads.specs.Looked.{Answers, AnswersWhere, LooksOnly};
+ghost use Rattle.acq_sql_reads.specs.Looked.{ShowsGreatest, count_up_to};
+
+use crate::columns::{count_at, read, reference_if_at};
+use crate::enrolments;
+use acq_core::{AdmittedCount, FirstReference};
+use acq_message::{MerchantId, Reference};
+use acq_sql_rows::day_value;
+use day_totals::Day;
+use sqlite::types::ValueRef;
+use sqlite::{Alter, Connection, Error, ErrorCode, Row};
+
+/// How many requests of a day are pending, of all merchants.
+pub fn pending<S: Alter>(conn: &mut Connection<S>, day: Day) -> Result<u64, Error>
+    ensures answers { Answers (state S.Store conn.old) (state S.Store conn.new) result
+        (λ t. pending_at t day) }
+    ensures looks { LooksOnly (state S.Store conn.old) (state S.Store conn.new) (is_ok result) }
+{
+    let rows = pending_rows(conn, day)?;
+    match rows.first() {
+        Some(row) => count_at(row, 0),
+        None => Err(Error::SqliteFailure(ErrorCode::DatabaseCorrupt)),
+    }
+}
+
+/// One row with the count.
+fn pending_rows<S: Alter>(conn: &mut Connection<S>, day: Day) -> Result<Vec<Row>, Error>
+    ensures answers { HasCleanDisk (state S.Store conn.new) → (t : Tables)
+        → Holds (state S.Store conn.old).now t → IfOk result
+        (λ rows. rows.items ≡ (count (pending_at t day) ∷ []) ∷ []) }
+    ensures looks { LooksOnly (state S.Store conn.old) (state S.Store conn.new) (is_ok result) }
+{
+    conn.query_all(
+        "SELECT count(*) FROM requests WHERE status = 1 AND day = ?1",
+        &[day_value(day)],
+    )
+}
+
+/// How many of the merchant's requests were admitted: so many references it has given.
+pub fn admitted<S: Alter>(
+    conn: &mut Connection<S>,
+    merchant: MerchantId,
+) -> Result<AdmittedCount, Error>
+    ensures answers { AnswersWhere (state S.Store conn.old) (state S.Store conn.new) result
+        HasPast (λ t. admitted_at t merchant) }
+    ensures looks { LooksOnly (state S.Store conn.old) (state S.Store conn.new) (is_ok result) }
+{
+    let Some(enrolled) = enrolments::merchant(conn, merchant)? else {
+        return read(AdmittedCount::from_number(0));
+    };
+    let greatest = greatest_reference(conn, merchant)?;
+    count_from(enrolled.first_reference, greatest)
+}
+
+/// How many references there are from the first up to the greatest, if one was given.
+fn count_from(first: FirstReference, greatest: Option<Reference>) -> Result<AdmittedCount, Error>
+    ensures { IfOk result (λ n. n ≡ count_up_to first greatest) }
+{
+    let count = match greatest {
+        Some(greatest) => read(greatest.number().checked_sub(first.number()))? + 1,
+        None => 0,
+    };
+    read(AdmittedCount::from_number(count))
+}
+
+/// The greatest reference of an enrolled merchant, if it has given one.
+fn greatest_reference<S: Alter>(
+    conn: &mut Connection<S>,
+    merchant: MerchantId,
+) -> Result<Option<Reference>, Error>
+    ensures answers { HasCleanDisk (state S.Store conn.new) → (t : Tables)
+        → Holds (state S.Store conn.old).now t → HasPast t → (enrolled : Merchant)
+        → merchant_at t merchant ≡ Some enrolled → IfOk result
+        (λ o. admitted_at t merchant ≡ count_up_to enrolled.first_reference o) }
+    ensures looks { LooksOnly (state S.Store conn.old) (state S.Store conn.new) (is_ok result) }
+{
+    let rows = greatest_rows(conn, merchant)?;
+    match rows.first() {
+        Some(row) => reference_if_at(row, 0),
+        None => Ok(None),
+    }
+}
+
+/// The row of that reference, if the merchant has a request.
+fn greatest_rows<S: Alter>(
+    conn: &mut Connection<S>,
+    merchant: MerchantId,
+) -> Result<Vec<Row>, Error>
+    ensures answers { HasCleanDisk (state S.Store conn.new) → (t : Tables)
+        → Holds (state S.Store conn.old).now t → HasPast t → (enrolled : Merchant)
+        → merchant_at t merchant ≡ Some enrolled → IfOk result
+        (λ rows. ShowsGreatest enrolled.first_reference (admitted_at t merchant) rows.items) }
+    ensures looks { LooksOnly (state S.Store conn.old) (state S.Store conn.new) (is_ok result) }
+{
+    let merchant = merchant.to_bytes();
+    conn.query_all(
+        "SELECT reference FROM requests WHERE merchant = ?1 ORDER BY reference DESC LIMIT 1",
+        &[ValueRef::Text(&merchant)],
+    )
+}

@@ -1,0 +1,32 @@
+//! The look-ups and the walks of a book in SQL.
+//!
+//! Each look-up is one SELECT or two, and says what it gives of the tables that the rows hold
+//! (`specs/Looked.antt`). All but `pending` and `overlapping` read by a key that an index has. Each
+//! walk is one SELECT with ORDER BY, whose rows are read and handed over one at a time, so that no
+//! whole list is held (`specs/Walked.antt`). A row that the host can't have written is reported as
+//! a corrupt database, by a walk after the rows before it.
+#![tactic(auto)]
+
+mod book_row;
+pub mod columns;
+mod counts;
+mod enrolments;
+mod posting_row;
+mod ranges;
+mod read_row;
+mod reconciliations;
+mod request_row;
+mod requests;
+mod running;
+mod show_rows;
+mod walks;
+
+pub use book_row::limit_and_day;
+pub use counts::{admitted, pending};
+pub use enrolments::{has_terminal, merchant, read_merchant};
+pub use ranges::{overlapping, range};
+pub use reconciliations::last_reconciliation;
+pub use request_row::read_request;
+pub use requests::{by_reference, request};
+pub use running::{totals, used};
+pub use walks::{walk_holds, walk_merchants, walk_postings};

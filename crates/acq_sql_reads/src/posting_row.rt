@@ -1,0 +1,50 @@
+//! A posting from its row.
+
+ghost use Rattle.std.specs.Prelude.{◌≡◌, length, IfOk};
+ghost use Rattle.sqlite_value.specs.declared.value.Value.TheVariants.{Text};
+ghost use Rattle.sqlite_value.specs.Order.{column};
+ghost use Rattle.acq_sql_rows.specs.Rows.{posting_row};
+
+use crate::columns::{amount_at, day_at, leg_at, merchant_at, read, reference_at, text_at};
+use acq_core::Posting;
+use acq_message::{ElementContent, TerminalId, Trace};
+use sqlite::{Error, ErrorCode, Row};
+use std::alloc::Global;
+
+/// The posting of a row with the nine columns, and its number.
+pub(crate) fn read_posting(alloc: Global, row: &Row) -> Result<(u64, Posting), Error>
+    ensures { IfOk result (λ p. length row.now ≡ 9 → row.now ≡ posting_row p) }
+{
+    let merchant = merchant_at(row, 0)?;
+    let day = day_at(row, 1)?;
+    let number = row.get(2)?;
+    let leg = leg_at(row, 3)?;
+    let amount = amount_at(row, 4)?;
+    let reference = reference_at(row, 5)?;
+    let terminal = read(TerminalId::read(text_at(row, 7)?))?;
+    let trace = read(Trace::read(text_at(row, 8)?))?;
+    let card = content_at(alloc, row, 6)?;
+    Ok((
+        number,
+        Posting {
+            merchant,
+            day,
+            leg,
+            amount,
+            reference,
+            card,
+            terminal,
+            trace,
+        },
+    ))
+}
+
+/// The text of a column, copied.
+fn content_at(alloc: Global, row: &Row, at: usize) -> Result<ElementContent, Error>
+    ensures { IfOk result (λ content. column row.now at ≡ Text content) }
+{
+    match ElementContent::from_slice(alloc, text_at(row, at)?) {
+        Ok(content) => Ok(content),
+        Err(_) => Err(Error::SqliteFailure(ErrorCode::OutOfMemory)),
+    }
+}

@@ -1,0 +1,62 @@
+//! What reads the rows of a walk.
+
+ghost use Rattle.std.specs.Prelude.{◌≡◌, length, IfOk};
+ghost use Rattle.sqlite_value.specs.Order.{Row as Cells};
+ghost use Rattle.acq_sql_rows.specs.Rows.{merchant_row, posting_row};
+ghost use Rattle.acq_sql_reads.specs.Recorded.{IsRowOf};
+
+use crate::posting_row::read_posting;
+use crate::{read_merchant, read_request};
+use acq_core::{Merchant, Posting, Request};
+use sqlite::{Error, Row};
+use std::alloc::Global;
+
+/// Reads rows of one kind.
+pub(crate) trait ReadRow<T> {
+    /// The row is this one's.
+    ghost shows: { Cells → T → Type 0 };
+
+    /// Whose row it is, or the fault of one that the host hasn't written.
+    fn read(&self, row: &Row) -> Result<T, Error>
+        ensures { IfOk result (shows row.now) };
+}
+
+/// Merchants.
+#[derive(Drop)]
+pub(crate) struct MerchantRows;
+
+impl ReadRow<Merchant> for MerchantRows {
+    ghost shows = { λ row m. length row ≡ 3 → row ≡ merchant_row m };
+
+    fn read(&self, row: &Row) -> Result<Merchant, Error> {
+        read_merchant(row)
+    }
+}
+
+/// Postings with their numbers.
+#[derive(Drop)]
+pub(crate) struct PostingRows {
+    pub(crate) alloc: Global,
+}
+
+impl ReadRow<(u64, Posting)> for PostingRows {
+    ghost shows = { λ row p. length row ≡ 9 → row ≡ posting_row p };
+
+    fn read(&self, row: &Row) -> Result<(u64, Posting), Error> {
+        read_posting(self.alloc, row)
+    }
+}
+
+/// Requests.
+#[derive(Drop)]
+pub(crate) struct RequestRows {
+    pub(crate) alloc: Global,
+}
+
+impl ReadRow<Request> for RequestRows {
+    ghost shows = { λ row r. length row ≡ 18 → IsRowOf row r };
+
+    fn read(&self, row: &Row) -> Result<Request, Error> {
+        read_request(self.alloc, row)
+    }
+}

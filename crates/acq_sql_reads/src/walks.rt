@@ -1,0 +1,85 @@
+//! Walks over postings, merchants and holds.
+
+ghost use Rattle.std.specs.Prelude.{is_ok};
+ghost use Rattle.sqlite.specs.Held.{state};
+ghost use Rattle.acq_core.specs.Pasts.{HasPast};
+ghost use Rattle.acq_book.specs.Lookups.{holds_at, merchants_at, postings_at};
+ghost use Rattle.acq_sql_reads.specs.Looked.{LooksOnly};
+ghost use Rattle.acq_sql_reads.specs.Walked.{WalksAll, WalksSome, WalksAllWhere, WalksSomeWhere};
+
+use crate::read_row::{MerchantRows, PostingRows, RequestRows};
+use crate::show_rows::show_rows;
+use acq_book::Visit;
+use acq_core::{Merchant, Posting, Request};
+use acq_message::MerchantId;
+use acq_sql_rows::day_value;
+use day_totals::Day;
+use sqlite::types::ValueRef;
+use sqlite::{Alter, Connection, Error};
+use std::alloc::Global;
+
+/// Hands over the postings of a day, each with its number, in order of merchant and number.
+pub fn walk_postings<S: Alter, V: Visit<(u64, Posting)>>(
+    conn: &mut Connection<S>,
+    alloc: Global,
+    day: Day,
+    visitor: &mut V,
+) -> Result<(), Error>
+    ensures seen { WalksAll (state S.Store conn.old) (state S.Store conn.new) result
+        V.sees (λ t. postings_at t day) visitor.old visitor.new }
+    ensures begun { WalksSome (state S.Store conn.old) (state S.Store conn.new) result
+        V.sees (λ t. postings_at t day) visitor.old visitor.new }
+    ensures looks { LooksOnly (state S.Store conn.old) (state S.Store conn.new) (is_ok result) }
+{
+    show_rows(
+        conn,
+        "SELECT merchant, day, number, leg, amount, reference, card, terminal, trace FROM postings WHERE day = ?1 ORDER BY merchant, number",
+        &[day_value(day)],
+        &PostingRows { alloc },
+        visitor,
+    )
+}
+
+/// Hands over the merchants, in order of their names.
+pub fn walk_merchants<S: Alter, V: Visit<Merchant>>(
+    conn: &mut Connection<S>,
+    visitor: &mut V,
+) -> Result<(), Error>
+    ensures seen { WalksAll (state S.Store conn.old) (state S.Store conn.new) result
+        V.sees merchants_at visitor.old visitor.new }
+    ensures begun { WalksSome (state S.Store conn.old) (state S.Store conn.new) result
+        V.sees merchants_at visitor.old visitor.new }
+    ensures looks { LooksOnly (state S.Store conn.old) (state S.Store conn.new) (is_ok result) }
+{
+    show_rows(
+        conn,
+        "SELECT merchant, currency, first FROM merchants ORDER BY merchant",
+        &[],
+        &MerchantRows,
+        visitor,
+    )
+}
+
+/// Hands over a merchant's approved holds, which are neither completed nor reversed, in order of
+/// reference.
+pub fn walk_holds<S: Alter, V: Visit<Request>>(
+    conn: &mut Connection<S>,
+    alloc: Global,
+    merchant: MerchantId,
+    visitor: &mut V,
+) -> Result<(), Error>
+    ensures seen { WalksAllWhere (state S.Store conn.old) (state S.Store conn.new) result
+        V.sees HasPast (λ t. holds_at t merchant) visitor.old visitor.new }
+    ensures begun { WalksSomeWhere (state S.Store conn.old) (state S.Store conn.new) result
+        V.sees HasPast (λ t. holds_at t merchant) visitor.old visitor.new }
+    ensures looks { LooksOnly (state S.Store conn.old) (state S.Store conn.new) (is_ok result) }
+{
+    let merchant = merchant.to_bytes();
+    show_rows(
+        conn,
+        "SELECT merchant, terminal, kind, trace, stamp, essence, day, status, admitted, reference, follows, amount, leg, card, acquirer, hold_days, until, reply FROM requests WHERE merchant = ?1 AND kind = '010' AND status = 3 ORDER BY reference",
+        &[ValueRef::Text(&merchant)],
+        &RequestRows { alloc },
+        visitor,
+    )
+}

@@ -1,9 +1,0 @@
-pub mod TextLemmas
-pub mod Visiting
-pub mod Showing
-pub mod Walking
-pub mod Ordering
-pub mod MerchantWalk
-pub mod PostingWalk
-pub mod HoldReferences
-pub mod HoldWalk

@@ -1,4 +1,0 @@
-pub mod Texts
-pub mod Queries
-pub mod Shown
-pub mod Walked
