@@ -13,8 +13,8 @@ else
     work=$(mktemp -d)
     trap 'rm -rf "$work"' EXIT
 fi
-crates='iso_codec card_no day_totals acq_message acq_core acq_history acq_invariants acq_isolation
-acq_bookkeeping acq_book acq_host'
+crates='iso_codec card_no day_totals acq_message acq_core acq_history acq_book
+acq_host'
 mkdir -p "$work/crates/host_bench/src"
 : >"$work/crates.txt"
 for crate in $crates; do
