@@ -93,7 +93,7 @@ impl Alike for Table {
     }
 }
 
-#[tactic(auto, using(crate::opening::proofs::AllPlain::all_plain))]
+#[tactic(auto, using(crate::proofs::opening::AllPlain::all_plain))]
 fn have_same_keys(a: &Table, b: &Table) -> bool
     ensures { IsTrue result ↔ HaveSameKeys a.now b.now }
 {
@@ -142,7 +142,7 @@ impl Alike for Schema {
 
     ghost is_plain = { IsPlainSchema };
 
-    #[tactic(auto, using(crate::opening::proofs::AllPlain::all_plain))]
+    #[tactic(auto, using(crate::proofs::opening::AllPlain::all_plain))]
     fn is_alike(&self, other: &Schema) -> bool {
         self.views.is_empty()
             && other.views.is_empty()
