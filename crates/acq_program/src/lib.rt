@@ -22,7 +22,7 @@ pub use action::Action;
 pub use arguments::action_of;
 pub use machine::Machine;
 pub use option_name::OptionName;
-pub use running::{command, memory_fault, read_fault, usage_fault};
+pub use running::{command, memory_fault, read_fault, utf8_fault};
 pub use system_clock::{SystemClock, moment_near};
 pub use terminal_progress::TerminalProgress;
 pub use usage_fault::UsageFault;

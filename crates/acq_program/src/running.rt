@@ -378,7 +378,7 @@ pub fn read_fault<F: Sink>(faults: &mut F) -> u8
 
 /// Writes that an argument isn't UTF-8, which is wrong usage, and returns the status. Arguments are
 /// counted from 1, behind the program's own name.
-pub fn usage_fault<F: Sink>(place: usize, faults: &mut F) -> u8
+pub fn utf8_fault<F: Sink>(place: usize, faults: &mut F) -> u8
     ensures { result ≡ 2 }
 {
     let _ = writeln!(

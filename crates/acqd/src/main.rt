@@ -11,7 +11,7 @@ use acq_book::Book;
 use acq_commands::Progress;
 use acq_link::{ReadSource, Sink, Source, WriteSink};
 use acq_program::{
-    Machine, SystemClock, TerminalProgress, command, memory_fault, read_fault, usage_fault,
+    Machine, SystemClock, TerminalProgress, command, memory_fault, read_fault, utf8_fault,
 };
 use acq_sql::SqlBook;
 pub use open_book::{make_book, open_book};
@@ -108,7 +108,7 @@ fn run_over<B: Book + Drop, M: Machine<B> + Drop, S: Source, K: Sink, F: Sink, P
             Err(_) => read_fault(faults),
         },
         Err(_) => match first_not_text(rt) {
-            Some(place) => usage_fault(place, faults),
+            Some(place) => utf8_fault(place, faults),
             None => memory_fault(faults),
         },
     }
