@@ -4,8 +4,8 @@ ghost use Rattle.std.specs.Prelude.{◌≡◌};
 
 use acq_book::BookFault;
 use acq_front::FrontFault;
-use acq_link::hex_frames::HexFault;
 use acq_link::InputFault;
+use acq_link::hex_frames::HexFault;
 use acq_out::OutFault;
 use acq_out::records::RecordFault;
 use acq_reports::ReportFault;

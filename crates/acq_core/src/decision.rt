@@ -10,7 +10,7 @@ use day_totals::Day;
 use iso_codec::Message;
 
 /// What is to be done. It borrows what came and what was looked up.
-#[derive(Debug, Drop)]
+#[derive(Drop)]
 pub(crate) enum Decision<'a> {
     /// Nothing changes, and this is reported.
     Reports(Output),

@@ -61,10 +61,6 @@ fn is_nothing(wanted: &Wanted) -> bool
 pub(crate) fn nothing_looked(today: Day, limit: Limit) -> Looked
     ensures { (t : Tables) → today ≡ t.day → limit ≡ t.limit → IsLooked t nothing result }
 {
-    let (Some(admitted), Some(used)) = (AdmittedCount::from_number(0), UsedCount::from_number(0))
-    else {
-        unreachable!();
-    };
     Looked {
         today,
         limit,
@@ -75,10 +71,28 @@ pub(crate) fn nothing_looked(today: Day, limit: Limit) -> Looked
         referred: None,
         range: None,
         overlapped: None,
-        admitted,
-        used,
+        admitted: none_admitted(),
+        used: none_used(),
         totals: Totals::zero(),
     }
+}
+
+fn none_admitted() -> AdmittedCount
+    ensures { result ≡ 0 }
+{
+    let Some(count) = AdmittedCount::from_number(0) else {
+        unreachable!();
+    };
+    count
+}
+
+fn none_used() -> UsedCount
+    ensures { result ≡ 0 }
+{
+    let Some(count) = UsedCount::from_number(0) else {
+        unreachable!();
+    };
+    count
 }
 
 /// Looks up what is wanted. Each part is put in its place at once, since what was looked up is

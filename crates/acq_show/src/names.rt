@@ -1,8 +1,8 @@
 //! The names of message types and of elements, in the words of ISO 8583:1987.
 
 ghost use Rattle.std.specs.Prelude.{◌≡◌};
-ghost use Rattle.acq_show.specs.Names.{class_name, function_name, origin_name, is_named};
-ghost use Rattle.acq_show.specs.Names.{element_name};
+ghost use Rattle.acq_show.specs.Names.{name_in, classes, class_name, function_name, origin_name};
+ghost use Rattle.acq_show.specs.Names.{is_named, element_name};
 
 /// The name of a message class, the second digit of a type, or nothing. An advice of the financial
 /// class is a completion here.
@@ -10,8 +10,15 @@ pub(crate) fn class_name(class: u8, function: u8) -> &'static str
     ensures { result.now ≡ class_name class function }
 {
     if class == b'2' && (function == b'2' || function == b'3') {
-        return "completion";
+        "completion"
+    } else {
+        name_of_class(class)
     }
+}
+
+fn name_of_class(class: u8) -> &'static str
+    ensures { result.now ≡ name_in classes class }
+{
     match class {
         b'1' => "authorization",
         b'2' => "financial",

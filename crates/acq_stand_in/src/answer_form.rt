@@ -5,8 +5,8 @@ ghost use Rattle.csv.specs.Records.{fields_of};
 ghost use Rattle.acq_stand_in.specs.Answers.{answer_of_fields, card_of_text};
 
 use crate::card_answer::CardAnswer;
-use acq_out::verdict_of;
 use acq_out::records::{RecordForm, field};
+use acq_out::verdict_of;
 use card_no::CardNumber;
 use csv::ByteRecord;
 use std::alloc::{AllocError, Global};

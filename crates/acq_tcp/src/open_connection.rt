@@ -4,8 +4,7 @@ ghost use Rattle.acq_commands.specs.Listening.{Reached};
 ghost use Rattle.acq_tcp.specs.Rounds.{UnlessRefused};
 
 use acq_book::Book;
-use acq_front::{Exchange, Line, Round};
-use acq_front::{Clock, FrontFault, Issuer};
+use acq_front::{Clock, Exchange, FrontFault, Issuer, Line, Round};
 use acq_host::Host;
 use std::alloc::Global;
 use std::time::{Duration, Instant};

@@ -11,8 +11,8 @@ ghost use Rattle.acq_sql.specs.Opened.{IsOpenAt};
 ghost use Rattle.acqd.specs.BookFiles.{FilesHold};
 
 use acq_core::Limit;
-use acq_sql::{OpeningFault, Refusal, SqlBook};
 use acq_sql::opening::an_open_finds_the_book;
+use acq_sql::{OpeningFault, Refusal, SqlBook};
 use day_totals::Day;
 use sqlite::Connection;
 use sqlite_disk::Start;

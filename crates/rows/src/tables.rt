@@ -14,8 +14,8 @@ use acq_core::{
     AdmittedCount, Amount, Currency, FirstReference, Limit, MerchantId, Moment, Reference, Service,
     TerminalId, Trace, Transmission, UsedCount, Verdict,
 };
-use acq_link::hex_frames::frames_of_hex;
 use acq_link::SliceSource;
+use acq_link::hex_frames::frames_of_hex;
 use acq_stand_in::StandIn;
 use card_no::{CardNumber, IssuerId, Prefix, Range, RangeFault, RangeList, split_track2};
 use day_totals::{Day, Leg, Totals};

@@ -1,8 +1,8 @@
 //! A book in SQL is made once, and no other is taken for one.
 
 use acq_core::Limit;
-use acq_sql_reads::limit_and_day;
 use acq_sql::opening::{OpeningFault, check_book, make_book};
+use acq_sql_reads::limit_and_day;
 use day_totals::Day;
 use sqlite::Connection;
 use std::test::Fail;
