@@ -2,8 +2,8 @@
 # Times a book in SQL, on one core: events that `acqd replay --db` takes over a file, and that a host
 # takes over a book in memory and over a file in memory, beside a plain C program that does the same
 # statements over the system's SQLite, where there are a C compiler and SQLite for it; how much more an
-# event costs at 1,000,000 recorded requests than at 1,000; and how long a book of 100,000 requests
-# takes to open.
+# event costs at 1,000,000 recorded requests than at 1,000; how long a book of 100,000 requests takes to
+# open, and one of 20,000 refused requests of one merchant beside one of as many approved sales.
 # The lines of `acqd` are checked, and the two files must hold the same rows.
 # It needs some 3 GB of memory, and as much in the folder for temporary files, whose disk it measures.
 # With a folder as its argument, all lies and stays there.
@@ -72,6 +72,18 @@ def write_lines(name, merchants, first, sales, with_setup):
             lines.write(f"ask {merchant} {reference:012} 411111******1111 1000 12345\n"
                         f"reply 0210722200000EC08000{said}0501{reference:012}A1B2C300TERM0001{merchant}978\n")
     return (1 + 2 * merchants if with_setup else 0) + 2 * sales
+
+def write_refused(name, count):
+    """Lines of one merchant's requests that are refused with 12, each under a key of its own: they have no
+    reference, and no limit counts them."""
+    sales_of[name] = 0
+    with open(f"{work}/{name}", "w") as events:
+        events.write("enrol,MERCHANT0000000,978,1,,\nterminal,MERCHANT0000000,TERM0001,,,\n")
+        for number in range(count):
+            second = number % DAY
+            request = f"02007220000000C080001641111111111111119900000000000010000501{second // 3600:02}" \
+                      f"{second // 60 % 60:02}{second % 60:02}{number % 1000000:06}TERM0001MERCHANT0000000978"
+            events.write(f"frame,{MIDNIGHT + second},{request.encode().hex()},,,\n")
 
 def timed(arguments, name):
     """Nanoseconds that a program's events take over a new book, and those of the last tenth."""
@@ -164,4 +176,21 @@ if plain:
     if rows(book) != rows(other):
         sys.exit("the two files hold other rows")
     print("the two files hold the same rows")
+
+write_refused("refused", 20000)
+write_lines("approved", 1, 0, 20000, True)
+opened = {}
+for name in ("refused", "approved"):
+    remove(book)
+    subprocess.run([acqd, "init", "--db", book, "--limit", "999999", "--day", "2024-05-01"], check=True)
+    on_file([acqd, "replay", "--db", book], name, "lines")
+    opened[name] = min(on_file([acqd, "replay", "--db", book], os.devnull, "lines") for _ in range(3))
+print(f"a book of 20,000 refused requests of one merchant takes {opened['refused'] * 1000:.0f} ms to open, one of "
+      f"20,000 approved sales {opened['approved'] * 1000:.0f} ms ({opened['refused'] / opened['approved']:.2f} "
+      f"times; goal: 1.5)")
+write_refused("few", 1000)
+few = min(timed_on(ram, bench, "few")[1] for _ in range(5))
+many = min(timed_on(ram, bench, "refused")[1] for _ in range(3))
+print(f"a refused request takes {few / 1000:.1f} us at 1,000 of the merchant, {many / 1000:.1f} us at 20,000 "
+      f"({many / few:.2f} times; goal: 1.2)")
 PY

@@ -10,6 +10,7 @@ use Rattle.row_lemmas.specs.Values.{number}
 use Rattle.row_lemmas.specs.Queries as query
 use Rattle.acq_sql_rows.specs.Schema.{book_schema}
 use Rattle.acq_sql_rows.specs.Rows.{version}
+use Rattle.acq_sql.specs.declared.opening.checking.TheConstants.{VERSION_OF_BOOK}
 use Rattle.acq_sql.specs.declared.opening.opening_fault.OpeningFault.{OpeningFault}
 use Rattle.acq_sql.specs.declared.opening.opening_fault.OpeningFault.TheVariants.{Memory, Store}
 use Rattle.acq_sql.specs.declared.opening.opening_fault.OpeningFault.TheVariants.{NotABook}
@@ -18,7 +19,7 @@ use Rattle.acq_sql.specs.declared.opening.opening_fault.OpeningFault.TheVariants
 -- ---- the version
 
 abbrev pub version_text : List ℕ
-version_text = codes "SELECT version FROM book"
+version_text = VERSION_OF_BOOK.now
 
 abbrev pub version_query : Query
 version_query = query.plain_query 0 [] (query.column 1 ∷ []) []

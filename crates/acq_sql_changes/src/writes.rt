@@ -13,7 +13,7 @@ mod requests;
 mod running;
 
 pub use answers::{answer_request, follow_request};
-pub use book_row::{VERSION, add_book};
+pub use book_row::add_book;
 pub use days::{add_reconciliation, set_day};
 pub use enrolments::{add_merchant, add_terminal};
 pub use postings::add_posting;

@@ -14,13 +14,10 @@ use Rattle.std.proofs.lemmas.Bool.Decides.{nat_tests}
 use Rattle.sqlite_value.specs.declared.value.Value.TheVariants.{Int, Null, Text}
 use Rattle.sqlite_value.specs.Order.{Row, value_cmp}
 use Rattle.sqlite_value.proofs.OrderLemmas.{then-Equal, value_cmp-Null, value_cmp_total}
-use Rattle.sqlite_trees.specs.Tree.{Trees}
-use Rattle.sqlite_schema.specs.Rules.{Fits}
 use Rattle.sqlite_sql.specs.Query.{Output, output_cmp}
 use Rattle.sqlite_rules.specs.Lists.{Has}
 use Rattle.sqlite_rules.proofs.ListLemmas.{all_has, has_filtered}
 use Rattle.sqlite.specs.State.{State, Shown}
-use Rattle.row_lemmas.specs.Numbered.{rows_of}
 use Rattle.row_lemmas.specs.Values.{number, number_or_null}
 use Rattle.row_lemmas.proofs.ColumnTests.{text_test, number_test, and_true}
 use Rattle.row_lemmas.proofs.ListReads.{shows_ordered}
@@ -38,7 +35,6 @@ use Rattle.acq_core.specs.declared.status.Status.TheVariants as status
 use Rattle.acq_core.specs.Pasts.{HasPast}
 use Rattle.acq_core.specs.Tables.{Tables, is_approved}
 use Rattle.acq_book.specs.Lookups.{holds_at, is_authorization, is_reference_before}
-use Rattle.row_lemmas.proofs.UniqueKeys.{fits_of}
 use Rattle.acq_sql_rows.specs.Schema.{book_schema}
 use Rattle.acq_sql_rows.specs.Rows.{request_row, status_number}
 use Rattle.acq_sql_rows.specs.Tallies.{Running}
@@ -176,10 +172,9 @@ module _ (m : List ℕ) where
         status_is x.status,
       ) refl
 
-  once : (t : Tables) → HasPast t → (db : Trees) → Fits book_schema db →
-      db 6 ≡ rows_of request_row t.requests
-      → (o : Option ℕ) → length (filter (λ x. same_reference o x.reference) (holds t.requests)) ≤ 1
-  once t past db fits held None =
+  once : (t : Tables) → HasPast t → (o : Option ℕ) →
+      length (filter (λ x. same_reference o x.reference) (holds t.requests)) ≤ 1
+  once t past None =
       none_pass (λ x. same_reference None x.reference) (holds t.requests) (λ x here is.
       let opened = has_filtered is_open (filter mine t.requests) x here in
       let among = has_filtered mine t.requests x opened.0 in
@@ -190,8 +185,8 @@ module _ (m : List ℕ) where
       none_is : (r : Option ℕ) → same_reference None r ≡ true → r ≡ None
       none_is None is = refl
       none_is (Some n) is = absurd (true≢false (sym is))
-  once t past db fits held (Some n) =
-      let few = one_reference m n db t.requests fits held in
+  once t past (Some n) =
+      let few = one_reference m n t past in
       let more = fewer (λ x. passes x && is_number n x.reference)
       (λ x. mine x && is_number n x.reference)
       (λ x h. keep (mine x) (is_open x) (is_number n x.reference) h) t.requests in
@@ -222,8 +217,7 @@ module _ (m : List ℕ) where
       (λ a b. is_reference_before a.reference b.reference) compare same tied
       (holds t.requests) all.0
       (subst (λ l. IsPermutation l all.0) (sym (filter_both mine is_open t.requests)) all.1) all.2
-      (λ a. once t past old.now.trees (fits_of book_schema old.now.trees has.sound) has.requests
-      a.reference))
+      (λ a. once t past a.reference))
 
   -- ---- a row is one request's
 

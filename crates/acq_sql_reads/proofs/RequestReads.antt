@@ -2,10 +2,13 @@
 use Rattle.std.proofs.Common.{◌≡◌, ◌&&◌, ℕ, pos, Bool, inl, inr, true, false, true≢false, cond}
 use Rattle.std.proofs.Common.{List, [], ◌∷◌}
 use Rattle.std.proofs.Common.{filter, find, length, ◌≤◌, option_map, Option, None, Some, refl, sym}
-use Rattle.std.proofs.Common.{ap, subst, ◌∙◌}
+use Rattle.std.proofs.Common.{ap, subst, ◌∙◌, arith}
+use Rattle.std.specs.Prelude.{nat_eq}
+use Rattle.std.specs.List.{list_any, cons_option}
 use Rattle.std.specs.Str.{bytes_eq}
 use Rattle.std.specs.Option.{option_to_list}
-use Rattle.std.proofs.lemmas.Bool.{and_parts}
+use Rattle.std.proofs.lemmas.Bool.{and_parts, or_parts, not-true}
+use Rattle.std.proofs.lemmas.Bool.Decides.{nat_tests}
 use Rattle.sqlite_value.specs.declared.keys.Collation.TheVariants.{Binary}
 use Rattle.sqlite_value.specs.declared.value.Value.TheVariants.{Int, Text}
 use Rattle.sqlite_value.specs.Order.{Row}
@@ -14,27 +17,29 @@ use Rattle.sqlite_sql.specs.declared.ops.BinaryOp.TheVariants.{Compare}
 use Rattle.sqlite_sql.specs.declared.ops.CompareOp.TheVariants.{Eq}
 use Rattle.sqlite_sql.specs.Ops.{binary, is_true}
 use Rattle.sqlite_schema.specs.declared.schema.Index.{Index}
-use Rattle.sqlite_trees.specs.Tree.{Trees}
-use Rattle.sqlite_schema.specs.Rules.{Fits, agree}
+use Rattle.sqlite_schema.specs.Rules.{agree}
 use Rattle.sqlite_catalog.specs.Listing.{automatic}
 use Rattle.sqlite_rules.specs.Lists.{Has}
 use Rattle.sqlite_rules.proofs.ListLemmas.{all_has, has_found}
 use Rattle.sqlite.specs.State.{State, Shown}
 use Rattle.row_lemmas.specs.Values.{number, number_or_null}
-use Rattle.row_lemmas.proofs.UniqueKeys.{fits_of}
+use Rattle.row_lemmas.proofs.UniqueKeys.{fits_of, one_of_few}
 use Rattle.row_lemmas.proofs.ColumnTests.{text_test, number_test, and_true}
-use Rattle.row_lemmas.specs.Numbered.{rows_of}
 use Rattle.row_lemmas.proofs.CountedRows.{numbered_counted}
 use Rattle.row_lemmas.proofs.QueryRows.{picked}
-use Rattle.row_lemmas.proofs.ListReads.{one_passes, few_pass_key, shows_one}
+use Rattle.row_lemmas.proofs.ListReads.{one_passes, shows_one}
 use Rattle.row_lemmas.proofs.StatementEffects.{bare}
 use Rattle.acq_message.specs.declared.request_key.RequestKey.{RequestKey}
 use Rattle.acq_message.specs.Numbers.{is_number}
 use Rattle.acq_message.specs.Services.{digits_of, same_service}
 use Rattle.acq_message.specs.Elements.{same_key}
 use Rattle.acq_core.specs.declared.request.Request.{Request}
-use Rattle.acq_core.specs.Tables.{Tables}
+use Rattle.acq_core.specs.Pasts.{HasPast}
+use Rattle.acq_core.specs.Tables.{Tables, requests_of}
 use Rattle.acq_book.specs.Lookups.{request_at, referred_at}
+use Rattle.acq_history.specs.Keys.{are_distinct}
+use Rattle.acq_history.specs.References.{references_in}
+use Rattle.acq_history.proofs.BooksAreSound.{books_are_sound}
 use Rattle.acq_sql_rows.specs.Schema.{book_schema}
 use Rattle.acq_sql_rows.specs.Schema as schema
 use Rattle.acq_sql_rows.specs.Rows.{request_row, key_row}
@@ -47,7 +52,8 @@ use Rattle.acq_sql_reads.specs.Recorded.{ShowsRequest}
 use Rattle.acq_sql_reads.specs.Texts as text
 use Rattle.acq_sql_reads.specs.Queries as query
 use Rattle.acq_sql_reads.proofs.TextLemmas as asks
-use Rattle.acq_sql_reads.proofs.KeyReads.{bytes_own, number_own}
+use Rattle.acq_sql_reads.proofs.KeyReads.{bytes_own}
+use Rattle.acq_sql_reads.proofs.Ordering.{filter_both}
 
 -- what was found of requests whose replies are messages
 shown_request : (p : Request → Bool) (xs : List Request) (rows : List Row) → AreRecorded xs
@@ -164,13 +170,42 @@ module _ (key : RequestKey) where
 
 -- ---- by reference
 
-abbrev reference_key : Index
-reference_key = automatic at.the_requests 1 (1 ∷ 10 ∷ []) 8
+none_refer : (n : ℕ) (xs : List Request) → list_any (nat_eq n) (references_in xs) ≡ false →
+    filter (λ x. is_number n x.reference) xs ≡ []
+none_refer n [] none = refl
+none_refer n (x ∷ xs) none = go x.reference none
+  where
+    go : (o : Option ℕ) → list_any (nat_eq n) (cons_option o (references_in xs)) ≡ false →
+        cond (is_number n o) (x ∷ filter (λ y. is_number n y.reference) xs)
+        (filter (λ y. is_number n y.reference) xs) ≡ []
+    go None none = none_refer n xs none
+    go (Some m) none =
+        let other : is_number n (Some m) ≡ false = grind (arith, nat_tests) in
+        rw other (none_refer n xs (or_parts _ _ none).1)
 
-reference_keyed : Has book_schema.indexes reference_key
-unfolding book_schema schema.up_to_reconciliations schema.up_to_postings schema.up_to_requests
-    schema.up_to_ranges schema.up_to_terminals schema.up_to_merchants schema.up_to_book
-reference_keyed = inr (inr (inr (inl refl)))
+-- of requests whose references are distinct, one at most has this one
+few_refer : (n : ℕ) (xs : List Request) → are_distinct nat_eq (references_in xs) ≡ true →
+    length (filter (λ x. is_number n x.reference) xs) ≤ 1
+few_refer n [] distinct = omega arith
+few_refer n (x ∷ xs) distinct = go x.reference distinct
+  where
+    go : (o : Option ℕ) → are_distinct nat_eq (cons_option o (references_in xs)) ≡ true →
+        length (cond (is_number n o) (x ∷ filter (λ y. is_number n y.reference) xs)
+        (filter (λ y. is_number n y.reference) xs)) ≤ 1
+    go None distinct = few_refer n xs distinct
+    go (Some m) distinct =
+        let parts = and_parts _ _ distinct in
+        let rest = filter (λ (y : Request). is_number n y.reference) xs in
+        let step : (b : Bool) → is_number n (Some m) ≡ b → length (cond b (x ∷ rest) rest) ≤ 1 =
+        elim [
+          | true ↦ (λ is.
+              let same : m ≡ n = grind (arith, nat_tests) in
+              let none = subst (λ k. list_any (nat_eq k) (references_in xs) ≡ false) same
+              (not-true _ parts.0) in
+              subst (λ l. length (x ∷ l) ≤ 1) (sym (none_refer n xs none)) (omega arith))
+          | false ↦ (λ is. few_refer n xs parts.1)
+        ] in
+        step (is_number n (Some m)) refl
 
 find_filtered : {X : Type 0} (p q : X → Bool) (xs : List X) →
     find (λ x. p x && q x) xs ≡ find q (filter p xs)
@@ -188,10 +223,6 @@ unfolding binary
 reference_test None n = refl
 reference_test (Some m) n = number_test m n
 
-reference_is : (o : Option ℕ) (n : ℕ) → is_number n o ≡ true → o ≡ Some n
-reference_is None n h = absurd (true≢false (sym h))
-reference_is (Some m) n h = ap Some (number_same m n h)
-
 module _ (merchant : List ℕ) (reference : ℕ) where
   abbrev is_it : Request → Bool
   is_it x = bytes_eq x.key.merchant merchant && is_number reference x.reference
@@ -207,52 +238,30 @@ module _ (merchant : List ℕ) (reference : ℕ) where
     and_true,
   ) refl
 
-  one_refers : (a b : ℕ) (x y : Request) → is_it x ≡ true → is_it y ≡ true
-      → agree reference_key.order reference_key.columns
-      (Int (pos a) ∷ request_row x) reference_key.columns
-      (Int (pos b) ∷ request_row y) ≡ true
-  unfolding first_key
-  one_refers a b x y h k =
-      let i = and_parts _ _ h in
-      let j = and_parts _ _ k in
-      rw (
-        text_test x.key.merchant y.key.merchant,
-        reference_is x.reference reference i.1,
-        reference_is y.reference reference j.1,
-        number_test reference reference,
-        and_true,
-        bytes_same x.key.merchant merchant i.0,
-        bytes_same y.key.merchant merchant j.0,
-        bytes_own merchant,
-        number_own reference,
-      ) refl
+  -- no two requests of the merchant have one reference
+  pub one_reference : (t : Tables) → HasPast t → length (filter is_it t.requests) ≤ 1
+  one_reference t (opening, book) =
+      let distinct = (books_are_sound opening t book).unique_references merchant in
+      subst (λ l. length l ≤ 1)
+      (filter_both (λ (x : Request). bytes_eq x.key.merchant merchant)
+      (λ (x : Request). is_number reference x.reference) t.requests)
+      (few_refer reference (requests_of merchant t.requests) distinct)
 
   pub reference_found : (old new : State) (t : Tables) (runs : List Running) (rows : List Row)
-      → HoldsRows old.now t runs → Shown text.reference_text sought old new rows
+      → HoldsRows old.now t runs → HasPast t → Shown text.reference_text sought old new rows
       → ShowsRequest (referred_at t merchant reference) rows
-  reference_found old new t runs rows has shown =
+  reference_found old new t runs rows has past shown =
       let ask = asks.reference_asks in
       let test = query.reference_query.filter in
+      let counted = ap (λ l. length (filter (picked test sought) l)) has.requests
+      ∙ numbered_counted request_row (picked test sought) is_it t.requests refers in
+      let few = subst (λ n. n ≤ 1) (sym counted) (one_reference t past) in
       let found = shown_request is_it t.requests rows has.recorded
       (shows_one request_row book_schema 6 t.requests old new has.schema has.requests
       text.reference_text sought _
       ask.plain ask.unlisted rows shown test query.reference_query.project is_it refers request_row
       (λ k x. refl)
       ask.is
-      (one_passes request_row book_schema old.now.trees (bare at.the_requests) reference_key
-      (fits_of book_schema old.now.trees has.sound) request_keyed.0
-      reference_keyed refl t.requests has.requests test sought is_it refers one_refers)) in
+      (one_of_few (picked test sought) (old.now.trees 6) few)) in
       rw (find_filtered (λ (x : Request). bytes_eq x.key.merchant merchant)
       (λ (x : Request). is_number reference x.reference) t.requests) at found
-
-  -- no two requests of the merchant have one reference
-  pub one_reference : (db : Trees) (xs : List Request) → Fits book_schema db →
-      db 6 ≡ rows_of request_row xs
-      → length (filter is_it xs) ≤ 1
-  one_reference db xs fits held =
-      let test = query.reference_query.filter in
-      let count = numbered_counted request_row (picked test sought) is_it xs refers in
-      subst (λ n. n ≤ 1) (ap (λ l. length (filter (picked test sought) l)) held ∙ count)
-      (few_pass_key request_row book_schema db (bare at.the_requests) reference_key fits
-      request_keyed.0
-      reference_keyed refl xs held test sought is_it refers one_refers)

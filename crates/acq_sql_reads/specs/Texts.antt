@@ -1,55 +1,42 @@
 -- The texts of the look-ups.
-use Rattle.std.specs.Prelude.{List, ℕ, codes, ◌++◌}
+use Rattle.std.specs.Prelude.{List, ℕ}
+use Rattle.acq_sql_reads.specs.declared.book_row.TheConstants.{LIMIT_AND_DAY}
+use Rattle.acq_sql_reads.specs.declared.enrolments.TheConstants.{MERCHANT, TERMINAL}
+use Rattle.acq_sql_reads.specs.declared.running.TheConstants.{TOTALS_AND_USED}
+use Rattle.acq_sql_reads.specs.declared.ranges.TheConstants.{NEAREST, OVERLAPPING}
+use Rattle.acq_sql_reads.specs.declared.counts.TheConstants.{PENDING, GREATEST_REFERENCE}
+use Rattle.acq_sql_reads.specs.declared.reconciliations.TheConstants.{LAST_RECONCILIATION}
+use Rattle.acq_sql_reads.specs.declared.requests.TheConstants.{BY_KEY, BY_REFERENCE}
 
 abbrev pub business_text : List ℕ
-business_text = codes "SELECT max_a_day, day FROM book"
+business_text = LIMIT_AND_DAY.now
 
 abbrev pub merchant_text : List ℕ
-merchant_text = codes "SELECT merchant, currency, first FROM merchants WHERE merchant = ?1"
+merchant_text = MERCHANT.now
 
 abbrev pub terminal_text : List ℕ
-terminal_text =
-    codes "SELECT merchant, terminal FROM terminals WHERE merchant = ?1 AND terminal = ?2"
+terminal_text = TERMINAL.now
 
 abbrev pub running_text : List ℕ
-running_text =
-    codes "SELECT used, credits, credit_reversals, debits, debit_reversals, credit_amount, "
-    ++ codes "credit_reversal_amount, debit_amount, debit_reversal_amount FROM running "
-    ++ codes "WHERE merchant = ?1 AND day = ?2"
+running_text = TOTALS_AND_USED.now
 
 abbrev pub nearest_text : List ℕ
-nearest_text =
-    codes "SELECT low, high, issuer, hold_days FROM ranges "
-    ++ codes "WHERE low <= ?1 ORDER BY low DESC LIMIT 1"
+nearest_text = NEAREST.now
 
 abbrev pub overlapping_text : List ℕ
-overlapping_text =
-    codes "SELECT low, high, issuer, hold_days FROM ranges "
-    ++ codes "WHERE ?1 <= high AND low <= ?2 ORDER BY low LIMIT 1"
+overlapping_text = OVERLAPPING.now
 
 abbrev pub pending_text : List ℕ
-pending_text = codes "SELECT count(*) FROM requests WHERE status = 1 AND day = ?1"
+pending_text = PENDING.now
 
 abbrev pub reconciliation_text : List ℕ
-reconciliation_text =
-    codes "SELECT number, in_balance FROM reconciliations "
-    ++ codes "WHERE day = ?1 AND merchant = ?2 ORDER BY number DESC LIMIT 1"
-
--- the eighteen columns of a request
-abbrev pub select_request : List ℕ
-select_request =
-    codes "SELECT merchant, terminal, kind, trace, stamp, essence, day, status, admitted, "
-    ++ codes "reference, follows, amount, leg, card, acquirer, hold_days, until, reply "
-    ++ codes "FROM requests WHERE "
+reconciliation_text = LAST_RECONCILIATION.now
 
 abbrev pub request_text : List ℕ
-request_text =
-    select_request
-    ++ codes "merchant = ?1 AND terminal = ?2 AND kind = ?3 AND trace = ?4 AND stamp = ?5"
+request_text = BY_KEY.now
 
 abbrev pub reference_text : List ℕ
-reference_text = select_request ++ codes "merchant = ?1 AND reference = ?2"
+reference_text = BY_REFERENCE.now
 
 abbrev pub greatest_text : List ℕ
-greatest_text =
-    codes "SELECT reference FROM requests WHERE merchant = ?1 ORDER BY reference DESC LIMIT 1"
+greatest_text = GREATEST_REFERENCE.now

@@ -13,6 +13,8 @@ use acq_core::Limit;
 use day_totals::Day;
 use sqlite::{Alter, Connection, Error, ErrorCode, Row};
 
+const LIMIT_AND_DAY: &str = "SELECT max_a_day, day FROM book";
+
 /// How many messages of a merchant a day admits, and the business day.
 pub fn limit_and_day<S: Alter>(conn: &mut Connection<S>) -> Result<(Limit, Day), Error>
     ensures answers { Answers (state S.Store conn.old) (state S.Store conn.new) result
@@ -33,7 +35,7 @@ fn book_rows<S: Alter>(conn: &mut Connection<S>) -> Result<Vec<Row>, Error>
         (λ rows. rows.items ≡ (number t.limit ∷ number t.day ∷ []) ∷ []) }
     ensures looks { LooksOnly (state S.Store conn.old) (state S.Store conn.new) (is_ok result) }
 {
-    conn.query_all("SELECT max_a_day, day FROM book", &[])
+    conn.query_all(LIMIT_AND_DAY, &[])
 }
 
 fn read_row(row: &Row) -> Result<(Limit, Day), Error>

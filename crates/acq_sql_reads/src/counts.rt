@@ -21,6 +21,11 @@ use day_totals::Day;
 use sqlite::types::ValueRef;
 use sqlite::{Alter, Connection, Error, ErrorCode, Row};
 
+const PENDING: &str = "SELECT count(*) FROM requests WHERE status = 1 AND day = ?1";
+
+const GREATEST_REFERENCE: &str = "SELECT reference FROM requests WHERE merchant = ?1 \
+    ORDER BY reference DESC LIMIT 1";
+
 /// How many requests of a day are pending, of all merchants.
 pub fn pending<S: Alter>(conn: &mut Connection<S>, day: Day) -> Result<u64, Error>
     ensures answers { Answers (state S.Store conn.old) (state S.Store conn.new) result
@@ -41,10 +46,7 @@ fn pending_rows<S: Alter>(conn: &mut Connection<S>, day: Day) -> Result<Vec<Row>
         (λ rows. rows.items ≡ (count (pending_at t day) ∷ []) ∷ []) }
     ensures looks { LooksOnly (state S.Store conn.old) (state S.Store conn.new) (is_ok result) }
 {
-    conn.query_all(
-        "SELECT count(*) FROM requests WHERE status = 1 AND day = ?1",
-        &[day_value(day)],
-    )
+    conn.query_all(PENDING, &[day_value(day)])
 }
 
 /// How many of the merchant's requests were admitted: so many references it has given.
@@ -104,8 +106,5 @@ fn greatest_rows<S: Alter>(
     ensures looks { LooksOnly (state S.Store conn.old) (state S.Store conn.new) (is_ok result) }
 {
     let merchant = merchant.to_bytes();
-    conn.query_all(
-        "SELECT reference FROM requests WHERE merchant = ?1 ORDER BY reference DESC LIMIT 1",
-        &[ValueRef::Text(&merchant)],
-    )
+    conn.query_all(GREATEST_REFERENCE, &[ValueRef::Text(&merchant)])
 }

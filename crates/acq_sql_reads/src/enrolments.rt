@@ -16,6 +16,11 @@ use acq_message::{MerchantId, TerminalId};
 use sqlite::types::ValueRef;
 use sqlite::{Alter, Connection, Error, Row};
 
+const MERCHANT: &str = "SELECT merchant, currency, first FROM merchants WHERE merchant = ?1";
+
+const TERMINAL: &str = "SELECT merchant, terminal FROM terminals WHERE merchant = ?1 \
+    AND terminal = ?2";
+
 /// The merchant with this name.
 pub fn merchant<S: Alter>(
     conn: &mut Connection<S>,
@@ -40,10 +45,7 @@ fn merchant_rows<S: Alter>(conn: &mut Connection<S>, id: MerchantId) -> Result<V
     ensures looks { LooksOnly (state S.Store conn.old) (state S.Store conn.new) (is_ok result) }
 {
     let id = id.to_bytes();
-    conn.query_all(
-        "SELECT merchant, currency, first FROM merchants WHERE merchant = ?1",
-        &[ValueRef::Text(&id)],
-    )
+    conn.query_all(MERCHANT, &[ValueRef::Text(&id)])
 }
 
 /// The merchant of a row with the three columns.
@@ -84,8 +86,5 @@ fn terminal_rows<S: Alter>(
 {
     let merchant = merchant.to_bytes();
     let id = id.to_bytes();
-    conn.query_all(
-        "SELECT merchant, terminal FROM terminals WHERE merchant = ?1 AND terminal = ?2",
-        &[ValueRef::Text(&merchant), ValueRef::Text(&id)],
-    )
+    conn.query_all(TERMINAL, &[ValueRef::Text(&merchant), ValueRef::Text(&id)])
 }

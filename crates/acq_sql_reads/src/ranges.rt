@@ -17,6 +17,12 @@ use card_no::{Prefix, Range};
 use sqlite::{Alter, Connection, Error, Row};
 use std::alloc::Global;
 
+const NEAREST: &str = "SELECT low, high, issuer, hold_days FROM ranges WHERE low <= ?1 \
+    ORDER BY low DESC LIMIT 1";
+
+const OVERLAPPING: &str = "SELECT low, high, issuer, hold_days FROM ranges WHERE ?1 <= high \
+    AND low <= ?2 ORDER BY low LIMIT 1";
+
 /// The range that holds a prefix, of ranges of which no two overlap.
 pub fn range<S: Alter>(
     conn: &mut Connection<S>,
@@ -46,10 +52,7 @@ fn nearest_rows<S: Alter>(conn: &mut Connection<S>, prefix: Prefix) -> Result<Ve
         (λ rows. IsNearest prefix t.ranges rows.items) }
     ensures looks { LooksOnly (state S.Store conn.old) (state S.Store conn.new) (is_ok result) }
 {
-    conn.query_all(
-        "SELECT low, high, issuer, hold_days FROM ranges WHERE low <= ?1 ORDER BY low DESC LIMIT 1",
-        &[short_value(prefix.number())],
-    )
+    conn.query_all(NEAREST, &[short_value(prefix.number())])
 }
 
 /// Of the ranges that overlap these ends, the one of least low.
@@ -81,10 +84,7 @@ fn overlapping_rows<S: Alter>(
         (λ rows. rows.items ≡ option_to_list (option_map range_cells (overlapping_at t low high))) }
     ensures looks { LooksOnly (state S.Store conn.old) (state S.Store conn.new) (is_ok result) }
 {
-    conn.query_all(
-        "SELECT low, high, issuer, hold_days FROM ranges WHERE ?1 <= high AND low <= ?2 ORDER BY low LIMIT 1",
-        &[short_value(low), short_value(high)],
-    )
+    conn.query_all(OVERLAPPING, &[short_value(low), short_value(high)])
 }
 
 fn read_range(alloc: Global, row: &Row) -> Result<Range, Error>

@@ -18,6 +18,9 @@ use day_totals::Day;
 use sqlite::types::ValueRef;
 use sqlite::{Alter, Connection, Error, Row};
 
+const LAST_RECONCILIATION: &str = "SELECT number, in_balance FROM reconciliations WHERE day = ?1 \
+    AND merchant = ?2 ORDER BY number DESC LIMIT 1";
+
 /// The merchant's last reconciliation of a day, with its number.
 pub fn last_reconciliation<S: Alter>(
     conn: &mut Connection<S>,
@@ -48,7 +51,7 @@ fn last_rows<S: Alter>(
 {
     let merchant = merchant.to_bytes();
     conn.query_all(
-        "SELECT number, in_balance FROM reconciliations WHERE day = ?1 AND merchant = ?2 ORDER BY number DESC LIMIT 1",
+        LAST_RECONCILIATION,
         &[day_value(day), ValueRef::Text(&merchant)],
     )
 }

@@ -4,9 +4,10 @@ ghost use Rattle.std.specs.Prelude.{◌≡◌, IfOk, is_ok};
 ghost use Rattle.sqlite.specs.State.{HasCleanDisk};
 ghost use Rattle.sqlite.specs.Held.{state};
 ghost use Rattle.acq_core.specs.Tables.{Tables};
+ghost use Rattle.acq_core.specs.Pasts.{HasPast};
 ghost use Rattle.acq_book.specs.Lookups.{request_at, referred_at};
 ghost use Rattle.acq_sql_rows.specs.Relation.{Holds};
-ghost use Rattle.acq_sql_reads.specs.Looked.{Answers, LooksOnly};
+ghost use Rattle.acq_sql_reads.specs.Looked.{Answers, AnswersWhere, LooksOnly};
 ghost use Rattle.acq_sql_reads.specs.Recorded.{ShowsRequest};
 
 use crate::request_row::read_request;
@@ -16,6 +17,15 @@ use acq_sql_rows::reference_value;
 use sqlite::types::ValueRef;
 use sqlite::{Alter, Connection, Error, Row};
 use std::alloc::Global;
+
+const BY_KEY: &str = "SELECT merchant, terminal, kind, trace, stamp, essence, day, status, \
+    admitted, reference, follows, amount, leg, card, acquirer, hold_days, until, reply \
+    FROM requests WHERE merchant = ?1 AND terminal = ?2 AND kind = ?3 AND trace = ?4 \
+    AND stamp = ?5";
+
+const BY_REFERENCE: &str = "SELECT merchant, terminal, kind, trace, stamp, essence, day, status, \
+    admitted, reference, follows, amount, leg, card, acquirer, hold_days, until, reply \
+    FROM requests WHERE merchant = ?1 AND reference = ?2";
 
 /// The request with this key.
 pub fn request<S: Alter>(
@@ -47,7 +57,7 @@ fn request_rows<S: Alter>(conn: &mut Connection<S>, key: RequestKey) -> Result<V
     let trace = key.trace.to_bytes();
     let stamp = key.transmission.to_bytes();
     conn.query_all(
-        "SELECT merchant, terminal, kind, trace, stamp, essence, day, status, admitted, reference, follows, amount, leg, card, acquirer, hold_days, until, reply FROM requests WHERE merchant = ?1 AND terminal = ?2 AND kind = ?3 AND trace = ?4 AND stamp = ?5",
+        BY_KEY,
         &[
             ValueRef::Text(&merchant),
             ValueRef::Text(&terminal),
@@ -65,8 +75,8 @@ pub fn by_reference<S: Alter>(
     merchant: MerchantId,
     reference: Reference,
 ) -> Result<Option<Request>, Error>
-    ensures answers { Answers (state S.Store conn.old) (state S.Store conn.new) result
-        (λ t. referred_at t merchant reference) }
+    ensures answers { AnswersWhere (state S.Store conn.old) (state S.Store conn.new) result
+        HasPast (λ t. referred_at t merchant reference) }
     ensures looks { LooksOnly (state S.Store conn.old) (state S.Store conn.new) (is_ok result) }
 {
     let rows = reference_rows(conn, merchant, reference)?;
@@ -83,13 +93,13 @@ fn reference_rows<S: Alter>(
     reference: Reference,
 ) -> Result<Vec<Row>, Error>
     ensures answers { HasCleanDisk (state S.Store conn.new) → (t : Tables)
-        → Holds (state S.Store conn.old).now t → IfOk result
+        → Holds (state S.Store conn.old).now t → HasPast t → IfOk result
         (λ rows. ShowsRequest (referred_at t merchant reference) rows.items) }
     ensures looks { LooksOnly (state S.Store conn.old) (state S.Store conn.new) (is_ok result) }
 {
     let merchant = merchant.to_bytes();
     conn.query_all(
-        "SELECT merchant, terminal, kind, trace, stamp, essence, day, status, admitted, reference, follows, amount, leg, card, acquirer, hold_days, until, reply FROM requests WHERE merchant = ?1 AND reference = ?2",
+        BY_REFERENCE,
         &[ValueRef::Text(&merchant), reference_value(reference)],
     )
 }

@@ -18,6 +18,10 @@ use day_totals::{Day, Totals};
 use sqlite::types::ValueRef;
 use sqlite::{Alter, Connection, Error, Row};
 
+const TOTALS_AND_USED: &str = "SELECT used, credits, credit_reversals, debits, debit_reversals, \
+    credit_amount, credit_reversal_amount, debit_amount, debit_reversal_amount FROM running \
+    WHERE merchant = ?1 AND day = ?2";
+
 /// How many of the merchant's messages count against the limit of a day.
 pub fn used<S: Alter>(
     conn: &mut Connection<S>,
@@ -65,7 +69,7 @@ fn running_rows<S: Alter>(
 {
     let merchant = merchant.to_bytes();
     conn.query_all(
-        "SELECT used, credits, credit_reversals, debits, debit_reversals, credit_amount, credit_reversal_amount, debit_amount, debit_reversal_amount FROM running WHERE merchant = ?1 AND day = ?2",
+        TOTALS_AND_USED,
         &[ValueRef::Text(&merchant), day_value(day)],
     )
 }

@@ -18,6 +18,15 @@ use sqlite::types::ValueRef;
 use sqlite::{Alter, Connection, Error};
 use std::alloc::Global;
 
+const POSTINGS: &str = "SELECT merchant, day, number, leg, amount, reference, card, terminal, \
+    trace FROM postings WHERE day = ?1 ORDER BY merchant, number";
+
+const MERCHANTS: &str = "SELECT merchant, currency, first FROM merchants ORDER BY merchant";
+
+const HOLDS: &str = "SELECT merchant, terminal, kind, trace, stamp, essence, day, status, \
+    admitted, reference, follows, amount, leg, card, acquirer, hold_days, until, reply \
+    FROM requests WHERE merchant = ?1 AND kind = '010' AND status = 3 ORDER BY reference";
+
 /// Hands over the postings of a day, each with its number, in order of merchant and number.
 pub fn walk_postings<S: Alter, V: Visit<(u64, Posting)>>(
     conn: &mut Connection<S>,
@@ -33,7 +42,7 @@ pub fn walk_postings<S: Alter, V: Visit<(u64, Posting)>>(
 {
     show_rows(
         conn,
-        "SELECT merchant, day, number, leg, amount, reference, card, terminal, trace FROM postings WHERE day = ?1 ORDER BY merchant, number",
+        POSTINGS,
         &[day_value(day)],
         &PostingRows { alloc },
         visitor,
@@ -51,13 +60,7 @@ pub fn walk_merchants<S: Alter, V: Visit<Merchant>>(
         V.sees merchants_at visitor.old visitor.new }
     ensures looks { LooksOnly (state S.Store conn.old) (state S.Store conn.new) (is_ok result) }
 {
-    show_rows(
-        conn,
-        "SELECT merchant, currency, first FROM merchants ORDER BY merchant",
-        &[],
-        &MerchantRows,
-        visitor,
-    )
+    show_rows(conn, MERCHANTS, &[], &MerchantRows, visitor)
 }
 
 /// Hands over a merchant's approved holds, which are neither completed nor reversed, in order of
@@ -77,7 +80,7 @@ pub fn walk_holds<S: Alter, V: Visit<Request>>(
     let merchant = merchant.to_bytes();
     show_rows(
         conn,
-        "SELECT merchant, terminal, kind, trace, stamp, essence, day, status, admitted, reference, follows, amount, leg, card, acquirer, hold_days, until, reply FROM requests WHERE merchant = ?1 AND kind = '010' AND status = 3 ORDER BY reference",
+        HOLDS,
         &[ValueRef::Text(&merchant)],
         &RequestRows { alloc },
         visitor,

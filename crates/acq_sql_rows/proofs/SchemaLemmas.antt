@@ -1,6 +1,6 @@
 -- What the texts that make the tables mean, and where each table stands.
 use Rattle.std.proofs.Common.{◌≡◌, Ok, refl}
-use Rattle.sqlite_resolve.specs.Compile.{table_defined_by}
+use Rattle.sqlite_resolve.specs.Compile.{table_defined_by, index_defined_by}
 use Rattle.sqlite_tied.specs.Compute.{everything}
 use Rattle.acq_sql_rows.specs.Schema as schema
 
@@ -23,6 +23,11 @@ ranges_is = refl
 pub requests_is : table_defined_by schema.requests_text ≡ Ok schema.requests
 unfolding everything
 requests_is = refl
+
+pub references_is : index_defined_by (record schema.requests { tree = 6 }) schema.references_text
+    ≡ Ok schema.references
+unfolding everything
+references_is = refl
 
 pub postings_is : table_defined_by schema.postings_text ≡ Ok schema.postings
 unfolding everything

@@ -11,8 +11,8 @@ use Rattle.acq_core.specs.declared.request.Request.{Request}
 use Rattle.acq_core.specs.Tables.{Tables}
 use Rattle.acq_sql_rows.specs.Schema.{book_schema}
 use Rattle.acq_sql_rows.specs.Tallies.{Running, AreApart, Tallies, FitsTally, tally_of}
-use Rattle.acq_sql_rows.specs.Rows.{book_row, merchant_row, terminal_row, range_row, request_row}
-use Rattle.acq_sql_rows.specs.Rows.{posting_row, reconciliation_row, running_row}
+use Rattle.acq_sql_rows.specs.Rows.{version, book_row_of, merchant_row, terminal_row, range_row}
+use Rattle.acq_sql_rows.specs.Rows.{request_row, posting_row, reconciliation_row, running_row}
 
 -- in order of low
 abbrev pub AreRising : List Range → Type 0
@@ -22,12 +22,13 @@ AreRising = IsAscending (λ a b. a.low < b.low)
 abbrev pub AreRecorded : List Request → Type 0
 AreRecorded = AllByRecursion (λ row. IsMessage row.reply)
 
--- each table has the rows of its list, in the list's order
-pub record HoldsRows (db : Database) (t : Tables) (runs : List Running) : Type 0 where
+-- each table has the rows of its list, in the list's order, in a book of this version
+pub record HoldsRowsOf (version : ℕ) (db : Database) (t : Tables)
+    (runs : List Running) : Type 0 where
   pub schema : db.schema ≡ book_schema
   -- the trees list the schema and obey it, so an open finds it, and no key comes twice
   pub sound : IsSound book_schema db.trees
-  pub book : db.trees 0 ≡ numbered_from 1 (book_row t.limit t.day ∷ [])
+  pub book : db.trees 0 ≡ numbered_from 1 (book_row_of version t.limit t.day ∷ [])
   pub merchants : db.trees 1 ≡ rows_of merchant_row t.merchants
   pub terminals : db.trees 3 ≡ rows_of terminal_row t.terminals
   pub ranges : db.trees 5 ≡ map range_row t.ranges
@@ -39,10 +40,18 @@ pub record HoldsRows (db : Database) (t : Tables) (runs : List Running) : Type 0
   pub running : db.trees 13 ≡ rows_of running_row runs
   pub apart : AreApart runs
 
--- the database holds the tables, and its running totals are those of the lists
-pub record Holds (db : Database) (t : Tables) : Type 0 where
+-- the database holds the tables in a book of this version, and its running totals are those of the
+-- lists
+pub record HoldsOf (version : ℕ) (db : Database) (t : Tables) : Type 0 where
   pub runs : List Running
-  pub rows : HoldsRows db t runs
+  pub rows : HoldsRowsOf version db t runs
   pub tallied : Tallies runs t
   -- what a day comes to stays within its columns
   pub short : (merchant : List ℕ) (day : ℕ) → FitsTally (tally_of t merchant day)
+
+-- the same of the version in force
+abbrev pub HoldsRows : Database → Tables → List Running → Type 0
+HoldsRows = HoldsRowsOf version
+
+abbrev pub Holds : Database → Tables → Type 0
+Holds = HoldsOf version

@@ -17,6 +17,7 @@ use Rattle.acq_core.specs.declared.status.Status.{Status}
 use Rattle.acq_core.specs.declared.status.Status.TheVariants as status
 use Rattle.acq_core.specs.declared.posting.Posting.{Posting}
 use Rattle.acq_core.specs.declared.reconciliation.Reconciliation.{Reconciliation}
+use Rattle.acq_sql_rows.specs.declared.tables.TheConstants.{VERSION}
 use Rattle.acq_sql_rows.specs.Tallies.{Tally, Running}
 
 -- ---- numbers of words
@@ -43,12 +44,16 @@ bit_of false = 0
 
 -- ---- rows
 
--- the version of these tables
+-- a book's row, of any version
+abbrev pub book_row_of : ℕ → ℕ → ℕ → Row
+book_row_of version limit day = number version ∷ number limit ∷ number day ∷ []
+
+-- the version in force
 abbrev pub version : ℕ
-version = 1
+version = VERSION
 
 abbrev pub book_row : ℕ → ℕ → Row
-book_row limit day = number version ∷ number limit ∷ number day ∷ []
+book_row = book_row_of version
 
 abbrev pub merchant_row : Merchant → Row
 merchant_row m = Text m.id ∷ Text m.currency ∷ number m.first_reference ∷ []

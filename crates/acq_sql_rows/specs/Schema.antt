@@ -1,15 +1,19 @@
--- The tables of the file, and the texts that make them.
+-- The tables of the file, and the texts that make them (`src/tables.rt`).
 use Rattle.std.specs.Prelude.{Bool, true, false, [], ◌∷◌, ◌++◌, List, ℕ, Option, Some, None, codes}
 use Rattle.sqlite_value.specs.declared.keys.Collation.TheVariants.{Binary}
 use Rattle.sqlite_value.specs.declared.value.Value.TheVariants.{Null}
 use Rattle.sqlite_value.specs.Keys.{plain}
 use Rattle.sqlite_value.specs.declared.keys.Order.{Order}
 use Rattle.sqlite_schema.specs.declared.schema.Column.{Column}
+use Rattle.sqlite_schema.specs.declared.schema.Index.{Index}
 use Rattle.sqlite_schema.specs.declared.schema.Table.{Table}
 use Rattle.sqlite_schema.specs.declared.schema.Schema.{Schema}
 use Rattle.sqlite_schema.specs.declared.schema.Kind.{Kind}
 use Rattle.sqlite_schema.specs.declared.schema.Kind.TheVariants.{Integer, Text}
-use Rattle.sqlite_catalog.specs.Change.{created}
+use Rattle.sqlite_catalog.specs.Change.{created, indexed}
+use Rattle.acq_sql_rows.specs.declared.tables.TheConstants.{BOOK, MERCHANTS, TERMINALS, RANGES}
+use Rattle.acq_sql_rows.specs.declared.tables.TheConstants.{REQUESTS, REFERENCES, POSTINGS}
+use Rattle.acq_sql_rows.specs.declared.tables.TheConstants.{RECONCILIATIONS, RUNNING}
 
 -- ---- columns and tables
 
@@ -53,9 +57,7 @@ table_of name columns key primary uniques orders =
 -- ---- the book: one row
 
 abbrev pub book_text : List ℕ
-book_text =
-    codes "CREATE TABLE book (version INTEGER NOT NULL, max_a_day INTEGER NOT NULL, "
-    ++ codes "day INTEGER NOT NULL) STRICT"
+book_text = BOOK.now
 
 abbrev pub book : Table
 book =
@@ -67,9 +69,7 @@ book =
 -- ---- merchants
 
 abbrev pub merchants_text : List ℕ
-merchants_text =
-    codes "CREATE TABLE merchants (merchant TEXT PRIMARY KEY, currency TEXT NOT NULL, "
-    ++ codes "first INTEGER NOT NULL) STRICT"
+merchants_text = MERCHANTS.now
 
 abbrev pub merchants : Table
 merchants =
@@ -81,9 +81,7 @@ merchants =
 -- ---- terminals
 
 abbrev pub terminals_text : List ℕ
-terminals_text =
-    codes "CREATE TABLE terminals (merchant TEXT, terminal TEXT, "
-    ++ codes "PRIMARY KEY (merchant, terminal)) STRICT"
+terminals_text = TERMINALS.now
 
 abbrev pub terminals : Table
 terminals =
@@ -94,9 +92,7 @@ terminals =
 -- ---- ranges: low is the rowid, whose column stands empty
 
 abbrev pub ranges_text : List ℕ
-ranges_text =
-    codes "CREATE TABLE ranges (low INTEGER PRIMARY KEY, high INTEGER NOT NULL, "
-    ++ codes "issuer TEXT NOT NULL, hold_days INTEGER NOT NULL) STRICT"
+ranges_text = RANGES.now
 
 abbrev pub ranges : Table
 ranges =
@@ -108,14 +104,7 @@ ranges =
 -- ---- requests
 
 abbrev pub requests_text : List ℕ
-requests_text =
-    codes "CREATE TABLE requests (merchant TEXT, terminal TEXT, kind TEXT, trace TEXT, "
-    ++ codes "stamp TEXT, essence TEXT NOT NULL, day INTEGER NOT NULL, "
-    ++ codes "status INTEGER NOT NULL, admitted INTEGER NOT NULL, reference INTEGER, "
-    ++ codes "follows INTEGER, amount INTEGER NOT NULL, leg INTEGER NOT NULL, card TEXT, "
-    ++ codes "acquirer TEXT, hold_days INTEGER, until INTEGER, reply TEXT NOT NULL, "
-    ++ codes "PRIMARY KEY (merchant, terminal, kind, trace, stamp), "
-    ++ codes "UNIQUE (merchant, reference)) STRICT"
+requests_text = REQUESTS.now
 
 abbrev pub requests : Table
 requests =
@@ -127,17 +116,28 @@ requests =
     ∷ may (codes "follows") Integer ∷ need (codes "amount") Integer ∷ need (codes "leg") Integer
     ∷ may (codes "card") Text ∷ may (codes "acquirer") Text ∷ may (codes "hold_days") Integer
     ∷ may (codes "until") Integer ∷ need (codes "reply") Text ∷ [])
-    None (1 ∷ 2 ∷ 3 ∷ 4 ∷ 5 ∷ []) ((1 ∷ 2 ∷ 3 ∷ 4 ∷ 5 ∷ []) ∷ (1 ∷ 10 ∷ []) ∷ [])
-    (plain ∷ plain ∷ [])
+    None (1 ∷ 2 ∷ 3 ∷ 4 ∷ 5 ∷ []) ((1 ∷ 2 ∷ 3 ∷ 4 ∷ 5 ∷ []) ∷ []) (plain ∷ [])
+
+-- Look-ups by reference go through it. It is no unique key: those of one merchant that have no
+-- reference would be compared with each other at each row, and that none is given twice is a law.
+abbrev pub references_text : List ℕ
+references_text = REFERENCES.now
+
+abbrev pub references : Index
+references =
+    record {
+      name = codes "requests_by_reference";
+      tree = 0;
+      table = 6;
+      columns = 1 ∷ 10 ∷ [];
+      order = plain;
+      is_unique = false;
+    }
 
 -- ---- postings
 
 abbrev pub postings_text : List ℕ
-postings_text =
-    codes "CREATE TABLE postings (merchant TEXT, day INTEGER, number INTEGER, "
-    ++ codes "leg INTEGER NOT NULL, amount INTEGER NOT NULL, reference INTEGER NOT NULL, "
-    ++ codes "card TEXT NOT NULL, terminal TEXT NOT NULL, trace TEXT NOT NULL, "
-    ++ codes "PRIMARY KEY (day, merchant, number)) STRICT"
+postings_text = POSTINGS.now
 
 abbrev pub postings : Table
 postings =
@@ -151,9 +151,7 @@ postings =
 -- ---- reconciliations
 
 abbrev pub reconciliations_text : List ℕ
-reconciliations_text =
-    codes "CREATE TABLE reconciliations (merchant TEXT, day INTEGER, number INTEGER, "
-    ++ codes "in_balance INTEGER NOT NULL, PRIMARY KEY (day, merchant, number)) STRICT"
+reconciliations_text = RECONCILIATIONS.now
 
 abbrev pub reconciliations : Table
 reconciliations =
@@ -165,13 +163,7 @@ reconciliations =
 -- ---- running totals of each merchant and day
 
 abbrev pub running_text : List ℕ
-running_text =
-    codes "CREATE TABLE running (merchant TEXT, day INTEGER, used INTEGER NOT NULL, "
-    ++ codes "credits INTEGER NOT NULL, credit_reversals INTEGER NOT NULL, "
-    ++ codes "debits INTEGER NOT NULL, debit_reversals INTEGER NOT NULL, "
-    ++ codes "credit_amount INTEGER NOT NULL, credit_reversal_amount INTEGER NOT NULL, "
-    ++ codes "debit_amount INTEGER NOT NULL, debit_reversal_amount INTEGER NOT NULL, "
-    ++ codes "PRIMARY KEY (merchant, day)) STRICT"
+running_text = RUNNING.now
 
 abbrev pub running : Table
 running =
@@ -205,7 +197,8 @@ up_to_ranges = created up_to_terminals ranges
 
 unfoldable pub up_to_requests : Schema
 unfolding up_to_ranges
-up_to_requests = created up_to_ranges requests
+up_to_requests =
+    indexed (created up_to_ranges requests) (record requests { tree = 6 }) references
 
 unfoldable pub up_to_postings : Schema
 unfolding up_to_requests

@@ -7,6 +7,7 @@
 //! that a row is written as.
 #![tactic(auto)]
 
+pub mod tables;
 mod values;
 
 pub use values::{

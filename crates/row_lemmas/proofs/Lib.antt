@@ -18,6 +18,7 @@ pub mod UpdatesSucceed
 pub mod NewForms
 pub mod Upserts
 pub mod CreatedTables
+pub mod CreatedIndexes
 pub mod OpenedStores
 pub mod UpsertsSucceed
 pub mod ListReads

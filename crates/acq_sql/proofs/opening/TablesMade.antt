@@ -1,14 +1,16 @@
 -- What making the tables makes.
 use Rattle.std.proofs.Common.{ℕ, List, [], Ok, Err, Result, OnOk, refl}
+use Rattle.sqlite_schema.specs.declared.schema.Index.{Index}
 use Rattle.sqlite_schema.specs.declared.schema.Schema.{Schema}
 use Rattle.sqlite_schema.specs.declared.schema.Table.{Table}
-use Rattle.sqlite_catalog.specs.Change.{created}
+use Rattle.sqlite_catalog.specs.Change.{created, indexed}
 use Rattle.sqlite_tied.specs.Compute.{everything}
 use Rattle.sqlite.specs.declared.error.Error.{Error}
 use Rattle.sqlite.specs.Listing.{understood}
 use Rattle.sqlite.specs.State.{State, ExecutesInside}
-use Rattle.row_lemmas.specs.Created.{Makes, IsBlank}
+use Rattle.row_lemmas.specs.Created.{Makes, Indexes, IsBlank}
 use Rattle.row_lemmas.proofs.CreatedTables.{table_made, blank_made}
+use Rattle.row_lemmas.proofs.CreatedIndexes.{index_made, blank_indexed}
 use Rattle.acq_sql_rows.specs.Schema as schema
 use Rattle.acq_sql_rows.proofs.SchemaLemmas as text_is
 
@@ -20,6 +22,15 @@ table_added sql old new (Err e) schema table makes blank does = tt
 table_added sql old new (Ok count) schema table makes blank does =
     blank_made schema table old new blank
     (table_made schema sql table makes old new (Ok count) blank.schema_is does.0)
+
+pub index_added : (sql : List ℕ) (old new : State) (res : Result ℕ Error) (schema : Schema)
+    (at : ℕ) (table : Table) (index : Index)
+    → Indexes schema sql at table index → IsBlank schema old.now
+    → ExecutesInside 0 sql [] old new res → OnOk res (IsBlank (indexed schema table index) new.now)
+index_added sql old new (Err e) schema at table index makes blank does = tt
+index_added sql old new (Ok count) schema at table index makes blank does =
+    blank_indexed schema table index old new blank
+    (index_made schema sql at table index makes old new (Ok count) blank.schema_is does.0)
 
 -- ---- what each text makes
 
@@ -77,6 +88,19 @@ makes_requests =
       plain = (refl, refl);
       table_is = text_is.requests_is;
       uncounted = refl;
+    }
+
+pub makes_references : Indexes (created schema.up_to_ranges schema.requests) schema.references_text 4
+    (record schema.requests { tree = 6 }) schema.references
+unfolding understood everything schema.up_to_ranges schema.up_to_terminals schema.up_to_merchants
+    schema.up_to_book
+makes_references =
+    record {
+      command = refl;
+      statement = refl;
+      plain = (refl, refl);
+      placed = refl;
+      index_is = text_is.references_is;
     }
 
 pub makes_postings : Makes schema.up_to_requests schema.postings_text schema.postings

@@ -15,10 +15,12 @@ ghost use Rattle.acq_sql.specs.Checked.{Judges, IsFailure, HasVersion};
 use crate::opening::alike::Alike;
 use crate::opening::opening_fault::OpeningFault;
 use crate::opening::tables::{create_enrolments, create_records};
-use acq_sql_changes::writes::VERSION;
+use acq_sql_rows::tables::VERSION;
 use sqlite::{Alter, Connection, Error, Row};
 use sqlite_schema::schema::Schema;
 use std::alloc::Global;
+
+const VERSION_OF_BOOK: &str = "SELECT version FROM book";
 
 /// Whether the database is a book of this version: it has the book's tables and no other object,
 /// and the book's one row, whose version is this one. The allocator is for the tables that it
@@ -84,5 +86,5 @@ fn version_rows<S: Alter>(conn: &mut Connection<S>) -> Result<Vec<Row>, Error>
     ensures looks { LooksOnly (state S.Store conn.old) (state S.Store conn.new) (is_ok result) }
     ensures settled { conn.old.in_transaction ≡ false → conn.new.in_transaction ≡ false }
 {
-    conn.query_all("SELECT version FROM book", &[])
+    conn.query_all(VERSION_OF_BOOK, &[])
 }

@@ -6,12 +6,10 @@ ghost use Rattle.acq_sql_changes.specs.Written.{BeginsBook, StaysInside, KeepsCo
 ghost use Rattle.acq_sql_changes.specs.Written.{CommitsNothing};
 
 use acq_core::Limit;
+use acq_sql_rows::tables::VERSION;
 use acq_sql_rows::{day_value, short_value};
 use day_totals::Day;
 use sqlite::{Alter, Error, Transaction};
-
-/// The version of the tables.
-pub const VERSION: u32 = 1;
 
 /// Writes the row of a new book: how many messages of a merchant a day admits, and the first
 /// business day.

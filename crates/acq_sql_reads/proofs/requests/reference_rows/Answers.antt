@@ -11,11 +11,11 @@ use Rattle.acq_sql_reads.proofs.RequestReads.{reference_found}
 use Rattle.acq_sql_reads.proofs.requests.reference_rows.Goals as goal
 
 pub returns-clause-answers : goal.returns-clause-answers
-returns-clause-answers g c clean t holds =
+returns-clause-answers g c clean t holds past =
     IfOk-weaker c.query_all.result _ _
     (λ rows shown. reference_found c.args.merchant c.args.reference
     (state g.S.Store c.args.conn.now) (state g.S.Store c.query_all.new.self)
-    t holds.runs rows.items holds.rows
+    t holds.runs rows.items holds.rows past
     (rw (c.to_bytes-merchant.ensures.value, c.reference_value.ensures) at shown))
     (c.query_all.ensures.ok clean)
 

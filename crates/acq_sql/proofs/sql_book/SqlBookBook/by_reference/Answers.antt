@@ -11,4 +11,4 @@ returns-clause-value g c o =
     c.self.invariant c.settled.ensures
     c.counted.ensures.same c.counted.ensures.succeeds
     (λ t. referred_at t c.args.merchant c.args.reference)
-    (λ clean t holds past. c.by_reference-answer.ensures.answers clean t holds) o
+    c.by_reference-answer.ensures.answers o
