@@ -218,3 +218,29 @@ up_to_reconciliations = created up_to_postings reconciliations
 unfoldable pub book_schema : Schema
 unfolding up_to_reconciliations
 book_schema = created up_to_reconciliations running
+
+-- ---- the tree of each; between them stand the trees of their indexes
+
+abbrev pub book_tree : ℕ
+book_tree = 0
+
+abbrev pub merchants_tree : ℕ
+merchants_tree = 1
+
+abbrev pub terminals_tree : ℕ
+terminals_tree = 3
+
+abbrev pub ranges_tree : ℕ
+ranges_tree = 5
+
+abbrev pub requests_tree : ℕ
+requests_tree = 6
+
+abbrev pub postings_tree : ℕ
+postings_tree = 9
+
+abbrev pub reconciliations_tree : ℕ
+reconciliations_tree = 11
+
+abbrev pub running_tree : ℕ
+running_tree = 13
