@@ -8,6 +8,7 @@ use Rattle.sqlite_sql.specs.Term.{Term, lit, op2}
 use Rattle.sqlite_sql.specs.Query.{Query}
 use Rattle.sqlite_schema.specs.declared.command.Upsert.{Upsert}
 use Rattle.row_lemmas.specs.Queries.{plain_query, alone, column, param, is_param}
+use Rattle.acq_sql_rows.specs.Schema.{book_tree, ranges_tree, requests_tree, running_tree}
 
 -- a row of so many parameters, with a rowid that is chosen for it
 abbrev pub new_row : ℕ → List Term
@@ -20,7 +21,8 @@ columns from len = map column (range_with_len from len)
 -- ---- the book's row
 
 abbrev pub set_day_query : Query
-set_day_query = plain_query 0 [] (column 0 ∷ column 0 ∷ column 1 ∷ column 2 ∷ param 0 ∷ []) []
+set_day_query =
+    plain_query book_tree [] (column 0 ∷ column 0 ∷ column 1 ∷ column 2 ∷ param 0 ∷ []) []
 
 -- ---- ranges: low is the rowid, and its column stands empty
 
@@ -31,7 +33,7 @@ abbrev pub ends_are : List Term
 ends_are = is_param 0 0 ∷ is_param 2 1 ∷ []
 
 abbrev pub drop_range_query : Query
-drop_range_query = plain_query 5 ends_are (column 0 ∷ []) []
+drop_range_query = plain_query ranges_tree ends_are (column 0 ∷ []) []
 
 -- ---- requests
 
@@ -41,14 +43,14 @@ key_is = is_param 1 0 ∷ is_param 2 1 ∷ is_param 3 2 ∷ is_param 4 3 ∷ is_
 
 abbrev pub answer_query : Query
 answer_query =
-    plain_query 6 key_is
+    plain_query requests_tree key_is
     (column 0 ∷ column 0 ∷ column 1 ∷ column 2 ∷ column 3 ∷ column 4 ∷ column 5 ∷ column 6
     ∷ column 7 ∷ param 5 ∷ column 9 ∷ column 10 ∷ column 11 ∷ column 12 ∷ column 13 ∷ column 14
     ∷ column 15 ∷ column 16 ∷ param 6 ∷ param 7 ∷ []) []
 
 abbrev pub follow_query : Query
 follow_query =
-    plain_query 6 key_is
+    plain_query requests_tree key_is
     (column 0 ∷ column 0 ∷ column 1 ∷ column 2 ∷ column 3 ∷ column 4 ∷ column 5 ∷ column 6
     ∷ column 7 ∷ param 5 ∷ column 9 ∷ column 10 ∷ column 11 ∷ column 12 ∷ column 13 ∷ column 14
     ∷ column 15 ∷ column 16 ∷ column 17 ∷ column 18 ∷ []) []
@@ -62,7 +64,7 @@ plus_param at given = op2 (Arith Add) (column at) (param given)
 -- parameter 11 is the rowid of the row that is there
 abbrev pub raise_query : Query
 raise_query =
-    plain_query 13 (is_param 0 11 ∷ [])
+    plain_query running_tree (is_param 0 11 ∷ [])
     (column 0 ∷ column 0 ∷ column 1 ∷ column 2 ∷ plus_param 3 2 ∷ plus_param 4 3 ∷ plus_param 5 4
     ∷ plus_param 6 5 ∷ plus_param 7 6 ∷ plus_param 8 7 ∷ plus_param 9 8 ∷ plus_param 10 9
     ∷ plus_param 11 10 ∷ []) []

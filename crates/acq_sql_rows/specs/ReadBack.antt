@@ -31,6 +31,8 @@ use Rattle.acq_core.specs.declared.status.Status.TheVariants as status
 use Rattle.acq_core.specs.declared.posting.Posting.{Posting}
 use Rattle.acq_core.specs.declared.reconciliation.Reconciliation.{Reconciliation}
 use Rattle.acq_core.specs.Tables.{Tables}
+use Rattle.acq_sql_rows.specs.Schema.{book_tree, merchants_tree, terminals_tree, ranges_tree}
+use Rattle.acq_sql_rows.specs.Schema.{requests_tree, postings_tree, reconciliations_tree}
 
 -- ---- columns of a row; column 0 is its rowid
 
@@ -158,19 +160,19 @@ reconciliation_at row = (
 
 -- the book's one row
 abbrev pub book_row_in : Trees → Row
-book_row_in trees = slice_index_or (trees 0) 0 []
+book_row_in trees = slice_index_or (trees book_tree) 0 []
 
 unfoldable pub tables_in : Trees → Tables
 tables_in trees =
     record {
       limit = number_at (book_row_in trees) 2;
       day = number_at (book_row_in trees) 3;
-      merchants = map merchant_at (trees 1);
-      terminals = map terminal_at (trees 3);
-      ranges = map range_at (trees 5);
-      requests = map request_at (trees 6);
-      postings = map posting_at (trees 9);
-      reconciliations = map reconciliation_at (trees 11);
+      merchants = map merchant_at (trees merchants_tree);
+      terminals = map terminal_at (trees terminals_tree);
+      ranges = map range_at (trees ranges_tree);
+      requests = map request_at (trees requests_tree);
+      postings = map posting_at (trees postings_tree);
+      reconciliations = map reconciliation_at (trees reconciliations_tree);
     }
 
 -- the tables that a database stands for

@@ -10,6 +10,9 @@ use Rattle.row_lemmas.specs.Numbered.{numbered_from, rows_of}
 use Rattle.acq_core.specs.declared.request.Request.{Request}
 use Rattle.acq_core.specs.Tables.{Tables}
 use Rattle.acq_sql_rows.specs.Schema.{book_schema}
+use Rattle.acq_sql_rows.specs.Schema.{book_tree, merchants_tree, terminals_tree, ranges_tree}
+use Rattle.acq_sql_rows.specs.Schema.{requests_tree, postings_tree, reconciliations_tree}
+use Rattle.acq_sql_rows.specs.Schema.{running_tree}
 use Rattle.acq_sql_rows.specs.Tallies.{Running, AreApart, Tallies, FitsTally, tally_of}
 use Rattle.acq_sql_rows.specs.Rows.{version, book_row_of, merchant_row, terminal_row, range_row}
 use Rattle.acq_sql_rows.specs.Rows.{request_row, posting_row, reconciliation_row, running_row}
@@ -28,16 +31,16 @@ pub record HoldsRowsOf (version : ℕ) (db : Database) (t : Tables)
   pub schema : db.schema ≡ book_schema
   -- the trees list the schema and obey it, so an open finds it, and no key comes twice
   pub sound : IsSound book_schema db.trees
-  pub book : db.trees 0 ≡ numbered_from 1 (book_row_of version t.limit t.day ∷ [])
-  pub merchants : db.trees 1 ≡ rows_of merchant_row t.merchants
-  pub terminals : db.trees 3 ≡ rows_of terminal_row t.terminals
-  pub ranges : db.trees 5 ≡ map range_row t.ranges
+  pub book : db.trees book_tree ≡ numbered_from 1 (book_row_of version t.limit t.day ∷ [])
+  pub merchants : db.trees merchants_tree ≡ rows_of merchant_row t.merchants
+  pub terminals : db.trees terminals_tree ≡ rows_of terminal_row t.terminals
+  pub ranges : db.trees ranges_tree ≡ map range_row t.ranges
   pub rising : AreRising t.ranges
-  pub requests : db.trees 6 ≡ rows_of request_row t.requests
+  pub requests : db.trees requests_tree ≡ rows_of request_row t.requests
   pub recorded : AreRecorded t.requests
-  pub postings : db.trees 9 ≡ rows_of posting_row t.postings
-  pub reconciliations : db.trees 11 ≡ rows_of reconciliation_row t.reconciliations
-  pub running : db.trees 13 ≡ rows_of running_row runs
+  pub postings : db.trees postings_tree ≡ rows_of posting_row t.postings
+  pub reconciliations : db.trees reconciliations_tree ≡ rows_of reconciliation_row t.reconciliations
+  pub running : db.trees running_tree ≡ rows_of running_row runs
   pub apart : AreApart runs
 
 -- the database holds the tables in a book of this version, and its running totals are those of the

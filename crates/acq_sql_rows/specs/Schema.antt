@@ -15,6 +15,32 @@ use Rattle.acq_sql_rows.specs.declared.tables.TheConstants.{BOOK, MERCHANTS, TER
 use Rattle.acq_sql_rows.specs.declared.tables.TheConstants.{REQUESTS, REFERENCES, POSTINGS}
 use Rattle.acq_sql_rows.specs.declared.tables.TheConstants.{RECONCILIATIONS, RUNNING}
 
+-- ---- the tree of each; between them stand the trees of their indexes
+
+abbrev pub book_tree : ℕ
+book_tree = 0
+
+abbrev pub merchants_tree : ℕ
+merchants_tree = 1
+
+abbrev pub terminals_tree : ℕ
+terminals_tree = 3
+
+abbrev pub ranges_tree : ℕ
+ranges_tree = 5
+
+abbrev pub requests_tree : ℕ
+requests_tree = 6
+
+abbrev pub postings_tree : ℕ
+postings_tree = 9
+
+abbrev pub reconciliations_tree : ℕ
+reconciliations_tree = 11
+
+abbrev pub running_tree : ℕ
+running_tree = 13
+
 -- ---- columns and tables
 
 abbrev pub column_of : Bool → List ℕ → Kind → Column
@@ -128,7 +154,7 @@ references =
     record {
       name = codes "requests_by_reference";
       tree = 0;
-      table = 6;
+      table = requests_tree;
       columns = 1 ∷ 10 ∷ [];
       order = plain;
       is_unique = false;
@@ -198,7 +224,7 @@ up_to_ranges = created up_to_terminals ranges
 unfoldable pub up_to_requests : Schema
 unfolding up_to_ranges
 up_to_requests =
-    indexed (created up_to_ranges requests) (record requests { tree = 6 }) references
+    indexed (created up_to_ranges requests) (record requests { tree = requests_tree }) references
 
 unfoldable pub up_to_postings : Schema
 unfolding up_to_requests

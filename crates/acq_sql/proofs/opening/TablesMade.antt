@@ -91,7 +91,7 @@ makes_requests =
     }
 
 pub makes_references : Indexes (created schema.up_to_ranges schema.requests) schema.references_text 4
-    (record schema.requests { tree = 6 }) schema.references
+    (record schema.requests { tree = schema.requests_tree }) schema.references
 unfolding understood everything schema.up_to_ranges schema.up_to_terminals schema.up_to_merchants
     schema.up_to_book
 makes_references =
