@@ -173,27 +173,32 @@ module _ (key : RequestKey) where
 none_refer : (n : ℕ) (xs : List Request) → list_any (nat_eq n) (references_in xs) ≡ false →
     filter (λ x. is_number n x.reference) xs ≡ []
 none_refer n [] none = refl
-none_refer n (x ∷ xs) none = go x.reference none
+none_refer n (x ∷ xs) none = go x.reference none (none_refer n xs)
   where
     go : (o : Option ℕ) → list_any (nat_eq n) (cons_option o (references_in xs)) ≡ false →
+        (list_any (nat_eq n) (references_in xs) ≡ false →
+        filter (λ y. is_number n y.reference) xs ≡ []) →
         cond (is_number n o) (x ∷ filter (λ y. is_number n y.reference) xs)
         (filter (λ y. is_number n y.reference) xs) ≡ []
-    go None none = none_refer n xs none
-    go (Some m) none =
+    go None none later = later none
+    go (Some m) none later =
+        let parts = or_parts _ _ none in
         let other : is_number n (Some m) ≡ false = grind (arith, nat_tests) in
-        rw other (none_refer n xs (or_parts _ _ none).1)
+        rw other (later parts.1)
 
 -- of requests whose references are distinct, one at most has this one
 few_refer : (n : ℕ) (xs : List Request) → are_distinct nat_eq (references_in xs) ≡ true →
     length (filter (λ x. is_number n x.reference) xs) ≤ 1
 few_refer n [] distinct = omega arith
-few_refer n (x ∷ xs) distinct = go x.reference distinct
+few_refer n (x ∷ xs) distinct = go x.reference distinct (few_refer n xs)
   where
     go : (o : Option ℕ) → are_distinct nat_eq (cons_option o (references_in xs)) ≡ true →
+        (are_distinct nat_eq (references_in xs) ≡ true →
+        length (filter (λ y. is_number n y.reference) xs) ≤ 1) →
         length (cond (is_number n o) (x ∷ filter (λ y. is_number n y.reference) xs)
         (filter (λ y. is_number n y.reference) xs)) ≤ 1
-    go None distinct = few_refer n xs distinct
-    go (Some m) distinct =
+    go None distinct later = later distinct
+    go (Some m) distinct later =
         let parts = and_parts _ _ distinct in
         let rest = filter (λ (y : Request). is_number n y.reference) xs in
         let step : (b : Bool) → is_number n (Some m) ≡ b → length (cond b (x ∷ rest) rest) ≤ 1 =
@@ -203,7 +208,7 @@ few_refer n (x ∷ xs) distinct = go x.reference distinct
               let none = subst (λ k. list_any (nat_eq k) (references_in xs) ≡ false) same
               (not-true _ parts.0) in
               subst (λ l. length (x ∷ l) ≤ 1) (sym (none_refer n xs none)) (omega arith))
-          | false ↦ (λ is. few_refer n xs parts.1)
+          | false ↦ (λ is. later parts.1)
         ] in
         step (is_number n (Some m)) refl
 
