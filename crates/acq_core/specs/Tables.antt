@@ -21,11 +21,7 @@ use Rattle.acq_core.specs.declared.merchant.Merchant.{Merchant}
 use Rattle.acq_core.specs.declared.terminal.Terminal.{Terminal}
 use Rattle.acq_core.specs.declared.request.Request.{Request}
 use Rattle.acq_core.specs.declared.status.Status.{Status}
-use Rattle.acq_core.specs.declared.status.Status.TheVariants.{Refused, Pending, Declined, Approved}
-use Rattle.acq_core.specs.declared.status.Status.TheVariants.{Completed, Reversed}
-use Rattle.acq_core.specs.declared.status.Status.TheVariants.{ReversedPending, Reconciled}
 use Rattle.acq_core.specs.declared.reply_state.ReplyState.{ReplyState}
-use Rattle.acq_core.specs.declared.reply_state.ReplyState.TheVariants.{Kept, Awaited, Late}
 use Rattle.acq_core.specs.declared.posting.Posting.{Posting}
 use Rattle.acq_core.specs.declared.reconciliation.Reconciliation.{Reconciliation}
 use Rattle.acq_core.specs.declared.change.Change.{Change}
@@ -33,6 +29,7 @@ use Rattle.acq_core.specs.declared.change.Change.TheVariants as change
 use Rattle.acq_core.specs.declared.event.Event.{Event}
 use Rattle.acq_core.specs.declared.output.Output.{Output}
 use Rattle.acq_core.specs.declared.arrival.Arrival.{Arrival}
+use Rattle.acq_core.specs.Statuses.{standing}
 use Rattle.acq_core.specs.Arrivals.{arrival_of, merchant_named}
 use Rattle.acq_core.specs.Known.{Prior, Facts, Known, wanted_by, known_for}
 use Rattle.acq_core.specs.Outcome.{outcome, output_of}
@@ -79,35 +76,19 @@ count p (x ∷ xs) = if p x then 1 + count p xs else count p xs
 
 -- what a repeat of it gets
 abbrev pub reply_state_of : Status → IsoMessage → ReplyState
-reply_state_of Pending reply = Awaited reply
-reply_state_of ReversedPending reply = Late
-reply_state_of Refused reply = Kept reply
-reply_state_of Declined reply = Kept reply
-reply_state_of Approved reply = Kept reply
-reply_state_of Completed reply = Kept reply
-reply_state_of Reversed reply = Kept reply
-reply_state_of Reconciled reply = Kept reply
+reply_state_of status = (standing status).repeat_gets
 
 -- admitted, and neither answered nor reversed
 abbrev pub is_pending : Status → Bool
-is_pending Pending = true
-is_pending status = false
+is_pending status = (standing status).is_pending
 
 -- a reversal of it can be accepted
 abbrev pub is_reversible : Status → Bool
-is_reversible Pending = true
-is_reversible Approved = true
-is_reversible Refused = false
-is_reversible Declined = false
-is_reversible Completed = false
-is_reversible Reversed = false
-is_reversible ReversedPending = false
-is_reversible Reconciled = false
+is_reversible status = (standing status).is_reversible
 
 -- approved by its issuer, or accepted
 abbrev pub is_approved : Status → Bool
-is_approved Approved = true
-is_approved status = false
+is_approved status = (standing status).is_approved
 
 -- its own reference, or that of the hold it completes
 abbrev pub reference_by : Service → Request → Option ℕ
