@@ -5,6 +5,7 @@ use Rattle.std.specs.Prelude.{filter, find, Option, Some, None, option_map, is_s
 use Rattle.std.specs.Prelude.{if◌then◌else◌}
 use Rattle.std.specs.List.{list_any}
 use Rattle.std.specs.Str.{bytes_eq}
+use Rattle.card_no.specs.Prefix.{PrefixProfile, in_force}
 use Rattle.card_no.specs.declared.range.Range.{Range}
 use Rattle.card_no.specs.Ranges.{range_of_prefix, between, overlapped_by}
 use Rattle.card_no.specs.Ranges.{with_range, without_range}
@@ -31,9 +32,9 @@ use Rattle.acq_core.specs.declared.output.Output.{Output}
 use Rattle.acq_core.specs.declared.arrival.Arrival.{Arrival}
 use Rattle.acq_core.specs.Statuses.{standing}
 use Rattle.acq_core.specs.Arrivals.{arrival_of, merchant_named}
-use Rattle.acq_core.specs.Known.{Prior, Facts, Known, wanted_by, known_for}
-use Rattle.acq_core.specs.Outcome.{outcome, output_of}
-use Rattle.acq_core.specs.Changes.{change_for}
+use Rattle.acq_core.specs.Known.{Prior, Facts, Known, wanted_by_under, known_for}
+use Rattle.acq_core.specs.Outcome.{outcome_under, output_of}
+use Rattle.acq_core.specs.Changes.{change_for_under}
 
 -- The tables: the limit and the business day, and six lists in the order in which rows came; ranges
 -- are in order of low.
@@ -175,8 +176,12 @@ facts_in t m =
     }
 
 -- what the tables let an event know
+abbrev pub known_in_under : PrefixProfile → Tables → Arrival → Known
+known_in_under profile t a =
+    known_for (wanted_by_under profile t.day a) (facts_in t (or_empty (merchant_named a)))
+
 abbrev pub known_in : Tables → Arrival → Known
-known_in t a = known_for (wanted_by t.day a) (facts_in t (or_empty (merchant_named a)))
+known_in = known_in_under in_force
 
 -- ---- what a change makes of the tables
 
@@ -243,22 +248,41 @@ abbrev pub after_any : Tables → Option Change → Tables
 after_any t None = t
 after_any t (Some change) = after t change
 
--- ---- steps and runs
+-- ---- steps and runs under a profile
 
 -- what the host says to what came
-abbrev pub step_output : Tables → Arrival → Output
-step_output t a = output_of (merchant_named a) (outcome (known_in t a) a)
+abbrev pub step_output_under : PrefixProfile → Tables → Arrival → Output
+step_output_under profile t a =
+    output_of (merchant_named a) (outcome_under profile (known_in_under profile t a) a)
 
 -- the tables after what came
-abbrev pub step_tables : Tables → Arrival → Tables
-step_tables t a = after_any t (change_for (known_in t a) a)
+abbrev pub step_tables_under : PrefixProfile → Tables → Arrival → Tables
+step_tables_under profile t a =
+    after_any t (change_for_under profile (known_in_under profile t a) a)
 
 -- what the host says to events, one after the other
-abbrev pub outputs : Tables → List Event → List Output
-outputs t [] = []
-outputs t (e ∷ es) = step_output t (arrival_of e) ∷ outputs (step_tables t (arrival_of e)) es
+abbrev pub outputs_under : PrefixProfile → Tables → List Event → List Output
+outputs_under profile t [] = []
+outputs_under profile t (e ∷ es) =
+    step_output_under profile t (arrival_of e)
+    ∷ outputs_under profile (step_tables_under profile t (arrival_of e)) es
 
 -- the tables after events
+abbrev pub tables_after_under : PrefixProfile → Tables → List Event → Tables
+tables_after_under profile t [] = t
+tables_after_under profile t (e ∷ es) =
+    tables_after_under profile (step_tables_under profile t (arrival_of e)) es
+
+-- ---- under the one in force
+
+abbrev pub step_output : Tables → Arrival → Output
+step_output = step_output_under in_force
+
+abbrev pub step_tables : Tables → Arrival → Tables
+step_tables = step_tables_under in_force
+
+abbrev pub outputs : Tables → List Event → List Output
+outputs = outputs_under in_force
+
 abbrev pub tables_after : Tables → List Event → Tables
-tables_after t [] = t
-tables_after t (e ∷ es) = tables_after (step_tables t (arrival_of e)) es
+tables_after = tables_after_under in_force
