@@ -1,3 +1,4 @@
+pub mod Statuses
 pub mod DecisionCases
 pub mod PaddedTexts
 pub mod Counts

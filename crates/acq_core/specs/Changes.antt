@@ -1,6 +1,7 @@
 -- What an event changes: the rows that it records, and what becomes of earlier ones.
 use Rattle.std.specs.Prelude.{ℕ, ◌+◌, ◌*◌, true, false, Option, Some, None, option_map}
 use Rattle.iso_codec.specs.Message.{IsoMessage, content_of}
+use Rattle.card_no.specs.Prefix.{PrefixProfile, in_force}
 use Rattle.card_no.specs.declared.range.Range.{Range}
 use Rattle.day_totals.specs.declared.leg.Leg.{Leg}
 use Rattle.day_totals.specs.declared.leg.Leg.TheVariants.{Credit, CreditReversal}
@@ -26,7 +27,7 @@ use Rattle.acq_core.specs.declared.arrival.Arrival.{Arrival}
 use Rattle.acq_core.specs.declared.reply_state.ReplyState.{ReplyState}
 use Rattle.acq_core.specs.declared.reply_state.ReplyState.TheVariants.{Kept, Awaited, Late}
 use Rattle.acq_core.specs.Known.{Known, Prior}
-use Rattle.acq_core.specs.Decision.{Decision, decision}
+use Rattle.acq_core.specs.Decision.{Decision, decision_under}
 use Rattle.acq_core.specs.Decision as decided
 use Rattle.acq_core.specs.Outcome.{is_in_balance, balance_code}
 
@@ -224,5 +225,8 @@ change_of k (decided.Enrols merchant) = Some (change.AddMerchant merchant)
 change_of k (decided.AddsTerminal terminal) = Some (change.AddTerminal terminal)
 
 -- what came changes this
+abbrev pub change_for_under : PrefixProfile → Known → Arrival → Option Change
+change_for_under profile k a = change_of k (decision_under profile k a)
+
 abbrev pub change_for : Known → Arrival → Option Change
-change_for k a = change_of k (decision k a)
+change_for = change_for_under in_force

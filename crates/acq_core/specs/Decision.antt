@@ -8,7 +8,8 @@ use Rattle.std.specs.Str.{bytes_eq}
 use Rattle.iso_codec.specs.Message.{IsoMessage, content_of}
 use Rattle.card_no.specs.declared.range.Range.{Range}
 use Rattle.card_no.specs.CardNumbers.{is_valid_card}
-use Rattle.card_no.specs.Ranges.{is_valid_range, has_ends}
+use Rattle.card_no.specs.Prefix.{PrefixProfile, in_force}
+use Rattle.card_no.specs.Ranges.{is_valid_range_under, has_ends}
 use Rattle.day_totals.specs.Day.{CivilDate, date_of}
 use Rattle.std.specs.Str.Parse.{digits_value}
 use Rattle.acq_message.specs.declared.service.Service.{Service}
@@ -275,18 +276,21 @@ decision_of_terminal terminal there (Some merchant) =
     if there then Reports output.Done else AddsTerminal terminal
 
 -- ---- what is to be done about what came
-abbrev pub decision : Known → Arrival → Decision
-decision k (arrival.Undecoded fault) = Reports (output.Undecodable fault)
-decision k (arrival.Unserved m) = Reports (output.UnservedType m.kind)
-decision k (arrival.Malformed r) = Replies r code.FormatError
-decision k (arrival.Requested r) = decision_of_request r.service k r
-decision k (arrival.Answered moment merchant reference verdict) =
+abbrev pub decision_under : PrefixProfile → Known → Arrival → Decision
+decision_under profile k (arrival.Undecoded fault) = Reports (output.Undecodable fault)
+decision_under profile k (arrival.Unserved m) = Reports (output.UnservedType m.kind)
+decision_under profile k (arrival.Malformed r) = Replies r code.FormatError
+decision_under profile k (arrival.Requested r) = decision_of_request r.service k r
+decision_under profile k (arrival.Answered moment merchant reference verdict) =
     decision_of_answer k moment verdict k.merchant
-decision k arrival.CutOver = if nat_lt k.today last_day then CutsOver else Reports output.LastDay
-decision k (arrival.RangeAdded range) =
-    if is_valid_range range then decision_of_new_range range k.overlapped
+decision_under profile k arrival.CutOver = if nat_lt k.today last_day then CutsOver else Reports output.LastDay
+decision_under profile k (arrival.RangeAdded range) =
+    if is_valid_range_under profile range then decision_of_new_range range k.overlapped
     else Reports output.BadRange
-decision k (arrival.RangeDropped low high) = decision_of_old_range low high k.overlapped
-decision k (arrival.Enrolled merchant) = decision_of_enrolment merchant k.merchant
-decision k (arrival.TerminalAdded terminal) =
+decision_under profile k (arrival.RangeDropped low high) = decision_of_old_range low high k.overlapped
+decision_under profile k (arrival.Enrolled merchant) = decision_of_enrolment merchant k.merchant
+decision_under profile k (arrival.TerminalAdded terminal) =
     decision_of_terminal terminal k.has_terminal k.merchant
+
+abbrev pub decision : Known → Arrival → Decision
+decision = decision_under in_force

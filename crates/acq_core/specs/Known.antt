@@ -2,7 +2,8 @@
 use Rattle.std.specs.Prelude.{ℕ, Bool, false, List, Option, Some, None, option_and_then}
 use Rattle.std.specs.Prelude.{if◌then◌else◌}
 use Rattle.card_no.specs.declared.range.Range.{Range}
-use Rattle.card_no.specs.CardNumbers.{is_valid_card, prefix_of}
+use Rattle.card_no.specs.Prefix.{PrefixProfile, in_force}
+use Rattle.card_no.specs.CardNumbers.{is_valid_card, prefix_of_under}
 use Rattle.day_totals.specs.Day.{resolved}
 use Rattle.day_totals.specs.Totals.{DayTotals, zero_totals}
 use Rattle.day_totals.specs.declared.leg.Leg.{Leg}
@@ -89,9 +90,13 @@ nothing =
     }
 
 -- the prefix of a valid card
+abbrev pub prefix_in_under : PrefixProfile → IsoMessage → Option ℕ
+prefix_in_under profile m =
+    if is_valid_card (or_empty (card_of m)) then Some (prefix_of_under profile (or_empty (card_of m)))
+    else None
+
 abbrev pub prefix_in : IsoMessage → Option ℕ
-prefix_in m =
-    if is_valid_card (or_empty (card_of m)) then Some (prefix_of (or_empty (card_of m))) else None
+prefix_in = prefix_in_under in_force
 
 -- the day that a reconciliation is of: today, or the latest day with the month and day of element
 -- 15
@@ -109,35 +114,44 @@ wanted_by_key service m =
     }
 
 -- what a request of each service needs
-abbrev pub wanted_for : ℕ → Service → IsoMessage → Wanted
-wanted_for today Authorization m = record (wanted_by_key Authorization m) { prefix = prefix_in m }
-wanted_for today Financial m = record (wanted_by_key Financial m) { prefix = prefix_in m }
-wanted_for today Completion m =
+abbrev pub wanted_for_under : PrefixProfile → ℕ → Service → IsoMessage → Wanted
+wanted_for_under profile today Authorization m =
+    record (wanted_by_key Authorization m) { prefix = prefix_in_under profile m }
+wanted_for_under profile today Financial m =
+    record (wanted_by_key Financial m) { prefix = prefix_in_under profile m }
+wanted_for_under profile today Completion m =
     record (wanted_by_key Completion m) { reference = reference_in m }
-wanted_for today Reversal m = record (wanted_by_key Reversal m) { original = original_key m }
-wanted_for today ReversalAdvice m =
+wanted_for_under profile today Reversal m =
+    record (wanted_by_key Reversal m) { original = original_key m }
+wanted_for_under profile today ReversalAdvice m =
     record (wanted_by_key ReversalAdvice m) { original = original_key m }
-wanted_for today Reconciliation m =
+wanted_for_under profile today Reconciliation m =
     record (wanted_by_key Reconciliation m) {
       totals_day = reconciled_day today (content_of m.elements 15);
     }
-wanted_for today NetworkManagement m = nothing
+wanted_for_under profile today NetworkManagement m = nothing
+
+abbrev pub wanted_for : ℕ → Service → IsoMessage → Wanted
+wanted_for = wanted_for_under in_force
 
 -- what to look up on a day for what came
-abbrev pub wanted_by : ℕ → Arrival → Wanted
-wanted_by today (arrival.Undecoded fault) = nothing
-wanted_by today (arrival.Unserved m) = nothing
-wanted_by today (arrival.Malformed r) = nothing
-wanted_by today (arrival.Requested r) = wanted_for today r.service r.message
-wanted_by today (arrival.Answered moment merchant reference verdict) =
+abbrev pub wanted_by_under : PrefixProfile → ℕ → Arrival → Wanted
+wanted_by_under profile today (arrival.Undecoded fault) = nothing
+wanted_by_under profile today (arrival.Unserved m) = nothing
+wanted_by_under profile today (arrival.Malformed r) = nothing
+wanted_by_under profile today (arrival.Requested r) = wanted_for_under profile today r.service r.message
+wanted_by_under profile today (arrival.Answered moment merchant reference verdict) =
     record nothing { merchant = Some merchant; reference = Some reference }
-wanted_by today arrival.CutOver = nothing
-wanted_by today (arrival.RangeAdded range) =
+wanted_by_under profile today arrival.CutOver = nothing
+wanted_by_under profile today (arrival.RangeAdded range) =
     record nothing { bounds = Some (range.low, range.high) }
-wanted_by today (arrival.RangeDropped low high) = record nothing { bounds = Some (low, high) }
-wanted_by today (arrival.Enrolled merchant) = record nothing { merchant = Some merchant.id }
-wanted_by today (arrival.TerminalAdded terminal) =
+wanted_by_under profile today (arrival.RangeDropped low high) = record nothing { bounds = Some (low, high) }
+wanted_by_under profile today (arrival.Enrolled merchant) = record nothing { merchant = Some merchant.id }
+wanted_by_under profile today (arrival.TerminalAdded terminal) =
     record nothing { merchant = Some terminal.merchant; terminal = Some terminal.id }
+
+abbrev pub wanted_by : ℕ → Arrival → Wanted
+wanted_by = wanted_by_under in_force
 
 -- whether a terminal that is wanted is there
 abbrev pub holds_if : (List ℕ → Bool) → Option (List ℕ) → Bool

@@ -1,6 +1,7 @@
 pub mod Numbers
 pub mod Arrivals
 pub mod Outputs
+pub mod Statuses
 pub mod Known
 pub mod Decision
 pub mod Outcome

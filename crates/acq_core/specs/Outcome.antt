@@ -2,6 +2,7 @@
 use Rattle.std.specs.Prelude.{ℕ, Bool, true, false, List, Option}
 use Rattle.iso_codec.specs.Message.{IsoMessage}
 use Rattle.iso_codec.specs.Reading.{spelling}
+use Rattle.card_no.specs.Prefix.{PrefixProfile, in_force}
 use Rattle.card_no.specs.declared.range.Range.{Range}
 use Rattle.day_totals.specs.Totals.{agrees_with}
 use Rattle.acq_message.specs.declared.request_message.RequestMessage.{RequestMessage}
@@ -17,7 +18,7 @@ use Rattle.acq_core.specs.declared.arrival.Arrival.{Arrival}
 use Rattle.acq_core.specs.declared.output.Output.{Output}
 use Rattle.acq_core.specs.declared.output.Output.TheVariants as output
 use Rattle.acq_core.specs.Known.{Known}
-use Rattle.acq_core.specs.Decision.{Decision, decision}
+use Rattle.acq_core.specs.Decision.{Decision, decision_under}
 use Rattle.acq_core.specs.Decision as decided
 
 -- what an event results in
@@ -81,8 +82,11 @@ outcome_of k (decided.Enrols merchant) = Performed
 outcome_of k (decided.AddsTerminal terminal) = Performed
 
 -- what came results in this
+abbrev pub outcome_under : PrefixProfile → Known → Arrival → Outcome
+outcome_under profile k a = outcome_of k (decision_under profile k a)
+
 abbrev pub outcome : Known → Arrival → Outcome
-outcome k a = outcome_of k (decision k a)
+outcome = outcome_under in_force
 
 -- what goes out, for the merchant that was named: a reply in its spelling
 abbrev pub output_of : Option (List ℕ) → Outcome → Output

@@ -5,6 +5,7 @@ use Rattle.std.specs.Prelude.{filter, find, Option, Some, None, option_map, is_s
 use Rattle.std.specs.Prelude.{if◌then◌else◌}
 use Rattle.std.specs.List.{list_any}
 use Rattle.std.specs.Str.{bytes_eq}
+use Rattle.card_no.specs.Prefix.{PrefixProfile, in_force}
 use Rattle.card_no.specs.declared.range.Range.{Range}
 use Rattle.card_no.specs.Ranges.{range_of_prefix, between, overlapped_by}
 use Rattle.card_no.specs.Ranges.{with_range, without_range}
@@ -21,11 +22,7 @@ use Rattle.acq_core.specs.declared.merchant.Merchant.{Merchant}
 use Rattle.acq_core.specs.declared.terminal.Terminal.{Terminal}
 use Rattle.acq_core.specs.declared.request.Request.{Request}
 use Rattle.acq_core.specs.declared.status.Status.{Status}
-use Rattle.acq_core.specs.declared.status.Status.TheVariants.{Refused, Pending, Declined, Approved}
-use Rattle.acq_core.specs.declared.status.Status.TheVariants.{Completed, Reversed}
-use Rattle.acq_core.specs.declared.status.Status.TheVariants.{ReversedPending, Reconciled}
 use Rattle.acq_core.specs.declared.reply_state.ReplyState.{ReplyState}
-use Rattle.acq_core.specs.declared.reply_state.ReplyState.TheVariants.{Kept, Awaited, Late}
 use Rattle.acq_core.specs.declared.posting.Posting.{Posting}
 use Rattle.acq_core.specs.declared.reconciliation.Reconciliation.{Reconciliation}
 use Rattle.acq_core.specs.declared.change.Change.{Change}
@@ -33,10 +30,11 @@ use Rattle.acq_core.specs.declared.change.Change.TheVariants as change
 use Rattle.acq_core.specs.declared.event.Event.{Event}
 use Rattle.acq_core.specs.declared.output.Output.{Output}
 use Rattle.acq_core.specs.declared.arrival.Arrival.{Arrival}
+use Rattle.acq_core.specs.Statuses.{standing}
 use Rattle.acq_core.specs.Arrivals.{arrival_of, merchant_named}
-use Rattle.acq_core.specs.Known.{Prior, Facts, Known, wanted_by, known_for}
-use Rattle.acq_core.specs.Outcome.{outcome, output_of}
-use Rattle.acq_core.specs.Changes.{change_for}
+use Rattle.acq_core.specs.Known.{Prior, Facts, Known, wanted_by_under, known_for}
+use Rattle.acq_core.specs.Outcome.{outcome_under, output_of}
+use Rattle.acq_core.specs.Changes.{change_for_under}
 
 -- The tables: the limit and the business day, and six lists in the order in which rows came; ranges
 -- are in order of low.
@@ -79,35 +77,19 @@ count p (x ∷ xs) = if p x then 1 + count p xs else count p xs
 
 -- what a repeat of it gets
 abbrev pub reply_state_of : Status → IsoMessage → ReplyState
-reply_state_of Pending reply = Awaited reply
-reply_state_of ReversedPending reply = Late
-reply_state_of Refused reply = Kept reply
-reply_state_of Declined reply = Kept reply
-reply_state_of Approved reply = Kept reply
-reply_state_of Completed reply = Kept reply
-reply_state_of Reversed reply = Kept reply
-reply_state_of Reconciled reply = Kept reply
+reply_state_of status = (standing status).repeat_gets
 
 -- admitted, and neither answered nor reversed
 abbrev pub is_pending : Status → Bool
-is_pending Pending = true
-is_pending status = false
+is_pending status = (standing status).is_pending
 
 -- a reversal of it can be accepted
 abbrev pub is_reversible : Status → Bool
-is_reversible Pending = true
-is_reversible Approved = true
-is_reversible Refused = false
-is_reversible Declined = false
-is_reversible Completed = false
-is_reversible Reversed = false
-is_reversible ReversedPending = false
-is_reversible Reconciled = false
+is_reversible status = (standing status).is_reversible
 
 -- approved by its issuer, or accepted
 abbrev pub is_approved : Status → Bool
-is_approved Approved = true
-is_approved status = false
+is_approved status = (standing status).is_approved
 
 -- its own reference, or that of the hold it completes
 abbrev pub reference_by : Service → Request → Option ℕ
@@ -194,8 +176,12 @@ facts_in t m =
     }
 
 -- what the tables let an event know
+abbrev pub known_in_under : PrefixProfile → Tables → Arrival → Known
+known_in_under profile t a =
+    known_for (wanted_by_under profile t.day a) (facts_in t (or_empty (merchant_named a)))
+
 abbrev pub known_in : Tables → Arrival → Known
-known_in t a = known_for (wanted_by t.day a) (facts_in t (or_empty (merchant_named a)))
+known_in = known_in_under in_force
 
 -- ---- what a change makes of the tables
 
@@ -262,22 +248,41 @@ abbrev pub after_any : Tables → Option Change → Tables
 after_any t None = t
 after_any t (Some change) = after t change
 
--- ---- steps and runs
+-- ---- steps and runs under a profile
 
 -- what the host says to what came
-abbrev pub step_output : Tables → Arrival → Output
-step_output t a = output_of (merchant_named a) (outcome (known_in t a) a)
+abbrev pub step_output_under : PrefixProfile → Tables → Arrival → Output
+step_output_under profile t a =
+    output_of (merchant_named a) (outcome_under profile (known_in_under profile t a) a)
 
 -- the tables after what came
-abbrev pub step_tables : Tables → Arrival → Tables
-step_tables t a = after_any t (change_for (known_in t a) a)
+abbrev pub step_tables_under : PrefixProfile → Tables → Arrival → Tables
+step_tables_under profile t a =
+    after_any t (change_for_under profile (known_in_under profile t a) a)
 
 -- what the host says to events, one after the other
-abbrev pub outputs : Tables → List Event → List Output
-outputs t [] = []
-outputs t (e ∷ es) = step_output t (arrival_of e) ∷ outputs (step_tables t (arrival_of e)) es
+abbrev pub outputs_under : PrefixProfile → Tables → List Event → List Output
+outputs_under profile t [] = []
+outputs_under profile t (e ∷ es) =
+    step_output_under profile t (arrival_of e)
+    ∷ outputs_under profile (step_tables_under profile t (arrival_of e)) es
 
 -- the tables after events
+abbrev pub tables_after_under : PrefixProfile → Tables → List Event → Tables
+tables_after_under profile t [] = t
+tables_after_under profile t (e ∷ es) =
+    tables_after_under profile (step_tables_under profile t (arrival_of e)) es
+
+-- ---- under the one in force
+
+abbrev pub step_output : Tables → Arrival → Output
+step_output = step_output_under in_force
+
+abbrev pub step_tables : Tables → Arrival → Tables
+step_tables = step_tables_under in_force
+
+abbrev pub outputs : Tables → List Event → List Output
+outputs = outputs_under in_force
+
 abbrev pub tables_after : Tables → List Event → Tables
-tables_after t [] = t
-tables_after t (e ∷ es) = tables_after (step_tables t (arrival_of e)) es
+tables_after = tables_after_under in_force

@@ -28,7 +28,7 @@ use iso_codec::{DecodeFault, Message, decode};
 use std::alloc::{AllocError, Global};
 
 /// An event as the host sees it: a frame by what it spells, read once.
-#[derive(Debug, Drop)]
+#[derive(Drop)]
 pub enum Arrival {
     /// A frame that spells no message, for this reason, which is never want of memory.
     Undecoded(DecodeFault),

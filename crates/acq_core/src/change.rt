@@ -12,7 +12,7 @@ use day_totals::Day;
 use iso_codec::Message;
 
 /// A change of the tables. It is made whole or not at all.
-#[derive(Debug, Drop)]
+#[derive(Drop)]
 pub enum Change {
     /// A merchant is enrolled.
     AddMerchant(Merchant),

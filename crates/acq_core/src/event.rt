@@ -5,7 +5,7 @@ use acq_message::{Currency, MerchantId, MessageText, Moment, Reference, Terminal
 use card_no::Range;
 
 /// One event. The host takes each whole before the next.
-#[derive(Debug, Drop)]
+#[derive(Drop)]
 pub enum Event {
     /// A frame came at a moment. Its bytes, without their length, may be any and any number.
     Frame(Moment, MessageText),

@@ -32,7 +32,7 @@ pub struct Wanted {
 }
 
 /// What the look-ups of a [`Wanted`] gave.
-#[derive(Debug, Drop)]
+#[derive(Drop)]
 pub struct Looked {
     /// The business day.
     pub today: Day,

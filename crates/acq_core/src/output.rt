@@ -10,7 +10,7 @@ use iso_codec::DecodeFault;
 
 /// What the host says to one event. All but [`Output::Reply`], [`Output::Ask`] and [`Output::Done`]
 /// have a number, and say that nothing was changed.
-#[derive(Debug, Drop)]
+#[derive(Drop)]
 pub enum Output {
     /// A reply's bytes, for the merchant that the event names: in element 42 of a frame, or in an
     /// answer.

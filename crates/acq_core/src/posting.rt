@@ -8,7 +8,7 @@ use std::alloc::{AllocError, Global};
 
 /// A row of the postings, but for its number, which the book gives it: 1 plus the number of that
 /// merchant's postings of that day before it.
-#[derive(Debug, Drop)]
+#[derive(Drop)]
 pub struct Posting {
     pub merchant: MerchantId,
     pub day: Day,

@@ -5,7 +5,7 @@ use card_no::{CardNumber, IssuerId};
 use day_totals::Leg;
 
 /// A request as its card's issuer is asked about it. The issuer answers by merchant and reference.
-#[derive(Debug, Drop)]
+#[derive(Drop)]
 pub struct Query {
     pub merchant: MerchantId,
     /// The merchant's reference for the request.

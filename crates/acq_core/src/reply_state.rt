@@ -4,7 +4,7 @@ use iso_codec::Message;
 
 /// What a repeat of a recorded request gets. An issuer's answer asks for the same: an admitted
 /// request has a reply exactly when it was answered.
-#[derive(Debug, Drop)]
+#[derive(Drop)]
 pub enum ReplyState {
     /// The reply that was kept.
     Kept(Message),

@@ -9,7 +9,7 @@ use iso_codec::Message;
 use std::alloc::{AllocError, Global};
 
 /// A row of the requests: one that was recorded, and where it stands.
-#[derive(Debug, Drop)]
+#[derive(Drop)]
 pub struct Request {
     pub key: RequestKey,
     /// What a repeat must have alike: the spelling of a message of the base type, whose last digit

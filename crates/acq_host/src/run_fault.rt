@@ -5,7 +5,7 @@ use acq_core::Output;
 
 /// Why a run of events stopped before its end. A host whose book is still open holds the tables
 /// after the events before the one that wasn't taken, so a run can go on from there.
-#[derive(Debug, Drop)]
+#[derive(Drop)]
 pub struct RunFault {
     /// The place of the event that wasn't taken, from 0 on.
     pub at: usize,

@@ -12,12 +12,13 @@ use Rattle.row_lemmas.proofs.QueryRows.{picked}
 use Rattle.row_lemmas.proofs.ListReads.{shows_count}
 use Rattle.acq_core.specs.declared.request.Request.{Request}
 use Rattle.acq_core.specs.declared.status.Status.{Status}
-use Rattle.acq_core.specs.declared.status.Status.TheVariants as status
 use Rattle.acq_core.specs.Tables.{Tables, is_pending}
 use Rattle.acq_core.specs.Tables as tables
+use Rattle.acq_core.proofs.Statuses.{alike}
 use Rattle.acq_book.specs.Lookups.{pending_at}
 use Rattle.acq_sql_rows.specs.Schema.{book_schema}
-use Rattle.acq_sql_rows.specs.Rows.{request_row, status_number}
+use Rattle.acq_core.specs.Statuses.{status_number}
+use Rattle.acq_sql_rows.specs.Rows.{request_row}
 use Rattle.acq_sql_rows.specs.Tallies.{Running}
 use Rattle.acq_sql_rows.specs.Relation.{HoldsRows}
 use Rattle.acq_sql_reads.specs.Texts as text
@@ -26,14 +27,7 @@ use Rattle.acq_sql_reads.proofs.TextLemmas as asks
 
 -- the number of a pending request's status
 pending_is : (s : Status) → (status_number s == 1) ≡ is_pending s
-pending_is status.Refused = refl
-pending_is status.Pending = refl
-pending_is status.Declined = refl
-pending_is status.Approved = refl
-pending_is status.Completed = refl
-pending_is status.Reversed = refl
-pending_is status.ReversedPending = refl
-pending_is status.Reconciled = refl
+pending_is = alike (λ s. status_number s == 1) is_pending refl
 
 pub counted : {X : Type 0} (p : X → Bool) (xs : List X) → length (filter p xs) ≡ tables.count p xs
 counted p [] = refl

@@ -31,12 +31,13 @@ use Rattle.acq_message.specs.Numbers.{is_number}
 use Rattle.acq_message.specs.Services.{digits_of}
 use Rattle.acq_core.specs.declared.request.Request.{Request}
 use Rattle.acq_core.specs.declared.status.Status.{Status}
-use Rattle.acq_core.specs.declared.status.Status.TheVariants as status
 use Rattle.acq_core.specs.Pasts.{HasPast}
 use Rattle.acq_core.specs.Tables.{Tables, is_approved}
+use Rattle.acq_core.proofs.Statuses.{alike}
 use Rattle.acq_book.specs.Lookups.{holds_at, is_authorization, is_reference_before}
 use Rattle.acq_sql_rows.specs.Schema.{book_schema}
-use Rattle.acq_sql_rows.specs.Rows.{request_row, status_number}
+use Rattle.acq_core.specs.Statuses.{status_number}
+use Rattle.acq_sql_rows.specs.Rows.{request_row}
 use Rattle.acq_sql_rows.specs.Tallies.{Running}
 use Rattle.acq_sql_rows.specs.Relation.{Holds, HoldsRows, AreRecorded}
 use Rattle.acq_sql_reads.specs.Recorded.{IsRowOf}
@@ -115,14 +116,7 @@ kind_is Reconciliation = refl
 kind_is NetworkManagement = refl
 
 status_is : (s : Status) → (status_number s == 3) ≡ is_approved s
-status_is status.Refused = refl
-status_is status.Pending = refl
-status_is status.Declined = refl
-status_is status.Approved = refl
-status_is status.Completed = refl
-status_is status.Reversed = refl
-status_is status.ReversedPending = refl
-status_is status.Reconciled = refl
+status_is = alike (λ s. status_number s == 3) is_approved refl
 
 fewer : {X : Type 0} (p q : X → Bool) → ((x : X) → p x ≡ true → q x ≡ true) → (xs : List X)
     → length (filter p xs) ≤ length (filter q xs)

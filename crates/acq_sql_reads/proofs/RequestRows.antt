@@ -11,11 +11,13 @@ use Rattle.day_totals.specs.Totals.{all_legs}
 use Rattle.day_totals.specs.declared.leg.Leg.{Leg}
 use Rattle.day_totals.specs.declared.leg.Leg.TheVariants.{Credit}
 use Rattle.acq_core.specs.declared.request.Request.{Request}
-use Rattle.acq_sql_rows.specs.Rows.{request_row, status_number, leg_number, bit_of}
+use Rattle.acq_core.specs.Statuses.{status_number}
+use Rattle.acq_sql_rows.specs.Rows.{request_row, leg_number, bit_of}
 use Rattle.acq_sql_rows.specs.ReadBack.{request_at}
 use Rattle.acq_sql_reads.specs.Recorded.{request_cells, IsRowOf, HasKey, ShowsRequest}
 use Rattle.acq_sql_rows.proofs.TablesReadBack.{text_back, number_back, bit_back, leg_back}
-use Rattle.acq_sql_rows.proofs.TablesReadBack.{status_back, service_back}
+use Rattle.acq_core.proofs.Statuses.{status_back}
+use Rattle.acq_sql_rows.proofs.TablesReadBack.{service_back}
 use Rattle.acq_sql_rows.proofs.TablesReadBack.{request_back}
 
 -- ---- a number stands for one value

@@ -8,7 +8,8 @@ use Rattle.iso_codec.specs.Reading.{reading_of}
 use Rattle.acq_message.specs.Services.{digits_of}
 use Rattle.acq_message.specs.declared.request_key.RequestKey.{RequestKey}
 use Rattle.acq_core.specs.declared.request.Request.{Request}
-use Rattle.acq_sql_rows.specs.Rows.{request_row, status_number, leg_number, bit_of}
+use Rattle.acq_core.specs.Statuses.{status_number}
+use Rattle.acq_sql_rows.specs.Rows.{request_row, leg_number, bit_of}
 
 -- the request's row, with this text for its reply
 abbrev pub request_cells : Request → List ℕ → Row

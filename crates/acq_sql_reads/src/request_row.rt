@@ -6,7 +6,7 @@ ghost use Rattle.sqlite_value.specs.Order.{column};
 ghost use Rattle.row_lemmas.specs.Values.{number, number_or_null, text_or_null};
 ghost use Rattle.iso_codec.specs.Reading.{reading_of};
 ghost use Rattle.acq_message.specs.Services.{digits_of};
-ghost use Rattle.acq_sql_rows.specs.Rows.{status_number};
+ghost use Rattle.acq_core.specs.Statuses.{status_number};
 ghost use Rattle.acq_sql_reads.specs.Recorded.{HasKey, IsRowOf};
 
 use crate::columns::{
@@ -99,18 +99,7 @@ fn message_text_at(alloc: Global, row: &Row, at: usize) -> Result<MessageText, E
 fn status_at(row: &Row, at: usize) -> Result<Status, Error>
     ensures { IfOk result (λ status. column row.now at ≡ number (status_number status)) }
 {
-    let n: u32 = row.get(at)?;
-    match n {
-        0 => Ok(Status::Refused),
-        1 => Ok(Status::Pending),
-        2 => Ok(Status::Declined),
-        3 => Ok(Status::Approved),
-        4 => Ok(Status::Completed),
-        5 => Ok(Status::Reversed),
-        6 => Ok(Status::ReversedPending),
-        7 => Ok(Status::Reconciled),
-        _ => Err(Error::SqliteFailure(ErrorCode::DatabaseCorrupt)),
-    }
+    read(Status::from_number(row.get(at)?))
 }
 
 fn number_if_at(row: &Row, at: usize) -> Result<Option<u64>, Error>

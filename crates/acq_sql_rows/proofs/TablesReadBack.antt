@@ -25,15 +25,14 @@ use Rattle.acq_message.specs.declared.service.Service.TheVariants.{Completion, R
 use Rattle.acq_message.specs.declared.service.Service.TheVariants.{ReversalAdvice, Reconciliation}
 use Rattle.acq_message.specs.declared.service.Service.TheVariants.{NetworkManagement}
 use Rattle.acq_core.specs.declared.request.Request.{Request}
-use Rattle.acq_core.specs.declared.status.Status.{Status}
-use Rattle.acq_core.specs.declared.status.Status.TheVariants as status
 use Rattle.acq_core.specs.Tables.{Tables}
+use Rattle.acq_core.proofs.Statuses.{status_back}
 use Rattle.acq_sql_rows.specs.Rows.{merchant_row, terminal_row, range_row, request_row, posting_row}
 use Rattle.acq_sql_rows.specs.Rows.{reconciliation_row}
-use Rattle.acq_sql_rows.specs.Rows.{status_number, leg_number, bit_of}
+use Rattle.acq_sql_rows.specs.Rows.{leg_number, bit_of}
 use Rattle.acq_sql_rows.specs.ReadBack.{tables_in, tables_of, merchant_at, terminal_at, range_at}
 use Rattle.acq_sql_rows.specs.ReadBack.{request_at, posting_at}
-use Rattle.acq_sql_rows.specs.ReadBack.{reconciliation_at, all_statuses, all_services, text_if}
+use Rattle.acq_sql_rows.specs.ReadBack.{reconciliation_at, all_services, text_if}
 use Rattle.acq_sql_rows.specs.ReadBack.{number_if, message_read}
 use Rattle.acq_sql_rows.specs.Relation.{Holds}
 
@@ -56,16 +55,6 @@ leg_back Credit = refl
 leg_back CreditReversal = refl
 leg_back Debit = refl
 leg_back DebitReversal = refl
-
-pub status_back : (s : Status) → slice_index_or all_statuses (status_number s) status.Refused ≡ s
-status_back status.Refused = refl
-status_back status.Pending = refl
-status_back status.Declined = refl
-status_back status.Approved = refl
-status_back status.Completed = refl
-status_back status.Reversed = refl
-status_back status.ReversedPending = refl
-status_back status.Reconciled = refl
 
 pub service_back : (s : Service)
     → unwrap_or (find (λ x. bytes_eq (digits_of x) (digits_of s)) all_services) Authorization ≡ s

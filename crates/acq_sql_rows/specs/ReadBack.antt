@@ -27,9 +27,10 @@ use Rattle.acq_core.specs.declared.merchant.Merchant.{Merchant}
 use Rattle.acq_core.specs.declared.terminal.Terminal.{Terminal}
 use Rattle.acq_core.specs.declared.request.Request.{Request}
 use Rattle.acq_core.specs.declared.status.Status.{Status}
-use Rattle.acq_core.specs.declared.status.Status.TheVariants as status
+use Rattle.acq_core.specs.declared.status.Status.TheVariants.{Refused}
 use Rattle.acq_core.specs.declared.posting.Posting.{Posting}
 use Rattle.acq_core.specs.declared.reconciliation.Reconciliation.{Reconciliation}
+use Rattle.acq_core.specs.Statuses.{status_numbered}
 use Rattle.acq_core.specs.Tables.{Tables}
 use Rattle.acq_sql_rows.specs.Schema.{book_tree, merchants_tree, terminals_tree, ranges_tree}
 use Rattle.acq_sql_rows.specs.Schema.{requests_tree, postings_tree, reconciliations_tree}
@@ -56,14 +57,8 @@ bit_at row at = number_at row at == 1
 abbrev pub leg_at : Row → ℕ → Leg
 leg_at row at = slice_index_or all_legs (number_at row at) Credit
 
--- in the order of their numbers
-abbrev pub all_statuses : List Status
-all_statuses =
-    status.Refused ∷ status.Pending ∷ status.Declined ∷ status.Approved ∷ status.Completed
-    ∷ status.Reversed ∷ status.ReversedPending ∷ status.Reconciled ∷ []
-
 abbrev pub status_at : Row → ℕ → Status
-status_at row at = slice_index_or all_statuses (number_at row at) status.Refused
+status_at row at = unwrap_or (status_numbered (number_at row at)) Refused
 
 abbrev pub all_services : List Service
 all_services =

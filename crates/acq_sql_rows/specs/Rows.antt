@@ -13,24 +13,13 @@ use Rattle.acq_message.specs.declared.request_key.RequestKey.{RequestKey}
 use Rattle.acq_core.specs.declared.merchant.Merchant.{Merchant}
 use Rattle.acq_core.specs.declared.terminal.Terminal.{Terminal}
 use Rattle.acq_core.specs.declared.request.Request.{Request}
-use Rattle.acq_core.specs.declared.status.Status.{Status}
-use Rattle.acq_core.specs.declared.status.Status.TheVariants as status
 use Rattle.acq_core.specs.declared.posting.Posting.{Posting}
 use Rattle.acq_core.specs.declared.reconciliation.Reconciliation.{Reconciliation}
+use Rattle.acq_core.specs.Statuses.{status_number}
 use Rattle.acq_sql_rows.specs.declared.tables.TheConstants.{VERSION}
 use Rattle.acq_sql_rows.specs.Tallies.{Tally, Running}
 
 -- ---- numbers of words
-
-abbrev pub status_number : Status → ℕ
-status_number status.Refused = 0
-status_number status.Pending = 1
-status_number status.Declined = 2
-status_number status.Approved = 3
-status_number status.Completed = 4
-status_number status.Reversed = 5
-status_number status.ReversedPending = 6
-status_number status.Reconciled = 7
 
 abbrev pub leg_number : Leg → ℕ
 leg_number Credit = 0

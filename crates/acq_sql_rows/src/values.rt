@@ -3,7 +3,8 @@
 ghost use Rattle.std.specs.Prelude.{◌≡◌, ◌<◌, ◌^◌, IfSome};
 ghost use Rattle.sqlite_value.specs.Value.{owned};
 ghost use Rattle.row_lemmas.specs.Values.{number, number_or_null, text_or_null};
-ghost use Rattle.acq_sql_rows.specs.Rows.{status_number, leg_number, bit_of};
+ghost use Rattle.acq_core.specs.Statuses.{status_number};
+ghost use Rattle.acq_sql_rows.specs.Rows.{leg_number, bit_of};
 
 use acq_core::{Amount, ElementContent, FirstReference, Reference, Status};
 use day_totals::{Day, Leg};
@@ -97,16 +98,7 @@ pub fn text_if(content: &Option<ElementContent>) -> ValueRef<'_>
 pub fn status_value(status: Status) -> ValueRef<'static>
     ensures { owned result ≡ number (status_number status) }
 {
-    ValueRef::Int(match status {
-        Status::Refused => 0,
-        Status::Pending => 1,
-        Status::Declined => 2,
-        Status::Approved => 3,
-        Status::Completed => 4,
-        Status::Reversed => 5,
-        Status::ReversedPending => 6,
-        Status::Reconciled => 7,
-    })
+    short_value(status.number())
 }
 
 /// A leg's number.

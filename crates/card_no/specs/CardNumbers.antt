@@ -5,7 +5,7 @@ use Rattle.std.specs.Prelude.{◌∷◌, ◌++◌, length, take, drop, replicate
 use Rattle.std.specs.List.{list_all}
 use Rattle.std.specs.Char.{is_ascii_digit}
 use Rattle.std.specs.Str.Parse.{digits_value}
-use Rattle.card_no.specs.Prefix.{prefix_digits}
+use Rattle.card_no.specs.Prefix.{PrefixProfile, in_force}
 
 -- ISO/IEC 7812-1, annex B: what a digit counts for at a place. Places are counted from the right,
 -- the last digit's is 0. At an even place it counts as itself, at an odd place doubled, less 9
@@ -34,9 +34,12 @@ is_valid_card text =
     nat_le least_digits (length text) && nat_le (length text) greatest_digits
     && list_all is_ascii_digit text && (check_sum text % 10 == 0)
 
--- the number of the first digits
+-- the number of the first digits, as many as a prefix has
+abbrev pub prefix_of_under : PrefixProfile → List ℕ → ℕ
+prefix_of_under profile digits = digits_value 10 (take profile.digits digits)
+
 abbrev pub prefix_of : List ℕ → ℕ
-prefix_of digits = digits_value 10 (take prefix_digits digits)
+prefix_of = prefix_of_under in_force
 
 -- how many digits a mask leaves at the start, which is no prefix's length, and at the end
 abbrev pub shown_first : ℕ

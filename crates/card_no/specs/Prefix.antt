@@ -6,20 +6,46 @@ use Rattle.std.specs.List.{list_all}
 use Rattle.std.specs.Char.{is_ascii_digit}
 use Rattle.std.specs.Str.Parse.{digits_value}
 
-abbrev pub prefix_digits : ℕ
-prefix_digits = 6
+-- how many digits prefixes have, and the greatest number of so many
+pub record PrefixProfile : Type 0 where
+  pub digits : ℕ
+  pub greatest : ℕ
 
--- the greatest number of so many digits
-abbrev pub greatest_prefix : ℕ
-greatest_prefix = 999_999
+abbrev pub six_digits : PrefixProfile
+six_digits = record { digits = 6; greatest = 999_999 }
 
-abbrev pub IsPrefix : ℕ → Type 0
-IsPrefix number = number ≤ greatest_prefix
+-- the profile in force; what is said under a profile without naming it is said under this one
+abbrev pub in_force : PrefixProfile
+in_force = six_digits
+
+-- ---- under a profile
+
+abbrev pub IsPrefixUnder : PrefixProfile → ℕ → Type 0
+IsPrefixUnder profile number = number ≤ profile.greatest
 
 -- just as many digits as a prefix has
-abbrev pub is_prefix_text : List ℕ → Bool
-is_prefix_text text = (length text == prefix_digits) && list_all is_ascii_digit text
+abbrev pub is_prefix_text_under : PrefixProfile → List ℕ → Bool
+is_prefix_text_under profile text =
+    (length text == profile.digits) && list_all is_ascii_digit text
 
 -- the prefix that a text spells, if it is just so many digits
+abbrev pub prefix_of_text_under : PrefixProfile → List ℕ → Option ℕ
+prefix_of_text_under profile text =
+    if is_prefix_text_under profile text then Some (digits_value 10 text) else None
+
+-- ---- under the one in force
+
+abbrev pub prefix_digits : ℕ
+prefix_digits = in_force.digits
+
+abbrev pub greatest_prefix : ℕ
+greatest_prefix = in_force.greatest
+
+abbrev pub IsPrefix : ℕ → Type 0
+IsPrefix = IsPrefixUnder in_force
+
+abbrev pub is_prefix_text : List ℕ → Bool
+is_prefix_text = is_prefix_text_under in_force
+
 abbrev pub prefix_of_text : List ℕ → Option ℕ
-prefix_of_text text = if is_prefix_text text then Some (digits_value 10 text) else None
+prefix_of_text = prefix_of_text_under in_force

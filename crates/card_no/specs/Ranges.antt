@@ -5,7 +5,7 @@ use Rattle.std.specs.Prelude.{[], ◌∷◌, length, filter, find, Option, Some,
 use Rattle.std.specs.Prelude.{if◌then◌else◌}
 use Rattle.std.specs.List.{list_all, list_any}
 use Rattle.std.specs.Char.{is_ascii_digit}
-use Rattle.card_no.specs.Prefix.{greatest_prefix}
+use Rattle.card_no.specs.Prefix.{PrefixProfile, in_force}
 use Rattle.card_no.specs.declared.range.Range.{Range}
 
 -- how many days a hold lasts
@@ -20,10 +20,13 @@ abbrev pub is_issuer : List ℕ → Bool
 is_issuer text = nat_le 1 (length text) && nat_le (length text) 11 && list_all is_ascii_digit text
 
 -- low is not above high, high is a prefix, the issuer is 1 to 11 digits, a hold lasts as it may
-abbrev pub is_valid_range : Range → Bool
-is_valid_range r =
-    nat_le r.low r.high && nat_le r.high greatest_prefix && is_issuer r.issuer
+abbrev pub is_valid_range_under : PrefixProfile → Range → Bool
+is_valid_range_under profile r =
+    nat_le r.low r.high && nat_le r.high profile.greatest && is_issuer r.issuer
     && nat_le least_hold_days r.hold_days && nat_le r.hold_days greatest_hold_days
+
+abbrev pub is_valid_range : Range → Bool
+is_valid_range = is_valid_range_under in_force
 
 -- both ends are included
 abbrev pub holds_prefix : ℕ → Range → Bool

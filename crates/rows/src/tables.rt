@@ -95,7 +95,8 @@ fn put_card(bytes: &[u8], answer: &mut String) -> Result<(), RowFault> {
     match CardNumber::read(bytes) {
         Some(card) => {
             let prefix = card.prefix().number();
-            write!(answer, "{prefix:06} {}", card.masked())?;
+            let width = Prefix::DIGITS;
+            write!(answer, "{prefix:0width$} {}", card.masked())?;
         }
         None => answer.push_str("none")?,
     }
@@ -168,8 +169,8 @@ fn put_range(range: &Range, answer: &mut String) -> Result<(), RowFault> {
     if !answer.is_empty() {
         answer.push_str(" ")?;
     }
-    let (low, high) = (range.low, range.high);
-    write!(answer, "{low:06}-{high:06},")?;
+    let (low, high, width) = (range.low, range.high, Prefix::DIGITS);
+    write!(answer, "{low:0width$}-{high:0width$},")?;
     put_shown(range.issuer.as_bytes(), answer)?;
     let days = range.hold_days;
     write!(answer, ",{days}")?;

@@ -28,7 +28,8 @@ use Rattle.acq_sql_rows.specs.Schema.{book_schema}
 use Rattle.acq_sql_rows.specs.Tallies.{Tally, Running, FitsTally, plus, tally_in, raised}
 use Rattle.acq_sql_rows.specs.Rows.{book_row, merchant_row, terminal_row, key_row, request_row}
 use Rattle.acq_sql_rows.specs.Rows.{posting_row}
-use Rattle.acq_sql_rows.specs.Rows.{reconciliation_row, running_row, status_number}
+use Rattle.acq_core.specs.Statuses.{status_number}
+use Rattle.acq_sql_rows.specs.Rows.{reconciliation_row, running_row}
 use Rattle.acq_sql_rows.specs.Texts as text
 use Rattle.acq_sql_rows.specs.Queries.{new_row, new_range, set_day_query, drop_range_query}
 use Rattle.acq_sql_rows.specs.Queries.{answer_query, follow_query}

@@ -35,7 +35,8 @@ use Rattle.acq_sql_rows.specs.Schema as schema
 use Rattle.acq_sql_rows.specs.Tallies.{Running}
 use Rattle.acq_sql_rows.specs.Rows.{book_row, merchant_row, terminal_row, key_row, request_row}
 use Rattle.acq_sql_rows.specs.Rows.{posting_row}
-use Rattle.acq_sql_rows.specs.Rows.{reconciliation_row, status_number, leg_number, bit_of}
+use Rattle.acq_core.specs.Statuses.{status_number}
+use Rattle.acq_sql_rows.specs.Rows.{reconciliation_row, leg_number, bit_of}
 use Rattle.acq_sql_rows.specs.Queries.{new_row, key_is, set_day_query, answer_query, follow_query}
 use Rattle.acq_sql_rows.specs.Relation.{HoldsRows, AreRecorded}
 use Rattle.acq_sql_changes.specs.Written.{with_merchant, with_terminal, with_request, with_answer}
