@@ -6,10 +6,7 @@ use Rattle.std.specs.Prelude.{◌&&◌, is_some, if◌then◌else◌}
 use Rattle.iso_codec.specs.Message.{IsoMessage}
 use Rattle.card_no.specs.declared.range.Range.{Range}
 use Rattle.acq_message.specs.declared.service.Service.{Service}
-use Rattle.acq_message.specs.declared.service.Service.TheVariants.{Authorization, Financial}
-use Rattle.acq_message.specs.declared.service.Service.TheVariants.{Completion, Reversal}
-use Rattle.acq_message.specs.declared.service.Service.TheVariants.{ReversalAdvice, Reconciliation}
-use Rattle.acq_message.specs.declared.service.Service.TheVariants.{NetworkManagement}
+use Rattle.acq_message.specs.declared.service.Service.TheVariants.{Completion}
 use Rattle.acq_message.specs.declared.request_key.RequestKey.{RequestKey}
 use Rattle.acq_core.specs.declared.request.Request.{Request}
 use Rattle.acq_core.specs.declared.status.Status.TheVariants as status
@@ -23,20 +20,20 @@ use Rattle.acq_core.specs.declared.reply_state.ReplyState.TheVariants.{Awaited}
 use Rattle.acq_core.specs.Outcome.{Replied}
 use Rattle.acq_message.specs.Reply.{verdict_code}
 use Rattle.acq_core.specs.Changes.{answered_status, answered_hold_end, reversed_status}
-use Rattle.acq_core.specs.Tables.{prior_of}
+use Rattle.acq_core.specs.Tables.{prior_of, followed_row, answered_row}
 use Rattle.acq_message.specs.Numbers.{is_number}
 use Rattle.acq_history.specs.Entries.{Entry, request_of, is_completing, is_completion, is_reversal}
 use Rattle.acq_history.specs.Entries.{is_reversing, is_key, completes, reverses}
-use Rattle.acq_history.specs.History.{Found, aged, recorded, referred, reference_of, answer_to}
-use Rattle.acq_history.specs.History.{is_completed, is_reversed, prior}
+use Rattle.acq_history.specs.History.{Found, aged, recorded, referred, reference_of, prior}
 use Rattle.acq_history.proofs.Lookups.{some_is, clash}
 use Rattle.acq_history.proofs.Keys.{same_key_is, same_key_itself, eqb_is, eqb_itself}
 use Rattle.acq_history.proofs.RecordedInHistory.{key_in, IsFoundAgain, referred_is, recorded_is}
 use Rattle.acq_history.proofs.RequestsAfterNewEntry.{line, shown, prior_is, prior_aged_same}
-use Rattle.acq_history.proofs.RequestsAfterNewEntry.{prior_aged_answered, prior_aged_completed}
-use Rattle.acq_history.proofs.RequestsAfterNewEntry.{prior_aged_reversed, prior_of_answered}
-use Rattle.acq_history.proofs.RequestsAfterNewEntry.{prior_of_completed, prior_of_reversed}
-use Rattle.acq_history.proofs.RowsAgreeWithHistory.{FollowsEntry, at_key}
+use Rattle.acq_history.proofs.RequestsAfterNewEntry.{prior_of_answered, prior_of_completed}
+use Rattle.acq_history.proofs.RequestsAfterNewEntry.{prior_of_reversed, fate_of, prior_aged}
+use Rattle.acq_history.proofs.RequestsAfterNewEntry.{fate_answered, fate_completed, fate_reversed}
+use Rattle.acq_history.proofs.RowsAgreeWithHistory.{FollowsEntry}
+use Rattle.acq_history.proofs.RowsWithChanges.{changing}
 
 -- a row, and what stands for it
 row_key : (a : Request) (f : Found) → line a ≡ shown f → a.key ≡ key_in f
@@ -70,18 +67,15 @@ module _ (h : List Entry) (n : ℕ) (g : Found) (p : Prior) (found : referred n 
   -- the row after an answer
   abbrev pub answering : ℕ → Verdict → IsoMessage → Request → Request
   answering moment v reply row =
-      record row {
-        status = answered_status v;
-        reply = reply;
-        hold_end = answered_hold_end p.key.service moment v p.hold_days;
-      }
+      answered_row (answered_status v) reply
+      (answered_hold_end p.key.service moment v p.hold_days) row
 
   -- the one row that an answer edits says what the history says of an answered request, all others
   -- what they said
   pub answer_follows : (moment day : ℕ) (merchant : List ℕ) (v : Verdict) (ranges : List Range)
       (reply draft : IsoMessage) →
       p.reply_state ≡ Awaited draft →
-      FollowsEntry (at_key p.key (answering moment v reply))
+      FollowsEntry (changing p.key (answering moment v reply))
       (record {
         arrival = Answered moment merchant n v;
         day = day;
@@ -105,18 +99,13 @@ module _ (h : List Entry) (n : ℕ) (g : Found) (p : Prior) (found : referred n 
             ∙ (referred_is n h g found).0 in
             let as_prior : p ≡ prior f = sym (ap prior fg ∙ is) in
             let whole : prior_of (answering moment v reply a) ≡ prior (aged e f) =
-            (λ i. prior_of
-            (record a {
-              status = answered_status v;
-              reply = reply;
-              hold_end = answered_hold_end (as_prior i).key.service moment v (as_prior i).hold_days;
-            }))
-            ∙ (prior_of_answered a f (answer_to f) (is_completed f)
-            (is_reversed f) draft moment v reply e
+            (λ i. prior_of (answered_row (answered_status v) reply
+            (answered_hold_end (as_prior i).key.service moment v (as_prior i).hold_days) a))
+            ∙ (prior_of_answered a f (fate_of f) draft moment v reply e
             (ap (λ x. x.0) same ∙ prior_is f)
             (ap (λ x. x.reply_state) (sym (prior_is f) ∙ sym as_prior) ∙ pending) refl refl
-            ∙ sym (prior_aged_answered e f n numbered (ap (λ b. b && true) (eqb_itself n))
-            (λ k is. refl) refl)) in
+            ∙ sym (prior_aged e f _ (fate_answered e f n numbered
+            (ap (λ b. b && true) (eqb_itself n)) (λ k is. refl) refl))) in
             λ i. (whole i, (same i).1))
         | false ↦ (λ t.
             let whole : prior_of a ≡ prior (aged e f) =
@@ -136,13 +125,13 @@ module _ (h : List Entry) (n : ℕ) (g : Found) (p : Prior) (found : referred n 
 
   -- the row of a hold after its completion
   abbrev pub completing : Request → Request
-  completing row = record row { status = status.Completed }
+  completing = followed_row status.Completed
 
   -- so it is with a completion
   pub completion_follows : (moment day : ℕ) (message : IsoMessage) (ranges : List Range)
       (reply : IsoMessage) →
       reference_in message ≡ Some n → is_some p.hold_end ≡ true →
-      FollowsEntry (at_key p.key completing)
+      FollowsEntry (changing p.key completing)
       (record {
         arrival = Requested (record { moment = moment; service = Completion; message = message });
         day = day;
@@ -166,10 +155,11 @@ module _ (h : List Entry) (n : ℕ) (g : Found) (p : Prior) (found : referred n 
             let numbered : reference_of f ≡ Some n = ap reference_of fg
             ∙ (referred_is n h g found).0 in
             let whole : prior_of (completing a) ≡ prior (aged e f) =
-            prior_of_completed a f (answer_to f) (is_completed f) (is_reversed f)
+            prior_of_completed a f (fate_of f)
             (ap (λ x. x.0) same ∙ prior_is f)
             (ap (λ x. is_some x.hold_end) (sym (prior_is f) ∙ (ap prior fg ∙ is)) ∙ ends)
-            ∙ sym (prior_aged_completed e f n numbered (λ k is. refl) (by n ∙ eqb_itself n) refl) in
+            ∙ sym (prior_aged e f _ (fate_completed e f n numbered (λ k is. refl)
+            (by n ∙ eqb_itself n) refl)) in
             λ i. (whole i, (same i).1))
         | false ↦ (λ t.
             let whole : prior_of a ≡ prior (aged e f) =
@@ -189,26 +179,21 @@ module _ (h : List Entry) (n : ℕ) (g : Found) (p : Prior) (found : referred n 
 
 is_completion_of_reversal : (s : Service) → is_reversal s ≡ true → is_completion s ≡ false
 is_completion_of_reversal Completion e = absurd (cc)
-is_completion_of_reversal Authorization e = refl
-is_completion_of_reversal Financial e = refl
-is_completion_of_reversal Reversal e = refl
-is_completion_of_reversal ReversalAdvice e = refl
-is_completion_of_reversal Reconciliation e = refl
-is_completion_of_reversal NetworkManagement e = refl
+is_completion_of_reversal service e = refl
 
 module _ (h : List Entry) (key : RequestKey) (g : Found) (p : Prior)
     (found : recorded key h ≡ Some g)
     (is : prior g ≡ p) where
   -- the row of an original after its reversal
   abbrev pub reversing : Request → Request
-  reversing row = record row { status = reversed_status p.reply_state }
+  reversing = followed_row (reversed_status p.reply_state)
 
   -- and with a reversal
   pub reversal_follows : (r : RequestMessage) (day : ℕ) (ranges : List Range) (reply : IsoMessage) →
       request_of (Requested r) ≡ Some r → is_reversal r.service ≡ true →
       original_key r.message ≡ Some key →
       p.is_reversible ≡ true →
-      FollowsEntry (at_key p.key reversing)
+      FollowsEntry (changing p.key reversing)
       (record {
         arrival = Requested r;
         day = day;
@@ -243,12 +228,12 @@ module _ (h : List Entry) (key : RequestKey) (g : Found) (p : Prior)
             let as_prior : p ≡ prior f = sym (ap prior fg ∙ is) in
             let whole : prior_of (reversing a) ≡ prior (aged e f) =
             (λ i. prior_of
-            (record a { status = reversed_status ((as_prior ∙ prior_is f) i).reply_state }))
-            ∙ (prior_of_reversed a f (answer_to f) (is_completed f) (is_reversed f)
+            (followed_row (reversed_status ((as_prior ∙ prior_is f) i).reply_state) a))
+            ∙ (prior_of_reversed a f (fate_of f)
             (ap (λ x. x.0) same ∙ prior_is f)
             (ap (λ x. x.is_reversible) (sym (prior_is f) ∙ sym as_prior) ∙ reversible)
-            ∙ sym (prior_aged_reversed e f (λ k is. refl) (λ k is. completions k)
-            (by ∙ (ap (λ k. same_key key k) (keys ∙ here) ∙ same_key_itself key)))) in
+            ∙ sym (prior_aged e f _ (fate_reversed e f (λ k is. refl) (λ k is. completions k)
+            (by ∙ (ap (λ k. same_key key k) (keys ∙ here) ∙ same_key_itself key))))) in
             λ i. (whole i, (same i).1))
         | false ↦ (λ t.
             let inner : (c : Bool) → same_key key (key_in f) ≡ c →

@@ -6,6 +6,7 @@ use Rattle.std.specs.Str.{bytes_eq}
 use Rattle.iso_codec.specs.Message.{IsoMessage}
 use Rattle.card_no.specs.declared.range.Range.{Range}
 use Rattle.card_no.specs.Ranges.{with_range, without_range, overlapped_by, has_ends, is_valid_range}
+use Rattle.card_no.specs.Ranges.{between}
 use Rattle.std.proofs.lemmas.Bool.{and_parts}
 use Rattle.acq_message.specs.declared.service.Service.{Service}
 use Rattle.acq_message.specs.declared.service.Service.TheVariants.{Authorization, Financial}
@@ -28,7 +29,6 @@ use Rattle.day_totals.specs.Day.{last_day}
 use Rattle.acq_message.specs.Reply.{coded_reply}
 use Rattle.acq_core.specs.Outcome.{Replied, output_of, outcome_of}
 use Rattle.acq_core.specs.Changes.{change_of, change_for}
-use Rattle.card_no.specs.Ranges.{between}
 use Rattle.acq_core.specs.Tables.{Opening, Tables, new_tables, facts_in, known_in, after_any}
 use Rattle.acq_core.specs.Tables.{step_output, step_tables}
 use Rattle.acq_history.specs.Entries.{Entry}

@@ -12,10 +12,7 @@ use Rattle.day_totals.specs.declared.leg.Leg.{Leg}
 use Rattle.day_totals.specs.Totals.{greatest_posting}
 use Rattle.day_totals.proofs.WithinLimits.{FitsDay-within}
 use Rattle.acq_message.specs.declared.service.Service.{Service}
-use Rattle.acq_message.specs.declared.service.Service.TheVariants.{Authorization, Financial}
-use Rattle.acq_message.specs.declared.service.Service.TheVariants.{Completion, Reversal}
-use Rattle.acq_message.specs.declared.service.Service.TheVariants.{ReversalAdvice, Reconciliation}
-use Rattle.acq_message.specs.declared.service.Service.TheVariants.{NetworkManagement}
+use Rattle.acq_message.specs.declared.service.Service.TheVariants.{Financial, Completion}
 use Rattle.acq_message.specs.declared.request_key.RequestKey.{RequestKey}
 use Rattle.acq_message.specs.declared.request_message.RequestMessage.{RequestMessage}
 use Rattle.acq_message.specs.declared.verdict.Verdict.{Verdict}
@@ -37,7 +34,7 @@ use Rattle.acq_core.specs.Changes.{reversal_posting, answered_status, reversed_s
 use Rattle.acq_core.specs.Tables.{Opening, Tables, new_tables, count, is_pending, prior_of}
 use Rattle.acq_core.specs.Tables.{reply_state_of, reference_by, leg_by, requests_of, postings_of}
 use Rattle.acq_core.specs.Tables.{admitted_in, with_changed, with_next_posting, postings_before}
-use Rattle.acq_core.specs.Tables.{known_in, after_any, step_tables, tables_after}
+use Rattle.acq_core.specs.Tables.{known_in, after_any, step_tables, tables_after, followed_row}
 use Rattle.acq_history.specs.Entries.{is_reversal}
 use Rattle.acq_history.proofs.Lookups.{map_some}
 use Rattle.acq_history.proofs.Members.{In-find, from_In}
@@ -46,7 +43,8 @@ use Rattle.acq_history.specs.Bounds.{IsBoundedRow, IsBoundedPosting, IsWithinLim
 use Rattle.acq_history.specs.Bounds.{NumbersStayBounded}
 use Rattle.acq_history.proofs.StepCases.{next_reference, by_step}
 use Rattle.acq_history.proofs.Arrivals.{IsArrival, kept_by_events}
-use Rattle.acq_history.proofs.RowsWithChanges.{All-with_changed, All-member}
+use Rattle.acq_history.proofs.RowsWithChanges.{All-with_changed, All-member, followed_kept}
+use Rattle.acq_history.proofs.RowsWithChanges.{answered_kept}
 use Rattle.acq_history.proofs.AdmittedCounts.{IsCounted, admitted_in-within}
 use Rattle.acq_history.proofs.CountsStayWithin.{AreCountsWithin, IsOf, within_uncounted}
 use Rattle.acq_history.proofs.CountsStayWithin.{within_counted, posted_on-ended, used_on-changed}
@@ -77,12 +75,12 @@ sound_later today later row le s = record {
   completion = s.completion;
 }
 
--- rows whose status was changed
+-- rows with one that a completion or a reversal followed
 followed : (today : ℕ) (key : RequestKey) (st : Status) (rows : List Request) →
     All (IsSoundRow today) rows →
-    All (IsSoundRow today) (with_changed key (λ row. record row { status = st }) rows)
+    All (IsSoundRow today) (with_changed key (followed_row st) rows)
 followed today key st rows all =
-    All-with_changed (IsSoundRow today) key (λ row. record row { status = st }) rows
+    All-with_changed (IsSoundRow today) key (followed_row st) rows
     (λ x same s. record {
       bounded = record {
         day = s.bounded.day;
@@ -117,12 +115,7 @@ sound_plain today row dated unreferred follows completion = record {
 reference_by-bounded : (today : ℕ) (s : Service) (row : Request) → IsBoundedRow today row →
     IfSome (reference_by s row) (λ n. is_reference n ≡ true)
 reference_by-bounded today Completion row b = b.follows
-reference_by-bounded today Authorization row b = b.reference
-reference_by-bounded today Financial row b = b.reference
-reference_by-bounded today Reversal row b = b.reference
-reference_by-bounded today ReversalAdvice row b = b.reference
-reference_by-bounded today Reconciliation row b = b.reference
-reference_by-bounded today NetworkManagement row b = b.reference
+reference_by-bounded today service row b = b.reference
 
 or_zero-bounded : (o : Option ℕ) → IfSome o (λ n. is_reference n ≡ true) →
     is_reference (or_zero o) ≡ true
@@ -138,11 +131,7 @@ leg_by-amount today Financial row leg sound is e =
 leg_by-amount today Completion row leg sound is e =
     let found = map_some (λ reference. row.leg) row.follows leg e in
     sound.completion is found.0 found.1
-leg_by-amount today Authorization row leg sound is e = absurd cc
-leg_by-amount today Reversal row leg sound is e = absurd cc
-leg_by-amount today ReversalAdvice row leg sound is e = absurd cc
-leg_by-amount today Reconciliation row leg sound is e = absurd cc
-leg_by-amount today NetworkManagement row leg sound is e = absurd cc
+leg_by-amount today service row leg sound is e = absurd cc
 
 -- ---- postings
 
@@ -296,7 +285,7 @@ module _ (opening : Opening) (begins : IsOpening opening) where
         malformed = λ r came. h;
         replied = λ r came given hosts. h;
         repeated = λ row member. h;
-        refused = λ r came merchant g given hosts. record {
+        refused = λ r merchant g given hosts. record {
           limit = h.limit;
           day = h.day;
           firsts = h.firsts;
@@ -305,7 +294,7 @@ module _ (opening : Opening) (begins : IsOpening opening) where
           postings = h.postings;
           counts = within_uncounted t.limit t.requests t.postings _ refl refl h.counts;
         };
-        admitted = λ r came merchant g service amount room range held. record {
+        admitted = λ r merchant g range c. record {
           limit = h.limit;
           day = h.day;
           firsts = h.firsts;
@@ -317,7 +306,7 @@ module _ (opening : Opening) (begins : IsOpening opening) where
                   follows = tt;
                 };
             counts = λ n e. refl;
-            amount = λ n e. amount;
+            amount = λ n e. c.amount;
             completion = λ s n e. absurd cc;
           });
           postings = h.postings;
@@ -328,12 +317,12 @@ module _ (opening : Opening) (begins : IsOpening opening) where
                 same = λ m day. refl;
                 fewer = λ m day. omega arith;
                 once = λ m day. omega arith;
-              }) room h.counts;
+              }) c.room h.counts;
         };
-        completed = λ r came merchant g service amount room hold own.
+        completed = λ r merchant g hold c.
             let sound : IsSoundRow t.day hold =
-            All-member (IsSoundRow t.day) t.requests hold h.rows own.member in
-            let made = completion_made t.day t.day r hold sound amount in record {
+            All-member (IsSoundRow t.day) t.requests hold h.rows c.member in
+            let made = completion_made t.day t.day r hold sound c.amount in record {
               limit = h.limit;
               day = h.day;
               firsts = h.firsts;
@@ -341,25 +330,23 @@ module _ (opening : Opening) (begins : IsOpening opening) where
                   (followed t.day hold.key status.Completed t.requests h.rows)
                   (sound_plain t.day _ refl refl
                   (reference_by-bounded t.day hold.key.service hold sound.bounded)
-                  (λ s n e. amount));
+                  (λ s n e. c.amount));
               postings = postings_with t.day t.day (text_at r.message 42) t.postings
                   (Some (completion_posting t.day r (prior_of hold))) (omega arith) made h.postings;
               counts =
                   within_counted t.limit t.requests _ t.postings _ _
                   (record {
                     counts = refl;
-                    same = used_on-changed hold.key _ (λ x. refl) (λ x. refl) (λ x. refl)
-                        (λ x. refl) t.requests;
-                    fewer = pending_on-changed hold.key _ (λ x. refl) (λ x. refl) (λ x. refl)
-                        (λ x. refl) t.requests;
+                    same = used_on-changed hold.key _ (followed_kept _) (λ x. refl) t.requests;
+                    fewer = pending_on-changed hold.key _ (followed_kept _) (λ x. refl) t.requests;
                     once = posted_on-ended t.postings
                         (Some (completion_posting t.day r (prior_of hold)))
                         (text_at r.message 42) t.day made.of;
-                  }) room h.counts;
+                  }) c.room h.counts;
             };
-        reversed = λ r came merchant g service room row own.
+        reversed = λ r merchant g row c.
             let sound : IsSoundRow t.day row =
-            All-member (IsSoundRow t.day) t.requests row h.rows own.member in
+            All-member (IsSoundRow t.day) t.requests row h.rows c.member in
             let ended = reversed_status-ended (reply_state_of row.status row.reply) in
             let made = reversal_made t.day t.day r row sound in record {
               limit = h.limit;
@@ -376,18 +363,16 @@ module _ (opening : Opening) (begins : IsOpening opening) where
                   within_counted t.limit t.requests _ t.postings _ _
                   (record {
                     counts = refl;
-                    same = used_on-changed row.key _ (λ x. refl) (λ x. refl) (λ x. refl)
-                        (λ x. ended) t.requests;
-                    fewer = pending_on-changed row.key _ (λ x. refl) (λ x. refl) (λ x. refl)
-                        (λ x. ended) t.requests;
+                    same = used_on-changed row.key _ (followed_kept _) (λ x. ended) t.requests;
+                    fewer = pending_on-changed row.key _ (followed_kept _) (λ x. ended) t.requests;
                     once =
                         posted_on-ended t.postings (reversal_posting t.day r (prior_of row))
                         (text_at r.message 42) t.day
                         (some_of (text_at r.message 42) t.day
                         (reversal_posting t.day r (prior_of row)) made);
-                  }) room h.counts;
+                  }) c.room h.counts;
             };
-        reconciled = λ r came merchant g service day on. record {
+        reconciled = λ r merchant g day c. record {
           limit = h.limit;
           day = h.day;
           firsts = h.firsts;
@@ -396,9 +381,9 @@ module _ (opening : Opening) (begins : IsOpening opening) where
           postings = h.postings;
           counts = within_uncounted t.limit t.requests t.postings _ refl refl h.counts;
         };
-        answered = λ moment merchant reference v came row member pending n under.
+        answered = λ moment v row c.
             let sound : IsSoundRow t.day row =
-            All-member (IsSoundRow t.day) t.requests row h.rows member in
+            All-member (IsSoundRow t.day) t.requests row h.rows c.member in
             let made = answer_made t.day v row sound in record {
               limit = h.limit;
               day = h.day;
@@ -419,10 +404,10 @@ module _ (opening : Opening) (begins : IsOpening opening) where
                   (answer_posting v (prior_of row))
                   sound.bounded.day made h.postings;
               counts =
-                  within_answered row.key _ (λ x. refl) (λ x. refl) (λ x. refl)
+                  within_answered row.key _ (answered_kept _ _ _)
                   (λ x. answered_status-ended v) t.requests
-                  t.limit t.postings row (answer_posting v (prior_of row)) member refl
-                  (ap is_pending pending)
+                  t.limit t.postings row (answer_posting v (prior_of row)) c.member refl
+                  (ap is_pending c.pending)
                   (some_of row.key.merchant row.day (answer_posting v (prior_of row)) made)
                   h.counts;
             };

@@ -11,9 +11,6 @@ use Rattle.iso_codec.specs.Message.{IsoMessage}
 use Rattle.iso_codec.specs.Reading.{reading_of}
 use Rattle.std.proofs.lemmas.Bool.{and_parts}
 use Rattle.acq_message.specs.declared.service.Service.{Service}
-use Rattle.acq_message.specs.declared.service.Service.TheVariants.{Authorization, Financial}
-use Rattle.acq_message.specs.declared.service.Service.TheVariants.{Completion, Reversal}
-use Rattle.acq_message.specs.declared.service.Service.TheVariants.{ReversalAdvice, Reconciliation}
 use Rattle.acq_message.specs.declared.service.Service.TheVariants.{NetworkManagement}
 use Rattle.acq_message.specs.declared.request_key.RequestKey.{RequestKey}
 use Rattle.acq_core.specs.declared.merchant.Merchant.{Merchant}
@@ -50,10 +47,10 @@ use Rattle.acq_core.proofs.Counts.{or_none}
 use Rattle.acq_history.proofs.RecordableRequests.{recordable_some}
 use Rattle.acq_history.proofs.UnrecordedRequests.{change_of_repeat}
 use Rattle.acq_history.proofs.RequestsAfterNewEntry.{line}
-use Rattle.acq_history.proofs.RowsAgreeWithHistory.{at_key}
+use Rattle.acq_history.proofs.RowsWithChanges.{Edits, changing, changing_kept, followed_kept}
+use Rattle.acq_history.proofs.RowsWithChanges.{answered_kept}
 use Rattle.acq_history.proofs.TablesAgreeWithHistory.{Agrees, postings_of_other}
-use Rattle.acq_history.proofs.TablesAgreeWithHistory.{answer_posting_is_of}
-use Rattle.acq_history.proofs.TablesAgreeWithHistory.{reversal_posting_is_of}
+use Rattle.acq_history.proofs.TablesAgreeWithHistory.{answer_posting_is_of, reversal_posting_is_of}
 use Rattle.acq_history.proofs.OwnStep.{referred_merchant}
 
 -- two tables that one merchant can't tell apart
@@ -113,14 +110,12 @@ recorded_merchant m rows key p there =
 
 -- an edit of another merchant's row
 edit_out : (m : List ℕ) (key : RequestKey) (changed : Request → Request) →
-    ((a : Request) → (changed a).key ≡ a.key) →
+    Edits changed →
     bytes_eq key.merchant m ≡ false → (rows : List Request) →
     requests_of m (with_changed key changed rows) ≡ requests_of m rows
-edit_out m key changed keeps other rows =
-    filter-map (λ row. bytes_eq row.key.merchant m) (at_key key changed) (λ a. a)
-    (λ a. elim (same_key a.key key) as (λ b. bytes_eq (if b then changed a else a).key.merchant m
-    ≡ bytes_eq a.key.merchant m)
-    [ true ↦ ap (λ k. bytes_eq k.merchant m) (keeps a) | false ↦ refl ])
+edit_out m key changed edits other rows =
+    filter-map (λ row. bytes_eq row.key.merchant m) (changing key changed) (λ a. a)
+    (λ a. ap (λ k. bytes_eq k.merchant m) (changing_kept key changed edits a).key)
     (λ a mine.
     let step : (b : Bool) → same_key a.key key ≡ b → (if b then changed a else a) ≡ a =
     elim [
@@ -205,7 +200,7 @@ module _ (m : List ℕ) (t : Tables) where
                   postings_of_other m n t.postings (Some (completion_posting t.day r hold)) refl
                   (out fresh.recordable);
               requests = row_out _ (out fresh.recordable) _ ∙ edit_out m hold.key _
-                  (λ a. refl) theirs t.requests;
+                  (followed_kept _) theirs t.requests;
             };
         reversed = λ merchant fresh service p there final.
             let asked =
@@ -225,7 +220,7 @@ module _ (m : List ℕ) (t : Tables) where
                   (reversal_posting_is_of t.day r p)
                   (out fresh.recordable);
               requests = row_out _ (out fresh.recordable) _ ∙ edit_out m p.key _
-                  (λ a. refl) theirs t.requests;
+                  (followed_kept _) theirs t.requests;
             };
       })
 
@@ -250,7 +245,7 @@ module _ (m : List ℕ) (t : Tables) where
               posted =
                   postings_of_other m p.key.merchant t.postings (answer_posting v p)
                   (answer_posting_is_of v p) theirs;
-              requests = edit_out m p.key _ (λ a. refl) theirs t.requests;
+              requests = edit_out m p.key _ (answered_kept _ _ _) theirs t.requests;
             };
       })
       (known_in t a).merchant
@@ -338,14 +333,9 @@ all_at p n (k ∷ ns) there all =
 needs_merchant : (moment : ℕ) (s : Service) (message : IsoMessage) (q : RequestMessage) →
     let r : RequestMessage = record { moment = moment; service = s; message = message } in
     request_of (Requested r) ≡ Some q → list_any (λ k. eqb k 42) (needed s) ≡ true
-needs_merchant moment Authorization message q came = refl
-needs_merchant moment Financial message q came = refl
-needs_merchant moment Completion message q came = refl
-needs_merchant moment Reversal message q came = refl
-needs_merchant moment ReversalAdvice message q came = refl
-needs_merchant moment Reconciliation message q came = refl
 needs_merchant moment NetworkManagement message q came =
     absurd (let no : ◌≡◌ {A = Option RequestMessage} None (Some q) = came in cc)
+needs_merchant moment service message q came = refl
 
 -- what the first check passes has all that it needs
 passed_has : (s : Service) (message : IsoMessage) → is_malformed s message ≡ false →

@@ -12,7 +12,6 @@ use Rattle.acq_message.specs.declared.service.Service.{Service}
 use Rattle.acq_message.specs.declared.service.Service.TheVariants.{Authorization, Financial}
 use Rattle.acq_message.specs.declared.service.Service.TheVariants.{Completion, Reversal}
 use Rattle.acq_message.specs.declared.service.Service.TheVariants.{ReversalAdvice, Reconciliation}
-use Rattle.acq_message.specs.declared.service.Service.TheVariants.{NetworkManagement}
 use Rattle.acq_core.specs.declared.merchant.Merchant.{Merchant}
 use Rattle.acq_core.specs.declared.request.Request.{Request}
 use Rattle.acq_core.specs.declared.status.Status.TheVariants as status
@@ -49,12 +48,13 @@ use Rattle.acq_history.proofs.RecordableRequests.{recordable_is, wants_by_key}
 use Rattle.acq_history.proofs.UnrecordedRequests.{IsRefusal, IsQuiet, accepts_not}
 use Rattle.acq_history.proofs.NewRows.{idle_line, admitted_line, completed_line, reversed_line}
 use Rattle.acq_history.proofs.RequestsAfterNewEntry.{line, shown}
-use Rattle.acq_history.proofs.RowsAgreeWithHistory.{Rows, status_edits, without_newest_edited}
+use Rattle.acq_history.proofs.RowsAgreeWithHistory.{Rows, without_newest_edited}
 use Rattle.acq_history.proofs.RowsAgreeWithHistory.{without_newest_still, rows_still, rows_joined}
 use Rattle.acq_history.proofs.ChangedRows.{completion_follows, completing, reversal_follows}
 use Rattle.acq_history.proofs.ChangedRows.{reversing}
-use Rattle.acq_history.proofs.TablesAgreeWithHistory.{Agrees, common_still, IsOf}
-use Rattle.acq_history.proofs.TablesAgreeWithHistory.{postings_of_mine, reversal_posting_is_of}
+use Rattle.acq_history.proofs.TablesAgreeWithHistory.{Agrees, common_still, IsOf, postings_of_mine}
+use Rattle.acq_history.proofs.TablesAgreeWithHistory.{reversal_posting_is_of}
+use Rattle.acq_history.proofs.RowsWithChanges.{followed_kept}
 
 -- ---- what a request asks for
 
@@ -64,11 +64,7 @@ wanted_prefix : (today moment : ℕ) (s : Service) (message : IsoMessage) →
     is_admissible s ≡ true → (wanted_by today (Requested r)).prefix ≡ prefix_in message
 wanted_prefix today moment Authorization message fits = refl
 wanted_prefix today moment Financial message fits = refl
-wanted_prefix today moment Completion message fits = absurd (cc)
-wanted_prefix today moment Reversal message fits = absurd (cc)
-wanted_prefix today moment ReversalAdvice message fits = absurd (cc)
-wanted_prefix today moment Reconciliation message fits = absurd (cc)
-wanted_prefix today moment NetworkManagement message fits = absurd (cc)
+wanted_prefix today moment service message fits = absurd (cc)
 
 -- a reversal wants its original
 wanted_original : (today moment : ℕ) (s : Service) (message : IsoMessage) →
@@ -76,21 +72,14 @@ wanted_original : (today moment : ℕ) (s : Service) (message : IsoMessage) →
     is_reversal s ≡ true → (wanted_by today (Requested r)).original ≡ original_key message
 wanted_original today moment Reversal message fits = refl
 wanted_original today moment ReversalAdvice message fits = refl
-wanted_original today moment Authorization message fits = absurd (cc)
-wanted_original today moment Financial message fits = absurd (cc)
-wanted_original today moment Completion message fits = absurd (cc)
-wanted_original today moment Reconciliation message fits = absurd (cc)
-wanted_original today moment NetworkManagement message fits = absurd (cc)
+wanted_original today moment service message fits = absurd (cc)
 
 -- a reversal may be accepted
 reversal_accepted : (s : Service) → is_reversal s ≡ true → is_acceptable s ≡ true
 reversal_accepted Reversal fits = refl
 reversal_accepted ReversalAdvice fits = refl
-reversal_accepted Authorization fits = absurd (cc)
-reversal_accepted Financial fits = absurd (cc)
 reversal_accepted Completion fits = refl
-reversal_accepted Reconciliation fits = absurd (cc)
-reversal_accepted NetworkManagement fits = absurd (cc)
+reversal_accepted service fits = absurd (cc)
 
 -- either reversal posts alike
 reversal_by : (e : Entry) (h : List Entry) (r : RequestMessage) (s : Service) →
@@ -100,11 +89,7 @@ reversal_by : (e : Entry) (h : List Entry) (r : RequestMessage) (s : Service) �
     (option_and_then (λ key. recorded key h) (original_key r.message))
 reversal_by e h r Reversal fits = refl
 reversal_by e h r ReversalAdvice fits = refl
-reversal_by e h r Authorization fits = absurd (cc)
-reversal_by e h r Financial fits = absurd (cc)
-reversal_by e h r Completion fits = absurd (cc)
-reversal_by e h r Reconciliation fits = absurd (cc)
-reversal_by e h r NetworkManagement fits = absurd (cc)
+reversal_by e h r service fits = absurd (cc)
 
 -- nothing is admitted whose issuer isn't asked
 admits_not : (rq : Option RequestMessage) (e : Entry) (h : List Entry) →
@@ -402,7 +387,7 @@ module _ (opening : Opening) (m : List ℕ) (t : Tables) (h : List Entry)
               enrolled = λ a. absurd (cc);
             })
             (without_newest_edited m t.requests e h hold.key (completing h n f hold found.1 found.2)
-            (status_edits status.Completed)
+            (followed_kept status.Completed)
             (completion_follows h n f hold found.1 found.2 moment day message
             (ranges_after h) reply asked.1 ends)
             g.rows);
@@ -457,7 +442,7 @@ module _ (opening : Opening) (m : List ℕ) (t : Tables) (h : List Entry)
               enrolled = λ a. clash (is_admission e h) a admission;
             })
             (without_newest_edited m t.requests e h p.key (reversing h key f p found.1 found.2)
-            (status_edits (reversed_status p.reply_state))
+            (followed_kept (reversed_status p.reply_state))
             (reversal_follows h key f p found.1 found.2 r day
             (ranges_after h) reply came fits asked.1 reversible) g.rows);
         posted =

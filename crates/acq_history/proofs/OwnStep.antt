@@ -12,10 +12,7 @@ use Rattle.iso_codec.specs.Message.{IsoMessage}
 use Rattle.card_no.specs.declared.range.Range.{Range}
 use Rattle.card_no.specs.Ranges.{with_range, without_range, has_ends, is_valid_range}
 use Rattle.acq_message.specs.declared.service.Service.{Service}
-use Rattle.acq_message.specs.declared.service.Service.TheVariants.{Authorization, Financial}
-use Rattle.acq_message.specs.declared.service.Service.TheVariants.{Completion, Reversal}
-use Rattle.acq_message.specs.declared.service.Service.TheVariants.{ReversalAdvice, Reconciliation}
-use Rattle.acq_message.specs.declared.service.Service.TheVariants.{NetworkManagement}
+use Rattle.acq_message.specs.declared.service.Service.TheVariants.{Completion, NetworkManagement}
 use Rattle.acq_core.specs.declared.merchant.Merchant.{Merchant}
 use Rattle.acq_core.specs.declared.terminal.Terminal.{Terminal}
 use Rattle.acq_core.specs.declared.request.Request.{Request}
@@ -35,7 +32,8 @@ use Rattle.acq_core.specs.Decision.{is_open_at, Completes, Answers, CutsOver, Dr
 use Rattle.acq_core.specs.Decision.{decision_of_new_range, decision_of_old_range}
 use Rattle.acq_core.specs.Decision.{decision_of_enrolment, decision_of_terminal}
 use Rattle.day_totals.specs.Day.{last_day}
-use Rattle.acq_core.specs.Outcome.{Outcome, Replied, Performed, Reported, outcome_of}
+use Rattle.acq_core.specs.Outcome.{Outcome, Replied, Performed, Reported, outcome_of, output_of}
+use Rattle.acq_core.specs.Outcome.{outcome}
 use Rattle.acq_message.specs.Reply.{answered_reply, verdict_code}
 use Rattle.acq_message.specs.declared.response_code.ResponseCode.TheVariants as code
 use Rattle.acq_core.specs.Changes.{answered_status, answered_hold_end, change_of, change_for}
@@ -44,7 +42,6 @@ use Rattle.acq_core.specs.Tables.{Opening, Tables, prior_of, requests_of, referr
 use Rattle.acq_core.specs.Tables.{with_next_posting, with_changed, after_any, known_in, step_output}
 use Rattle.acq_core.specs.Tables.{step_tables}
 use Rattle.acq_message.specs.Numbers.{is_number}
-use Rattle.acq_core.specs.Outcome.{output_of, outcome}
 use Rattle.acq_history.specs.Entries.{Entry, request_of, is_performed, is_answer, accepts}
 use Rattle.acq_history.specs.Entries.{is_acceptable}
 use Rattle.acq_history.specs.History.{referred, day_after, ranges_after, enrolled, admits, prior}
@@ -57,10 +54,9 @@ use Rattle.acq_core.proofs.DecisionCases.{by_request, by_answer}
 use Rattle.acq_core.proofs.Counts.{or_none}
 use Rattle.acq_history.proofs.RecordableRequests.{recordable_some, is_admissible_true}
 use Rattle.acq_history.proofs.RecordableRequests.{is_reversal_true}
-use Rattle.acq_history.proofs.UnrecordedRequests.{IsQuiet, refusal_is, quiet_managed}
-use Rattle.acq_history.proofs.UnrecordedRequests.{quiet_unknown, quiet_duplicate, quiet_repeated}
-use Rattle.acq_history.proofs.UnrecordedRequests.{change_of_repeat}
-use Rattle.acq_history.proofs.RowsAgreeWithHistory.{Rows, answer_edits, without_newest_edited}
+use Rattle.acq_history.proofs.UnrecordedRequests.{IsQuiet, refusal_is, quiet_managed, quiet_unknown}
+use Rattle.acq_history.proofs.UnrecordedRequests.{quiet_duplicate, quiet_repeated, change_of_repeat}
+use Rattle.acq_history.proofs.RowsAgreeWithHistory.{Rows, without_newest_edited}
 use Rattle.acq_history.proofs.RowsAgreeWithHistory.{without_newest_still, rows_still}
 use Rattle.acq_history.proofs.RowsAgreeWithHistory.{referred_in_is}
 use Rattle.acq_history.proofs.ChangedRows.{answer_follows, answering}
@@ -69,6 +65,7 @@ use Rattle.acq_history.proofs.TablesAgreeWithHistory.{known_in_shared, IsOf, pos
 use Rattle.acq_history.proofs.TablesAgreeWithHistory.{answer_posting_is_of}
 use Rattle.acq_history.proofs.OwnRequests.{Keeps, quiet_step, refused_step, reconciled_step}
 use Rattle.acq_history.proofs.OwnRequests.{admitted_step, completed_step, reversed_step}
+use Rattle.acq_history.proofs.RowsWithChanges.{answered_kept}
 
 -- what is found in a merchant's rows has its key
 pub referred_merchant : (m : List ℕ) (rows : List Request) (n : ℕ) (p : Prior) →
@@ -112,12 +109,7 @@ module _ (opening : Opening) (m : List ℕ) (t : Tables) (h : List Entry)
       is_some hold.hold_end ≡ true → Keeps opening m t h g (Requested r) (Completes r hold)
   completes_by moment Completion message named hold new fits there ends =
       completed_step opening m t h g moment message named hold new there ends
-  completes_by moment Authorization message named hold new fits there ends = absurd (cc)
-  completes_by moment Financial message named hold new fits there ends = absurd (cc)
-  completes_by moment Reversal message named hold new fits there ends = absurd (cc)
-  completes_by moment ReversalAdvice message named hold new fits there ends = absurd (cc)
-  completes_by moment Reconciliation message named hold new fits there ends = absurd (cc)
-  completes_by moment NetworkManagement message named hold new fits there ends = absurd (cc)
+  completes_by moment service message named hold new fits there ends = absurd (cc)
 
   -- a request that changes nothing
   unchanged : (r : RequestMessage) (d : Decision) → change_of (known (Requested r)) d ≡ None →
@@ -214,7 +206,7 @@ module _ (opening : Opening) (m : List ℕ) (t : Tables) (h : List Entry)
             refl refl
             (without_newest_edited m t.requests e h p.key
             (answering h n f p found.1 found.2 moment v reply)
-            (answer_edits (answered_status v) reply
+            (answered_kept (answered_status v) reply
             (answered_hold_end p.key.service moment v p.hold_days))
             (answer_follows h n f p found.1 found.2 moment (day_after opening.first_day h) merchant
             v

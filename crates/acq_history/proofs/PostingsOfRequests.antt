@@ -109,10 +109,10 @@ FromBefore rows ps later = (row : Request) (n : ℕ) → In row later → posted
     HasPosting ps row n
 
 -- rows that change and post nothing
-pub unposted : (rows later : List Request) (ps : List (ℕ × Posting)) → PostingsMatchRows rows ps →
+pub unposted : {rows later : List Request} {ps : List (ℕ × Posting)} → PostingsMatchRows rows ps →
     Grows rows later →
     FromBefore rows ps later → PostingsMatchRows later ps
-unposted rows later ps b g from = record {
+unposted b g from = record {
   originals = λ x i l. g.posted_on _ _ (b.originals x i l);
   reversals = λ x i l. g.reversed_on _ _ (b.reversals x i l);
   there = from;
@@ -273,11 +273,11 @@ there_push ps p later from row n i e = elim (from row n i e) [
 ]
 
 -- one more posting of an original
-pub posted_first : (rows later : List Request) (ps : List (ℕ × Posting)) (p : Posting) →
+pub posted_first : {rows later : List Request} {ps : List (ℕ × Posting)} {p : Posting} →
     PostingsMatchRows rows ps →
     Grows rows later → FromBeforeOr ps p later → IsFirst rows later p →
     PostingsMatchRows later (with_next_posting ps (Some p))
-posted_first rows later ps p b g from f = record {
+posted_first {rows} {later} {ps} {p} b g from f = record {
   originals = λ x i l. elim (In-push x ps y i) [
     | inl old ↦ g.posted_on _ _ (b.originals x old l)
     | inr e ↦ subst (λ z. HasPosted later z.1.merchant z.1.reference) e f.made
@@ -315,11 +315,11 @@ posted_first rows later ps p b g from f = record {
         })
 
 -- one more posting of a reversal
-pub posted_reversal : (rows later : List Request) (ps : List (ℕ × Posting)) (p : Posting) →
+pub posted_reversal : {rows later : List Request} {ps : List (ℕ × Posting)} {p : Posting} →
     PostingsMatchRows rows ps →
     Grows rows later → FromBefore rows ps later → IsFirstReversal rows later ps p →
     PostingsMatchRows later (with_next_posting ps (Some p))
-posted_reversal rows later ps p b g from f = record {
+posted_reversal {rows} {later} {ps} {p} b g from f = record {
   originals = λ x i l. elim (In-push x ps y i) [
     | inl old ↦ g.posted_on _ _ (b.originals x old l)
     | inr e ↦ clash (is_reversal_leg p.leg) f.leg (ap (λ z. is_reversal_leg z.1.leg) e ∙ l)

@@ -161,23 +161,23 @@ step t a is h =
       );
       repeated = λ row member.
           (h, (row.key.service, All-member IsRowReply t.requests row h.replies member));
-      refused = λ r came merchant g given hosts.
-          let reply = coded_reply-is t.day r h.day (subst IsArrival came is).message given
+      refused = λ r merchant g given hosts.
+          let reply = coded_reply-is t.day r h.day (subst IsArrival g.came is).message given
           (IsCode-hosts given hosts) in (
             record { day = h.day; replies = All-push IsRowReply t.requests _ h.replies reply },
             (r.service, reply),
           );
-      admitted = λ r came merchant g service amount room range held. (
+      admitted = λ r merchant g range c. (
         record {
           day = h.day;
           replies =
               All-push IsRowReply t.requests _ h.replies
-              (draft_reply-is t.day r h.day (subst IsArrival came is).message _);
+              (draft_reply-is t.day r h.day (subst IsArrival g.came is).message _);
         },
         tt,
       );
-      completed = λ r came merchant g service amount room hold own.
-          let reply = coded_reply-is t.day r h.day (subst IsArrival came is).message code.Approved
+      completed = λ r merchant g hold c.
+          let reply = coded_reply-is t.day r h.day (subst IsArrival g.came is).message code.Approved
           tt in (
             record {
               day = h.day;
@@ -188,8 +188,8 @@ step t a is h =
             },
             (r.service, reply),
           );
-      reversed = λ r came merchant g service room row own.
-          let reply = referring_reply-is t.day r h.day (subst IsArrival came is).message _
+      reversed = λ r merchant g row c.
+          let reply = referring_reply-is t.day r h.day (subst IsArrival g.came is).message _
           code.Approved tt in (
             record {
               day = h.day;
@@ -200,22 +200,22 @@ step t a is h =
             },
             (r.service, reply),
           );
-      reconciled = λ r came merchant g service day on.
-          let within = reconciled_day-within t.day _ day on in
+      reconciled = λ r merchant g day c.
+          let within = reconciled_day-within t.day _ day c.resolves in
           let today = h.day in
           let dated : day ≤ last_day = omega arith in
           let b = is_in_balance (known_in t a) r in
           let reply =
-          totals_reply-is day r dated (subst IsArrival came is).message (balance_code b) b
+          totals_reply-is day r dated (subst IsArrival g.came is).message (balance_code b) b
           (known_in t a).totals
           (IsCode-balance b) in (
             record { day = h.day; replies = All-push IsRowReply t.requests _ h.replies reply },
             (r.service, reply),
           );
-      answered = λ moment merchant reference v came row member pending n under.
+      answered = λ moment v row c.
           let reply =
-          answered_reply-is row.key.service row.reply v (subst IsArrival came is).1
-          (All-member IsRowReply t.requests row h.replies member) in (
+          answered_reply-is row.key.service row.reply v (subst IsArrival c.came is).1
+          (All-member IsRowReply t.requests row h.replies c.member) in (
             record {
               day = h.day;
               replies =

@@ -4,9 +4,6 @@ use Rattle.std.proofs.Common.{refl, sym, ap, ◌∙◌, subst}
 use Rattle.std.specs.Prelude.{option_map, option_and_then, ◌&&◌, ◌||◌}
 use Rattle.std.specs.Option.{option_or}
 use Rattle.acq_message.specs.declared.service.Service.{Service}
-use Rattle.acq_message.specs.declared.service.Service.TheVariants.{Authorization, Financial}
-use Rattle.acq_message.specs.declared.service.Service.TheVariants.{Completion, Reversal}
-use Rattle.acq_message.specs.declared.service.Service.TheVariants.{ReversalAdvice, Reconciliation}
 use Rattle.acq_message.specs.declared.service.Service.TheVariants.{NetworkManagement}
 use Rattle.acq_message.specs.declared.request_key.RequestKey.{RequestKey}
 use Rattle.acq_core.specs.declared.merchant.Merchant.{Merchant}
@@ -59,13 +56,8 @@ Serves-older e h t s = record {
 -- network management aside, the merchant check comes first
 checks_merchant : (s : Service) (k : Known) (q r : RequestMessage) → recordable q s ≡ Some r →
     decision_of_request s k q ≡ decision_of_merchant k q k.merchant
-checks_merchant Authorization k q r e = refl
-checks_merchant Financial k q r e = refl
-checks_merchant Completion k q r e = refl
-checks_merchant Reversal k q r e = refl
-checks_merchant ReversalAdvice k q r e = refl
-checks_merchant Reconciliation k q r e = refl
 checks_merchant NetworkManagement k q r e = absurd (cc)
+checks_merchant service k q r e = refl
 
 -- ---- past the merchant check
 

@@ -37,6 +37,7 @@ use Rattle.acq_core.specs.Changes.{reversal_posting, completion_posting}
 use Rattle.acq_core.specs.Tables.{Opening, Tables, new_tables, count, prior_of, reply_state_of}
 use Rattle.acq_core.specs.Tables.{leg_by, postings_of, postings_before, with_changed}
 use Rattle.acq_core.specs.Tables.{with_next_posting, known_in, after_any, step_tables, tables_after}
+use Rattle.acq_core.specs.Tables.{followed_row}
 use Rattle.acq_history.proofs.Members.{In}
 use Rattle.acq_history.proofs.Keys.{bytes_eq_itself, eqb_itself}
 use Rattle.acq_history.proofs.StepCases.{by_step}
@@ -222,11 +223,11 @@ record HasFittingColumns (t : Tables) : Type 0 where
   postings : All (FitsPostingColumns t.limit) t.postings
   reconciliations : All FitsReconciliation t.reconciliations
 
--- a row whose status alone was changed
+-- rows with one that a completion or a reversal followed
 followed : (key : RequestKey) (st : Status) (rows : List Request) → All FitsColumns rows →
-    All FitsColumns (with_changed key (λ row. record row { status = st }) rows)
+    All FitsColumns (with_changed key (followed_row st) rows)
 followed key st rows h =
-    All-with_changed FitsColumns key (λ row. record row { status = st }) rows
+    All-with_changed FitsColumns key (followed_row st) rows
     (λ x same c. record {
       key = c.key;
       amount = c.amount;
@@ -251,88 +252,88 @@ module _ (opening : Opening) (t : Tables) (ranges : HasRangesApart t) (cards : H
         malformed = λ r came b. h;
         replied = λ r came given hosts b. h;
         repeated = λ row member b. h;
-        refused = λ r came merchant g given hosts b. record {
+        refused = λ r merchant g given hosts b. record {
           merchants = h.merchants;
           terminals = h.terminals;
           requests =
               All-push FitsColumns t.requests _ h.requests
-              (columns_of r (subst IsArrival came is) g.recordable _ refl refl tt refl);
+              (columns_of r (subst IsArrival g.came is) g.recordable _ refl refl tt refl);
           postings = h.postings;
           reconciliations = h.reconciliations;
         };
-        admitted = λ r came merchant g service amount room range held b. record {
+        admitted = λ r merchant g range c b. record {
           merchants = h.merchants;
           terminals = h.terminals;
           requests =
               All-push FitsColumns t.requests _ h.requests
-              (columns_of r (subst IsArrival came is) g.recordable _ refl refl
+              (columns_of r (subst IsArrival g.came is) g.recordable _ refl refl
               (hold_days-valid t.ranges range
-              (and_parts (list_all is_valid_range t.ranges) (are_apart t.ranges) ranges).0 held)
+              (and_parts (list_all is_valid_range t.ranges) (are_apart t.ranges) ranges).0 c.held)
               refl);
           postings = h.postings;
           reconciliations = h.reconciliations;
         };
-        completed = λ r came merchant g service amount room hold own b. record {
+        completed = λ r merchant g hold c b. record {
           merchants = h.merchants;
           terminals = h.terminals;
           requests =
               All-push FitsColumns _ _ (followed hold.key _ t.requests h.requests)
-              (columns_of r (subst IsArrival came is) g.recordable _ refl refl tt refl);
+              (columns_of r (subst IsArrival g.came is) g.recordable _ refl refl tt refl);
           postings =
               postings_fit t.limit t.postings (Some (completion_posting t.day r (prior_of hold)))
-              (today-names t.day r _ _ hold (key_of-fits r (subst IsArrival came is) g.recordable)
-              (card_of-row hold own.member))
+              (today-names t.day r _ _ hold (key_of-fits r (subst IsArrival g.came is) g.recordable)
+              (card_of-row hold c.member))
               (λ m on. (b.merchants m).posted on) h.postings;
           reconciliations = h.reconciliations;
         };
-        reversed = λ r came merchant g service room row own b. record {
+        reversed = λ r merchant g row c b. record {
           merchants = h.merchants;
           terminals = h.terminals;
           requests =
               All-push FitsColumns _ _ (followed row.key _ t.requests h.requests)
-              (columns_of r (subst IsArrival came is) g.recordable _ refl refl tt refl);
+              (columns_of r (subst IsArrival g.came is) g.recordable _ refl refl tt refl);
           postings =
               postings_fit t.limit t.postings (reversal_posting t.day r (prior_of row))
-              (reversal-names t.day r row (key_of-fits r (subst IsArrival came is) g.recordable)
-              (card_of-row row own.member)
+              (reversal-names t.day r row (key_of-fits r (subst IsArrival g.came is) g.recordable)
+              (card_of-row row c.member)
               (posted_leg (reply_state_of row.status row.reply) (leg_by row.key.service row)))
               (λ m on. (b.merchants m).posted on) h.postings;
           reconciliations = h.reconciliations;
         };
-        reconciled = λ r came merchant g service on resolves b.
-            let within = reconciled_day-within t.day _ on resolves in
+        reconciled = λ r merchant g on c b.
+            let within = reconciled_day-within t.day _ on c.resolves in
             let today = day in record {
               merchants = h.merchants;
               terminals = h.terminals;
               requests =
                   All-push FitsColumns t.requests _ h.requests
-                  (columns_of r (subst IsArrival came is) g.recordable _ refl refl tt refl);
+                  (columns_of r (subst IsArrival g.came is) g.recordable _ refl refl tt refl);
               postings = h.postings;
               reconciliations =
                   All-push FitsReconciliation t.reconciliations _ h.reconciliations (record {
-                    merchant = (key_of-fits r (subst IsArrival came is) g.recordable).merchant;
+                    merchant = (key_of-fits r (subst IsArrival g.came is) g.recordable).merchant;
                     day = omega arith;
                   });
             };
-        answered = λ moment merchant reference v came row member pending n under b.
-            let columns : FitsColumns row = All-member FitsColumns t.requests row h.requests member
-            in record {
+        answered = λ moment v row c b.
+            let columns : FitsColumns row =
+            All-member FitsColumns t.requests row h.requests c.member in record {
               merchants = h.merchants;
               terminals = h.terminals;
               requests =
                   All-with_changed FitsColumns row.key _ t.requests
-                  (λ x same c. record {
-                    key = c.key;
-                    amount = c.amount;
-                    hold_days = c.hold_days;
+                  (λ x same was. record {
+                    key = was.key;
+                    amount = was.amount;
+                    hold_days = was.hold_days;
                     hold_end =
                         hold_end-within row.key.service moment v row.hold_days
-                        (subst IsArrival came is).0
+                        (subst IsArrival c.came is).0
                         columns.hold_days;
                   }) h.requests;
               postings =
                   postings_fit t.limit t.postings (answer_posting v (prior_of row))
-                  (answer-names v row columns.key (card_of-row row member))
+                  (answer-names v row columns.key (card_of-row row c.member))
                   (λ m on. (b.merchants m).posted on) h.postings;
               reconciliations = h.reconciliations;
             };

@@ -6,7 +6,6 @@ use Rattle.std.specs.Option.{option_or}
 use Rattle.std.specs.Str.{bytes_eq}
 use Rattle.std.proofs.lemmas.List.Folds.{find-append}
 use Rattle.acq_message.specs.declared.service.Service.TheVariants.{Authorization, Completion}
-use Rattle.acq_message.specs.declared.request_key.RequestKey.{RequestKey}
 use Rattle.acq_core.specs.declared.request.Request.{Request}
 use Rattle.acq_core.specs.declared.merchant.Merchant.{Merchant}
 use Rattle.acq_core.specs.declared.status.Status.TheVariants.{Completed}
@@ -15,9 +14,11 @@ use Rattle.acq_core.specs.Tables.{requests_of, admitted_in, with_changed}
 use Rattle.acq_history.specs.Entries.{is_admissible, is_reversal}
 use Rattle.acq_history.specs.Conservation.{is_reversal_leg}
 use Rattle.acq_history.proofs.Members.{In, In-first, In-push, In-map}
-use Rattle.acq_history.proofs.GroundsOfDecision.{Other, Made, changed_is}
-use Rattle.acq_history.proofs.Keys.{bytes_eq_itself, same_key_is, same_key_from}
-use Rattle.acq_history.proofs.Lookups.{some_is}
+use Rattle.acq_history.proofs.Keys.{bytes_eq_itself, same_key_is, same_key_itself}
+use Rattle.acq_history.proofs.Lookups.{some_is, count-view, count-same}
+use Rattle.acq_history.proofs.RowsWithChanges.{changing, changing_kept, Edits, IsChange}
+use Rattle.acq_history.proofs.RowsWithChanges.{requests_of-changed, Other, Made, changed_is}
+use Rattle.acq_history.proofs.Runs.{kept}
 
 -- the merchant with a name
 abbrev pub merchant_in : List Merchant → List ℕ → Option Merchant
@@ -71,10 +72,10 @@ pub record IsWellFormed (day : ℕ) (merchants : List Merchant) (rows : List Req
 -- ---- a day later, a merchant more
 
 -- on a later day
-pub well_formed_later : (day later : ℕ) (merchants : List Merchant) (rows : List Request) →
+pub well_formed_later : {day later : ℕ} {merchants : List Merchant} {rows : List Request} →
     day ≤ later →
     IsWellFormed day merchants rows → IsWellFormed later merchants rows
-well_formed_later day later merchants rows le k = record {
+well_formed_later le k = record {
   keys = k.keys;
   references = k.references;
   given = k.given;
@@ -86,10 +87,10 @@ well_formed_later day later merchants rows le k = record {
 }
 
 -- with one merchant more
-pub well_formed_with_merchant : (day : ℕ) (merchants : List Merchant) (merchant : Merchant)
-    (rows : List Request) →
+pub well_formed_with_merchant : {day : ℕ} {merchants : List Merchant} (merchant : Merchant)
+    {rows : List Request} →
     IsWellFormed day merchants rows → IsWellFormed day (merchants ++ merchant ∷ []) rows
-well_formed_with_merchant day merchants merchant rows k = record {
+well_formed_with_merchant {merchants = merchants} merchant {rows} k = record {
   keys = k.keys;
   references = k.references;
   given = λ a n i e. more a.key.merchant n (k.given a n i e);
@@ -193,11 +194,11 @@ not_next merchants rows m n g x =
     omega arith
 
 -- with a row more that fits
-pub well_formed_with_row : (day : ℕ) (merchants : List Merchant) (rows : List Request)
-    (row : Request) →
+pub well_formed_with_row : {day : ℕ} {merchants : List Merchant} {rows : List Request}
+    {row : Request} →
     IsWellFormed day merchants rows → IsFit day merchants rows row →
     IsWellFormed day merchants (rows ++ row ∷ [])
-well_formed_with_row day merchants rows row k f = record {
+well_formed_with_row {day} {merchants} {rows} {row} k f = record {
   keys = λ a b i j e. elim (In-push a rows row i) [
     | inl old ↦ elim (In-push b rows row j) [
       | inl older ↦ k.keys a b old older e
@@ -295,16 +296,6 @@ well_formed_with_row day merchants rows row k f = record {
 
 -- ---- a row changed
 
--- a row and what it is changed to: another status, perhaps another reply and end
-pub record IsChange (p q : Request) : Type 0 where
-  pub key : q.key ≡ p.key
-  pub reference : q.reference ≡ p.reference
-  pub follows : q.follows ≡ p.follows
-  pub leg : q.leg ≡ p.leg
-  pub day : q.day ≡ p.day
-  pub amount : q.amount ≡ p.amount
-  pub card : q.card ≡ p.card
-
 -- rows in which one was changed so
 pub record IsReplaced (rows later : List Request) (p q : Request) : Type 0 where
   pub before : (x : Request) → In x later → (In x rows × (x.key ≡ p.key → ⊥)) ⊎ (q ≡ x)
@@ -313,11 +304,11 @@ pub record IsReplaced (rows later : List Request) (p q : Request) : Type 0 where
   pub admitted : (m : List ℕ) → admitted_by m later ≡ admitted_by m rows
 
 -- with a row changed
-pub well_formed_changed : (day : ℕ) (merchants : List Merchant) (rows later : List Request)
-    (p q : Request) →
+pub well_formed_changed : {day : ℕ} {merchants : List Merchant} {rows later : List Request}
+    {p q : Request} →
     In p rows → IsChange p q → (p.status ≡ Completed → ⊥) → IsReplaced rows later p q →
     IsWellFormed day merchants rows → IsWellFormed day merchants later
-well_formed_changed day merchants rows later p q member c incomplete r k = record {
+well_formed_changed {day} {merchants} {rows} {later} {p} {q} member c incomplete r k = record {
   keys = λ a b i j e. elim (r.before a i) [
     | inl old ↦ elim (r.before b j) [
       | inl older ↦ k.keys a b old.0 older.0 e
@@ -445,58 +436,32 @@ well_formed_changed day merchants rows later p q member c incomplete r k = recor
 
 -- ---- what a change by key replaces
 
--- a change that keeps keys and references keeps the counts
-admitted-changed : (m : List ℕ) (u : Request → Request) → ((x : Request) → (u x).key ≡ x.key) →
-    ((x : Request) → (u x).reference ≡ x.reference) → (rows : List Request) →
-    admitted_by m (map u rows) ≡ admitted_by m rows
-admitted-changed m u k r [] = refl
-admitted-changed m u k r (x ∷ xs) =
-    let rest = admitted-changed m u k r xs in
-    ap (λ b. admitted_in (cond b (u x ∷ requests_of m (map u xs)) (requests_of m (map u xs))))
-    (ap (λ key. bytes_eq key.merchant m) (k x))
-    ∙ elim (bytes_eq x.key.merchant m) as (λ b.
-    admitted_in (cond b (u x ∷ requests_of m (map u xs)) (requests_of m (map u xs)))
-    ≡ admitted_in (cond b (x ∷ requests_of m xs) (requests_of m xs))) [
-      | true ↦
-          ap (λ o. cond (is_some o) (1 + admitted_by m (map u xs)) (admitted_by m (map u xs))) (r x)
-          ∙ ap (λ n. cond (is_some x.reference) (1 + n) n) rest
-      | false ↦ rest
-    ]
-
--- the rows in which the one with a key was changed
-pub replaced : (day : ℕ) (merchants : List Merchant) (rows : List Request) (p : Request)
-    (key : RequestKey)
-    (changed : Request → Request) → In p rows → p.key ≡ key →
-    ((x : Request) → (changed x).key ≡ x.key) →
-    ((x : Request) → (changed x).reference ≡ x.reference) → IsWellFormed day merchants rows →
-    IsReplaced rows (with_changed key changed rows) p (changed p)
-replaced day merchants rows p key changed member same k r kept = record {
-  before = λ x i. elim (changed_is key changed rows x i) [
-    | Other old other ↦ inl (old, (λ e. other (e ∙ same)))
-    | Made y old e made ↦ inr (ap changed (kept.keys p y member old (same ∙ sym e)) ∙ made)
+-- the rows in which the one with its key was changed
+pub replaced : {day : ℕ} {merchants : List Merchant} (rows : List Request) (p : Request)
+    (changed : Request → Request) →
+    In p rows → Edits changed → IsWellFormed day merchants rows →
+    IsReplaced rows (with_changed p.key changed rows) p (changed p)
+replaced rows p changed member edits kept = record {
+  before = λ x i. elim (changed_is p.key changed rows x i) [
+    | Other old other ↦ inl (old, other)
+    | Made y old e made ↦ inr (ap changed (kept.keys p y member old (sym e)) ∙ made)
   ];
-  after = λ x i. step x i (same_key x.key key) refl;
+  after = λ x i. step x i (same_key x.key p.key) refl;
   changed =
-      subst (λ x. In x (map u rows)) (ap (λ b. cond b (changed p) p) (same_key_from p.key key same))
+      subst (λ x. In x (map u rows)) (ap (λ b. cond b (changed p) p) (same_key_itself p.key))
       (In-map u p rows member);
   admitted =
-      λ m. admitted-changed m u (λ x. cond_key x (same_key x.key key))
-      (λ x. cond_reference x (same_key x.key key)) rows;
+      λ m. ap admitted_in (requests_of-changed m p.key changed edits rows)
+      ∙ (count-view u (λ x. is_some x.reference) (requests_of m rows)
+      ∙ count-same (λ x. is_some (u x).reference) (λ x. is_some x.reference)
+      (λ x. ap is_some (changing_kept p.key changed edits x).reference) (requests_of m rows));
 }
   where
     u : Request → Request
-    u = λ row. cond (same_key row.key key) (changed row) row
+    u = changing p.key changed
 
-    step : (x : Request) → In x rows → (b : Bool) → same_key x.key key ≡ b →
-        In x (with_changed key changed rows) ⊎ (p ≡ x)
-    step x i true e = inr (kept.keys p x member i (same ∙ sym (same_key_is x.key key e)))
+    step : (x : Request) → In x rows → (b : Bool) → same_key x.key p.key ≡ b →
+        In x (with_changed p.key changed rows) ⊎ (p ≡ x)
+    step x i true e = inr (kept.keys p x member i (sym (same_key_is x.key p.key e)))
     step x i false e =
         inl (subst (λ y. In y (map u rows)) (ap (λ b. cond b (changed x) x) e) (In-map u x rows i))
-
-    cond_key : (x : Request) (b : Bool) → (cond b (changed x) x).key ≡ x.key
-    cond_key x true = k x
-    cond_key x false = refl
-
-    cond_reference : (x : Request) (b : Bool) → (cond b (changed x) x).reference ≡ x.reference
-    cond_reference x true = r x
-    cond_reference x false = refl

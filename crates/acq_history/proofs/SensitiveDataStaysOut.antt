@@ -12,10 +12,7 @@ use Rattle.iso_codec.specs.Table.{format_of}
 use Rattle.iso_codec.specs.Message.{IsoMessage, IsMessage, IsKind, numbers, Ascends, is_element}
 use Rattle.iso_codec.specs.Message.{content_of, is_among}
 use Rattle.acq_message.specs.declared.service.Service.{Service}
-use Rattle.acq_message.specs.declared.service.Service.TheVariants.{Authorization, Financial}
-use Rattle.acq_message.specs.declared.service.Service.TheVariants.{Completion, Reversal}
-use Rattle.acq_message.specs.declared.service.Service.TheVariants.{ReversalAdvice, Reconciliation}
-use Rattle.acq_message.specs.declared.service.Service.TheVariants.{NetworkManagement}
+use Rattle.acq_message.specs.declared.service.Service.TheVariants.{Authorization}
 use Rattle.acq_message.specs.Services.{digits_of}
 use Rattle.acq_message.specs.Cards.{card_of, track_in, track_of}
 use Rattle.acq_message.specs.Elements.{essential, element_if, essence_of}
@@ -35,6 +32,7 @@ use Rattle.acq_history.proofs.RowsWithChanges.{All-with_changed, All-member}
 use Rattle.acq_history.proofs.ContentsFit.{content-fits}
 use Rattle.acq_history.proofs.ReplyBodies.{all_weaker, among_passes, kept_ascends}
 use Rattle.acq_history.proofs.RepliesAreMessages.{IsRowReply, replies_are_messages}
+use Rattle.acq_history.proofs.Runs.{kept}
 
 -- ---- elements
 
@@ -126,12 +124,7 @@ acquirer-fits m whole (Some text) e = acquirer_in_element text (content-fits m 3
 -- the type of an essence
 essence_kind : (service : Service) → IsKind (digits_of service ++ codes "0")
 essence_kind Authorization = record { size = refl; digits = refl }
-essence_kind Financial = record { size = refl; digits = refl }
-essence_kind Completion = record { size = refl; digits = refl }
-essence_kind Reversal = record { size = refl; digits = refl }
-essence_kind ReversalAdvice = record { size = refl; digits = refl }
-essence_kind Reconciliation = record { size = refl; digits = refl }
-essence_kind NetworkManagement = record { size = refl; digits = refl }
+essence_kind service = record { size = refl; digits = refl }
 
 -- elements that all stand above 2
 above_two : (es : List (ℕ × List ℕ)) → Ascends 1 (numbers es) →
@@ -208,43 +201,43 @@ step t a is h =
       malformed = λ r came. h;
       replied = λ r came given hosts. h;
       repeated = λ row member. h;
-      refused = λ r came merchant g given hosts.
+      refused = λ r merchant g given hosts.
           All-push IsClean t.requests _ h (record {
-            essence = essence_of-is r.service r.message (subst IsArrival came is).message;
-            card = card_of-number r.message (subst IsArrival came is).message;
-            acquirer = acquirer-fits r.message (subst IsArrival came is).message _ refl;
+            essence = essence_of-is r.service r.message (subst IsArrival g.came is).message;
+            card = card_of-number r.message (subst IsArrival g.came is).message;
+            acquirer = acquirer-fits r.message (subst IsArrival g.came is).message _ refl;
           });
-      admitted = λ r came merchant g service amount room range held.
+      admitted = λ r merchant g range c.
           All-push IsClean t.requests _ h (record {
-            essence = essence_of-is r.service r.message (subst IsArrival came is).message;
-            card = card_of-number r.message (subst IsArrival came is).message;
-            acquirer = acquirer-fits r.message (subst IsArrival came is).message _ refl;
+            essence = essence_of-is r.service r.message (subst IsArrival g.came is).message;
+            card = card_of-number r.message (subst IsArrival g.came is).message;
+            acquirer = acquirer-fits r.message (subst IsArrival g.came is).message _ refl;
           });
-      completed = λ r came merchant g service amount room hold own.
+      completed = λ r merchant g hold c.
           All-push IsClean _ _
           (All-with_changed IsClean hold.key _ t.requests
           (λ x same p. record { essence = p.essence; card = p.card; acquirer = p.acquirer }) h)
           (record {
-            essence = essence_of-is r.service r.message (subst IsArrival came is).message;
-            card = (All-member IsClean t.requests hold h own.member).card;
-            acquirer = acquirer-fits r.message (subst IsArrival came is).message _ refl;
+            essence = essence_of-is r.service r.message (subst IsArrival g.came is).message;
+            card = (All-member IsClean t.requests hold h c.member).card;
+            acquirer = acquirer-fits r.message (subst IsArrival g.came is).message _ refl;
           });
-      reversed = λ r came merchant g service room row own.
+      reversed = λ r merchant g row c.
           All-push IsClean _ _
           (All-with_changed IsClean row.key _ t.requests
           (λ x same p. record { essence = p.essence; card = p.card; acquirer = p.acquirer }) h)
           (record {
-            essence = essence_of-is r.service r.message (subst IsArrival came is).message;
-            card = card_of-number r.message (subst IsArrival came is).message;
-            acquirer = acquirer-fits r.message (subst IsArrival came is).message _ refl;
+            essence = essence_of-is r.service r.message (subst IsArrival g.came is).message;
+            card = card_of-number r.message (subst IsArrival g.came is).message;
+            acquirer = acquirer-fits r.message (subst IsArrival g.came is).message _ refl;
           });
-      reconciled = λ r came merchant g service day on.
+      reconciled = λ r merchant g day c.
           All-push IsClean t.requests _ h (record {
-            essence = essence_of-is r.service r.message (subst IsArrival came is).message;
-            card = card_of-number r.message (subst IsArrival came is).message;
-            acquirer = acquirer-fits r.message (subst IsArrival came is).message _ refl;
+            essence = essence_of-is r.service r.message (subst IsArrival g.came is).message;
+            card = card_of-number r.message (subst IsArrival g.came is).message;
+            acquirer = acquirer-fits r.message (subst IsArrival g.came is).message _ refl;
           });
-      answered = λ moment merchant reference v came row member pending n under.
+      answered = λ moment v row c.
           All-with_changed IsClean row.key _ t.requests
           (λ x same p. record { essence = p.essence; card = p.card; acquirer = p.acquirer }) h;
       cut_over = λ before. h;

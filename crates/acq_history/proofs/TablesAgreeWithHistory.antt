@@ -6,7 +6,7 @@ use Rattle.std.specs.Option.{option_or}
 use Rattle.std.specs.List.{list_any}
 use Rattle.std.specs.Str.{bytes_eq}
 use Rattle.card_no.specs.declared.range.Range.{Range}
-use Rattle.card_no.specs.Ranges.{range_of_prefix, overlapped_by}
+use Rattle.card_no.specs.Ranges.{range_of_prefix, overlapped_by, between}
 use Rattle.day_totals.specs.declared.leg.Leg.{Leg}
 use Rattle.std.proofs.lemmas.Bool.{and_parts}
 use Rattle.std.proofs.Math.Bool.{and-false}
@@ -27,7 +27,6 @@ use Rattle.acq_core.specs.Known.{Prior, wanted_by, known_for}
 use Rattle.acq_core.specs.Outcome.{Outcome}
 use Rattle.acq_core.specs.Changes.{answer_posting, approval_posting, reversal_posting}
 use Rattle.acq_core.specs.Changes.{posting_today, reversal_leg, posted_leg}
-use Rattle.card_no.specs.Ranges.{between}
 use Rattle.acq_core.specs.Tables.{Opening, Tables, postings_of, facts_in, known_in, totals_on}
 use Rattle.acq_core.specs.Tables.{with_next_posting}
 use Rattle.acq_core.proofs.Counts.{or_none}
