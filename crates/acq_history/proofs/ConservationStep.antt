@@ -540,14 +540,15 @@ sound_step t a s =
           sound_with_row t _ g.new refl refl refl refl (omega arith) s;
       answered = λ moment v row c.
           sound_answered t v row c.number _ _ c.member c.pending c.reference s;
-      cut_over = λ before.
+      cut_over = λ came before.
           record {
             well_formed = well_formed_later (omega arith) s.well_formed;
             match_rows = s.match_rows;
           };
-      range_added = λ range valid free.
+      range_added = λ range came valid free.
           record { well_formed = s.well_formed; match_rows = s.match_rows };
-      range_dropped = λ low high. record { well_formed = s.well_formed; match_rows = s.match_rows };
+      range_dropped = λ low high came.
+          record { well_formed = s.well_formed; match_rows = s.match_rows };
       enrolled = λ merchant came new.
           record {
             well_formed = well_formed_with_merchant merchant s.well_formed;

@@ -14,7 +14,7 @@ use Rattle.acq_message.specs.declared.verdict.Verdict.{Verdict}
 use Rattle.acq_message.specs.declared.verdict.Verdict.TheVariants as verdict
 use Rattle.acq_core.specs.Arrivals.{arrival_of}
 use Rattle.acq_core.specs.declared.reply_state.ReplyState.{ReplyState}
-use Rattle.acq_core.specs.declared.reply_state.ReplyState.TheVariants.{Kept, Awaited, Late}
+use Rattle.acq_core.specs.declared.reply_state.ReplyState.TheVariants.{Kept}
 use Rattle.acq_core.specs.Known.{Prior}
 use Rattle.acq_core.specs.Changes.{change_of, answered_status, reversed_status, answer_posting}
 use Rattle.acq_core.specs.Changes.{approval_posting, reversal_posting, completion_posting}
@@ -58,14 +58,12 @@ NonePending-changed day key changed rows none never x member pending on =
 -- an answer ends the wait
 answered_not_pending : (v : Verdict) → answered_status v ≡ Pending → ⊥
 answered_not_pending (verdict.Approved id) e = absurd (cc)
-answered_not_pending (verdict.Declined text) e = absurd (cc)
-answered_not_pending verdict.NoAnswer e = absurd (cc)
+answered_not_pending other e = absurd (cc)
 
 -- so does a reversal
 reversed_not_pending : (s : ReplyState) → reversed_status s ≡ Pending → ⊥
 reversed_not_pending (Kept reply) e = absurd (cc)
-reversed_not_pending (Awaited draft) e = absurd (cc)
-reversed_not_pending Late e = absurd (cc)
+reversed_not_pending other e = absurd (cc)
 
 -- ---- what is posted
 
@@ -90,8 +88,7 @@ approval_day p (Some leg) q e = sym (ap (λ x. x.day) (some_is _ q e))
 -- so does any answer that posts
 answer_day : (v : Verdict) (p : Prior) (q : Posting) → answer_posting v p ≡ Some q → q.day ≡ p.day
 answer_day (verdict.Approved id) p q e = approval_day p p.leg q e
-answer_day (verdict.Declined text) p q e = absurd (cc)
-answer_day verdict.NoAnswer p q e = absurd (cc)
+answer_day other p q e = absurd (cc)
 
 -- ---- steps
 
@@ -177,14 +174,14 @@ stays day t a c =
             (λ q posted on. c.none row own.member own.pending
             (sym (answer_day v (prior_of row) q posted) ∙ on));
       };
-      cut_over = λ before.
+      cut_over = λ came before.
           record {
             closed = record { past = let past = c.past in omega arith; none = c.none };
             same = refl;
           };
-      range_added = λ range valid free.
+      range_added = λ range came valid free.
           record { closed = record { past = c.past; none = c.none }; same = refl };
-      range_dropped = λ low high.
+      range_dropped = λ low high came.
           record { closed = record { past = c.past; none = c.none }; same = refl };
       enrolled = λ merchant came new.
           record { closed = record { past = c.past; none = c.none }; same = refl };

@@ -134,15 +134,15 @@ unique_after_step t a h =
             merchants = h.merchants;
             terminals = h.terminals;
           };
-      cut_over = λ before. record {
+      cut_over = λ came before. record {
         requests = h.requests;
         merchants = h.merchants;
         terminals =
             h.terminals;
       };
-      range_added = λ range valid free.
+      range_added = λ range came valid free.
           record { requests = h.requests; merchants = h.merchants; terminals = h.terminals };
-      range_dropped = λ low high.
+      range_dropped = λ low high came.
           record { requests = h.requests; merchants = h.merchants; terminals = h.terminals };
       enrolled = λ merchant came new. record {
         requests = h.requests;

@@ -9,9 +9,6 @@ use Rattle.card_no.specs.Ranges.{with_range, without_range, overlapped_by, has_e
 use Rattle.card_no.specs.Ranges.{between}
 use Rattle.std.proofs.lemmas.Bool.{and_parts}
 use Rattle.acq_message.specs.declared.service.Service.{Service}
-use Rattle.acq_message.specs.declared.service.Service.TheVariants.{Authorization, Financial}
-use Rattle.acq_message.specs.declared.service.Service.TheVariants.{Completion, Reversal}
-use Rattle.acq_message.specs.declared.service.Service.TheVariants.{ReversalAdvice, Reconciliation}
 use Rattle.acq_message.specs.declared.service.Service.TheVariants.{NetworkManagement}
 use Rattle.acq_core.specs.declared.output.Output.TheVariants as output
 use Rattle.acq_message.specs.declared.response_code.ResponseCode.TheVariants as code
@@ -19,9 +16,8 @@ use Rattle.acq_core.specs.declared.arrival.Arrival.{Arrival}
 use Rattle.acq_message.specs.declared.request_message.RequestMessage.{RequestMessage}
 use Rattle.acq_core.specs.Arrivals.{arrival_of, merchant_named, is_shared}
 use Rattle.acq_core.specs.declared.arrival.Arrival.TheVariants.{Undecoded, Unserved, Malformed}
-use Rattle.acq_core.specs.declared.arrival.Arrival.TheVariants.{Requested, Answered, CutOver}
-use Rattle.acq_core.specs.declared.arrival.Arrival.TheVariants.{RangeAdded, RangeDropped, Enrolled}
-use Rattle.acq_core.specs.declared.arrival.Arrival.TheVariants.{TerminalAdded}
+use Rattle.acq_core.specs.declared.arrival.Arrival.TheVariants.{Requested, CutOver, RangeAdded}
+use Rattle.acq_core.specs.declared.arrival.Arrival.TheVariants.{RangeDropped}
 use Rattle.acq_core.specs.Known.{wanted_by, known_for}
 use Rattle.acq_core.specs.Decision.{Decision, Reports, CutsOver, DropsRange, decision}
 use Rattle.acq_core.specs.Decision.{decision_of_new_range, decision_of_old_range, network_response}
@@ -76,13 +72,7 @@ module _ (opening : Opening) (t : Tables) (h : List Entry) (s : AgreesInShared o
         limit = s.bounded i;
         overlapped = λ low high. overlapped_by (between low high) (s.ranges i);
       })
-  known_of_nobody (Undecoded fault) shared = absurd (cc)
-  known_of_nobody (Unserved message) shared = absurd (cc)
-  known_of_nobody (Malformed r) shared = absurd (cc)
-  known_of_nobody (Requested r) shared = absurd (cc)
-  known_of_nobody (Answered moment merchant n v) shared = absurd (cc)
-  known_of_nobody (Enrolled merchant) shared = absurd (cc)
-  known_of_nobody (TerminalAdded terminal) shared = absurd (cc)
+  known_of_nobody other shared = absurd (cc)
 
   -- a decision keeps the agreement in what all share
   abbrev KeepsShared : Arrival → Decision → Type 0
@@ -142,13 +132,7 @@ module _ (opening : Opening) (t : Tables) (h : List Entry) (s : AgreesInShared o
       ]
   keeps_on_shared (RangeDropped low high) shared =
       shared_old_range low high (known_by opening h (RangeDropped low high)).overlapped
-  keeps_on_shared (Undecoded fault) shared = absurd (cc)
-  keeps_on_shared (Unserved message) shared = absurd (cc)
-  keeps_on_shared (Malformed r) shared = absurd (cc)
-  keeps_on_shared (Requested r) shared = absurd (cc)
-  keeps_on_shared (Answered moment merchant n v) shared = absurd (cc)
-  keeps_on_shared (Enrolled merchant) shared = absurd (cc)
-  keeps_on_shared (TerminalAdded terminal) shared = absurd (cc)
+  keeps_on_shared other shared = absurd (cc)
 
   -- the agreement after what came
   abbrev Next : Arrival → Type 0
@@ -179,26 +163,8 @@ module _ (opening : Opening) (t : Tables) (h : List Entry) (s : AgreesInShared o
             s.day,
         record { bounded = s.bounded; day = s.day; ranges = s.ranges },
       )
-  managed_step moment Authorization message naming alone =
-      named_clash _
-      (naming (record { moment = moment; service = Authorization; message = message }) refl)
-      alone
-  managed_step moment Financial message naming alone =
-      named_clash _
-      (naming (record { moment = moment; service = Financial; message = message }) refl) alone
-  managed_step moment Completion message naming alone =
-      named_clash _
-      (naming (record { moment = moment; service = Completion; message = message }) refl) alone
-  managed_step moment Reversal message naming alone =
-      named_clash _
-      (naming (record { moment = moment; service = Reversal; message = message }) refl) alone
-  managed_step moment ReversalAdvice message naming alone =
-      named_clash _
-      (naming (record { moment = moment; service = ReversalAdvice; message = message }) refl)
-      alone
-  managed_step moment Reconciliation message naming alone =
-      named_clash _
-      (naming (record { moment = moment; service = Reconciliation; message = message }) refl)
+  managed_step moment service message naming alone =
+      named_clash _ (naming (record { moment = moment; service = service; message = message }) refl)
       alone
 
   -- whatever names no merchant and isn't shared
@@ -217,12 +183,7 @@ module _ (opening : Opening) (t : Tables) (h : List Entry) (s : AgreesInShared o
   )
   nobodys_step (Requested r) naming alone apart =
       managed_step r.moment r.service r.message naming alone
-  nobodys_step (Answered moment merchant n v) naming alone apart = absurd (cc)
-  nobodys_step CutOver naming alone apart = absurd (cc)
-  nobodys_step (RangeAdded range) naming alone apart = absurd (cc)
-  nobodys_step (RangeDropped low high) naming alone apart = absurd (cc)
-  nobodys_step (Enrolled merchant) naming alone apart = absurd (cc)
-  nobodys_step (TerminalAdded terminal) naming alone apart = absurd (cc)
+  nobodys_step other naming alone apart = absurd (cc)
 
 -- ---- whole runs
 

@@ -26,7 +26,7 @@ use Rattle.acq_core.specs.declared.request.Request.{Request}
 use Rattle.acq_core.specs.declared.status.Status.{Status}
 use Rattle.acq_core.specs.declared.status.Status.TheVariants as status
 use Rattle.acq_core.specs.declared.reply_state.ReplyState.{ReplyState}
-use Rattle.acq_core.specs.declared.reply_state.ReplyState.TheVariants.{Kept, Awaited, Late}
+use Rattle.acq_core.specs.declared.reply_state.ReplyState.TheVariants.{Kept}
 use Rattle.acq_core.specs.Numbers.{is_first_reference, greatest_limit}
 use Rattle.acq_core.specs.Changes.{or_zero, change_of, approval_posting, answer_posting}
 use Rattle.acq_core.specs.Changes.{posting_today, completion_posting, posted_leg, reversal_leg}
@@ -173,14 +173,12 @@ answer_made today (verdict.Approved id) row sound = step (leg_by row.key.service
       reference = or_zero-bounded (reference_by row.key.service row)
           (reference_by-bounded today row.key.service row sound.bounded);
     }
-answer_made today (verdict.Declined text) row sound = tt
-answer_made today verdict.NoAnswer row sound = tt
+answer_made today other row sound = tt
 
 posted_leg-some : (s : ReplyState) (o : Option Leg) (leg : Leg) → posted_leg s o ≡ Some leg →
     o ≡ Some leg
 posted_leg-some (Kept reply) o leg e = e
-posted_leg-some (Awaited draft) o leg e = absurd cc
-posted_leg-some Late o leg e = absurd cc
+posted_leg-some other o leg e = absurd cc
 
 -- what a reversal posts, today
 reversal_made : (today day : ℕ) (r : RequestMessage) (row : Request) → IsSoundRow day row →
@@ -219,13 +217,11 @@ completion_made today day r hold sound amount = record {
 
 answered_status-ended : (v : Verdict) → is_pending (answered_status v) ≡ false
 answered_status-ended (verdict.Approved id) = refl
-answered_status-ended (verdict.Declined text) = refl
-answered_status-ended verdict.NoAnswer = refl
+answered_status-ended other = refl
 
 reversed_status-ended : (s : ReplyState) → is_pending (reversed_status s) ≡ false
 reversed_status-ended (Kept reply) = refl
-reversed_status-ended (Awaited draft) = refl
-reversed_status-ended Late = refl
+reversed_status-ended other = refl
 
 -- ---- the tables
 
@@ -411,7 +407,7 @@ module _ (opening : Opening) (begins : IsOpening opening) where
                   (some_of row.key.merchant row.day (answer_posting v (prior_of row)) made)
                   h.counts;
             };
-        cut_over = λ before. record {
+        cut_over = λ came before. record {
           limit = h.limit;
           day = omega arith;
           firsts = h.firsts;
@@ -428,7 +424,7 @@ module _ (opening : Opening) (begins : IsOpening opening) where
               t.postings h.postings;
           counts = h.counts;
         };
-        range_added = λ range valid free. record {
+        range_added = λ range came valid free. record {
           limit = h.limit;
           day = h.day;
           firsts = h.firsts;
@@ -436,7 +432,7 @@ module _ (opening : Opening) (begins : IsOpening opening) where
           postings = h.postings;
           counts = h.counts;
         };
-        range_dropped = λ low high. record {
+        range_dropped = λ low high came. record {
           limit = h.limit;
           day = h.day;
           firsts = h.firsts;

@@ -21,9 +21,9 @@ use Rattle.acq_message.specs.declared.verdict.Verdict.{Verdict}
 use Rattle.acq_core.specs.declared.arrival.Arrival.{Arrival}
 use Rattle.acq_message.specs.declared.request_message.RequestMessage.{RequestMessage}
 use Rattle.acq_core.specs.Arrivals.{merchant_named, is_shared}
-use Rattle.acq_core.specs.declared.arrival.Arrival.TheVariants.{Undecoded, Unserved, Malformed}
-use Rattle.acq_core.specs.declared.arrival.Arrival.TheVariants.{Requested, Answered, CutOver}
-use Rattle.acq_core.specs.declared.arrival.Arrival.TheVariants.{RangeAdded, RangeDropped, Enrolled}
+use Rattle.acq_core.specs.declared.arrival.Arrival.TheVariants.{Unserved, Malformed, Requested}
+use Rattle.acq_core.specs.declared.arrival.Arrival.TheVariants.{Answered, CutOver, RangeAdded}
+use Rattle.acq_core.specs.declared.arrival.Arrival.TheVariants.{RangeDropped, Enrolled}
 use Rattle.acq_core.specs.declared.arrival.Arrival.TheVariants.{TerminalAdded}
 use Rattle.acq_core.specs.Known.{Known, Prior}
 use Rattle.acq_core.specs.declared.reply_state.ReplyState.TheVariants.{Awaited}
@@ -362,8 +362,6 @@ module _ (opening : Opening) (m : List ℕ) (t : Tables) (h : List Entry)
 
   -- whatever names the merchant
   keeps_mine : (a : Arrival) → merchant_named a ≡ Some m → KeepsAt a
-  keeps_mine (Undecoded fault) named =
-      absurd (let no : ◌≡◌ {A = Option (List ℕ)} None (Some m) = named in cc)
   keeps_mine (Unserved message) named =
       still_step (Unserved message) (Reported (output.UnservedType message.kind)) refl
       (λ n. refl) refl refl
@@ -373,17 +371,13 @@ module _ (opening : Opening) (m : List ℕ) (t : Tables) (h : List Entry)
       (λ n. refl) refl refl
   keeps_mine (Requested r) named = requested r named
   keeps_mine (Answered moment merchant n v) named = answered moment merchant n v
-  keeps_mine CutOver named = absurd (let no : ◌≡◌ {A = Option (List ℕ)} None (Some m) = named in cc)
-  keeps_mine (RangeAdded range) named =
-      absurd (let no : ◌≡◌ {A = Option (List ℕ)} None (Some m) = named in cc)
-  keeps_mine (RangeDropped low high) named =
-      absurd (let no : ◌≡◌ {A = Option (List ℕ)} None (Some m) = named in cc)
   keeps_mine (Enrolled merchant) named =
       enrolment merchant (some_is merchant.id m named) (known (Enrolled merchant)).merchant
   keeps_mine (TerminalAdded terminal) named =
       terminal_added terminal (some_is terminal.merchant m named)
       (known (TerminalAdded terminal)).has_terminal
       (known (TerminalAdded terminal)).merchant
+  keeps_mine other named = absurd (let no : ◌≡◌ {A = Option (List ℕ)} None (Some m) = named in cc)
 
   -- whatever is shared
   keeps_shared : (a : Arrival) → is_shared a ≡ true → KeepsAt a
@@ -391,13 +385,7 @@ module _ (opening : Opening) (m : List ℕ) (t : Tables) (h : List Entry)
   keeps_shared (RangeAdded range) shared = range_added range
   keeps_shared (RangeDropped low high) shared =
       old_range low high (known (RangeDropped low high)).overlapped
-  keeps_shared (Undecoded fault) shared = absurd (cc)
-  keeps_shared (Unserved message) shared = absurd (cc)
-  keeps_shared (Malformed r) shared = absurd (cc)
-  keeps_shared (Requested r) shared = absurd (cc)
-  keeps_shared (Answered moment merchant n v) shared = absurd (cc)
-  keeps_shared (Enrolled merchant) shared = absurd (cc)
-  keeps_shared (TerminalAdded terminal) shared = absurd (cc)
+  keeps_shared other shared = absurd (cc)
 
   -- the step of the tables is the step of the history
   abbrev IsStep : Arrival → Type 0

@@ -3,8 +3,7 @@ use Rattle.std.proofs.Common.{◌≡◌, ℕ, List, [], ◌∷◌, ◌++◌, Opt
 use Rattle.std.proofs.Common.{cond, inl, inr, refl, sym, ap, ◌∙◌, subst}
 use Rattle.std.specs.Prelude.{option_map}
 use Rattle.day_totals.specs.declared.leg.Leg.{Leg}
-use Rattle.day_totals.specs.declared.leg.Leg.TheVariants.{Credit, CreditReversal, Debit}
-use Rattle.day_totals.specs.declared.leg.Leg.TheVariants.{DebitReversal}
+use Rattle.day_totals.specs.declared.leg.Leg.TheVariants.{CreditReversal, DebitReversal}
 use Rattle.acq_message.specs.declared.service.Service.{Service}
 use Rattle.acq_message.specs.declared.service.Service.TheVariants.{Authorization, Financial}
 use Rattle.acq_message.specs.declared.service.Service.TheVariants.{Completion, Reversal}
@@ -137,10 +136,9 @@ leg_by_admissible service row leg e a = absurd (cc)
 -- the leg that reverses an original's is one of a reversal
 pub reversal_leg_is : (leg : Leg) → is_reversal_leg leg ≡ false →
     is_reversal_leg (reversal_leg leg) ≡ true
-reversal_leg_is Credit e = refl
-reversal_leg_is Debit e = refl
 reversal_leg_is CreditReversal e = absurd (cc)
 reversal_leg_is DebitReversal e = absurd (cc)
+reversal_leg_is other e = refl
 
 -- ---- status
 

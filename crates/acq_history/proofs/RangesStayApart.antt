@@ -23,9 +23,9 @@ step t a h =
       reversed = λ r merchant g row c. h;
       reconciled = λ r merchant g day c. h;
       answered = λ moment v row c. h;
-      cut_over = λ before. h;
-      range_added = λ range valid free. ranges_with t.ranges range h valid free;
-      range_dropped = λ low high. ranges_without t.ranges low high h;
+      cut_over = λ came before. h;
+      range_added = λ range came valid free. ranges_with t.ranges range h valid free;
+      range_dropped = λ low high came. ranges_without t.ranges low high h;
       enrolled = λ merchant came new. h;
       terminal_added = λ terminal came new. h;
     })

@@ -184,9 +184,9 @@ step t a h =
           with_row t.merchants t.requests _ merchant g.enrolled (inl refl) h;
       answered = λ moment v row c.
           with_changes t.merchants t.requests row.key _ (answered_kept _ _ _) h;
-      cut_over = λ before. h;
-      range_added = λ range valid free. h;
-      range_dropped = λ low high. h;
+      cut_over = λ came before. h;
+      range_added = λ range came valid free. h;
+      range_dropped = λ low high came. h;
       enrolled = λ merchant came new. with_merchant t.merchants t.requests merchant h;
       terminal_added = λ terminal came new. h;
     })

@@ -9,10 +9,7 @@ use Rattle.acq_message.specs.Elements.{key_of}
 use Rattle.acq_core.specs.declared.arrival.Arrival.{Arrival}
 use Rattle.acq_message.specs.declared.request_message.RequestMessage.{RequestMessage}
 use Rattle.acq_core.specs.Arrivals.{arrival_of, merchant_named, is_shared}
-use Rattle.acq_core.specs.declared.arrival.Arrival.TheVariants.{Undecoded, Unserved, Malformed}
-use Rattle.acq_core.specs.declared.arrival.Arrival.TheVariants.{Requested, Answered, CutOver}
-use Rattle.acq_core.specs.declared.arrival.Arrival.TheVariants.{RangeAdded, RangeDropped, Enrolled}
-use Rattle.acq_core.specs.declared.arrival.Arrival.TheVariants.{TerminalAdded}
+use Rattle.acq_core.specs.declared.arrival.Arrival.TheVariants.{Requested}
 use Rattle.acq_core.specs.Known.{Known}
 use Rattle.acq_core.specs.Decision.{decision}
 use Rattle.acq_core.specs.Changes.{change_of, change_for}
@@ -71,15 +68,7 @@ module _ (opening : Opening) (m : List ℕ) where
             ∙ (is_some_map prior (recorded (key_of q.service q.message) h) ∙ has)))
       ] in
       step (request_of (Requested r)) refl there
-  change_of_recorded_key t h g (Undecoded fault) there = absurd (cc)
-  change_of_recorded_key t h g (Unserved message) there = absurd (cc)
-  change_of_recorded_key t h g (Malformed r) there = absurd (cc)
-  change_of_recorded_key t h g (Answered moment merchant n v) there = absurd (cc)
-  change_of_recorded_key t h g CutOver there = absurd (cc)
-  change_of_recorded_key t h g (RangeAdded range) there = absurd (cc)
-  change_of_recorded_key t h g (RangeDropped low high) there = absurd (cc)
-  change_of_recorded_key t h g (Enrolled merchant) there = absurd (cc)
-  change_of_recorded_key t h g (TerminalAdded terminal) there = absurd (cc)
+  change_of_recorded_key t h g other there = absurd (cc)
 
   -- the tables let the merchant's own events know what the history does
   known_own : (t : Tables) (h : List Entry) → Agrees opening m t h → (a : Arrival) →

@@ -25,8 +25,8 @@ use Rattle.acq_core.specs.declared.output.Output.{Output}
 use Rattle.acq_core.specs.declared.output.Output.TheVariants as output
 use Rattle.acq_core.specs.Arrivals.{arrival_of, merchant_named}
 use Rattle.acq_core.specs.Known.{reconciled_day}
-use Rattle.acq_core.specs.Outcome.{Outcome, Replied, Repeated, Asked, Performed, Reported}
-use Rattle.acq_core.specs.Outcome.{balance_code, outcome, outcome_of, output_of, is_in_balance}
+use Rattle.acq_core.specs.Outcome.{Outcome, Replied, Repeated, Reported, balance_code, outcome}
+use Rattle.acq_core.specs.Outcome.{outcome_of, output_of, is_in_balance}
 use Rattle.acq_core.specs.Changes.{change_of}
 use Rattle.acq_core.specs.Tables.{Opening, Tables, new_tables, known_in, after_any, step_output}
 use Rattle.acq_core.specs.Tables.{step_tables, outputs, tables_after}
@@ -128,9 +128,8 @@ record HasSoundReplies (t : Tables) : Type 0 where
 abbrev pub IsSoundOutcome : Outcome → Type 0
 IsSoundOutcome (Replied given reply) = (service : Service) × IsReply service reply
 IsSoundOutcome (Repeated reply) = (service : Service) × IsReply service reply
-IsSoundOutcome (Asked query) = Unit {0}
-IsSoundOutcome Performed = Unit {0}
 IsSoundOutcome (Reported o) = is_reply o ≡ false
+IsSoundOutcome other = Unit {0}
 
 abbrev pub IsRowReply : Request → Type 0
 IsRowReply row = IsReply row.key.service row.reply
@@ -225,9 +224,9 @@ step t a is h =
             },
             (row.key.service, reply),
           );
-      cut_over = λ before. (record { day = omega arith; replies = h.replies }, tt);
-      range_added = λ range valid free. (record { day = h.day; replies = h.replies }, tt);
-      range_dropped = λ low high. (record { day = h.day; replies = h.replies }, tt);
+      cut_over = λ came before. (record { day = omega arith; replies = h.replies }, tt);
+      range_added = λ range came valid free. (record { day = h.day; replies = h.replies }, tt);
+      range_dropped = λ low high came. (record { day = h.day; replies = h.replies }, tt);
       enrolled = λ merchant came new. (record { day = h.day; replies = h.replies }, tt);
       terminal_added = λ terminal came new. (record { day = h.day; replies = h.replies }, tt);
     })
@@ -245,10 +244,9 @@ text_of_outcome merchant (Replied given reply) party text is e =
     let same : spelling reply ≡ text = cc in subst IsReplyText same (text_of_reply is.0 reply is.1)
 text_of_outcome merchant (Repeated reply) party text is e =
     let same : spelling reply ≡ text = cc in subst IsReplyText same (text_of_reply is.0 reply is.1)
-text_of_outcome merchant (Asked query) party text is e = absurd cc
-text_of_outcome merchant Performed party text is e = absurd cc
 text_of_outcome merchant (Reported o) party text is e =
     absurd (let no : true ≡ false = sym (ap is_reply e) ∙ is in cc)
+text_of_outcome merchant other party text is e = absurd cc
 
 module _ (opening : Opening) (begins : IsOpening opening) where
   sound_after : (es : List Event) → AreEvents es →

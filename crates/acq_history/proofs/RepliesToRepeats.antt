@@ -12,13 +12,10 @@ use Rattle.acq_core.specs.declared.event.Event.{Event}
 use Rattle.acq_message.specs.Elements.{text_at, key_of, same_key, essence_of}
 use Rattle.acq_core.specs.declared.arrival.Arrival.{Arrival}
 use Rattle.acq_message.specs.declared.request_message.RequestMessage.{RequestMessage}
-use Rattle.acq_core.specs.declared.arrival.Arrival.TheVariants.{Undecoded, Unserved, Malformed}
-use Rattle.acq_core.specs.declared.arrival.Arrival.TheVariants.{Requested, Answered, CutOver}
-use Rattle.acq_core.specs.declared.arrival.Arrival.TheVariants.{RangeAdded, RangeDropped, Enrolled}
-use Rattle.acq_core.specs.declared.arrival.Arrival.TheVariants.{TerminalAdded}
+use Rattle.acq_core.specs.declared.arrival.Arrival.TheVariants.{Requested}
 use Rattle.acq_core.specs.Arrivals.{arrival_of}
 use Rattle.acq_core.specs.declared.reply_state.ReplyState.{ReplyState}
-use Rattle.acq_core.specs.declared.reply_state.ReplyState.TheVariants.{Kept, Awaited, Late}
+use Rattle.acq_core.specs.declared.reply_state.ReplyState.TheVariants.{Kept}
 use Rattle.acq_core.specs.Known.{Prior, Known, holds_if}
 use Rattle.acq_core.specs.Decision.{Decision, Replies, decision_by, decision_of_key}
 use Rattle.acq_core.specs.Decision.{decision_of_merchant, decision_of_request, repeat_of}
@@ -102,15 +99,7 @@ serves_any : (opening : Opening) (h : List Entry) (a : Arrival) (r : RequestMess
     request_of a ≡ Some r →
     is_past_merchant (outcome (known_by opening h a) a) ≡ true → Serves h (text_at r.message 41)
 serves_any opening h (Requested q) r e past = serves opening h q r e past
-serves_any opening h (Undecoded fault) r e past = absurd (cc)
-serves_any opening h (Unserved m) r e past = absurd (cc)
-serves_any opening h (Malformed q) r e past = absurd (cc)
-serves_any opening h (Answered moment merchant reference verdict) r e past = absurd (cc)
-serves_any opening h CutOver r e past = absurd (cc)
-serves_any opening h (RangeAdded range) r e past = absurd (cc)
-serves_any opening h (RangeDropped low high) r e past = absurd (cc)
-serves_any opening h (Enrolled merchant) r e past = absurd (cc)
-serves_any opening h (TerminalAdded terminal) r e past = absurd (cc)
+serves_any opening h other r e past = absurd (cc)
 
 -- ---- whatever a history records was served
 
@@ -189,8 +178,7 @@ repeats_merchant k r merchant p e there found same =
 
 outcome_of_repeat : (k : Known) (s : ReplyState) → outcome_of k (repeat_of s) ≡ repeated s
 outcome_of_repeat k (Kept reply) = refl
-outcome_of_repeat k (Awaited draft) = refl
-outcome_of_repeat k Late = refl
+outcome_of_repeat k other = refl
 
 -- on any history that served all that it records
 repeats_on : (opening : Opening) (h : List Entry) (r : RequestMessage) (f : Found) → ServesAll h →

@@ -217,40 +217,14 @@ IsCode given = Unit {0}
 pub code_element-may : (given : ResponseCode) → IsCode given →
     list_all may_have (code_element given) ≡ true
 unfolding format_of has_class
-code_element-may code.Approved h = refl
-code_element-may code.InvalidMerchant h = refl
-code_element-may code.InvalidTransaction h = refl
-code_element-may code.InvalidAmount h = refl
-code_element-may code.InvalidCard h = refl
-code_element-may code.NoSuchIssuer h = refl
-code_element-may code.NoActionTaken h = refl
-code_element-may code.RecordNotFound h = refl
-code_element-may code.FormatError h = refl
-code_element-may code.ExpiredCard h = refl
-code_element-may code.LimitExceeded h = refl
-code_element-may code.IssuerInoperative h = refl
-code_element-may code.DuplicateTransmission h = refl
-code_element-may code.ReconcileError h = refl
 code_element-may (code.Declined text) h =
     let parts = and_parts (eqb (length text) 2 && list_all is_alphanumeric text) _ h in
     rw parts.0 refl
+code_element-may other h = refl
 
 pub IsCode-hosts : (given : ResponseCode) → is_hosts given ≡ true → IsCode given
-IsCode-hosts code.Approved h = tt
-IsCode-hosts code.InvalidMerchant h = tt
-IsCode-hosts code.InvalidTransaction h = tt
-IsCode-hosts code.InvalidAmount h = tt
-IsCode-hosts code.InvalidCard h = tt
-IsCode-hosts code.NoSuchIssuer h = tt
-IsCode-hosts code.NoActionTaken h = tt
-IsCode-hosts code.RecordNotFound h = tt
-IsCode-hosts code.FormatError h = tt
-IsCode-hosts code.ExpiredCard h = tt
-IsCode-hosts code.LimitExceeded h = tt
-IsCode-hosts code.IssuerInoperative h = tt
-IsCode-hosts code.DuplicateTransmission h = tt
-IsCode-hosts code.ReconcileError h = tt
 IsCode-hosts (code.Declined text) h = absurd cc
+IsCode-hosts other h = tt
 
 pub verdict_elements-may : (v : Verdict) → IsVerdict v →
     list_all may_have (verdict_elements v) ≡ true

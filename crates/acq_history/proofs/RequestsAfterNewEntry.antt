@@ -22,7 +22,7 @@ use Rattle.acq_message.specs.declared.verdict.Verdict.TheVariants as verdict
 use Rattle.acq_message.specs.Elements.{key_of, essence_of, amount_in, reference_in, original_key}
 use Rattle.acq_message.specs.declared.request_message.RequestMessage.{RequestMessage}
 use Rattle.acq_core.specs.declared.reply_state.ReplyState.{ReplyState}
-use Rattle.acq_core.specs.declared.reply_state.ReplyState.TheVariants.{Kept, Awaited, Late}
+use Rattle.acq_core.specs.declared.reply_state.ReplyState.TheVariants.{Kept, Awaited}
 use Rattle.acq_core.specs.Known.{Prior}
 use Rattle.acq_core.specs.Outcome.{Outcome}
 use Rattle.acq_core.specs.Changes.{end_of_hold, answered_status, answered_hold_end, reversed_status}
@@ -361,14 +361,12 @@ open_by_answered a s moment v reply days e is = refl
 reply_state_of-answered : (v : Verdict) (reply : IsoMessage) →
     tables.reply_state_of (answered_status v) reply ≡ Kept reply
 reply_state_of-answered (verdict.Approved id) reply = refl
-reply_state_of-answered (verdict.Declined text) reply = refl
-reply_state_of-answered verdict.NoAnswer reply = refl
+reply_state_of-answered other reply = refl
 
 is_reversible_answered : (moment : ℕ) (v : Verdict) →
     tables.is_reversible (answered_status v) ≡ not (is_none (approval_by moment v))
 is_reversible_answered moment (verdict.Approved id) = refl
-is_reversible_answered moment (verdict.Declined text) = refl
-is_reversible_answered moment verdict.NoAnswer = refl
+is_reversible_answered moment other = refl
 
 -- a pending row that is answered
 pub prior_of_answered : (a : Request) (f : Found) (fate : Fate) (draft : IsoMessage) (moment : ℕ)
@@ -472,13 +470,11 @@ reply_state_of-reversed s reply o r draft reversible is = absurd (cc)
 
 is_reversible_reversed : (s : ReplyState) → tables.is_reversible (reversed_status s) ≡ false
 is_reversible_reversed (Kept reply) = refl
-is_reversible_reversed (Awaited draft) = refl
-is_reversible_reversed Late = refl
+is_reversible_reversed other = refl
 
 is_approved_reversed : (s : ReplyState) → tables.is_approved (reversed_status s) ≡ false
 is_approved_reversed (Kept reply) = refl
-is_approved_reversed (Awaited draft) = refl
-is_approved_reversed Late = refl
+is_approved_reversed other = refl
 
 -- a request that can be reversed, and is
 pub prior_of_reversed : (a : Request) (f : Found) (fate : Fate) →

@@ -191,8 +191,7 @@ answer-names : (v : Verdict) (row : Request) → FitsKey row.key → IsNumber ro
     IfSome (answer_posting v (prior_of row)) FitsNames
 answer-names (verdict.Approved id) row key card =
     approval-names row key card (leg_by row.key.service row)
-answer-names (verdict.Declined text) row key card = tt
-answer-names verdict.NoAnswer row key card = tt
+answer-names other row key card = tt
 
 -- those of one that a request makes of an earlier one
 today-names : (today : ℕ) (r : RequestMessage) (leg : Leg) (amount : ℕ) (row : Request) →
@@ -337,21 +336,21 @@ module _ (opening : Opening) (t : Tables) (ranges : HasRangesApart t) (cards : H
                   (λ m on. (b.merchants m).posted on) h.postings;
               reconciliations = h.reconciliations;
             };
-        cut_over = λ before b. record {
+        cut_over = λ came before b. record {
           merchants = h.merchants;
           terminals = h.terminals;
           requests = h.requests;
           postings = h.postings;
           reconciliations = h.reconciliations;
         };
-        range_added = λ range valid free b. record {
+        range_added = λ range came valid free b. record {
           merchants = h.merchants;
           terminals = h.terminals;
           requests = h.requests;
           postings = h.postings;
           reconciliations = h.reconciliations;
         };
-        range_dropped = λ low high b. record {
+        range_dropped = λ low high came b. record {
           merchants = h.merchants;
           terminals = h.terminals;
           requests = h.requests;

@@ -240,9 +240,9 @@ step t a is h =
       answered = λ moment v row c.
           All-with_changed IsClean row.key _ t.requests
           (λ x same p. record { essence = p.essence; card = p.card; acquirer = p.acquirer }) h;
-      cut_over = λ before. h;
-      range_added = λ range valid free. h;
-      range_dropped = λ low high. h;
+      cut_over = λ came before. h;
+      range_added = λ range came valid free. h;
+      range_dropped = λ low high came. h;
       enrolled = λ merchant came new. h;
       terminal_added = λ terminal came new. h;
     })

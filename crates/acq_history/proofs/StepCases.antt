@@ -135,6 +135,7 @@ pub record IsAnswering (t : Tables) (a : Arrival) (moment : ℕ) (v : Verdict)
   pub named : ℕ
   pub came : a ≡ Answered moment merchant named v
   pub member : In row t.requests
+  pub own : row.key.merchant ≡ merchant
   pub number : ℕ
   pub reference : row.reference ≡ Some number
   pub pending : row.status ≡ Pending
@@ -163,10 +164,10 @@ pub record StepCases (t : Tables) (a : Arrival) (P : Decision → Type 0) : Type
   pub answered : (moment : ℕ) (v : Verdict) (row : Request) → IsAnswering t a moment v row →
       P (Answers moment v (prior_of row) row.reply)
   -- what all share, or a merchant's enrolment, is changed
-  pub cut_over : t.day < last_day → P CutsOver
-  pub range_added : (range : Range) → is_valid_range range ≡ true →
+  pub cut_over : a ≡ CutOver → t.day < last_day → P CutsOver
+  pub range_added : (range : Range) → a ≡ RangeAdded range → is_valid_range range ≡ true →
       overlapped_by (between range.low range.high) t.ranges ≡ None → P (AddsRange range)
-  pub range_dropped : (low high : ℕ) → P (DropsRange low high)
+  pub range_dropped : (low high : ℕ) → a ≡ RangeDropped low high → P (DropsRange low high)
   pub enrolled : (merchant : Merchant) → a ≡ Enrolled merchant →
       find (λ row. bytes_eq row.id merchant.id) t.merchants ≡ None → P (Enrols merchant)
   pub terminal_added : (terminal : Terminal) → a ≡ TerminalAdded terminal →
@@ -444,21 +445,22 @@ module _ (t : Tables) (r : RequestMessage) (P : Decision → Type 0)
 module _ (t : Tables) (moment : ℕ) (merchant : List ℕ) (reference : ℕ) (v : Verdict) (P : Decision →
     Type 0)
     (cases : StepCases t (Answered moment merchant reference v) P) where
-  by_row : (row : Request) → In row t.requests → (n : ℕ) → row.reference ≡ Some n → (s : Status) →
-      row.status ≡ s →
+  by_row : (row : Request) → In row t.requests → row.key.merchant ≡ merchant → (n : ℕ) →
+      row.reference ≡ Some n → (s : Status) → row.status ≡ s →
       P (decision_of_reply_state moment v (prior_of row) (reply_state_of s row.reply))
-  by_row row member n under Pending is =
+  by_row row member own n under Pending is =
       cases.answered moment v row (record {
         merchant = merchant;
         named = reference;
         came = refl;
         member = member;
+        own = own;
         number = n;
         reference = under;
         pending = is;
       })
-  by_row row member n under ReversedPending is = cases.reported output.Late refl
-  by_row row member n under status is = cases.reported output.AlreadyAnswered refl
+  by_row row member own n under ReversedPending is = cases.reported output.Late refl
+  by_row row member own n under status is = cases.reported output.AlreadyAnswered refl
 
   by_prior : (o : Option Prior) → referred_in (requests_of merchant t.requests) reference ≡ o →
       P (decision_of_prior moment v o)
@@ -467,7 +469,7 @@ module _ (t : Tables) (moment : ℕ) (merchant : List ℕ) (reference : ℕ) (v 
       let found = row_of_reference t merchant (Some reference) p is in
       let row = found.0.found.row in
       subst (λ x. P (decision_of_reply_state moment v x x.reply_state)) found.0.found.says
-      (by_row row found.0.found.member found.0.number found.0.reference row.status refl)
+      (by_row row found.0.found.member found.1 found.0.number found.0.reference row.status refl)
 
   by_answer : (o : Option Merchant) →
       P (decision_of_answer (known_in t (Answered moment merchant reference v)) moment v o)
@@ -481,7 +483,7 @@ by_new_range : (t : Tables) (range : Range) (P : Decision → Type 0) →
     is_valid_range range ≡ true → (o : Option Range) →
     overlapped_by (between range.low range.high) t.ranges ≡ o →
     P (decision_of_new_range range o)
-by_new_range t range P cases valid None is = cases.range_added range valid is
+by_new_range t range P cases valid None is = cases.range_added range refl valid is
 by_new_range t range P cases valid (Some other) is = cases.reported (output.Overlap other) refl
 
 by_old_range : (t : Tables) (low high : ℕ) (P : Decision → Type 0) →
@@ -491,7 +493,7 @@ by_old_range t low high P cases None = cases.reported output.NoSuchRange refl
 by_old_range t low high P cases (Some range) =
     elim (has_ends low high range) as
     (λ b. P (if b then DropsRange low high else Reports output.NoSuchRange)) [
-      | true ↦ cases.range_dropped low high
+      | true ↦ cases.range_dropped low high refl
       | false ↦ cases.reported output.NoSuchRange refl
     ]
 
@@ -526,7 +528,7 @@ by_step t CutOver P cases =
     let step : (b : Bool) → ltb t.day last_day ≡ b →
     P (if b then CutsOver else Reports output.LastDay) =
     elim [
-      | true ↦ (λ e. cases.cut_over (ltb-true t.day last_day e))
+      | true ↦ (λ e. cases.cut_over refl (ltb-true t.day last_day e))
       | false ↦ (λ e. cases.reported output.LastDay refl)
     ] in
     step (ltb t.day last_day) refl

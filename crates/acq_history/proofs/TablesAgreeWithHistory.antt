@@ -19,10 +19,7 @@ use Rattle.acq_message.specs.Elements.{or_empty, text_at}
 use Rattle.acq_core.specs.declared.arrival.Arrival.{Arrival}
 use Rattle.acq_message.specs.declared.request_message.RequestMessage.{RequestMessage}
 use Rattle.acq_core.specs.Arrivals.{merchant_named, is_shared}
-use Rattle.acq_core.specs.declared.arrival.Arrival.TheVariants.{Undecoded, Unserved, Malformed}
-use Rattle.acq_core.specs.declared.arrival.Arrival.TheVariants.{Requested, Answered, CutOver}
-use Rattle.acq_core.specs.declared.arrival.Arrival.TheVariants.{RangeAdded, RangeDropped, Enrolled}
-use Rattle.acq_core.specs.declared.arrival.Arrival.TheVariants.{TerminalAdded}
+use Rattle.acq_core.specs.declared.arrival.Arrival.TheVariants.{CutOver, RangeAdded, RangeDropped}
 use Rattle.acq_core.specs.Known.{Prior, wanted_by, known_for}
 use Rattle.acq_core.specs.Outcome.{Outcome}
 use Rattle.acq_core.specs.Changes.{answer_posting, approval_posting, reversal_posting}
@@ -96,13 +93,7 @@ known_in_shared opening m t h g (RangeAdded range) shared =
 known_in_shared opening m t h g (RangeDropped low high) shared =
     λ i. known_for (wanted_by (g.common.day i) (RangeDropped low high))
     (facts_in_is opening m t h g i)
-known_in_shared opening m t h g (Undecoded fault) shared = absurd (cc)
-known_in_shared opening m t h g (Unserved message) shared = absurd (cc)
-known_in_shared opening m t h g (Malformed r) shared = absurd (cc)
-known_in_shared opening m t h g (Requested r) shared = absurd (cc)
-known_in_shared opening m t h g (Answered moment merchant reference v) shared = absurd (cc)
-known_in_shared opening m t h g (Enrolled merchant) shared = absurd (cc)
-known_in_shared opening m t h g (TerminalAdded terminal) shared = absurd (cc)
+known_in_shared opening m t h g other shared = absurd (cc)
 
 -- a party that is named so is that one
 pub names_is : (o : Option (List ℕ)) (m : List ℕ) → names o m ≡ true → o ≡ Some m
@@ -175,8 +166,7 @@ approval_posting_is_of p (Some leg) = refl
 -- what an answer posts is of the answered request's merchant
 pub answer_posting_is_of : (v : Verdict) (p : Prior) → IsOf p.key.merchant (answer_posting v p)
 answer_posting_is_of (verdict.Approved id) p = approval_posting_is_of p p.leg
-answer_posting_is_of (verdict.Declined text) p = tt
-answer_posting_is_of verdict.NoAnswer p = tt
+answer_posting_is_of other p = tt
 
 -- what a reversal posts is of its own
 pub reversal_posting_is_of : (today : ℕ) (r : RequestMessage) (p : Prior) →

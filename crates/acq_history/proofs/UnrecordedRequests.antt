@@ -29,18 +29,7 @@ pub refusal_is : (given : ResponseCode) → is_refusal given ≡ true → IsRefu
 refusal_is code.Approved e = absurd (cc)
 refusal_is code.FormatError e = absurd (cc)
 refusal_is code.InvalidMerchant e = absurd (cc)
-refusal_is code.InvalidTransaction e = (refl, refl)
-refusal_is code.InvalidAmount e = (refl, refl)
-refusal_is code.InvalidCard e = (refl, refl)
-refusal_is code.NoSuchIssuer e = (refl, refl)
-refusal_is code.NoActionTaken e = (refl, refl)
-refusal_is code.RecordNotFound e = (refl, refl)
-refusal_is code.ExpiredCard e = (refl, refl)
-refusal_is code.LimitExceeded e = (refl, refl)
-refusal_is code.IssuerInoperative e = (refl, refl)
-refusal_is code.DuplicateTransmission e = (refl, refl)
-refusal_is code.ReconcileError e = (refl, refl)
-refusal_is (code.Declined text) e = (refl, refl)
+refusal_is other e = (refl, refl)
 
 -- what isn't approved isn't accepted
 pub accepts_not : (rq : Option RequestMessage) (o : Outcome) → is_approved o ≡ false →
@@ -138,5 +127,4 @@ module _ (k : Known) (r : RequestMessage) where
 -- a repeat changes no table
 pub change_of_repeat : (k : Known) (s : ReplyState) → change_of k (repeat_of s) ≡ None
 change_of_repeat k (Kept reply) = refl
-change_of_repeat k (Awaited draft) = refl
-change_of_repeat k Late = refl
+change_of_repeat k other = refl

@@ -109,12 +109,12 @@ module _ (opening : Opening) (t : Tables) (opens : IsOpening opening)
         answered = λ moment v row c later.
             has_room_for_posting t (answer_posting v (prior_of row))
             (λ m day. (later.numbers.merchants m).totals day);
-        cut_over = λ before later. tt;
-        range_added = λ range valid free later.
+        cut_over = λ came before later. tt;
+        range_added = λ range came valid free later.
             ap (λ b. cond b (option_map Overlap (overlapped_by range t.ranges)) (Some BadRange))
             valid
             ∙ ap (option_map Overlap) free;
-        range_dropped = λ low high. tt;
+        range_dropped = λ low high came. tt;
         enrolled = λ merchant came new later. new;
         terminal_added = λ terminal came new later. new;
       })

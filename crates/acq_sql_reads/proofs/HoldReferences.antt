@@ -133,9 +133,9 @@ referred_after_step t a (unique, h) =
           with_changes t.requests row.key _ h (λ y here is kind approved none.
           let same = one_request t.requests y row unique.requests here c.member is in
           absurd (let e = sym none ∙ ap (λ (r : Request). r.reference) same ∙ c.reference in cc));
-      cut_over = λ before. h;
-      range_added = λ range valid free. h;
-      range_dropped = λ low high. h;
+      cut_over = λ came before. h;
+      range_added = λ range came valid free. h;
+      range_dropped = λ low high came. h;
       enrolled = λ merchant came new. h;
       terminal_added = λ terminal came new. h;
     })
