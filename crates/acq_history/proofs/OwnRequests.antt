@@ -32,7 +32,7 @@ use Rattle.acq_core.specs.Changes.{reversed_status, change_of, refused_row, admi
 use Rattle.acq_core.specs.Changes.{completion_row, reversal_row, reconciliation_row}
 use Rattle.acq_core.specs.Changes.{completion_posting, reversal_posting}
 use Rattle.acq_core.specs.Tables.{Opening, Tables, postings_of, with_next_posting, with_changed}
-use Rattle.acq_core.specs.Tables.{after_any}
+use Rattle.acq_core.specs.Tables.{after_any, followed_row}
 use Rattle.acq_history.specs.Entries.{Entry, request_of, is_code, is_asked, is_approved}
 use Rattle.acq_history.specs.Entries.{is_past_merchant, accepts, is_acceptable, is_acceptance}
 use Rattle.acq_history.specs.Entries.{is_admissible, is_reversal}
@@ -50,8 +50,7 @@ use Rattle.acq_history.proofs.NewRows.{idle_line, admitted_line, completed_line,
 use Rattle.acq_history.proofs.RequestsAfterNewEntry.{line, shown}
 use Rattle.acq_history.proofs.RowsAgreeWithHistory.{Rows, without_newest_edited}
 use Rattle.acq_history.proofs.RowsAgreeWithHistory.{without_newest_still, rows_still, rows_joined}
-use Rattle.acq_history.proofs.ChangedRows.{completion_follows, completing, reversal_follows}
-use Rattle.acq_history.proofs.ChangedRows.{reversing}
+use Rattle.acq_history.proofs.ChangedRows.{completion_follows, reversal_follows, entry_on}
 use Rattle.acq_history.proofs.TablesAgreeWithHistory.{Agrees, common_still, IsOf, postings_of_mine}
 use Rattle.acq_history.proofs.TablesAgreeWithHistory.{reversal_posting_is_of}
 use Rattle.acq_history.proofs.RowsWithChanges.{followed_kept}
@@ -116,12 +115,7 @@ module _ (opening : Opening) (m : List ℕ) (t : Tables) (h : List Entry)
     (g : Agrees opening m t h) where
   -- the entry of what came
   abbrev pub entry : Arrival → Outcome → Entry
-  entry a o = record {
-    arrival = a;
-    day = day_after opening.first_day h;
-    ranges = ranges_after h;
-    outcome = o;
-  }
+  entry = entry_on (day_after opening.first_day h) (ranges_after h)
 
   -- what a decision has to keep
   abbrev pub Keeps : Arrival → Decision → Type 0
@@ -371,7 +365,7 @@ module _ (opening : Opening) (m : List ℕ) (t : Tables) (h : List Entry)
         common = common_still opening m t.limit t.day t.merchants t.terminals t.ranges
             (Requested r) o h refl g.common;
         rows =
-            rows_joined m (with_changed hold.key (completing h n f hold found.1 found.2) t.requests)
+            rows_joined m (with_changed hold.key (followed_row status.Completed) t.requests)
             (completion_row day r hold) e h
             (record {
               request = r;
@@ -386,7 +380,7 @@ module _ (opening : Opening) (m : List ℕ) (t : Tables) (h : List Entry)
               day = refl;
               enrolled = λ a. absurd (cc);
             })
-            (without_newest_edited m t.requests e h hold.key (completing h n f hold found.1 found.2)
+            (without_newest_edited m t.requests e h hold.key (followed_row status.Completed)
             (followed_kept status.Completed)
             (completion_follows h n f hold found.1 found.2 moment day message
             (ranges_after h) reply asked.1 ends)
@@ -428,7 +422,7 @@ module _ (opening : Opening) (m : List ℕ) (t : Tables) (h : List Entry)
         common = common_still opening m t.limit t.day t.merchants t.terminals t.ranges
             (Requested r) o h refl g.common;
         rows =
-            rows_joined m (with_changed p.key (reversing h key f p found.1 found.2) t.requests)
+            rows_joined m (with_changed p.key (followed_row (reversed_status p.reply_state)) t.requests)
             (reversal_row day r p) e h
             (record {
               request = r;
@@ -441,7 +435,7 @@ module _ (opening : Opening) (m : List ℕ) (t : Tables) (h : List Entry)
               day = refl;
               enrolled = λ a. clash (is_admission e h) a admission;
             })
-            (without_newest_edited m t.requests e h p.key (reversing h key f p found.1 found.2)
+            (without_newest_edited m t.requests e h p.key (followed_row (reversed_status p.reply_state))
             (followed_kept (reversed_status p.reply_state))
             (reversal_follows h key f p found.1 found.2 r day
             (ranges_after h) reply came fits asked.1 reversible) g.rows);

@@ -40,7 +40,7 @@ use Rattle.acq_core.specs.Changes.{answered_status, answered_hold_end, change_of
 use Rattle.acq_core.specs.Changes.{answer_posting}
 use Rattle.acq_core.specs.Tables.{Opening, Tables, prior_of, requests_of, referred_in}
 use Rattle.acq_core.specs.Tables.{with_next_posting, with_changed, after_any, known_in, step_output}
-use Rattle.acq_core.specs.Tables.{step_tables}
+use Rattle.acq_core.specs.Tables.{step_tables, answered_row}
 use Rattle.acq_message.specs.Numbers.{is_number}
 use Rattle.acq_history.specs.Entries.{Entry, request_of, is_performed, is_answer, accepts}
 use Rattle.acq_history.specs.Entries.{is_acceptable}
@@ -59,7 +59,7 @@ use Rattle.acq_history.proofs.UnrecordedRequests.{quiet_duplicate, quiet_repeate
 use Rattle.acq_history.proofs.RowsAgreeWithHistory.{Rows, without_newest_edited}
 use Rattle.acq_history.proofs.RowsAgreeWithHistory.{without_newest_still, rows_still}
 use Rattle.acq_history.proofs.RowsAgreeWithHistory.{referred_in_is}
-use Rattle.acq_history.proofs.ChangedRows.{answer_follows, answering}
+use Rattle.acq_history.proofs.ChangedRows.{answer_follows, entry_on}
 use Rattle.acq_history.proofs.TablesAgreeWithHistory.{Agrees, common_still, known_in_mine}
 use Rattle.acq_history.proofs.TablesAgreeWithHistory.{known_in_shared, IsOf, postings_of_mine}
 use Rattle.acq_history.proofs.TablesAgreeWithHistory.{answer_posting_is_of}
@@ -91,12 +91,7 @@ module _ (opening : Opening) (m : List ℕ) (t : Tables) (h : List Entry)
 
   -- the entry of an outcome
   abbrev at : Arrival → Outcome → Entry
-  at a o = record {
-    arrival = a;
-    day = day_after opening.first_day h;
-    ranges = ranges_after h;
-    outcome = o;
-  }
+  at = entry_on (day_after opening.first_day h) (ranges_after h)
 
   -- ---- requests
 
@@ -187,6 +182,7 @@ module _ (opening : Opening) (m : List ℕ) (t : Tables) (h : List Entry)
       Keeps opening m t h g (Answered moment merchant n v) (Answers moment v p draft)
   answered_step moment merchant n v p draft there pending =
       let reply = answered_reply draft v in
+      let until = answered_hold_end p.key.service moment v p.hold_days in
       let o = Replied (verdict_code v) reply in
       let a = Answered moment merchant n v in
       let e = at a o in
@@ -201,13 +197,12 @@ module _ (opening : Opening) (m : List ℕ) (t : Tables) (h : List Entry)
         common = common_still opening m t.limit t.day t.merchants t.terminals t.ranges a o h refl
             g.common;
         rows =
-            rows_still m (with_changed p.key (answering h n f p found.1 found.2 moment v reply)
+            rows_still m (with_changed p.key (answered_row (answered_status v) reply until)
             t.requests) e h refl
             refl refl
             (without_newest_edited m t.requests e h p.key
-            (answering h n f p found.1 found.2 moment v reply)
-            (answered_kept (answered_status v) reply
-            (answered_hold_end p.key.service moment v p.hold_days))
+            (answered_row (answered_status v) reply until)
+            (answered_kept (answered_status v) reply until)
             (answer_follows h n f p found.1 found.2 moment (day_after opening.first_day h) merchant
             v
             (ranges_after h) reply draft pending) g.rows);
