@@ -48,8 +48,8 @@ own_step opening m t h g a mine =
     let step : (b : Bool) → names (merchant_named a) m ≡ b → (b || is_shared a) ≡ true →
     IsStep opening m t h a =
     elim [
-      | true ↦ (λ e shared. step_mine opening m t h g a (names_is (merchant_named a) m e))
-      | false ↦ (λ e shared. step_shared opening m t h g a shared)
+      | true ↦ (λ e shared. step_mine g a (names_is (merchant_named a) m e))
+      | false ↦ (λ e shared. step_shared g a shared)
     ] in
     step (names (merchant_named a) m) refl mine
 
@@ -59,7 +59,7 @@ keeps_agreement : (opening : Opening) (m : List ℕ) →
 keeps_agreement opening m = record {
   own_event = λ t h e g mine. own_step opening m t h g (arrival_of e)
       (ap (λ b. b || is_shared (arrival_of e)) mine);
-  shared_event = λ t h e g shared. (step_shared opening m t h g (arrival_of e) shared).1;
+  shared_event = λ t h e g shared. (step_shared g (arrival_of e) shared).1;
   other_event = λ t h e g other alone.
       alike_agrees opening m t (step_tables t (arrival_of e)) h
       (other_step m t (arrival_of e) (naming_of e) other alone) g;

@@ -111,7 +111,7 @@ balance_past : (b : Bool) →
 balance_past true = refl
 balance_past false = refl
 
-module _ (opening : Opening) (m : List ℕ) (t : Tables) (h : List Entry)
+module _ {opening : Opening} {m : List ℕ} {t : Tables} {h : List Entry}
     (g : Agrees opening m t h) where
   -- the entry of what came
   abbrev pub entry : Arrival → Outcome → Entry
@@ -168,8 +168,7 @@ module _ (opening : Opening) (m : List ℕ) (t : Tables) (h : List Entry)
       let e = entry (Requested r) o in
       record {
         common =
-            common_still opening m t.limit t.day t.merchants t.terminals t.ranges
-            (Requested r) o h quiet.performed g.common;
+            common_still (Requested r) o quiet.performed g.common;
         rows =
             rows_still m t.requests e h quiet.accepted
             (admits_not (request_of (Requested r)) e h quiet.asked)
@@ -243,8 +242,7 @@ module _ (opening : Opening) (m : List ℕ) (t : Tables) (h : List Entry)
       let e = entry (Requested r) o in
       let accepted : accepts is_acceptable (Some r) o ≡ false = accepts_not (Some r) o is.0 in
       record {
-        common = common_still opening m t.limit t.day t.merchants t.terminals t.ranges
-            (Requested r) o h refl g.common;
+        common = common_still (Requested r) o refl g.common;
         rows =
             idle_rows r given reply
             (refused_row (day_after opening.first_day h) r given) named came new is.1 accepted refl
@@ -268,8 +266,7 @@ module _ (opening : Opening) (m : List ℕ) (t : Tables) (h : List Entry)
       let accepted : accepts is_acceptable (Some r) o ≡ false =
       ap (λ s. is_acceptable s && is_approved o) fits in
       record {
-        common = common_still opening m t.limit t.day t.merchants t.terminals t.ranges
-            (Requested r) o h refl g.common;
+        common = common_still (Requested r) o refl g.common;
         rows =
             idle_rows r given reply (reconciliation_row k r day) named came new
             (balance_past (is_in_balance k r)) accepted refl refl refl
@@ -312,8 +309,8 @@ module _ (opening : Opening) (m : List ℕ) (t : Tables) (h : List Entry)
       (Asked query) refl in
       record {
         common =
-            common_still opening m t.limit t.day t.merchants t.terminals t.ranges (Requested r)
-            (Asked query) h refl g.common;
+            common_still (Requested r)
+            (Asked query) refl g.common;
         rows = rows_joined m t.requests (admitted_row (day_after opening.first_day h) r range n) e h
             (record {
               request = r;
@@ -362,8 +359,7 @@ module _ (opening : Opening) (m : List ℕ) (t : Tables) (h : List Entry)
       (ap (option_and_then (λ k. referred k h)) asked.1 ∙ found.1)
       ∙ ap (λ p. Some (completion_posting day r p)) found.2 in
       record {
-        common = common_still opening m t.limit t.day t.merchants t.terminals t.ranges
-            (Requested r) o h refl g.common;
+        common = common_still (Requested r) o refl g.common;
         rows =
             rows_joined m (with_changed hold.key (followed_row status.Completed) t.requests)
             (completion_row day r hold) e h
@@ -419,8 +415,7 @@ module _ (opening : Opening) (m : List ℕ) (t : Tables) (h : List Entry)
       (ap (option_and_then (λ k. recorded k h)) asked.1 ∙ found.1)
       ∙ ap (reversal_posting day r) found.2)) in
       record {
-        common = common_still opening m t.limit t.day t.merchants t.terminals t.ranges
-            (Requested r) o h refl g.common;
+        common = common_still (Requested r) o refl g.common;
         rows =
             rows_joined m (with_changed p.key (followed_row (reversed_status p.reply_state)) t.requests)
             (reversal_row day r p) e h

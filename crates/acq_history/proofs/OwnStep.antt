@@ -83,7 +83,7 @@ is_some_open : (moment : ℕ) (o : Option ℕ) → is_open_at moment o ≡ true 
 is_some_open moment None e = absurd (cc)
 is_some_open moment (Some until) e = refl
 
-module _ (opening : Opening) (m : List ℕ) (t : Tables) (h : List Entry)
+module _ {opening : Opening} {m : List ℕ} {t : Tables} {h : List Entry}
     (g : Agrees opening m t h) where
   -- what the history lets an event know
   abbrev known : Arrival → Known
@@ -101,29 +101,29 @@ module _ (opening : Opening) (m : List ℕ) (t : Tables) (h : List Entry)
       merchant_named (Requested r) ≡ Some m → (hold : Prior) →
       (known (Requested r)).recorded ≡ None → s ≡ Completion →
       (known (Requested r)).referred ≡ Some hold →
-      is_some hold.hold_end ≡ true → Keeps opening m t h g (Requested r) (Completes r hold)
+      is_some hold.hold_end ≡ true → Keeps g (Requested r) (Completes r hold)
   completes_by moment Completion message named hold new fits there ends =
-      completed_step opening m t h g moment message named hold new there ends
+      completed_step g moment message named hold new there ends
   completes_by moment service message named hold new fits there ends = absurd (cc)
 
   -- a request that changes nothing
   unchanged : (r : RequestMessage) (d : Decision) → change_of (known (Requested r)) d ≡ None →
       IsQuiet (known (Requested r)) r (outcome_of (known (Requested r)) d) →
-      Keeps opening m t h g (Requested r) d
+      Keeps g (Requested r) d
   unchanged r d none quiet =
       subst (λ c. Agrees opening m (after_any t c)
       (at (Requested r) (outcome_of (known (Requested r)) d) ∷ h))
       (sym none)
-      (quiet_step opening m t h g r (outcome_of (known (Requested r)) d) quiet)
+      (quiet_step g r (outcome_of (known (Requested r)) d) quiet)
 
   -- each decision on a request keeps the agreement
   requested : (r : RequestMessage) → merchant_named (Requested r) ≡ Some m →
-      Keeps opening m t h g (Requested r) (decision (known (Requested r)) (Requested r))
+      Keeps g (Requested r) (decision (known (Requested r)) (Requested r))
   requested r named =
       let k = known (Requested r) in
       let came : (r.service ≡ NetworkManagement → ⊥) → request_of (Requested r) ≡ Some r =
       recordable_some r.service r in
-      by_request k r (Keeps opening m t h g (Requested r))
+      by_request k r (Keeps g (Requested r))
       (record {
         managed = λ is. unchanged r (Replies r (network_response r.message)) refl
             (quiet_managed k r is);
@@ -134,19 +134,19 @@ module _ (opening : Opening) (m : List ℕ) (t : Tables) (h : List Entry)
             unchanged r (repeat_of p.reply_state) (change_of_repeat k p.reply_state)
             (quiet_repeated k r p is p.reply_state);
         refused = λ merchant fresh given is.
-            refused_step opening m t h g r named given (came fresh.recordable) fresh.new
+            refused_step g r named given (came fresh.recordable) fresh.new
             (refusal_is given is);
         admitted = λ merchant fresh service range in_range.
-            admitted_step opening m t h g r named range merchant (came fresh.recordable) fresh.new
+            admitted_step g r named range merchant (came fresh.recordable) fresh.new
             (is_admissible_true r.service service) in_range fresh.enrolled;
         completed = λ merchant fresh service hold found opens.
             completes_by r.moment r.service r.message named hold fresh.new service found
             (is_some_open r.moment hold.hold_end opens);
         reversed = λ merchant fresh service p found final.
-            reversed_step opening m t h g r named p (came fresh.recordable) fresh.new
+            reversed_step g r named p (came fresh.recordable) fresh.new
             (is_reversal_true r.service service) found final;
         reconciled = λ merchant fresh service day resolved.
-            reconciled_step opening m t h g r named day (came fresh.recordable) fresh.new service;
+            reconciled_step g r named day (came fresh.recordable) fresh.new service;
       })
 
   -- ---- what records nothing
@@ -167,8 +167,7 @@ module _ (opening : Opening) (m : List ℕ) (t : Tables) (h : List Entry)
       is_performed o ≡ false → postings h ≡ postings (at a o ∷ h) → Agrees opening m t (at a o ∷ h)
   still_step a o none answers performed posted =
       record {
-        common = common_still opening m t.limit t.day t.merchants t.terminals t.ranges a o h
-            performed g.common;
+        common = common_still a o performed g.common;
         rows = still_rows a o none answers;
         posted = g.posted ∙ posted;
       }
@@ -179,7 +178,7 @@ module _ (opening : Opening) (m : List ℕ) (t : Tables) (h : List Entry)
   answered_step : (moment : ℕ) (merchant : List ℕ) (n : ℕ) (v : Verdict) (p : Prior)
       (draft : IsoMessage) →
       (known (Answered moment merchant n v)).referred ≡ Some p → p.reply_state ≡ Awaited draft →
-      Keeps opening m t h g (Answered moment merchant n v) (Answers moment v p draft)
+      Keeps g (Answered moment merchant n v) (Answers moment v p draft)
   answered_step moment merchant n v p draft there pending =
       let reply = answered_reply draft v in
       let until = answered_hold_end p.key.service moment v p.hold_days in
@@ -194,7 +193,7 @@ module _ (opening : Opening) (m : List ℕ) (t : Tables) (h : List Entry)
       then_map prior (answer_posting v) (referred n h)
       ∙ ap (option_and_then (answer_posting v)) there in
       record {
-        common = common_still opening m t.limit t.day t.merchants t.terminals t.ranges a o h refl
+        common = common_still a o refl
             g.common;
         rows =
             rows_still m (with_changed p.key (answered_row (answered_status v) reply until)
@@ -215,11 +214,11 @@ module _ (opening : Opening) (m : List ℕ) (t : Tables) (h : List Entry)
 
   -- each decision on an answer keeps the agreement
   answered : (moment : ℕ) (merchant : List ℕ) (n : ℕ) (v : Verdict) →
-      Keeps opening m t h g (Answered moment merchant n v)
+      Keeps g (Answered moment merchant n v)
       (decision (known (Answered moment merchant n v)) (Answered moment merchant n v))
   answered moment merchant n v =
       let a = Answered moment merchant n v in
-      by_answer (known a) moment v (Keeps opening m t h g a)
+      by_answer (known a) moment v (Keeps g a)
       (record {
         not_taken = λ o. still_step a (Reported o) refl (λ k. and-false (n == k)) refl refl;
         taken = λ p draft there pending. answered_step moment merchant n v p draft there pending;
@@ -230,7 +229,7 @@ module _ (opening : Opening) (m : List ℕ) (t : Tables) (h : List Entry)
 
   -- the merchant's own enrolment
   enrolment : (merchant : Merchant) → merchant.id ≡ m → (o : Option Merchant) →
-      Keeps opening m t h g (Enrolled merchant) (decision_of_enrolment merchant o)
+      Keeps g (Enrolled merchant) (decision_of_enrolment merchant o)
   enrolment merchant mine (Some other) =
       still_step (Enrolled merchant) (Reported output.AlreadyEnrolled) refl (λ n. refl) refl refl
   enrolment merchant mine None =
@@ -252,7 +251,7 @@ module _ (opening : Opening) (m : List ℕ) (t : Tables) (h : List Entry)
   -- its own terminal
   terminal_added : (terminal : Terminal) → terminal.merchant ≡ m →
       (there : Bool) (o : Option Merchant) →
-      Keeps opening m t h g (TerminalAdded terminal) (decision_of_terminal terminal there o)
+      Keeps g (TerminalAdded terminal) (decision_of_terminal terminal there o)
   terminal_added terminal mine there None =
       still_step (TerminalAdded terminal) (Reported output.NoSuchMerchant) refl
       (λ n. refl) refl refl
@@ -277,10 +276,10 @@ module _ (opening : Opening) (m : List ℕ) (t : Tables) (h : List Entry)
 
   -- ---- what all share
 
-  cut_over : Keeps opening m t h g CutOver (decision (known CutOver) CutOver)
+  cut_over : Keeps g CutOver (decision (known CutOver) CutOver)
   cut_over =
       elim (nat_lt (day_after opening.first_day h) last_day) as (λ b.
-      Keeps opening m t h g CutOver (if b then CutsOver else Reports output.LastDay)) [
+      Keeps g CutOver (if b then CutsOver else Reports output.LastDay)) [
         | true ↦ record {
           common = record {
             bounded = g.common.bounded;
@@ -296,7 +295,7 @@ module _ (opening : Opening) (m : List ℕ) (t : Tables) (h : List Entry)
       ]
 
   new_range : (range : Range) (o : Option Range) →
-      Keeps opening m t h g (RangeAdded range) (decision_of_new_range range o)
+      Keeps g (RangeAdded range) (decision_of_new_range range o)
   new_range range (Some other) = still_step (RangeAdded range) (Reported (output.Overlap other))
       refl (λ n.
       refl) refl refl
@@ -314,11 +313,11 @@ module _ (opening : Opening) (m : List ℕ) (t : Tables) (h : List Entry)
       }
 
   range_added : (range : Range) →
-      Keeps opening m t h g (RangeAdded range)
+      Keeps g (RangeAdded range)
       (decision (known (RangeAdded range)) (RangeAdded range))
   range_added range =
       elim (is_valid_range range) as (λ b.
-      Keeps opening m t h g (RangeAdded range)
+      Keeps g (RangeAdded range)
       (if b then decision_of_new_range range (known (RangeAdded range)).overlapped else Reports
       output.BadRange)) [
         | true ↦ new_range range (known (RangeAdded range)).overlapped
@@ -327,12 +326,12 @@ module _ (opening : Opening) (m : List ℕ) (t : Tables) (h : List Entry)
       ]
 
   old_range : (low high : ℕ) (o : Option Range) →
-      Keeps opening m t h g (RangeDropped low high) (decision_of_old_range low high o)
+      Keeps g (RangeDropped low high) (decision_of_old_range low high o)
   old_range low high None = still_step (RangeDropped low high) (Reported output.NoSuchRange) refl
       (λ n. refl) refl refl
   old_range low high (Some range) =
       elim (has_ends low high range) as (λ b.
-      Keeps opening m t h g (RangeDropped low high)
+      Keeps g (RangeDropped low high)
       (if b then DropsRange low high else Reports output.NoSuchRange)) [
         | true ↦ record {
           common = record {
@@ -353,7 +352,7 @@ module _ (opening : Opening) (m : List ℕ) (t : Tables) (h : List Entry)
 
   -- what is decided on what came keeps the agreement
   abbrev KeepsAt : Arrival → Type 0
-  KeepsAt a = Keeps opening m t h g a (decision (known a) a)
+  KeepsAt a = Keeps g a (decision (known a) a)
 
   -- whatever names the merchant
   keeps_mine : (a : Arrival) → merchant_named a ≡ Some m → KeepsAt a
@@ -396,8 +395,8 @@ module _ (opening : Opening) (m : List ℕ) (t : Tables) (h : List Entry)
   )
 
   pub step_mine : (a : Arrival) → merchant_named a ≡ Some m → IsStep a
-  step_mine a named = stepped a (known_in_mine opening m t h g a named) (keeps_mine a named)
+  step_mine a named = stepped a (known_in_mine g a named) (keeps_mine a named)
 
   pub step_shared : (a : Arrival) → is_shared a ≡ true → IsStep a
-  step_shared a shared = stepped a (known_in_shared opening m t h g a shared)
+  step_shared a shared = stepped a (known_in_shared g a shared)
       (keeps_shared a shared)

@@ -64,7 +64,7 @@ module _ (opening : Opening) (m : List ℕ) where
       elim [
         | None ↦ (λ came has. absurd (cc))
         | Some q ↦ (λ came has. change_of_recorded (known_by opening h (Requested r)) r
-            (ap is_some (recorded_known opening m t h g r q came)
+            (ap is_some (recorded_known g r q came)
             ∙ (is_some_map prior (recorded (key_of q.service q.message) h) ∙ has)))
       ] in
       step (request_of (Requested r)) refl there
@@ -77,8 +77,8 @@ module _ (opening : Opening) (m : List ℕ) where
       let step : (b : Bool) → names (merchant_named a) m ≡ b → (b || is_shared a) ≡ true →
       known_in t a ≡ known_by opening h a =
       elim [
-        | true ↦ (λ e shared. known_in_mine opening m t h g a (names_is (merchant_named a) m e))
-        | false ↦ (λ e shared. known_in_shared opening m t h g a shared)
+        | true ↦ (λ e shared. known_in_mine g a (names_is (merchant_named a) m e))
+        | false ↦ (λ e shared. known_in_shared g a shared)
       ] in
       step (names (merchant_named a) m) refl mine
 

@@ -55,10 +55,10 @@ pub record Agrees (opening : Opening) (m : List ℕ) (t : Tables) (h : List Entr
 -- ---- what is known
 
 -- so look-ups in both know the same
-pub facts_in_is : (opening : Opening) (m : List ℕ) (t : Tables) (h : List Entry) →
+pub facts_in_is : {opening : Opening} {m : List ℕ} {t : Tables} {h : List Entry} →
     Agrees opening m t h →
     facts_in t m ≡ facts_of opening h
-facts_in_is opening m t h a =
+facts_in_is {opening} {m} {t} {h} a =
     λ i. record {
       today = a.common.day i;
       limit = a.common.bounded i;
@@ -74,26 +74,26 @@ facts_in_is opening m t h a =
     }
 
 -- for an event of the merchant's
-pub known_in_mine : (opening : Opening) (m : List ℕ) (t : Tables) (h : List Entry) →
+pub known_in_mine : {opening : Opening} {m : List ℕ} {t : Tables} {h : List Entry} →
     Agrees opening m t h →
     (a : Arrival) →
     merchant_named a ≡ Some m → known_in t a ≡ known_by opening h a
-known_in_mine opening m t h g a named =
+known_in_mine {t = t} g a named =
     ap (λ o. known_for (wanted_by t.day a) (facts_in t (or_empty o))) named
-    ∙ (λ i. known_for (wanted_by (g.common.day i) a) (facts_in_is opening m t h g i))
+    ∙ (λ i. known_for (wanted_by (g.common.day i) a) (facts_in_is g i))
 
 -- for a shared event
-pub known_in_shared : (opening : Opening) (m : List ℕ) (t : Tables) (h : List Entry) →
+pub known_in_shared : {opening : Opening} {m : List ℕ} {t : Tables} {h : List Entry} →
     Agrees opening m t h →
     (a : Arrival) → is_shared a ≡ true → known_in t a ≡ known_by opening h a
-known_in_shared opening m t h g CutOver shared =
-    λ i. known_for (wanted_by (g.common.day i) CutOver) (facts_in_is opening m t h g i)
-known_in_shared opening m t h g (RangeAdded range) shared =
-    λ i. known_for (wanted_by (g.common.day i) (RangeAdded range)) (facts_in_is opening m t h g i)
-known_in_shared opening m t h g (RangeDropped low high) shared =
+known_in_shared g CutOver shared =
+    λ i. known_for (wanted_by (g.common.day i) CutOver) (facts_in_is g i)
+known_in_shared g (RangeAdded range) shared =
+    λ i. known_for (wanted_by (g.common.day i) (RangeAdded range)) (facts_in_is g i)
+known_in_shared g (RangeDropped low high) shared =
     λ i. known_for (wanted_by (g.common.day i) (RangeDropped low high))
-    (facts_in_is opening m t h g i)
-known_in_shared opening m t h g other shared = absurd (cc)
+    (facts_in_is g i)
+known_in_shared g other shared = absurd (cc)
 
 -- a party that is named so is that one
 pub names_is : (o : Option (List ℕ)) (m : List ℕ) → names o m ≡ true → o ≡ Some m
@@ -102,8 +102,8 @@ names_is (Some named) m e = ap (λ x. Some x) (bytes_eq_is named m e)
 
 -- ---- entries that change nothing of what isn't a request or a posting
 
-pub common_still : (opening : Opening) (m : List ℕ) (bound today : ℕ) (merchants : List Merchant)
-    (terminals : List Terminal) (held : List Range) (a : Arrival) (o : Outcome) (h : List Entry) →
+pub common_still : {opening : Opening} {m : List ℕ} {bound today : ℕ} {merchants : List Merchant}
+    {terminals : List Terminal} {held : List Range} {h : List Entry} (a : Arrival) (o : Outcome) →
     is_performed o ≡ false →
     Common opening m bound today merchants terminals held h →
     Common opening m bound today merchants terminals held
@@ -114,7 +114,7 @@ pub common_still : (opening : Opening) (m : List ℕ) (bound today : ℕ) (merch
       outcome =
           o;
     } ∷ h)
-common_still opening m bound today merchants terminals held a o h performed c =
+common_still {opening} {h = h} a o performed c =
     record {
       bounded = c.bounded;
       day =

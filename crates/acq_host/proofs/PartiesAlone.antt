@@ -51,7 +51,7 @@ module _ (opening : Opening) (past : List Event) where
       ∙ ap (λ o. Some o)
       ((λ i. step_output (then i) (came i))
       ∙ (λ i. output_of (named i)
-      (outcome (known_in_mine opening m t h (from_new opening m (past ++ before))
+      (outcome (known_in_mine (from_new opening m (past ++ before))
       (Requested r) named i)
       (Requested r)))))
 
