@@ -1,6 +1,6 @@
 -- Keys stay unique, whatever comes.
 use Rattle.std.proofs.Common.{◌≡◌, List, [], ◌∷◌, ◌++◌, Bool, true, false, inl, inr, refl, sym, ap}
-use Rattle.std.proofs.Common.{◌∙◌, subst}
+use Rattle.std.proofs.Common.{◌∙◌, subst, ℕ}
 use Rattle.std.specs.Prelude.{map, not, ◌||◌}
 use Rattle.std.specs.List.{list_any}
 use Rattle.std.specs.Str.{bytes_eq}
@@ -20,6 +20,8 @@ use Rattle.acq_history.specs.Keys.{are_distinct, same_terminal, HasUniqueKeys, K
 use Rattle.acq_history.proofs.StepCases.{by_step}
 use Rattle.acq_history.proofs.RowsWithChanges.{Edits, changing_kept, followed_kept, answered_kept}
 use Rattle.acq_history.proofs.Runs.{kept}
+use Rattle.acq_core.specs.declared.posting.Posting.{Posting}
+use Rattle.acq_core.specs.declared.reconciliation.Reconciliation.{Reconciliation}
 
 -- ---- lists whose elements are distinct
 
@@ -82,6 +84,13 @@ unique_with_row rows later row same new h =
 
 -- ---- steps
 
+-- tables with other requests
+with_requests : {t : Tables} {rows : List Request} {ps : List (ℕ × Posting)}
+    {rs : List (ℕ × Reconciliation)} → HasUniqueKeys t → AreUnique rows →
+    HasUniqueKeys (record t { requests = rows; postings = ps; reconciliations = rs })
+with_requests h unique =
+    record { requests = unique; merchants = h.merchants; terminals = h.terminals }
+
 pub unique_after_step : (t : Tables) (a : Arrival) → HasUniqueKeys t →
     HasUniqueKeys (step_tables t a)
 unique_after_step t a h =
@@ -92,17 +101,9 @@ unique_after_step t a h =
       replied = λ r came given is. h;
       repeated = λ row member. h;
       refused = λ r merchant g given is.
-          record {
-            requests = unique_with_row t.requests t.requests _ refl g.new h.requests;
-            merchants = h.merchants;
-            terminals = h.terminals;
-          };
+          with_requests h (unique_with_row t.requests t.requests _ refl g.new h.requests);
       admitted = λ r merchant g range c.
-          record {
-            requests = unique_with_row t.requests t.requests _ refl g.new h.requests;
-            merchants = h.merchants;
-            terminals = h.terminals;
-          };
+          with_requests h (unique_with_row t.requests t.requests _ refl g.new h.requests);
       completed = λ r merchant g hold c.
           record {
             requests =
@@ -122,24 +123,13 @@ unique_after_step t a h =
             terminals = h.terminals;
           };
       reconciled = λ r merchant g day c.
-          record {
-            requests = unique_with_row t.requests t.requests _ refl g.new h.requests;
-            merchants = h.merchants;
-            terminals = h.terminals;
-          };
+          with_requests h (unique_with_row t.requests t.requests _ refl g.new h.requests);
       answered = λ moment v row c.
-          record {
-            requests = subst (λ ks. are_distinct same_key ks ≡ true)
-                (sym (keys-with_changed row.key _ (answered_kept _ _ _) t.requests)) h.requests;
-            merchants = h.merchants;
-            terminals = h.terminals;
-          };
-      cut_over = λ came before. record {
-        requests = h.requests;
-        merchants = h.merchants;
-        terminals =
-            h.terminals;
-      };
+          with_requests h
+          (subst (λ ks. are_distinct same_key ks ≡ true)
+          (sym (keys-with_changed row.key _ (answered_kept _ _ _) t.requests)) h.requests);
+      cut_over = λ came before.
+          record { requests = h.requests; merchants = h.merchants; terminals = h.terminals };
       range_added = λ range came valid free.
           record { requests = h.requests; merchants = h.merchants; terminals = h.terminals };
       range_dropped = λ low high came.

@@ -49,6 +49,9 @@ use Rattle.acq_history.proofs.AdmittedCounts.{IsCounted, admitted_in-within}
 use Rattle.acq_history.proofs.CountsStayWithin.{AreCountsWithin, IsOf, within_uncounted}
 use Rattle.acq_history.proofs.CountsStayWithin.{within_counted, posted_on-ended, used_on-changed}
 use Rattle.acq_history.proofs.CountsStayWithin.{pending_on-changed, within_answered}
+use Rattle.acq_core.specs.declared.terminal.Terminal.{Terminal}
+use Rattle.card_no.specs.declared.range.Range.{Range}
+use Rattle.acq_core.specs.declared.reconciliation.Reconciliation.{Reconciliation}
 
 -- ---- rows
 
@@ -236,6 +239,27 @@ record HasSoundNumbers (opening : Opening) (t : Tables) : Type 0 where
   postings : All (IsBoundedPosting t.day) t.postings
   counts : AreCountsWithin t.limit t.requests t.postings
 
+-- tables with other requests and postings
+with_requests : {opening : Opening} {t : Tables} {rows : List Request} {ps : List (ℕ × Posting)}
+    {rs : List (ℕ × Reconciliation)} {ranges : List Range} {terminals : List Terminal} →
+    HasSoundNumbers opening t → All (IsSoundRow t.day) rows → All (IsBoundedPosting t.day) ps →
+    AreCountsWithin t.limit rows ps →
+    HasSoundNumbers opening (record t {
+      ranges = ranges;
+      terminals = terminals;
+      requests = rows;
+      postings = ps;
+      reconciliations = rs;
+    })
+with_requests h rows postings counts = record {
+  limit = h.limit;
+  day = h.day;
+  firsts = h.firsts;
+  rows = rows;
+  postings = postings;
+  counts = counts;
+}
+
 module _ (opening : Opening) (begins : IsOpening opening) where
   -- no more were admitted than may be
   admitted_within : (t : Tables) → HasSoundNumbers opening t → (m : List ℕ) →
@@ -281,132 +305,100 @@ module _ (opening : Opening) (begins : IsOpening opening) where
         malformed = λ r came. h;
         replied = λ r came given hosts. h;
         repeated = λ row member. h;
-        refused = λ r merchant g given hosts. record {
-          limit = h.limit;
-          day = h.day;
-          firsts = h.firsts;
-          rows = All-push (IsSoundRow t.day) t.requests _ h.rows
-              (sound_plain t.day _ refl refl tt (λ s n e. absurd cc));
-          postings = h.postings;
-          counts = within_uncounted t.limit t.requests t.postings _ refl refl h.counts;
-        };
-        admitted = λ r merchant g range c. record {
-          limit = h.limit;
-          day = h.day;
-          firsts = h.firsts;
-          rows = All-push (IsSoundRow t.day) t.requests _ h.rows (record {
-            bounded =
-                record {
-                  day = omega arith;
-                  reference = next_reference-bounded t h r merchant g.enrolled;
-                  follows = tt;
-                };
-            counts = λ n e. refl;
-            amount = λ n e. c.amount;
-            completion = λ s n e. absurd cc;
-          });
-          postings = h.postings;
-          counts =
-              within_counted t.limit t.requests t.requests t.postings t.postings _
-              (record {
-                counts = refl;
-                same = λ m day. refl;
-                fewer = λ m day. omega arith;
-                once = λ m day. omega arith;
-              }) c.room h.counts;
-        };
+        refused = λ r merchant g given hosts. with_requests h
+            (All-push (IsSoundRow t.day) t.requests _ h.rows
+            (sound_plain t.day _ refl refl tt (λ s n e. absurd cc))) h.postings
+            (within_uncounted t.limit t.requests t.postings _ refl refl h.counts);
+        admitted = λ r merchant g range c. with_requests h
+            (All-push (IsSoundRow t.day) t.requests _ h.rows (record {
+              bounded =
+                  record {
+                    day = omega arith;
+                    reference = next_reference-bounded t h r merchant g.enrolled;
+                    follows = tt;
+                  };
+              counts = λ n e. refl;
+              amount = λ n e. c.amount;
+              completion = λ s n e. absurd cc;
+            })) h.postings
+            (within_counted t.limit t.requests t.requests t.postings t.postings _
+            (record {
+              counts = refl;
+              same = λ m day. refl;
+              fewer = λ m day. omega arith;
+              once = λ m day. omega arith;
+            }) c.room h.counts);
         completed = λ r merchant g hold c.
             let sound : IsSoundRow t.day hold =
             All-member (IsSoundRow t.day) t.requests hold h.rows c.member in
-            let made = completion_made t.day t.day r hold sound c.amount in record {
-              limit = h.limit;
-              day = h.day;
-              firsts = h.firsts;
-              rows = All-push (IsSoundRow t.day) _ _
-                  (followed t.day hold.key status.Completed t.requests h.rows)
-                  (sound_plain t.day _ refl refl
-                  (reference_by-bounded t.day hold.key.service hold sound.bounded)
-                  (λ s n e. c.amount));
-              postings = postings_with t.day t.day (text_at r.message 42) t.postings
-                  (Some (completion_posting t.day r (prior_of hold))) (omega arith) made h.postings;
-              counts =
-                  within_counted t.limit t.requests _ t.postings _ _
-                  (record {
-                    counts = refl;
-                    same = used_on-changed hold.key _ (followed_kept _) (λ x. refl) t.requests;
-                    fewer = pending_on-changed hold.key _ (followed_kept _) (λ x. refl) t.requests;
-                    once = posted_on-ended t.postings
-                        (Some (completion_posting t.day r (prior_of hold)))
-                        (text_at r.message 42) t.day made.of;
-                  }) c.room h.counts;
-            };
+            let made = completion_made t.day t.day r hold sound c.amount in with_requests h
+            (All-push (IsSoundRow t.day) _ _
+            (followed t.day hold.key status.Completed t.requests h.rows)
+            (sound_plain t.day _ refl refl
+            (reference_by-bounded t.day hold.key.service hold sound.bounded)
+            (λ s n e. c.amount)))
+            (postings_with t.day t.day (text_at r.message 42) t.postings
+            (Some (completion_posting t.day r (prior_of hold))) (omega arith) made h.postings)
+            (within_counted t.limit t.requests _ t.postings _ _
+            (record {
+              counts = refl;
+              same = used_on-changed hold.key _ (followed_kept _) (λ x. refl) t.requests;
+              fewer = pending_on-changed hold.key _ (followed_kept _) (λ x. refl) t.requests;
+              once = posted_on-ended t.postings
+                  (Some (completion_posting t.day r (prior_of hold)))
+                  (text_at r.message 42) t.day made.of;
+            }) c.room h.counts);
         reversed = λ r merchant g row c.
             let sound : IsSoundRow t.day row =
             All-member (IsSoundRow t.day) t.requests row h.rows c.member in
             let ended = reversed_status-ended (reply_state_of row.status row.reply) in
-            let made = reversal_made t.day t.day r row sound in record {
-              limit = h.limit;
-              day = h.day;
-              firsts = h.firsts;
-              rows = All-push (IsSoundRow t.day) _ _ (followed t.day row.key _ t.requests h.rows)
-                  (sound_plain t.day _ refl refl
-                  (reference_by-bounded t.day row.key.service row sound.bounded)
-                  (λ s n e. absurd (let no : is_reversal r.service ≡ false = ap is_reversal s in
-                  cc)));
-              postings = postings_with t.day t.day (text_at r.message 42) t.postings
-                  (reversal_posting t.day r (prior_of row)) (omega arith) made h.postings;
-              counts =
-                  within_counted t.limit t.requests _ t.postings _ _
-                  (record {
-                    counts = refl;
-                    same = used_on-changed row.key _ (followed_kept _) (λ x. ended) t.requests;
-                    fewer = pending_on-changed row.key _ (followed_kept _) (λ x. ended) t.requests;
-                    once =
-                        posted_on-ended t.postings (reversal_posting t.day r (prior_of row))
-                        (text_at r.message 42) t.day
-                        (some_of (text_at r.message 42) t.day
-                        (reversal_posting t.day r (prior_of row)) made);
-                  }) c.room h.counts;
-            };
-        reconciled = λ r merchant g day c. record {
-          limit = h.limit;
-          day = h.day;
-          firsts = h.firsts;
-          rows = All-push (IsSoundRow t.day) t.requests _ h.rows
-              (sound_plain t.day _ refl refl tt (λ s n e. absurd cc));
-          postings = h.postings;
-          counts = within_uncounted t.limit t.requests t.postings _ refl refl h.counts;
-        };
+            let made = reversal_made t.day t.day r row sound in with_requests h
+            (All-push (IsSoundRow t.day) _ _ (followed t.day row.key _ t.requests h.rows)
+            (sound_plain t.day _ refl refl
+            (reference_by-bounded t.day row.key.service row sound.bounded)
+            (λ s n e. absurd (let no : is_reversal r.service ≡ false = ap is_reversal s in
+            cc))))
+            (postings_with t.day t.day (text_at r.message 42) t.postings
+            (reversal_posting t.day r (prior_of row)) (omega arith) made h.postings)
+            (within_counted t.limit t.requests _ t.postings _ _
+            (record {
+              counts = refl;
+              same = used_on-changed row.key _ (followed_kept _) (λ x. ended) t.requests;
+              fewer = pending_on-changed row.key _ (followed_kept _) (λ x. ended) t.requests;
+              once =
+                  posted_on-ended t.postings (reversal_posting t.day r (prior_of row))
+                  (text_at r.message 42) t.day
+                  (some_of (text_at r.message 42) t.day
+                  (reversal_posting t.day r (prior_of row)) made);
+            }) c.room h.counts);
+        reconciled = λ r merchant g day c. with_requests h
+            (All-push (IsSoundRow t.day) t.requests _ h.rows
+            (sound_plain t.day _ refl refl tt (λ s n e. absurd cc))) h.postings
+            (within_uncounted t.limit t.requests t.postings _ refl refl h.counts);
         answered = λ moment v row c.
             let sound : IsSoundRow t.day row =
             All-member (IsSoundRow t.day) t.requests row h.rows c.member in
-            let made = answer_made t.day v row sound in record {
-              limit = h.limit;
-              day = h.day;
-              firsts = h.firsts;
-              rows =
-                  All-with_changed (IsSoundRow t.day) row.key _ t.requests
-                  (λ x same s. record {
-                    bounded = record {
-                      day = s.bounded.day;
-                      reference = s.bounded.reference;
-                      follows = s.bounded.follows;
-                    };
-                    counts = s.counts;
-                    amount = s.amount;
-                    completion = s.completion;
-                  }) h.rows;
-              postings = postings_with t.day row.day row.key.merchant t.postings
-                  (answer_posting v (prior_of row))
-                  sound.bounded.day made h.postings;
-              counts =
-                  within_answered row.key _ (answered_kept _ _ _)
-                  (λ x. answered_status-ended v) t.requests
-                  t.limit t.postings row (answer_posting v (prior_of row)) c.member refl
-                  (ap is_pending c.pending)
-                  (some_of row.key.merchant row.day (answer_posting v (prior_of row)) made)
-                  h.counts;
-            };
+            let made = answer_made t.day v row sound in with_requests h
+            (All-with_changed (IsSoundRow t.day) row.key _ t.requests
+            (λ x same s. record {
+              bounded = record {
+                day = s.bounded.day;
+                reference = s.bounded.reference;
+                follows = s.bounded.follows;
+              };
+              counts = s.counts;
+              amount = s.amount;
+              completion = s.completion;
+            }) h.rows)
+            (postings_with t.day row.day row.key.merchant t.postings
+            (answer_posting v (prior_of row))
+            sound.bounded.day made h.postings)
+            (within_answered row.key _ (answered_kept _ _ _)
+            (λ x. answered_status-ended v) t.requests
+            t.limit t.postings row (answer_posting v (prior_of row)) c.member refl
+            (ap is_pending c.pending)
+            (some_of row.key.merchant row.day (answer_posting v (prior_of row)) made)
+            h.counts);
         cut_over = λ came before. record {
           limit = h.limit;
           day = omega arith;
@@ -424,22 +416,8 @@ module _ (opening : Opening) (begins : IsOpening opening) where
               t.postings h.postings;
           counts = h.counts;
         };
-        range_added = λ range came valid free. record {
-          limit = h.limit;
-          day = h.day;
-          firsts = h.firsts;
-          rows = h.rows;
-          postings = h.postings;
-          counts = h.counts;
-        };
-        range_dropped = λ low high came. record {
-          limit = h.limit;
-          day = h.day;
-          firsts = h.firsts;
-          rows = h.rows;
-          postings = h.postings;
-          counts = h.counts;
-        };
+        range_added = λ range came valid free. with_requests h h.rows h.postings h.counts;
+        range_dropped = λ low high came. with_requests h h.rows h.postings h.counts;
         enrolled = λ merchant came new. record {
           limit = h.limit;
           day = h.day;
@@ -449,14 +427,7 @@ module _ (opening : Opening) (begins : IsOpening opening) where
           postings = h.postings;
           counts = h.counts;
         };
-        terminal_added = λ terminal came new. record {
-          limit = h.limit;
-          day = h.day;
-          firsts = h.firsts;
-          rows = h.rows;
-          postings = h.postings;
-          counts = h.counts;
-        };
+        terminal_added = λ terminal came new. with_requests h h.rows h.postings h.counts;
       })
 
   -- ---- what is said of a merchant

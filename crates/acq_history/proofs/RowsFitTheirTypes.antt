@@ -13,10 +13,7 @@ use Rattle.card_no.specs.Track2.{may_be_number}
 use Rattle.day_totals.specs.Day.{last_day}
 use Rattle.day_totals.specs.declared.leg.Leg.{Leg}
 use Rattle.acq_message.specs.declared.service.Service.{Service}
-use Rattle.acq_message.specs.declared.service.Service.TheVariants.{Authorization, Financial}
-use Rattle.acq_message.specs.declared.service.Service.TheVariants.{Completion, Reversal}
-use Rattle.acq_message.specs.declared.service.Service.TheVariants.{ReversalAdvice, Reconciliation}
-use Rattle.acq_message.specs.declared.service.Service.TheVariants.{NetworkManagement}
+use Rattle.acq_message.specs.declared.service.Service.TheVariants.{Authorization, NetworkManagement}
 use Rattle.acq_message.specs.declared.request_key.RequestKey.{RequestKey}
 use Rattle.acq_message.specs.declared.request_message.RequestMessage.{RequestMessage}
 use Rattle.acq_message.specs.declared.verdict.Verdict.{Verdict}
@@ -111,14 +108,8 @@ hold_end-within : (s : Service) (moment : ℕ) (v : Verdict) (o : Option ℕ) �
     IfSome o AreHoldDays → IfSome (answered_hold_end s moment v o) (λ n. n ≤ greatest_hold_end)
 hold_end-within Authorization moment (verdict.Approved id) o is days =
     end_of_hold-within moment o is days
-hold_end-within Authorization moment (verdict.Declined text) o is days = tt
-hold_end-within Authorization moment verdict.NoAnswer o is days = tt
-hold_end-within Financial moment v o is days = tt
-hold_end-within Completion moment v o is days = tt
-hold_end-within Reversal moment v o is days = tt
-hold_end-within ReversalAdvice moment v o is days = tt
-hold_end-within Reconciliation moment v o is days = tt
-hold_end-within NetworkManagement moment v o is days = tt
+hold_end-within Authorization moment other o is days = tt
+hold_end-within s moment v o is days = tt
 
 -- ---- postings
 
@@ -235,6 +226,19 @@ followed key st rows h =
           c.hold_end;
     }) h
 
+-- tables with other requests and postings
+with_requests : {t : Tables} {day : ℕ} {ranges : List Range} {rows : List Request}
+    {ps : List (ℕ × Posting)} →
+    HasFittingColumns t → All FitsColumns rows → All (FitsPostingColumns t.limit) ps →
+    HasFittingColumns (record t { day = day; ranges = ranges; requests = rows; postings = ps })
+with_requests h requests postings = record {
+  merchants = h.merchants;
+  terminals = h.terminals;
+  requests = requests;
+  postings = postings;
+  reconciliations = h.reconciliations;
+}
+
 module _ (opening : Opening) (t : Tables) (ranges : HasRangesApart t) (cards : HasNoSensitiveData t)
     (day : t.day ≤ last_day) where
   card_of-row : (row : Request) → In row t.requests → IsNumber row.card
@@ -251,54 +255,31 @@ module _ (opening : Opening) (t : Tables) (ranges : HasRangesApart t) (cards : H
         malformed = λ r came b. h;
         replied = λ r came given hosts b. h;
         repeated = λ row member b. h;
-        refused = λ r merchant g given hosts b. record {
-          merchants = h.merchants;
-          terminals = h.terminals;
-          requests =
-              All-push FitsColumns t.requests _ h.requests
-              (columns_of r (subst IsArrival g.came is) g.recordable _ refl refl tt refl);
-          postings = h.postings;
-          reconciliations = h.reconciliations;
-        };
-        admitted = λ r merchant g range c b. record {
-          merchants = h.merchants;
-          terminals = h.terminals;
-          requests =
-              All-push FitsColumns t.requests _ h.requests
-              (columns_of r (subst IsArrival g.came is) g.recordable _ refl refl
-              (hold_days-valid t.ranges range
-              (and_parts (list_all is_valid_range t.ranges) (are_apart t.ranges) ranges).0 c.held)
-              refl);
-          postings = h.postings;
-          reconciliations = h.reconciliations;
-        };
-        completed = λ r merchant g hold c b. record {
-          merchants = h.merchants;
-          terminals = h.terminals;
-          requests =
-              All-push FitsColumns _ _ (followed hold.key _ t.requests h.requests)
-              (columns_of r (subst IsArrival g.came is) g.recordable _ refl refl tt refl);
-          postings =
-              postings_fit t.limit t.postings (Some (completion_posting t.day r (prior_of hold)))
-              (today-names t.day r _ _ hold (key_of-fits r (subst IsArrival g.came is) g.recordable)
-              (card_of-row hold c.member))
-              (λ m on. (b.merchants m).posted on) h.postings;
-          reconciliations = h.reconciliations;
-        };
-        reversed = λ r merchant g row c b. record {
-          merchants = h.merchants;
-          terminals = h.terminals;
-          requests =
-              All-push FitsColumns _ _ (followed row.key _ t.requests h.requests)
-              (columns_of r (subst IsArrival g.came is) g.recordable _ refl refl tt refl);
-          postings =
-              postings_fit t.limit t.postings (reversal_posting t.day r (prior_of row))
-              (reversal-names t.day r row (key_of-fits r (subst IsArrival g.came is) g.recordable)
-              (card_of-row row c.member)
-              (posted_leg (reply_state_of row.status row.reply) (leg_by row.key.service row)))
-              (λ m on. (b.merchants m).posted on) h.postings;
-          reconciliations = h.reconciliations;
-        };
+        refused = λ r merchant g given hosts b. with_requests h
+            (All-push FitsColumns t.requests _ h.requests
+            (columns_of r (subst IsArrival g.came is) g.recordable _ refl refl tt refl))
+            h.postings;
+        admitted = λ r merchant g range c b. with_requests h
+            (All-push FitsColumns t.requests _ h.requests
+            (columns_of r (subst IsArrival g.came is) g.recordable _ refl refl
+            (hold_days-valid t.ranges range
+            (and_parts (list_all is_valid_range t.ranges) (are_apart t.ranges) ranges).0 c.held)
+            refl)) h.postings;
+        completed = λ r merchant g hold c b. with_requests h
+            (All-push FitsColumns _ _ (followed hold.key _ t.requests h.requests)
+            (columns_of r (subst IsArrival g.came is) g.recordable _ refl refl tt refl))
+            (postings_fit t.limit t.postings (Some (completion_posting t.day r (prior_of hold)))
+            (today-names t.day r _ _ hold (key_of-fits r (subst IsArrival g.came is) g.recordable)
+            (card_of-row hold c.member))
+            (λ m on. (b.merchants m).posted on) h.postings);
+        reversed = λ r merchant g row c b. with_requests h
+            (All-push FitsColumns _ _ (followed row.key _ t.requests h.requests)
+            (columns_of r (subst IsArrival g.came is) g.recordable _ refl refl tt refl))
+            (postings_fit t.limit t.postings (reversal_posting t.day r (prior_of row))
+            (reversal-names t.day r row (key_of-fits r (subst IsArrival g.came is) g.recordable)
+            (card_of-row row c.member)
+            (posted_leg (reply_state_of row.status row.reply) (leg_by row.key.service row)))
+            (λ m on. (b.merchants m).posted on) h.postings);
         reconciled = λ r merchant g on c b.
             let within = reconciled_day-within t.day _ on c.resolves in
             let today = day in record {
@@ -316,47 +297,23 @@ module _ (opening : Opening) (t : Tables) (ranges : HasRangesApart t) (cards : H
             };
         answered = λ moment v row c b.
             let columns : FitsColumns row =
-            All-member FitsColumns t.requests row h.requests c.member in record {
-              merchants = h.merchants;
-              terminals = h.terminals;
-              requests =
-                  All-with_changed FitsColumns row.key _ t.requests
-                  (λ x same was. record {
-                    key = was.key;
-                    amount = was.amount;
-                    hold_days = was.hold_days;
-                    hold_end =
-                        hold_end-within row.key.service moment v row.hold_days
-                        (subst IsArrival c.came is).0
-                        columns.hold_days;
-                  }) h.requests;
-              postings =
-                  postings_fit t.limit t.postings (answer_posting v (prior_of row))
-                  (answer-names v row columns.key (card_of-row row c.member))
-                  (λ m on. (b.merchants m).posted on) h.postings;
-              reconciliations = h.reconciliations;
-            };
-        cut_over = λ came before b. record {
-          merchants = h.merchants;
-          terminals = h.terminals;
-          requests = h.requests;
-          postings = h.postings;
-          reconciliations = h.reconciliations;
-        };
-        range_added = λ range came valid free b. record {
-          merchants = h.merchants;
-          terminals = h.terminals;
-          requests = h.requests;
-          postings = h.postings;
-          reconciliations = h.reconciliations;
-        };
-        range_dropped = λ low high came b. record {
-          merchants = h.merchants;
-          terminals = h.terminals;
-          requests = h.requests;
-          postings = h.postings;
-          reconciliations = h.reconciliations;
-        };
+            All-member FitsColumns t.requests row h.requests c.member in with_requests h
+            (All-with_changed FitsColumns row.key _ t.requests
+            (λ x same was. record {
+              key = was.key;
+              amount = was.amount;
+              hold_days = was.hold_days;
+              hold_end =
+                  hold_end-within row.key.service moment v row.hold_days
+                  (subst IsArrival c.came is).0
+                  columns.hold_days;
+            }) h.requests)
+            (postings_fit t.limit t.postings (answer_posting v (prior_of row))
+            (answer-names v row columns.key (card_of-row row c.member))
+            (λ m on. (b.merchants m).posted on) h.postings);
+        cut_over = λ came before b. with_requests h h.requests h.postings;
+        range_added = λ range came valid free b. with_requests h h.requests h.postings;
+        range_dropped = λ low high came b. with_requests h h.requests h.postings;
         enrolled = λ merchant came new b. record {
           merchants = All-push FitsMerchant t.merchants merchant h.merchants
               (subst IsArrival came is);
