@@ -165,7 +165,7 @@ edited_is t row changed edits i can_be s =
     let r = replaced t.requests row changed i edits s.well_formed in
     record {
       replaced = r;
-      well_formed = well_formed_changed i (edits row) can.not_completed r s.well_formed;
+      well_formed = well_formed_changed row changed i edits can.not_completed s.well_formed;
       grows = λ same. Grows-replaced r (edits row) same can.not_reversed;
       from = λ same. from_replaced s.match_rows i r (edits row) same;
     }

@@ -13,7 +13,7 @@ use Rattle.acq_message.specs.Elements.{same_key}
 use Rattle.acq_core.specs.Tables.{requests_of, admitted_in, with_changed}
 use Rattle.acq_history.specs.Entries.{is_admissible, is_reversal}
 use Rattle.acq_history.specs.Conservation.{is_reversal_leg}
-use Rattle.acq_history.proofs.Members.{In, In-first, In-push, In-map}
+use Rattle.acq_history.proofs.Members.{In, In-first, In-push, In-map, In-mapped}
 use Rattle.acq_history.proofs.Keys.{bytes_eq_itself, same_key_is, same_key_itself}
 use Rattle.acq_history.proofs.Lookups.{some_is, count-view, count-same}
 use Rattle.acq_history.proofs.RowsWithChanges.{changing, changing_kept, Edits, IsChange}
@@ -301,138 +301,123 @@ pub record IsReplaced (rows later : List Request) (p q : Request) : Type 0 where
   pub before : (x : Request) → In x later → (In x rows × (x.key ≡ p.key → ⊥)) ⊎ (q ≡ x)
   pub after : (x : Request) → In x rows → In x later ⊎ (p ≡ x)
   pub changed : In q later
-  pub admitted : (m : List ℕ) → admitted_by m later ≡ admitted_by m rows
 
--- with a row changed
-pub well_formed_changed : {day : ℕ} {merchants : List Merchant} {rows later : List Request}
-    {p q : Request} →
-    In p rows → IsChange p q → (p.status ≡ Completed → ⊥) → IsReplaced rows later p q →
-    IsWellFormed day merchants rows → IsWellFormed day merchants later
-well_formed_changed {day} {merchants} {rows} {later} {p} {q} member c incomplete r k = record {
-  keys = λ a b i j e. elim (r.before a i) [
-    | inl old ↦ elim (r.before b j) [
-      | inl older ↦ k.keys a b old.0 older.0 e
-      | inr new ↦ absurd (old.1 (e ∙ (ap (λ x. x.key) (sym new) ∙ c.key)))
-    ]
-    | inr new ↦ elim (r.before b j) [
-      | inl old ↦ absurd (old.1 (sym e ∙ (ap (λ x. x.key) (sym new) ∙ c.key)))
-      | inr newer ↦ sym new ∙ newer
-    ]
-  ];
-  references = λ a b n i j m e g. elim (r.before a i) [
-    | inl old ↦ elim (r.before b j) [
-      | inl older ↦ k.references a b n old.0 older.0 m e g
-      | inr new ↦
-          absurd (old.1
-          (ap (λ x. x.key)
-          (k.references a p n old.0 member
-          (m ∙ (ap (λ x. x.key.merchant) (sym new) ∙ ap (λ x. x.merchant) c.key)) e
-          (sym c.reference ∙ (ap (λ x. x.reference) new ∙ g)))))
-    ]
-    | inr new ↦ elim (r.before b j) [
-      | inl old ↦
-          absurd (old.1
-          (ap (λ x. x.key)
-          (k.references b p n old.0 member
-          (sym m ∙ (ap (λ x. x.key.merchant) (sym new) ∙ ap (λ x. x.merchant) c.key)) g
-          (sym c.reference ∙ (ap (λ x. x.reference) new ∙ e)))))
-      | inr newer ↦ sym new ∙ newer
-    ]
-  ];
-  given = λ a n i e. elim (r.before a i) [
-    | inl old ↦ still a.key.merchant n (k.given a n old.0 e)
-    | inr new ↦
-        still a.key.merchant n
-        (subst (λ m. IsGiven merchants rows m n)
-        (sym (ap (λ x. x.merchant) c.key) ∙ ap (λ x. x.key.merchant) new)
-        (k.given p n member (sym c.reference ∙ (ap (λ x. x.reference) new ∙ e))))
-  ];
-  admissible = λ a n i e. elim (r.before a i) [
-    | inl old ↦ k.admissible a n old.0 e
-    | inr new ↦
-        subst (λ s. is_admissible s ≡ true)
-        (sym (ap (λ x. x.service) c.key) ∙ ap (λ x. x.key.service) new)
-        (k.admissible p n member (sym c.reference ∙ (ap (λ x. x.reference) new ∙ e)))
-  ];
-  held = λ a n i d. elim (r.before a i) [
-    | inl old ↦ still_held a.key.merchant n (k.held a n old.0 d)
-    | inr new ↦
-        still_held a.key.merchant n
-        (subst (λ m. IsHeld rows m n) (same_merchant a new)
-        (k.held p n member
-        (earlier a p.key.merchant n new
-        (record {
-          merchant = sym (same_merchant a new);
-          service = d.service;
-          follows =
-              d.follows;
-        }))))
-  ];
-  one_completion = λ a b n i j d e. elim (r.before a i) [
-    | inl old ↦ elim (r.before b j) [
-      | inl older ↦ k.one_completion a b n old.0 older.0 d e
-      | inr new ↦
-          absurd (old.1
-          (ap (λ x. x.key)
-          (k.one_completion a p n old.0 member d (earlier b a.key.merchant n new e))))
-    ]
-    | inr new ↦ elim (r.before b j) [
-      | inl old ↦
-          absurd (old.1
-          (ap (λ x. x.key)
-          (k.one_completion b p n old.0 member
-          (record { merchant = refl; service = e.service; follows = e.follows })
-          (earlier a b.key.merchant n new
-          (record { merchant = sym e.merchant; service = d.service; follows = d.follows })))))
-      | inr newer ↦ sym new ∙ newer
-    ]
-  ];
-  legs = λ a i s. elim (r.before a i) [
-    | inl old ↦ k.legs a old.0 s
-    | inr new ↦
-        subst (λ l. is_reversal_leg l ≡ false) (sym c.leg ∙ ap (λ x. x.leg) new)
-        (k.legs p member
-        (ap is_reversal (ap (λ x. x.service) (sym c.key) ∙ ap (λ x. x.key.service) new) ∙ s))
-  ];
-  days = λ a i. elim (r.before a i) [
-    | inl old ↦ k.days a old.0
-    | inr new ↦ subst (λ d. d ≤ day) (sym c.day ∙ ap (λ x. x.day) new) (k.days p member)
-  ];
+-- the row that one of the later rows was made of
+record IsMadeOf (rows : List Request) (u : Request → Request) (x : Request) : Type 0 where
+  row : Request
+  member : In row rows
+  made : u row ≡ x
+  change : IsChange row x
+
+-- a completion was one before
+completed_before : {rows : List Request} {u : Request → Request} {x : Request}
+    (o : IsMadeOf rows u x) (m : List ℕ) (n : ℕ) → IsCompleting x m n → IsCompleting o.row m n
+completed_before o m n c = record {
+  merchant = sym (ap (λ k. k.merchant) o.change.key) ∙ c.merchant;
+  service = sym (ap (λ k. k.service) o.change.key) ∙ c.service;
+  follows = sym o.change.follows ∙ c.follows;
+}
+
+-- with a row changed that is no completed hold
+pub well_formed_changed : {day : ℕ} {merchants : List Merchant} {rows : List Request} (p : Request)
+    (changed : Request → Request) →
+    In p rows → Edits changed → (p.status ≡ Completed → ⊥) → IsWellFormed day merchants rows →
+    IsWellFormed day merchants (with_changed p.key changed rows)
+well_formed_changed {day} {merchants} {rows} p changed member edits incomplete k = record {
+  keys = λ a b i j e.
+      let x = of a i in
+      let y = of b j in
+      one a b x y (k.keys x.row y.row x.member y.member (sym x.change.key ∙ (e ∙ y.change.key)));
+  references = λ a b n i j m e g.
+      let x = of a i in
+      let y = of b j in
+      one a b x y
+      (k.references x.row y.row n x.member y.member
+      (sym (ap (λ z. z.merchant) x.change.key) ∙ (m ∙ ap (λ z. z.merchant) y.change.key))
+      (sym x.change.reference ∙ e) (sym y.change.reference ∙ g));
+  given = λ a n i e.
+      let x = of a i in
+      let g = k.given x.row n x.member (sym x.change.reference ∙ e) in
+      subst (λ z. IsGiven merchants (with_changed p.key changed rows) z.merchant n)
+      (sym x.change.key)
+      (record {
+        merchant = g.merchant;
+        enrolled = g.enrolled;
+        below = let below = g.below in let same = admitted x.row.key.merchant in omega arith;
+      });
+  admissible = λ a n i e.
+      let x = of a i in
+      subst (λ z. is_admissible z.service ≡ true) (sym x.change.key)
+      (k.admissible x.row n x.member (sym x.change.reference ∙ e));
+  held = λ a n i c.
+      let x = of a i in
+      let same : a.key.merchant ≡ x.row.key.merchant = ap (λ z. z.merchant) x.change.key in
+      let h = k.held x.row n x.member
+      (completed_before x x.row.key.merchant n
+      (record { merchant = same; service = c.service; follows = c.follows })) in
+      record {
+        hold = h.hold;
+        member = stays h.hold h.member h.completed;
+        merchant = h.merchant ∙ sym same;
+        service = h.service;
+        reference = h.reference;
+        completed = h.completed;
+      };
+  one_completion = λ a b n i j c d.
+      let x = of a i in
+      let y = of b j in
+      let same : a.key.merchant ≡ x.row.key.merchant = ap (λ z. z.merchant) x.change.key in
+      one a b x y
+      (k.one_completion x.row y.row n x.member y.member
+      (completed_before x x.row.key.merchant n
+      (record { merchant = same; service = c.service; follows = c.follows }))
+      (completed_before y x.row.key.merchant n
+      (record { merchant = d.merchant ∙ same; service = d.service; follows = d.follows })));
+  legs = λ a i s.
+      let x = of a i in
+      ap is_reversal_leg x.change.leg
+      ∙ k.legs x.row x.member (ap (λ z. is_reversal z.service) (sym x.change.key) ∙ s);
+  days = λ a i.
+      let x = of a i in subst (λ d. d ≤ day) (sym x.change.day) (k.days x.row x.member);
 }
   where
-    still : (m : List ℕ) (n : ℕ) → IsGiven merchants rows m n → IsGiven merchants later m n
-    still m n g =
+    u : Request → Request
+    u = changing p.key changed
+
+    of : (x : Request) → In x (with_changed p.key changed rows) →
+        IsMadeOf rows (changing p.key changed) x
+    of x i =
+        let o = In-mapped u x rows i in
         record {
-          merchant = g.merchant;
-          enrolled = g.enrolled;
-          below = let below = g.below in let same = r.admitted m in
-              omega arith;
+          row = o.0;
+          member = o.1;
+          made = o.2;
+          change = subst (IsChange o.0) o.2 (changing_kept p.key changed edits o.0);
         }
 
-    still_held : (m : List ℕ) (n : ℕ) → IsHeld rows m n → IsHeld later m n
-    still_held m n h = elim (r.after h.hold h.member) [
-      | inl stays ↦
-          record {
-            hold = h.hold;
-            member = stays;
-            merchant = h.merchant;
-            service = h.service;
-            reference = h.reference;
-            completed = h.completed;
-          }
-      | inr same ↦ absurd (incomplete (ap (λ x. x.status) same ∙ h.completed))
-    ]
+    one : (a b : Request) (x : IsMadeOf rows (changing p.key changed) a)
+        (y : IsMadeOf rows (changing p.key changed) b) → x.row ≡ y.row → a ≡ b
+    one a b x y e = sym x.made ∙ (ap u e ∙ y.made)
 
-    same_merchant : (a : Request) → q ≡ a → p.key.merchant ≡ a.key.merchant
-    same_merchant a new = sym (ap (λ x. x.merchant) c.key) ∙ ap (λ x. x.key.merchant) new
+    admitted : (m : List ℕ) →
+        admitted_by m (with_changed p.key changed rows) ≡ admitted_by m rows
+    admitted m =
+        ap admitted_in (requests_of-changed m p.key changed edits rows)
+        ∙ (count-view u (λ x. is_some x.reference) (requests_of m rows)
+        ∙ count-same (λ x. is_some (u x).reference) (λ x. is_some x.reference)
+        (λ x. ap is_some (changing_kept p.key changed edits x).reference) (requests_of m rows))
 
-    -- the changed row completed before what it completes
-    earlier : (a : Request) (m : List ℕ) (n : ℕ) → q ≡ a → IsCompleting a m n → IsCompleting p m n
-    earlier a m n new d = record {
-      merchant = sym (ap (λ x. x.merchant) c.key) ∙ (ap (λ x. x.key.merchant) new ∙ d.merchant);
-      service = sym (ap (λ x. x.service) c.key) ∙ (ap (λ x. x.key.service) new ∙ d.service);
-      follows = sym c.follows ∙ (ap (λ x. x.follows) new ∙ d.follows);
-    }
+    -- a completed hold is not the row that is changed
+    stays : (x : Request) → In x rows → x.status ≡ Completed →
+        In x (with_changed p.key changed rows)
+    stays x i done = step (same_key x.key p.key) refl
+      where
+        step : (b : Bool) → same_key x.key p.key ≡ b → In x (with_changed p.key changed rows)
+        step true e =
+            absurd (incomplete (ap (λ z. z.status)
+            (k.keys p x member i (sym (same_key_is x.key p.key e))) ∙ done))
+        step false e =
+            subst (λ y. In y (map u rows)) (ap (λ b. cond b (changed x) x) e) (In-map u x rows i)
 
 -- ---- what a change by key replaces
 
@@ -450,11 +435,6 @@ replaced rows p changed member edits kept = record {
   changed =
       subst (λ x. In x (map u rows)) (ap (λ b. cond b (changed p) p) (same_key_itself p.key))
       (In-map u p rows member);
-  admitted =
-      λ m. ap admitted_in (requests_of-changed m p.key changed edits rows)
-      ∙ (count-view u (λ x. is_some x.reference) (requests_of m rows)
-      ∙ count-same (λ x. is_some (u x).reference) (λ x. is_some x.reference)
-      (λ x. ap is_some (changing_kept p.key changed edits x).reference) (requests_of m rows));
 }
   where
     u : Request → Request

@@ -67,6 +67,21 @@ answered_kept status reply until row = record {
   amount = λ n e. refl;
 }
 
+pub unchanged : (row : Request) → IsChange row row
+unchanged row = record {
+  key = refl;
+  essence = refl;
+  reference = refl;
+  follows = refl;
+  leg = refl;
+  day = refl;
+  card = refl;
+  acquirer = refl;
+  hold_days = refl;
+  admitted = refl;
+  amount = λ n e. refl;
+}
+
 -- ---- the row with a key
 
 -- the change of each row
@@ -80,19 +95,7 @@ changing_kept key changed edits row = one (same_key row.key key)
   where
     one : (b : Bool) → IsChange row (cond b (changed row) row)
     one true = edits row
-    one false = record {
-      key = refl;
-      essence = refl;
-      reference = refl;
-      follows = refl;
-      leg = refl;
-      day = refl;
-      card = refl;
-      acquirer = refl;
-      hold_days = refl;
-      admitted = refl;
-      amount = λ n e. refl;
-    }
+    one false = unchanged row
 
 -- a row of the changed rows: one that has another key, or a changed one
 pub data IsChanged (key : RequestKey) (changed : Request → Request) (rows : List Request)
