@@ -193,34 +193,34 @@ not_next merchants rows m n g x =
     let next = x.next in
     omega arith
 
+-- where none of the rows is like the one more, and no two of them alike are two, so it is with it
+one_of_more : (rows : List Request) (row : Request) (alike : Request → Request → Type 0) →
+    ((a b : Request) → In a rows → In b rows → alike a b → a ≡ b) →
+    ((a : Request) → In a rows → alike a row → ⊥) → ((a : Request) → In a rows → alike row a → ⊥) →
+    (a b : Request) → In a (rows ++ row ∷ []) → In b (rows ++ row ∷ []) → alike a b → a ≡ b
+one_of_more rows row alike old before after a b i j e = elim (In-push a rows row i) [
+  | inl x ↦ elim (In-push b rows row j) [
+    | inl y ↦ old a b x y e
+    | inr y ↦ absurd (before a x (subst (alike a) (sym y) e))
+  ]
+  | inr x ↦ elim (In-push b rows row j) [
+    | inl y ↦ absurd (after b y (subst (λ z. alike z b) (sym x) e))
+    | inr y ↦ sym x ∙ y
+  ]
+]
+
 -- with a row more that fits
 pub well_formed_with_row : {day : ℕ} {merchants : List Merchant} {rows : List Request}
     {row : Request} →
     IsWellFormed day merchants rows → IsFit day merchants rows row →
     IsWellFormed day merchants (rows ++ row ∷ [])
 well_formed_with_row {day} {merchants} {rows} {row} k f = record {
-  keys = λ a b i j e. elim (In-push a rows row i) [
-    | inl old ↦ elim (In-push b rows row j) [
-      | inl older ↦ k.keys a b old older e
-      | inr new ↦ absurd (f.new a old (e ∙ ap (λ x. x.key) (sym new)))
-    ]
-    | inr new ↦ elim (In-push b rows row j) [
-      | inl old ↦ absurd (f.new b old (sym e ∙ ap (λ x. x.key) (sym new)))
-      | inr newer ↦ sym new ∙ newer
-    ]
-  ];
-  references = λ a b n i j m e g. elim (In-push a rows row i) [
-    | inl old ↦ elim (In-push b rows row j) [
-      | inl older ↦ k.references a b n old older m e g
-      | inr new ↦ absurd (fresh a n old e (m ∙ ap (λ x. x.key.merchant) (sym new))
-          (ap (λ x. x.reference) new ∙ g))
-    ]
-    | inr new ↦ elim (In-push b rows row j) [
-      | inl old ↦ absurd (fresh b n old g (sym m ∙ ap (λ x. x.key.merchant) (sym new))
-          (ap (λ x. x.reference) new ∙ e))
-      | inr newer ↦ sym new ∙ newer
-    ]
-  ];
+  keys = one_of_more rows row (λ a b. a.key ≡ b.key) k.keys f.new (λ a i e. f.new a i (sym e));
+  references = λ a b n i j m e g.
+      one_of_more rows row
+      (λ x y. (x.key.merchant ≡ y.key.merchant) × (x.reference ≡ Some n) × (y.reference ≡ Some n))
+      (λ x y p q s. k.references x y n p q s.0 s.1 s.2) (λ x p s. fresh x n p s.1 s.0 s.2)
+      (λ x p s. fresh x n p s.2 (sym s.0) s.1) a b i j (m, e, g);
   given = λ a n i e. elim (In-push a rows row i) [
     | inl old ↦ IsGiven-push merchants rows row a.key.merchant n (k.given a n old e)
     | inr new ↦
@@ -239,33 +239,14 @@ well_formed_with_row {day} {merchants} {rows} {row} k f = record {
         (IsHeld-push rows row row.key.merchant n
         (f.held n (subst (λ x. IsCompleting x x.key.merchant n) (sym new) c)))
   ];
-  one_completion = λ a b n i j c d. elim (In-push a rows row i) [
-    | inl old ↦ elim (In-push b rows row j) [
-      | inl older ↦ k.one_completion a b n old older c d
-      | inr new ↦
-          absurd (f.only a n old
-          (record {
-            merchant = refl;
-            service = ap (λ x. x.key.service) new ∙ d.service;
-            follows = ap (λ x. x.follows) new ∙ d.follows;
-          }) (record {
-            merchant = sym (ap (λ x. x.key.merchant) new ∙ d.merchant);
-            service = c.service;
-            follows =
-                c.follows;
-          }))
-    ]
-    | inr new ↦ elim (In-push b rows row j) [
-      | inl old ↦
-          absurd (f.only b n old (subst (λ x. IsCompleting x x.key.merchant n) (sym new) c)
-          (record {
-            merchant = d.merchant ∙ ap (λ x. x.key.merchant) (sym new);
-            service = d.service;
-            follows = d.follows;
-          }))
-      | inr newer ↦ sym new ∙ newer
-    ]
-  ];
+  one_completion = λ a b n i j c d.
+      one_of_more rows row
+      (λ x y. IsCompleting x x.key.merchant n × IsCompleting y x.key.merchant n)
+      (λ x y p q s. k.one_completion x y n p q s.0 s.1)
+      (λ x p s. f.only x n p
+      (record { merchant = refl; service = s.1.service; follows = s.1.follows })
+      (record { merchant = sym s.1.merchant; service = s.0.service; follows = s.0.follows }))
+      (λ x p s. f.only x n p s.0 s.1) a b i j (c, d);
   legs = λ a i s. elim (In-push a rows row i) [
     | inl old ↦ k.legs a old s
     | inr new ↦ subst (λ x. is_reversal_leg x.leg ≡ false) new
@@ -301,6 +282,31 @@ pub record IsReplaced (rows later : List Request) (p q : Request) : Type 0 where
   pub before : (x : Request) → In x later → (In x rows × (x.key ≡ p.key → ⊥)) ⊎ (q ≡ x)
   pub after : (x : Request) → In x rows → In x later ⊎ (p ≡ x)
   pub changed : In q later
+
+-- the rows in which the one with its key was changed
+pub replaced : {day : ℕ} {merchants : List Merchant} (rows : List Request) (p : Request)
+    (changed : Request → Request) →
+    In p rows → Edits changed → IsWellFormed day merchants rows →
+    IsReplaced rows (with_changed p.key changed rows) p (changed p)
+replaced rows p changed member edits kept = record {
+  before = λ x i. elim (changed_is p.key changed rows x i) [
+    | Other old other ↦ inl (old, other)
+    | Made y old e made ↦ inr (ap changed (kept.keys p y member old (sym e)) ∙ made)
+  ];
+  after = λ x i. step x i (same_key x.key p.key) refl;
+  changed =
+      subst (λ x. In x (map u rows)) (ap (λ b. cond b (changed p) p) (same_key_itself p.key))
+      (In-map u p rows member);
+}
+  where
+    u : Request → Request
+    u = changing p.key changed
+
+    step : (x : Request) → In x rows → (b : Bool) → same_key x.key p.key ≡ b →
+        In x (with_changed p.key changed rows) ⊎ (p ≡ x)
+    step x i true e = inr (kept.keys p x member i (sym (same_key_is x.key p.key e)))
+    step x i false e =
+        inl (subst (λ y. In y (map u rows)) (ap (λ b. cond b (changed x) x) e) (In-map u x rows i))
 
 -- the row that one of the later rows was made of
 record IsMadeOf (rows : List Request) (u : Request → Request) (x : Request) : Type 0 where
@@ -410,38 +416,7 @@ well_formed_changed {day} {merchants} {rows} p changed member edits incomplete k
     -- a completed hold is not the row that is changed
     stays : (x : Request) → In x rows → x.status ≡ Completed →
         In x (with_changed p.key changed rows)
-    stays x i done = step (same_key x.key p.key) refl
-      where
-        step : (b : Bool) → same_key x.key p.key ≡ b → In x (with_changed p.key changed rows)
-        step true e =
-            absurd (incomplete (ap (λ z. z.status)
-            (k.keys p x member i (sym (same_key_is x.key p.key e))) ∙ done))
-        step false e =
-            subst (λ y. In y (map u rows)) (ap (λ b. cond b (changed x) x) e) (In-map u x rows i)
-
--- ---- what a change by key replaces
-
--- the rows in which the one with its key was changed
-pub replaced : {day : ℕ} {merchants : List Merchant} (rows : List Request) (p : Request)
-    (changed : Request → Request) →
-    In p rows → Edits changed → IsWellFormed day merchants rows →
-    IsReplaced rows (with_changed p.key changed rows) p (changed p)
-replaced rows p changed member edits kept = record {
-  before = λ x i. elim (changed_is p.key changed rows x i) [
-    | Other old other ↦ inl (old, other)
-    | Made y old e made ↦ inr (ap changed (kept.keys p y member old (sym e)) ∙ made)
-  ];
-  after = λ x i. step x i (same_key x.key p.key) refl;
-  changed =
-      subst (λ x. In x (map u rows)) (ap (λ b. cond b (changed p) p) (same_key_itself p.key))
-      (In-map u p rows member);
-}
-  where
-    u : Request → Request
-    u = changing p.key changed
-
-    step : (x : Request) → In x rows → (b : Bool) → same_key x.key p.key ≡ b →
-        In x (with_changed p.key changed rows) ⊎ (p ≡ x)
-    step x i true e = inr (kept.keys p x member i (sym (same_key_is x.key p.key e)))
-    step x i false e =
-        inl (subst (λ y. In y (map u rows)) (ap (λ b. cond b (changed x) x) e) (In-map u x rows i))
+    stays x i done = elim ((replaced rows p changed member edits k).after x i) [
+      | inl there ↦ there
+      | inr same ↦ absurd (incomplete (ap (λ z. z.status) same ∙ done))
+    ]
