@@ -35,8 +35,7 @@ use Rattle.acq_history.proofs.Members.{In, In-first, In-last, In-push, from_In, 
 use Rattle.acq_history.proofs.FoundRows.{IsNew}
 use Rattle.acq_history.proofs.PostingsOfRequests.{is_posted, is_reversed, posted_by, posted}
 use Rattle.acq_history.proofs.PostingsOfRequests.{IsPostingOf, HasPosted, PostingsMatchRows, Grows}
-use Rattle.acq_history.proofs.PostingsOfRequests.{FromBefore, FromBeforeOr, unposted, posted_first}
-use Rattle.acq_history.proofs.PostingsOfRequests.{posted_reversal}
+use Rattle.acq_history.proofs.PostingsOfRequests.{FromBefore, FromBeforeOr, unposted, posted_next}
 use Rattle.acq_history.proofs.RowsStayWellFormed.{IsWellFormed, IsFit, IsCompleting, IsReplaced}
 use Rattle.acq_history.proofs.RowsStayWellFormed.{well_formed_later, well_formed_with_merchant}
 use Rattle.acq_history.proofs.RowsStayWellFormed.{well_formed_with_row, well_formed_changed}
@@ -220,15 +219,17 @@ sound_completed t r merchant hold g c s = record {
     dated = omega arith;
   });
   match_rows =
-      posted_first s.match_rows
+      posted_next s.match_rows
       (Grows-both (e.grows (λ k f. same_posted ∙ f)) (Grows-push (edited t hold done) row)) from
       (record {
+        reversal = false;
         leg = refl;
+        reverses = λ yes. absurd (cc);
         first =
             λ h. none_posted hold c.number s.well_formed c.member c.reference
             (unposted_by hold is.0) incomplete
-            (subst (λ k. HasPosted t.requests hold.key.merchant k) number
-            (subst (λ m. HasPosted t.requests m posting.reference) (sym c.own) h));
+            (subst (λ k. HasPosted false t.requests hold.key.merchant k) number
+            (subst (λ m. HasPosted false t.requests m posting.reference) (sym c.own) h));
         made =
             record {
               row = row;
@@ -355,8 +356,9 @@ sound_reversed t r merchant row g c s = record {
         let original = s.match_rows.there row of.number c.member under in
         let on = s.well_formed.days row c.member in
         let at = original.of.day in
-        posted_reversal s.match_rows grows from
+        posted_next s.match_rows grows (λ x k j e. inl (from x k j e))
         (record {
+          reversal = true;
           leg = reversal_leg_is leg
               (ap is_reversal_leg of.same ∙ s.well_formed.legs row c.member of.service);
           first = λ h.
@@ -376,14 +378,16 @@ sound_reversed t r merchant row g c s = record {
                 (posted (undone row row)) None) was.0
                 ∙ (same_posted ∙ (under ∙ ap (λ k. Some k) (sym number)));
           };
-          original = original.posting;
-          member = original.member;
-          merchant = original.of.merchant ∙ c.own;
-          reference = original.of.reference ∙ sym number;
-          same_leg = ap reversal_leg (original.of.leg ∙ sym of.same);
-          amount = original.of.amount;
-          card = original.of.card;
-          day = omega arith;
+          reverses = λ yes. record {
+            original = original.posting;
+            member = original.member;
+            merchant = original.of.merchant ∙ c.own;
+            reference = original.of.reference ∙ sym number;
+            leg = ap reversal_leg (original.of.leg ∙ sym of.same);
+            amount = original.of.amount;
+            card = original.of.card;
+            day = omega arith;
+          };
         })
 
 -- ---- an answer
@@ -413,12 +417,14 @@ sound_sold : (t : Tables) (row : Request) (n : ℕ) (leg : Leg) (reply : IsoMess
 sound_sold t row n leg reply until i pending reference legged s = record {
   well_formed = e.well_formed;
   match_rows =
-      posted_first s.match_rows (e.grows (λ k f. absurd (let none = unposted_yet in cc)))
+      posted_next s.match_rows (e.grows (λ k f. absurd (let none = unposted_yet in cc)))
       from (record {
+        reversal = false;
+        reverses = λ yes. absurd (cc);
         leg = ap is_reversal_leg of.same ∙ s.well_formed.legs row i of.service;
         first =
             λ h. none_posted row n s.well_formed i reference unposted_yet incomplete
-            (subst (λ k. HasPosted t.requests row.key.merchant k) number h);
+            (subst (λ k. HasPosted false t.requests row.key.merchant k) number h);
         made = record {
           row = answered_row status.Approved reply until row;
           member = e.replaced.changed;
@@ -574,8 +580,7 @@ sound_new opening = record {
       };
   match_rows =
       record {
-        originals = λ x i l. absurd i;
-        reversals = λ x i l. absurd i;
+        made = λ x i. absurd i;
         there = λ row n i e. absurd i;
         at_most_one = λ m n reversal. omega arith;
         matched = λ x i l. absurd i;

@@ -26,9 +26,11 @@ use Rattle.acq_history.proofs.Members.{In, In-first, In-push}
 use Rattle.acq_history.proofs.PostingsOfRequests.{is_posted, is_reversed, posted_by, posted}
 use Rattle.acq_history.proofs.PostingsOfRequests.{reversed_under, HasPosted, HasPosting}
 use Rattle.acq_history.proofs.PostingsOfRequests.{PostingsMatchRows, Grows, FromBefore, unposted}
+use Rattle.acq_history.proofs.PostingsOfRequests.{under_by}
 use Rattle.acq_history.proofs.RowsStayWellFormed.{IsWellFormed, IsReplaced}
 use Rattle.acq_history.proofs.Statuses.{is_approved_is}
 use Rattle.acq_history.proofs.RowsWithChanges.{IsChange}
+use Rattle.acq_history.proofs.Lookups.{clash}
 
 -- ---- what has posted
 
@@ -210,7 +212,7 @@ once_posted {rows = rows} a b n k i j m e f = step (posted_as a.key.service a n 
 pub none_posted : {day : ℕ} {merchants : List Merchant} {rows : List Request} (row : Request)
     (n : ℕ) →
     IsWellFormed day merchants rows → In row rows → row.reference ≡ Some n → posted row ≡ None →
-    (row.status ≡ Completed → ⊥) → HasPosted rows row.key.merchant n → ⊥
+    (row.status ≡ Completed → ⊥) → HasPosted false rows row.key.merchant n → ⊥
 none_posted row n k i e none incomplete h =
     step (posted_as h.row.key.service h.row n h.under)
   where
@@ -230,15 +232,8 @@ none_posted row n k i e none incomplete h =
 -- nothing is lost by a row more
 pub Grows-push : (rows : List Request) (row : Request) → Grows rows (rows ++ row ∷ [])
 Grows-push rows row = record {
-  posted_on =
-      λ m n h. record {
-        row = h.row;
-        member = In-first h.row rows _ h.member;
-        merchant = h.merchant;
-        under = h.under;
-      };
-  reversed_on =
-      λ m n h. record {
+  stays =
+      λ reversal m n h. record {
         row = h.row;
         member = In-first h.row rows _ h.member;
         merchant = h.merchant;
@@ -249,10 +244,7 @@ Grows-push rows row = record {
 -- nor over two steps
 pub Grows-both : {rows mid later : List Request} → Grows rows mid → Grows mid later →
     Grows rows later
-Grows-both a b = record {
-  posted_on = λ m n h. b.posted_on m n (a.posted_on m n h);
-  reversed_on = λ m n h. b.reversed_on m n (a.reversed_on m n h);
-}
+Grows-both a b = record { stays = λ reversal m n h. b.stays reversal m n (a.stays reversal m n h) }
 
 -- a row more that has posted nothing
 pub from_push : (rows : List Request) (row : Request) (ps : List (ℕ × Posting)) →
@@ -277,23 +269,21 @@ pub Grows-replaced : {rows later : List Request} {p q : Request} → IsReplaced 
     ((n : ℕ) → posted p ≡ Some n → posted q ≡ Some n) → is_reversed p.status ≡ false →
     Grows rows later
 Grows-replaced {p = p} {q = q} r c same none = record {
-  posted_on = λ m n h. elim (r.after h.row h.member) [
+  stays = λ reversal m n h. elim (r.after h.row h.member) [
     | inl stays ↦ record { row = h.row; member = stays; merchant = h.merchant; under = h.under }
     | inr e ↦
         record {
           row = q;
           member = r.changed;
           merchant = ap (λ x. x.merchant) c.key ∙ (ap (λ x. x.key.merchant) e ∙ h.merchant);
-          under = same n (ap posted e ∙ h.under);
+          under = kept reversal n (ap (under_by reversal) e ∙ h.under);
         }
   ];
-  reversed_on = λ m n h. elim (r.after h.row h.member) [
-    | inl stays ↦ record { row = h.row; member = stays; merchant = h.merchant; under = h.under }
-    | inr e ↦
-        absurd (let yes : is_reversed p.status ≡ true = ap (λ x. is_reversed x.status) e
-        ∙ (reversed_as h.row n h.under).0 in cc)
-  ];
 }
+  where
+    kept : (reversal : Bool) (n : ℕ) → under_by reversal p ≡ Some n → under_by reversal q ≡ Some n
+    kept false n e = same n e
+    kept true n e = clash (is_reversed p.status) (reversed_as p n e).0 none
 
 -- a changed row has the same posting
 HasPosting-change : (ps : List (ℕ × Posting)) (p q : Request) (n : ℕ) → IsChange p q →
