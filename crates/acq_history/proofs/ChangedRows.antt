@@ -48,8 +48,8 @@ same_found : (h : List Entry) (f g : Found) → IsFoundAgain h f → recorded (k
     key_in f ≡ key_in g → f ≡ g
 same_found h f g again own keys = some_is f g (sym again.own ∙ (ap (λ k. recorded k h) keys ∙ own))
 
--- an edit of the one row that stands for a request says what the history says of it one entry later,
--- where that entry leaves all others
+-- an edit of the one row that stands for a request says what the history says of it one entry
+-- later, where that entry leaves all others
 edit_follows : (h : List Entry) (e : Entry) (g : Found) (changed : Request → Request) →
     Edits changed → recorded (key_in g) h ≡ Some g →
     ((a : Request) → prior_of a ≡ prior g → prior_of (changed a) ≡ prior (aged e g)) →

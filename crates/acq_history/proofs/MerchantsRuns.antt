@@ -41,10 +41,10 @@ IsStep opening m t h a =
     × Agrees opening m (step_tables t a) (entry_for opening h a ∷ h)
 
 -- an event of the merchant's, or a shared one, has the same output, and the agreement stays
-pub own_step : (opening : Opening) (m : List ℕ) (t : Tables) (h : List Entry) →
+pub own_step : {opening : Opening} {m : List ℕ} {t : Tables} {h : List Entry} →
     Agrees opening m t h → (a : Arrival) →
     (is_of (Some m) a || is_shared a) ≡ true → IsStep opening m t h a
-own_step opening m t h g a mine =
+own_step {opening} {m} {t} {h} g a mine =
     let step : (b : Bool) → names (merchant_named a) m ≡ b → (b || is_shared a) ≡ true →
     IsStep opening m t h a =
     elim [
@@ -57,12 +57,11 @@ own_step opening m t h g a mine =
 keeps_agreement : (opening : Opening) (m : List ℕ) →
     KeepsAgreement opening (Some m) (Agrees opening m)
 keeps_agreement opening m = record {
-  own_event = λ t h e g mine. own_step opening m t h g (arrival_of e)
+  own_event = λ t h e g mine. own_step g (arrival_of e)
       (ap (λ b. b || is_shared (arrival_of e)) mine);
   shared_event = λ t h e g shared. (step_shared g (arrival_of e) shared).1;
   other_event = λ t h e g other alone.
-      alike_agrees opening m t (step_tables t (arrival_of e)) h
-      (other_step m t (arrival_of e) (naming_of e) other alone) g;
+      alike_agrees (other_step m t (arrival_of e) (naming_of e) other alone) g;
 }
 
 -- from a new book

@@ -137,78 +137,66 @@ idle_line r e h given reply s replied admitted accepted state reversible closed 
     } in
     λ i. ((whole ∙ sym (prior_newest r e h)) i, sym (idle_reference f admitted accepted) i)
 
--- an authorization, a sale or a return that is admitted
-pub admitted_line : (moment : ℕ) (s : Service) (message : IsoMessage) (range : Range) (n : ℕ)
-    (query : Query)
-    (e : Entry) (h : List Entry) →
-    let r : RequestMessage = record { moment = moment; service = s; message = message } in
-    is_admissible s ≡ true → e.outcome ≡ Asked query → is_admitted (newest r e h) ≡ true →
-    n ≡ next_reference h →
-    range_of_prefix e.ranges (prefix_of (or_empty (card_of message))) ≡ Some range →
-    line (admitted_row e.day r range n) ≡ shown (newest r e h)
-admitted_line moment Authorization message range n query e h fits asked adm is in_range =
-    let r : RequestMessage = record { moment = moment; service = Authorization; message = message }
-    in
-    let f = newest r e h in
-    let row = admitted_row e.day r range n in
-    let reference : Some n ≡ reference_of f = λ i. cond (sym adm i) (Some (is i)) None in
-    let whole : prior_of row ≡ prior_by untouched f = λ i. record {
-      key = key_of r.service r.message;
-      essence = essence_of r.service r.message;
-      day = e.day;
-      amount = amount_in r.message;
-      leg = None;
-      card = card_of message;
-      acquirer = content_of r.message.elements 32;
-      reference = reference i;
-      hold_days = cond (sym adm i) (option_map (λ range. range.hold_days) (sym in_range i)) None;
-      reply_state =
-          ((λ i. Awaited (draft_reply e.day r (is i)))
-          ∙ (λ i. (prior_by untouched
-          (newest r (record e { outcome = sym asked i }) h)).reply_state)) i;
-      is_reversible = (sym adm i || false) && true && true && true;
-      hold_end = None;
-    } in
-    λ i. ((whole ∙ sym (prior_newest r e h)) i, reference i)
-admitted_line moment Financial message range n query e h fits asked adm is in_range =
-    let r : RequestMessage = record { moment = moment; service = Financial; message = message } in
-    let f = newest r e h in
-    let row = admitted_row e.day r range n in
-    let reference : Some n ≡ reference_of f = λ i. cond (sym adm i) (Some (is i)) None in
-    let whole : prior_of row ≡ prior_by untouched f = λ i. record {
-      key = key_of r.service r.message;
-      essence = essence_of r.service r.message;
-      day = e.day;
-      amount = amount_in r.message;
-      leg = cond (sym adm i) (Some (sale_leg message)) None;
-      card = card_of message;
-      acquirer = content_of r.message.elements 32;
-      reference = reference i;
-      hold_days = cond (sym adm i) (option_map (λ range. range.hold_days) (sym in_range i)) None;
-      reply_state =
-          ((λ i. Awaited (draft_reply e.day r (is i)))
-          ∙ (λ i. (prior_by untouched
-          (newest r (record e { outcome = sym asked i }) h)).reply_state)) i;
-      is_reversible = (sym adm i || false) && true && true && true;
-      hold_end = None;
-    } in
-    λ i. ((whole ∙ sym (prior_newest r e h)) i, reference i)
-admitted_line moment service message range n query e h fits asked adm is in_range = absurd (cc)
-
--- ---- the hold that is completed
-
--- a hold shows its own reference
-hold_reference : (g : Found) (n : ℕ) (s : Service) → is_admissible s ≡ true →
+-- what is admitted shows its own reference and its own card
+own_reference : (g : Found) (n : ℕ) (s : Service) → is_admissible s ≡ true →
     reference_of g ≡ Some n →
     reference_by s g ≡ Some n
-hold_reference g n Completion fits is = absurd (cc)
-hold_reference g n service fits is = is
+own_reference g n Completion fits is = absurd (cc)
+own_reference g n service fits is = is
 
--- and its own card
-hold_card : (g : Found) (s : Service) → is_admissible s ≡ true →
+own_card : (g : Found) (s : Service) → is_admissible s ≡ true →
     card_by s g ≡ card_of g.request.message
-hold_card g Completion fits = absurd (cc)
-hold_card g service fits = refl
+own_card g Completion fits = absurd (cc)
+own_card g service fits = refl
+
+row_reference_admitted : (row : Request) (s : Service) → is_admissible s ≡ true →
+    tables.reference_by s row ≡ row.reference
+row_reference_admitted row Completion fits = absurd (cc)
+row_reference_admitted row service fits = refl
+
+-- a sale and a return have a leg
+admitted_leg_is : (moment : ℕ) (s : Service) (message : IsoMessage) (range : Range) (n : ℕ)
+    (e : Entry) (h : List Entry) →
+    let r : RequestMessage = record { moment = moment; service = s; message = message } in
+    is_admissible s ≡ true → is_admitted (newest r e h) ≡ true →
+    tables.leg_by s (admitted_row e.day r range n) ≡ leg_by s (newest r e h)
+admitted_leg_is moment Authorization message range n e h fits adm = refl
+admitted_leg_is moment Financial message range n e h fits adm =
+    λ i. cond (sym adm i) (Some (sale_leg message)) None
+admitted_leg_is moment service message range n e h fits adm = absurd (cc)
+
+-- an authorization, a sale or a return that is admitted
+pub admitted_line : (r : RequestMessage) (range : Range) (n : ℕ) (query : Query) (e : Entry)
+    (h : List Entry) →
+    is_admissible r.service ≡ true → e.outcome ≡ Asked query → is_admitted (newest r e h) ≡ true →
+    n ≡ next_reference h →
+    range_of_prefix e.ranges (prefix_of (or_empty (card_of r.message))) ≡ Some range →
+    line (admitted_row e.day r range n) ≡ shown (newest r e h)
+admitted_line r range n query e h fits asked adm is in_range =
+    let f = newest r e h in
+    let row = admitted_row e.day r range n in
+    let reference : Some n ≡ reference_of f = λ i. cond (sym adm i) (Some (is i)) None in
+    let whole : prior_of row ≡ prior_by untouched f = λ i. record {
+      key = key_of r.service r.message;
+      essence = essence_of r.service r.message;
+      day = e.day;
+      amount = amount_in r.message;
+      leg = admitted_leg_is r.moment r.service r.message range n e h fits adm i;
+      card = sym (own_card f r.service fits) i;
+      acquirer = content_of r.message.elements 32;
+      reference = (row_reference_admitted row r.service fits
+          ∙ sym (own_reference f n r.service fits (sym reference))) i;
+      hold_days = cond (sym adm i) (option_map (λ range. range.hold_days) (sym in_range i)) None;
+      reply_state =
+          ((λ i. Awaited (draft_reply e.day r (is i)))
+          ∙ (λ i. (prior_by untouched
+          (newest r (record e { outcome = sym asked i }) h)).reply_state)) i;
+      is_reversible = (sym adm i || is_accepted f) && true && true && true;
+      hold_end = (row_open row refl r.service ∙ sym (idle_open r.service (hold_days_of f))) i;
+    } in
+    λ i. ((whole ∙ sym (prior_newest r e h)) i, reference i)
+
+-- ---- the hold that is completed
 
 -- what has a reference is an authorization, a sale or a return
 pub admissible_is : (g : Found) (n : ℕ) → reference_of g ≡ Some n →
@@ -231,9 +219,9 @@ completed_line moment message hold n g e h replied asks found numbered is =
     let x : Outcome → Found = λ o. newest r (record e { outcome = o }) h in
     let fits = admissible_is g n numbered in
     let reference : hold.reference ≡ Some n =
-    ap (λ p. p.reference) (sym is) ∙ hold_reference g n g.request.service fits numbered in
+    ap (λ p. p.reference) (sym is) ∙ own_reference g n g.request.service fits numbered in
     let card : hold.card ≡ card_of g.request.message = ap (λ p. p.card) (sym is)
-    ∙ hold_card g g.request.service fits in
+    ∙ own_card g g.request.service fits in
     let holding : option_and_then (λ n. referred n h) (reference_in message) ≡ Some g =
     ap (option_and_then (λ n. referred n h)) asks ∙ found in
     let row = completion_row e.day r hold in

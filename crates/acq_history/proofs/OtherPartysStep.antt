@@ -59,9 +59,9 @@ pub record Alike (m : List ℕ) (t u : Tables) : Type 0 where
   pub posted : postings_of m u.postings ≡ postings_of m t.postings
 
 -- what one merchant can't tell apart agrees with the same history
-pub alike_agrees : (opening : Opening) (m : List ℕ) (t u : Tables) (h : List Entry) → Alike m t u →
+pub alike_agrees : {opening : Opening} {m : List ℕ} {t u : Tables} {h : List Entry} → Alike m t u →
     Agrees opening m t h → Agrees opening m u h
-alike_agrees opening m t u h like g = record {
+alike_agrees like g = record {
   common = record {
     bounded = like.limit ∙ g.common.bounded;
     day = like.day ∙ g.common.day;

@@ -319,7 +319,7 @@ module _ {opening : Opening} {m : List ℕ} {t : Tables} {h : List Entry}
               past = refl;
               mine = own_row r named;
               same =
-                  admitted_line r.moment r.service r.message range n query e h fits
+                  admitted_line r range n query e h fits
                   (λ i. Asked query) own_admission next
                   (ap (range_of_prefix (ranges_after h)) prefix ∙ card.2);
               counts = λ i. sym admission i || is_acceptance e;
@@ -417,7 +417,8 @@ module _ {opening : Opening} {m : List ℕ} {t : Tables} {h : List Entry}
       record {
         common = common_still (Requested r) o refl g.common;
         rows =
-            rows_joined m (with_changed p.key (followed_row (reversed_status p.reply_state)) t.requests)
+            rows_joined m
+            (with_changed p.key (followed_row (reversed_status p.reply_state)) t.requests)
             (reversal_row day r p) e h
             (record {
               request = r;
@@ -430,7 +431,8 @@ module _ {opening : Opening} {m : List ℕ} {t : Tables} {h : List Entry}
               day = refl;
               enrolled = λ a. clash (is_admission e h) a admission;
             })
-            (without_newest_edited m t.requests e h p.key (followed_row (reversed_status p.reply_state))
+            (without_newest_edited m t.requests e h p.key
+            (followed_row (reversed_status p.reply_state))
             (followed_kept (reversed_status p.reply_state))
             (reversal_follows h key f p found.1 found.2 r day
             (ranges_after h) reply came fits asked.1 reversible) g.rows);

@@ -95,8 +95,8 @@ module _ (opening : Opening) (m : List ℕ) where
   same_outputs t h k g f (e ∷ es) mine =
       let a = arrival_of e in
       let both = and_parts (is_own e) (list_all is_own es) mine in
-      let s = own_step opening m t h g a both.0 in
-      let r = own_step opening m t k f a both.0 in
+      let s = own_step g a both.0 in
+      let r = own_step f a both.0 in
       let rest =
       same_outputs (step_tables t a) (entry_for opening h a ∷ h) (entry_for opening k a ∷ k) s.1 r.1
       es both.1 in
@@ -113,7 +113,7 @@ module _ (opening : Opening) (m : List ℕ) where
       let a = arrival_of e in
       let x = entry_for opening h a in
       let both = and_parts (is_own e) (list_all is_own es) mine in
-      let s = own_step opening m t h g a both.0 in
+      let s = own_step g a both.0 in
       let rest = without_repeats opening (x ∷ h) outs es in
       let besides = outputs_besides opening (Some m) (x ∷ h) outs es in
       let step : (b : Bool) → (out && is_by_key h a) ≡ b →
@@ -127,7 +127,7 @@ module _ (opening : Opening) (m : List ℕ) where
             ∙ ap (after_any t) none in
             quiet t (x ∷ h) k (subst (λ u. Agrees opening m u (x ∷ h)) stays s.1) f outs es both.1)
         | false ↦ (λ c.
-            let r = own_step opening m t k f a both.0 in
+            let r = own_step f a both.0 in
             let later = quiet (step_tables t a) (x ∷ h) (entry_for opening k a ∷ k) s.1 r.1 outs es
             both.1 in
             λ i. cond (is_of (Some m) a) ((sym r.0 ∙ s.0) i ∷ later i) (later i))
