@@ -406,6 +406,20 @@ sound_answered_unposted t row st reply until i pending same s =
       match_rows = unposted s.match_rows (e.grows (λ k f. same ∙ f)) (e.from same);
     }
 
+-- what an approval posts under a leg
+abbrev sold : Request → Leg → Posting
+sold row leg =
+    record {
+      merchant = row.key.merchant;
+      day = row.day;
+      leg = leg;
+      amount = row.amount;
+      reference = or_zero (reference_by row.key.service row);
+      card = or_empty row.card;
+      terminal = row.key.terminal;
+      trace = row.key.trace;
+    }
+
 -- an approval of a sale or return
 sound_sold : (t : Tables) (row : Request) (n : ℕ) (leg : Leg) (reply : IsoMessage)
     (until : Option ℕ) →
@@ -458,34 +472,12 @@ sound_sold t row n leg reply until i pending reference legged s = record {
     number : or_zero (reference_by row.key.service row) ≡ n
     number = ap or_zero (ap (λ k. reference_by k row) kind ∙ reference)
 
-    posting : Posting
-    posting =
-        record {
-          merchant = row.key.merchant;
-          day = row.day;
-          leg = leg;
-          amount = row.amount;
-          reference = or_zero (reference_by row.key.service row);
-          card = or_empty row.card;
-          terminal = row.key.terminal;
-          trace = row.key.trace;
-        }
-
-    from : FromBeforeOr t.postings
-        (record {
-          merchant = row.key.merchant;
-          day = row.day;
-          leg = leg;
-          amount = row.amount;
-          reference = or_zero (reference_by row.key.service row);
-          card = or_empty row.card;
-          terminal = row.key.terminal;
-          trace = row.key.trace;
-        }) (edited t row (answered_row status.Approved reply until))
+    from : FromBeforeOr t.postings (sold row leg)
+        (edited t row (answered_row status.Approved reply until))
     from x k j f = elim (e.replaced.before x j) [
       | inl old ↦ inl (s.match_rows.there x k old.0 f)
       | inr changed ↦
-          let mine : IsPostingOf posting (answered_row status.Approved reply until row) k =
+          let mine : IsPostingOf (sold row leg) (answered_row status.Approved reply until row) k =
           record {
             merchant = refl;
             reference = number ∙ some_is n k (sym now ∙ (ap posted changed ∙ f));
@@ -494,7 +486,7 @@ sound_sold t row n leg reply until i pending reference legged s = record {
             card = refl;
             day = refl;
           } in
-          inr (subst (λ y. IsPostingOf posting y k) changed mine)
+          inr (subst (λ y. IsPostingOf (sold row leg) y k) changed mine)
     ]
 
 -- an approval

@@ -49,29 +49,25 @@ named_clash None there alone = absurd (cc)
 named_clash (Some n) there alone = absurd (cc)
 
 module _ (opening : Opening) (t : Tables) (h : List Entry) (s : AgreesInShared opening t h) where
+  -- what all share is the same by the tables and by the history
+  shared_facts : facts_in t [] ≡ record (facts_in t []) {
+    today = day_after opening.first_day h;
+    limit = opening.limit;
+    overlapped = λ low high. overlapped_by (between low high) (ranges_after h);
+  }
+  shared_facts = λ i. record (facts_in t []) {
+    today = s.day i;
+    limit = s.bounded i;
+    overlapped = λ low high. overlapped_by (between low high) (s.ranges i);
+  }
+
   -- what a shared event may know is the same by the tables and by the history
   known_of_nobody : (a : Arrival) → is_shared a ≡ true → known_in t a ≡ known_by opening h a
-  known_of_nobody CutOver shared =
-      λ i. known_for (wanted_by (s.day i) CutOver)
-      (record (facts_in t []) {
-        today = s.day i;
-        limit = s.bounded i;
-        overlapped = λ low high. overlapped_by (between low high) (s.ranges i);
-      })
+  known_of_nobody CutOver shared = λ i. known_for (wanted_by (s.day i) CutOver) (shared_facts i)
   known_of_nobody (RangeAdded range) shared =
-      λ i. known_for (wanted_by (s.day i) (RangeAdded range))
-      (record (facts_in t []) {
-        today = s.day i;
-        limit = s.bounded i;
-        overlapped = λ low high. overlapped_by (between low high) (s.ranges i);
-      })
+      λ i. known_for (wanted_by (s.day i) (RangeAdded range)) (shared_facts i)
   known_of_nobody (RangeDropped low high) shared =
-      λ i. known_for (wanted_by (s.day i) (RangeDropped low high))
-      (record (facts_in t []) {
-        today = s.day i;
-        limit = s.bounded i;
-        overlapped = λ low high. overlapped_by (between low high) (s.ranges i);
-      })
+      λ i. known_for (wanted_by (s.day i) (RangeDropped low high)) (shared_facts i)
   known_of_nobody other shared = absurd (cc)
 
   -- a decision keeps the agreement in what all share

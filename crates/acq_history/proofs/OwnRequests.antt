@@ -28,11 +28,10 @@ use Rattle.acq_core.specs.Decision.{Decision, Refuses, Admits, Completes, Revers
 use Rattle.acq_core.specs.Outcome.{Outcome, Replied, Asked, outcome_of, is_in_balance, balance_code}
 use Rattle.acq_core.specs.Outcome.{query_of}
 use Rattle.acq_message.specs.Reply.{coded_reply, referring_reply, totals_reply}
-use Rattle.acq_core.specs.Changes.{reversed_status, change_of, refused_row, admitted_row}
-use Rattle.acq_core.specs.Changes.{completion_row, reversal_row, reconciliation_row}
+use Rattle.acq_core.specs.Changes.{reversed_status, change_of, refused_row, reconciliation_row}
 use Rattle.acq_core.specs.Changes.{completion_posting, reversal_posting}
-use Rattle.acq_core.specs.Tables.{Opening, Tables, postings_of, with_next_posting, with_changed}
-use Rattle.acq_core.specs.Tables.{after_any, followed_row}
+use Rattle.acq_core.specs.Tables.{Opening, Tables, postings_of, with_next_posting, after_any}
+use Rattle.acq_core.specs.Tables.{followed_row}
 use Rattle.acq_history.specs.Entries.{Entry, request_of, is_code, is_asked, is_approved}
 use Rattle.acq_history.specs.Entries.{is_past_merchant, accepts, is_acceptable, is_acceptance}
 use Rattle.acq_history.specs.Entries.{is_admissible, is_reversal}
@@ -170,10 +169,10 @@ module _ {opening : Opening} {m : List ℕ} {t : Tables} {h : List Entry}
         common =
             common_still (Requested r) o quiet.performed g.common;
         rows =
-            rows_still m t.requests e h quiet.accepted
+            rows_still quiet.accepted
             (admits_not (request_of (Requested r)) e h quiet.asked)
             (unrecorded r o quiet (request_of (Requested r)) refl)
-            (without_newest_still m t.requests e h quiet.accepted (λ n. refl) g.rows);
+            (without_newest_still quiet.accepted (λ n. refl) g.rows);
         posted =
             g.posted ∙ sym
             (ap (λ b. with_next_posting (postings h) (cond b (posting_by r.service e h r) None))
@@ -206,7 +205,7 @@ module _ {opening : Opening} {m : List ℕ} {t : Tables} {h : List Entry}
       let acceptance : is_acceptance e ≡ false =
       ap (λ rq. accepts is_acceptable rq (Replied given reply)) came ∙ accepted in
       let admission : is_admission e h ≡ false = admits_not (request_of (Requested r)) e h refl in
-      rows_joined m t.requests row e h
+      rows_joined
       (record {
         request = r;
         came = came;
@@ -218,7 +217,7 @@ module _ {opening : Opening} {m : List ℕ} {t : Tables} {h : List Entry}
         day = day;
         enrolled = λ a. clash (is_admission e h) a admission;
       })
-      (without_newest_still m t.requests e h acceptance (λ n. refl) g.rows)
+      (without_newest_still acceptance (λ n. refl) g.rows)
 
   -- it posts nothing
   idle_posted : (r : RequestMessage) (o : Outcome) → request_of (Requested r) ≡ Some r →
@@ -311,7 +310,7 @@ module _ {opening : Opening} {m : List ℕ} {t : Tables} {h : List Entry}
         common =
             common_still (Requested r)
             (Asked query) refl g.common;
-        rows = rows_joined m t.requests (admitted_row (day_after opening.first_day h) r range n) e h
+        rows = rows_joined
             (record {
               request = r;
               came = came;
@@ -326,7 +325,7 @@ module _ {opening : Opening} {m : List ℕ} {t : Tables} {h : List Entry}
               day = refl;
               enrolled = λ a. ap is_some enrolment;
             })
-            (without_newest_still m t.requests e h acceptance (λ n. refl) g.rows);
+            (without_newest_still acceptance (λ n. refl) g.rows);
         posted =
             g.posted ∙ sym (ap (λ b. with_next_posting (postings h) (cond b
             (posting_by r.service e h r) None)) acceptance);
@@ -361,8 +360,7 @@ module _ {opening : Opening} {m : List ℕ} {t : Tables} {h : List Entry}
       record {
         common = common_still (Requested r) o refl g.common;
         rows =
-            rows_joined m (with_changed hold.key (followed_row status.Completed) t.requests)
-            (completion_row day r hold) e h
+            rows_joined
             (record {
               request = r;
               came = refl;
@@ -376,7 +374,7 @@ module _ {opening : Opening} {m : List ℕ} {t : Tables} {h : List Entry}
               day = refl;
               enrolled = λ a. absurd (cc);
             })
-            (without_newest_edited m t.requests e h hold.key (followed_row status.Completed)
+            (without_newest_edited hold.key (followed_row status.Completed)
             (followed_kept status.Completed)
             (completion_follows h n f hold found.1 found.2 moment day message
             (ranges_after h) reply asked.1 ends)
@@ -417,9 +415,7 @@ module _ {opening : Opening} {m : List ℕ} {t : Tables} {h : List Entry}
       record {
         common = common_still (Requested r) o refl g.common;
         rows =
-            rows_joined m
-            (with_changed p.key (followed_row (reversed_status p.reply_state)) t.requests)
-            (reversal_row day r p) e h
+            rows_joined
             (record {
               request = r;
               came = came;
@@ -431,8 +427,7 @@ module _ {opening : Opening} {m : List ℕ} {t : Tables} {h : List Entry}
               day = refl;
               enrolled = λ a. clash (is_admission e h) a admission;
             })
-            (without_newest_edited m t.requests e h p.key
-            (followed_row (reversed_status p.reply_state))
+            (without_newest_edited p.key (followed_row (reversed_status p.reply_state))
             (followed_kept (reversed_status p.reply_state))
             (reversal_follows h key f p found.1 found.2 r day
             (ranges_after h) reply came fits asked.1 reversible) g.rows);

@@ -39,8 +39,8 @@ use Rattle.acq_message.specs.declared.response_code.ResponseCode.TheVariants as 
 use Rattle.acq_core.specs.Changes.{answered_status, answered_hold_end, change_of, change_for}
 use Rattle.acq_core.specs.Changes.{answer_posting}
 use Rattle.acq_core.specs.Tables.{Opening, Tables, prior_of, requests_of, referred_in}
-use Rattle.acq_core.specs.Tables.{with_next_posting, with_changed, after_any, known_in, step_output}
-use Rattle.acq_core.specs.Tables.{step_tables, answered_row}
+use Rattle.acq_core.specs.Tables.{with_next_posting, after_any, known_in, step_output, step_tables}
+use Rattle.acq_core.specs.Tables.{answered_row}
 use Rattle.acq_message.specs.Numbers.{is_number}
 use Rattle.acq_history.specs.Entries.{Entry, request_of, is_performed, is_answer, accepts}
 use Rattle.acq_history.specs.Entries.{is_acceptable}
@@ -156,9 +156,9 @@ module _ {opening : Opening} {m : List ℕ} {t : Tables} {h : List Entry}
       ((n : ℕ) → is_answer n (at a o) ≡ false) →
       Rows m t.requests (at a o ∷ h)
   still_rows a o none answers =
-      rows_still m t.requests (at a o) h (ap (λ rq. accepts is_acceptable rq o) none)
+      rows_still (ap (λ rq. accepts is_acceptable rq o) none)
       (ap (λ rq. admits rq (at a o) h) none) (ap (recording_first (at a o) h) none)
-      (without_newest_still m t.requests (at a o) h (ap (λ rq. accepts is_acceptable rq o) none)
+      (without_newest_still (ap (λ rq. accepts is_acceptable rq o) none)
       answers g.rows)
 
   -- such an entry that does nothing
@@ -196,10 +196,8 @@ module _ {opening : Opening} {m : List ℕ} {t : Tables} {h : List Entry}
         common = common_still a o refl
             g.common;
         rows =
-            rows_still m (with_changed p.key (answered_row (answered_status v) reply until)
-            t.requests) e h refl
-            refl refl
-            (without_newest_edited m t.requests e h p.key
+            rows_still refl refl refl
+            (without_newest_edited p.key
             (answered_row (answered_status v) reply until)
             (answered_kept (answered_status v) reply until)
             (answer_follows h n f p found.1 found.2 moment (day_after opening.first_day h) merchant

@@ -96,12 +96,12 @@ pub record RowsWithoutNewest (m : List ℕ) (rows : List Request) (e : Entry)
   pub genuine : AdmitsOnlyEnrolled h
 
 -- rows in which one was edited
-pub without_newest_edited : (m : List ℕ) (rows : List Request) (e : Entry) (h : List Entry)
+pub without_newest_edited : {m : List ℕ} {rows : List Request} {e : Entry} {h : List Entry}
     (key : RequestKey)
     (changed : Request → Request) → Edits changed → FollowsEntry (changing key changed) e h →
     Rows m rows h →
     RowsWithoutNewest m (with_changed key changed rows) e h
-without_newest_edited m rows e h key changed edits follows r =
+without_newest_edited {m} {rows} {e} {h} key changed edits follows r =
     record {
       lines =
           ap (map line) (requests_of-changed m key changed edits rows)
@@ -119,10 +119,10 @@ older_same e same [] = refl
 older_same e same (f ∷ fs) = λ i. same f i ∷ older_same e same fs i
 
 -- rows that stay as they are
-pub without_newest_still : (m : List ℕ) (rows : List Request) (e : Entry) (h : List Entry) →
+pub without_newest_still : {m : List ℕ} {rows : List Request} {e : Entry} {h : List Entry} →
     is_acceptance e ≡ false →
     ((n : ℕ) → is_answer n e ≡ false) → Rows m rows h → RowsWithoutNewest m rows e h
-without_newest_still m rows e h accepted answers r =
+without_newest_still {e = e} {h = h} accepted answers r =
     record {
       lines = r.lines ∙ sym (older_same e (shown_aged e accepted answers) (all_recorded h));
       used = r.used;
@@ -130,12 +130,12 @@ without_newest_still m rows e h accepted answers r =
     }
 
 -- nothing is recorded
-pub rows_still : (m : List ℕ) (rows : List Request) (e : Entry) (h : List Entry) →
+pub rows_still : {m : List ℕ} {rows : List Request} {e : Entry} {h : List Entry} →
     is_acceptance e ≡ false →
     is_admission e h ≡ false → recording_first e h (request_of e.arrival) ≡ [] →
     RowsWithoutNewest m rows e h →
     Rows m rows (e ∷ h)
-rows_still m rows e h accepted admission none r =
+rows_still {e = e} {h = h} accepted admission none r =
     record {
       lines =
           r.lines ∙ sym
@@ -160,10 +160,10 @@ pub record Joins (m : List ℕ) (row : Request) (e : Entry) (h : List Entry) : T
   pub enrolled : is_admission e h ≡ true → is_some (enrolled h) ≡ true
 
 -- where it records one row more
-pub rows_joined : (m : List ℕ) (rows : List Request) (row : Request) (e : Entry) (h : List Entry) →
-    Joins m row e h →
+pub rows_joined : {m : List ℕ} {rows : List Request} {row : Request} {e : Entry}
+    {h : List Entry} → Joins m row e h →
     RowsWithoutNewest m rows e h → Rows m (rows ++ row ∷ []) (e ∷ h)
-rows_joined m rows row e h j r =
+rows_joined {m} {rows} {row} {e} {h} j r =
     let mine = filter-push_in (λ a. bytes_eq a.key.merchant m) rows row j.mine in
     let first : recording_first e h (request_of e.arrival) ≡ newest j.request e h ∷ [] =
     ap (recording_first e h) j.came
