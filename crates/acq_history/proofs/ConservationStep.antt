@@ -55,14 +55,14 @@ use Rattle.acq_core.specs.declared.arrival.Arrival.{Arrival}
 use Rattle.acq_history.proofs.Runs.{kept}
 
 -- what holds of every book
-record IsSound (day : ℕ) (merchants : List Merchant) (rows : List Request)
+record AreInOrder (day : ℕ) (merchants : List Merchant) (rows : List Request)
     (ps : List (ℕ × Posting)) : Type 0 where
   well_formed : IsWellFormed day merchants rows
   match_rows : PostingsMatchRows rows ps
 
--- the tables' rows and postings are sound
-abbrev IsSoundBook : Tables → Type 0
-IsSoundBook t = IsSound t.day t.merchants t.requests t.postings
+-- the tables' rows and postings are in order
+abbrev IsInOrder : Tables → Type 0
+IsInOrder t = AreInOrder t.day t.merchants t.requests t.postings
 
 -- ---- rows that complete nothing and have no reference
 
@@ -91,8 +91,8 @@ not_completing row m n e c = let follows = c.follows in cc
 sound_with_row : (t : Tables) (row : Request) →
     IsNew t row.key → row.reference ≡ None → row.follows ≡ None →
     is_posted row.status ≡ false → is_reversal_leg row.leg ≡ false → row.day ≤ t.day →
-    IsSoundBook t →
-    IsSound t.day t.merchants (t.requests ++ row ∷ []) t.postings
+    IsInOrder t →
+    AreInOrder t.day t.merchants (t.requests ++ row ∷ []) t.postings
 sound_with_row t row new unreferred unfollowing unposting leg dated s = record {
   well_formed =
       well_formed_with_row s.well_formed
@@ -115,11 +115,11 @@ admitted_leg_is Financial m =
     ]
 admitted_leg_is service m = refl
 
--- an admission keeps a book sound
+-- an admission keeps a book in order
 sound_admitted : {a : Arrival} (t : Tables) (r : RequestMessage) (merchant : Merchant)
     (range : Range) → IsRecording t a r merchant → IsAdmission t r merchant range →
-    IsSoundBook t →
-    IsSound t.day t.merchants
+    IsInOrder t →
+    AreInOrder t.day t.merchants
     (t.requests ++ admitted_row t.day r range (next_reference t r merchant) ∷ []) t.postings
 sound_admitted t r merchant range g c s = record {
   well_formed = well_formed_with_row s.well_formed (record {
@@ -158,7 +158,7 @@ record IsEdited (t : Tables) (row : Request) (changed : Request → Request) : T
 
 -- what changes could have been reversed
 edited_is : (t : Tables) (row : Request) (changed : Request → Request) → Edits changed →
-    In row t.requests → is_reversible row.status ≡ true → IsSoundBook t → IsEdited t row changed
+    In row t.requests → is_reversible row.status ≡ true → IsInOrder t → IsEdited t row changed
 edited_is t row changed edits i can_be s =
     let can = reversible row.status row.reply can_be in
     let r = replaced t.requests row changed i edits s.well_formed in
@@ -179,11 +179,11 @@ unposted_by x f = ap (λ k. posted_by k x) f
 abbrev done : Request → Request
 done = followed_row status.Completed
 
--- a completion of an open hold keeps a book sound
+-- a completion of an open hold keeps a book in order
 sound_completed : {a : Arrival} (t : Tables) (r : RequestMessage) (merchant : Merchant)
     (hold : Request) → IsRecording t a r merchant → IsCompletion t r merchant hold →
-    IsSoundBook t →
-    IsSound t.day t.merchants (edited t hold done ++ completion_row t.day r (prior_of hold) ∷ [])
+    IsInOrder t →
+    AreInOrder t.day t.merchants (edited t hold done ++ completion_row t.day r (prior_of hold) ∷ [])
     (with_next_posting t.postings (Some (completion_posting t.day r (prior_of hold))))
 sound_completed t r merchant hold g c s = record {
   well_formed = well_formed_with_row e.well_formed (record {
@@ -296,8 +296,8 @@ not_completion x f g = let no : is_reversal x ≡ false = ap is_reversal g in cc
 
 -- so does a reversal of what can be reversed
 sound_reversed : {a : Arrival} (t : Tables) (r : RequestMessage) (merchant : Merchant)
-    (row : Request) → IsRecording t a r merchant → IsReversal t r row → IsSoundBook t →
-    IsSound t.day t.merchants
+    (row : Request) → IsRecording t a r merchant → IsReversal t r row → IsInOrder t →
+    AreInOrder t.day t.merchants
     (edited t row (undone row) ++ reversal_row t.day r (prior_of row) ∷ [])
     (with_next_posting t.postings (reversal_posting t.day r (prior_of row)))
 sound_reversed t r merchant row g c s = record {
@@ -396,8 +396,8 @@ sound_reversed t r merchant row g c s = record {
 sound_answered_unposted : (t : Tables) (row : Request) (st : Status) (reply : IsoMessage)
     (until : Option ℕ) →
     In row t.requests → row.status ≡ status.Pending →
-    posted (answered_row st reply until row) ≡ posted row → IsSoundBook t →
-    IsSound t.day t.merchants (edited t row (answered_row st reply until)) t.postings
+    posted (answered_row st reply until row) ≡ posted row → IsInOrder t →
+    AreInOrder t.day t.merchants (edited t row (answered_row st reply until)) t.postings
 sound_answered_unposted t row st reply until i pending same s =
     let e = edited_is t row (answered_row st reply until) (answered_kept st reply until) i
     (ap is_reversible pending) s in
@@ -425,8 +425,8 @@ sound_sold : (t : Tables) (row : Request) (n : ℕ) (leg : Leg) (reply : IsoMess
     (until : Option ℕ) →
     In row t.requests →
     row.status ≡ status.Pending → row.reference ≡ Some n → leg_by row.key.service row ≡ Some leg →
-    IsSoundBook t →
-    IsSound t.day t.merchants (edited t row (answered_row status.Approved reply until))
+    IsInOrder t →
+    AreInOrder t.day t.merchants (edited t row (answered_row status.Approved reply until))
     (with_next_posting t.postings (approval_posting (prior_of row) (Some leg)))
 sound_sold t row n leg reply until i pending reference legged s = record {
   well_formed = e.well_formed;
@@ -491,13 +491,13 @@ sound_sold t row n leg reply until i pending reference legged s = record {
 
 -- an approval
 sound_approved : (t : Tables) (row : Request) (n : ℕ) (reply : IsoMessage) (until : Option ℕ) →
-    In row t.requests → row.status ≡ status.Pending → row.reference ≡ Some n → IsSoundBook t →
-    IsSound t.day t.merchants (edited t row (answered_row status.Approved reply until))
+    In row t.requests → row.status ≡ status.Pending → row.reference ≡ Some n → IsInOrder t →
+    AreInOrder t.day t.merchants (edited t row (answered_row status.Approved reply until))
     (with_next_posting t.postings (approval_posting (prior_of row) (leg_by row.key.service row)))
 sound_approved t row n reply until i pending reference s = step (leg_by row.key.service row) refl
   where
     step : (o : Option Leg) → leg_by row.key.service row ≡ o →
-        IsSound t.day t.merchants (edited t row (answered_row status.Approved reply until))
+        AreInOrder t.day t.merchants (edited t row (answered_row status.Approved reply until))
         (with_next_posting t.postings (approval_posting (prior_of row) o))
     step None f =
         sound_answered_unposted t row status.Approved reply until i pending
@@ -508,8 +508,8 @@ sound_approved t row n reply until i pending reference s = step (leg_by row.key.
 -- any answer to a pending request
 sound_answered : (t : Tables) (v : Verdict) (row : Request) (n : ℕ) (reply : IsoMessage)
     (until : Option ℕ) →
-    In row t.requests → row.status ≡ status.Pending → row.reference ≡ Some n → IsSoundBook t →
-    IsSound t.day t.merchants (edited t row (answered_row (answered_status v) reply until))
+    In row t.requests → row.status ≡ status.Pending → row.reference ≡ Some n → IsInOrder t →
+    AreInOrder t.day t.merchants (edited t row (answered_row (answered_status v) reply until))
     (with_next_posting t.postings (answer_posting v (prior_of row)))
 sound_answered t (verdict.Approved id) row n reply until i pending reference s =
     sound_approved t row n reply until i pending reference s
@@ -520,10 +520,10 @@ sound_answered t v row n reply until i pending reference s =
 
 -- ---- steps
 
--- each decision keeps a book sound
-sound_step : (t : Tables) (a : Arrival) → IsSoundBook t → IsSoundBook (step_tables t a)
+-- each decision keeps a book in order
+sound_step : (t : Tables) (a : Arrival) → IsInOrder t → IsInOrder (step_tables t a)
 sound_step t a s =
-    by_step t a (λ d. IsSoundBook (after_any t (change_of (known_in t a) d)))
+    by_step t a (λ d. IsInOrder (after_any t (change_of (known_in t a) d)))
     (record {
       reported = λ o not. s;
       malformed = λ r came. s;
@@ -556,8 +556,8 @@ sound_step t a s =
           record { well_formed = s.well_formed; match_rows = s.match_rows };
     })
 
--- a new book is sound
-sound_new : (opening : Opening) → IsSoundBook (new_tables opening)
+-- a new book is in order
+sound_new : (opening : Opening) → IsInOrder (new_tables opening)
 sound_new opening = record {
   well_formed =
       record {
@@ -595,5 +595,5 @@ conserved opening es = record {
       );
 }
   where
-    sound : IsSoundBook (tables_after (new_tables opening) es)
-    sound = kept IsSoundBook sound_step (new_tables opening) es (sound_new opening)
+    sound : IsInOrder (tables_after (new_tables opening) es)
+    sound = kept IsInOrder sound_step (new_tables opening) es (sound_new opening)

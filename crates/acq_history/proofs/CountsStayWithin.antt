@@ -137,13 +137,13 @@ within_counted limit rows later ps more row r room c = record {
 -- ---- postings
 
 -- a posting of a merchant and day
-pub record IsOf (m : List ℕ) (on : ℕ) (p : Posting) : Type 0 where
+pub record IsOfDay (m : List ℕ) (on : ℕ) (p : Posting) : Type 0 where
   pub merchant : p.merchant ≡ m
   pub day : p.day ≡ on
 
 -- at most one more
 pub posted_on-next : (ps : List (ℕ × Posting)) (o : Option Posting) (merchant : List ℕ) (on : ℕ) →
-    IfSome o (IsOf merchant on) → (m : List ℕ) (day : ℕ) →
+    IfSome o (IsOfDay merchant on) → (m : List ℕ) (day : ℕ) →
     posted_on m (with_next_posting ps o) day ≤ posted_on m ps day + one_at merchant on m day
 posted_on-next ps None merchant on of m day = omega arith
 posted_on-next ps (Some p) merchant on of m day =
@@ -157,7 +157,7 @@ posted_on-next ps (Some p) merchant on of m day =
 
 -- beside a row that doesn't wait
 pub posted_on-ended : (ps : List (ℕ × Posting)) (o : Option Posting) (merchant : List ℕ) (on : ℕ) →
-    IfSome o (IsOf merchant on) → (m : List ℕ) (day : ℕ) →
+    IfSome o (IsOfDay merchant on) → (m : List ℕ) (day : ℕ) →
     posted_on m (with_next_posting ps o) day + one_if (bytes_eq merchant m && false)
     ≤ posted_on m ps day + one_at merchant on m day
 posted_on-ended ps o merchant on of m day =
@@ -206,7 +206,7 @@ module _ (key : RequestKey) (changed : Request → Request) (edits : Edits chang
   -- so what it posts takes its place
   pub within_answered : (limit : ℕ) (ps : List (ℕ × Posting)) (row : Request) (o : Option Posting) →
       In row rows →
-      row.key ≡ key → is_pending row.status ≡ true → IfSome o (IsOf row.key.merchant row.day) →
+      row.key ≡ key → is_pending row.status ≡ true → IfSome o (IsOfDay row.key.merchant row.day) →
       AreCountsWithin limit rows ps →
       AreCountsWithin limit (with_changed key changed rows) (with_next_posting ps o)
   within_answered limit ps row o member same pending of c = record {

@@ -85,10 +85,10 @@ unique_with_row rows later row same new h =
 -- ---- steps
 
 -- tables with other requests
-with_requests : {t : Tables} {rows : List Request} {ps : List (ℕ × Posting)}
+unique_with : {t : Tables} {rows : List Request} {ps : List (ℕ × Posting)}
     {rs : List (ℕ × Reconciliation)} → HasUniqueKeys t → AreUnique rows →
     HasUniqueKeys (record t { requests = rows; postings = ps; reconciliations = rs })
-with_requests h unique =
+unique_with h unique =
     record { requests = unique; merchants = h.merchants; terminals = h.terminals }
 
 pub unique_after_step : (t : Tables) (a : Arrival) → HasUniqueKeys t →
@@ -101,9 +101,9 @@ unique_after_step t a h =
       replied = λ r came given is. h;
       repeated = λ row member. h;
       refused = λ r merchant g given is.
-          with_requests h (unique_with_row t.requests t.requests _ refl g.new h.requests);
+          unique_with h (unique_with_row t.requests t.requests _ refl g.new h.requests);
       admitted = λ r merchant g range c.
-          with_requests h (unique_with_row t.requests t.requests _ refl g.new h.requests);
+          unique_with h (unique_with_row t.requests t.requests _ refl g.new h.requests);
       completed = λ r merchant g hold c.
           record {
             requests =
@@ -123,9 +123,9 @@ unique_after_step t a h =
             terminals = h.terminals;
           };
       reconciled = λ r merchant g day c.
-          with_requests h (unique_with_row t.requests t.requests _ refl g.new h.requests);
+          unique_with h (unique_with_row t.requests t.requests _ refl g.new h.requests);
       answered = λ moment v row c.
-          with_requests h
+          unique_with h
           (subst (λ ks. are_distinct same_key ks ≡ true)
           (sym (keys-with_changed row.key _ (answered_kept _ _ _) t.requests)) h.requests);
       cut_over = λ came before.

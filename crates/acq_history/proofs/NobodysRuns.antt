@@ -215,8 +215,8 @@ others_keep_shared opening t h s a naming other alone =
     step (merchant_named a) refl
 
 -- each event does to the agreement what a whole run asks of it
-keeps_agreement : (opening : Opening) → KeepsAgreement opening None (AgreesInShared opening)
-keeps_agreement opening = record {
+keeps_shared_agreement : (opening : Opening) → KeepsAgreement opening None (AgreesInShared opening)
+keeps_shared_agreement opening = record {
   own_event = λ t h e g mine.
       let a = arrival_of e in
       let both = and_parts (is_none (merchant_named a)) (not (is_shared a)) mine in
@@ -231,6 +231,6 @@ new_shared opening = record { bounded = refl; day = refl; ranges = refl }
 
 pub nobody_isolated : IsIsolated None
 nobody_isolated opening past further =
-    let run = whole_run opening None (AgreesInShared opening) (keeps_agreement opening) in
+    let run = whole_run opening None (AgreesInShared opening) (keeps_shared_agreement opening) in
     let from_new = (run (new_tables opening) [] (new_shared opening) past).1 in
     (run (book_after opening past) (history_of opening None past) from_new further).0

@@ -46,7 +46,7 @@ use Rattle.acq_history.proofs.Arrivals.{IsArrival, kept_by_events}
 use Rattle.acq_history.proofs.RowsWithChanges.{All-with_changed, All-member, followed_kept}
 use Rattle.acq_history.proofs.RowsWithChanges.{answered_kept}
 use Rattle.acq_history.proofs.AdmittedCounts.{IsCounted, admitted_in-within}
-use Rattle.acq_history.proofs.CountsStayWithin.{AreCountsWithin, IsOf, within_uncounted}
+use Rattle.acq_history.proofs.CountsStayWithin.{AreCountsWithin, IsOfDay, within_uncounted}
 use Rattle.acq_history.proofs.CountsStayWithin.{within_counted, posted_on-ended, used_on-changed}
 use Rattle.acq_history.proofs.CountsStayWithin.{pending_on-changed, within_answered}
 use Rattle.acq_core.specs.declared.terminal.Terminal.{Terminal}
@@ -78,11 +78,11 @@ sound_later today later row le s = record {
   completion = s.completion;
 }
 
--- rows with one that a completion or a reversal followed
-followed : (today : ℕ) (key : RequestKey) (st : Status) (rows : List Request) →
+-- rows with one that a completion or a reversal sound_followed
+sound_followed : (today : ℕ) (key : RequestKey) (st : Status) (rows : List Request) →
     All (IsSoundRow today) rows →
     All (IsSoundRow today) (with_changed key (followed_row st) rows)
-followed today key st rows all =
+sound_followed today key st rows all =
     All-with_changed (IsSoundRow today) key (followed_row st) rows
     (λ x same s. record {
       bounded = record {
@@ -140,11 +140,11 @@ leg_by-amount today service row leg sound is e = absurd cc
 
 -- a posting of a merchant to a day, within bounds
 record IsMade (m : List ℕ) (on : ℕ) (p : Posting) : Type 0 where
-  of : IsOf m on p
+  of : IsOfDay m on p
   amount : is_accepted_amount p.amount ≡ true
   reference : is_reference p.reference ≡ true
 
-some_of : (m : List ℕ) (on : ℕ) (o : Option Posting) → IfSome o (IsMade m on) → IfSome o (IsOf m on)
+some_of : (m : List ℕ) (on : ℕ) (o : Option Posting) → IfSome o (IsMade m on) → IfSome o (IsOfDay m on)
 some_of m on None h = tt
 some_of m on (Some p) h = h.of
 
@@ -240,7 +240,7 @@ record HasSoundNumbers (opening : Opening) (t : Tables) : Type 0 where
   counts : AreCountsWithin t.limit t.requests t.postings
 
 -- tables with other requests and postings
-with_requests : {opening : Opening} {t : Tables} {rows : List Request} {ps : List (ℕ × Posting)}
+sound_with : {opening : Opening} {t : Tables} {rows : List Request} {ps : List (ℕ × Posting)}
     {rs : List (ℕ × Reconciliation)} {ranges : List Range} {terminals : List Terminal} →
     HasSoundNumbers opening t → All (IsSoundRow t.day) rows → All (IsBoundedPosting t.day) ps →
     AreCountsWithin t.limit rows ps →
@@ -251,7 +251,7 @@ with_requests : {opening : Opening} {t : Tables} {rows : List Request} {ps : Lis
       postings = ps;
       reconciliations = rs;
     })
-with_requests h rows postings counts = record {
+sound_with h rows postings counts = record {
   limit = h.limit;
   day = h.day;
   firsts = h.firsts;
@@ -305,11 +305,11 @@ module _ (opening : Opening) (begins : IsOpening opening) where
         malformed = λ r came. h;
         replied = λ r came given hosts. h;
         repeated = λ row member. h;
-        refused = λ r merchant g given hosts. with_requests h
+        refused = λ r merchant g given hosts. sound_with h
             (All-push (IsSoundRow t.day) t.requests _ h.rows
             (sound_plain t.day _ refl refl tt (λ s n e. absurd cc))) h.postings
             (within_uncounted t.limit t.requests t.postings _ refl refl h.counts);
-        admitted = λ r merchant g range c. with_requests h
+        admitted = λ r merchant g range c. sound_with h
             (All-push (IsSoundRow t.day) t.requests _ h.rows (record {
               bounded =
                   record {
@@ -331,9 +331,9 @@ module _ (opening : Opening) (begins : IsOpening opening) where
         completed = λ r merchant g hold c.
             let sound : IsSoundRow t.day hold =
             All-member (IsSoundRow t.day) t.requests hold h.rows c.member in
-            let made = completion_made t.day t.day r hold sound c.amount in with_requests h
+            let made = completion_made t.day t.day r hold sound c.amount in sound_with h
             (All-push (IsSoundRow t.day) _ _
-            (followed t.day hold.key status.Completed t.requests h.rows)
+            (sound_followed t.day hold.key status.Completed t.requests h.rows)
             (sound_plain t.day _ refl refl
             (reference_by-bounded t.day hold.key.service hold sound.bounded)
             (λ s n e. c.amount)))
@@ -352,8 +352,8 @@ module _ (opening : Opening) (begins : IsOpening opening) where
             let sound : IsSoundRow t.day row =
             All-member (IsSoundRow t.day) t.requests row h.rows c.member in
             let ended = reversed_status-ended (reply_state_of row.status row.reply) in
-            let made = reversal_made t.day t.day r row sound in with_requests h
-            (All-push (IsSoundRow t.day) _ _ (followed t.day row.key _ t.requests h.rows)
+            let made = reversal_made t.day t.day r row sound in sound_with h
+            (All-push (IsSoundRow t.day) _ _ (sound_followed t.day row.key _ t.requests h.rows)
             (sound_plain t.day _ refl refl
             (reference_by-bounded t.day row.key.service row sound.bounded)
             (λ s n e. absurd (let no : is_reversal r.service ≡ false = ap is_reversal s in
@@ -371,14 +371,14 @@ module _ (opening : Opening) (begins : IsOpening opening) where
                   (some_of (text_at r.message 42) t.day
                   (reversal_posting t.day r (prior_of row)) made);
             }) c.room h.counts);
-        reconciled = λ r merchant g day c. with_requests h
+        reconciled = λ r merchant g day c. sound_with h
             (All-push (IsSoundRow t.day) t.requests _ h.rows
             (sound_plain t.day _ refl refl tt (λ s n e. absurd cc))) h.postings
             (within_uncounted t.limit t.requests t.postings _ refl refl h.counts);
         answered = λ moment v row c.
             let sound : IsSoundRow t.day row =
             All-member (IsSoundRow t.day) t.requests row h.rows c.member in
-            let made = answer_made t.day v row sound in with_requests h
+            let made = answer_made t.day v row sound in sound_with h
             (All-with_changed (IsSoundRow t.day) row.key _ t.requests
             (λ x same s. record {
               bounded = record {
@@ -416,8 +416,8 @@ module _ (opening : Opening) (begins : IsOpening opening) where
               t.postings h.postings;
           counts = h.counts;
         };
-        range_added = λ range came valid free. with_requests h h.rows h.postings h.counts;
-        range_dropped = λ low high came. with_requests h h.rows h.postings h.counts;
+        range_added = λ range came valid free. sound_with h h.rows h.postings h.counts;
+        range_dropped = λ low high came. sound_with h h.rows h.postings h.counts;
         enrolled = λ merchant came new. record {
           limit = h.limit;
           day = h.day;
@@ -427,7 +427,7 @@ module _ (opening : Opening) (begins : IsOpening opening) where
           postings = h.postings;
           counts = h.counts;
         };
-        terminal_added = λ terminal came new. with_requests h h.rows h.postings h.counts;
+        terminal_added = λ terminal came new. sound_with h h.rows h.postings h.counts;
       })
 
   -- ---- what is said of a merchant

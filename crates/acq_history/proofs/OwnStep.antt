@@ -83,6 +83,12 @@ is_some_open : (moment : ℕ) (o : Option ℕ) → is_open_at moment o ≡ true 
 is_some_open moment None e = absurd (cc)
 is_some_open moment (Some until) e = refl
 
+-- the step of the tables is the step of the history
+abbrev pub IsStep : Opening → List ℕ → Tables → List Entry → Arrival → Type 0
+IsStep opening m t h a =
+    (step_output t a ≡ output_of (merchant_named a) (entry_for opening h a).outcome)
+    × Agrees opening m (step_tables t a) (entry_for opening h a ∷ h)
+
 module _ {opening : Opening} {m : List ℕ} {t : Tables} {h : List Entry}
     (g : Agrees opening m t h) where
   -- what the history lets an event know
@@ -379,22 +385,16 @@ module _ {opening : Opening} {m : List ℕ} {t : Tables} {h : List Entry}
       old_range low high (known (RangeDropped low high)).overlapped
   keeps_shared other shared = absurd (cc)
 
-  -- the step of the tables is the step of the history
-  abbrev IsStep : Arrival → Type 0
-  IsStep a =
-      (step_output t a ≡ output_of (merchant_named a) (entry_for opening h a).outcome)
-      × Agrees opening m (step_tables t a) (entry_for opening h a ∷ h)
-
-  stepped : (a : Arrival) → known_in t a ≡ known a → KeepsAt a → IsStep a
+  stepped : (a : Arrival) → known_in t a ≡ known a → KeepsAt a → IsStep opening m t h a
   stepped a same keeps = (
     ap (λ k. output_of (merchant_named a) (outcome k a)) same,
     subst (λ k. Agrees opening m (after_any t (change_for k a)) (entry_for opening h a ∷ h))
         (sym same) keeps,
   )
 
-  pub step_mine : (a : Arrival) → merchant_named a ≡ Some m → IsStep a
+  pub step_mine : (a : Arrival) → merchant_named a ≡ Some m → IsStep opening m t h a
   step_mine a named = stepped a (known_in_mine g a named) (keeps_mine a named)
 
-  pub step_shared : (a : Arrival) → is_shared a ≡ true → IsStep a
+  pub step_shared : (a : Arrival) → is_shared a ≡ true → IsStep opening m t h a
   step_shared a shared = stepped a (known_in_shared g a shared)
       (keeps_shared a shared)

@@ -2,7 +2,7 @@
 use Rattle.std.proofs.Common.{◌≡◌, ℕ, zero, suc, ◌+◌, ◌<◌, List, [], ◌∷◌, ◌++◌, Option, Some, None}
 use Rattle.std.proofs.Common.{Bool, true, false, cond, inl, inr, ◌⊎◌, refl, sym, ap, ◌∙◌, subst}
 use Rattle.std.proofs.Common.{arith}
-use Rattle.std.specs.Prelude.{map, find, is_some, nat_eq}
+use Rattle.std.specs.Prelude.{map, is_some, nat_eq}
 use Rattle.std.specs.Option.{option_or}
 use Rattle.std.specs.List.{cons_option, range_with_len, list_any}
 use Rattle.std.specs.Str.{bytes_eq}
@@ -27,6 +27,7 @@ use Rattle.acq_history.proofs.StepCases.{by_step}
 use Rattle.acq_history.proofs.Runs.{kept}
 use Rattle.acq_history.proofs.RowsWithChanges.{Edits, changing, changing_kept, followed_kept}
 use Rattle.acq_history.proofs.RowsWithChanges.{answered_kept, requests_of-changed}
+use Rattle.acq_history.proofs.FoundRows.{merchant_among}
 
 -- ---- one number more
 
@@ -94,9 +95,6 @@ rows_changed (Some merchant) u keeps rows h =
         (λ x. ap is_some (keeps x)) rows
 
 -- ---- the rows of all merchants
-
-abbrev pub merchant_among : List Merchant → List ℕ → Option Merchant
-merchant_among merchants m = find (λ row. bytes_eq row.id m) merchants
 
 abbrev pub Has : List Merchant → List ℕ → List Request → Type 0
 Has merchants m rows = AreRowsOf (merchant_among merchants m) rows

@@ -249,9 +249,9 @@ text_of_outcome merchant (Reported o) party text is e =
 text_of_outcome merchant other party text is e = absurd cc
 
 module _ (opening : Opening) (begins : IsOpening opening) where
-  sound_after : (es : List Event) → AreEvents es →
+  replies_after : (es : List Event) → AreEvents es →
       HasSoundReplies (tables_after (new_tables opening) es)
-  sound_after es are =
+  replies_after es are =
       kept_by_events HasSoundReplies (λ t a is h. (step t a is h).0) (new_tables opening) es are
       (record { day = begins.first_day; replies = All-nil IsRowReply })
 
@@ -275,11 +275,11 @@ module _ (opening : Opening) (begins : IsOpening opening) where
 
   pub gives_replies : (es : List Event) → AreEvents es →
       GivesReplies (tables_after (new_tables opening) es)
-  gives_replies es are = gives (tables_after (new_tables opening) es) (sound_after es are)
+  gives_replies es are = gives (tables_after (new_tables opening) es) (replies_after es are)
 
 pub replies_are_messages : RepliesAreMessages
 replies_are_messages opening es begins are = (
-  (sound_after opening begins es are).replies,
+  (replies_after opening begins es are).replies,
   all_outputs opening begins (new_tables opening) es are
       (record { day = begins.first_day; replies = All-nil IsRowReply }),
 )

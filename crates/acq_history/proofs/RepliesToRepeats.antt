@@ -107,8 +107,8 @@ serves_any opening h other r e past = absurd (cc)
 abbrev ServesAll : List Entry → Type 0
 ServesAll h = (key : RequestKey) (f : Found) → recorded key h ≡ Some f → Serves h key.terminal
 
-same_terminal : (a b : RequestKey) → same_key a b ≡ true → a.terminal ≡ b.terminal
-same_terminal a b e = ap (λ k. k.terminal) (same_key_is a b e)
+terminal_is : (a b : RequestKey) → same_key a b ≡ true → a.terminal ≡ b.terminal
+terminal_is a b e = ap (λ k. k.terminal) (same_key_is a b e)
 
 -- what an entry records is its request
 records : (e : Entry) (h : List Entry) (key : RequestKey) (o : Option RequestMessage) (f : Found) →
@@ -144,7 +144,7 @@ ServesAll-step opening h a all key f found =
     step None q p =
         let x = records (entry_for opening h a) h key (request_of a) f p in
         let parts = and_parts (same_key (key_of x.0.service x.0.message) key) _ x.2 in
-        subst (Serves h) (same_terminal _ key parts.0) (serves_any opening h a x.0 x.1 parts.1)
+        subst (Serves h) (terminal_is _ key parts.0) (serves_any opening h a x.0 x.1 parts.1)
 
 -- over all events
 serves_all : (opening : Opening) (h : List Entry) (es : List Event) → ServesAll h →

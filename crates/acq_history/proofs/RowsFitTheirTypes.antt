@@ -213,10 +213,10 @@ record HasFittingColumns (t : Tables) : Type 0 where
   postings : All (FitsPostingColumns t.limit) t.postings
   reconciliations : All FitsReconciliation t.reconciliations
 
--- rows with one that a completion or a reversal followed
-followed : (key : RequestKey) (st : Status) (rows : List Request) → All FitsColumns rows →
+-- rows with one that a completion or a reversal fitting_followed
+fitting_followed : (key : RequestKey) (st : Status) (rows : List Request) → All FitsColumns rows →
     All FitsColumns (with_changed key (followed_row st) rows)
-followed key st rows h =
+fitting_followed key st rows h =
     All-with_changed FitsColumns key (followed_row st) rows
     (λ x same c. record {
       key = c.key;
@@ -227,11 +227,11 @@ followed key st rows h =
     }) h
 
 -- tables with other requests and postings
-with_requests : {t : Tables} {day : ℕ} {ranges : List Range} {rows : List Request}
+fitting_with : {t : Tables} {day : ℕ} {ranges : List Range} {rows : List Request}
     {ps : List (ℕ × Posting)} →
     HasFittingColumns t → All FitsColumns rows → All (FitsPostingColumns t.limit) ps →
     HasFittingColumns (record t { day = day; ranges = ranges; requests = rows; postings = ps })
-with_requests h requests postings = record {
+fitting_with h requests postings = record {
   merchants = h.merchants;
   terminals = h.terminals;
   requests = requests;
@@ -255,25 +255,25 @@ module _ (opening : Opening) (t : Tables) (ranges : HasRangesApart t) (cards : H
         malformed = λ r came b. h;
         replied = λ r came given hosts b. h;
         repeated = λ row member b. h;
-        refused = λ r merchant g given hosts b. with_requests h
+        refused = λ r merchant g given hosts b. fitting_with h
             (All-push FitsColumns t.requests _ h.requests
             (columns_of r (subst IsArrival g.came is) g.recordable _ refl refl tt refl))
             h.postings;
-        admitted = λ r merchant g range c b. with_requests h
+        admitted = λ r merchant g range c b. fitting_with h
             (All-push FitsColumns t.requests _ h.requests
             (columns_of r (subst IsArrival g.came is) g.recordable _ refl refl
             (hold_days-valid t.ranges range
             (and_parts (list_all is_valid_range t.ranges) (are_apart t.ranges) ranges).0 c.held)
             refl)) h.postings;
-        completed = λ r merchant g hold c b. with_requests h
-            (All-push FitsColumns _ _ (followed hold.key _ t.requests h.requests)
+        completed = λ r merchant g hold c b. fitting_with h
+            (All-push FitsColumns _ _ (fitting_followed hold.key _ t.requests h.requests)
             (columns_of r (subst IsArrival g.came is) g.recordable _ refl refl tt refl))
             (postings_fit t.limit t.postings (Some (completion_posting t.day r (prior_of hold)))
             (today-names t.day r _ _ hold (key_of-fits r (subst IsArrival g.came is) g.recordable)
             (card_of-row hold c.member))
             (λ m on. (b.merchants m).posted on) h.postings);
-        reversed = λ r merchant g row c b. with_requests h
-            (All-push FitsColumns _ _ (followed row.key _ t.requests h.requests)
+        reversed = λ r merchant g row c b. fitting_with h
+            (All-push FitsColumns _ _ (fitting_followed row.key _ t.requests h.requests)
             (columns_of r (subst IsArrival g.came is) g.recordable _ refl refl tt refl))
             (postings_fit t.limit t.postings (reversal_posting t.day r (prior_of row))
             (reversal-names t.day r row (key_of-fits r (subst IsArrival g.came is) g.recordable)
@@ -297,7 +297,7 @@ module _ (opening : Opening) (t : Tables) (ranges : HasRangesApart t) (cards : H
             };
         answered = λ moment v row c b.
             let columns : FitsColumns row =
-            All-member FitsColumns t.requests row h.requests c.member in with_requests h
+            All-member FitsColumns t.requests row h.requests c.member in fitting_with h
             (All-with_changed FitsColumns row.key _ t.requests
             (λ x same was. record {
               key = was.key;
@@ -311,9 +311,9 @@ module _ (opening : Opening) (t : Tables) (ranges : HasRangesApart t) (cards : H
             (postings_fit t.limit t.postings (answer_posting v (prior_of row))
             (answer-names v row columns.key (card_of-row row c.member))
             (λ m on. (b.merchants m).posted on) h.postings);
-        cut_over = λ came before b. with_requests h h.requests h.postings;
-        range_added = λ range came valid free b. with_requests h h.requests h.postings;
-        range_dropped = λ low high came b. with_requests h h.requests h.postings;
+        cut_over = λ came before b. fitting_with h h.requests h.postings;
+        range_added = λ range came valid free b. fitting_with h h.requests h.postings;
+        range_dropped = λ low high came b. fitting_with h h.requests h.postings;
         enrolled = λ merchant came new b. record {
           merchants = All-push FitsMerchant t.merchants merchant h.merchants
               (subst IsArrival came is);

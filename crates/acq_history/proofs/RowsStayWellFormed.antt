@@ -1,7 +1,7 @@
 -- What stays true of the rows of requests.
-use Rattle.std.proofs.Common.{◌≡◌, ℕ, ◌+◌, ◌<◌, ◌≤◌, List, [], ◌∷◌, ◌++◌, Option, Some, Bool, true}
-use Rattle.std.proofs.Common.{false, cond, ◌⊎◌, inl, inr, refl, sym, ap, ◌∙◌, subst, arith}
-use Rattle.std.specs.Prelude.{find, is_some, map}
+use Rattle.std.proofs.Common.{◌≡◌, ℕ, ◌+◌, ◌<◌, ◌≤◌, List, [], ◌∷◌, ◌++◌, Some, Bool, true, false}
+use Rattle.std.proofs.Common.{cond, ◌⊎◌, inl, inr, refl, sym, ap, ◌∙◌, subst, arith}
+use Rattle.std.specs.Prelude.{is_some, map}
 use Rattle.std.specs.Option.{option_or}
 use Rattle.std.specs.Str.{bytes_eq}
 use Rattle.std.proofs.lemmas.List.Folds.{find-append}
@@ -19,10 +19,7 @@ use Rattle.acq_history.proofs.Lookups.{some_is, count-view, count-same}
 use Rattle.acq_history.proofs.RowsWithChanges.{changing, changing_kept, Edits, IsChange}
 use Rattle.acq_history.proofs.RowsWithChanges.{requests_of-changed, Other, Made, changed_is}
 use Rattle.acq_history.proofs.Runs.{kept}
-
--- the merchant with a name
-abbrev pub merchant_in : List Merchant → List ℕ → Option Merchant
-merchant_in merchants m = find (λ row. bytes_eq row.id m) merchants
+use Rattle.acq_history.proofs.FoundRows.{merchant_among}
 
 -- how many of a merchant's requests were admitted
 abbrev pub admitted_by : List ℕ → List Request → ℕ
@@ -32,7 +29,7 @@ admitted_by m rows = admitted_in (requests_of m rows)
 pub record IsGiven (merchants : List Merchant) (rows : List Request) (m : List ℕ)
     (n : ℕ) : Type 0 where
   pub merchant : Merchant
-  pub enrolled : merchant_in merchants m ≡ Some merchant
+  pub enrolled : merchant_among merchants m ≡ Some merchant
   pub below : n < merchant.first_reference + admitted_by m rows
 
 -- the completed hold with a reference
@@ -107,7 +104,7 @@ well_formed_with_merchant {merchants = merchants} merchant {rows} k = record {
       merchant = g.merchant;
       enrolled =
           find-append (λ row. bytes_eq row.id m) merchants (merchant ∷ [])
-          ∙ ap (λ o. option_or o (merchant_in (merchant ∷ []) m)) g.enrolled;
+          ∙ ap (λ o. option_or o (merchant_among (merchant ∷ []) m)) g.enrolled;
       below = g.below;
     }
 
@@ -166,7 +163,7 @@ IsHeld-push rows row m n h = record {
 pub record IsNext (merchants : List Merchant) (rows : List Request) (m : List ℕ)
     (n : ℕ) : Type 0 where
   pub merchant : Merchant
-  pub enrolled : merchant_in merchants m ≡ Some merchant
+  pub enrolled : merchant_among merchants m ≡ Some merchant
   pub next : n ≡ merchant.first_reference + admitted_by m rows
 
 -- a row that may be added

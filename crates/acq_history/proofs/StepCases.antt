@@ -183,18 +183,18 @@ NoneApplies [] = Unit {0}
 NoneApplies (x ∷ xs) = (x.0 ≡ false) × NoneApplies xs
 
 -- one of the refusals, or what is accepted where none applies
-by_refusals : (P : Decision → Type 0) (r : RequestMessage) (refusals : List (Bool × ResponseCode))
+by_checks : (P : Decision → Type 0) (r : RequestMessage) (refusals : List (Bool × ResponseCode))
     (accepted : Decision) → ((given : ResponseCode) → is_hosts given ≡ true → P (Refuses r given)) →
     list_all (λ x. is_hosts x.1) refusals ≡ true →
     (NoneApplies refusals → P accepted) →
     P (first_of r refusals accepted)
-by_refusals P r [] accepted refuse all accept = accept tt
-by_refusals P r (x ∷ xs) accepted refuse all accept =
+by_checks P r [] accepted refuse all accept = accept tt
+by_checks P r (x ∷ xs) accepted refuse all accept =
     let parts = and_parts (is_hosts x.1) (list_all (λ y. is_hosts y.1) xs) all in
     let step : (b : Bool) → x.0 ≡ b → P (if b then Refuses r x.1 else first_of r xs accepted) =
     elim [
       | true ↦ (λ e. refuse x.1 parts.0)
-      | false ↦ (λ e. by_refusals P r xs accepted refuse parts.1 (λ none. accept (e, none)))
+      | false ↦ (λ e. by_checks P r xs accepted refuse parts.1 (λ none. accept (e, none)))
     ] in
     step x.0 refl
 
@@ -268,7 +268,7 @@ module _ (t : Tables) (r : RequestMessage) (P : Decision → Type 0)
       P (admission_in k merchant r o)
   by_range merchant fresh service checked None is = refused merchant fresh code.NoSuchIssuer refl
   by_range merchant fresh service checked (Some range) is =
-      by_refusals P r ((is_full k, code.LimitExceeded) ∷ [])
+      by_checks P r ((is_full k, code.LimitExceeded) ∷ [])
       (Admits r range (merchant.first_reference + k.admitted))
       (refused merchant fresh) refl
       (λ none.
@@ -290,7 +290,7 @@ module _ (t : Tables) (r : RequestMessage) (P : Decision → Type 0)
   by_admission : (merchant : Merchant) → IsFresh k r merchant → is_admissible r.service ≡ true →
       P (admission k merchant r)
   by_admission merchant fresh service =
-      by_refusals P r (admission_checks merchant) (admission_in k merchant r k.range)
+      by_checks P r (admission_checks merchant) (admission_in k merchant r k.range)
       (refused merchant fresh) refl
       (λ none. by_range merchant fresh service none k.range refl)
 
@@ -303,7 +303,7 @@ module _ (t : Tables) (r : RequestMessage) (P : Decision → Type 0)
       P (completion_of k r (if b then Some hold else None)) =
       elim [
         | true ↦ (λ opens.
-            by_refusals P r ((nat_lt hold.amount (amount_in r.message), code.InvalidAmount)
+            by_checks P r ((nat_lt hold.amount (amount_in r.message), code.InvalidAmount)
             ∷ (is_full k, code.LimitExceeded) ∷ []) (Completes r hold) (refused merchant fresh) refl
             (λ none.
             let found = row_of_reference t m (wanted_for t.day r.service r.message).reference hold
@@ -332,7 +332,7 @@ module _ (t : Tables) (r : RequestMessage) (P : Decision → Type 0)
   by_completion : (merchant : Merchant) → IsFresh k r merchant → r.service ≡ Completion →
       P (completion k merchant r)
   by_completion merchant fresh service =
-      by_refusals P r (completion_checks merchant)
+      by_checks P r (completion_checks merchant)
       (completion_of k r (open_hold r.moment k.referred)) (refused merchant fresh) refl
       (λ none. by_hold merchant fresh service none k.referred refl)
 
@@ -340,7 +340,7 @@ module _ (t : Tables) (r : RequestMessage) (P : Decision → Type 0)
       (p : Prior) → k.original ≡ Some p →
       fits_acquirer (original_acquirer r.message) p.acquirer ≡ true → P (reversal_of k r (Some p))
   by_found merchant fresh service p is fits =
-      by_refusals P r ((not p.is_reversible, code.NoActionTaken)
+      by_checks P r ((not p.is_reversible, code.NoActionTaken)
       ∷ (not (amount_in r.message == p.amount), code.InvalidAmount)
       ∷ (is_full k, code.LimitExceeded) ∷ [])
       (Reverses r p) (refused merchant fresh) refl
