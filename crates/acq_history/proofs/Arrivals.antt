@@ -14,10 +14,8 @@ use Rattle.acq_message.specs.Services.{service_of}
 use Rattle.acq_core.specs.declared.event.Event.{Event}
 use Rattle.acq_core.specs.declared.event.Event.TheVariants as event
 use Rattle.acq_core.specs.declared.arrival.Arrival.{Arrival}
-use Rattle.acq_core.specs.declared.arrival.Arrival.TheVariants.{Undecoded, Unserved, Malformed}
-use Rattle.acq_core.specs.declared.arrival.Arrival.TheVariants.{Requested, Answered, CutOver}
-use Rattle.acq_core.specs.declared.arrival.Arrival.TheVariants.{RangeAdded, RangeDropped, Enrolled}
-use Rattle.acq_core.specs.declared.arrival.Arrival.TheVariants.{TerminalAdded}
+use Rattle.acq_core.specs.declared.arrival.Arrival.TheVariants.{Malformed, Requested, Answered}
+use Rattle.acq_core.specs.declared.arrival.Arrival.TheVariants.{Enrolled, TerminalAdded}
 use Rattle.acq_core.specs.Arrivals.{arrival_of, arrival_of_message, arrival_of_reading}
 use Rattle.acq_core.specs.Tables.{Tables, step_tables, tables_after}
 use Rattle.acq_message.specs.Moments.{is_moment}
@@ -31,16 +29,12 @@ pub record IsWhole (r : RequestMessage) : Type 0 where
 
 -- requests are messages, an answer has a moment and a verdict, and what is enrolled fits its type
 abbrev pub IsArrival : Arrival → Type 0
-IsArrival (Undecoded fault) = Unit {0}
-IsArrival (Unserved m) = Unit {0}
 IsArrival (Malformed r) = IsMessage r.message
 IsArrival (Requested r) = IsWhole r
 IsArrival (Answered moment merchant reference v) = (is_moment moment ≡ true) × IsVerdict v
-IsArrival CutOver = Unit {0}
-IsArrival (RangeAdded range) = Unit {0}
-IsArrival (RangeDropped low high) = Unit {0}
 IsArrival (Enrolled merchant) = FitsMerchant merchant
 IsArrival (TerminalAdded terminal) = FitsTerminal terminal
+IsArrival other = Unit {0}
 
 of_message : (moment : ℕ) (m : IsoMessage) (o : Option Service) → IsMessage m →
     IsArrival (arrival_of_message moment m o)
@@ -62,12 +56,10 @@ pub of_event : (e : Event) → IsEvent e → IsArrival (arrival_of e)
 of_event (event.Frame moment text) is =
     of_reading moment (reading_of text) (λ m read. (read_as text m read).is_message)
 of_event (event.Answer moment merchant reference v) is = (is.0, is.3)
-of_event (event.Cutover moment) is = tt
-of_event (event.AddRange range) is = tt
-of_event (event.DropRange low high) is = tt
 of_event (event.Enrol merchant currency first) is =
     record { id = is.0; currency = is.1; first_reference = is.2 }
 of_event (event.AddTerminal merchant terminal) is = record { merchant = is.0; id = is.1 }
+of_event other is = tt
 
 -- what each step keeps holds after any such events
 pub kept_by_events : (P : Tables → Type 0) →

@@ -9,7 +9,7 @@ use Rattle.acq_message.specs.declared.request_message.RequestMessage.{RequestMes
 use Rattle.acq_core.specs.declared.arrival.Arrival.TheVariants.{Requested}
 use Rattle.acq_core.specs.Known.{Known, totals_if, reconciled_day, wanted_for}
 use Rattle.acq_core.specs.declared.reply_state.ReplyState.{ReplyState}
-use Rattle.acq_core.specs.declared.reply_state.ReplyState.TheVariants.{Kept, Awaited, Late}
+use Rattle.acq_core.specs.declared.reply_state.ReplyState.TheVariants.{Kept}
 use Rattle.acq_core.specs.Decision.{Decision, Reconciles, repeat_of, decision}
 use Rattle.acq_core.specs.Outcome.{outcome_of, Replied, balance_code}
 use Rattle.acq_message.specs.Claims.{claimed_in}
@@ -33,8 +33,7 @@ KnowsTotals totals k decision = Unit {0}
 knows_repeat : (totals : ℕ → DayTotals) (k : Known) (s : ReplyState) →
     KnowsTotals totals k (repeat_of s)
 knows_repeat totals k (Kept reply) = tt
-knows_repeat totals k (Awaited draft) = tt
-knows_repeat totals k Late = tt
+knows_repeat totals k other = tt
 
 -- whatever is decided on a history
 knows_totals : (opening : Opening) (h : List Entry) (r : RequestMessage) →

@@ -1,7 +1,7 @@
 -- Conservation, step by step: each decision leaves rows and postings in which nothing is posted or
 -- reversed twice.
-use Rattle.std.proofs.Common.{◌≡◌, ℕ, ◌+◌, ◌≤◌, List, [], ◌∷◌, ◌++◌, Option, Some, None, true}
-use Rattle.std.proofs.Common.{false, cond, inl, inr, refl, sym, ap, ◌∙◌, subst, arith}
+use Rattle.std.proofs.Common.{◌≡◌, ℕ, ◌≤◌, List, [], ◌∷◌, ◌++◌, Option, Some, None, true, false}
+use Rattle.std.proofs.Common.{cond, inl, inr, refl, sym, ap, ◌∙◌, subst, arith}
 use Rattle.std.specs.Prelude.{option_map}
 use Rattle.std.specs.Str.{bytes_eq}
 use Rattle.iso_codec.specs.Message.{IsoMessage}
@@ -11,9 +11,7 @@ use Rattle.day_totals.specs.declared.leg.Leg.TheVariants.{Credit, Debit}
 use Rattle.acq_core.specs.declared.event.Event.{Event}
 use Rattle.acq_message.specs.declared.service.Service.{Service}
 use Rattle.acq_message.specs.declared.service.Service.TheVariants.{Authorization, Financial}
-use Rattle.acq_message.specs.declared.service.Service.TheVariants.{Completion, Reversal}
-use Rattle.acq_message.specs.declared.service.Service.TheVariants.{ReversalAdvice, Reconciliation}
-use Rattle.acq_message.specs.declared.service.Service.TheVariants.{NetworkManagement}
+use Rattle.acq_message.specs.declared.service.Service.TheVariants.{Completion}
 use Rattle.acq_core.specs.declared.request.Request.{Request}
 use Rattle.acq_core.specs.declared.merchant.Merchant.{Merchant}
 use Rattle.acq_core.specs.declared.status.Status.{Status}
@@ -21,14 +19,8 @@ use Rattle.acq_core.specs.declared.status.Status.TheVariants as status
 use Rattle.acq_core.specs.declared.posting.Posting.{Posting}
 use Rattle.acq_message.specs.declared.verdict.Verdict.{Verdict}
 use Rattle.acq_message.specs.declared.verdict.Verdict.TheVariants as verdict
-use Rattle.acq_message.specs.Elements.{text_at, transaction_in, key_of, or_empty}
+use Rattle.acq_message.specs.Elements.{transaction_in, key_of, or_empty, sale_leg}
 use Rattle.acq_message.specs.declared.request_message.RequestMessage.{RequestMessage}
-use Rattle.acq_core.specs.Arrivals.{arrival_of}
-use Rattle.acq_core.specs.Known.{Known}
-use Rattle.acq_core.specs.Decision.{Decision, Reports, Replies, Repeats, Refuses, Admits, Completes}
-use Rattle.acq_core.specs.Decision.{Reverses, Reconciles, Answers, CutsOver, AddsRange, DropsRange}
-use Rattle.acq_core.specs.Decision.{Enrols, AddsTerminal, decision, is_open_at}
-use Rattle.acq_message.specs.Elements.{sale_leg}
 use Rattle.acq_core.specs.Changes.{change_of, admitted_leg, admitted_row, completion_row}
 use Rattle.acq_core.specs.Changes.{reversal_row, completion_posting, posting_today}
 use Rattle.acq_core.specs.Changes.{approval_posting, answer_posting, reversal_posting, reversal_leg}
@@ -36,40 +28,41 @@ use Rattle.acq_core.specs.Changes.{posted_leg, reversed_status, answered_status,
 use Rattle.acq_core.specs.Tables.{Opening, Tables, new_tables, prior_of, reply_state_of}
 use Rattle.acq_core.specs.Tables.{is_reversible, leg_by, reference_by, known_in, with_changed}
 use Rattle.acq_core.specs.Tables.{with_next_posting, after_any, step_tables, tables_after}
+use Rattle.acq_core.specs.Tables.{followed_row, answered_row}
 use Rattle.acq_history.specs.Entries.{is_reversal}
 use Rattle.acq_history.specs.Conservation.{is_reversal_leg, IsConserved}
 use Rattle.acq_history.proofs.Members.{In, In-first, In-last, In-push, from_In, to_In}
 use Rattle.acq_history.proofs.FoundRows.{IsNew}
-use Rattle.acq_history.proofs.GroundsOfDecision.{IsAdmission, Grounds, grounds}
 use Rattle.acq_history.proofs.PostingsOfRequests.{is_posted, is_reversed, posted_by, posted}
-use Rattle.acq_history.proofs.PostingsOfRequests.{IsPostingOf, HasPosted, PostingsMatchRows}
-use Rattle.acq_history.proofs.PostingsOfRequests.{Grows, FromBefore, FromBeforeOr, unposted}
-use Rattle.acq_history.proofs.PostingsOfRequests.{posted_first, posted_reversal}
-use Rattle.acq_history.proofs.RowsStayWellFormed.{IsWellFormed, IsFit, IsCompleting, IsChange}
-use Rattle.acq_history.proofs.RowsStayWellFormed.{IsReplaced, well_formed_later}
-use Rattle.acq_history.proofs.RowsStayWellFormed.{well_formed_with_merchant}
+use Rattle.acq_history.proofs.PostingsOfRequests.{IsPostingOf, HasPosted, PostingsMatchRows, Grows}
+use Rattle.acq_history.proofs.PostingsOfRequests.{FromBefore, FromBeforeOr, unposted, posted_next}
+use Rattle.acq_history.proofs.RowsStayWellFormed.{IsWellFormed, IsFit, IsCompleting, IsReplaced}
+use Rattle.acq_history.proofs.RowsStayWellFormed.{well_formed_later, well_formed_with_merchant}
 use Rattle.acq_history.proofs.RowsStayWellFormed.{well_formed_with_row, well_formed_changed}
 use Rattle.acq_history.proofs.RowsStayWellFormed.{replaced}
 use Rattle.acq_history.proofs.PostingsOfChangedRows.{IsLegOf, IsReversible, reversed_as}
 use Rattle.acq_history.proofs.PostingsOfChangedRows.{posted_same, posted_none, posted_reversing}
 use Rattle.acq_history.proofs.PostingsOfChangedRows.{posted_unsold, leg_of, leg_by_admissible}
-use Rattle.acq_history.proofs.PostingsOfChangedRows.{reversal_leg_is, is_open_until_row}
-use Rattle.acq_history.proofs.PostingsOfChangedRows.{reversible, posted_leg_approved}
-use Rattle.acq_history.proofs.PostingsOfChangedRows.{once_posted, none_posted, Grows-push}
-use Rattle.acq_history.proofs.PostingsOfChangedRows.{Grows-both, from_push, pushed}
+use Rattle.acq_history.proofs.PostingsOfChangedRows.{reversal_leg_is, is_open_until_row, reversible}
+use Rattle.acq_history.proofs.PostingsOfChangedRows.{posted_leg_approved, once_posted, none_posted}
+use Rattle.acq_history.proofs.PostingsOfChangedRows.{Grows-push, Grows-both, from_push, pushed}
 use Rattle.acq_history.proofs.PostingsOfChangedRows.{Grows-replaced, from_replaced}
 use Rattle.acq_history.proofs.Lookups.{some_is}
-use Rattle.acq_history.proofs.Statuses.{reply_state_of-awaited}
+use Rattle.acq_history.proofs.RowsWithChanges.{Edits, followed_kept, answered_kept}
+use Rattle.acq_history.proofs.StepCases.{by_step, IsRecording, IsCompletion, IsReversal}
+use Rattle.acq_history.proofs.StepCases.{next_reference, IsAdmission}
+use Rattle.acq_core.specs.declared.arrival.Arrival.{Arrival}
+use Rattle.acq_history.proofs.Runs.{kept}
 
 -- what holds of every book
-record IsSound (day : ℕ) (merchants : List Merchant) (rows : List Request)
+record AreInOrder (day : ℕ) (merchants : List Merchant) (rows : List Request)
     (ps : List (ℕ × Posting)) : Type 0 where
   well_formed : IsWellFormed day merchants rows
   match_rows : PostingsMatchRows rows ps
 
--- the tables' rows and postings are sound
-abbrev IsSoundBook : Tables → Type 0
-IsSoundBook t = IsSound t.day t.merchants t.requests t.postings
+-- the tables' rows and postings are in order
+abbrev IsInOrder : Tables → Type 0
+IsInOrder t = AreInOrder t.day t.merchants t.requests t.postings
 
 -- ---- rows that complete nothing and have no reference
 
@@ -95,20 +88,18 @@ not_completing : (row : Request) (m : List ℕ) (n : ℕ) → row.follows ≡ No
 not_completing row m n e c = let follows = c.follows in cc
 
 -- a refusal or a reconciliation
-sound_with_row : (day : ℕ) (merchants : List Merchant) (rows : List Request)
-    (ps : List (ℕ × Posting)) (row : Request) →
-    ((a : Request) → In a rows → a.key ≡ row.key → ⊥) → row.reference ≡ None → row.follows ≡ None →
-    is_posted row.status ≡ false → is_reversal_leg row.leg ≡ false → row.day ≤ day →
-    IsSound day merchants rows ps →
-    IsSound day merchants (rows ++ row ∷ []) ps
-sound_with_row day merchants rows ps row new unreferred unfollowing unposting leg dated s = record {
+sound_with_row : (t : Tables) (row : Request) →
+    IsNew t row.key → row.reference ≡ None → row.follows ≡ None →
+    is_posted row.status ≡ false → is_reversal_leg row.leg ≡ false → row.day ≤ t.day →
+    IsInOrder t →
+    AreInOrder t.day t.merchants (t.requests ++ row ∷ []) t.postings
+sound_with_row t row new unreferred unfollowing unposting leg dated s = record {
   well_formed =
-      well_formed_with_row day merchants rows row s.well_formed
-      (fits_plain day merchants rows row new unreferred
+      well_formed_with_row s.well_formed
+      (fits_plain t.day t.merchants t.requests row new unreferred
       (λ n c. not_completing row row.key.merchant n unfollowing c)
       (λ e. leg) dated);
-  match_rows = pushed rows row ps (posted_none row.key.service row unposting unfollowing)
-      s.match_rows;
+  match_rows = pushed row (posted_none row.key.service row unposting unfollowing) s.match_rows;
 }
 
 -- ---- an admission
@@ -122,178 +113,169 @@ admitted_leg_is Financial m =
       | true ↦ refl
       | false ↦ refl
     ]
-admitted_leg_is Authorization m = refl
-admitted_leg_is Completion m = refl
-admitted_leg_is Reversal m = refl
-admitted_leg_is ReversalAdvice m = refl
-admitted_leg_is Reconciliation m = refl
-admitted_leg_is NetworkManagement m = refl
+admitted_leg_is service m = refl
 
--- an admission keeps a book sound
-sound_admitted : (t : Tables) (today : ℕ) (r : RequestMessage) (range : Range) (reference : ℕ) →
-    today ≡ t.day →
-    IsAdmission t r reference → IsSoundBook t →
-    IsSound t.day t.merchants (t.requests ++ admitted_row today r range reference ∷ []) t.postings
-sound_admitted t today r range reference e g s = record {
-  well_formed = well_formed_with_row t.day t.merchants t.requests row s.well_formed (record {
+-- an admission keeps a book in order
+sound_admitted : {a : Arrival} (t : Tables) (r : RequestMessage) (merchant : Merchant)
+    (range : Range) → IsRecording t a r merchant → IsAdmission t r merchant range →
+    IsInOrder t →
+    AreInOrder t.day t.merchants
+    (t.requests ++ admitted_row t.day r range (next_reference t r merchant) ∷ []) t.postings
+sound_admitted t r merchant range g c s = record {
+  well_formed = well_formed_with_row s.well_formed (record {
     new = g.new;
     next = λ n f. record {
-      merchant = g.merchant;
+      merchant = merchant;
       enrolled = g.enrolled;
-      next =
-          sym (some_is reference n f) ∙ g.next;
+      next = sym (some_is (next_reference t r merchant) n f);
     };
-    admissible = λ n f. g.service;
-    held = λ n c. absurd (not_completing row row.key.merchant n refl c);
-    only = λ a n i c d. not_completing row row.key.merchant n refl c;
+    admissible = λ n f. c.service;
+    held = λ n d. absurd (not_completing row row.key.merchant n refl d);
+    only = λ a n i d e. not_completing row row.key.merchant n refl d;
     leg = λ f. admitted_leg_is r.service r.message;
     dated = omega arith;
   });
-  match_rows = pushed t.requests row t.postings (posted_none r.service row refl refl) s.match_rows;
+  match_rows = pushed row (posted_none r.service row refl refl) s.match_rows;
 }
   where
     row : Request
-    row = admitted_row today r range reference
+    row = admitted_row t.day r range (next_reference t r merchant)
+
+-- ---- a row changed
+
+-- the rows in which this one was changed
+abbrev edited : Tables → Request → (Request → Request) → List Request
+edited t row changed = with_changed row.key changed t.requests
+
+-- they replace it, stay well-formed, and where it has posted what it had, so have they
+record IsEdited (t : Tables) (row : Request) (changed : Request → Request) : Type 0 where
+  replaced : IsReplaced t.requests (edited t row changed) row (changed row)
+  well_formed : IsWellFormed t.day t.merchants (edited t row changed)
+  grows : ((n : ℕ) → posted row ≡ Some n → posted (changed row) ≡ Some n) →
+      Grows t.requests (edited t row changed)
+  from : posted (changed row) ≡ posted row →
+      FromBefore t.requests t.postings (edited t row changed)
+
+-- what changes could have been reversed
+edited_is : (t : Tables) (row : Request) (changed : Request → Request) → Edits changed →
+    In row t.requests → is_reversible row.status ≡ true → IsInOrder t → IsEdited t row changed
+edited_is t row changed edits i can_be s =
+    let can = reversible row.status row.reply can_be in
+    let r = replaced t.requests row changed i edits s.well_formed in
+    record {
+      replaced = r;
+      well_formed = well_formed_changed row changed i edits can.not_completed s.well_formed;
+      grows = λ same. Grows-replaced r (edits row) same can.not_reversed;
+      from = λ same. from_replaced s.match_rows i r (edits row) same;
+    }
 
 -- ---- a completion
 
--- so does a completion of an open hold
-sound_completed : (t : Tables) (today : ℕ) (r : RequestMessage) (hold : Request) (n : ℕ) →
-    today ≡ t.day →
-    IsNew t (key_of r.service r.message) → r.service ≡ Completion → In hold t.requests →
-    hold.reference ≡ Some n →
-    hold.key.merchant ≡ text_at r.message 42 → hold.key.service ≡ Authorization →
-    hold.status ≡ status.Approved →
-    IsSoundBook t →
-    IsSound t.day t.merchants
-    (with_changed hold.key (λ old. record old { status = status.Completed }) t.requests
-    ++ completion_row today r (prior_of hold) ∷ [])
-    (with_next_posting t.postings (Some (completion_posting today r (prior_of hold))))
-sound_completed t today r hold n e new service i reference merchant kind approved s = record {
-  well_formed = well_formed_with_row t.day t.merchants mid row mid_well_formed (record {
-    new = λ a j f. elim (rep.before a j) [
-      | inl old ↦ new a old.0 f
-      | inr changed ↦ new hold i (ap (λ x. x.key) changed ∙ f)
+-- an authorization posts nothing
+unposted_by : (x : Request) → x.key.service ≡ Authorization → posted x ≡ None
+unposted_by x f = ap (λ k. posted_by k x) f
+
+-- what becomes of a hold that is completed
+abbrev done : Request → Request
+done = followed_row status.Completed
+
+-- a completion of an open hold keeps a book in order
+sound_completed : {a : Arrival} (t : Tables) (r : RequestMessage) (merchant : Merchant)
+    (hold : Request) → IsRecording t a r merchant → IsCompletion t r merchant hold →
+    IsInOrder t →
+    AreInOrder t.day t.merchants (edited t hold done ++ completion_row t.day r (prior_of hold) ∷ [])
+    (with_next_posting t.postings (Some (completion_posting t.day r (prior_of hold))))
+sound_completed t r merchant hold g c s = record {
+  well_formed = well_formed_with_row e.well_formed (record {
+    new = λ a j f. elim (e.replaced.before a j) [
+      | inl old ↦ g.new a old.0 f
+      | inr changed ↦ g.new hold c.member (ap (λ x. x.key) changed ∙ f)
     ];
     next = λ k f. absurd (cc);
     admissible = λ k f. absurd (cc);
-    held = λ k c. record {
-      hold = q;
-      member = rep.changed;
-      merchant = merchant;
-      service = kind;
-      reference = reference ∙ (sym under ∙ c.follows);
+    held = λ k d. record {
+      hold = done hold;
+      member = e.replaced.changed;
+      merchant = c.own;
+      service = is.0;
+      reference = c.reference ∙ (sym under ∙ d.follows);
       completed = refl;
     };
-    only = λ a k j c d. elim (rep.before a j) [
+    only = λ a k j d f. elim (e.replaced.before a j) [
       | inl old ↦
           let held =
           s.well_formed.held a k old.0
-          (record { merchant = refl; service = d.service; follows = d.follows }) in
+          (record { merchant = refl; service = f.service; follows = f.follows }) in
           let same =
-          s.well_formed.references held.hold hold k held.member i
-          (held.merchant ∙ (d.merchant ∙ sym merchant)) held.reference
-          (reference ∙ (sym under ∙ c.follows)) in
+          s.well_formed.references held.hold hold k held.member c.member
+          (held.merchant ∙ (f.merchant ∙ sym c.own)) held.reference
+          (c.reference ∙ (sym under ∙ d.follows)) in
           incomplete (ap (λ x. x.status) (sym same) ∙ held.completed)
       | inr changed ↦
           let other : Authorization ≡ Completion =
-          sym kind ∙ (ap (λ x. x.key.service) changed ∙ d.service) in absurd (cc)
+          sym is.0 ∙ (ap (λ x. x.key.service) changed ∙ f.service) in absurd (cc)
     ];
     leg = λ f. refl;
     dated = omega arith;
   });
   match_rows =
-      posted_first t.requests (mid ++ row ∷ []) t.postings posting s.match_rows
-      (Grows-both t.requests mid (mid ++ row ∷ [])
-      (Grows-replaced t.requests mid hold q rep change (λ k f. same_posted ∙ f)
-      (ap is_reversed approved))
-      (Grows-push mid row)) from (record {
+      posted_next s.match_rows
+      (Grows-both (e.grows (λ k f. same_posted ∙ f)) (Grows-push (edited t hold done) row)) from
+      (record {
+        reversal = false;
         leg = refl;
+        reverses = λ yes. absurd (cc);
         first =
-            λ h. none_posted t.day t.merchants t.requests hold n s.well_formed i reference
-            (unposted_by hold kind) incomplete
-            (subst (λ k. HasPosted t.requests hold.key.merchant k) number
-            (subst (λ m. HasPosted t.requests m posting.reference) (sym merchant) h));
+            λ h. none_posted hold c.number s.well_formed c.member c.reference
+            (unposted_by hold is.0) incomplete
+            (subst (λ k. HasPosted false t.requests hold.key.merchant k) number
+            (subst (λ m. HasPosted false t.requests m posting.reference) (sym c.own) h));
         made =
             record {
               row = row;
-              member = In-last row mid;
+              member = In-last row (edited t hold done);
               merchant = refl;
               under = row_posted ∙ ap (λ k. Some k) (sym number);
             };
       });
 }
   where
-    q : Request
-    q = record hold { status = status.Completed }
-
-    mid : List Request
-    mid = with_changed hold.key (λ old. record old { status = status.Completed }) t.requests
-
     row : Request
-    row = completion_row today r (prior_of hold)
+    row = completion_row t.day r (prior_of hold)
 
     posting : Posting
-    posting = completion_posting today r (prior_of hold)
+    posting = completion_posting t.day r (prior_of hold)
 
-    rep : IsReplaced t.requests
-        (with_changed hold.key (λ old. record old { status = status.Completed }) t.requests) hold
-        (record hold { status = status.Completed })
-    rep =
-        replaced t.day t.merchants t.requests hold hold.key
-        (λ old. record old { status = status.Completed }) i refl
-        (λ x. refl) (λ x. refl) s.well_formed
+    is : (hold.key.service ≡ Authorization) × (hold.status ≡ status.Approved)
+    is = is_open_until_row hold.key.service hold r.moment c.opens
 
-    change : IsChange hold (record hold { status = status.Completed })
-    change = record {
-      key = refl;
-      reference = refl;
-      follows = refl;
-      leg = refl;
-      day = refl;
-      amount =
-          refl;
-      card = refl;
-    }
+    e : IsEdited t hold done
+    e = edited_is t hold done (followed_kept status.Completed) c.member (ap is_reversible is.1) s
 
     incomplete : hold.status ≡ status.Completed → ⊥
-    incomplete f = cc
+    incomplete f = let approved = is.1 in cc
 
-    mid_well_formed : IsWellFormed t.day t.merchants
-        (with_changed hold.key (λ old. record old { status = status.Completed }) t.requests)
-    mid_well_formed =
-        well_formed_changed t.day t.merchants t.requests
-        (with_changed hold.key (λ old. record old { status = status.Completed }) t.requests) hold
-        (record hold { status = status.Completed }) i change incomplete rep s.well_formed
+    same_posted : posted (done hold) ≡ posted hold
+    same_posted = unposted_by (done hold) is.0 ∙ sym (unposted_by hold is.0)
 
-    unposted_by : (x : Request) → x.key.service ≡ Authorization → posted x ≡ None
-    unposted_by x f = ap (λ k. posted_by k x) f
+    under : reference_by hold.key.service hold ≡ Some c.number
+    under = ap (λ k. reference_by k hold) is.0 ∙ c.reference
 
-    same_posted : posted (record hold { status = status.Completed }) ≡ posted hold
-    same_posted = unposted_by (record hold { status = status.Completed }) kind
-        ∙ sym (unposted_by hold kind)
-
-    under : reference_by hold.key.service hold ≡ Some n
-    under = ap (λ k. reference_by k hold) kind ∙ reference
-
-    number : or_zero (reference_by hold.key.service hold) ≡ n
+    number : or_zero (reference_by hold.key.service hold) ≡ c.number
     number = ap or_zero under
 
-    row_posted : posted (completion_row today r (prior_of hold)) ≡ Some n
-    row_posted = ap (λ k. posted_by k (completion_row today r (prior_of hold))) service ∙ under
+    row_posted : posted (completion_row t.day r (prior_of hold)) ≡ Some c.number
+    row_posted = ap (λ k. posted_by k (completion_row t.day r (prior_of hold))) c.service ∙ under
 
-    from : FromBeforeOr t.postings (completion_posting today r (prior_of hold))
-        (with_changed hold.key (λ old. record old { status = status.Completed }) t.requests
-        ++ completion_row today r (prior_of hold) ∷ [])
-    from x k j f = elim (In-push x mid row j) [
-      | inl old ↦ inl
-          (from_replaced t.requests mid hold q t.postings s.match_rows i rep change same_posted x k
-          old f)
+    from : FromBeforeOr t.postings (completion_posting t.day r (prior_of hold))
+        (edited t hold done ++ completion_row t.day r (prior_of hold) ∷ [])
+    from x k j f = elim (In-push x (edited t hold done) row j) [
+      | inl old ↦ inl (e.from same_posted x k old f)
       | inr changed ↦
           let of : IsPostingOf posting row k =
           record {
             merchant = refl;
-            reference = number ∙ some_is n k (sym row_posted ∙ (ap posted changed ∙ f));
+            reference = number ∙ some_is c.number k (sym row_posted ∙ (ap posted changed ∙ f));
             leg = refl;
             amount = refl;
             card = refl;
@@ -304,161 +286,108 @@ sound_completed t today r hold n e new service i reference merchant kind approve
 
 -- ---- a reversal
 
--- and a reversal of what can be reversed
-sound_reversed : (t : Tables) (today : ℕ) (r : RequestMessage) (row : Request) → today ≡ t.day →
-    IsNew t (key_of r.service r.message) → is_reversal r.service ≡ true → In row t.requests →
-    row.key.merchant ≡ text_at r.message 42 → is_reversible row.status ≡ true → IsSoundBook t →
-    IsSound t.day t.merchants
-    (with_changed row.key (λ old. record old {
-      status = reversed_status
-          (reply_state_of row.status row.reply);
-    }) t.requests
-    ++ reversal_row today r (prior_of row) ∷ [])
-    (with_next_posting t.postings (reversal_posting today r
-    (prior_of row)))
-sound_reversed t today r row e new service i merchant can_be s = record {
+-- what becomes of a request that is reversed
+abbrev undone : Request → Request → Request
+undone row = followed_row (reversed_status (reply_state_of row.status row.reply))
+
+-- no reversal is a completion
+not_completion : (x : Service) → is_reversal x ≡ true → x ≡ Completion → ⊥
+not_completion x f g = let no : is_reversal x ≡ false = ap is_reversal g in cc
+
+-- so does a reversal of what can be reversed
+sound_reversed : {a : Arrival} (t : Tables) (r : RequestMessage) (merchant : Merchant)
+    (row : Request) → IsRecording t a r merchant → IsReversal t r row → IsInOrder t →
+    AreInOrder t.day t.merchants
+    (edited t row (undone row) ++ reversal_row t.day r (prior_of row) ∷ [])
+    (with_next_posting t.postings (reversal_posting t.day r (prior_of row)))
+sound_reversed t r merchant row g c s = record {
   well_formed =
-      well_formed_with_row t.day t.merchants mid after mid_well_formed
-      (fits_plain t.day t.merchants mid after fresh refl
-      (λ k c. not_follower r.service service c.service)
-      (λ f. absurd (cc)) (omega arith));
+      well_formed_with_row e.well_formed
+      (fits_plain t.day t.merchants (edited t row (undone row)) after fresh refl
+      (λ k d. not_completion r.service c.service d.service)
+      (λ f. absurd (let yes = c.service in cc)) (omega arith));
   match_rows = step (posted_leg (reply_state_of row.status row.reply) (leg_by row.key.service row))
       refl;
 }
   where
-    q : Request
-    q = record row { status = reversed_status (reply_state_of row.status row.reply) }
-
-    mid : List Request
-    mid =
-        with_changed row.key
-        (λ old. record old { status = reversed_status (reply_state_of row.status row.reply) })
-        t.requests
-
     after : Request
-    after = reversal_row today r (prior_of row)
+    after = reversal_row t.day r (prior_of row)
 
     can : IsReversible row.status row.reply
-    can = reversible row.status row.reply can_be
+    can = reversible row.status row.reply c.reversible
 
-    rep : IsReplaced t.requests
-        (with_changed row.key
-        (λ old. record old { status = reversed_status (reply_state_of row.status row.reply) })
-        t.requests) row
-        (record row { status = reversed_status (reply_state_of row.status row.reply) })
-    rep =
-        replaced t.day t.merchants t.requests row row.key
-        (λ old. record old { status = reversed_status (reply_state_of row.status row.reply) }) i
-        refl (λ x. refl)
-        (λ x. refl) s.well_formed
+    e : IsEdited t row (undone row)
+    e = edited_is t row (undone row) (followed_kept _) c.member c.reversible s
 
-    change : IsChange row
-        (record row { status = reversed_status (reply_state_of row.status row.reply) })
-    change = record {
-      key = refl;
-      reference = refl;
-      follows = refl;
-      leg = refl;
-      day = refl;
-      amount =
-          refl;
-      card = refl;
-    }
-
-    mid_well_formed : IsWellFormed t.day t.merchants
-        (with_changed row.key
-        (λ old. record old { status = reversed_status (reply_state_of row.status row.reply) })
-        t.requests)
-    mid_well_formed =
-        well_formed_changed t.day t.merchants t.requests mid row q i change can.not_completed rep
-        s.well_formed
-
-    fresh : (a : Request) →
-        In a (with_changed row.key
-        (λ old. record old { status = reversed_status (reply_state_of row.status row.reply) })
-        t.requests) →
+    fresh : (a : Request) → In a (edited t row (undone row)) →
         a.key ≡ key_of r.service r.message → ⊥
-    fresh a j f = elim (rep.before a j) [
-      | inl old ↦ new a old.0 f
-      | inr changed ↦ new row i (ap (λ x. x.key) changed ∙ f)
+    fresh a j f = elim (e.replaced.before a j) [
+      | inl old ↦ g.new a old.0 f
+      | inr changed ↦ g.new row c.member (ap (λ x. x.key) changed ∙ f)
     ]
 
-    not_follower : (x : Service) → is_reversal x ≡ true → x ≡ Completion → ⊥
-    not_follower x f g = let no : is_reversal x ≡ false = ap is_reversal g in cc
-
-    same_posted : posted
-        (record row { status = reversed_status (reply_state_of row.status row.reply) }) ≡ posted row
-    same_posted = posted_same row.key.service q row can.posts refl refl
+    same_posted : posted (undone row row) ≡ posted row
+    same_posted = posted_same row.key.service (undone row row) row can.posts refl refl
 
     grows : Grows t.requests
-        (with_changed row.key
-        (λ old. record old { status = reversed_status (reply_state_of row.status row.reply) })
-        t.requests
-        ++ reversal_row today r (prior_of row) ∷ [])
+        (edited t row (undone row) ++ reversal_row t.day r (prior_of row) ∷ [])
     grows =
-        Grows-both t.requests mid (mid ++ after ∷ [])
-        (Grows-replaced t.requests mid row q rep change (λ k f. same_posted ∙ f) can.not_reversed)
-        (Grows-push mid after)
+        Grows-both (e.grows (λ k f. same_posted ∙ f)) (Grows-push (edited t row (undone row)) after)
 
     from : FromBefore t.requests t.postings
-        (with_changed row.key
-        (λ old. record old { status = reversed_status (reply_state_of row.status row.reply) })
-        t.requests
-        ++ reversal_row today r (prior_of row) ∷ [])
-    from =
-        from_push mid after t.postings (posted_reversing r.service after service)
-        (from_replaced t.requests mid row q t.postings s.match_rows i rep change same_posted)
+        (edited t row (undone row) ++ reversal_row t.day r (prior_of row) ∷ [])
+    from = from_push (edited t row (undone row)) after t.postings
+        (posted_reversing r.service after c.service) (e.from same_posted)
 
     step : (o : Option Leg) →
         posted_leg (reply_state_of row.status row.reply) (leg_by row.key.service row) ≡ o →
         PostingsMatchRows
-        (with_changed row.key
-        (λ old. record old { status = reversed_status (reply_state_of row.status row.reply) })
-        t.requests
-        ++ reversal_row today r (prior_of row) ∷ [])
+        (edited t row (undone row) ++ reversal_row t.day r (prior_of row) ∷ [])
         (with_next_posting t.postings
-        (option_map (λ leg. posting_today today r (reversal_leg leg) row.amount (prior_of row)) o))
-    step None f = unposted t.requests (mid ++ after ∷ []) t.postings s.match_rows grows from
+        (option_map (λ leg. posting_today t.day r (reversal_leg leg) row.amount (prior_of row)) o))
+    step None f = unposted s.match_rows grows from
     step (Some leg) f =
-        let was = posted_leg_approved row.status row.reply (leg_by row.key.service row) leg can_be f
-        in
+        let was = posted_leg_approved row.status row.reply (leg_by row.key.service row) leg
+        c.reversible f in
         let of = leg_of row.key.service row leg was.1 in
         let under : posted row ≡ Some of.number = of.under (ap is_posted was.0) in
         let number : or_zero (reference_by row.key.service row) ≡ of.number =
         ap or_zero of.reference in
-        let original = s.match_rows.there row of.number i under in
-        let on = s.well_formed.days row i in
+        let original = s.match_rows.there row of.number c.member under in
+        let on = s.well_formed.days row c.member in
         let at = original.of.day in
-        posted_reversal t.requests (mid ++ after ∷ []) t.postings
-        (posting_today today r (reversal_leg leg) row.amount (prior_of row)) s.match_rows grows from
+        posted_next s.match_rows grows (λ x k j e. inl (from x k j e))
         (record {
+          reversal = true;
           leg = reversal_leg_is leg
-              (ap is_reversal_leg of.same ∙ s.well_formed.legs row i of.service);
+              (ap is_reversal_leg of.same ∙ s.well_formed.legs row c.member of.service);
           first = λ h.
               let reversed_under = reversed_as h.row _ h.under in
               let same =
-              once_posted t.day t.merchants t.requests h.row row of.number s.well_formed h.member i
-              (h.merchant ∙ sym merchant) (reversed_under.1 ∙ ap (λ k. Some k) number) under in
+              once_posted h.row row of.number s.well_formed h.member c.member
+              (h.merchant ∙ sym c.own) (reversed_under.1 ∙ ap (λ k. Some k) number) under in
               let no : is_reversed h.row.status ≡ false = ap (λ x. is_reversed x.status) same
               ∙ can.not_reversed in
               cc;
           made = record {
-            row = q;
-            member = In-first q mid _ rep.changed;
-            merchant = merchant;
+            row = undone row row;
+            member = In-first (undone row row) (edited t row (undone row)) _ e.replaced.changed;
+            merchant = c.own;
             under =
                 ap (λ k. cond (is_reversed (reversed_status (reply_state_of k row.reply)))
-                (posted q) None) was.0
+                (posted (undone row row)) None) was.0
                 ∙ (same_posted ∙ (under ∙ ap (λ k. Some k) (sym number)));
           };
-          original = original.posting;
-          member = original.member;
-          merchant = original.of.merchant ∙ merchant;
-          reference = original.of.reference ∙ sym number;
-          same_leg = ap reversal_leg (original.of.leg ∙ sym of.same);
-          amount = original.of.amount;
-          card = original.of.card;
-          day = omega arith;
+          reverses = λ yes. record {
+            original = original.posting;
+            member = original.member;
+            merchant = original.of.merchant ∙ c.own;
+            reference = original.of.reference ∙ sym number;
+            leg = ap reversal_leg (original.of.leg ∙ sym of.same);
+            amount = original.of.amount;
+            card = original.of.card;
+            day = omega arith;
+          };
         })
 
 -- ---- an answer
@@ -467,49 +396,28 @@ sound_reversed t today r row e new service i merchant can_be s = record {
 sound_answered_unposted : (t : Tables) (row : Request) (st : Status) (reply : IsoMessage)
     (until : Option ℕ) →
     In row t.requests → row.status ≡ status.Pending →
-    posted (record row { status = st; reply = reply; hold_end = until }) ≡ posted row →
-    IsSoundBook t →
-    IsSound t.day t.merchants
-    (with_changed row.key (λ old. record old { status = st; reply = reply; hold_end = until })
-    t.requests) t.postings
-sound_answered_unposted t row st reply until i pending same s = record {
-  well_formed =
-      well_formed_changed t.day t.merchants t.requests mid row q i change
-      (λ f. let other : status.Pending ≡ status.Completed = sym pending ∙ f in cc) rep
-      s.well_formed;
-  match_rows =
-      unposted t.requests mid t.postings s.match_rows
-      (Grows-replaced t.requests mid row q rep change (λ k f. same ∙ f) (ap is_reversed pending))
-      (from_replaced t.requests mid row q t.postings s.match_rows i rep change same);
-}
-  where
-    q : Request
-    q = record row { status = st; reply = reply; hold_end = until }
+    posted (answered_row st reply until row) ≡ posted row → IsInOrder t →
+    AreInOrder t.day t.merchants (edited t row (answered_row st reply until)) t.postings
+sound_answered_unposted t row st reply until i pending same s =
+    let e = edited_is t row (answered_row st reply until) (answered_kept st reply until) i
+    (ap is_reversible pending) s in
+    record {
+      well_formed = e.well_formed;
+      match_rows = unposted s.match_rows (e.grows (λ k f. same ∙ f)) (e.from same);
+    }
 
-    mid : List Request
-    mid = with_changed row.key (λ old. record old { status = st; reply = reply; hold_end = until })
-        t.requests
-
-    rep : IsReplaced t.requests
-        (with_changed row.key (λ old. record old { status = st; reply = reply; hold_end = until })
-        t.requests) row
-        (record row { status = st; reply = reply; hold_end = until })
-    rep =
-        replaced t.day t.merchants t.requests row row.key
-        (λ old. record old { status = st; reply = reply; hold_end = until }) i refl (λ x. refl)
-        (λ x.
-        refl) s.well_formed
-
-    change : IsChange row (record row { status = st; reply = reply; hold_end = until })
-    change = record {
-      key = refl;
-      reference = refl;
-      follows = refl;
-      leg = refl;
-      day = refl;
-      amount =
-          refl;
-      card = refl;
+-- what an approval posts under a leg
+abbrev sold : Request → Leg → Posting
+sold row leg =
+    record {
+      merchant = row.key.merchant;
+      day = row.day;
+      leg = leg;
+      amount = row.amount;
+      reference = or_zero (reference_by row.key.service row);
+      card = or_empty row.card;
+      terminal = row.key.terminal;
+      trace = row.key.trace;
     }
 
 -- an approval of a sale or return
@@ -517,68 +425,35 @@ sound_sold : (t : Tables) (row : Request) (n : ℕ) (leg : Leg) (reply : IsoMess
     (until : Option ℕ) →
     In row t.requests →
     row.status ≡ status.Pending → row.reference ≡ Some n → leg_by row.key.service row ≡ Some leg →
-    IsSoundBook t →
-    IsSound t.day t.merchants
-    (with_changed row.key
-    (λ old. record old { status = status.Approved; reply = reply; hold_end = until })
-    t.requests)
+    IsInOrder t →
+    AreInOrder t.day t.merchants (edited t row (answered_row status.Approved reply until))
     (with_next_posting t.postings (approval_posting (prior_of row) (Some leg)))
 sound_sold t row n leg reply until i pending reference legged s = record {
-  well_formed = well_formed_changed t.day t.merchants t.requests mid row q i change incomplete rep
-      s.well_formed;
+  well_formed = e.well_formed;
   match_rows =
-      posted_first t.requests mid t.postings posting s.match_rows
-      (Grows-replaced t.requests mid row q rep change
-      (λ k f. absurd (let none = unposted_yet in cc))
-      (ap is_reversed pending)) from (record {
+      posted_next s.match_rows (e.grows (λ k f. absurd (let none = unposted_yet in cc)))
+      from (record {
+        reversal = false;
+        reverses = λ yes. absurd (cc);
         leg = ap is_reversal_leg of.same ∙ s.well_formed.legs row i of.service;
         first =
-            λ h. none_posted t.day t.merchants t.requests row n s.well_formed i reference
-            unposted_yet incomplete
-            (subst (λ k. HasPosted t.requests row.key.merchant k) number h);
+            λ h. none_posted row n s.well_formed i reference unposted_yet incomplete
+            (subst (λ k. HasPosted false t.requests row.key.merchant k) number h);
         made = record {
-          row = q;
-          member = rep.changed;
+          row = answered_row status.Approved reply until row;
+          member = e.replaced.changed;
           merchant = refl;
-          under =
-              now ∙ ap (λ k. Some k) (sym number);
+          under = now ∙ ap (λ k. Some k) (sym number);
         };
       });
 }
   where
-    q : Request
-    q = record row { status = status.Approved; reply = reply; hold_end = until }
-
-    mid : List Request
-    mid = with_changed row.key
-        (λ old. record old { status = status.Approved; reply = reply; hold_end = until })
-        t.requests
-
-    rep : IsReplaced t.requests
-        (with_changed row.key
-        (λ old. record old { status = status.Approved; reply = reply; hold_end = until })
-        t.requests)
-        row (record row { status = status.Approved; reply = reply; hold_end = until })
-    rep =
-        replaced t.day t.merchants t.requests row row.key
-        (λ old. record old { status = status.Approved; reply = reply; hold_end = until }) i refl
-        (λ x. refl)
-        (λ x. refl) s.well_formed
-
-    change : IsChange row (record row { status = status.Approved; reply = reply; hold_end = until })
-    change = record {
-      key = refl;
-      reference = refl;
-      follows = refl;
-      leg = refl;
-      day = refl;
-      amount =
-          refl;
-      card = refl;
-    }
+    e : IsEdited t row (answered_row status.Approved reply until)
+    e = edited_is t row (answered_row status.Approved reply until)
+        (answered_kept status.Approved reply until) i (ap is_reversible pending) s
 
     incomplete : row.status ≡ status.Completed → ⊥
-    incomplete f = let other : status.Pending ≡ status.Completed = sym pending ∙ f in cc
+    incomplete f = cc
 
     of : IsLegOf row.key.service row leg
     of = leg_of row.key.service row leg legged
@@ -591,44 +466,18 @@ sound_sold t row n leg reply until i pending reference legged s = record {
     unposted_yet = ap (λ k. posted_by k row) kind ∙ ap (λ k. cond (is_posted k) row.reference None)
         pending
 
-    now : posted (record row { status = status.Approved; reply = reply; hold_end = until }) ≡ Some n
-    now = ap (λ k. posted_by k
-        (record row { status = status.Approved; reply = reply; hold_end = until })) kind
-        ∙ reference
+    now : posted (answered_row status.Approved reply until row) ≡ Some n
+    now = ap (λ k. posted_by k (answered_row status.Approved reply until row)) kind ∙ reference
 
     number : or_zero (reference_by row.key.service row) ≡ n
     number = ap or_zero (ap (λ k. reference_by k row) kind ∙ reference)
 
-    posting : Posting
-    posting =
-        record {
-          merchant = row.key.merchant;
-          day = row.day;
-          leg = leg;
-          amount = row.amount;
-          reference = or_zero (reference_by row.key.service row);
-          card = or_empty row.card;
-          terminal = row.key.terminal;
-          trace = row.key.trace;
-        }
-
-    from : FromBeforeOr t.postings
-        (record {
-          merchant = row.key.merchant;
-          day = row.day;
-          leg = leg;
-          amount = row.amount;
-          reference = or_zero (reference_by row.key.service row);
-          card = or_empty row.card;
-          terminal = row.key.terminal;
-          trace = row.key.trace;
-        }) (with_changed row.key
-        (λ old. record old { status = status.Approved; reply = reply; hold_end = until })
-        t.requests)
-    from x k j f = elim (rep.before x j) [
+    from : FromBeforeOr t.postings (sold row leg)
+        (edited t row (answered_row status.Approved reply until))
+    from x k j f = elim (e.replaced.before x j) [
       | inl old ↦ inl (s.match_rows.there x k old.0 f)
       | inr changed ↦
-          let mine : IsPostingOf posting q k =
+          let mine : IsPostingOf (sold row leg) (answered_row status.Approved reply until row) k =
           record {
             merchant = refl;
             reference = number ∙ some_is n k (sym now ∙ (ap posted changed ∙ f));
@@ -637,118 +486,78 @@ sound_sold t row n leg reply until i pending reference legged s = record {
             card = refl;
             day = refl;
           } in
-          inr (subst (λ y. IsPostingOf posting y k) changed mine)
+          inr (subst (λ y. IsPostingOf (sold row leg) y k) changed mine)
     ]
 
 -- an approval
 sound_approved : (t : Tables) (row : Request) (n : ℕ) (reply : IsoMessage) (until : Option ℕ) →
-    In row t.requests →
-    row.status ≡ status.Pending → row.reference ≡ Some n → IsSoundBook t →
-    IsSound t.day t.merchants
-    (with_changed row.key
-    (λ old. record old { status = status.Approved; reply = reply; hold_end = until })
-    t.requests)
+    In row t.requests → row.status ≡ status.Pending → row.reference ≡ Some n → IsInOrder t →
+    AreInOrder t.day t.merchants (edited t row (answered_row status.Approved reply until))
     (with_next_posting t.postings (approval_posting (prior_of row) (leg_by row.key.service row)))
 sound_approved t row n reply until i pending reference s = step (leg_by row.key.service row) refl
   where
     step : (o : Option Leg) → leg_by row.key.service row ≡ o →
-        IsSound t.day t.merchants
-        (with_changed row.key
-        (λ old. record old { status = status.Approved; reply = reply; hold_end = until })
-        t.requests)
+        AreInOrder t.day t.merchants (edited t row (answered_row status.Approved reply until))
         (with_next_posting t.postings (approval_posting (prior_of row) o))
     step None f =
         sound_answered_unposted t row status.Approved reply until i pending
-        (posted_unsold row.key.service
-        (record row { status = status.Approved; reply = reply; hold_end = until }) row n f reference
-        refl) s
+        (posted_unsold row.key.service (answered_row status.Approved reply until row) row n f
+        reference refl) s
     step (Some leg) f = sound_sold t row n leg reply until i pending reference f s
 
 -- any answer to a pending request
 sound_answered : (t : Tables) (v : Verdict) (row : Request) (n : ℕ) (reply : IsoMessage)
     (until : Option ℕ) →
-    In row t.requests → row.status ≡ status.Pending → row.reference ≡ Some n → IsSoundBook t →
-    IsSound t.day t.merchants
-    (with_changed row.key
-    (λ old. record old { status = answered_status v; reply = reply; hold_end = until })
-    t.requests)
+    In row t.requests → row.status ≡ status.Pending → row.reference ≡ Some n → IsInOrder t →
+    AreInOrder t.day t.merchants (edited t row (answered_row (answered_status v) reply until))
     (with_next_posting t.postings (answer_posting v (prior_of row)))
 sound_answered t (verdict.Approved id) row n reply until i pending reference s =
     sound_approved t row n reply until i pending reference s
-sound_answered t (verdict.Declined text) row n reply until i pending reference s =
+sound_answered t v row n reply until i pending reference s =
     sound_answered_unposted t row status.Declined reply until i pending
-    (posted_same row.key.service
-    (record row { status = status.Declined; reply = reply; hold_end = until }) row
-    (sym (ap is_posted pending)) refl refl) s
-sound_answered t verdict.NoAnswer row n reply until i pending reference s =
-    sound_answered_unposted t row status.Declined reply until i pending
-    (posted_same row.key.service
-    (record row { status = status.Declined; reply = reply; hold_end = until }) row
+    (posted_same row.key.service (answered_row status.Declined reply until row) row
     (sym (ap is_posted pending)) refl refl) s
 
 -- ---- steps
 
--- each decision keeps a book sound
-sound_step : (t : Tables) (k : Known) (d : Decision) → k.today ≡ t.day → Grounds t d →
-    IsSoundBook t →
-    IsSoundBook (after_any t (change_of k d))
-sound_step t k (Reports o) e g s = s
-sound_step t k (Replies r c) e g s = s
-sound_step t k (Repeats reply) e g s = s
-sound_step t k (Refuses r c) e g s =
-    sound_with_row t.day t.merchants t.requests t.postings _ g refl refl refl refl (omega arith) s
-sound_step t k (Admits r range reference) e g s = sound_admitted t k.today r range reference e g s
-sound_step t k (Completes r hold) e g s =
-    let found = g.referred.found in
-    let is =
-    is_open_until_row found.row.key.service found.row r.moment
-    (ap (λ p. is_open_at r.moment p.hold_end) found.says ∙ g.opens) in
-    subst (λ p. IsSoundBook (after_any t (change_of k (Completes r p)))) found.says
-    (sound_completed t k.today r found.row g.referred.number e g.new g.service found.member
-    g.referred.reference
-    g.merchant is.0 is.1 s)
-sound_step t k (Reverses r p) e g s =
-    subst (λ x. IsSoundBook (after_any t (change_of k (Reverses r x)))) g.found.says
-    (sound_reversed t k.today r g.found.row e g.new g.service g.found.member g.merchant
-    (ap (λ x. x.is_reversible) g.found.says ∙ g.reversible) s)
-sound_step t k (Reconciles r day) e g s =
-    sound_with_row t.day t.merchants t.requests t.postings _ g.new refl refl refl refl
-    (omega arith) s
-sound_step t k (Answers moment v p draft) e g s =
-    let found = g.referred.found in
-    let pending =
-    reply_state_of-awaited found.row.status found.row.reply draft
-    (ap (λ x. x.reply_state) found.says ∙ g.awaited) in
-    subst (λ x. IsSoundBook (after_any t (change_of k (Answers moment v x draft)))) found.says
-    (sound_answered t v found.row g.referred.number _ _ found.member pending g.referred.reference s)
-sound_step t k CutsOver e g s =
-    record {
-      well_formed = well_formed_later t.day (k.today + 1) t.merchants t.requests
-          (omega arith) s.well_formed;
-      match_rows = s.match_rows;
-    }
-sound_step t k (AddsRange range) e g s =
-    record { well_formed = s.well_formed; match_rows = s.match_rows }
-sound_step t k (DropsRange low high) e g s =
-    record { well_formed = s.well_formed; match_rows = s.match_rows }
-sound_step t k (Enrols merchant) e g s =
-    record {
-      well_formed = well_formed_with_merchant t.day t.merchants merchant t.requests s.well_formed;
-      match_rows = s.match_rows;
-    }
-sound_step t k (AddsTerminal terminal) e g s =
-    record { well_formed = s.well_formed; match_rows = s.match_rows }
+-- each decision keeps a book in order
+sound_step : (t : Tables) (a : Arrival) → IsInOrder t → IsInOrder (step_tables t a)
+sound_step t a s =
+    by_step t a (λ d. IsInOrder (after_any t (change_of (known_in t a) d)))
+    (record {
+      reported = λ o not. s;
+      malformed = λ r came. s;
+      replied = λ r came given hosts. s;
+      repeated = λ row member. s;
+      refused = λ r merchant g given hosts.
+          sound_with_row t _ g.new refl refl refl refl (omega arith) s;
+      admitted = λ r merchant g range c. sound_admitted t r merchant range g c s;
+      completed = λ r merchant g hold c. sound_completed t r merchant hold g c s;
+      reversed = λ r merchant g row c. sound_reversed t r merchant row g c s;
+      reconciled = λ r merchant g day c.
+          sound_with_row t _ g.new refl refl refl refl (omega arith) s;
+      answered = λ moment v row c.
+          sound_answered t v row c.number _ _ c.member c.pending c.reference s;
+      cut_over = λ came before.
+          record {
+            well_formed = well_formed_later (omega arith) s.well_formed;
+            match_rows = s.match_rows;
+          };
+      range_added = λ range came valid free.
+          record { well_formed = s.well_formed; match_rows = s.match_rows };
+      range_dropped = λ low high came.
+          record { well_formed = s.well_formed; match_rows = s.match_rows };
+      enrolled = λ merchant came new.
+          record {
+            well_formed = well_formed_with_merchant merchant s.well_formed;
+            match_rows = s.match_rows;
+          };
+      terminal_added = λ terminal came new.
+          record { well_formed = s.well_formed; match_rows = s.match_rows };
+    })
 
--- so do events, one after the other
-sound_after : (t : Tables) (es : List Event) → IsSoundBook t → IsSoundBook (tables_after t es)
-sound_after t [] s = s
-sound_after t (e ∷ es) s =
-    let a = arrival_of e in
-    sound_after (step_tables t a) es
-    (sound_step t (known_in t a) (decision (known_in t a) a) refl (grounds t a) s)
-
--- a new book is sound
-sound_new : (opening : Opening) → IsSoundBook (new_tables opening)
+-- a new book is in order
+sound_new : (opening : Opening) → IsInOrder (new_tables opening)
 sound_new opening = record {
   well_formed =
       record {
@@ -763,8 +572,7 @@ sound_new opening = record {
       };
   match_rows =
       record {
-        originals = λ x i l. absurd i;
-        reversals = λ x i l. absurd i;
+        made = λ x i. absurd i;
         there = λ row n i e. absurd i;
         at_most_one = λ m n reversal. omega arith;
         matched = λ x i l. absurd i;
@@ -787,5 +595,5 @@ conserved opening es = record {
       );
 }
   where
-    sound : IsSoundBook (tables_after (new_tables opening) es)
-    sound = sound_after (new_tables opening) es (sound_new opening)
+    sound : IsInOrder (tables_after (new_tables opening) es)
+    sound = kept IsInOrder sound_step (new_tables opening) es (sound_new opening)

@@ -13,9 +13,6 @@ use Rattle.iso_codec.specs.Table.{format_of}
 use Rattle.iso_codec.specs.Message.{IsoMessage, IsMessage, is_element, content_of, is_among}
 use Rattle.iso_codec.proofs.ElementPlaces.{fits_by, text_fits}
 use Rattle.acq_message.specs.declared.service.Service.{Service}
-use Rattle.acq_message.specs.declared.service.Service.TheVariants.{Authorization, Financial}
-use Rattle.acq_message.specs.declared.service.Service.TheVariants.{Completion, Reversal}
-use Rattle.acq_message.specs.declared.service.Service.TheVariants.{ReversalAdvice, Reconciliation}
 use Rattle.acq_message.specs.declared.service.Service.TheVariants.{NetworkManagement}
 use Rattle.acq_message.specs.declared.request_message.RequestMessage.{RequestMessage}
 use Rattle.acq_message.specs.FirstCheck.{is_malformed, has_one_of, unverifiable}
@@ -70,13 +67,8 @@ key_elements = 7 ∷ 11 ∷ 41 ∷ 42 ∷ []
 
 key_elements-needed : (s : Service) → (s ≡ NetworkManagement → ⊥) →
     list_all (λ n. is_among (needed s) (n, [])) key_elements ≡ true
-key_elements-needed Authorization other = refl
-key_elements-needed Financial other = refl
-key_elements-needed Completion other = refl
-key_elements-needed Reversal other = refl
-key_elements-needed ReversalAdvice other = refl
-key_elements-needed Reconciliation other = refl
 key_elements-needed NetworkManagement other = absurd (other refl)
+key_elements-needed service other = refl
 
 -- what the first check passes has all that is needed
 needed_there : (s : Service) (m : IsoMessage) → is_malformed s m ≡ false →

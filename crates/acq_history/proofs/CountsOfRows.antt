@@ -11,7 +11,8 @@ use Rattle.acq_core.proofs.Counts.{count-push}
 use Rattle.acq_history.proofs.Lookups.{count-view, count-same, filter-push_in, filter-push_out}
 use Rattle.acq_history.proofs.Members.{In}
 use Rattle.acq_history.proofs.Keys.{same_key_from, eqb_itself}
-use Rattle.acq_history.proofs.RowsWithChanges.{changing}
+use Rattle.acq_history.proofs.RowsWithChanges.{Edits, changing, changing_kept}
+use Rattle.acq_history.proofs.Runs.{kept}
 
 -- one where a test passes
 abbrev pub one_if : Bool → ℕ
@@ -39,21 +40,16 @@ count-filter_push p q xs y =
 -- ---- after a change of the rows with a key
 
 -- a change that keeps what counts
-pub used_in-changed : (key : RequestKey) (changed : Request → Request) →
-    ((x : Request) → (changed x).admitted ≡ x.admitted) →
-    ((x : Request) → (changed x).day ≡ x.day) → (rows : List Request) (day : ℕ) →
+pub used_in-changed : (key : RequestKey) (changed : Request → Request) → Edits changed →
+    (rows : List Request) (day : ℕ) →
     used_in (map (changing key changed) rows) day ≡ used_in rows day
-used_in-changed key changed admitted days rows day =
+used_in-changed key changed edits rows day =
+    let kept = changing_kept key changed edits in
     count-view (changing key changed) (λ row. row.admitted && eqb row.day day) rows
     ∙ count-same (λ row. (changing key changed row).admitted
     && eqb (changing key changed row).day day)
-    (λ row. row.admitted && eqb row.day day) (λ x. one x (same_key x.key key)) rows
-  where
-    one : (x : Request) (b : Bool) →
-        ((cond b (changed x) x).admitted && eqb (cond b (changed x) x).day day)
-        ≡ (x.admitted && eqb x.day day)
-    one x true = λ i. admitted x i && eqb (days x i) day
-    one x false = refl
+    (λ row. row.admitted && eqb row.day day)
+    (λ x i. (kept x).admitted i && eqb ((kept x).day i) day) rows
 
 -- how many of a day are
 abbrev pub pending_in : List Request → ℕ → ℕ

@@ -12,9 +12,9 @@ use Rattle.acq_core.specs.Tables.{count, is_pending, requests_of, postings_of, u
 use Rattle.acq_core.specs.Tables.{with_changed, with_next_posting, postings_before}
 use Rattle.acq_history.proofs.Members.{In, In-filter}
 use Rattle.acq_history.proofs.Keys.{bytes_eq_is, eqb_is}
-use Rattle.acq_history.proofs.RowsWithChanges.{requests_of-changed}
-use Rattle.acq_history.proofs.CountsOfRows.{one_if, count-filter_push, used_in-changed}
-use Rattle.acq_history.proofs.CountsOfRows.{pending_in, pending_in-changed, pending_in-answered}
+use Rattle.acq_history.proofs.RowsWithChanges.{Edits, requests_of-changed}
+use Rattle.acq_history.proofs.CountsOfRows.{one_if, count-filter_push, used_in-changed, pending_in}
+use Rattle.acq_history.proofs.CountsOfRows.{pending_in-changed, pending_in-answered}
 
 -- how many postings of a day a merchant has
 abbrev pub posted_on : List ℕ → List (ℕ × Posting) → ℕ → ℕ
@@ -137,13 +137,13 @@ within_counted limit rows later ps more row r room c = record {
 -- ---- postings
 
 -- a posting of a merchant and day
-pub record IsOf (m : List ℕ) (on : ℕ) (p : Posting) : Type 0 where
+pub record IsOfDay (m : List ℕ) (on : ℕ) (p : Posting) : Type 0 where
   pub merchant : p.merchant ≡ m
   pub day : p.day ≡ on
 
 -- at most one more
 pub posted_on-next : (ps : List (ℕ × Posting)) (o : Option Posting) (merchant : List ℕ) (on : ℕ) →
-    IfSome o (IsOf merchant on) → (m : List ℕ) (day : ℕ) →
+    IfSome o (IsOfDay merchant on) → (m : List ℕ) (day : ℕ) →
     posted_on m (with_next_posting ps o) day ≤ posted_on m ps day + one_at merchant on m day
 posted_on-next ps None merchant on of m day = omega arith
 posted_on-next ps (Some p) merchant on of m day =
@@ -157,7 +157,7 @@ posted_on-next ps (Some p) merchant on of m day =
 
 -- beside a row that doesn't wait
 pub posted_on-ended : (ps : List (ℕ × Posting)) (o : Option Posting) (merchant : List ℕ) (on : ℕ) →
-    IfSome o (IsOf merchant on) → (m : List ℕ) (day : ℕ) →
+    IfSome o (IsOfDay merchant on) → (m : List ℕ) (day : ℕ) →
     posted_on m (with_next_posting ps o) day + one_if (bytes_eq merchant m && false)
     ≤ posted_on m ps day + one_at merchant on m day
 posted_on-ended ps o merchant on of m day =
@@ -167,21 +167,18 @@ posted_on-ended ps o merchant on of m day =
 
 -- ---- rows that were changed
 
-module _ (key : RequestKey) (changed : Request → Request) (keys : (x : Request) →
-    (changed x).key ≡ x.key)
-    (admitted : (x : Request) → (changed x).admitted ≡ x.admitted) (days : (x : Request) →
-    (changed x).day ≡ x.day)
+module _ (key : RequestKey) (changed : Request → Request) (edits : Edits changed)
     (ends : (x : Request) → is_pending (changed x).status ≡ false) (rows : List Request) where
   pub used_on-changed : (m : List ℕ) (day : ℕ) →
       used_on m (with_changed key changed rows) day ≡ used_on m rows day
   used_on-changed m day =
-      ap (λ xs. used_in xs day) (requests_of-changed m key changed keys rows)
-      ∙ used_in-changed key changed admitted days (requests_of m rows) day
+      ap (λ xs. used_in xs day) (requests_of-changed m key changed edits rows)
+      ∙ used_in-changed key changed edits (requests_of m rows) day
 
   pub pending_on-changed : (m : List ℕ) (day : ℕ) →
       pending_on m (with_changed key changed rows) day ≤ pending_on m rows day
   pending_on-changed m day =
-      let same = ap (λ xs. pending_in xs day) (requests_of-changed m key changed keys rows) in
+      let same = ap (λ xs. pending_in xs day) (requests_of-changed m key changed edits rows) in
       let fewer = pending_in-changed key changed ends day (requests_of m rows) in
       omega arith
 
@@ -197,7 +194,7 @@ module _ (key : RequestKey) (changed : Request → Request) (keys : (x : Request
       step : (a b : Bool) → bytes_eq row.key.merchant m ≡ a → eqb row.day day ≡ b →
           pending_on m (with_changed key changed rows) day + one_if (a && b) ≤ pending_on m rows day
       step true true e f =
-          let like = ap (λ xs. pending_in xs day) (requests_of-changed m key changed keys rows) in
+          let like = ap (λ xs. pending_in xs day) (requests_of-changed m key changed edits rows) in
           let fewer =
           pending_in-answered key changed ends day (requests_of m rows) row
           (In-filter (λ x. bytes_eq x.key.merchant m) row rows member e) same pending
@@ -209,7 +206,7 @@ module _ (key : RequestKey) (changed : Request → Request) (keys : (x : Request
   -- so what it posts takes its place
   pub within_answered : (limit : ℕ) (ps : List (ℕ × Posting)) (row : Request) (o : Option Posting) →
       In row rows →
-      row.key ≡ key → is_pending row.status ≡ true → IfSome o (IsOf row.key.merchant row.day) →
+      row.key ≡ key → is_pending row.status ≡ true → IfSome o (IsOfDay row.key.merchant row.day) →
       AreCountsWithin limit rows ps →
       AreCountsWithin limit (with_changed key changed rows) (with_next_posting ps o)
   within_answered limit ps row o member same pending of c = record {

@@ -4,10 +4,8 @@ use Rattle.std.proofs.Common.{◌∙◌}
 use Rattle.std.specs.Prelude.{option_and_then}
 use Rattle.acq_core.specs.declared.posting.Posting.{Posting}
 use Rattle.acq_message.specs.declared.service.Service.{Service}
-use Rattle.acq_message.specs.declared.service.Service.TheVariants.{Authorization, Financial}
 use Rattle.acq_message.specs.declared.service.Service.TheVariants.{Completion, Reversal}
-use Rattle.acq_message.specs.declared.service.Service.TheVariants.{ReversalAdvice, Reconciliation}
-use Rattle.acq_message.specs.declared.service.Service.TheVariants.{NetworkManagement}
+use Rattle.acq_message.specs.declared.service.Service.TheVariants.{ReversalAdvice}
 use Rattle.acq_message.specs.Elements.{reference_in, original_key}
 use Rattle.acq_message.specs.declared.request_message.RequestMessage.{RequestMessage}
 use Rattle.acq_core.specs.declared.arrival.Arrival.TheVariants.{Requested}
@@ -45,10 +43,7 @@ posting_by_day Reversal e h r p posts =
     reversed_day e r (option_and_then (λ key. recorded key h) (original_key r.message)) p posts
 posting_by_day ReversalAdvice e h r p posts =
     reversed_day e r (option_and_then (λ key. recorded key h) (original_key r.message)) p posts
-posting_by_day Authorization e h r p posts = absurd (cc)
-posting_by_day Financial e h r p posts = absurd (cc)
-posting_by_day Reconciliation e h r p posts = absurd (cc)
-posting_by_day NetworkManagement e h r p posts = absurd (cc)
+posting_by_day service e h r p posts = absurd (cc)
 
 pub requests_post_today : (e : Entry) (h : List Entry) (r : RequestMessage) (p : Posting) →
     e.arrival ≡ Requested r →

@@ -14,22 +14,20 @@ use Rattle.acq_message.specs.declared.verdict.Verdict.{Verdict}
 use Rattle.acq_message.specs.declared.verdict.Verdict.TheVariants as verdict
 use Rattle.acq_core.specs.Arrivals.{arrival_of}
 use Rattle.acq_core.specs.declared.reply_state.ReplyState.{ReplyState}
-use Rattle.acq_core.specs.declared.reply_state.ReplyState.TheVariants.{Kept, Awaited, Late}
-use Rattle.acq_core.specs.Known.{Prior, Known}
-use Rattle.acq_core.specs.Decision.{Decision, Reports, Replies, Repeats, Refuses, Admits, Completes}
-use Rattle.acq_core.specs.Decision.{Reverses, Reconciles, Answers, CutsOver, AddsRange, DropsRange}
-use Rattle.acq_core.specs.Decision.{Enrols, AddsTerminal, decision}
+use Rattle.acq_core.specs.declared.reply_state.ReplyState.TheVariants.{Kept}
+use Rattle.acq_core.specs.Known.{Prior}
 use Rattle.acq_core.specs.Changes.{change_of, answered_status, reversed_status, answer_posting}
 use Rattle.acq_core.specs.Changes.{approval_posting, reversal_posting, completion_posting}
 use Rattle.acq_core.specs.Tables.{Tables, is_pending, known_in, with_changed, with_next_posting}
-use Rattle.acq_core.specs.Tables.{after_any, step_tables, tables_after}
+use Rattle.acq_core.specs.Tables.{after_any, step_tables, tables_after, prior_of}
 use Rattle.acq_history.specs.DaySums.{postings_on}
 use Rattle.acq_history.specs.Finality.{has_pending}
 use Rattle.acq_history.proofs.Members.{In, In-push, any_none}
-use Rattle.acq_history.proofs.GroundsOfDecision.{Grounds, grounds, Other, Made, changed_is}
 use Rattle.acq_history.proofs.Lookups.{some_is, filter-push_out}
-use Rattle.acq_history.proofs.Statuses.{reply_state_of-awaited}
 use Rattle.acq_history.proofs.DayOfPosting.{reversal_posting_day}
+use Rattle.acq_history.proofs.RowsWithChanges.{Other, Made, changed_is}
+use Rattle.acq_history.proofs.StepCases.{by_step}
+use Rattle.acq_core.specs.declared.arrival.Arrival.{Arrival}
 
 -- ---- what is pending
 
@@ -60,14 +58,12 @@ NonePending-changed day key changed rows none never x member pending on =
 -- an answer ends the wait
 answered_not_pending : (v : Verdict) → answered_status v ≡ Pending → ⊥
 answered_not_pending (verdict.Approved id) e = absurd (cc)
-answered_not_pending (verdict.Declined text) e = absurd (cc)
-answered_not_pending verdict.NoAnswer e = absurd (cc)
+answered_not_pending other e = absurd (cc)
 
 -- so does a reversal
 reversed_not_pending : (s : ReplyState) → reversed_status s ≡ Pending → ⊥
 reversed_not_pending (Kept reply) e = absurd (cc)
-reversed_not_pending (Awaited draft) e = absurd (cc)
-reversed_not_pending Late e = absurd (cc)
+reversed_not_pending other e = absurd (cc)
 
 -- ---- what is posted
 
@@ -92,8 +88,7 @@ approval_day p (Some leg) q e = sym (ap (λ x. x.day) (some_is _ q e))
 -- so does any answer that posts
 answer_day : (v : Verdict) (p : Prior) (q : Posting) → answer_posting v p ≡ Some q → q.day ≡ p.day
 answer_day (verdict.Approved id) p q e = approval_day p p.leg q e
-answer_day (verdict.Declined text) p q e = absurd (cc)
-answer_day verdict.NoAnswer p q e = absurd (cc)
+answer_day other p q e = absurd (cc)
 
 -- ---- steps
 
@@ -107,107 +102,100 @@ record StaysClosed (day : ℕ) (t u : Tables) : Type 0 where
   closed : IsClosed day u
   same : postings_on day u.postings ≡ postings_on day t.postings
 
--- each decision leaves a closed day as it is
-stays : (day : ℕ) (t : Tables) (k : Known) (d : Decision) → k.today ≡ t.day → Grounds t d →
-    IsClosed day t →
-    StaysClosed day t (after_any t (change_of k d))
-stays day t k (Reports o) e g c = record { closed = c; same = refl }
-stays day t k (Replies r code) e g c = record { closed = c; same = refl }
-stays day t k (Repeats reply) e g c = record { closed = c; same = refl }
-stays day t k (Refuses r code) e g c = record {
-  closed = record {
-    past = c.past;
-    none = NonePending-push day t.requests _ c.none
-        (λ s on. absurd (cc));
-  };
+-- a row more that isn't pending on it, and posts nothing
+stays_with_row : (day : ℕ) (t : Tables) (row : Request) →
+    (row.status ≡ Pending → row.day ≡ day → ⊥) → IsClosed day t →
+    StaysClosed day t (record t { requests = t.requests ++ row ∷ [] })
+stays_with_row day t row never c = record {
+  closed = record { past = c.past; none = NonePending-push day t.requests row c.none never };
   same = refl;
 }
-stays day t k (Admits r range reference) e g c = record {
-  closed =
-      record {
-        past = c.past;
-        none = NonePending-push day t.requests _ c.none (λ s on. let past = c.past in omega arith);
+
+-- each step leaves a closed day as it is
+stays : (day : ℕ) (t : Tables) (a : Arrival) → IsClosed day t → StaysClosed day t (step_tables t a)
+stays day t a c =
+    by_step t a (λ d. StaysClosed day t (after_any t (change_of (known_in t a) d)))
+    (record {
+      reported = λ o not. record { closed = c; same = refl };
+      malformed = λ r came. record { closed = c; same = refl };
+      replied = λ r came given hosts. record { closed = c; same = refl };
+      repeated = λ row member. record { closed = c; same = refl };
+      refused = λ r merchant g given hosts. stays_with_row day t _ (λ s on. absurd (cc)) c;
+      admitted = λ r merchant g range own.
+          stays_with_row day t _ (λ s on. let past = c.past in omega arith) c;
+      completed = λ r merchant g hold own. record {
+        closed =
+            record {
+              past = c.past;
+              none =
+                  NonePending-push day _ _
+                  (NonePending-changed day hold.key _ t.requests c.none (λ row s. absurd (cc)))
+                  (λ s on. absurd (cc));
+            };
+        same =
+            posted_elsewhere day t.postings (Some (completion_posting t.day r (prior_of hold)))
+            (λ p q on. let past = c.past in let posted : t.day ≡ p.day =
+            ap (λ x. x.day) (some_is _ p q)
+            in omega arith);
       };
-  same = refl;
-}
-stays day t k (Completes r hold) e g c = record {
-  closed =
-      record {
-        past = c.past;
-        none =
-            NonePending-push day _ _
-            (NonePending-changed day hold.key _ t.requests c.none (λ row s. absurd (cc)))
-            (λ s on. absurd (cc));
+      reversed = λ r merchant g row own. record {
+        closed =
+            record {
+              past = c.past;
+              none =
+                  NonePending-push day _ _
+                  (NonePending-changed day row.key _ t.requests c.none
+                  (λ x s. reversed_not_pending _ s))
+                  (λ s on. absurd (cc));
+            };
+        same =
+            posted_elsewhere day t.postings (reversal_posting t.day r (prior_of row))
+            (λ q posted on. let past = c.past in let today =
+            reversal_posting_day t.day r (prior_of row) q posted in
+            omega arith);
       };
-  same =
-      posted_elsewhere day t.postings (Some (completion_posting k.today r hold))
-      (λ p q on. let past = c.past in let posted : k.today ≡ p.day = ap (λ x. x.day) (some_is _ p q)
-      in omega arith);
-}
-stays day t k (Reverses r p) e g c = record {
-  closed =
-      record {
-        past = c.past;
-        none =
-            NonePending-push day _ _
-            (NonePending-changed day p.key _ t.requests c.none
-            (λ row s. reversed_not_pending p.reply_state s))
-            (λ s on. absurd (cc));
+      reconciled = λ r merchant g when own.
+          record {
+            closed = record {
+              past = c.past;
+              none = NonePending-push day t.requests _ c.none (λ s on. absurd (cc));
+            };
+            same = refl;
+          };
+      answered = λ moment v row own. record {
+        closed =
+            record {
+              past = c.past;
+              none = NonePending-changed day row.key _ t.requests c.none
+                  (λ x s. answered_not_pending v s);
+            };
+        same =
+            posted_elsewhere day t.postings (answer_posting v (prior_of row))
+            (λ q posted on. c.none row own.member own.pending
+            (sym (answer_day v (prior_of row) q posted) ∙ on));
       };
-  same =
-      posted_elsewhere day t.postings (reversal_posting k.today r p)
-      (λ q posted on. let past = c.past in let today = reversal_posting_day k.today r p q posted in
-      omega arith);
-}
-stays day t k (Reconciles r when) e g c = record {
-  closed = record {
-    past = c.past;
-    none = NonePending-push day t.requests _ c.none
-        (λ s on. absurd (cc));
-  };
-  same = refl;
-}
-stays day t k (Answers moment v p draft) e g c = record {
-  closed =
-      record {
-        past = c.past;
-        none = NonePending-changed day p.key _ t.requests c.none
-            (λ row s. answered_not_pending v s);
-      };
-  same = posted_elsewhere day t.postings (answer_posting v p)
-      (λ q posted on. answered_elsewhere q posted on);
-}
-  where
-    answered_elsewhere : (q : Posting) → answer_posting v p ≡ Some q → q.day ≡ day → ⊥
-    answered_elsewhere q posted on =
-        let found = g.referred.found in
-        c.none found.row found.member
-        (reply_state_of-awaited found.row.status found.row.reply draft
-        (ap (λ x. x.reply_state) found.says ∙ g.awaited))
-        (ap (λ x. x.day) found.says ∙ (sym (answer_day v p q posted) ∙ on))
-stays day t k CutsOver e g c =
-    record {
-      closed = record { past = let past = c.past in omega arith; none = c.none };
-      same =
-          refl;
-    }
-stays day t k (AddsRange range) e g c =
-    record { closed = record { past = c.past; none = c.none }; same = refl }
-stays day t k (DropsRange low high) e g c =
-    record { closed = record { past = c.past; none = c.none }; same = refl }
-stays day t k (Enrols merchant) e g c =
-    record { closed = record { past = c.past; none = c.none }; same = refl }
-stays day t k (AddsTerminal terminal) e g c =
-    record { closed = record { past = c.past; none = c.none }; same = refl }
+      cut_over = λ came before.
+          record {
+            closed = record { past = let past = c.past in omega arith; none = c.none };
+            same = refl;
+          };
+      range_added = λ range came valid free.
+          record { closed = record { past = c.past; none = c.none }; same = refl };
+      range_dropped = λ low high came.
+          record { closed = record { past = c.past; none = c.none }; same = refl };
+      enrolled = λ merchant came new.
+          record { closed = record { past = c.past; none = c.none }; same = refl };
+      terminal_added = λ terminal came new.
+          record { closed = record { past = c.past; none = c.none }; same = refl };
+    })
 
 -- so do events, one after the other
 stays_after : (day : ℕ) (t : Tables) (es : List Event) → IsClosed day t →
     StaysClosed day t (tables_after t es)
 stays_after day t [] c = record { closed = c; same = refl }
 stays_after day t (e ∷ es) c =
-    let a = arrival_of e in
-    let step = stays day t (known_in t a) (decision (known_in t a) a) refl (grounds t a) c in
-    let rest = stays_after day (step_tables t a) es step.closed in
+    let step = stays day t (arrival_of e) c in
+    let rest = stays_after day (step_tables t (arrival_of e)) es step.closed in
     record { closed = rest.closed; same = rest.same ∙ step.same }
 
 -- events behind others

@@ -12,6 +12,11 @@ use Rattle.acq_core.specs.Tables.{Tables, prior_of, requests_of, recorded_in, re
 use Rattle.acq_history.proofs.Members.{In, In-find, In-find_none, In-filter, In-filtered}
 use Rattle.acq_history.proofs.Lookups.{map_some, map_none, then_some}
 use Rattle.acq_history.proofs.Keys.{bytes_eq_is, bytes_eq_from, same_key_from}
+use Rattle.acq_core.specs.declared.merchant.Merchant.{Merchant}
+
+-- the merchant with a name
+abbrev pub merchant_among : List Merchant → List ℕ → Option Merchant
+merchant_among merchants m = find (λ row. bytes_eq row.id m) merchants
 
 -- no request has this key
 abbrev pub IsNew : Tables → RequestKey → Type 0

@@ -43,12 +43,7 @@ service_with digits =
 -- the digits of a type name its service
 service_back : (s : Service) → service_with (digits_of s) ≡ s
 service_back Authorization = refl
-service_back Financial = refl
-service_back Completion = refl
-service_back Reversal = refl
-service_back ReversalAdvice = refl
-service_back Reconciliation = refl
-service_back NetworkManagement = refl
+service_back service = refl
 
 pub same_service_is : (a b : Service) → same_service a b ≡ true → a ≡ b
 same_service_is a b e =

@@ -1,6 +1,6 @@
 -- Keys stay unique, whatever comes.
-use Rattle.std.proofs.Common.{◌≡◌, List, [], ◌∷◌, ◌++◌, Bool, true, false, cond, inl, inr, refl}
-use Rattle.std.proofs.Common.{sym, ap, ◌∙◌, subst}
+use Rattle.std.proofs.Common.{◌≡◌, List, [], ◌∷◌, ◌++◌, Bool, true, false, inl, inr, refl, sym, ap}
+use Rattle.std.proofs.Common.{◌∙◌, subst, ℕ}
 use Rattle.std.specs.Prelude.{map, not, ◌||◌}
 use Rattle.std.specs.List.{list_any}
 use Rattle.std.specs.Str.{bytes_eq}
@@ -18,7 +18,10 @@ use Rattle.acq_history.proofs.Members.{In}
 use Rattle.acq_history.proofs.Keys.{same_key_is}
 use Rattle.acq_history.specs.Keys.{are_distinct, same_terminal, HasUniqueKeys, KeysStayUnique}
 use Rattle.acq_history.proofs.StepCases.{by_step}
+use Rattle.acq_history.proofs.RowsWithChanges.{Edits, changing_kept, followed_kept, answered_kept}
 use Rattle.acq_history.proofs.Runs.{kept}
+use Rattle.acq_core.specs.declared.posting.Posting.{Posting}
+use Rattle.acq_core.specs.declared.reconciliation.Reconciliation.{Reconciliation}
 
 -- ---- lists whose elements are distinct
 
@@ -58,16 +61,13 @@ none_same (row ∷ rows) key new =
     ] in
     λ i. step (same_key row.key key) refl i || none_same rows key (λ x member. new x (inr member)) i
 
--- a change that keeps keys
-keys-with_changed : (key : RequestKey) (changed : Request → Request) →
-    ((x : Request) → (changed x).key ≡ x.key) →
+-- a change keeps keys
+keys-with_changed : (key : RequestKey) (changed : Request → Request) → Edits changed →
     (rows : List Request) →
     map (λ row. row.key) (with_changed key changed rows) ≡ map (λ row. row.key) rows
-keys-with_changed key changed keeps [] = refl
-keys-with_changed key changed keeps (x ∷ xs) =
-    let one : (b : Bool) →
-    (cond b (changed x) x).key ≡ x.key = elim [ true ↦ keeps x | false ↦ refl ] in
-    λ i. one (same_key x.key key) i ∷ keys-with_changed key changed keeps xs i
+keys-with_changed key changed edits [] = refl
+keys-with_changed key changed edits (x ∷ xs) =
+    λ i. (changing_kept key changed edits x).key i ∷ keys-with_changed key changed edits xs i
 
 -- requests with these keys and a new one behind them
 abbrev pub AreUnique : List Request → Type 0
@@ -84,6 +84,13 @@ unique_with_row rows later row same new h =
 
 -- ---- steps
 
+-- tables with other requests
+unique_with : {t : Tables} {rows : List Request} {ps : List (ℕ × Posting)}
+    {rs : List (ℕ × Reconciliation)} → HasUniqueKeys t → AreUnique rows →
+    HasUniqueKeys (record t { requests = rows; postings = ps; reconciliations = rs })
+unique_with h unique =
+    record { requests = unique; merchants = h.merchants; terminals = h.terminals }
+
 pub unique_after_step : (t : Tables) (a : Arrival) → HasUniqueKeys t →
     HasUniqueKeys (step_tables t a)
 unique_after_step t a h =
@@ -93,56 +100,39 @@ unique_after_step t a h =
       malformed = λ r came. h;
       replied = λ r came given is. h;
       repeated = λ row member. h;
-      refused = λ r came merchant g given is.
-          record {
-            requests = unique_with_row t.requests t.requests _ refl g.new h.requests;
-            merchants = h.merchants;
-            terminals = h.terminals;
-          };
-      admitted = λ r came merchant g service amount room range held.
-          record {
-            requests = unique_with_row t.requests t.requests _ refl g.new h.requests;
-            merchants = h.merchants;
-            terminals = h.terminals;
-          };
-      completed = λ r came merchant g service amount room hold own.
+      refused = λ r merchant g given is.
+          unique_with h (unique_with_row t.requests t.requests _ refl g.new h.requests);
+      admitted = λ r merchant g range c.
+          unique_with h (unique_with_row t.requests t.requests _ refl g.new h.requests);
+      completed = λ r merchant g hold c.
           record {
             requests =
-                unique_with_row t.requests _ _ (keys-with_changed hold.key _ (λ x. refl) t.requests)
+                unique_with_row t.requests _ _
+                (keys-with_changed hold.key _ (followed_kept _) t.requests)
                 g.new h.requests;
             merchants = h.merchants;
             terminals = h.terminals;
           };
-      reversed = λ r came merchant g service room row own.
+      reversed = λ r merchant g row c.
           record {
             requests =
-                unique_with_row t.requests _ _ (keys-with_changed row.key _ (λ x. refl) t.requests)
+                unique_with_row t.requests _ _
+                (keys-with_changed row.key _ (followed_kept _) t.requests)
                 g.new h.requests;
             merchants = h.merchants;
             terminals = h.terminals;
           };
-      reconciled = λ r came merchant g service day is.
-          record {
-            requests = unique_with_row t.requests t.requests _ refl g.new h.requests;
-            merchants = h.merchants;
-            terminals = h.terminals;
-          };
-      answered = λ moment merchant reference v came row member pending n under.
-          record {
-            requests = subst (λ ks. are_distinct same_key ks ≡ true)
-                (sym (keys-with_changed row.key _ (λ x. refl) t.requests)) h.requests;
-            merchants = h.merchants;
-            terminals = h.terminals;
-          };
-      cut_over = λ before. record {
-        requests = h.requests;
-        merchants = h.merchants;
-        terminals =
-            h.terminals;
-      };
-      range_added = λ range valid free.
+      reconciled = λ r merchant g day c.
+          unique_with h (unique_with_row t.requests t.requests _ refl g.new h.requests);
+      answered = λ moment v row c.
+          unique_with h
+          (subst (λ ks. are_distinct same_key ks ≡ true)
+          (sym (keys-with_changed row.key _ (answered_kept _ _ _) t.requests)) h.requests);
+      cut_over = λ came before.
           record { requests = h.requests; merchants = h.merchants; terminals = h.terminals };
-      range_dropped = λ low high.
+      range_added = λ range came valid free.
+          record { requests = h.requests; merchants = h.merchants; terminals = h.terminals };
+      range_dropped = λ low high came.
           record { requests = h.requests; merchants = h.merchants; terminals = h.terminals };
       enrolled = λ merchant came new. record {
         requests = h.requests;

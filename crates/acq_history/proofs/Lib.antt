@@ -7,7 +7,6 @@ pub mod NextReference
 pub mod DayOfPosting
 pub mod FoundRows
 pub mod StepCases
-pub mod GroundsOfDecision
 pub mod Runs
 pub mod RangesStayApart
 pub mod KeysStayUnique

@@ -1,21 +1,18 @@
 -- Isolation of a merchant, over whole runs: its outputs, its postings and its open holds.
-use Rattle.std.proofs.Common.{◌≡◌, ℕ, List, [], ◌∷◌, Option, Some, Bool, true, false, refl, sym, ap}
-use Rattle.std.proofs.Common.{◌∙◌}
+use Rattle.std.proofs.Common.{◌≡◌, ℕ, List, [], Option, Some, Bool, true, false, refl, sym, ap, ◌∙◌}
 use Rattle.std.specs.Prelude.{map, ◌||◌}
 use Rattle.acq_core.specs.declared.event.Event.{Event}
 use Rattle.acq_core.specs.declared.arrival.Arrival.{Arrival}
 use Rattle.acq_core.specs.Arrivals.{arrival_of, merchant_named, is_shared}
 use Rattle.acq_core.specs.Known.{Prior}
-use Rattle.acq_core.specs.Outcome.{output_of}
-use Rattle.acq_core.specs.Tables.{Opening, Tables, new_tables, requests_of, step_output}
-use Rattle.acq_core.specs.Tables.{step_tables}
+use Rattle.acq_core.specs.Tables.{Opening, Tables, new_tables, requests_of}
 use Rattle.acq_history.specs.Entries.{Entry}
-use Rattle.acq_history.specs.PartyHistory.{names, is_of, entry_for, book_after, history_of}
+use Rattle.acq_history.specs.PartyHistory.{names, is_of, book_after, history_of}
 use Rattle.acq_history.specs.Isolation.{open_at, all_recorded, IsIsolated, PostsAlone, HoldsAlone}
 use Rattle.acq_history.proofs.Lookups.{map-both}
 use Rattle.acq_history.proofs.RequestsAfterNewEntry.{line, shown}
 use Rattle.acq_history.proofs.TablesAgreeWithHistory.{Agrees, names_is}
-use Rattle.acq_history.proofs.OwnStep.{step_mine, step_shared}
+use Rattle.acq_history.proofs.OwnStep.{step_mine, step_shared, IsStep}
 use Rattle.acq_history.proofs.WholeRuns.{KeepsAgreement, whole_run}
 use Rattle.acq_history.proofs.OtherPartysStep.{alike_agrees, other_step, naming_of}
 
@@ -34,22 +31,16 @@ new_agrees opening m = record {
   posted = refl;
 }
 
--- the step of an event that is the merchant's, or shared
-abbrev pub IsStep : Opening → List ℕ → Tables → List Entry → Arrival → Type 0
-IsStep opening m t h a =
-    (step_output t a ≡ output_of (merchant_named a) (entry_for opening h a).outcome)
-    × Agrees opening m (step_tables t a) (entry_for opening h a ∷ h)
-
 -- an event of the merchant's, or a shared one, has the same output, and the agreement stays
-pub own_step : (opening : Opening) (m : List ℕ) (t : Tables) (h : List Entry) →
+pub own_step : {opening : Opening} {m : List ℕ} {t : Tables} {h : List Entry} →
     Agrees opening m t h → (a : Arrival) →
     (is_of (Some m) a || is_shared a) ≡ true → IsStep opening m t h a
-own_step opening m t h g a mine =
+own_step {opening} {m} {t} {h} g a mine =
     let step : (b : Bool) → names (merchant_named a) m ≡ b → (b || is_shared a) ≡ true →
     IsStep opening m t h a =
     elim [
-      | true ↦ (λ e shared. step_mine opening m t h g a (names_is (merchant_named a) m e))
-      | false ↦ (λ e shared. step_shared opening m t h g a shared)
+      | true ↦ (λ e shared. step_mine g a (names_is (merchant_named a) m e))
+      | false ↦ (λ e shared. step_shared g a shared)
     ] in
     step (names (merchant_named a) m) refl mine
 
@@ -57,12 +48,11 @@ own_step opening m t h g a mine =
 keeps_agreement : (opening : Opening) (m : List ℕ) →
     KeepsAgreement opening (Some m) (Agrees opening m)
 keeps_agreement opening m = record {
-  own_event = λ t h e g mine. own_step opening m t h g (arrival_of e)
+  own_event = λ t h e g mine. own_step g (arrival_of e)
       (ap (λ b. b || is_shared (arrival_of e)) mine);
-  shared_event = λ t h e g shared. (step_shared opening m t h g (arrival_of e) shared).1;
+  shared_event = λ t h e g shared. (step_shared g (arrival_of e) shared).1;
   other_event = λ t h e g other alone.
-      alike_agrees opening m t (step_tables t (arrival_of e)) h
-      (other_step m t (arrival_of e) (naming_of e) other alone) g;
+      alike_agrees (other_step m t (arrival_of e) (naming_of e) other alone) g;
 }
 
 -- from a new book
@@ -80,11 +70,11 @@ merchant_isolated m opening past further =
     (book_after opening past)
     (history_of opening (Some m) past) (from_new opening m past) further).0
 
-pub posted : (m : List ℕ) → PostsAlone m
-posted m opening es = (from_new opening m es).posted
+pub posts_alone : (m : List ℕ) → PostsAlone m
+posts_alone m opening es = (from_new opening m es).posted
 
-pub holds : (m : List ℕ) → HoldsAlone m
-holds m opening moment es =
+pub holds_alone : (m : List ℕ) → HoldsAlone m
+holds_alone m opening moment es =
     let rows = requests_of m (book_after opening es).requests in
     let founds = all_recorded (history_of opening (Some m) es) in
     ap (open_at moment)

@@ -10,20 +10,19 @@ use Rattle.day_totals.specs.declared.leg.Leg.TheVariants.{Debit}
 use Rattle.acq_message.specs.declared.service.Service.{Service}
 use Rattle.acq_message.specs.declared.service.Service.TheVariants.{Authorization, Financial}
 use Rattle.acq_message.specs.declared.service.Service.TheVariants.{Completion, Reversal}
-use Rattle.acq_message.specs.declared.service.Service.TheVariants.{ReversalAdvice, Reconciliation}
-use Rattle.acq_message.specs.declared.service.Service.TheVariants.{NetworkManagement}
+use Rattle.acq_message.specs.declared.service.Service.TheVariants.{ReversalAdvice}
 use Rattle.acq_core.specs.declared.request.Request.{Request}
 use Rattle.acq_core.specs.declared.query.Query.{Query}
 use Rattle.acq_core.specs.declared.status.Status.{Status}
 use Rattle.acq_message.specs.declared.response_code.ResponseCode.{ResponseCode}
 use Rattle.acq_message.specs.declared.response_code.ResponseCode.TheVariants as code
 use Rattle.acq_message.specs.Elements.{key_of, essence_of, amount_in, reference_in, or_empty}
+use Rattle.acq_message.specs.Elements.{sale_leg}
 use Rattle.acq_message.specs.Cards.{card_of}
 use Rattle.acq_message.specs.declared.request_message.RequestMessage.{RequestMessage}
 use Rattle.acq_core.specs.Known.{Prior}
 use Rattle.acq_core.specs.declared.reply_state.ReplyState.TheVariants.{Kept, Awaited}
 use Rattle.acq_core.specs.Outcome.{Outcome, Replied, Asked}
-use Rattle.acq_message.specs.Elements.{sale_leg}
 use Rattle.acq_core.specs.Changes.{refused_row, admitted_row, completion_row, reversal_row}
 use Rattle.acq_message.specs.Reply.{coded_reply, referring_reply, draft_reply}
 use Rattle.acq_core.specs.Tables.{prior_of}
@@ -33,7 +32,8 @@ use Rattle.acq_history.specs.History.{Found, newest, referred, next_reference, i
 use Rattle.acq_history.specs.History.{is_accepted, reference_of, reference_by, leg_by, card_by}
 use Rattle.acq_history.specs.History.{hold_days_of, hold_of, any_with, prior}
 use Rattle.acq_history.proofs.RecordedInHistory.{admits_first, reference_if}
-use Rattle.acq_history.proofs.RequestsAfterNewEntry.{prior_with, prior_is, open_with, line, shown}
+use Rattle.acq_history.proofs.RequestsAfterNewEntry.{prior_is, line, shown, prior_by, open_by}
+use Rattle.acq_history.proofs.RequestsAfterNewEntry.{untouched}
 
 answer_to_none : (o : Option ℕ) → option_and_then (λ n. find (is_answer n) []) o ≡ None
 answer_to_none None = refl
@@ -45,48 +45,36 @@ any_with_none (Some n) = refl
 
 -- nothing came after the newest entry
 prior_newest : (r : RequestMessage) (e : Entry) (h : List Entry) →
-    prior (newest r e h) ≡ prior_with None false false (newest r e h)
+    prior (newest r e h) ≡ prior_by untouched (newest r e h)
 prior_newest r e h =
-    let f =
-    newest r e h in
-    prior_is f ∙ (λ i. prior_with (answer_to_none (reference_of f) i)
-    (any_with_none (reference_of f) i) false f)
+    let f = newest r e h in
+    prior_is f ∙ (λ i. prior_by (record {
+      answer = answer_to_none (reference_of f) i;
+      completed = any_with_none (reference_of f) i;
+      reversed = false;
+    }) f)
 
 -- ---- what is neither admitted nor accepted
 
 module _ (f : Found) (admitted : is_admitted f ≡ false) (accepted : is_accepted f ≡ false) where
   idle_leg : (s : Service) → leg_by s f ≡ None
-  idle_leg Authorization = refl
   idle_leg Financial = ap (λ b. cond b (Some (sale_leg f.request.message)) None) admitted
   idle_leg Completion = ap (λ b. cond b (Some Debit) None) accepted
-  idle_leg Reversal = refl
-  idle_leg ReversalAdvice = refl
-  idle_leg Reconciliation = refl
-  idle_leg NetworkManagement = refl
+  idle_leg service = refl
 
   idle_card : (s : Service) → card_by s f ≡ card_of f.request.message
-  idle_card Authorization = refl
-  idle_card Financial = refl
   idle_card Completion =
       ap (λ b. cond b (option_and_then (λ hold. card_of hold.request.message) (hold_of f))
       (card_of f.request.message))
       accepted
-  idle_card Reversal = refl
-  idle_card ReversalAdvice = refl
-  idle_card Reconciliation = refl
-  idle_card NetworkManagement = refl
+  idle_card service = refl
 
   idle_reference : reference_of f ≡ None
   idle_reference = ap (λ b. cond b (Some (next_reference f.before)) None) admitted
 
   idle_reference_by : (s : Service) → reference_by s f ≡ None
-  idle_reference_by Authorization = idle_reference
-  idle_reference_by Financial = idle_reference
   idle_reference_by Completion = ap (λ b. cond b (reference_in f.request.message) None) accepted
-  idle_reference_by Reversal = idle_reference
-  idle_reference_by ReversalAdvice = idle_reference
-  idle_reference_by Reconciliation = idle_reference
-  idle_reference_by NetworkManagement = idle_reference
+  idle_reference_by service = idle_reference
 
   idle_days : hold_days_of f ≡ None
   idle_days =
@@ -96,43 +84,24 @@ module _ (f : Found) (admitted : is_admitted f ≡ false) (accepted : is_accepte
       admitted
 
 -- without an answer nothing is open
-idle_open : (s : Service) (days : Option ℕ) → open_with s days None false false ≡ None
+idle_open : (s : Service) (days : Option ℕ) → open_by s days untouched ≡ None
 idle_open Authorization days = refl
-idle_open Financial days = refl
-idle_open Completion days = refl
-idle_open Reversal days = refl
-idle_open ReversalAdvice days = refl
-idle_open Reconciliation days = refl
-idle_open NetworkManagement days = refl
+idle_open service days = refl
 
 module _ (row : Request) (alone : row.reference ≡ None) (first : row.follows ≡ None) where
   row_leg : (s : Service) → tables.leg_by s row ≡ None
-  row_leg Authorization = refl
   row_leg Financial = ap (option_map (λ reference. row.leg)) alone
   row_leg Completion = ap (option_map (λ reference. row.leg)) first
-  row_leg Reversal = refl
-  row_leg ReversalAdvice = refl
-  row_leg Reconciliation = refl
-  row_leg NetworkManagement = refl
+  row_leg service = refl
 
   row_reference : (s : Service) → tables.reference_by s row ≡ None
-  row_reference Authorization = alone
-  row_reference Financial = alone
   row_reference Completion = first
-  row_reference Reversal = alone
-  row_reference ReversalAdvice = alone
-  row_reference Reconciliation = alone
-  row_reference NetworkManagement = alone
+  row_reference service = alone
 
 row_open : (row : Request) → tables.is_approved row.status ≡ false → (s : Service) →
     tables.hold_end_by s row ≡ None
 row_open row off Authorization = ap (λ b. cond b row.hold_end None) off
-row_open row off Financial = refl
-row_open row off Completion = refl
-row_open row off Reversal = refl
-row_open row off ReversalAdvice = refl
-row_open row off Reconciliation = refl
-row_open row off NetworkManagement = refl
+row_open row off service = refl
 
 -- a refused request, or a reconciliation
 pub idle_line : (r : RequestMessage) (e : Entry) (h : List Entry) (given : ResponseCode)
@@ -146,7 +115,7 @@ pub idle_line : (r : RequestMessage) (e : Entry) (h : List Entry) (given : Respo
 idle_line r e h given reply s replied admitted accepted state reversible closed =
     let f = newest r e h in
     let row : Request = record (refused_row e.day r given) { status = s; reply = reply } in
-    let whole : prior_of row ≡ prior_with None false false f = λ i. record {
+    let whole : prior_of row ≡ prior_by untouched f = λ i. record {
       key = key_of r.service r.message;
       essence = essence_of r.service r.message;
       day = e.day;
@@ -159,7 +128,7 @@ idle_line r e h given reply s replied admitted accepted state reversible closed 
       hold_days = sym (idle_days f admitted accepted) i;
       reply_state =
           (state ∙ (λ i.
-          (prior_with None false false
+          (prior_by untouched
           (newest r (record e { outcome = sym replied i }) h)).reply_state))
           i;
       is_reversible =
@@ -168,95 +137,66 @@ idle_line r e h given reply s replied admitted accepted state reversible closed 
     } in
     λ i. ((whole ∙ sym (prior_newest r e h)) i, sym (idle_reference f admitted accepted) i)
 
--- an authorization, a sale or a return that is admitted
-pub admitted_line : (moment : ℕ) (s : Service) (message : IsoMessage) (range : Range) (n : ℕ)
-    (query : Query)
-    (e : Entry) (h : List Entry) →
-    let r : RequestMessage = record { moment = moment; service = s; message = message } in
-    is_admissible s ≡ true → e.outcome ≡ Asked query → is_admitted (newest r e h) ≡ true →
-    n ≡ next_reference h →
-    range_of_prefix e.ranges (prefix_of (or_empty (card_of message))) ≡ Some range →
-    line (admitted_row e.day r range n) ≡ shown (newest r e h)
-admitted_line moment Authorization message range n query e h fits asked adm is in_range =
-    let r : RequestMessage = record { moment = moment; service = Authorization; message = message }
-    in
-    let f = newest r e h in
-    let row = admitted_row e.day r range n in
-    let reference : Some n ≡ reference_of f = λ i. cond (sym adm i) (Some (is i)) None in
-    let whole : prior_of row ≡ prior_with None false false f = λ i. record {
-      key = key_of r.service r.message;
-      essence = essence_of r.service r.message;
-      day = e.day;
-      amount = amount_in r.message;
-      leg = None;
-      card = card_of message;
-      acquirer = content_of r.message.elements 32;
-      reference = reference i;
-      hold_days = cond (sym adm i) (option_map (λ range. range.hold_days) (sym in_range i)) None;
-      reply_state =
-          ((λ i. Awaited (draft_reply e.day r (is i)))
-          ∙ (λ i. (prior_with None false false
-          (newest r (record e { outcome = sym asked i }) h)).reply_state)) i;
-      is_reversible = (sym adm i || false) && true && true && true;
-      hold_end = None;
-    } in
-    λ i. ((whole ∙ sym (prior_newest r e h)) i, reference i)
-admitted_line moment Financial message range n query e h fits asked adm is in_range =
-    let r : RequestMessage = record { moment = moment; service = Financial; message = message } in
-    let f = newest r e h in
-    let row = admitted_row e.day r range n in
-    let reference : Some n ≡ reference_of f = λ i. cond (sym adm i) (Some (is i)) None in
-    let whole : prior_of row ≡ prior_with None false false f = λ i. record {
-      key = key_of r.service r.message;
-      essence = essence_of r.service r.message;
-      day = e.day;
-      amount = amount_in r.message;
-      leg = cond (sym adm i) (Some (sale_leg message)) None;
-      card = card_of message;
-      acquirer = content_of r.message.elements 32;
-      reference = reference i;
-      hold_days = cond (sym adm i) (option_map (λ range. range.hold_days) (sym in_range i)) None;
-      reply_state =
-          ((λ i. Awaited (draft_reply e.day r (is i)))
-          ∙ (λ i. (prior_with None false false
-          (newest r (record e { outcome = sym asked i }) h)).reply_state)) i;
-      is_reversible = (sym adm i || false) && true && true && true;
-      hold_end = None;
-    } in
-    λ i. ((whole ∙ sym (prior_newest r e h)) i, reference i)
-admitted_line moment Completion message range n query e h fits asked adm is in_range = absurd (cc)
-admitted_line moment Reversal message range n query e h fits asked adm is in_range = absurd (cc)
-admitted_line moment ReversalAdvice message range n query e h fits asked adm is in_range =
-    absurd (cc)
-admitted_line moment Reconciliation message range n query e h fits asked adm is in_range =
-    absurd (cc)
-admitted_line moment NetworkManagement message range n query e h fits asked adm is in_range =
-    absurd (cc)
-
--- ---- the hold that is completed
-
--- a hold shows its own reference
-hold_reference : (g : Found) (n : ℕ) (s : Service) → is_admissible s ≡ true →
+-- what is admitted shows its own reference and its own card
+own_reference : (g : Found) (n : ℕ) (s : Service) → is_admissible s ≡ true →
     reference_of g ≡ Some n →
     reference_by s g ≡ Some n
-hold_reference g n Authorization fits is = is
-hold_reference g n Financial fits is = is
-hold_reference g n Completion fits is = absurd (cc)
-hold_reference g n Reversal fits is = is
-hold_reference g n ReversalAdvice fits is = is
-hold_reference g n Reconciliation fits is = is
-hold_reference g n NetworkManagement fits is = is
+own_reference g n Completion fits is = absurd (cc)
+own_reference g n service fits is = is
 
--- and its own card
-hold_card : (g : Found) (s : Service) → is_admissible s ≡ true →
+own_card : (g : Found) (s : Service) → is_admissible s ≡ true →
     card_by s g ≡ card_of g.request.message
-hold_card g Authorization fits = refl
-hold_card g Financial fits = refl
-hold_card g Completion fits = absurd (cc)
-hold_card g Reversal fits = refl
-hold_card g ReversalAdvice fits = refl
-hold_card g Reconciliation fits = refl
-hold_card g NetworkManagement fits = refl
+own_card g Completion fits = absurd (cc)
+own_card g service fits = refl
+
+row_reference_admitted : (row : Request) (s : Service) → is_admissible s ≡ true →
+    tables.reference_by s row ≡ row.reference
+row_reference_admitted row Completion fits = absurd (cc)
+row_reference_admitted row service fits = refl
+
+-- a sale and a return have a leg
+admitted_leg_is : (moment : ℕ) (s : Service) (message : IsoMessage) (range : Range) (n : ℕ)
+    (e : Entry) (h : List Entry) →
+    let r : RequestMessage = record { moment = moment; service = s; message = message } in
+    is_admissible s ≡ true → is_admitted (newest r e h) ≡ true →
+    tables.leg_by s (admitted_row e.day r range n) ≡ leg_by s (newest r e h)
+admitted_leg_is moment Authorization message range n e h fits adm = refl
+admitted_leg_is moment Financial message range n e h fits adm =
+    λ i. cond (sym adm i) (Some (sale_leg message)) None
+admitted_leg_is moment service message range n e h fits adm = absurd (cc)
+
+-- an authorization, a sale or a return that is admitted
+pub admitted_line : (r : RequestMessage) (range : Range) (n : ℕ) (query : Query) (e : Entry)
+    (h : List Entry) →
+    is_admissible r.service ≡ true → e.outcome ≡ Asked query → is_admitted (newest r e h) ≡ true →
+    n ≡ next_reference h →
+    range_of_prefix e.ranges (prefix_of (or_empty (card_of r.message))) ≡ Some range →
+    line (admitted_row e.day r range n) ≡ shown (newest r e h)
+admitted_line r range n query e h fits asked adm is in_range =
+    let f = newest r e h in
+    let row = admitted_row e.day r range n in
+    let reference : Some n ≡ reference_of f = λ i. cond (sym adm i) (Some (is i)) None in
+    let whole : prior_of row ≡ prior_by untouched f = λ i. record {
+      key = key_of r.service r.message;
+      essence = essence_of r.service r.message;
+      day = e.day;
+      amount = amount_in r.message;
+      leg = admitted_leg_is r.moment r.service r.message range n e h fits adm i;
+      card = sym (own_card f r.service fits) i;
+      acquirer = content_of r.message.elements 32;
+      reference = (row_reference_admitted row r.service fits
+          ∙ sym (own_reference f n r.service fits (sym reference))) i;
+      hold_days = cond (sym adm i) (option_map (λ range. range.hold_days) (sym in_range i)) None;
+      reply_state =
+          ((λ i. Awaited (draft_reply e.day r (is i)))
+          ∙ (λ i. (prior_by untouched
+          (newest r (record e { outcome = sym asked i }) h)).reply_state)) i;
+      is_reversible = (sym adm i || is_accepted f) && true && true && true;
+      hold_end = (row_open row refl r.service ∙ sym (idle_open r.service (hold_days_of f))) i;
+    } in
+    λ i. ((whole ∙ sym (prior_newest r e h)) i, reference i)
+
+-- ---- the hold that is completed
 
 -- what has a reference is an authorization, a sale or a return
 pub admissible_is : (g : Found) (n : ℕ) → reference_of g ≡ Some n →
@@ -279,14 +219,14 @@ completed_line moment message hold n g e h replied asks found numbered is =
     let x : Outcome → Found = λ o. newest r (record e { outcome = o }) h in
     let fits = admissible_is g n numbered in
     let reference : hold.reference ≡ Some n =
-    ap (λ p. p.reference) (sym is) ∙ hold_reference g n g.request.service fits numbered in
+    ap (λ p. p.reference) (sym is) ∙ own_reference g n g.request.service fits numbered in
     let card : hold.card ≡ card_of g.request.message = ap (λ p. p.card) (sym is)
-    ∙ hold_card g g.request.service fits in
+    ∙ own_card g g.request.service fits in
     let holding : option_and_then (λ n. referred n h) (reference_in message) ≡ Some g =
     ap (option_and_then (λ n. referred n h)) asks ∙ found in
     let row = completion_row e.day r hold in
     let reply = coded_reply e.day r code.Approved in
-    let whole : prior_of row ≡ prior_with None false false (x (Replied code.Approved reply)) =
+    let whole : prior_of row ≡ prior_by untouched (x (Replied code.Approved reply)) =
     λ i. record {
       key = key_of r.service r.message;
       essence = essence_of r.service r.message;
@@ -322,8 +262,4 @@ reversed_line moment ReversalAdvice message p e h fits replied =
     let r : RequestMessage = record { moment = moment; service = ReversalAdvice; message = message }
     in
     λ i. shown (newest r (record e { outcome = sym replied i }) h)
-reversed_line moment Authorization message p e h fits replied = absurd (cc)
-reversed_line moment Financial message p e h fits replied = absurd (cc)
-reversed_line moment Completion message p e h fits replied = absurd (cc)
-reversed_line moment Reconciliation message p e h fits replied = absurd (cc)
-reversed_line moment NetworkManagement message p e h fits replied = absurd (cc)
+reversed_line moment service message p e h fits replied = absurd (cc)

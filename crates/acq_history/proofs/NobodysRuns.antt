@@ -6,11 +6,9 @@ use Rattle.std.specs.Str.{bytes_eq}
 use Rattle.iso_codec.specs.Message.{IsoMessage}
 use Rattle.card_no.specs.declared.range.Range.{Range}
 use Rattle.card_no.specs.Ranges.{with_range, without_range, overlapped_by, has_ends, is_valid_range}
+use Rattle.card_no.specs.Ranges.{between}
 use Rattle.std.proofs.lemmas.Bool.{and_parts}
 use Rattle.acq_message.specs.declared.service.Service.{Service}
-use Rattle.acq_message.specs.declared.service.Service.TheVariants.{Authorization, Financial}
-use Rattle.acq_message.specs.declared.service.Service.TheVariants.{Completion, Reversal}
-use Rattle.acq_message.specs.declared.service.Service.TheVariants.{ReversalAdvice, Reconciliation}
 use Rattle.acq_message.specs.declared.service.Service.TheVariants.{NetworkManagement}
 use Rattle.acq_core.specs.declared.output.Output.TheVariants as output
 use Rattle.acq_message.specs.declared.response_code.ResponseCode.TheVariants as code
@@ -18,9 +16,8 @@ use Rattle.acq_core.specs.declared.arrival.Arrival.{Arrival}
 use Rattle.acq_message.specs.declared.request_message.RequestMessage.{RequestMessage}
 use Rattle.acq_core.specs.Arrivals.{arrival_of, merchant_named, is_shared}
 use Rattle.acq_core.specs.declared.arrival.Arrival.TheVariants.{Undecoded, Unserved, Malformed}
-use Rattle.acq_core.specs.declared.arrival.Arrival.TheVariants.{Requested, Answered, CutOver}
-use Rattle.acq_core.specs.declared.arrival.Arrival.TheVariants.{RangeAdded, RangeDropped, Enrolled}
-use Rattle.acq_core.specs.declared.arrival.Arrival.TheVariants.{TerminalAdded}
+use Rattle.acq_core.specs.declared.arrival.Arrival.TheVariants.{Requested, CutOver, RangeAdded}
+use Rattle.acq_core.specs.declared.arrival.Arrival.TheVariants.{RangeDropped}
 use Rattle.acq_core.specs.Known.{wanted_by, known_for}
 use Rattle.acq_core.specs.Decision.{Decision, Reports, CutsOver, DropsRange, decision}
 use Rattle.acq_core.specs.Decision.{decision_of_new_range, decision_of_old_range, network_response}
@@ -28,7 +25,6 @@ use Rattle.day_totals.specs.Day.{last_day}
 use Rattle.acq_message.specs.Reply.{coded_reply}
 use Rattle.acq_core.specs.Outcome.{Replied, output_of, outcome_of}
 use Rattle.acq_core.specs.Changes.{change_of, change_for}
-use Rattle.card_no.specs.Ranges.{between}
 use Rattle.acq_core.specs.Tables.{Opening, Tables, new_tables, facts_in, known_in, after_any}
 use Rattle.acq_core.specs.Tables.{step_output, step_tables}
 use Rattle.acq_history.specs.Entries.{Entry}
@@ -53,36 +49,26 @@ named_clash None there alone = absurd (cc)
 named_clash (Some n) there alone = absurd (cc)
 
 module _ (opening : Opening) (t : Tables) (h : List Entry) (s : AgreesInShared opening t h) where
+  -- what all share is the same by the tables and by the history
+  shared_facts : facts_in t [] ≡ record (facts_in t []) {
+    today = day_after opening.first_day h;
+    limit = opening.limit;
+    overlapped = λ low high. overlapped_by (between low high) (ranges_after h);
+  }
+  shared_facts = λ i. record (facts_in t []) {
+    today = s.day i;
+    limit = s.bounded i;
+    overlapped = λ low high. overlapped_by (between low high) (s.ranges i);
+  }
+
   -- what a shared event may know is the same by the tables and by the history
   known_of_nobody : (a : Arrival) → is_shared a ≡ true → known_in t a ≡ known_by opening h a
-  known_of_nobody CutOver shared =
-      λ i. known_for (wanted_by (s.day i) CutOver)
-      (record (facts_in t []) {
-        today = s.day i;
-        limit = s.bounded i;
-        overlapped = λ low high. overlapped_by (between low high) (s.ranges i);
-      })
+  known_of_nobody CutOver shared = λ i. known_for (wanted_by (s.day i) CutOver) (shared_facts i)
   known_of_nobody (RangeAdded range) shared =
-      λ i. known_for (wanted_by (s.day i) (RangeAdded range))
-      (record (facts_in t []) {
-        today = s.day i;
-        limit = s.bounded i;
-        overlapped = λ low high. overlapped_by (between low high) (s.ranges i);
-      })
+      λ i. known_for (wanted_by (s.day i) (RangeAdded range)) (shared_facts i)
   known_of_nobody (RangeDropped low high) shared =
-      λ i. known_for (wanted_by (s.day i) (RangeDropped low high))
-      (record (facts_in t []) {
-        today = s.day i;
-        limit = s.bounded i;
-        overlapped = λ low high. overlapped_by (between low high) (s.ranges i);
-      })
-  known_of_nobody (Undecoded fault) shared = absurd (cc)
-  known_of_nobody (Unserved message) shared = absurd (cc)
-  known_of_nobody (Malformed r) shared = absurd (cc)
-  known_of_nobody (Requested r) shared = absurd (cc)
-  known_of_nobody (Answered moment merchant n v) shared = absurd (cc)
-  known_of_nobody (Enrolled merchant) shared = absurd (cc)
-  known_of_nobody (TerminalAdded terminal) shared = absurd (cc)
+      λ i. known_for (wanted_by (s.day i) (RangeDropped low high)) (shared_facts i)
+  known_of_nobody other shared = absurd (cc)
 
   -- a decision keeps the agreement in what all share
   abbrev KeepsShared : Arrival → Decision → Type 0
@@ -142,13 +128,7 @@ module _ (opening : Opening) (t : Tables) (h : List Entry) (s : AgreesInShared o
       ]
   keeps_on_shared (RangeDropped low high) shared =
       shared_old_range low high (known_by opening h (RangeDropped low high)).overlapped
-  keeps_on_shared (Undecoded fault) shared = absurd (cc)
-  keeps_on_shared (Unserved message) shared = absurd (cc)
-  keeps_on_shared (Malformed r) shared = absurd (cc)
-  keeps_on_shared (Requested r) shared = absurd (cc)
-  keeps_on_shared (Answered moment merchant n v) shared = absurd (cc)
-  keeps_on_shared (Enrolled merchant) shared = absurd (cc)
-  keeps_on_shared (TerminalAdded terminal) shared = absurd (cc)
+  keeps_on_shared other shared = absurd (cc)
 
   -- the agreement after what came
   abbrev Next : Arrival → Type 0
@@ -179,26 +159,8 @@ module _ (opening : Opening) (t : Tables) (h : List Entry) (s : AgreesInShared o
             s.day,
         record { bounded = s.bounded; day = s.day; ranges = s.ranges },
       )
-  managed_step moment Authorization message naming alone =
-      named_clash _
-      (naming (record { moment = moment; service = Authorization; message = message }) refl)
-      alone
-  managed_step moment Financial message naming alone =
-      named_clash _
-      (naming (record { moment = moment; service = Financial; message = message }) refl) alone
-  managed_step moment Completion message naming alone =
-      named_clash _
-      (naming (record { moment = moment; service = Completion; message = message }) refl) alone
-  managed_step moment Reversal message naming alone =
-      named_clash _
-      (naming (record { moment = moment; service = Reversal; message = message }) refl) alone
-  managed_step moment ReversalAdvice message naming alone =
-      named_clash _
-      (naming (record { moment = moment; service = ReversalAdvice; message = message }) refl)
-      alone
-  managed_step moment Reconciliation message naming alone =
-      named_clash _
-      (naming (record { moment = moment; service = Reconciliation; message = message }) refl)
+  managed_step moment service message naming alone =
+      named_clash _ (naming (record { moment = moment; service = service; message = message }) refl)
       alone
 
   -- whatever names no merchant and isn't shared
@@ -217,12 +179,7 @@ module _ (opening : Opening) (t : Tables) (h : List Entry) (s : AgreesInShared o
   )
   nobodys_step (Requested r) naming alone apart =
       managed_step r.moment r.service r.message naming alone
-  nobodys_step (Answered moment merchant n v) naming alone apart = absurd (cc)
-  nobodys_step CutOver naming alone apart = absurd (cc)
-  nobodys_step (RangeAdded range) naming alone apart = absurd (cc)
-  nobodys_step (RangeDropped low high) naming alone apart = absurd (cc)
-  nobodys_step (Enrolled merchant) naming alone apart = absurd (cc)
-  nobodys_step (TerminalAdded terminal) naming alone apart = absurd (cc)
+  nobodys_step other naming alone apart = absurd (cc)
 
 -- ---- whole runs
 
@@ -258,8 +215,8 @@ others_keep_shared opening t h s a naming other alone =
     step (merchant_named a) refl
 
 -- each event does to the agreement what a whole run asks of it
-keeps_agreement : (opening : Opening) → KeepsAgreement opening None (AgreesInShared opening)
-keeps_agreement opening = record {
+keeps_shared_agreement : (opening : Opening) → KeepsAgreement opening None (AgreesInShared opening)
+keeps_shared_agreement opening = record {
   own_event = λ t h e g mine.
       let a = arrival_of e in
       let both = and_parts (is_none (merchant_named a)) (not (is_shared a)) mine in
@@ -274,6 +231,6 @@ new_shared opening = record { bounded = refl; day = refl; ranges = refl }
 
 pub nobody_isolated : IsIsolated None
 nobody_isolated opening past further =
-    let run = whole_run opening None (AgreesInShared opening) (keeps_agreement opening) in
+    let run = whole_run opening None (AgreesInShared opening) (keeps_shared_agreement opening) in
     let from_new = (run (new_tables opening) [] (new_shared opening) past).1 in
     (run (book_after opening past) (history_of opening None past) from_new further).0

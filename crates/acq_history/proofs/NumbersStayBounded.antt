@@ -12,10 +12,7 @@ use Rattle.day_totals.specs.declared.leg.Leg.{Leg}
 use Rattle.day_totals.specs.Totals.{greatest_posting}
 use Rattle.day_totals.proofs.WithinLimits.{FitsDay-within}
 use Rattle.acq_message.specs.declared.service.Service.{Service}
-use Rattle.acq_message.specs.declared.service.Service.TheVariants.{Authorization, Financial}
-use Rattle.acq_message.specs.declared.service.Service.TheVariants.{Completion, Reversal}
-use Rattle.acq_message.specs.declared.service.Service.TheVariants.{ReversalAdvice, Reconciliation}
-use Rattle.acq_message.specs.declared.service.Service.TheVariants.{NetworkManagement}
+use Rattle.acq_message.specs.declared.service.Service.TheVariants.{Financial, Completion}
 use Rattle.acq_message.specs.declared.request_key.RequestKey.{RequestKey}
 use Rattle.acq_message.specs.declared.request_message.RequestMessage.{RequestMessage}
 use Rattle.acq_message.specs.declared.verdict.Verdict.{Verdict}
@@ -29,7 +26,7 @@ use Rattle.acq_core.specs.declared.request.Request.{Request}
 use Rattle.acq_core.specs.declared.status.Status.{Status}
 use Rattle.acq_core.specs.declared.status.Status.TheVariants as status
 use Rattle.acq_core.specs.declared.reply_state.ReplyState.{ReplyState}
-use Rattle.acq_core.specs.declared.reply_state.ReplyState.TheVariants.{Kept, Awaited, Late}
+use Rattle.acq_core.specs.declared.reply_state.ReplyState.TheVariants.{Kept}
 use Rattle.acq_core.specs.Numbers.{is_first_reference, greatest_limit}
 use Rattle.acq_core.specs.Changes.{or_zero, change_of, approval_posting, answer_posting}
 use Rattle.acq_core.specs.Changes.{posting_today, completion_posting, posted_leg, reversal_leg}
@@ -37,7 +34,7 @@ use Rattle.acq_core.specs.Changes.{reversal_posting, answered_status, reversed_s
 use Rattle.acq_core.specs.Tables.{Opening, Tables, new_tables, count, is_pending, prior_of}
 use Rattle.acq_core.specs.Tables.{reply_state_of, reference_by, leg_by, requests_of, postings_of}
 use Rattle.acq_core.specs.Tables.{admitted_in, with_changed, with_next_posting, postings_before}
-use Rattle.acq_core.specs.Tables.{known_in, after_any, step_tables, tables_after}
+use Rattle.acq_core.specs.Tables.{known_in, after_any, step_tables, tables_after, followed_row}
 use Rattle.acq_history.specs.Entries.{is_reversal}
 use Rattle.acq_history.proofs.Lookups.{map_some}
 use Rattle.acq_history.proofs.Members.{In-find, from_In}
@@ -46,11 +43,15 @@ use Rattle.acq_history.specs.Bounds.{IsBoundedRow, IsBoundedPosting, IsWithinLim
 use Rattle.acq_history.specs.Bounds.{NumbersStayBounded}
 use Rattle.acq_history.proofs.StepCases.{next_reference, by_step}
 use Rattle.acq_history.proofs.Arrivals.{IsArrival, kept_by_events}
-use Rattle.acq_history.proofs.RowsWithChanges.{All-with_changed, All-member}
+use Rattle.acq_history.proofs.RowsWithChanges.{All-with_changed, All-member, followed_kept}
+use Rattle.acq_history.proofs.RowsWithChanges.{answered_kept}
 use Rattle.acq_history.proofs.AdmittedCounts.{IsCounted, admitted_in-within}
-use Rattle.acq_history.proofs.CountsStayWithin.{AreCountsWithin, IsOf, within_uncounted}
+use Rattle.acq_history.proofs.CountsStayWithin.{AreCountsWithin, IsOfDay, within_uncounted}
 use Rattle.acq_history.proofs.CountsStayWithin.{within_counted, posted_on-ended, used_on-changed}
 use Rattle.acq_history.proofs.CountsStayWithin.{pending_on-changed, within_answered}
+use Rattle.acq_core.specs.declared.terminal.Terminal.{Terminal}
+use Rattle.card_no.specs.declared.range.Range.{Range}
+use Rattle.acq_core.specs.declared.reconciliation.Reconciliation.{Reconciliation}
 
 -- ---- rows
 
@@ -77,12 +78,12 @@ sound_later today later row le s = record {
   completion = s.completion;
 }
 
--- rows whose status was changed
-followed : (today : ℕ) (key : RequestKey) (st : Status) (rows : List Request) →
+-- rows with one that a completion or a reversal sound_followed
+sound_followed : (today : ℕ) (key : RequestKey) (st : Status) (rows : List Request) →
     All (IsSoundRow today) rows →
-    All (IsSoundRow today) (with_changed key (λ row. record row { status = st }) rows)
-followed today key st rows all =
-    All-with_changed (IsSoundRow today) key (λ row. record row { status = st }) rows
+    All (IsSoundRow today) (with_changed key (followed_row st) rows)
+sound_followed today key st rows all =
+    All-with_changed (IsSoundRow today) key (followed_row st) rows
     (λ x same s. record {
       bounded = record {
         day = s.bounded.day;
@@ -117,12 +118,7 @@ sound_plain today row dated unreferred follows completion = record {
 reference_by-bounded : (today : ℕ) (s : Service) (row : Request) → IsBoundedRow today row →
     IfSome (reference_by s row) (λ n. is_reference n ≡ true)
 reference_by-bounded today Completion row b = b.follows
-reference_by-bounded today Authorization row b = b.reference
-reference_by-bounded today Financial row b = b.reference
-reference_by-bounded today Reversal row b = b.reference
-reference_by-bounded today ReversalAdvice row b = b.reference
-reference_by-bounded today Reconciliation row b = b.reference
-reference_by-bounded today NetworkManagement row b = b.reference
+reference_by-bounded today service row b = b.reference
 
 or_zero-bounded : (o : Option ℕ) → IfSome o (λ n. is_reference n ≡ true) →
     is_reference (or_zero o) ≡ true
@@ -138,21 +134,17 @@ leg_by-amount today Financial row leg sound is e =
 leg_by-amount today Completion row leg sound is e =
     let found = map_some (λ reference. row.leg) row.follows leg e in
     sound.completion is found.0 found.1
-leg_by-amount today Authorization row leg sound is e = absurd cc
-leg_by-amount today Reversal row leg sound is e = absurd cc
-leg_by-amount today ReversalAdvice row leg sound is e = absurd cc
-leg_by-amount today Reconciliation row leg sound is e = absurd cc
-leg_by-amount today NetworkManagement row leg sound is e = absurd cc
+leg_by-amount today service row leg sound is e = absurd cc
 
 -- ---- postings
 
 -- a posting of a merchant to a day, within bounds
 record IsMade (m : List ℕ) (on : ℕ) (p : Posting) : Type 0 where
-  of : IsOf m on p
+  of : IsOfDay m on p
   amount : is_accepted_amount p.amount ≡ true
   reference : is_reference p.reference ≡ true
 
-some_of : (m : List ℕ) (on : ℕ) (o : Option Posting) → IfSome o (IsMade m on) → IfSome o (IsOf m on)
+some_of : (m : List ℕ) (on : ℕ) (o : Option Posting) → IfSome o (IsMade m on) → IfSome o (IsOfDay m on)
 some_of m on None h = tt
 some_of m on (Some p) h = h.of
 
@@ -184,14 +176,12 @@ answer_made today (verdict.Approved id) row sound = step (leg_by row.key.service
       reference = or_zero-bounded (reference_by row.key.service row)
           (reference_by-bounded today row.key.service row sound.bounded);
     }
-answer_made today (verdict.Declined text) row sound = tt
-answer_made today verdict.NoAnswer row sound = tt
+answer_made today other row sound = tt
 
 posted_leg-some : (s : ReplyState) (o : Option Leg) (leg : Leg) → posted_leg s o ≡ Some leg →
     o ≡ Some leg
 posted_leg-some (Kept reply) o leg e = e
-posted_leg-some (Awaited draft) o leg e = absurd cc
-posted_leg-some Late o leg e = absurd cc
+posted_leg-some other o leg e = absurd cc
 
 -- what a reversal posts, today
 reversal_made : (today day : ℕ) (r : RequestMessage) (row : Request) → IsSoundRow day row →
@@ -230,13 +220,11 @@ completion_made today day r hold sound amount = record {
 
 answered_status-ended : (v : Verdict) → is_pending (answered_status v) ≡ false
 answered_status-ended (verdict.Approved id) = refl
-answered_status-ended (verdict.Declined text) = refl
-answered_status-ended verdict.NoAnswer = refl
+answered_status-ended other = refl
 
 reversed_status-ended : (s : ReplyState) → is_pending (reversed_status s) ≡ false
 reversed_status-ended (Kept reply) = refl
-reversed_status-ended (Awaited draft) = refl
-reversed_status-ended Late = refl
+reversed_status-ended other = refl
 
 -- ---- the tables
 
@@ -250,6 +238,27 @@ record HasSoundNumbers (opening : Opening) (t : Tables) : Type 0 where
   rows : All (IsSoundRow t.day) t.requests
   postings : All (IsBoundedPosting t.day) t.postings
   counts : AreCountsWithin t.limit t.requests t.postings
+
+-- tables with other requests and postings
+sound_with : {opening : Opening} {t : Tables} {rows : List Request} {ps : List (ℕ × Posting)}
+    {rs : List (ℕ × Reconciliation)} {ranges : List Range} {terminals : List Terminal} →
+    HasSoundNumbers opening t → All (IsSoundRow t.day) rows → All (IsBoundedPosting t.day) ps →
+    AreCountsWithin t.limit rows ps →
+    HasSoundNumbers opening (record t {
+      ranges = ranges;
+      terminals = terminals;
+      requests = rows;
+      postings = ps;
+      reconciliations = rs;
+    })
+sound_with h rows postings counts = record {
+  limit = h.limit;
+  day = h.day;
+  firsts = h.firsts;
+  rows = rows;
+  postings = postings;
+  counts = counts;
+}
 
 module _ (opening : Opening) (begins : IsOpening opening) where
   -- no more were admitted than may be
@@ -296,137 +305,101 @@ module _ (opening : Opening) (begins : IsOpening opening) where
         malformed = λ r came. h;
         replied = λ r came given hosts. h;
         repeated = λ row member. h;
-        refused = λ r came merchant g given hosts. record {
-          limit = h.limit;
-          day = h.day;
-          firsts = h.firsts;
-          rows = All-push (IsSoundRow t.day) t.requests _ h.rows
-              (sound_plain t.day _ refl refl tt (λ s n e. absurd cc));
-          postings = h.postings;
-          counts = within_uncounted t.limit t.requests t.postings _ refl refl h.counts;
-        };
-        admitted = λ r came merchant g service amount room range held. record {
-          limit = h.limit;
-          day = h.day;
-          firsts = h.firsts;
-          rows = All-push (IsSoundRow t.day) t.requests _ h.rows (record {
-            bounded =
-                record {
-                  day = omega arith;
-                  reference = next_reference-bounded t h r merchant g.enrolled;
-                  follows = tt;
-                };
-            counts = λ n e. refl;
-            amount = λ n e. amount;
-            completion = λ s n e. absurd cc;
-          });
-          postings = h.postings;
-          counts =
-              within_counted t.limit t.requests t.requests t.postings t.postings _
-              (record {
-                counts = refl;
-                same = λ m day. refl;
-                fewer = λ m day. omega arith;
-                once = λ m day. omega arith;
-              }) room h.counts;
-        };
-        completed = λ r came merchant g service amount room hold own.
+        refused = λ r merchant g given hosts. sound_with h
+            (All-push (IsSoundRow t.day) t.requests _ h.rows
+            (sound_plain t.day _ refl refl tt (λ s n e. absurd cc))) h.postings
+            (within_uncounted t.limit t.requests t.postings _ refl refl h.counts);
+        admitted = λ r merchant g range c. sound_with h
+            (All-push (IsSoundRow t.day) t.requests _ h.rows (record {
+              bounded =
+                  record {
+                    day = omega arith;
+                    reference = next_reference-bounded t h r merchant g.enrolled;
+                    follows = tt;
+                  };
+              counts = λ n e. refl;
+              amount = λ n e. c.amount;
+              completion = λ s n e. absurd cc;
+            })) h.postings
+            (within_counted t.limit t.requests t.requests t.postings t.postings _
+            (record {
+              counts = refl;
+              same = λ m day. refl;
+              fewer = λ m day. omega arith;
+              once = λ m day. omega arith;
+            }) c.room h.counts);
+        completed = λ r merchant g hold c.
             let sound : IsSoundRow t.day hold =
-            All-member (IsSoundRow t.day) t.requests hold h.rows own.member in
-            let made = completion_made t.day t.day r hold sound amount in record {
-              limit = h.limit;
-              day = h.day;
-              firsts = h.firsts;
-              rows = All-push (IsSoundRow t.day) _ _
-                  (followed t.day hold.key status.Completed t.requests h.rows)
-                  (sound_plain t.day _ refl refl
-                  (reference_by-bounded t.day hold.key.service hold sound.bounded)
-                  (λ s n e. amount));
-              postings = postings_with t.day t.day (text_at r.message 42) t.postings
-                  (Some (completion_posting t.day r (prior_of hold))) (omega arith) made h.postings;
-              counts =
-                  within_counted t.limit t.requests _ t.postings _ _
-                  (record {
-                    counts = refl;
-                    same = used_on-changed hold.key _ (λ x. refl) (λ x. refl) (λ x. refl)
-                        (λ x. refl) t.requests;
-                    fewer = pending_on-changed hold.key _ (λ x. refl) (λ x. refl) (λ x. refl)
-                        (λ x. refl) t.requests;
-                    once = posted_on-ended t.postings
-                        (Some (completion_posting t.day r (prior_of hold)))
-                        (text_at r.message 42) t.day made.of;
-                  }) room h.counts;
-            };
-        reversed = λ r came merchant g service room row own.
+            All-member (IsSoundRow t.day) t.requests hold h.rows c.member in
+            let made = completion_made t.day t.day r hold sound c.amount in sound_with h
+            (All-push (IsSoundRow t.day) _ _
+            (sound_followed t.day hold.key status.Completed t.requests h.rows)
+            (sound_plain t.day _ refl refl
+            (reference_by-bounded t.day hold.key.service hold sound.bounded)
+            (λ s n e. c.amount)))
+            (postings_with t.day t.day (text_at r.message 42) t.postings
+            (Some (completion_posting t.day r (prior_of hold))) (omega arith) made h.postings)
+            (within_counted t.limit t.requests _ t.postings _ _
+            (record {
+              counts = refl;
+              same = used_on-changed hold.key _ (followed_kept _) (λ x. refl) t.requests;
+              fewer = pending_on-changed hold.key _ (followed_kept _) (λ x. refl) t.requests;
+              once = posted_on-ended t.postings
+                  (Some (completion_posting t.day r (prior_of hold)))
+                  (text_at r.message 42) t.day made.of;
+            }) c.room h.counts);
+        reversed = λ r merchant g row c.
             let sound : IsSoundRow t.day row =
-            All-member (IsSoundRow t.day) t.requests row h.rows own.member in
+            All-member (IsSoundRow t.day) t.requests row h.rows c.member in
             let ended = reversed_status-ended (reply_state_of row.status row.reply) in
-            let made = reversal_made t.day t.day r row sound in record {
-              limit = h.limit;
-              day = h.day;
-              firsts = h.firsts;
-              rows = All-push (IsSoundRow t.day) _ _ (followed t.day row.key _ t.requests h.rows)
-                  (sound_plain t.day _ refl refl
-                  (reference_by-bounded t.day row.key.service row sound.bounded)
-                  (λ s n e. absurd (let no : is_reversal r.service ≡ false = ap is_reversal s in
-                  cc)));
-              postings = postings_with t.day t.day (text_at r.message 42) t.postings
-                  (reversal_posting t.day r (prior_of row)) (omega arith) made h.postings;
-              counts =
-                  within_counted t.limit t.requests _ t.postings _ _
-                  (record {
-                    counts = refl;
-                    same = used_on-changed row.key _ (λ x. refl) (λ x. refl) (λ x. refl)
-                        (λ x. ended) t.requests;
-                    fewer = pending_on-changed row.key _ (λ x. refl) (λ x. refl) (λ x. refl)
-                        (λ x. ended) t.requests;
-                    once =
-                        posted_on-ended t.postings (reversal_posting t.day r (prior_of row))
-                        (text_at r.message 42) t.day
-                        (some_of (text_at r.message 42) t.day
-                        (reversal_posting t.day r (prior_of row)) made);
-                  }) room h.counts;
-            };
-        reconciled = λ r came merchant g service day on. record {
-          limit = h.limit;
-          day = h.day;
-          firsts = h.firsts;
-          rows = All-push (IsSoundRow t.day) t.requests _ h.rows
-              (sound_plain t.day _ refl refl tt (λ s n e. absurd cc));
-          postings = h.postings;
-          counts = within_uncounted t.limit t.requests t.postings _ refl refl h.counts;
-        };
-        answered = λ moment merchant reference v came row member pending n under.
+            let made = reversal_made t.day t.day r row sound in sound_with h
+            (All-push (IsSoundRow t.day) _ _ (sound_followed t.day row.key _ t.requests h.rows)
+            (sound_plain t.day _ refl refl
+            (reference_by-bounded t.day row.key.service row sound.bounded)
+            (λ s n e. absurd (let no : is_reversal r.service ≡ false = ap is_reversal s in
+            cc))))
+            (postings_with t.day t.day (text_at r.message 42) t.postings
+            (reversal_posting t.day r (prior_of row)) (omega arith) made h.postings)
+            (within_counted t.limit t.requests _ t.postings _ _
+            (record {
+              counts = refl;
+              same = used_on-changed row.key _ (followed_kept _) (λ x. ended) t.requests;
+              fewer = pending_on-changed row.key _ (followed_kept _) (λ x. ended) t.requests;
+              once =
+                  posted_on-ended t.postings (reversal_posting t.day r (prior_of row))
+                  (text_at r.message 42) t.day
+                  (some_of (text_at r.message 42) t.day
+                  (reversal_posting t.day r (prior_of row)) made);
+            }) c.room h.counts);
+        reconciled = λ r merchant g day c. sound_with h
+            (All-push (IsSoundRow t.day) t.requests _ h.rows
+            (sound_plain t.day _ refl refl tt (λ s n e. absurd cc))) h.postings
+            (within_uncounted t.limit t.requests t.postings _ refl refl h.counts);
+        answered = λ moment v row c.
             let sound : IsSoundRow t.day row =
-            All-member (IsSoundRow t.day) t.requests row h.rows member in
-            let made = answer_made t.day v row sound in record {
-              limit = h.limit;
-              day = h.day;
-              firsts = h.firsts;
-              rows =
-                  All-with_changed (IsSoundRow t.day) row.key _ t.requests
-                  (λ x same s. record {
-                    bounded = record {
-                      day = s.bounded.day;
-                      reference = s.bounded.reference;
-                      follows = s.bounded.follows;
-                    };
-                    counts = s.counts;
-                    amount = s.amount;
-                    completion = s.completion;
-                  }) h.rows;
-              postings = postings_with t.day row.day row.key.merchant t.postings
-                  (answer_posting v (prior_of row))
-                  sound.bounded.day made h.postings;
-              counts =
-                  within_answered row.key _ (λ x. refl) (λ x. refl) (λ x. refl)
-                  (λ x. answered_status-ended v) t.requests
-                  t.limit t.postings row (answer_posting v (prior_of row)) member refl
-                  (ap is_pending pending)
-                  (some_of row.key.merchant row.day (answer_posting v (prior_of row)) made)
-                  h.counts;
-            };
-        cut_over = λ before. record {
+            All-member (IsSoundRow t.day) t.requests row h.rows c.member in
+            let made = answer_made t.day v row sound in sound_with h
+            (All-with_changed (IsSoundRow t.day) row.key _ t.requests
+            (λ x same s. record {
+              bounded = record {
+                day = s.bounded.day;
+                reference = s.bounded.reference;
+                follows = s.bounded.follows;
+              };
+              counts = s.counts;
+              amount = s.amount;
+              completion = s.completion;
+            }) h.rows)
+            (postings_with t.day row.day row.key.merchant t.postings
+            (answer_posting v (prior_of row))
+            sound.bounded.day made h.postings)
+            (within_answered row.key _ (answered_kept _ _ _)
+            (λ x. answered_status-ended v) t.requests
+            t.limit t.postings row (answer_posting v (prior_of row)) c.member refl
+            (ap is_pending c.pending)
+            (some_of row.key.merchant row.day (answer_posting v (prior_of row)) made)
+            h.counts);
+        cut_over = λ came before. record {
           limit = h.limit;
           day = omega arith;
           firsts = h.firsts;
@@ -443,22 +416,8 @@ module _ (opening : Opening) (begins : IsOpening opening) where
               t.postings h.postings;
           counts = h.counts;
         };
-        range_added = λ range valid free. record {
-          limit = h.limit;
-          day = h.day;
-          firsts = h.firsts;
-          rows = h.rows;
-          postings = h.postings;
-          counts = h.counts;
-        };
-        range_dropped = λ low high. record {
-          limit = h.limit;
-          day = h.day;
-          firsts = h.firsts;
-          rows = h.rows;
-          postings = h.postings;
-          counts = h.counts;
-        };
+        range_added = λ range came valid free. sound_with h h.rows h.postings h.counts;
+        range_dropped = λ low high came. sound_with h h.rows h.postings h.counts;
         enrolled = λ merchant came new. record {
           limit = h.limit;
           day = h.day;
@@ -468,14 +427,7 @@ module _ (opening : Opening) (begins : IsOpening opening) where
           postings = h.postings;
           counts = h.counts;
         };
-        terminal_added = λ terminal came new. record {
-          limit = h.limit;
-          day = h.day;
-          firsts = h.firsts;
-          rows = h.rows;
-          postings = h.postings;
-          counts = h.counts;
-        };
+        terminal_added = λ terminal came new. sound_with h h.rows h.postings h.counts;
       })
 
   -- ---- what is said of a merchant

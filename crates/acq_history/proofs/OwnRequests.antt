@@ -12,7 +12,6 @@ use Rattle.acq_message.specs.declared.service.Service.{Service}
 use Rattle.acq_message.specs.declared.service.Service.TheVariants.{Authorization, Financial}
 use Rattle.acq_message.specs.declared.service.Service.TheVariants.{Completion, Reversal}
 use Rattle.acq_message.specs.declared.service.Service.TheVariants.{ReversalAdvice, Reconciliation}
-use Rattle.acq_message.specs.declared.service.Service.TheVariants.{NetworkManagement}
 use Rattle.acq_core.specs.declared.merchant.Merchant.{Merchant}
 use Rattle.acq_core.specs.declared.request.Request.{Request}
 use Rattle.acq_core.specs.declared.status.Status.TheVariants as status
@@ -29,11 +28,10 @@ use Rattle.acq_core.specs.Decision.{Decision, Refuses, Admits, Completes, Revers
 use Rattle.acq_core.specs.Outcome.{Outcome, Replied, Asked, outcome_of, is_in_balance, balance_code}
 use Rattle.acq_core.specs.Outcome.{query_of}
 use Rattle.acq_message.specs.Reply.{coded_reply, referring_reply, totals_reply}
-use Rattle.acq_core.specs.Changes.{reversed_status, change_of, refused_row, admitted_row}
-use Rattle.acq_core.specs.Changes.{completion_row, reversal_row, reconciliation_row}
+use Rattle.acq_core.specs.Changes.{reversed_status, change_of, refused_row, reconciliation_row}
 use Rattle.acq_core.specs.Changes.{completion_posting, reversal_posting}
-use Rattle.acq_core.specs.Tables.{Opening, Tables, postings_of, with_next_posting, with_changed}
-use Rattle.acq_core.specs.Tables.{after_any}
+use Rattle.acq_core.specs.Tables.{Opening, Tables, postings_of, with_next_posting, after_any}
+use Rattle.acq_core.specs.Tables.{followed_row}
 use Rattle.acq_history.specs.Entries.{Entry, request_of, is_code, is_asked, is_approved}
 use Rattle.acq_history.specs.Entries.{is_past_merchant, accepts, is_acceptable, is_acceptance}
 use Rattle.acq_history.specs.Entries.{is_admissible, is_reversal}
@@ -49,12 +47,12 @@ use Rattle.acq_history.proofs.RecordableRequests.{recordable_is, wants_by_key}
 use Rattle.acq_history.proofs.UnrecordedRequests.{IsRefusal, IsQuiet, accepts_not}
 use Rattle.acq_history.proofs.NewRows.{idle_line, admitted_line, completed_line, reversed_line}
 use Rattle.acq_history.proofs.RequestsAfterNewEntry.{line, shown}
-use Rattle.acq_history.proofs.RowsAgreeWithHistory.{Rows, status_edits, without_newest_edited}
+use Rattle.acq_history.proofs.RowsAgreeWithHistory.{Rows, without_newest_edited}
 use Rattle.acq_history.proofs.RowsAgreeWithHistory.{without_newest_still, rows_still, rows_joined}
-use Rattle.acq_history.proofs.ChangedRows.{completion_follows, completing, reversal_follows}
-use Rattle.acq_history.proofs.ChangedRows.{reversing}
-use Rattle.acq_history.proofs.TablesAgreeWithHistory.{Agrees, common_still, IsOf}
-use Rattle.acq_history.proofs.TablesAgreeWithHistory.{postings_of_mine, reversal_posting_is_of}
+use Rattle.acq_history.proofs.ChangedRows.{completion_follows, reversal_follows, entry_on}
+use Rattle.acq_history.proofs.TablesAgreeWithHistory.{Agrees, common_still, IsOf, postings_of_mine}
+use Rattle.acq_history.proofs.TablesAgreeWithHistory.{reversal_posting_is_of}
+use Rattle.acq_history.proofs.RowsWithChanges.{followed_kept}
 
 -- ---- what a request asks for
 
@@ -64,11 +62,7 @@ wanted_prefix : (today moment : ℕ) (s : Service) (message : IsoMessage) →
     is_admissible s ≡ true → (wanted_by today (Requested r)).prefix ≡ prefix_in message
 wanted_prefix today moment Authorization message fits = refl
 wanted_prefix today moment Financial message fits = refl
-wanted_prefix today moment Completion message fits = absurd (cc)
-wanted_prefix today moment Reversal message fits = absurd (cc)
-wanted_prefix today moment ReversalAdvice message fits = absurd (cc)
-wanted_prefix today moment Reconciliation message fits = absurd (cc)
-wanted_prefix today moment NetworkManagement message fits = absurd (cc)
+wanted_prefix today moment service message fits = absurd (cc)
 
 -- a reversal wants its original
 wanted_original : (today moment : ℕ) (s : Service) (message : IsoMessage) →
@@ -76,21 +70,14 @@ wanted_original : (today moment : ℕ) (s : Service) (message : IsoMessage) →
     is_reversal s ≡ true → (wanted_by today (Requested r)).original ≡ original_key message
 wanted_original today moment Reversal message fits = refl
 wanted_original today moment ReversalAdvice message fits = refl
-wanted_original today moment Authorization message fits = absurd (cc)
-wanted_original today moment Financial message fits = absurd (cc)
-wanted_original today moment Completion message fits = absurd (cc)
-wanted_original today moment Reconciliation message fits = absurd (cc)
-wanted_original today moment NetworkManagement message fits = absurd (cc)
+wanted_original today moment service message fits = absurd (cc)
 
 -- a reversal may be accepted
 reversal_accepted : (s : Service) → is_reversal s ≡ true → is_acceptable s ≡ true
 reversal_accepted Reversal fits = refl
 reversal_accepted ReversalAdvice fits = refl
-reversal_accepted Authorization fits = absurd (cc)
-reversal_accepted Financial fits = absurd (cc)
 reversal_accepted Completion fits = refl
-reversal_accepted Reconciliation fits = absurd (cc)
-reversal_accepted NetworkManagement fits = absurd (cc)
+reversal_accepted service fits = absurd (cc)
 
 -- either reversal posts alike
 reversal_by : (e : Entry) (h : List Entry) (r : RequestMessage) (s : Service) →
@@ -100,11 +87,7 @@ reversal_by : (e : Entry) (h : List Entry) (r : RequestMessage) (s : Service) �
     (option_and_then (λ key. recorded key h) (original_key r.message))
 reversal_by e h r Reversal fits = refl
 reversal_by e h r ReversalAdvice fits = refl
-reversal_by e h r Authorization fits = absurd (cc)
-reversal_by e h r Financial fits = absurd (cc)
-reversal_by e h r Completion fits = absurd (cc)
-reversal_by e h r Reconciliation fits = absurd (cc)
-reversal_by e h r NetworkManagement fits = absurd (cc)
+reversal_by e h r service fits = absurd (cc)
 
 -- nothing is admitted whose issuer isn't asked
 admits_not : (rq : Option RequestMessage) (e : Entry) (h : List Entry) →
@@ -127,16 +110,11 @@ balance_past : (b : Bool) →
 balance_past true = refl
 balance_past false = refl
 
-module _ (opening : Opening) (m : List ℕ) (t : Tables) (h : List Entry)
+module _ {opening : Opening} {m : List ℕ} {t : Tables} {h : List Entry}
     (g : Agrees opening m t h) where
   -- the entry of what came
   abbrev pub entry : Arrival → Outcome → Entry
-  entry a o = record {
-    arrival = a;
-    day = day_after opening.first_day h;
-    ranges = ranges_after h;
-    outcome = o;
-  }
+  entry = entry_on (day_after opening.first_day h) (ranges_after h)
 
   -- what a decision has to keep
   abbrev pub Keeps : Arrival → Decision → Type 0
@@ -189,13 +167,12 @@ module _ (opening : Opening) (m : List ℕ) (t : Tables) (h : List Entry)
       let e = entry (Requested r) o in
       record {
         common =
-            common_still opening m t.limit t.day t.merchants t.terminals t.ranges
-            (Requested r) o h quiet.performed g.common;
+            common_still (Requested r) o quiet.performed g.common;
         rows =
-            rows_still m t.requests e h quiet.accepted
+            rows_still quiet.accepted
             (admits_not (request_of (Requested r)) e h quiet.asked)
             (unrecorded r o quiet (request_of (Requested r)) refl)
-            (without_newest_still m t.requests e h quiet.accepted (λ n. refl) g.rows);
+            (without_newest_still quiet.accepted (λ n. refl) g.rows);
         posted =
             g.posted ∙ sym
             (ap (λ b. with_next_posting (postings h) (cond b (posting_by r.service e h r) None))
@@ -228,7 +205,7 @@ module _ (opening : Opening) (m : List ℕ) (t : Tables) (h : List Entry)
       let acceptance : is_acceptance e ≡ false =
       ap (λ rq. accepts is_acceptable rq (Replied given reply)) came ∙ accepted in
       let admission : is_admission e h ≡ false = admits_not (request_of (Requested r)) e h refl in
-      rows_joined m t.requests row e h
+      rows_joined
       (record {
         request = r;
         came = came;
@@ -240,7 +217,7 @@ module _ (opening : Opening) (m : List ℕ) (t : Tables) (h : List Entry)
         day = day;
         enrolled = λ a. clash (is_admission e h) a admission;
       })
-      (without_newest_still m t.requests e h acceptance (λ n. refl) g.rows)
+      (without_newest_still acceptance (λ n. refl) g.rows)
 
   -- it posts nothing
   idle_posted : (r : RequestMessage) (o : Outcome) → request_of (Requested r) ≡ Some r →
@@ -264,8 +241,7 @@ module _ (opening : Opening) (m : List ℕ) (t : Tables) (h : List Entry)
       let e = entry (Requested r) o in
       let accepted : accepts is_acceptable (Some r) o ≡ false = accepts_not (Some r) o is.0 in
       record {
-        common = common_still opening m t.limit t.day t.merchants t.terminals t.ranges
-            (Requested r) o h refl g.common;
+        common = common_still (Requested r) o refl g.common;
         rows =
             idle_rows r given reply
             (refused_row (day_after opening.first_day h) r given) named came new is.1 accepted refl
@@ -289,8 +265,7 @@ module _ (opening : Opening) (m : List ℕ) (t : Tables) (h : List Entry)
       let accepted : accepts is_acceptable (Some r) o ≡ false =
       ap (λ s. is_acceptable s && is_approved o) fits in
       record {
-        common = common_still opening m t.limit t.day t.merchants t.terminals t.ranges
-            (Requested r) o h refl g.common;
+        common = common_still (Requested r) o refl g.common;
         rows =
             idle_rows r given reply (reconciliation_row k r day) named came new
             (balance_past (is_in_balance k r)) accepted refl refl refl
@@ -333,9 +308,9 @@ module _ (opening : Opening) (m : List ℕ) (t : Tables) (h : List Entry)
       (Asked query) refl in
       record {
         common =
-            common_still opening m t.limit t.day t.merchants t.terminals t.ranges (Requested r)
-            (Asked query) h refl g.common;
-        rows = rows_joined m t.requests (admitted_row (day_after opening.first_day h) r range n) e h
+            common_still (Requested r)
+            (Asked query) refl g.common;
+        rows = rows_joined
             (record {
               request = r;
               came = came;
@@ -343,14 +318,14 @@ module _ (opening : Opening) (m : List ℕ) (t : Tables) (h : List Entry)
               past = refl;
               mine = own_row r named;
               same =
-                  admitted_line r.moment r.service r.message range n query e h fits
+                  admitted_line r range n query e h fits
                   (λ i. Asked query) own_admission next
                   (ap (range_of_prefix (ranges_after h)) prefix ∙ card.2);
               counts = λ i. sym admission i || is_acceptance e;
               day = refl;
               enrolled = λ a. ap is_some enrolment;
             })
-            (without_newest_still m t.requests e h acceptance (λ n. refl) g.rows);
+            (without_newest_still acceptance (λ n. refl) g.rows);
         posted =
             g.posted ∙ sym (ap (λ b. with_next_posting (postings h) (cond b
             (posting_by r.service e h r) None)) acceptance);
@@ -383,11 +358,9 @@ module _ (opening : Opening) (m : List ℕ) (t : Tables) (h : List Entry)
       (ap (option_and_then (λ k. referred k h)) asked.1 ∙ found.1)
       ∙ ap (λ p. Some (completion_posting day r p)) found.2 in
       record {
-        common = common_still opening m t.limit t.day t.merchants t.terminals t.ranges
-            (Requested r) o h refl g.common;
+        common = common_still (Requested r) o refl g.common;
         rows =
-            rows_joined m (with_changed hold.key (completing h n f hold found.1 found.2) t.requests)
-            (completion_row day r hold) e h
+            rows_joined
             (record {
               request = r;
               came = refl;
@@ -401,8 +374,8 @@ module _ (opening : Opening) (m : List ℕ) (t : Tables) (h : List Entry)
               day = refl;
               enrolled = λ a. absurd (cc);
             })
-            (without_newest_edited m t.requests e h hold.key (completing h n f hold found.1 found.2)
-            (status_edits status.Completed)
+            (without_newest_edited hold.key (followed_row status.Completed)
+            (followed_kept status.Completed)
             (completion_follows h n f hold found.1 found.2 moment day message
             (ranges_after h) reply asked.1 ends)
             g.rows);
@@ -440,11 +413,9 @@ module _ (opening : Opening) (m : List ℕ) (t : Tables) (h : List Entry)
       (ap (option_and_then (λ k. recorded k h)) asked.1 ∙ found.1)
       ∙ ap (reversal_posting day r) found.2)) in
       record {
-        common = common_still opening m t.limit t.day t.merchants t.terminals t.ranges
-            (Requested r) o h refl g.common;
+        common = common_still (Requested r) o refl g.common;
         rows =
-            rows_joined m (with_changed p.key (reversing h key f p found.1 found.2) t.requests)
-            (reversal_row day r p) e h
+            rows_joined
             (record {
               request = r;
               came = came;
@@ -456,8 +427,8 @@ module _ (opening : Opening) (m : List ℕ) (t : Tables) (h : List Entry)
               day = refl;
               enrolled = λ a. clash (is_admission e h) a admission;
             })
-            (without_newest_edited m t.requests e h p.key (reversing h key f p found.1 found.2)
-            (status_edits (reversed_status p.reply_state))
+            (without_newest_edited p.key (followed_row (reversed_status p.reply_state))
+            (followed_kept (reversed_status p.reply_state))
             (reversal_follows h key f p found.1 found.2 r day
             (ranges_after h) reply came fits asked.1 reversible) g.rows);
         posted =

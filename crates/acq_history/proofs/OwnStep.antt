@@ -12,10 +12,7 @@ use Rattle.iso_codec.specs.Message.{IsoMessage}
 use Rattle.card_no.specs.declared.range.Range.{Range}
 use Rattle.card_no.specs.Ranges.{with_range, without_range, has_ends, is_valid_range}
 use Rattle.acq_message.specs.declared.service.Service.{Service}
-use Rattle.acq_message.specs.declared.service.Service.TheVariants.{Authorization, Financial}
-use Rattle.acq_message.specs.declared.service.Service.TheVariants.{Completion, Reversal}
-use Rattle.acq_message.specs.declared.service.Service.TheVariants.{ReversalAdvice, Reconciliation}
-use Rattle.acq_message.specs.declared.service.Service.TheVariants.{NetworkManagement}
+use Rattle.acq_message.specs.declared.service.Service.TheVariants.{Completion, NetworkManagement}
 use Rattle.acq_core.specs.declared.merchant.Merchant.{Merchant}
 use Rattle.acq_core.specs.declared.terminal.Terminal.{Terminal}
 use Rattle.acq_core.specs.declared.request.Request.{Request}
@@ -24,9 +21,9 @@ use Rattle.acq_message.specs.declared.verdict.Verdict.{Verdict}
 use Rattle.acq_core.specs.declared.arrival.Arrival.{Arrival}
 use Rattle.acq_message.specs.declared.request_message.RequestMessage.{RequestMessage}
 use Rattle.acq_core.specs.Arrivals.{merchant_named, is_shared}
-use Rattle.acq_core.specs.declared.arrival.Arrival.TheVariants.{Undecoded, Unserved, Malformed}
-use Rattle.acq_core.specs.declared.arrival.Arrival.TheVariants.{Requested, Answered, CutOver}
-use Rattle.acq_core.specs.declared.arrival.Arrival.TheVariants.{RangeAdded, RangeDropped, Enrolled}
+use Rattle.acq_core.specs.declared.arrival.Arrival.TheVariants.{Unserved, Malformed, Requested}
+use Rattle.acq_core.specs.declared.arrival.Arrival.TheVariants.{Answered, CutOver, RangeAdded}
+use Rattle.acq_core.specs.declared.arrival.Arrival.TheVariants.{RangeDropped, Enrolled}
 use Rattle.acq_core.specs.declared.arrival.Arrival.TheVariants.{TerminalAdded}
 use Rattle.acq_core.specs.Known.{Known, Prior}
 use Rattle.acq_core.specs.declared.reply_state.ReplyState.TheVariants.{Awaited}
@@ -35,16 +32,16 @@ use Rattle.acq_core.specs.Decision.{is_open_at, Completes, Answers, CutsOver, Dr
 use Rattle.acq_core.specs.Decision.{decision_of_new_range, decision_of_old_range}
 use Rattle.acq_core.specs.Decision.{decision_of_enrolment, decision_of_terminal}
 use Rattle.day_totals.specs.Day.{last_day}
-use Rattle.acq_core.specs.Outcome.{Outcome, Replied, Performed, Reported, outcome_of}
+use Rattle.acq_core.specs.Outcome.{Outcome, Replied, Performed, Reported, outcome_of, output_of}
+use Rattle.acq_core.specs.Outcome.{outcome}
 use Rattle.acq_message.specs.Reply.{answered_reply, verdict_code}
 use Rattle.acq_message.specs.declared.response_code.ResponseCode.TheVariants as code
 use Rattle.acq_core.specs.Changes.{answered_status, answered_hold_end, change_of, change_for}
 use Rattle.acq_core.specs.Changes.{answer_posting}
 use Rattle.acq_core.specs.Tables.{Opening, Tables, prior_of, requests_of, referred_in}
-use Rattle.acq_core.specs.Tables.{with_next_posting, with_changed, after_any, known_in, step_output}
-use Rattle.acq_core.specs.Tables.{step_tables}
+use Rattle.acq_core.specs.Tables.{with_next_posting, after_any, known_in, step_output, step_tables}
+use Rattle.acq_core.specs.Tables.{answered_row}
 use Rattle.acq_message.specs.Numbers.{is_number}
-use Rattle.acq_core.specs.Outcome.{output_of, outcome}
 use Rattle.acq_history.specs.Entries.{Entry, request_of, is_performed, is_answer, accepts}
 use Rattle.acq_history.specs.Entries.{is_acceptable}
 use Rattle.acq_history.specs.History.{referred, day_after, ranges_after, enrolled, admits, prior}
@@ -57,18 +54,18 @@ use Rattle.acq_core.proofs.DecisionCases.{by_request, by_answer}
 use Rattle.acq_core.proofs.Counts.{or_none}
 use Rattle.acq_history.proofs.RecordableRequests.{recordable_some, is_admissible_true}
 use Rattle.acq_history.proofs.RecordableRequests.{is_reversal_true}
-use Rattle.acq_history.proofs.UnrecordedRequests.{IsQuiet, refusal_is, quiet_managed}
-use Rattle.acq_history.proofs.UnrecordedRequests.{quiet_unknown, quiet_duplicate, quiet_repeated}
-use Rattle.acq_history.proofs.UnrecordedRequests.{change_of_repeat}
-use Rattle.acq_history.proofs.RowsAgreeWithHistory.{Rows, answer_edits, without_newest_edited}
+use Rattle.acq_history.proofs.UnrecordedRequests.{IsQuiet, refusal_is, quiet_managed, quiet_unknown}
+use Rattle.acq_history.proofs.UnrecordedRequests.{quiet_duplicate, quiet_repeated, change_of_repeat}
+use Rattle.acq_history.proofs.RowsAgreeWithHistory.{Rows, without_newest_edited}
 use Rattle.acq_history.proofs.RowsAgreeWithHistory.{without_newest_still, rows_still}
 use Rattle.acq_history.proofs.RowsAgreeWithHistory.{referred_in_is}
-use Rattle.acq_history.proofs.ChangedRows.{answer_follows, answering}
+use Rattle.acq_history.proofs.ChangedRows.{answer_follows, entry_on}
 use Rattle.acq_history.proofs.TablesAgreeWithHistory.{Agrees, common_still, known_in_mine}
 use Rattle.acq_history.proofs.TablesAgreeWithHistory.{known_in_shared, IsOf, postings_of_mine}
 use Rattle.acq_history.proofs.TablesAgreeWithHistory.{answer_posting_is_of}
 use Rattle.acq_history.proofs.OwnRequests.{Keeps, quiet_step, refused_step, reconciled_step}
 use Rattle.acq_history.proofs.OwnRequests.{admitted_step, completed_step, reversed_step}
+use Rattle.acq_history.proofs.RowsWithChanges.{answered_kept}
 
 -- what is found in a merchant's rows has its key
 pub referred_merchant : (m : List ℕ) (rows : List Request) (n : ℕ) (p : Prior) →
@@ -86,7 +83,13 @@ is_some_open : (moment : ℕ) (o : Option ℕ) → is_open_at moment o ≡ true 
 is_some_open moment None e = absurd (cc)
 is_some_open moment (Some until) e = refl
 
-module _ (opening : Opening) (m : List ℕ) (t : Tables) (h : List Entry)
+-- the step of the tables is the step of the history
+abbrev pub IsStep : Opening → List ℕ → Tables → List Entry → Arrival → Type 0
+IsStep opening m t h a =
+    (step_output t a ≡ output_of (merchant_named a) (entry_for opening h a).outcome)
+    × Agrees opening m (step_tables t a) (entry_for opening h a ∷ h)
+
+module _ {opening : Opening} {m : List ℕ} {t : Tables} {h : List Entry}
     (g : Agrees opening m t h) where
   -- what the history lets an event know
   abbrev known : Arrival → Known
@@ -94,12 +97,7 @@ module _ (opening : Opening) (m : List ℕ) (t : Tables) (h : List Entry)
 
   -- the entry of an outcome
   abbrev at : Arrival → Outcome → Entry
-  at a o = record {
-    arrival = a;
-    day = day_after opening.first_day h;
-    ranges = ranges_after h;
-    outcome = o;
-  }
+  at = entry_on (day_after opening.first_day h) (ranges_after h)
 
   -- ---- requests
 
@@ -109,34 +107,29 @@ module _ (opening : Opening) (m : List ℕ) (t : Tables) (h : List Entry)
       merchant_named (Requested r) ≡ Some m → (hold : Prior) →
       (known (Requested r)).recorded ≡ None → s ≡ Completion →
       (known (Requested r)).referred ≡ Some hold →
-      is_some hold.hold_end ≡ true → Keeps opening m t h g (Requested r) (Completes r hold)
+      is_some hold.hold_end ≡ true → Keeps g (Requested r) (Completes r hold)
   completes_by moment Completion message named hold new fits there ends =
-      completed_step opening m t h g moment message named hold new there ends
-  completes_by moment Authorization message named hold new fits there ends = absurd (cc)
-  completes_by moment Financial message named hold new fits there ends = absurd (cc)
-  completes_by moment Reversal message named hold new fits there ends = absurd (cc)
-  completes_by moment ReversalAdvice message named hold new fits there ends = absurd (cc)
-  completes_by moment Reconciliation message named hold new fits there ends = absurd (cc)
-  completes_by moment NetworkManagement message named hold new fits there ends = absurd (cc)
+      completed_step g moment message named hold new there ends
+  completes_by moment service message named hold new fits there ends = absurd (cc)
 
   -- a request that changes nothing
   unchanged : (r : RequestMessage) (d : Decision) → change_of (known (Requested r)) d ≡ None →
       IsQuiet (known (Requested r)) r (outcome_of (known (Requested r)) d) →
-      Keeps opening m t h g (Requested r) d
+      Keeps g (Requested r) d
   unchanged r d none quiet =
       subst (λ c. Agrees opening m (after_any t c)
       (at (Requested r) (outcome_of (known (Requested r)) d) ∷ h))
       (sym none)
-      (quiet_step opening m t h g r (outcome_of (known (Requested r)) d) quiet)
+      (quiet_step g r (outcome_of (known (Requested r)) d) quiet)
 
   -- each decision on a request keeps the agreement
   requested : (r : RequestMessage) → merchant_named (Requested r) ≡ Some m →
-      Keeps opening m t h g (Requested r) (decision (known (Requested r)) (Requested r))
+      Keeps g (Requested r) (decision (known (Requested r)) (Requested r))
   requested r named =
       let k = known (Requested r) in
       let came : (r.service ≡ NetworkManagement → ⊥) → request_of (Requested r) ≡ Some r =
       recordable_some r.service r in
-      by_request k r (Keeps opening m t h g (Requested r))
+      by_request k r (Keeps g (Requested r))
       (record {
         managed = λ is. unchanged r (Replies r (network_response r.message)) refl
             (quiet_managed k r is);
@@ -147,19 +140,19 @@ module _ (opening : Opening) (m : List ℕ) (t : Tables) (h : List Entry)
             unchanged r (repeat_of p.reply_state) (change_of_repeat k p.reply_state)
             (quiet_repeated k r p is p.reply_state);
         refused = λ merchant fresh given is.
-            refused_step opening m t h g r named given (came fresh.recordable) fresh.new
+            refused_step g r named given (came fresh.recordable) fresh.new
             (refusal_is given is);
         admitted = λ merchant fresh service range in_range.
-            admitted_step opening m t h g r named range merchant (came fresh.recordable) fresh.new
+            admitted_step g r named range merchant (came fresh.recordable) fresh.new
             (is_admissible_true r.service service) in_range fresh.enrolled;
         completed = λ merchant fresh service hold found opens.
             completes_by r.moment r.service r.message named hold fresh.new service found
             (is_some_open r.moment hold.hold_end opens);
         reversed = λ merchant fresh service p found final.
-            reversed_step opening m t h g r named p (came fresh.recordable) fresh.new
+            reversed_step g r named p (came fresh.recordable) fresh.new
             (is_reversal_true r.service service) found final;
         reconciled = λ merchant fresh service day resolved.
-            reconciled_step opening m t h g r named day (came fresh.recordable) fresh.new service;
+            reconciled_step g r named day (came fresh.recordable) fresh.new service;
       })
 
   -- ---- what records nothing
@@ -169,9 +162,9 @@ module _ (opening : Opening) (m : List ℕ) (t : Tables) (h : List Entry)
       ((n : ℕ) → is_answer n (at a o) ≡ false) →
       Rows m t.requests (at a o ∷ h)
   still_rows a o none answers =
-      rows_still m t.requests (at a o) h (ap (λ rq. accepts is_acceptable rq o) none)
+      rows_still (ap (λ rq. accepts is_acceptable rq o) none)
       (ap (λ rq. admits rq (at a o) h) none) (ap (recording_first (at a o) h) none)
-      (without_newest_still m t.requests (at a o) h (ap (λ rq. accepts is_acceptable rq o) none)
+      (without_newest_still (ap (λ rq. accepts is_acceptable rq o) none)
       answers g.rows)
 
   -- such an entry that does nothing
@@ -180,8 +173,7 @@ module _ (opening : Opening) (m : List ℕ) (t : Tables) (h : List Entry)
       is_performed o ≡ false → postings h ≡ postings (at a o ∷ h) → Agrees opening m t (at a o ∷ h)
   still_step a o none answers performed posted =
       record {
-        common = common_still opening m t.limit t.day t.merchants t.terminals t.ranges a o h
-            performed g.common;
+        common = common_still a o performed g.common;
         rows = still_rows a o none answers;
         posted = g.posted ∙ posted;
       }
@@ -192,9 +184,10 @@ module _ (opening : Opening) (m : List ℕ) (t : Tables) (h : List Entry)
   answered_step : (moment : ℕ) (merchant : List ℕ) (n : ℕ) (v : Verdict) (p : Prior)
       (draft : IsoMessage) →
       (known (Answered moment merchant n v)).referred ≡ Some p → p.reply_state ≡ Awaited draft →
-      Keeps opening m t h g (Answered moment merchant n v) (Answers moment v p draft)
+      Keeps g (Answered moment merchant n v) (Answers moment v p draft)
   answered_step moment merchant n v p draft there pending =
       let reply = answered_reply draft v in
+      let until = answered_hold_end p.key.service moment v p.hold_days in
       let o = Replied (verdict_code v) reply in
       let a = Answered moment merchant n v in
       let e = at a o in
@@ -206,16 +199,13 @@ module _ (opening : Opening) (m : List ℕ) (t : Tables) (h : List Entry)
       then_map prior (answer_posting v) (referred n h)
       ∙ ap (option_and_then (answer_posting v)) there in
       record {
-        common = common_still opening m t.limit t.day t.merchants t.terminals t.ranges a o h refl
+        common = common_still a o refl
             g.common;
         rows =
-            rows_still m (with_changed p.key (answering h n f p found.1 found.2 moment v reply)
-            t.requests) e h refl
-            refl refl
-            (without_newest_edited m t.requests e h p.key
-            (answering h n f p found.1 found.2 moment v reply)
-            (answer_edits (answered_status v) reply
-            (answered_hold_end p.key.service moment v p.hold_days))
+            rows_still refl refl refl
+            (without_newest_edited p.key
+            (answered_row (answered_status v) reply until)
+            (answered_kept (answered_status v) reply until)
             (answer_follows h n f p found.1 found.2 moment (day_after opening.first_day h) merchant
             v
             (ranges_after h) reply draft pending) g.rows);
@@ -228,11 +218,11 @@ module _ (opening : Opening) (m : List ℕ) (t : Tables) (h : List Entry)
 
   -- each decision on an answer keeps the agreement
   answered : (moment : ℕ) (merchant : List ℕ) (n : ℕ) (v : Verdict) →
-      Keeps opening m t h g (Answered moment merchant n v)
+      Keeps g (Answered moment merchant n v)
       (decision (known (Answered moment merchant n v)) (Answered moment merchant n v))
   answered moment merchant n v =
       let a = Answered moment merchant n v in
-      by_answer (known a) moment v (Keeps opening m t h g a)
+      by_answer (known a) moment v (Keeps g a)
       (record {
         not_taken = λ o. still_step a (Reported o) refl (λ k. and-false (n == k)) refl refl;
         taken = λ p draft there pending. answered_step moment merchant n v p draft there pending;
@@ -243,7 +233,7 @@ module _ (opening : Opening) (m : List ℕ) (t : Tables) (h : List Entry)
 
   -- the merchant's own enrolment
   enrolment : (merchant : Merchant) → merchant.id ≡ m → (o : Option Merchant) →
-      Keeps opening m t h g (Enrolled merchant) (decision_of_enrolment merchant o)
+      Keeps g (Enrolled merchant) (decision_of_enrolment merchant o)
   enrolment merchant mine (Some other) =
       still_step (Enrolled merchant) (Reported output.AlreadyEnrolled) refl (λ n. refl) refl refl
   enrolment merchant mine None =
@@ -265,7 +255,7 @@ module _ (opening : Opening) (m : List ℕ) (t : Tables) (h : List Entry)
   -- its own terminal
   terminal_added : (terminal : Terminal) → terminal.merchant ≡ m →
       (there : Bool) (o : Option Merchant) →
-      Keeps opening m t h g (TerminalAdded terminal) (decision_of_terminal terminal there o)
+      Keeps g (TerminalAdded terminal) (decision_of_terminal terminal there o)
   terminal_added terminal mine there None =
       still_step (TerminalAdded terminal) (Reported output.NoSuchMerchant) refl
       (λ n. refl) refl refl
@@ -290,10 +280,10 @@ module _ (opening : Opening) (m : List ℕ) (t : Tables) (h : List Entry)
 
   -- ---- what all share
 
-  cut_over : Keeps opening m t h g CutOver (decision (known CutOver) CutOver)
+  cut_over : Keeps g CutOver (decision (known CutOver) CutOver)
   cut_over =
       elim (nat_lt (day_after opening.first_day h) last_day) as (λ b.
-      Keeps opening m t h g CutOver (if b then CutsOver else Reports output.LastDay)) [
+      Keeps g CutOver (if b then CutsOver else Reports output.LastDay)) [
         | true ↦ record {
           common = record {
             bounded = g.common.bounded;
@@ -309,7 +299,7 @@ module _ (opening : Opening) (m : List ℕ) (t : Tables) (h : List Entry)
       ]
 
   new_range : (range : Range) (o : Option Range) →
-      Keeps opening m t h g (RangeAdded range) (decision_of_new_range range o)
+      Keeps g (RangeAdded range) (decision_of_new_range range o)
   new_range range (Some other) = still_step (RangeAdded range) (Reported (output.Overlap other))
       refl (λ n.
       refl) refl refl
@@ -327,11 +317,11 @@ module _ (opening : Opening) (m : List ℕ) (t : Tables) (h : List Entry)
       }
 
   range_added : (range : Range) →
-      Keeps opening m t h g (RangeAdded range)
+      Keeps g (RangeAdded range)
       (decision (known (RangeAdded range)) (RangeAdded range))
   range_added range =
       elim (is_valid_range range) as (λ b.
-      Keeps opening m t h g (RangeAdded range)
+      Keeps g (RangeAdded range)
       (if b then decision_of_new_range range (known (RangeAdded range)).overlapped else Reports
       output.BadRange)) [
         | true ↦ new_range range (known (RangeAdded range)).overlapped
@@ -340,12 +330,12 @@ module _ (opening : Opening) (m : List ℕ) (t : Tables) (h : List Entry)
       ]
 
   old_range : (low high : ℕ) (o : Option Range) →
-      Keeps opening m t h g (RangeDropped low high) (decision_of_old_range low high o)
+      Keeps g (RangeDropped low high) (decision_of_old_range low high o)
   old_range low high None = still_step (RangeDropped low high) (Reported output.NoSuchRange) refl
       (λ n. refl) refl refl
   old_range low high (Some range) =
       elim (has_ends low high range) as (λ b.
-      Keeps opening m t h g (RangeDropped low high)
+      Keeps g (RangeDropped low high)
       (if b then DropsRange low high else Reports output.NoSuchRange)) [
         | true ↦ record {
           common = record {
@@ -366,12 +356,10 @@ module _ (opening : Opening) (m : List ℕ) (t : Tables) (h : List Entry)
 
   -- what is decided on what came keeps the agreement
   abbrev KeepsAt : Arrival → Type 0
-  KeepsAt a = Keeps opening m t h g a (decision (known a) a)
+  KeepsAt a = Keeps g a (decision (known a) a)
 
   -- whatever names the merchant
   keeps_mine : (a : Arrival) → merchant_named a ≡ Some m → KeepsAt a
-  keeps_mine (Undecoded fault) named =
-      absurd (let no : ◌≡◌ {A = Option (List ℕ)} None (Some m) = named in cc)
   keeps_mine (Unserved message) named =
       still_step (Unserved message) (Reported (output.UnservedType message.kind)) refl
       (λ n. refl) refl refl
@@ -381,17 +369,13 @@ module _ (opening : Opening) (m : List ℕ) (t : Tables) (h : List Entry)
       (λ n. refl) refl refl
   keeps_mine (Requested r) named = requested r named
   keeps_mine (Answered moment merchant n v) named = answered moment merchant n v
-  keeps_mine CutOver named = absurd (let no : ◌≡◌ {A = Option (List ℕ)} None (Some m) = named in cc)
-  keeps_mine (RangeAdded range) named =
-      absurd (let no : ◌≡◌ {A = Option (List ℕ)} None (Some m) = named in cc)
-  keeps_mine (RangeDropped low high) named =
-      absurd (let no : ◌≡◌ {A = Option (List ℕ)} None (Some m) = named in cc)
   keeps_mine (Enrolled merchant) named =
       enrolment merchant (some_is merchant.id m named) (known (Enrolled merchant)).merchant
   keeps_mine (TerminalAdded terminal) named =
       terminal_added terminal (some_is terminal.merchant m named)
       (known (TerminalAdded terminal)).has_terminal
       (known (TerminalAdded terminal)).merchant
+  keeps_mine other named = absurd (let no : ◌≡◌ {A = Option (List ℕ)} None (Some m) = named in cc)
 
   -- whatever is shared
   keeps_shared : (a : Arrival) → is_shared a ≡ true → KeepsAt a
@@ -399,30 +383,18 @@ module _ (opening : Opening) (m : List ℕ) (t : Tables) (h : List Entry)
   keeps_shared (RangeAdded range) shared = range_added range
   keeps_shared (RangeDropped low high) shared =
       old_range low high (known (RangeDropped low high)).overlapped
-  keeps_shared (Undecoded fault) shared = absurd (cc)
-  keeps_shared (Unserved message) shared = absurd (cc)
-  keeps_shared (Malformed r) shared = absurd (cc)
-  keeps_shared (Requested r) shared = absurd (cc)
-  keeps_shared (Answered moment merchant n v) shared = absurd (cc)
-  keeps_shared (Enrolled merchant) shared = absurd (cc)
-  keeps_shared (TerminalAdded terminal) shared = absurd (cc)
+  keeps_shared other shared = absurd (cc)
 
-  -- the step of the tables is the step of the history
-  abbrev IsStep : Arrival → Type 0
-  IsStep a =
-      (step_output t a ≡ output_of (merchant_named a) (entry_for opening h a).outcome)
-      × Agrees opening m (step_tables t a) (entry_for opening h a ∷ h)
-
-  stepped : (a : Arrival) → known_in t a ≡ known a → KeepsAt a → IsStep a
+  stepped : (a : Arrival) → known_in t a ≡ known a → KeepsAt a → IsStep opening m t h a
   stepped a same keeps = (
     ap (λ k. output_of (merchant_named a) (outcome k a)) same,
     subst (λ k. Agrees opening m (after_any t (change_for k a)) (entry_for opening h a ∷ h))
         (sym same) keeps,
   )
 
-  pub step_mine : (a : Arrival) → merchant_named a ≡ Some m → IsStep a
-  step_mine a named = stepped a (known_in_mine opening m t h g a named) (keeps_mine a named)
+  pub step_mine : (a : Arrival) → merchant_named a ≡ Some m → IsStep opening m t h a
+  step_mine a named = stepped a (known_in_mine g a named) (keeps_mine a named)
 
-  pub step_shared : (a : Arrival) → is_shared a ≡ true → IsStep a
-  step_shared a shared = stepped a (known_in_shared opening m t h g a shared)
+  pub step_shared : (a : Arrival) → is_shared a ≡ true → IsStep opening m t h a
+  step_shared a shared = stepped a (known_in_shared g a shared)
       (keeps_shared a shared)

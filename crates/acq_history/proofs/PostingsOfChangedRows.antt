@@ -3,8 +3,7 @@ use Rattle.std.proofs.Common.{◌≡◌, ℕ, List, [], ◌∷◌, ◌++◌, Opt
 use Rattle.std.proofs.Common.{cond, inl, inr, refl, sym, ap, ◌∙◌, subst}
 use Rattle.std.specs.Prelude.{option_map}
 use Rattle.day_totals.specs.declared.leg.Leg.{Leg}
-use Rattle.day_totals.specs.declared.leg.Leg.TheVariants.{Credit, CreditReversal, Debit}
-use Rattle.day_totals.specs.declared.leg.Leg.TheVariants.{DebitReversal}
+use Rattle.day_totals.specs.declared.leg.Leg.TheVariants.{CreditReversal, DebitReversal}
 use Rattle.acq_message.specs.declared.service.Service.{Service}
 use Rattle.acq_message.specs.declared.service.Service.TheVariants.{Authorization, Financial}
 use Rattle.acq_message.specs.declared.service.Service.TheVariants.{Completion, Reversal}
@@ -14,9 +13,7 @@ use Rattle.iso_codec.specs.Message.{IsoMessage}
 use Rattle.acq_core.specs.declared.request.Request.{Request}
 use Rattle.acq_core.specs.declared.merchant.Merchant.{Merchant}
 use Rattle.acq_core.specs.declared.status.Status.{Status}
-use Rattle.acq_core.specs.declared.status.Status.TheVariants.{Refused, Pending, Declined, Approved}
-use Rattle.acq_core.specs.declared.status.Status.TheVariants.{Completed, Reversed, ReversedPending}
-use Rattle.acq_core.specs.declared.status.Status.TheVariants.{Reconciled}
+use Rattle.acq_core.specs.declared.status.Status.TheVariants.{Pending, Approved, Completed}
 use Rattle.acq_core.specs.declared.posting.Posting.{Posting}
 use Rattle.acq_message.specs.Elements.{or_empty}
 use Rattle.acq_core.specs.Decision.{is_open_at}
@@ -28,10 +25,12 @@ use Rattle.acq_history.specs.Conservation.{is_reversal_leg}
 use Rattle.acq_history.proofs.Members.{In, In-first, In-push}
 use Rattle.acq_history.proofs.PostingsOfRequests.{is_posted, is_reversed, posted_by, posted}
 use Rattle.acq_history.proofs.PostingsOfRequests.{reversed_under, HasPosted, HasPosting}
-use Rattle.acq_history.proofs.PostingsOfRequests.{PostingsMatchRows, Grows, FromBefore}
-use Rattle.acq_history.proofs.PostingsOfRequests.{unposted}
-use Rattle.acq_history.proofs.RowsStayWellFormed.{IsWellFormed, IsChange, IsReplaced}
+use Rattle.acq_history.proofs.PostingsOfRequests.{PostingsMatchRows, Grows, FromBefore, unposted}
+use Rattle.acq_history.proofs.PostingsOfRequests.{under_by}
+use Rattle.acq_history.proofs.RowsStayWellFormed.{IsWellFormed, IsReplaced}
 use Rattle.acq_history.proofs.Statuses.{is_approved_is}
+use Rattle.acq_history.proofs.RowsWithChanges.{IsChange}
+use Rattle.acq_history.proofs.Lookups.{clash}
 
 -- ---- what has posted
 
@@ -48,11 +47,7 @@ posted_as Financial row n e = step (is_posted row.status) e
     step true f = Sold refl f
     step false f = absurd (cc)
 posted_as Completion row n e = Followed refl e
-posted_as Authorization row n e = absurd (cc)
-posted_as Reversal row n e = absurd (cc)
-posted_as ReversalAdvice row n e = absurd (cc)
-posted_as Reconciliation row n e = absurd (cc)
-posted_as NetworkManagement row n e = absurd (cc)
+posted_as service row n e = absurd (cc)
 
 pub reversed_as : (row : Request) (n : ℕ) → reversed_under row ≡ Some n →
     (is_reversed row.status ≡ true) × (posted row ≡ Some n)
@@ -69,11 +64,7 @@ pub posted_same : (s : Service) (a b : Request) → is_posted a.status ≡ is_po
     a.follows ≡ b.follows → posted_by s a ≡ posted_by s b
 posted_same Financial a b e f g = λ i. cond (e i) (f i) None
 posted_same Completion a b e f g = g
-posted_same Authorization a b e f g = refl
-posted_same Reversal a b e f g = refl
-posted_same ReversalAdvice a b e f g = refl
-posted_same Reconciliation a b e f g = refl
-posted_same NetworkManagement a b e f g = refl
+posted_same service a b e f g = refl
 
 -- what has no status of a posting, and follows nothing, has posted nothing
 pub posted_none : (s : Service) (row : Request) → is_posted row.status ≡ false →
@@ -95,11 +86,7 @@ posted_none s row e f = posted_same s row (record row { status = Pending; follow
 pub posted_reversing : (s : Service) (row : Request) → is_reversal s ≡ true → posted_by s row ≡ None
 posted_reversing Financial row e = absurd (cc)
 posted_reversing Completion row e = absurd (cc)
-posted_reversing Authorization row e = refl
-posted_reversing Reversal row e = refl
-posted_reversing ReversalAdvice row e = refl
-posted_reversing Reconciliation row e = refl
-posted_reversing NetworkManagement row e = refl
+posted_reversing service row e = refl
 
 -- a request with a reference, but no leg, posts nothing
 pub posted_unsold : (s : Service) (a b : Request) (n : ℕ) → leg_by s b ≡ None →
@@ -109,11 +96,7 @@ posted_unsold Financial a b n e f g =
     absurd (let some : option_map (λ reference. b.leg) b.reference
     ≡ Some b.leg = ap (option_map (λ reference. b.leg)) f in cc)
 posted_unsold Completion a b n e f g = g
-posted_unsold Authorization a b n e f g = refl
-posted_unsold Reversal a b n e f g = refl
-posted_unsold ReversalAdvice a b n e f g = refl
-posted_unsold Reconciliation a b n e f g = refl
-posted_unsold NetworkManagement a b n e f g = refl
+posted_unsold service a b n e f g = refl
 
 -- ---- what a row with a leg is
 
@@ -143,31 +126,21 @@ leg_of Financial row leg e =
 leg_of Completion row leg e =
     let a = leg_in row.leg leg row.follows e in
     record { same = a.2; service = refl; number = a.0; reference = a.1; under = λ h. a.1 }
-leg_of Authorization row leg e = absurd (cc)
-leg_of Reversal row leg e = absurd (cc)
-leg_of ReversalAdvice row leg e = absurd (cc)
-leg_of Reconciliation row leg e = absurd (cc)
-leg_of NetworkManagement row leg e = absurd (cc)
+leg_of service row leg e = absurd (cc)
 
 -- of the requests that are admitted, sales and returns alone have a leg
 pub leg_by_admissible : (s : Service) (row : Request) (leg : Leg) → leg_by s row ≡ Some leg →
     is_admissible s ≡ true →
     s ≡ Financial
 leg_by_admissible Financial row leg e a = refl
-leg_by_admissible Completion row leg e a = absurd (cc)
-leg_by_admissible Authorization row leg e a = absurd (cc)
-leg_by_admissible Reversal row leg e a = absurd (cc)
-leg_by_admissible ReversalAdvice row leg e a = absurd (cc)
-leg_by_admissible Reconciliation row leg e a = absurd (cc)
-leg_by_admissible NetworkManagement row leg e a = absurd (cc)
+leg_by_admissible service row leg e a = absurd (cc)
 
 -- the leg that reverses an original's is one of a reversal
 pub reversal_leg_is : (leg : Leg) → is_reversal_leg leg ≡ false →
     is_reversal_leg (reversal_leg leg) ≡ true
-reversal_leg_is Credit e = refl
-reversal_leg_is Debit e = refl
 reversal_leg_is CreditReversal e = absurd (cc)
 reversal_leg_is DebitReversal e = absurd (cc)
+reversal_leg_is other e = refl
 
 -- ---- status
 
@@ -182,12 +155,7 @@ is_open_until_row Authorization row moment e = step (is_approved row.status) ref
         (Authorization ≡ Authorization) × (row.status ≡ Approved)
     step true h f = (refl, is_approved_is row.status h)
     step false h f = absurd (cc)
-is_open_until_row Financial row moment e = absurd (cc)
-is_open_until_row Completion row moment e = absurd (cc)
-is_open_until_row Reversal row moment e = absurd (cc)
-is_open_until_row ReversalAdvice row moment e = absurd (cc)
-is_open_until_row Reconciliation row moment e = absurd (cc)
-is_open_until_row NetworkManagement row moment e = absurd (cc)
+is_open_until_row service row moment e = absurd (cc)
 
 -- what can be reversed was not, and a reversal keeps whether it posted
 pub record IsReversible (s : Status) (reply : IsoMessage) : Type 0 where
@@ -200,35 +168,24 @@ reversible Pending reply e =
     record { posts = refl; not_reversed = refl; not_completed = λ h. absurd (cc) }
 reversible Approved reply e =
     record { posts = refl; not_reversed = refl; not_completed = λ h. absurd (cc) }
-reversible Refused reply e = absurd (cc)
-reversible Declined reply e = absurd (cc)
-reversible Completed reply e = absurd (cc)
-reversible Reversed reply e = absurd (cc)
-reversible ReversedPending reply e = absurd (cc)
-reversible Reconciled reply e = absurd (cc)
+reversible status reply e = absurd (cc)
 
 -- where the leg of what can be reversed was posted, it was approved
 pub posted_leg_approved : (s : Status) (reply : IsoMessage) (o : Option Leg) (leg : Leg) →
     is_reversible s ≡ true →
     posted_leg (reply_state_of s reply) o ≡ Some leg → (s ≡ Approved) × (o ≡ Some leg)
 posted_leg_approved Approved reply o leg f e = (refl, e)
-posted_leg_approved Pending reply o leg f e = absurd (cc)
-posted_leg_approved Refused reply o leg f e = absurd (cc)
-posted_leg_approved Declined reply o leg f e = absurd (cc)
-posted_leg_approved Completed reply o leg f e = absurd (cc)
-posted_leg_approved Reversed reply o leg f e = absurd (cc)
-posted_leg_approved ReversedPending reply o leg f e = absurd (cc)
-posted_leg_approved Reconciled reply o leg f e = absurd (cc)
+posted_leg_approved status reply o leg f e = absurd (cc)
 
 -- ---- under one reference
 
 -- of a merchant's requests one has posted under a reference
-pub once_posted : (day : ℕ) (merchants : List Merchant) (rows : List Request) (a b : Request)
+pub once_posted : {day : ℕ} {merchants : List Merchant} {rows : List Request} (a b : Request)
     (n : ℕ) →
     IsWellFormed day merchants rows → In a rows → In b rows → a.key.merchant ≡ b.key.merchant →
     posted a ≡ Some n →
     posted b ≡ Some n → a ≡ b
-once_posted day merchants rows a b n k i j m e f = step (posted_as a.key.service a n e)
+once_posted {rows = rows} a b n k i j m e f = step (posted_as a.key.service a n e)
     (posted_as b.key.service b n f)
   where
     -- a sale has no reference of a completed hold
@@ -252,11 +209,11 @@ once_posted day merchants rows a b n k i j m e f = step (posted_as a.key.service
         (record { merchant = sym m; service = t; follows = h })
 
 -- none has posted under the reference of a request that has not, and is no completed hold
-pub none_posted : (day : ℕ) (merchants : List Merchant) (rows : List Request) (row : Request)
+pub none_posted : {day : ℕ} {merchants : List Merchant} {rows : List Request} (row : Request)
     (n : ℕ) →
     IsWellFormed day merchants rows → In row rows → row.reference ≡ Some n → posted row ≡ None →
-    (row.status ≡ Completed → ⊥) → HasPosted rows row.key.merchant n → ⊥
-none_posted day merchants rows row n k i e none incomplete h =
+    (row.status ≡ Completed → ⊥) → HasPosted false rows row.key.merchant n → ⊥
+none_posted row n k i e none incomplete h =
     step (posted_as h.row.key.service h.row n h.under)
   where
     step : IsPostedAs h.row.key.service h.row n → ⊥
@@ -275,15 +232,8 @@ none_posted day merchants rows row n k i e none incomplete h =
 -- nothing is lost by a row more
 pub Grows-push : (rows : List Request) (row : Request) → Grows rows (rows ++ row ∷ [])
 Grows-push rows row = record {
-  posted_on =
-      λ m n h. record {
-        row = h.row;
-        member = In-first h.row rows _ h.member;
-        merchant = h.merchant;
-        under = h.under;
-      };
-  reversed_on =
-      λ m n h. record {
+  stays =
+      λ reversal m n h. record {
         row = h.row;
         member = In-first h.row rows _ h.member;
         merchant = h.merchant;
@@ -292,12 +242,9 @@ Grows-push rows row = record {
 }
 
 -- nor over two steps
-pub Grows-both : (rows mid later : List Request) → Grows rows mid → Grows mid later →
+pub Grows-both : {rows mid later : List Request} → Grows rows mid → Grows mid later →
     Grows rows later
-Grows-both rows mid later a b = record {
-  posted_on = λ m n h. b.posted_on m n (a.posted_on m n h);
-  reversed_on = λ m n h. b.reversed_on m n (a.reversed_on m n h);
-}
+Grows-both a b = record { stays = λ reversal m n h. b.stays reversal m n (a.stays reversal m n h) }
 
 -- a row more that has posted nothing
 pub from_push : (rows : List Request) (row : Request) (ps : List (ℕ × Posting)) →
@@ -309,42 +256,40 @@ from_push rows row ps none from x n i e = elim (In-push x rows row i) [
 ]
 
 -- a row that posts nothing
-pub pushed : (rows : List Request) (row : Request) (ps : List (ℕ × Posting)) → posted row ≡ None →
+pub pushed : {rows : List Request} {ps : List (ℕ × Posting)} (row : Request) → posted row ≡ None →
     PostingsMatchRows rows ps → PostingsMatchRows (rows ++ row ∷ []) ps
-pushed rows row ps none b =
-    unposted rows (rows ++ row ∷ []) ps b (Grows-push rows row) (from_push rows row ps none b.there)
+pushed {rows} {ps} row none b =
+    unposted b (Grows-push rows row) (from_push rows row ps none b.there)
 
 -- ---- a row changed
 
 -- nothing is lost where a changed row has posted as before
-pub Grows-replaced : (rows later : List Request) (p q : Request) → IsReplaced rows later p q →
+pub Grows-replaced : {rows later : List Request} {p q : Request} → IsReplaced rows later p q →
     IsChange p q →
     ((n : ℕ) → posted p ≡ Some n → posted q ≡ Some n) → is_reversed p.status ≡ false →
     Grows rows later
-Grows-replaced rows later p q r c same none = record {
-  posted_on = λ m n h. elim (r.after h.row h.member) [
+Grows-replaced {p = p} {q = q} r c same none = record {
+  stays = λ reversal m n h. elim (r.after h.row h.member) [
     | inl stays ↦ record { row = h.row; member = stays; merchant = h.merchant; under = h.under }
     | inr e ↦
         record {
           row = q;
           member = r.changed;
           merchant = ap (λ x. x.merchant) c.key ∙ (ap (λ x. x.key.merchant) e ∙ h.merchant);
-          under = same n (ap posted e ∙ h.under);
+          under = kept reversal n (ap (under_by reversal) e ∙ h.under);
         }
   ];
-  reversed_on = λ m n h. elim (r.after h.row h.member) [
-    | inl stays ↦ record { row = h.row; member = stays; merchant = h.merchant; under = h.under }
-    | inr e ↦
-        absurd (let yes : is_reversed p.status ≡ true = ap (λ x. is_reversed x.status) e
-        ∙ (reversed_as h.row n h.under).0 in cc)
-  ];
 }
+  where
+    kept : (reversal : Bool) (n : ℕ) → under_by reversal p ≡ Some n → under_by reversal q ≡ Some n
+    kept false n e = same n e
+    kept true n e = clash (is_reversed p.status) (reversed_as p n e).0 none
 
 -- a changed row has the same posting
 HasPosting-change : (ps : List (ℕ × Posting)) (p q : Request) (n : ℕ) → IsChange p q →
-    HasPosting ps p n →
+    posted p ≡ Some n → HasPosting ps p n →
     HasPosting ps q n
-HasPosting-change ps p q n c h = record {
+HasPosting-change ps p q n c under h = record {
   posting = h.posting;
   member = h.member;
   of =
@@ -352,20 +297,20 @@ HasPosting-change ps p q n c h = record {
         merchant = h.of.merchant ∙ sym (ap (λ x. x.merchant) c.key);
         reference = h.of.reference;
         leg = h.of.leg ∙ sym c.leg;
-        amount = h.of.amount ∙ sym c.amount;
+        amount = h.of.amount ∙ sym (c.amount n under);
         card = h.of.card ∙ sym (ap or_empty c.card);
         day = h.of.day ∙ sym c.day;
       };
 }
 
 -- nothing comes to be posted where a changed row has posted as before
-pub from_replaced : (rows later : List Request) (p q : Request) (ps : List (ℕ × Posting)) →
+pub from_replaced : {rows later : List Request} {p q : Request} {ps : List (ℕ × Posting)} →
     PostingsMatchRows rows ps →
     In p rows → IsReplaced rows later p q → IsChange p q → posted q ≡ posted p →
     FromBefore rows ps later
-from_replaced rows later p q ps b i r c same x n j e = elim (r.before x j) [
+from_replaced {p = p} {q = q} {ps = ps} b i r c same x n j e = elim (r.before x j) [
   | inl old ↦ b.there x n old.0 e
   | inr new ↦
-      subst (λ y. HasPosting ps y n) new
-      (HasPosting-change ps p q n c (b.there p n i (sym same ∙ (ap posted new ∙ e))))
+      let under : posted p ≡ Some n = sym same ∙ (ap posted new ∙ e) in
+      subst (λ y. HasPosting ps y n) new (HasPosting-change ps p q n c under (b.there p n i under))
 ]

@@ -16,7 +16,6 @@ use Rattle.acq_history.specs.Conservation.{is_reversal_leg, is_posting, IsEarlie
 use Rattle.acq_history.proofs.Members.{In, In-first, In-last, In-push}
 use Rattle.acq_history.proofs.Keys.{bytes_eq_is, bytes_eq_itself, eqb_is, eqb_itself}
 use Rattle.std.proofs.lemmas.Bool.{and_parts}
-use Rattle.acq_history.proofs.Lookups.{clash}
 
 -- ---- what a request has posted
 
@@ -54,19 +53,17 @@ pub record IsPostingOf (p : Posting) (row : Request) (n : ℕ) : Type 0 where
   pub card : p.card ≡ or_empty row.card
   pub day : p.day ≡ row.day
 
--- a merchant's request that has posted, or reversed, under this reference
-pub record HasPosted (rows : List Request) (m : List ℕ) (n : ℕ) : Type 0 where
-  pub row : Request
-  pub member : In row rows
-  pub merchant : row.key.merchant ≡ m
-  pub under : posted row ≡ Some n
+-- either of the two
+abbrev pub under_by : Bool → Request → Option ℕ
+under_by false row = posted row
+under_by true row = reversed_under row
 
--- a merchant's request whose reversal has posted under this reference
-pub record HasReversed (rows : List Request) (m : List ℕ) (n : ℕ) : Type 0 where
+-- a merchant's request that has posted under this reference, or whose reversal has
+pub record HasPosted (reversal : Bool) (rows : List Request) (m : List ℕ) (n : ℕ) : Type 0 where
   pub row : Request
   pub member : In row rows
   pub merchant : row.key.merchant ≡ m
-  pub under : reversed_under row ≡ Some n
+  pub under : under_by reversal row ≡ Some n
 
 -- the posting of a request stands
 pub record HasPosting (ps : List (ℕ × Posting)) (row : Request) (n : ℕ) : Type 0 where
@@ -87,10 +84,8 @@ is_beside p row = bytes_eq row.1.merchant p.merchant && (row.1.day == p.day)
 -- postings and the rows that they are of: each has its row, each row that posted its posting, no
 -- two are alike
 pub record PostingsMatchRows (rows : List Request) (ps : List (ℕ × Posting)) : Type 0 where
-  pub originals : (x : ℕ × Posting) → In x ps → is_reversal_leg x.1.leg ≡ false →
-      HasPosted rows x.1.merchant x.1.reference
-  pub reversals : (x : ℕ × Posting) → In x ps → is_reversal_leg x.1.leg ≡ true →
-      HasReversed rows x.1.merchant x.1.reference
+  pub made : (x : ℕ × Posting) → In x ps →
+      HasPosted (is_reversal_leg x.1.leg) rows x.1.merchant x.1.reference
   pub there : (row : Request) (n : ℕ) → In row rows → posted row ≡ Some n → HasPosting ps row n
   pub at_most_one : (m : List ℕ) (n : ℕ) (reversal : Bool) → count (is_posting m n reversal) ps ≤ 1
   pub matched : (x : ℕ × Posting) → In x ps → is_reversal_leg x.1.leg ≡ true → HasOriginal ps x
@@ -100,8 +95,8 @@ pub record PostingsMatchRows (rows : List Request) (ps : List (ℕ × Posting)) 
 
 -- what had posted or reversed stays so
 pub record Grows (rows later : List Request) : Type 0 where
-  pub posted_on : (m : List ℕ) (n : ℕ) → HasPosted rows m n → HasPosted later m n
-  pub reversed_on : (m : List ℕ) (n : ℕ) → HasReversed rows m n → HasReversed later m n
+  pub stays : (reversal : Bool) (m : List ℕ) (n : ℕ) → HasPosted reversal rows m n →
+      HasPosted reversal later m n
 
 -- what has posted had posted before
 abbrev pub FromBefore : List Request → List (ℕ × Posting) → List Request → Type 0
@@ -109,12 +104,11 @@ FromBefore rows ps later = (row : Request) (n : ℕ) → In row later → posted
     HasPosting ps row n
 
 -- rows that change and post nothing
-pub unposted : (rows later : List Request) (ps : List (ℕ × Posting)) → PostingsMatchRows rows ps →
+pub unposted : {rows later : List Request} {ps : List (ℕ × Posting)} → PostingsMatchRows rows ps →
     Grows rows later →
     FromBefore rows ps later → PostingsMatchRows later ps
-unposted rows later ps b g from = record {
-  originals = λ x i l. g.posted_on _ _ (b.originals x i l);
-  reversals = λ x i l. g.reversed_on _ _ (b.reversals x i l);
+unposted b g from = record {
+  made = λ x i. g.stays _ _ _ (b.made x i);
   there = from;
   at_most_one = b.at_most_one;
   matched = b.matched;
@@ -196,27 +190,26 @@ beside_itself : (n : ℕ) (p : Posting) → is_beside p (n, p) ≡ true
 beside_itself n p =
     ap (λ b. b && (p.day == p.day)) (bytes_eq_itself p.merchant) ∙ eqb_itself p.day
 
--- the grounds of a posting: of an original that is the first under its reference, or of a reversal
--- that is the first
-pub record IsFirst (rows later : List Request) (p : Posting) : Type 0 where
-  pub leg : is_reversal_leg p.leg ≡ false
-  pub first : HasPosted rows p.merchant p.reference → ⊥
-  pub made : HasPosted later p.merchant p.reference
-
--- the grounds of a reversal's posting: the first under its reference, and its original stands
-pub record IsFirstReversal (rows later : List Request) (ps : List (ℕ × Posting))
-    (p : Posting) : Type 0 where
-  pub leg : is_reversal_leg p.leg ≡ true
-  pub first : HasReversed rows p.merchant p.reference → ⊥
-  pub made : HasReversed later p.merchant p.reference
+-- what a reversal's posting reverses
+pub record Reverses (ps : List (ℕ × Posting)) (p : Posting) : Type 0 where
   pub original : ℕ × Posting
   pub member : In original ps
   pub merchant : original.1.merchant ≡ p.merchant
   pub reference : original.1.reference ≡ p.reference
-  pub same_leg : reversal_leg original.1.leg ≡ p.leg
+  pub leg : reversal_leg original.1.leg ≡ p.leg
   pub amount : original.1.amount ≡ p.amount
   pub card : original.1.card ≡ p.card
   pub day : original.1.day ≤ p.day
+
+-- the grounds of a posting: it is the first under its reference, of originals or of reversals, and
+-- what a reversal reverses stands
+pub record IsFirst (rows later : List Request) (ps : List (ℕ × Posting)) (p : Posting) : Type 0
+  where
+    pub reversal : Bool
+    pub leg : is_reversal_leg p.leg ≡ reversal
+    pub first : HasPosted reversal rows p.merchant p.reference → ⊥
+    pub made : HasPosted reversal later p.merchant p.reference
+    pub reverses : reversal ≡ true → Reverses ps p
 
 -- the number that a posting gets
 abbrev pub numbered_posting : List (ℕ × Posting) → Posting → ℕ × Posting
@@ -272,19 +265,17 @@ there_push ps p later from row n i e = elim (from row n i e) [
   }
 ]
 
--- one more posting of an original
-pub posted_first : (rows later : List Request) (ps : List (ℕ × Posting)) (p : Posting) →
+-- one more posting
+pub posted_next : {rows later : List Request} {ps : List (ℕ × Posting)} {p : Posting} →
     PostingsMatchRows rows ps →
-    Grows rows later → FromBeforeOr ps p later → IsFirst rows later p →
+    Grows rows later → FromBeforeOr ps p later → IsFirst rows later ps p →
     PostingsMatchRows later (with_next_posting ps (Some p))
-posted_first rows later ps p b g from f = record {
-  originals = λ x i l. elim (In-push x ps y i) [
-    | inl old ↦ g.posted_on _ _ (b.originals x old l)
-    | inr e ↦ subst (λ z. HasPosted later z.1.merchant z.1.reference) e f.made
-  ];
-  reversals = λ x i l. elim (In-push x ps y i) [
-    | inl old ↦ g.reversed_on _ _ (b.reversals x old l)
-    | inr e ↦ clash (is_reversal_leg p.leg) (ap (λ z. is_reversal_leg z.1.leg) e ∙ l) f.leg
+posted_next {rows} {later} {ps} {p} b g from f = record {
+  made = λ x i. elim (In-push x ps y i) [
+    | inl old ↦ g.stays _ _ _ (b.made x old)
+    | inr e ↦
+        subst (λ z. HasPosted (is_reversal_leg z.1.leg) later z.1.merchant z.1.reference) e
+        (subst (λ r. HasPosted r later p.merchant p.reference) (sym f.leg) f.made)
   ];
   there = there_push ps p later from;
   at_most_one =
@@ -294,63 +285,9 @@ posted_first rows later ps p b g from f = record {
       (says_posting m n reversal x h));
   matched = λ x i l. elim (In-push x ps y i) [
     | inl old ↦ HasOriginal-push ps x y (b.matched x old l)
-    | inr e ↦ clash (is_reversal_leg p.leg) (ap (λ z. is_reversal_leg z.1.leg) e ∙ l) f.leg
-  ];
-  numbers = numbers_push rows ps p b;
-}
-  where
-    y : ℕ × Posting
-    y = numbered_posting ps p
-
-    none : (m : List ℕ) (n : ℕ) (reversal : Bool) →
-        SaysPosting m n reversal (numbered_posting ps p) →
-        (x : ℕ × Posting) → In x ps → SaysPosting m n reversal x → ⊥
-    none m n reversal new x i s =
-        let old = b.originals x i (s.leg ∙ (sym new.leg ∙ f.leg)) in
-        f.first (record {
-          row = old.row;
-          member = old.member;
-          merchant = old.merchant ∙ (s.merchant ∙ sym new.merchant);
-          under = old.under ∙ ap (λ k. Some k) (s.reference ∙ sym new.reference);
-        })
-
--- one more posting of a reversal
-pub posted_reversal : (rows later : List Request) (ps : List (ℕ × Posting)) (p : Posting) →
-    PostingsMatchRows rows ps →
-    Grows rows later → FromBefore rows ps later → IsFirstReversal rows later ps p →
-    PostingsMatchRows later (with_next_posting ps (Some p))
-posted_reversal rows later ps p b g from f = record {
-  originals = λ x i l. elim (In-push x ps y i) [
-    | inl old ↦ g.posted_on _ _ (b.originals x old l)
-    | inr e ↦ clash (is_reversal_leg p.leg) f.leg (ap (λ z. is_reversal_leg z.1.leg) e ∙ l)
-  ];
-  reversals = λ x i l. elim (In-push x ps y i) [
-    | inl old ↦ g.reversed_on _ _ (b.reversals x old l)
-    | inr e ↦ subst (λ z. HasReversed later z.1.merchant z.1.reference) e f.made
-  ];
-  there = λ row n i e. HasPosting-push ps row n y (from row n i e);
-  at_most_one =
-      λ m n reversal.
-      one_at_most (is_posting m n reversal) ps y (b.at_most_one m n reversal)
-      (λ q x i h. none m n reversal (says_posting m n reversal y q) x i
-      (says_posting m n reversal x h));
-  matched = λ x i l. elim (In-push x ps y i) [
-    | inl old ↦ HasOriginal-push ps x y (b.matched x old l)
     | inr e ↦
         subst (HasOriginal (with_next_posting ps (Some p))) e
-        (record {
-          original = f.original;
-          member = In-first f.original ps _ f.member;
-          of =
-              record {
-                earlier = earlier;
-                merchant = f.merchant;
-                reference = f.reference;
-                leg = f.same_leg;
-                amount = f.amount;
-                card = f.card;
-              };
-        })
+        (reversing (f.reverses (sym f.leg ∙ (ap (λ z. is_reversal_leg z.1.leg) e ∙ l))))
   ];
   numbers = numbers_push rows ps p b;
 }
@@ -362,22 +299,40 @@ posted_reversal rows later ps p b g from f = record {
         SaysPosting m n reversal (numbered_posting ps p) →
         (x : ℕ × Posting) → In x ps → SaysPosting m n reversal x → ⊥
     none m n reversal new x i s =
-        let old = b.reversals x i (s.leg ∙ (sym new.leg ∙ f.leg)) in
+        let old = b.made x i in
         f.first (record {
           row = old.row;
           member = old.member;
           merchant = old.merchant ∙ (s.merchant ∙ sym new.merchant);
-          under = old.under ∙ ap (λ k. Some k) (s.reference ∙ sym new.reference);
+          under =
+              sym (ap (λ r. under_by r old.row) (s.leg ∙ (sym new.leg ∙ f.leg)))
+              ∙ (old.under ∙ ap (λ k. Some k) (s.reference ∙ sym new.reference));
         })
 
     before_or_on : (a c : ℕ) → a ≤ c → (a < c) ⊎ (a ≡ c)
     before_or_on a c h = grind arith
 
-    earlier : IsEarlier f.original (numbered_posting ps p)
-    earlier = elim (before_or_on f.original.1.day p.day f.day) [
+    earlier : (r : Reverses ps p) → IsEarlier r.original (numbered_posting ps p)
+    earlier r = elim (before_or_on r.original.1.day p.day r.day) [
       | inl less ↦ inl less
       | inr same ↦
-          let low = b.numbers f.original f.member in
-          let counted = beside_same f.original.1 p f.merchant same ps in
+          let low = b.numbers r.original r.member in
+          let counted = beside_same r.original.1 p r.merchant same ps in
           inr (same, omega arith)
     ]
+
+    reversing : Reverses ps p →
+        HasOriginal (with_next_posting ps (Some p)) (numbered_posting ps p)
+    reversing r = record {
+      original = r.original;
+      member = In-first r.original ps _ r.member;
+      of =
+          record {
+            earlier = earlier r;
+            merchant = r.merchant;
+            reference = r.reference;
+            leg = r.leg;
+            amount = r.amount;
+            card = r.card;
+          };
+    }

@@ -3,8 +3,7 @@ use Rattle.std.proofs.Common.{◌≡◌, ℕ, Some, true, ◌⊎◌, inl, inr, r
 use Rattle.iso_codec.specs.Message.{IsoMessage}
 use Rattle.acq_message.specs.declared.service.Service.{Service}
 use Rattle.acq_message.specs.declared.service.Service.TheVariants.{Authorization, Financial}
-use Rattle.acq_message.specs.declared.service.Service.TheVariants.{Completion, Reversal}
-use Rattle.acq_message.specs.declared.service.Service.TheVariants.{ReversalAdvice, Reconciliation}
+use Rattle.acq_message.specs.declared.service.Service.TheVariants.{Reversal, ReversalAdvice}
 use Rattle.acq_message.specs.declared.service.Service.TheVariants.{NetworkManagement}
 use Rattle.acq_core.specs.declared.lookup.Wanted.{Wanted}
 use Rattle.acq_message.specs.Elements.{text_at, key_of}
@@ -17,22 +16,12 @@ use Rattle.acq_history.specs.Entries.{recordable, is_admissible, is_reversal}
 -- network management alone isn't recorded
 pub recordable_some : (s : Service) (r : RequestMessage) → (s ≡ NetworkManagement → ⊥) →
     recordable r s ≡ Some r
-recordable_some Authorization r other = refl
-recordable_some Financial r other = refl
-recordable_some Completion r other = refl
-recordable_some Reversal r other = refl
-recordable_some ReversalAdvice r other = refl
-recordable_some Reconciliation r other = refl
 recordable_some NetworkManagement r other = absurd (other refl)
+recordable_some service r other = refl
 
 pub recordable_is : (s : Service) (q r : RequestMessage) → recordable q s ≡ Some r → q ≡ r
-recordable_is Authorization q r e = cc
-recordable_is Financial q r e = cc
-recordable_is Completion q r e = cc
-recordable_is Reversal q r e = cc
-recordable_is ReversalAdvice q r e = cc
-recordable_is Reconciliation q r e = cc
 recordable_is NetworkManagement q r e = absurd (cc)
+recordable_is service q r e = cc
 
 pub is_admissible_true : (s : Service) → (s ≡ Authorization) ⊎ (s ≡ Financial) →
     is_admissible s ≡ true
@@ -54,10 +43,5 @@ pub record WantsByKey (w : Wanted) (s : Service) (m : IsoMessage) : Type 0 where
 pub wants_by_key : (day : ℕ) (s : Service) (q r : RequestMessage) (m : IsoMessage) →
     recordable q s ≡ Some r →
     WantsByKey (wanted_for day s m) s m
-wants_by_key day Authorization q r m e = record { merchant = refl; terminal = refl; key = refl }
-wants_by_key day Financial q r m e = record { merchant = refl; terminal = refl; key = refl }
-wants_by_key day Completion q r m e = record { merchant = refl; terminal = refl; key = refl }
-wants_by_key day Reversal q r m e = record { merchant = refl; terminal = refl; key = refl }
-wants_by_key day ReversalAdvice q r m e = record { merchant = refl; terminal = refl; key = refl }
-wants_by_key day Reconciliation q r m e = record { merchant = refl; terminal = refl; key = refl }
 wants_by_key day NetworkManagement q r m e = absurd (cc)
+wants_by_key day service q r m e = record { merchant = refl; terminal = refl; key = refl }

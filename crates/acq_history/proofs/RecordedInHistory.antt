@@ -11,7 +11,7 @@ use Rattle.acq_message.specs.declared.request_key.RequestKey.{RequestKey}
 use Rattle.acq_core.specs.declared.merchant.Merchant.{Merchant}
 use Rattle.acq_message.specs.Elements.{key_of, same_key}
 use Rattle.acq_message.specs.declared.request_message.RequestMessage.{RequestMessage}
-use Rattle.acq_core.specs.Outcome.{Outcome, Replied, Repeated, Asked, Performed, Reported}
+use Rattle.acq_core.specs.Outcome.{Outcome, Asked}
 use Rattle.acq_core.specs.Tables.{count}
 use Rattle.acq_message.specs.Numbers.{is_number}
 use Rattle.acq_core.proofs.Counts.{count-push_if}
@@ -92,10 +92,7 @@ number_if n k false = refl
 -- what is asked of an issuer is past the merchant check
 asked_past : (o : Outcome) → is_asked o ≡ true → is_past_merchant o ≡ true
 asked_past (Asked query) e = refl
-asked_past (Replied code reply) e = absurd (cc)
-asked_past (Repeated reply) e = absurd (cc)
-asked_past Performed e = absurd (cc)
-asked_past (Reported output) e = absurd (cc)
+asked_past other e = absurd (cc)
 
 -- what is admitted has a new key, and is recorded
 pub admits_first : (r : RequestMessage) (e : Entry) (h : List Entry) → admits (Some r) e h ≡ true →

@@ -2,7 +2,7 @@
 use Rattle.std.proofs.Common.{◌≡◌, ℕ, zero, suc, ◌+◌, ◌<◌, List, [], ◌∷◌, ◌++◌, Option, Some, None}
 use Rattle.std.proofs.Common.{Bool, true, false, cond, inl, inr, ◌⊎◌, refl, sym, ap, ◌∙◌, subst}
 use Rattle.std.proofs.Common.{arith}
-use Rattle.std.specs.Prelude.{map, find, is_some, nat_eq}
+use Rattle.std.specs.Prelude.{map, is_some, nat_eq}
 use Rattle.std.specs.Option.{option_or}
 use Rattle.std.specs.List.{cons_option, range_with_len, list_any}
 use Rattle.std.specs.Str.{bytes_eq}
@@ -11,7 +11,6 @@ use Rattle.std.proofs.lemmas.List.{append-nil}
 use Rattle.std.proofs.lemmas.List.Elements.{filter_map-append}
 use Rattle.std.proofs.lemmas.List.Folds.{find-append}
 use Rattle.acq_message.specs.declared.request_key.RequestKey.{RequestKey}
-use Rattle.acq_message.specs.Elements.{same_key}
 use Rattle.acq_core.specs.declared.arrival.Arrival.{Arrival}
 use Rattle.acq_core.specs.declared.merchant.Merchant.{Merchant}
 use Rattle.acq_core.specs.declared.request.Request.{Request}
@@ -26,7 +25,9 @@ use Rattle.acq_history.specs.References.{HasConsecutiveReferences, ReferencesAre
 use Rattle.acq_history.specs.Keys.{are_distinct}
 use Rattle.acq_history.proofs.StepCases.{by_step}
 use Rattle.acq_history.proofs.Runs.{kept}
-use Rattle.acq_history.proofs.RowsWithChanges.{changing, requests_of-changed}
+use Rattle.acq_history.proofs.RowsWithChanges.{Edits, changing, changing_kept, followed_kept}
+use Rattle.acq_history.proofs.RowsWithChanges.{answered_kept, requests_of-changed}
+use Rattle.acq_history.proofs.FoundRows.{merchant_among}
 
 -- ---- one number more
 
@@ -95,9 +96,6 @@ rows_changed (Some merchant) u keeps rows h =
 
 -- ---- the rows of all merchants
 
-abbrev pub merchant_among : List Merchant → List ℕ → Option Merchant
-merchant_among merchants m = find (λ row. bytes_eq row.id m) merchants
-
 abbrev pub Has : List Merchant → List ℕ → List Request → Type 0
 Has merchants m rows = AreRowsOf (merchant_among merchants m) rows
 
@@ -129,22 +127,16 @@ with_row merchants rows row merchant enrolled follows h m = step (bytes_eq row.k
         subst (Has merchants m) (sym (filter-push_out (λ x. bytes_eq x.key.merchant m) rows row e))
         (h m)
 
--- with the rows of a key changed
+-- with the row of a key changed
 with_changes : (merchants : List Merchant) (rows : List Request) (key : RequestKey)
-    (changed : Request → Request) →
-    ((x : Request) → (changed x).key ≡ x.key) →
-    ((x : Request) → (changed x).reference ≡ x.reference) →
+    (changed : Request → Request) → Edits changed →
     AreRows merchants rows → AreRows merchants (with_changed key changed rows)
-with_changes merchants rows key changed keys references h m =
+with_changes merchants rows key changed edits h m =
     subst (AreRowsOf (merchant_among merchants m))
-    (sym (requests_of-changed m key changed keys rows))
+    (sym (requests_of-changed m key changed edits rows))
     (rows_changed (merchant_among merchants m) (changing key changed)
-    (λ x. one x (same_key x.key key))
+    (λ x. (changing_kept key changed edits x).reference)
     (requests_of m rows) (h m))
-  where
-    one : (x : Request) (b : Bool) → (cond b (changed x) x).reference ≡ x.reference
-    one x true = references x
-    one x false = refl
 
 -- with a merchant more
 with_merchant : (merchants : List Merchant) (rows : List Request) (merchant : Merchant) →
@@ -176,23 +168,23 @@ step t a h =
       malformed = λ r came. h;
       replied = λ r came given is. h;
       repeated = λ row member. h;
-      refused = λ r came merchant g given is.
+      refused = λ r merchant g given is.
           with_row t.merchants t.requests _ merchant g.enrolled (inl refl) h;
-      admitted = λ r came merchant g service amount room range held.
+      admitted = λ r merchant g range c.
           with_row t.merchants t.requests _ merchant g.enrolled (inr refl) h;
-      completed = λ r came merchant g service amount room hold own.
+      completed = λ r merchant g hold c.
           with_row t.merchants _ _ merchant g.enrolled (inl refl)
-          (with_changes t.merchants t.requests hold.key _ (λ x. refl) (λ x. refl) h);
-      reversed = λ r came merchant g service room row own.
+          (with_changes t.merchants t.requests hold.key _ (followed_kept _) h);
+      reversed = λ r merchant g row c.
           with_row t.merchants _ _ merchant g.enrolled (inl refl)
-          (with_changes t.merchants t.requests row.key _ (λ x. refl) (λ x. refl) h);
-      reconciled = λ r came merchant g service day is.
+          (with_changes t.merchants t.requests row.key _ (followed_kept _) h);
+      reconciled = λ r merchant g day c.
           with_row t.merchants t.requests _ merchant g.enrolled (inl refl) h;
-      answered = λ moment merchant reference v came row member pending n under.
-          with_changes t.merchants t.requests row.key _ (λ x. refl) (λ x. refl) h;
-      cut_over = λ before. h;
-      range_added = λ range valid free. h;
-      range_dropped = λ low high. h;
+      answered = λ moment v row c.
+          with_changes t.merchants t.requests row.key _ (answered_kept _ _ _) h;
+      cut_over = λ came before. h;
+      range_added = λ range came valid free. h;
+      range_dropped = λ low high came. h;
       enrolled = λ merchant came new. with_merchant t.merchants t.requests merchant h;
       terminal_added = λ terminal came new. h;
     })

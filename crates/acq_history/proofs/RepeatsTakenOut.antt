@@ -9,10 +9,7 @@ use Rattle.acq_message.specs.Elements.{key_of}
 use Rattle.acq_core.specs.declared.arrival.Arrival.{Arrival}
 use Rattle.acq_message.specs.declared.request_message.RequestMessage.{RequestMessage}
 use Rattle.acq_core.specs.Arrivals.{arrival_of, merchant_named, is_shared}
-use Rattle.acq_core.specs.declared.arrival.Arrival.TheVariants.{Undecoded, Unserved, Malformed}
-use Rattle.acq_core.specs.declared.arrival.Arrival.TheVariants.{Requested, Answered, CutOver}
-use Rattle.acq_core.specs.declared.arrival.Arrival.TheVariants.{RangeAdded, RangeDropped, Enrolled}
-use Rattle.acq_core.specs.declared.arrival.Arrival.TheVariants.{TerminalAdded}
+use Rattle.acq_core.specs.declared.arrival.Arrival.TheVariants.{Requested}
 use Rattle.acq_core.specs.Known.{Known}
 use Rattle.acq_core.specs.Decision.{decision}
 use Rattle.acq_core.specs.Changes.{change_of, change_for}
@@ -67,19 +64,11 @@ module _ (opening : Opening) (m : List ℕ) where
       elim [
         | None ↦ (λ came has. absurd (cc))
         | Some q ↦ (λ came has. change_of_recorded (known_by opening h (Requested r)) r
-            (ap is_some (recorded_known opening m t h g r q came)
+            (ap is_some (recorded_known g r q came)
             ∙ (is_some_map prior (recorded (key_of q.service q.message) h) ∙ has)))
       ] in
       step (request_of (Requested r)) refl there
-  change_of_recorded_key t h g (Undecoded fault) there = absurd (cc)
-  change_of_recorded_key t h g (Unserved message) there = absurd (cc)
-  change_of_recorded_key t h g (Malformed r) there = absurd (cc)
-  change_of_recorded_key t h g (Answered moment merchant n v) there = absurd (cc)
-  change_of_recorded_key t h g CutOver there = absurd (cc)
-  change_of_recorded_key t h g (RangeAdded range) there = absurd (cc)
-  change_of_recorded_key t h g (RangeDropped low high) there = absurd (cc)
-  change_of_recorded_key t h g (Enrolled merchant) there = absurd (cc)
-  change_of_recorded_key t h g (TerminalAdded terminal) there = absurd (cc)
+  change_of_recorded_key t h g other there = absurd (cc)
 
   -- the tables let the merchant's own events know what the history does
   known_own : (t : Tables) (h : List Entry) → Agrees opening m t h → (a : Arrival) →
@@ -88,8 +77,8 @@ module _ (opening : Opening) (m : List ℕ) where
       let step : (b : Bool) → names (merchant_named a) m ≡ b → (b || is_shared a) ≡ true →
       known_in t a ≡ known_by opening h a =
       elim [
-        | true ↦ (λ e shared. known_in_mine opening m t h g a (names_is (merchant_named a) m e))
-        | false ↦ (λ e shared. known_in_shared opening m t h g a shared)
+        | true ↦ (λ e shared. known_in_mine g a (names_is (merchant_named a) m e))
+        | false ↦ (λ e shared. known_in_shared g a shared)
       ] in
       step (names (merchant_named a) m) refl mine
 
@@ -106,8 +95,8 @@ module _ (opening : Opening) (m : List ℕ) where
   same_outputs t h k g f (e ∷ es) mine =
       let a = arrival_of e in
       let both = and_parts (is_own e) (list_all is_own es) mine in
-      let s = own_step opening m t h g a both.0 in
-      let r = own_step opening m t k f a both.0 in
+      let s = own_step g a both.0 in
+      let r = own_step f a both.0 in
       let rest =
       same_outputs (step_tables t a) (entry_for opening h a ∷ h) (entry_for opening k a ∷ k) s.1 r.1
       es both.1 in
@@ -124,7 +113,7 @@ module _ (opening : Opening) (m : List ℕ) where
       let a = arrival_of e in
       let x = entry_for opening h a in
       let both = and_parts (is_own e) (list_all is_own es) mine in
-      let s = own_step opening m t h g a both.0 in
+      let s = own_step g a both.0 in
       let rest = without_repeats opening (x ∷ h) outs es in
       let besides = outputs_besides opening (Some m) (x ∷ h) outs es in
       let step : (b : Bool) → (out && is_by_key h a) ≡ b →
@@ -138,7 +127,7 @@ module _ (opening : Opening) (m : List ℕ) where
             ∙ ap (after_any t) none in
             quiet t (x ∷ h) k (subst (λ u. Agrees opening m u (x ∷ h)) stays s.1) f outs es both.1)
         | false ↦ (λ c.
-            let r = own_step opening m t k f a both.0 in
+            let r = own_step f a both.0 in
             let later = quiet (step_tables t a) (x ∷ h) (entry_for opening k a ∷ k) s.1 r.1 outs es
             both.1 in
             λ i. cond (is_of (Some m) a) ((sym r.0 ∙ s.0) i ∷ later i) (later i))

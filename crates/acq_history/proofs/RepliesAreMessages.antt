@@ -25,8 +25,8 @@ use Rattle.acq_core.specs.declared.output.Output.{Output}
 use Rattle.acq_core.specs.declared.output.Output.TheVariants as output
 use Rattle.acq_core.specs.Arrivals.{arrival_of, merchant_named}
 use Rattle.acq_core.specs.Known.{reconciled_day}
-use Rattle.acq_core.specs.Outcome.{Outcome, Replied, Repeated, Asked, Performed, Reported}
-use Rattle.acq_core.specs.Outcome.{balance_code, outcome, outcome_of, output_of, is_in_balance}
+use Rattle.acq_core.specs.Outcome.{Outcome, Replied, Repeated, Reported, balance_code, outcome}
+use Rattle.acq_core.specs.Outcome.{outcome_of, output_of, is_in_balance}
 use Rattle.acq_core.specs.Changes.{change_of}
 use Rattle.acq_core.specs.Tables.{Opening, Tables, new_tables, known_in, after_any, step_output}
 use Rattle.acq_core.specs.Tables.{step_tables, outputs, tables_after}
@@ -128,9 +128,8 @@ record HasSoundReplies (t : Tables) : Type 0 where
 abbrev pub IsSoundOutcome : Outcome → Type 0
 IsSoundOutcome (Replied given reply) = (service : Service) × IsReply service reply
 IsSoundOutcome (Repeated reply) = (service : Service) × IsReply service reply
-IsSoundOutcome (Asked query) = Unit {0}
-IsSoundOutcome Performed = Unit {0}
 IsSoundOutcome (Reported o) = is_reply o ≡ false
+IsSoundOutcome other = Unit {0}
 
 abbrev pub IsRowReply : Request → Type 0
 IsRowReply row = IsReply row.key.service row.reply
@@ -161,23 +160,23 @@ step t a is h =
       );
       repeated = λ row member.
           (h, (row.key.service, All-member IsRowReply t.requests row h.replies member));
-      refused = λ r came merchant g given hosts.
-          let reply = coded_reply-is t.day r h.day (subst IsArrival came is).message given
+      refused = λ r merchant g given hosts.
+          let reply = coded_reply-is t.day r h.day (subst IsArrival g.came is).message given
           (IsCode-hosts given hosts) in (
             record { day = h.day; replies = All-push IsRowReply t.requests _ h.replies reply },
             (r.service, reply),
           );
-      admitted = λ r came merchant g service amount room range held. (
+      admitted = λ r merchant g range c. (
         record {
           day = h.day;
           replies =
               All-push IsRowReply t.requests _ h.replies
-              (draft_reply-is t.day r h.day (subst IsArrival came is).message _);
+              (draft_reply-is t.day r h.day (subst IsArrival g.came is).message _);
         },
         tt,
       );
-      completed = λ r came merchant g service amount room hold own.
-          let reply = coded_reply-is t.day r h.day (subst IsArrival came is).message code.Approved
+      completed = λ r merchant g hold c.
+          let reply = coded_reply-is t.day r h.day (subst IsArrival g.came is).message code.Approved
           tt in (
             record {
               day = h.day;
@@ -188,8 +187,8 @@ step t a is h =
             },
             (r.service, reply),
           );
-      reversed = λ r came merchant g service room row own.
-          let reply = referring_reply-is t.day r h.day (subst IsArrival came is).message _
+      reversed = λ r merchant g row c.
+          let reply = referring_reply-is t.day r h.day (subst IsArrival g.came is).message _
           code.Approved tt in (
             record {
               day = h.day;
@@ -200,22 +199,22 @@ step t a is h =
             },
             (r.service, reply),
           );
-      reconciled = λ r came merchant g service day on.
-          let within = reconciled_day-within t.day _ day on in
+      reconciled = λ r merchant g day c.
+          let within = reconciled_day-within t.day _ day c.resolves in
           let today = h.day in
           let dated : day ≤ last_day = omega arith in
           let b = is_in_balance (known_in t a) r in
           let reply =
-          totals_reply-is day r dated (subst IsArrival came is).message (balance_code b) b
+          totals_reply-is day r dated (subst IsArrival g.came is).message (balance_code b) b
           (known_in t a).totals
           (IsCode-balance b) in (
             record { day = h.day; replies = All-push IsRowReply t.requests _ h.replies reply },
             (r.service, reply),
           );
-      answered = λ moment merchant reference v came row member pending n under.
+      answered = λ moment v row c.
           let reply =
-          answered_reply-is row.key.service row.reply v (subst IsArrival came is).1
-          (All-member IsRowReply t.requests row h.replies member) in (
+          answered_reply-is row.key.service row.reply v (subst IsArrival c.came is).1
+          (All-member IsRowReply t.requests row h.replies c.member) in (
             record {
               day = h.day;
               replies =
@@ -225,9 +224,9 @@ step t a is h =
             },
             (row.key.service, reply),
           );
-      cut_over = λ before. (record { day = omega arith; replies = h.replies }, tt);
-      range_added = λ range valid free. (record { day = h.day; replies = h.replies }, tt);
-      range_dropped = λ low high. (record { day = h.day; replies = h.replies }, tt);
+      cut_over = λ came before. (record { day = omega arith; replies = h.replies }, tt);
+      range_added = λ range came valid free. (record { day = h.day; replies = h.replies }, tt);
+      range_dropped = λ low high came. (record { day = h.day; replies = h.replies }, tt);
       enrolled = λ merchant came new. (record { day = h.day; replies = h.replies }, tt);
       terminal_added = λ terminal came new. (record { day = h.day; replies = h.replies }, tt);
     })
@@ -245,15 +244,14 @@ text_of_outcome merchant (Replied given reply) party text is e =
     let same : spelling reply ≡ text = cc in subst IsReplyText same (text_of_reply is.0 reply is.1)
 text_of_outcome merchant (Repeated reply) party text is e =
     let same : spelling reply ≡ text = cc in subst IsReplyText same (text_of_reply is.0 reply is.1)
-text_of_outcome merchant (Asked query) party text is e = absurd cc
-text_of_outcome merchant Performed party text is e = absurd cc
 text_of_outcome merchant (Reported o) party text is e =
     absurd (let no : true ≡ false = sym (ap is_reply e) ∙ is in cc)
+text_of_outcome merchant other party text is e = absurd cc
 
 module _ (opening : Opening) (begins : IsOpening opening) where
-  sound_after : (es : List Event) → AreEvents es →
+  replies_after : (es : List Event) → AreEvents es →
       HasSoundReplies (tables_after (new_tables opening) es)
-  sound_after es are =
+  replies_after es are =
       kept_by_events HasSoundReplies (λ t a is h. (step t a is h).0) (new_tables opening) es are
       (record { day = begins.first_day; replies = All-nil IsRowReply })
 
@@ -277,11 +275,11 @@ module _ (opening : Opening) (begins : IsOpening opening) where
 
   pub gives_replies : (es : List Event) → AreEvents es →
       GivesReplies (tables_after (new_tables opening) es)
-  gives_replies es are = gives (tables_after (new_tables opening) es) (sound_after es are)
+  gives_replies es are = gives (tables_after (new_tables opening) es) (replies_after es are)
 
 pub replies_are_messages : RepliesAreMessages
 replies_are_messages opening es begins are = (
-  (sound_after opening begins es are).replies,
+  (replies_after opening begins es are).replies,
   all_outputs opening begins (new_tables opening) es are
       (record { day = begins.first_day; replies = All-nil IsRowReply }),
 )

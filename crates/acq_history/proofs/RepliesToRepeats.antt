@@ -4,9 +4,6 @@ use Rattle.std.proofs.Common.{refl, sym, ap, ◌∙◌, subst}
 use Rattle.std.specs.Prelude.{option_map, option_and_then, ◌&&◌, ◌||◌}
 use Rattle.std.specs.Option.{option_or}
 use Rattle.acq_message.specs.declared.service.Service.{Service}
-use Rattle.acq_message.specs.declared.service.Service.TheVariants.{Authorization, Financial}
-use Rattle.acq_message.specs.declared.service.Service.TheVariants.{Completion, Reversal}
-use Rattle.acq_message.specs.declared.service.Service.TheVariants.{ReversalAdvice, Reconciliation}
 use Rattle.acq_message.specs.declared.service.Service.TheVariants.{NetworkManagement}
 use Rattle.acq_message.specs.declared.request_key.RequestKey.{RequestKey}
 use Rattle.acq_core.specs.declared.merchant.Merchant.{Merchant}
@@ -15,13 +12,10 @@ use Rattle.acq_core.specs.declared.event.Event.{Event}
 use Rattle.acq_message.specs.Elements.{text_at, key_of, same_key, essence_of}
 use Rattle.acq_core.specs.declared.arrival.Arrival.{Arrival}
 use Rattle.acq_message.specs.declared.request_message.RequestMessage.{RequestMessage}
-use Rattle.acq_core.specs.declared.arrival.Arrival.TheVariants.{Undecoded, Unserved, Malformed}
-use Rattle.acq_core.specs.declared.arrival.Arrival.TheVariants.{Requested, Answered, CutOver}
-use Rattle.acq_core.specs.declared.arrival.Arrival.TheVariants.{RangeAdded, RangeDropped, Enrolled}
-use Rattle.acq_core.specs.declared.arrival.Arrival.TheVariants.{TerminalAdded}
+use Rattle.acq_core.specs.declared.arrival.Arrival.TheVariants.{Requested}
 use Rattle.acq_core.specs.Arrivals.{arrival_of}
 use Rattle.acq_core.specs.declared.reply_state.ReplyState.{ReplyState}
-use Rattle.acq_core.specs.declared.reply_state.ReplyState.TheVariants.{Kept, Awaited, Late}
+use Rattle.acq_core.specs.declared.reply_state.ReplyState.TheVariants.{Kept}
 use Rattle.acq_core.specs.Known.{Prior, Known, holds_if}
 use Rattle.acq_core.specs.Decision.{Decision, Replies, decision_by, decision_of_key}
 use Rattle.acq_core.specs.Decision.{decision_of_merchant, decision_of_request, repeat_of}
@@ -59,13 +53,8 @@ Serves-older e h t s = record {
 -- network management aside, the merchant check comes first
 checks_merchant : (s : Service) (k : Known) (q r : RequestMessage) → recordable q s ≡ Some r →
     decision_of_request s k q ≡ decision_of_merchant k q k.merchant
-checks_merchant Authorization k q r e = refl
-checks_merchant Financial k q r e = refl
-checks_merchant Completion k q r e = refl
-checks_merchant Reversal k q r e = refl
-checks_merchant ReversalAdvice k q r e = refl
-checks_merchant Reconciliation k q r e = refl
 checks_merchant NetworkManagement k q r e = absurd (cc)
+checks_merchant service k q r e = refl
 
 -- ---- past the merchant check
 
@@ -110,15 +99,7 @@ serves_any : (opening : Opening) (h : List Entry) (a : Arrival) (r : RequestMess
     request_of a ≡ Some r →
     is_past_merchant (outcome (known_by opening h a) a) ≡ true → Serves h (text_at r.message 41)
 serves_any opening h (Requested q) r e past = serves opening h q r e past
-serves_any opening h (Undecoded fault) r e past = absurd (cc)
-serves_any opening h (Unserved m) r e past = absurd (cc)
-serves_any opening h (Malformed q) r e past = absurd (cc)
-serves_any opening h (Answered moment merchant reference verdict) r e past = absurd (cc)
-serves_any opening h CutOver r e past = absurd (cc)
-serves_any opening h (RangeAdded range) r e past = absurd (cc)
-serves_any opening h (RangeDropped low high) r e past = absurd (cc)
-serves_any opening h (Enrolled merchant) r e past = absurd (cc)
-serves_any opening h (TerminalAdded terminal) r e past = absurd (cc)
+serves_any opening h other r e past = absurd (cc)
 
 -- ---- whatever a history records was served
 
@@ -126,8 +107,8 @@ serves_any opening h (TerminalAdded terminal) r e past = absurd (cc)
 abbrev ServesAll : List Entry → Type 0
 ServesAll h = (key : RequestKey) (f : Found) → recorded key h ≡ Some f → Serves h key.terminal
 
-same_terminal : (a b : RequestKey) → same_key a b ≡ true → a.terminal ≡ b.terminal
-same_terminal a b e = ap (λ k. k.terminal) (same_key_is a b e)
+terminal_is : (a b : RequestKey) → same_key a b ≡ true → a.terminal ≡ b.terminal
+terminal_is a b e = ap (λ k. k.terminal) (same_key_is a b e)
 
 -- what an entry records is its request
 records : (e : Entry) (h : List Entry) (key : RequestKey) (o : Option RequestMessage) (f : Found) →
@@ -163,7 +144,7 @@ ServesAll-step opening h a all key f found =
     step None q p =
         let x = records (entry_for opening h a) h key (request_of a) f p in
         let parts = and_parts (same_key (key_of x.0.service x.0.message) key) _ x.2 in
-        subst (Serves h) (same_terminal _ key parts.0) (serves_any opening h a x.0 x.1 parts.1)
+        subst (Serves h) (terminal_is _ key parts.0) (serves_any opening h a x.0 x.1 parts.1)
 
 -- over all events
 serves_all : (opening : Opening) (h : List Entry) (es : List Event) → ServesAll h →
@@ -197,8 +178,7 @@ repeats_merchant k r merchant p e there found same =
 
 outcome_of_repeat : (k : Known) (s : ReplyState) → outcome_of k (repeat_of s) ≡ repeated s
 outcome_of_repeat k (Kept reply) = refl
-outcome_of_repeat k (Awaited draft) = refl
-outcome_of_repeat k Late = refl
+outcome_of_repeat k other = refl
 
 -- on any history that served all that it records
 repeats_on : (opening : Opening) (h : List Entry) (r : RequestMessage) (f : Found) → ServesAll h →

@@ -18,10 +18,7 @@ use Rattle.day_totals.specs.Digits.{zero_padded}
 use Rattle.day_totals.specs.Totals.{DayTotals, net_text_of, net_of}
 use Rattle.day_totals.proofs.ZeroPadded.{length-zero_padded, all_digits-zero_padded}
 use Rattle.acq_message.specs.declared.service.Service.{Service}
-use Rattle.acq_message.specs.declared.service.Service.TheVariants.{Authorization, Financial}
-use Rattle.acq_message.specs.declared.service.Service.TheVariants.{Completion, Reversal}
-use Rattle.acq_message.specs.declared.service.Service.TheVariants.{ReversalAdvice, Reconciliation}
-use Rattle.acq_message.specs.declared.service.Service.TheVariants.{NetworkManagement}
+use Rattle.acq_message.specs.declared.service.Service.TheVariants.{Authorization, NetworkManagement}
 use Rattle.acq_message.specs.declared.response_code.ResponseCode.{ResponseCode}
 use Rattle.acq_message.specs.declared.response_code.ResponseCode.TheVariants as code
 use Rattle.acq_message.specs.declared.verdict.Verdict.{Verdict}
@@ -34,6 +31,7 @@ use Rattle.acq_core.specs.Events.{IsVerdict}
 use Rattle.acq_history.specs.Replies.{reply_elements, IsReply}
 use Rattle.acq_history.proofs.DayTexts.{mmdd_of-digits}
 use Rattle.acq_history.proofs.StepCases.{is_hosts}
+use Rattle.acq_history.proofs.Runs.{kept}
 
 -- an element that a reply may have
 abbrev pub may_have : ℕ × List ℕ → Bool
@@ -110,12 +108,7 @@ among_passes q (n ∷ ks) e h k =
 
 echoed-of_replies : (service : Service) → are_of_replies (echoed service) ≡ true
 echoed-of_replies Authorization = refl
-echoed-of_replies Financial = refl
-echoed-of_replies Completion = refl
-echoed-of_replies Reversal = refl
-echoed-of_replies ReversalAdvice = refl
-echoed-of_replies Reconciliation = refl
-echoed-of_replies NetworkManagement = refl
+echoed-of_replies service = refl
 
 kept_each : (ks : List ℕ) (es : List (ℕ × List ℕ)) → are_of_replies ks ≡ true →
     list_all is_element es ≡ true →
@@ -157,12 +150,7 @@ body_of_echo service m whole = record {
 
 reply_kind-kind : (s : Service) → IsKind (reply_kind s)
 reply_kind-kind Authorization = record { size = refl; digits = refl }
-reply_kind-kind Financial = record { size = refl; digits = refl }
-reply_kind-kind Completion = record { size = refl; digits = refl }
-reply_kind-kind Reversal = record { size = refl; digits = refl }
-reply_kind-kind ReversalAdvice = record { size = refl; digits = refl }
-reply_kind-kind Reconciliation = record { size = refl; digits = refl }
-reply_kind-kind NetworkManagement = record { size = refl; digits = refl }
+reply_kind-kind service = record { size = refl; digits = refl }
 
 -- elements of a reply, under the type of a service's replies
 pub reply_of_body : (service : Service) (m : IsoMessage) → m.kind ≡ reply_kind service →
@@ -211,12 +199,7 @@ day_may day h = rw (mmdd_of-digits day h) refl
 pub day_element-may : (service : Service) (day : ℕ) → day ≤ last_day →
     list_all may_have (day_element service day) ≡ true
 day_element-may NetworkManagement day h = refl
-day_element-may Authorization day h = day_may day h
-day_element-may Financial day h = day_may day h
-day_element-may Completion day h = day_may day h
-day_element-may Reversal day h = day_may day h
-day_element-may ReversalAdvice day h = day_may day h
-day_element-may Reconciliation day h = day_may day h
+day_element-may service day h = day_may day h
 
 pub reference_element-may : (o : Option ℕ) → list_all may_have (reference_element o) ≡ true
 unfolding format_of has_class
@@ -234,40 +217,14 @@ IsCode given = Unit {0}
 pub code_element-may : (given : ResponseCode) → IsCode given →
     list_all may_have (code_element given) ≡ true
 unfolding format_of has_class
-code_element-may code.Approved h = refl
-code_element-may code.InvalidMerchant h = refl
-code_element-may code.InvalidTransaction h = refl
-code_element-may code.InvalidAmount h = refl
-code_element-may code.InvalidCard h = refl
-code_element-may code.NoSuchIssuer h = refl
-code_element-may code.NoActionTaken h = refl
-code_element-may code.RecordNotFound h = refl
-code_element-may code.FormatError h = refl
-code_element-may code.ExpiredCard h = refl
-code_element-may code.LimitExceeded h = refl
-code_element-may code.IssuerInoperative h = refl
-code_element-may code.DuplicateTransmission h = refl
-code_element-may code.ReconcileError h = refl
 code_element-may (code.Declined text) h =
     let parts = and_parts (eqb (length text) 2 && list_all is_alphanumeric text) _ h in
     rw parts.0 refl
+code_element-may other h = refl
 
 pub IsCode-hosts : (given : ResponseCode) → is_hosts given ≡ true → IsCode given
-IsCode-hosts code.Approved h = tt
-IsCode-hosts code.InvalidMerchant h = tt
-IsCode-hosts code.InvalidTransaction h = tt
-IsCode-hosts code.InvalidAmount h = tt
-IsCode-hosts code.InvalidCard h = tt
-IsCode-hosts code.NoSuchIssuer h = tt
-IsCode-hosts code.NoActionTaken h = tt
-IsCode-hosts code.RecordNotFound h = tt
-IsCode-hosts code.FormatError h = tt
-IsCode-hosts code.ExpiredCard h = tt
-IsCode-hosts code.LimitExceeded h = tt
-IsCode-hosts code.IssuerInoperative h = tt
-IsCode-hosts code.DuplicateTransmission h = tt
-IsCode-hosts code.ReconcileError h = tt
 IsCode-hosts (code.Declined text) h = absurd cc
+IsCode-hosts other h = tt
 
 pub verdict_elements-may : (v : Verdict) → IsVerdict v →
     list_all may_have (verdict_elements v) ≡ true

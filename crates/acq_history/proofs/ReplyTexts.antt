@@ -9,7 +9,7 @@ use Rattle.std.proofs.lemmas.Bool.{and_parts, and_from, eqb-true, leb-true}
 use Rattle.std.proofs.lemmas.Bool.Decides.{nat_tests}
 use Rattle.iso_codec.specs.declared.class.Class.{Class}
 use Rattle.iso_codec.specs.declared.class.Class.TheVariants.{Numeric, Alphanumeric, Printable}
-use Rattle.iso_codec.specs.declared.class.Class.TheVariants.{Track, Hex, SignedNumeric, Any}
+use Rattle.iso_codec.specs.declared.class.Class.TheVariants.{SignedNumeric}
 use Rattle.iso_codec.specs.declared.form.Form.{Form}
 use Rattle.iso_codec.specs.declared.form.Form.TheVariants.{Fixed, Llvar, Lllvar}
 use Rattle.iso_codec.specs.declared.element_format.ElementFormat.{ElementFormat}
@@ -85,9 +85,7 @@ plain_text SignedNumeric (b ∷ bs) h k =
     let parts = and_parts (eqb b 67 || eqb b 68) (list_all is_ascii_digit bs) k in
     and_from (is_printable b) (list_all is_printable bs) (sign_printable b parts.0)
     (all_weaker is_ascii_digit is_printable digit_printable bs parts.1)
-plain_text Track text h k = absurd cc
-plain_text Hex text h k = absurd cc
-plain_text Any text h k = absurd cc
+plain_text other text h k = absurd cc
 
 -- short and printable
 pub record IsPlain (text : List ℕ) : Type 0 where

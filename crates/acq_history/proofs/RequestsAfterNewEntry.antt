@@ -22,11 +22,11 @@ use Rattle.acq_message.specs.declared.verdict.Verdict.TheVariants as verdict
 use Rattle.acq_message.specs.Elements.{key_of, essence_of, amount_in, reference_in, original_key}
 use Rattle.acq_message.specs.declared.request_message.RequestMessage.{RequestMessage}
 use Rattle.acq_core.specs.declared.reply_state.ReplyState.{ReplyState}
-use Rattle.acq_core.specs.declared.reply_state.ReplyState.TheVariants.{Kept, Awaited, Late}
+use Rattle.acq_core.specs.declared.reply_state.ReplyState.TheVariants.{Kept, Awaited}
 use Rattle.acq_core.specs.Known.{Prior}
 use Rattle.acq_core.specs.Outcome.{Outcome}
 use Rattle.acq_core.specs.Changes.{end_of_hold, answered_status, answered_hold_end, reversed_status}
-use Rattle.acq_core.specs.Tables.{prior_of}
+use Rattle.acq_core.specs.Tables.{prior_of, followed_row, answered_row}
 use Rattle.acq_core.specs.Tables as tables
 use Rattle.acq_message.specs.Reply.{draft_reply}
 use Rattle.acq_message.specs.Numbers.{is_number}
@@ -37,25 +37,46 @@ use Rattle.acq_history.specs.Entries.{approval_in, approval_by, request_of}
 use Rattle.acq_history.specs.History.{Found, aged, next_reference, is_admitted, is_accepted}
 use Rattle.acq_history.specs.History.{reference_of, reference_by, leg_by, card_by, hold_days_of}
 use Rattle.acq_history.specs.History.{answer_to, is_completed, is_reversed, any_with}
-use Rattle.acq_history.specs.History.{reply_state_with, reply_state_without, prior}
+use Rattle.acq_history.specs.History.{reply_state_with, prior}
 use Rattle.acq_history.specs.History as history
 use Rattle.acq_history.proofs.Lookups.{not_true, or_true, own_none}
 use Rattle.acq_history.proofs.RecordedInHistory.{key_in}
 use Rattle.acq_history.proofs.Statuses.{reply_state_of-awaited, is_approved_is}
+use Rattle.acq_history.proofs.RowsWithChanges.{followed_kept, answered_kept, IsChange}
 
--- ---- a recorded request by what came after it: its answer, its completion and its reversal
+-- ---- what became of a recorded request
+
+-- the answer to it, whether it was completed, and whether it was reversed
+pub record Fate : Type 0 where
+  pub answer : Option Entry
+  pub completed : Bool
+  pub reversed : Bool
+
+-- by the entries after it
+abbrev pub fate_of : Found → Fate
+fate_of f =
+    record { answer = answer_to f; completed = is_completed f; reversed = is_reversed f }
+
+-- of a request that nothing came after
+abbrev pub untouched : Fate
+untouched = record { answer = None; completed = false; reversed = false }
 
 -- until when it is open
-abbrev pub open_with : Service → Option ℕ → Option Entry → Bool → Bool → Option ℕ
-open_with Authorization days answer completed reversed =
-    if completed || reversed then None
+abbrev pub open_by : Service → Option ℕ → Fate → Option ℕ
+open_by Authorization days fate =
+    if fate.completed || fate.reversed then None
     else option_and_then (λ moment. option_map (end_of_hold moment) days)
-    (option_and_then (λ e. approval_in e.arrival) answer)
-open_with service days answer completed reversed = None
+    (option_and_then (λ e. approval_in e.arrival) fate.answer)
+open_by service days fate = None
+
+-- it was answered, and not approved
+abbrev is_declined_by : Fate → Bool
+is_declined_by fate =
+    is_some fate.answer && is_none (option_and_then (λ e. approval_in e.arrival) fate.answer)
 
 -- what is known of it
-abbrev pub prior_with : Option Entry → Bool → Bool → Found → Prior
-prior_with answer completed reversed f =
+abbrev pub prior_by : Fate → Found → Prior
+prior_by fate f =
     record {
       key = key_of f.request.service f.request.message;
       essence = essence_of f.request.service f.request.message;
@@ -68,61 +89,41 @@ prior_with answer completed reversed f =
       hold_days = hold_days_of f;
       reply_state =
           reply_state_with
-          (option_or (reply_in f.entry.outcome) (option_and_then (λ e. reply_in e.outcome) answer))
-          reversed
+          (option_or (reply_in f.entry.outcome)
+          (option_and_then (λ e. reply_in e.outcome) fate.answer))
+          fate.reversed
           (draft_reply f.entry.day f.request (next_reference f.before));
       is_reversible =
-          (is_admitted f || is_accepted f) && not completed && not reversed
-          && not (is_some answer && is_none (option_and_then (λ e. approval_in e.arrival) answer));
-      hold_end = open_with f.request.service (hold_days_of f) answer completed reversed;
+          (is_admitted f || is_accepted f) && not fate.completed && not fate.reversed
+          && not (is_declined_by fate);
+      hold_end = open_by f.request.service (hold_days_of f) fate;
     }
 
 -- what came later doesn't matter to these
 leg_by_later : (f : Found) (es : List Entry) (s : Service) →
     leg_by s (record f { later = es }) ≡ leg_by s f
-leg_by_later f es Authorization = refl
 leg_by_later f es Financial = refl
-leg_by_later f es Completion = refl
-leg_by_later f es Reversal = refl
-leg_by_later f es ReversalAdvice = refl
-leg_by_later f es Reconciliation = refl
-leg_by_later f es NetworkManagement = refl
+leg_by_later f es s = refl
 
 card_by_later : (f : Found) (es : List Entry) (s : Service) →
     card_by s (record f { later = es }) ≡ card_by s f
-card_by_later f es Authorization = refl
-card_by_later f es Financial = refl
 card_by_later f es Completion = refl
-card_by_later f es Reversal = refl
-card_by_later f es ReversalAdvice = refl
-card_by_later f es Reconciliation = refl
-card_by_later f es NetworkManagement = refl
+card_by_later f es s = refl
 
 reference_by_later : (f : Found) (es : List Entry) (s : Service) →
     reference_by s (record f { later = es }) ≡ reference_by s f
-reference_by_later f es Authorization = refl
-reference_by_later f es Financial = refl
 reference_by_later f es Completion = refl
-reference_by_later f es Reversal = refl
-reference_by_later f es ReversalAdvice = refl
-reference_by_later f es Reconciliation = refl
-reference_by_later f es NetworkManagement = refl
+reference_by_later f es s = refl
 
--- a history says until when it is open by these three
+-- a history says until when it is open by what became of it
 open_by_is : (f : Found) (s : Service) →
-    history.hold_end_by s f ≡ open_with s (hold_days_of f) (answer_to f) (is_completed f)
-    (is_reversed f)
+    history.hold_end_by s f ≡ open_by s (hold_days_of f) (fate_of f)
 open_by_is f Authorization = refl
-open_by_is f Financial = refl
-open_by_is f Completion = refl
-open_by_is f Reversal = refl
-open_by_is f ReversalAdvice = refl
-open_by_is f Reconciliation = refl
-open_by_is f NetworkManagement = refl
+open_by_is f s = refl
 
 -- what is known of it, by what came later
 prior_later : (f : Found) (es : List Entry) → let g : Found = record f { later = es } in
-    prior g ≡ prior_with (answer_to g) (is_completed g) (is_reversed g) f
+    prior g ≡ prior_by (fate_of g) f
 prior_later f es =
     let g : Found = record f { later = es } in
     λ i. record {
@@ -140,14 +141,13 @@ prior_later f es =
       hold_end = open_by_is g f.request.service i;
     }
 
-pub prior_is : (f : Found) → prior f ≡ prior_with (answer_to f) (is_completed f) (is_reversed f) f
+pub prior_is : (f : Found) → prior f ≡ prior_by (fate_of f) f
 prior_is f = prior_later f f.later
 
--- one entry later
-pub prior_aged : (e : Entry) (f : Found) →
-    prior (aged e f) ≡ prior_with (answer_to (aged e f)) (is_completed (aged e f))
-    (is_reversed (aged e f)) f
-prior_aged e f = prior_later f (e ∷ f.later)
+-- one entry later, by what became of it
+pub prior_aged : (e : Entry) (f : Found) (fate : Fate) → fate_of (aged e f) ≡ fate →
+    prior (aged e f) ≡ prior_by fate f
+prior_aged e f fate is = prior_later f (e ∷ f.later) ∙ ap (λ x. prior_by x f) is
 
 -- ---- by one more entry
 
@@ -191,41 +191,48 @@ module _ (e : Entry) (f : Found) where
   NoCompletion = (n : ℕ) → reference_of f ≡ Some n → is_completing n e ≡ false
 
   -- where the newest entry does nothing to it
+  pub fate_same : NoAnswer → NoCompletion → is_reversing (key_in f) e ≡ false →
+      fate_of (aged e f) ≡ fate_of f
+  fate_same answers completions reversal = λ i. record {
+    answer = answer_more e f.later (reference_of f) answers i;
+    completed = completed_more e f.later (reference_of f) completions i;
+    reversed = reversal i || is_reversed f;
+  }
+
+  -- where it answers it
+  pub fate_answered : (n : ℕ) → reference_of f ≡ Some n → is_answer n e ≡ true →
+      NoCompletion → is_reversing (key_in f) e ≡ false →
+      fate_of (aged e f) ≡ record (fate_of f) { answer = Some e }
+  fate_answered n is answer completions reversal = λ i. record {
+    answer = answer_here e f.later (reference_of f) n is answer i;
+    completed = completed_more e f.later (reference_of f) completions i;
+    reversed = reversal i || is_reversed f;
+  }
+
+  -- where it completes it
+  pub fate_completed : (n : ℕ) → reference_of f ≡ Some n → NoAnswer → is_completing n e ≡ true →
+      is_reversing (key_in f) e ≡ false →
+      fate_of (aged e f) ≡ record (fate_of f) { completed = true }
+  fate_completed n is answers completion reversal = λ i. record {
+    answer = answer_more e f.later (reference_of f) answers i;
+    completed = completed_here e f.later (reference_of f) n is completion i;
+    reversed = reversal i || is_reversed f;
+  }
+
+  -- where it reverses it
+  pub fate_reversed : NoAnswer → NoCompletion → is_reversing (key_in f) e ≡ true →
+      fate_of (aged e f) ≡ record (fate_of f) { reversed = true }
+  fate_reversed answers completions reversal = λ i. record {
+    answer = answer_more e f.later (reference_of f) answers i;
+    completed = completed_more e f.later (reference_of f) completions i;
+    reversed = reversal i || is_reversed f;
+  }
+
+  -- so it is known as before where the newest entry does nothing to it
   pub prior_aged_same : NoAnswer → NoCompletion → is_reversing (key_in f) e ≡ false →
       prior (aged e f) ≡ prior f
   prior_aged_same answers completions reversal =
-      prior_aged e f
-      ∙ ((λ i. prior_with (answer_more e f.later (reference_of f) answers i)
-      (completed_more e f.later (reference_of f) completions i) (reversal i || is_reversed f) f)
-      ∙ sym (prior_is f))
-
-  -- where it answers it
-  pub prior_aged_answered : (n : ℕ) → reference_of f ≡ Some n → is_answer n e ≡ true →
-      NoCompletion →
-      is_reversing (key_in f) e ≡ false →
-      prior (aged e f) ≡ prior_with (Some e) (is_completed f) (is_reversed f) f
-  prior_aged_answered n is answer completions reversal =
-      prior_aged e f
-      ∙ (λ i. prior_with (answer_here e f.later (reference_of f) n is answer i)
-      (completed_more e f.later (reference_of f) completions i) (reversal i || is_reversed f) f)
-
-  -- where it completes it
-  pub prior_aged_completed : (n : ℕ) → reference_of f ≡ Some n → NoAnswer →
-      is_completing n e ≡ true →
-      is_reversing (key_in f) e ≡ false →
-      prior (aged e f) ≡ prior_with (answer_to f) true (is_reversed f) f
-  prior_aged_completed n is answers completion reversal =
-      prior_aged e f
-      ∙ (λ i. prior_with (answer_more e f.later (reference_of f) answers i)
-      (completed_here e f.later (reference_of f) n is completion i) (reversal i || is_reversed f) f)
-
-  -- where it reverses it
-  pub prior_aged_reversed : NoAnswer → NoCompletion → is_reversing (key_in f) e ≡ true →
-      prior (aged e f) ≡ prior_with (answer_to f) (is_completed f) true f
-  prior_aged_reversed answers completions reversal =
-      prior_aged e f
-      ∙ (λ i. prior_with (answer_more e f.later (reference_of f) answers i)
-      (completed_more e f.later (reference_of f) completions i) (reversal i || is_reversed f) f)
+      prior_aged e f (fate_of f) (fate_same answers completions reversal) ∙ sym (prior_is f)
 
 -- what is no acceptance neither completes nor reverses
 completes_not : (n : ℕ) (rq : Option RequestMessage) (o : Outcome) →
@@ -296,157 +303,125 @@ reply_state_with-kept None true draft reply e = absurd (cc)
 reply_state_with-kept None false draft reply e = absurd (cc)
 reply_state_with-kept (Some own) reversed draft reply e = cc
 
--- a row keeps these through a change of what stands for its status, its reply and its end
-leg_by_edited : (row : Request) (s : Status) (reply : IsoMessage) (until : Option ℕ) (k : Service) →
-    tables.leg_by k (record row { status = s; reply = reply; hold_end = until })
-    ≡ tables.leg_by k row
-leg_by_edited row s reply until Authorization = refl
-leg_by_edited row s reply until Financial = refl
-leg_by_edited row s reply until Completion = refl
-leg_by_edited row s reply until Reversal = refl
-leg_by_edited row s reply until ReversalAdvice = refl
-leg_by_edited row s reply until Reconciliation = refl
-leg_by_edited row s reply until NetworkManagement = refl
+-- a changed row keeps its leg and what it is referred by
+leg_by_kept : (p q : Request) → IsChange p q → (s : Service) → tables.leg_by s q ≡ tables.leg_by s p
+leg_by_kept p q c Financial = λ i. option_map (λ reference. c.leg i) (c.reference i)
+leg_by_kept p q c Completion = λ i. option_map (λ reference. c.leg i) (c.follows i)
+leg_by_kept p q c s = refl
 
-reference_by_edited : (row : Request) (s : Status) (reply : IsoMessage) (until : Option ℕ)
-    (k : Service) →
-    tables.reference_by k (record row { status = s; reply = reply; hold_end = until })
-    ≡ tables.reference_by k row
-reference_by_edited row s reply until Authorization = refl
-reference_by_edited row s reply until Financial = refl
-reference_by_edited row s reply until Completion = refl
-reference_by_edited row s reply until Reversal = refl
-reference_by_edited row s reply until ReversalAdvice = refl
-reference_by_edited row s reply until Reconciliation = refl
-reference_by_edited row s reply until NetworkManagement = refl
+reference_by_kept : (p q : Request) → IsChange p q → (s : Service) →
+    tables.reference_by s q ≡ tables.reference_by s p
+reference_by_kept p q c Completion = c.follows
+reference_by_kept p q c s = c.reference
 
--- the row says this again, once its reply state, whether it can be reversed and its end do
-prior_of_edited : (a : Request) (f : Found) (o p : Option Entry) (c d r q : Bool) (s : Status)
-    (reply : IsoMessage)
-    (until : Option ℕ) →
-    prior_of a ≡ prior_with o c r f →
-    tables.reply_state_of s reply ≡ (prior_with p d q f).reply_state →
-    tables.is_reversible s ≡ (prior_with p d q f).is_reversible →
-    tables.hold_end_by a.key.service (record a { status = s; reply = reply; hold_end = until })
-    ≡ (prior_with p d q f).hold_end →
-    prior_of (record a { status = s; reply = reply; hold_end = until }) ≡ prior_with p d q f
-prior_of_edited a f o p c d r q s reply until e state reversible ends =
+-- what a row shows of what became of its request
+record ShowsFate (row : Request) (fate : Fate) (f : Found) : Type 0 where
+  amount : row.amount ≡ amount_in f.request.message
+  state : tables.reply_state_of row.status row.reply ≡ (prior_by fate f).reply_state
+  reversible : tables.is_reversible row.status ≡ (prior_by fate f).is_reversible
+  ends : tables.hold_end_by row.key.service row ≡ (prior_by fate f).hold_end
+
+-- a changed row says what is known of its request, once it shows what became of it
+prior_of_changed : (p q : Request) (f : Found) (was fate : Fate) → IsChange p q →
+    prior_of p ≡ prior_by was f → ShowsFate q fate f → prior_of q ≡ prior_by fate f
+prior_of_changed p q f was fate c e shows =
     λ i. record {
-      key = (e i).key;
-      essence = (e i).essence;
-      day = (e i).day;
-      amount = (e i).amount;
-      leg = (leg_by_edited a s reply until a.key.service ∙ ap (λ x. x.leg) e) i;
-      card = (e i).card;
-      acquirer = (e i).acquirer;
-      reference = (reference_by_edited a s reply until a.key.service ∙ ap (λ x. x.reference) e) i;
-      hold_days = (e i).hold_days;
-      reply_state = state i;
-      is_reversible = reversible i;
-      hold_end = ends i;
+      key = (c.key ∙ ap (λ x. x.key) e) i;
+      essence = (c.essence ∙ ap (λ x. x.essence) e) i;
+      day = (c.day ∙ ap (λ x. x.day) e) i;
+      amount = shows.amount i;
+      leg = (ap (λ k. tables.leg_by k.service q) c.key
+          ∙ (leg_by_kept p q c p.key.service ∙ ap (λ x. x.leg) e)) i;
+      card = (c.card ∙ ap (λ x. x.card) e) i;
+      acquirer = (c.acquirer ∙ ap (λ x. x.acquirer) e) i;
+      reference = (ap (λ k. tables.reference_by k.service q) c.key
+          ∙ (reference_by_kept p q c p.key.service ∙ ap (λ x. x.reference) e)) i;
+      hold_days = (c.hold_days ∙ ap (λ x. x.hold_days) e) i;
+      reply_state = shows.state i;
+      is_reversible = shows.reversible i;
+      hold_end = shows.ends i;
     }
 
 -- ---- an answer
 
 open_by_answered : (a : Request) (k : Service) (moment : ℕ) (v : Verdict) (reply : IsoMessage)
-    (days : Option ℕ)
-    (e : Entry) →
+    (days : Option ℕ) (e : Entry) →
     approval_in e.arrival ≡ approval_by moment v →
-    tables.hold_end_by k (record a {
-      status = answered_status v;
-      reply = reply;
-      hold_end = answered_hold_end k moment v
-          days;
-    })
-    ≡ open_with k days (Some e) false false
+    tables.hold_end_by k
+    (answered_row (answered_status v) reply (answered_hold_end k moment v days) a)
+    ≡ open_by k days (record untouched { answer = Some e })
 open_by_answered a Authorization moment (verdict.Approved id) reply days e is =
     sym (ap (option_and_then (λ moment. option_map (end_of_hold moment) days)) is)
 open_by_answered a Authorization moment (verdict.Declined text) reply days e is =
     sym (ap (option_and_then (λ moment. option_map (end_of_hold moment) days)) is)
 open_by_answered a Authorization moment verdict.NoAnswer reply days e is =
     sym (ap (option_and_then (λ moment. option_map (end_of_hold moment) days)) is)
-open_by_answered a Financial moment v reply days e is = refl
-open_by_answered a Completion moment v reply days e is = refl
-open_by_answered a Reversal moment v reply days e is = refl
-open_by_answered a ReversalAdvice moment v reply days e is = refl
-open_by_answered a Reconciliation moment v reply days e is = refl
-open_by_answered a NetworkManagement moment v reply days e is = refl
+open_by_answered a s moment v reply days e is = refl
 
 reply_state_of-answered : (v : Verdict) (reply : IsoMessage) →
     tables.reply_state_of (answered_status v) reply ≡ Kept reply
 reply_state_of-answered (verdict.Approved id) reply = refl
-reply_state_of-answered (verdict.Declined text) reply = refl
-reply_state_of-answered verdict.NoAnswer reply = refl
+reply_state_of-answered other reply = refl
 
 is_reversible_answered : (moment : ℕ) (v : Verdict) →
     tables.is_reversible (answered_status v) ≡ not (is_none (approval_by moment v))
 is_reversible_answered moment (verdict.Approved id) = refl
-is_reversible_answered moment (verdict.Declined text) = refl
-is_reversible_answered moment verdict.NoAnswer = refl
+is_reversible_answered moment other = refl
 
 -- a pending row that is answered
-pub prior_of_answered : (a : Request) (f : Found) (o : Option Entry) (c r : Bool)
-    (draft : IsoMessage) (moment : ℕ)
+pub prior_of_answered : (a : Request) (f : Found) (fate : Fate) (draft : IsoMessage) (moment : ℕ)
     (v : Verdict) (reply : IsoMessage) (e : Entry) →
-    prior_of a ≡ prior_with o c r f → (prior_with o c r f).reply_state ≡ Awaited draft →
+    prior_of a ≡ prior_by fate f → (prior_by fate f).reply_state ≡ Awaited draft →
     approval_in e.arrival ≡ approval_by moment v → reply_in e.outcome ≡ Some reply →
-    prior_of (record a {
-      status = answered_status v;
-      reply = reply;
-      hold_end = answered_hold_end f.request.service moment v (hold_days_of f);
-    }) ≡ prior_with (Some e) c r f
-prior_of_answered a f o c r draft moment v reply e is pending approval replied =
+    prior_of (answered_row (answered_status v) reply
+    (answered_hold_end f.request.service moment v (hold_days_of f)) a)
+    ≡ prior_by (record fate { answer = Some e }) f
+prior_of_answered a f fate draft moment v reply e is pending approval replied =
+    let until = answered_hold_end f.request.service moment v (hold_days_of f) in
     let waits : a.status ≡ status.Pending =
     reply_state_of-awaited a.status a.reply draft (ap (λ x. x.reply_state) is ∙ pending) in
     let taken = is_admitted f || is_accepted f in
-    let reversible : true ≡ (prior_with o c r f).is_reversible =
+    let reversible : true ≡ (prior_by fate f).is_reversible =
     sym (ap tables.is_reversible waits) ∙ ap (λ x. x.is_reversible) is in
     let last =
-    and_parts (taken && not c && not r)
-    (not (is_some o && is_none (option_and_then (λ e. approval_in e.arrival) o))) (sym reversible)
-    in
-    let third = and_parts (taken && not c) (not r) last.0 in
-    let second = and_parts taken (not c) third.0 in
-    let completed = not_true c second.1 in
-    let reversed = not_true r third.1 in
+    and_parts (taken && not fate.completed && not fate.reversed) (not (is_declined_by fate))
+    (sym reversible) in
+    let third = and_parts (taken && not fate.completed) (not fate.reversed) last.0 in
+    let second = and_parts taken (not fate.completed) third.0 in
+    let completed = not_true fate.completed second.1 in
+    let reversed = not_true fate.reversed third.1 in
     let own : reply_in f.entry.outcome ≡ None =
-    own_none (reply_in f.entry.outcome) _ (reply_state_with-awaited _ r _ draft pending) in
+    own_none (reply_in f.entry.outcome) _
+    (reply_state_with-awaited _ fate.reversed _ draft pending) in
     let at : a.key.service ≡ f.request.service = ap (λ x. x.key.service) is in
-    prior_of_edited a f o (Some e) c c r r (answered_status v) reply
-    (answered_hold_end f.request.service moment v (hold_days_of f)) is
-    (reply_state_of-answered v reply
-    ∙ (λ i. reply_state_with (option_or (sym own i) (sym replied i)) r
-    (draft_reply f.entry.day f.request (next_reference f.before))))
-    (is_reversible_answered moment v
-    ∙ (λ i. sym second.0 i && sym second.1 i && sym third.1 i
-    && not (true && is_none (sym approval i))))
-    ((λ i. tables.hold_end_by (at i)
-    (record a {
-      status = answered_status v;
-      reply = reply;
-      hold_end = answered_hold_end f.request.service moment v (hold_days_of f);
-    }))
-    ∙ (open_by_answered a f.request.service moment v reply (hold_days_of f) e approval
-    ∙ (λ i. open_with f.request.service (hold_days_of f) (Some e) (sym completed i)
-    (sym reversed i))))
+    prior_of_changed a (answered_row (answered_status v) reply until a) f fate
+    (record fate { answer = Some e }) (answered_kept (answered_status v) reply until a) is
+    (record {
+      amount = ap (λ x. x.amount) is;
+      state = reply_state_of-answered v reply
+          ∙ (λ i. reply_state_with (option_or (sym own i) (sym replied i)) fate.reversed
+          (draft_reply f.entry.day f.request (next_reference f.before)));
+      reversible = is_reversible_answered moment v
+          ∙ (λ i. sym second.0 i && sym second.1 i && sym third.1 i
+          && not (true && is_none (sym approval i)));
+      ends = (λ i. tables.hold_end_by (at i) (answered_row (answered_status v) reply until a))
+          ∙ (open_by_answered a f.request.service moment v reply (hold_days_of f) e approval
+          ∙ (λ i. open_by f.request.service (hold_days_of f)
+          (record { answer = Some e; completed = sym completed i; reversed = sym reversed i })));
+    })
 
 -- ---- a completion
 
-open_by_done : (a : Request) (k : Service) (s : Status) (days : Option ℕ) (o : Option Entry)
-    (c r : Bool) →
-    tables.is_approved s ≡ false → (c || r) ≡ true →
-    tables.hold_end_by k (record a { status = s }) ≡ open_with k days o c r
-open_by_done a Authorization s days o c r off on =
-    ap (λ b. cond b a.hold_end None) off
+-- what was completed or reversed, and is no longer approved, isn't open
+open_by_done : (row : Request) (k : Service) (days : Option ℕ) (fate : Fate) →
+    tables.is_approved row.status ≡ false → (fate.completed || fate.reversed) ≡ true →
+    tables.hold_end_by k row ≡ open_by k days fate
+open_by_done row Authorization days fate off on =
+    ap (λ b. cond b row.hold_end None) off
     ∙ sym (ap (λ b.
     cond b None (option_and_then (λ moment. option_map (end_of_hold moment) days)
-    (option_and_then (λ e. approval_in e.arrival) o))) on)
-open_by_done a Financial s days o c r off on = refl
-open_by_done a Completion s days o c r off on = refl
-open_by_done a Reversal s days o c r off on = refl
-open_by_done a ReversalAdvice s days o c r off on = refl
-open_by_done a Reconciliation s days o c r off on = refl
-open_by_done a NetworkManagement s days o c r off on = refl
+    (option_and_then (λ e. approval_in e.arrival) fate.answer))) on)
+open_by_done row s days fate off on = refl
 
 open_by_approved : (a : Request) (k : Service) → is_some (tables.hold_end_by k a) ≡ true →
     a.status ≡ status.Approved
@@ -456,29 +431,28 @@ open_by_approved a Authorization e =
     a.status ≡ status.Approved =
     elim [ true ↦ (λ t h. is_approved_is a.status t) | false ↦ (λ t h. absurd (cc)) ] in
     step (tables.is_approved a.status) refl e
-open_by_approved a Financial e = absurd (cc)
-open_by_approved a Completion e = absurd (cc)
-open_by_approved a Reversal e = absurd (cc)
-open_by_approved a ReversalAdvice e = absurd (cc)
-open_by_approved a Reconciliation e = absurd (cc)
-open_by_approved a NetworkManagement e = absurd (cc)
+open_by_approved a service e = absurd (cc)
 
 -- an open hold that is completed
-pub prior_of_completed : (a : Request) (f : Found) (o : Option Entry) (c r : Bool) →
-    prior_of a ≡ prior_with o c r f →
-    is_some (prior_with o c r f).hold_end ≡ true →
-    prior_of (record a { status = status.Completed }) ≡ prior_with o true r f
-prior_of_completed a f o c r is ends =
+pub prior_of_completed : (a : Request) (f : Found) (fate : Fate) →
+    prior_of a ≡ prior_by fate f →
+    is_some (prior_by fate f).hold_end ≡ true →
+    prior_of (followed_row status.Completed a) ≡ prior_by (record fate { completed = true }) f
+prior_of_completed a f fate is ends =
     let approved : a.status ≡ status.Approved =
     open_by_approved a a.key.service (ap (λ x. is_some x.hold_end) is ∙ ends) in
     let at : a.key.service ≡ f.request.service = ap (λ x. x.key.service) is in
-    prior_of_edited a f o o c true r r status.Completed a.reply a.hold_end is
-    (sym (ap (λ s. tables.reply_state_of s a.reply) approved) ∙ ap (λ x. x.reply_state) is)
-    (sym (ap (λ b. b && not r
-    && not (is_some o && is_none (option_and_then (λ e. approval_in e.arrival) o)))
-    (and-false (is_admitted f || is_accepted f))))
-    ((λ i. tables.hold_end_by (at i) (record a { status = status.Completed }))
-    ∙ open_by_done a f.request.service status.Completed (hold_days_of f) o true r refl refl)
+    prior_of_changed a (followed_row status.Completed a) f fate
+    (record fate { completed = true }) (followed_kept status.Completed a) is
+    (record {
+      amount = ap (λ x. x.amount) is;
+      state = sym (ap (λ s. tables.reply_state_of s a.reply) approved) ∙ ap (λ x. x.reply_state) is;
+      reversible = sym (ap (λ b. b && not fate.reversed && not (is_declined_by fate))
+          (and-false (is_admitted f || is_accepted f)));
+      ends = (λ i. tables.hold_end_by (at i) (followed_row status.Completed a))
+          ∙ open_by_done (followed_row status.Completed a) f.request.service (hold_days_of f)
+          (record fate { completed = true }) refl refl;
+    })
 
 -- ---- a reversal
 
@@ -492,41 +466,40 @@ reply_state_of-reversed status.Pending reply o r draft reversible is =
     (sym (reply_state_with-awaited o r draft reply (sym is)))
 reply_state_of-reversed status.Approved reply o r draft reversible is =
     ap (λ p. reply_state_with p true draft) (sym (reply_state_with-kept o r draft reply (sym is)))
-reply_state_of-reversed status.ReversedPending reply o r draft reversible is = absurd (cc)
-reply_state_of-reversed status.Refused reply o r draft reversible is = absurd (cc)
-reply_state_of-reversed status.Declined reply o r draft reversible is = absurd (cc)
-reply_state_of-reversed status.Completed reply o r draft reversible is = absurd (cc)
-reply_state_of-reversed status.Reversed reply o r draft reversible is = absurd (cc)
-reply_state_of-reversed status.Reconciled reply o r draft reversible is = absurd (cc)
+reply_state_of-reversed s reply o r draft reversible is = absurd (cc)
 
 is_reversible_reversed : (s : ReplyState) → tables.is_reversible (reversed_status s) ≡ false
 is_reversible_reversed (Kept reply) = refl
-is_reversible_reversed (Awaited draft) = refl
-is_reversible_reversed Late = refl
+is_reversible_reversed other = refl
 
 is_approved_reversed : (s : ReplyState) → tables.is_approved (reversed_status s) ≡ false
 is_approved_reversed (Kept reply) = refl
-is_approved_reversed (Awaited draft) = refl
-is_approved_reversed Late = refl
+is_approved_reversed other = refl
 
 -- a request that can be reversed, and is
-pub prior_of_reversed : (a : Request) (f : Found) (o : Option Entry) (c r : Bool) →
-    prior_of a ≡ prior_with o c r f →
-    (prior_with o c r f).is_reversible ≡ true →
-    prior_of (record a { status = reversed_status (prior_with o c r f).reply_state })
-    ≡ prior_with o c true f
-prior_of_reversed a f o c r is reversible =
-    let s = reversed_status (prior_with o c r f).reply_state in
+pub prior_of_reversed : (a : Request) (f : Found) (fate : Fate) →
+    prior_of a ≡ prior_by fate f →
+    (prior_by fate f).is_reversible ≡ true →
+    prior_of (followed_row (reversed_status (prior_by fate f).reply_state) a)
+    ≡ prior_by (record fate { reversed = true }) f
+prior_of_reversed a f fate is reversible =
+    let s = reversed_status (prior_by fate f).reply_state in
     let at : a.key.service ≡ f.request.service = ap (λ x. x.key.service) is in
-    prior_of_edited a f o o c c r true s a.reply a.hold_end is
-    (ap (λ x. tables.reply_state_of (reversed_status x) a.reply) (sym (ap (λ x. x.reply_state) is))
-    ∙ reply_state_of-reversed a.status a.reply _ r _ (ap (λ x. x.is_reversible) is
-    ∙ reversible) (ap (λ x. x.reply_state) is))
-    (is_reversible_reversed (prior_with o c r f).reply_state
-    ∙ sym (ap (λ b. b
-    && not (is_some o && is_none (option_and_then (λ e. approval_in e.arrival) o)))
-    (and-false ((is_admitted f || is_accepted f) && not c))))
-    ((λ i. tables.hold_end_by (at i) (record a { status = s }))
-    ∙ open_by_done a f.request.service s (hold_days_of f) o c true (is_approved_reversed
-    (prior_with o c r f).reply_state)
-    (or_true c))
+    prior_of_changed a (followed_row s a) f fate (record fate { reversed = true })
+    (followed_kept s a) is
+    (record {
+      amount = ap (λ x. x.amount) is;
+      state =
+          ap (λ x. tables.reply_state_of (reversed_status x) a.reply)
+          (sym (ap (λ x. x.reply_state) is))
+          ∙ reply_state_of-reversed a.status a.reply _ fate.reversed _
+          (ap (λ x. x.is_reversible) is ∙ reversible) (ap (λ x. x.reply_state) is);
+      reversible =
+          is_reversible_reversed (prior_by fate f).reply_state
+          ∙ sym (ap (λ b. b && not (is_declined_by fate))
+          (and-false ((is_admitted f || is_accepted f) && not fate.completed)));
+      ends = (λ i. tables.hold_end_by (at i) (followed_row s a))
+          ∙ open_by_done (followed_row s a) f.request.service (hold_days_of f)
+          (record fate { reversed = true })
+          (is_approved_reversed (prior_by fate f).reply_state) (or_true fate.completed);
+    })

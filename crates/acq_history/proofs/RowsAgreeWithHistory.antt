@@ -2,13 +2,11 @@
 -- alike.
 use Rattle.std.proofs.Common.{◌≡◌, ℕ, ◌+◌, List, [], ◌∷◌, ◌++◌, Option, Some, None, Bool, true}
 use Rattle.std.proofs.Common.{false, cond, refl, sym, ap, ◌∙◌}
-use Rattle.std.specs.Prelude.{map, find, option_map, ◌&&◌, ◌||◌, not, is_some, ◌==◌, if◌then◌else◌}
+use Rattle.std.specs.Prelude.{map, find, option_map, ◌&&◌, ◌||◌, not, is_some, ◌==◌}
 use Rattle.std.specs.Str.{bytes_eq}
 use Rattle.std.proofs.lemmas.List.{append-nil}
 use Rattle.acq_message.specs.declared.request_key.RequestKey.{RequestKey}
-use Rattle.iso_codec.specs.Message.{IsoMessage}
 use Rattle.acq_core.specs.declared.request.Request.{Request}
-use Rattle.acq_core.specs.declared.status.Status.{Status}
 use Rattle.acq_message.specs.Elements.{key_of, same_key}
 use Rattle.acq_message.specs.declared.request_message.RequestMessage.{RequestMessage}
 use Rattle.acq_core.specs.Known.{Prior}
@@ -20,12 +18,13 @@ use Rattle.acq_history.specs.Entries.{Entry, request_of, is_acceptance, is_past_
 use Rattle.acq_history.specs.History.{Found, newest, aged, recorded, referred, is_admission}
 use Rattle.acq_history.specs.History.{admitted, enrolled, used, prior}
 use Rattle.acq_history.specs.Isolation.{recording_first, all_recorded}
-use Rattle.acq_history.proofs.Lookups.{map_map, find-view, count-view, count-same, map-push}
-use Rattle.acq_history.proofs.Lookups.{filter-map, filter-push_in, Each}
+use Rattle.acq_history.proofs.Lookups.{map_map, find-view, count-view, map-push, filter-push_in}
+use Rattle.acq_history.proofs.Lookups.{Each}
 use Rattle.acq_history.proofs.RecordedInHistory.{find_recorded, find_referred, count_admitted}
-use Rattle.acq_history.proofs.RecordedInHistory.{AdmitsOnlyEnrolled, IsFoundAgain}
-use Rattle.acq_history.proofs.RecordedInHistory.{each_found_again}
+use Rattle.acq_history.proofs.RecordedInHistory.{AdmitsOnlyEnrolled, IsFoundAgain, each_found_again}
 use Rattle.acq_history.proofs.RequestsAfterNewEntry.{line, shown, shown_aged}
+use Rattle.acq_history.proofs.RowsWithChanges.{changing, Edits, requests_of-changed}
+use Rattle.acq_history.proofs.CountsOfRows.{used_in-changed}
 
 -- a merchant's rows say what its history says
 pub record Rows (m : List ℕ) (rows : List Request) (h : List Entry) : Type 0 where
@@ -89,64 +88,6 @@ lines_edited u e h follows (a ∷ rows) (f ∷ fs) each same =
 lines_edited u e h follows [] (f ∷ fs) each same = absurd (cc)
 lines_edited u e h follows (a ∷ rows) [] each same = absurd (cc)
 
--- an edit of the row that has a key
-pub record Edits (changed : Request → Request) : Type 0 where
-  pub key : (a : Request) → (changed a).key ≡ a.key
-  pub admitted : (a : Request) → (changed a).admitted ≡ a.admitted
-  pub day : (a : Request) → (changed a).day ≡ a.day
-
--- an edit of the status
-pub status_edits : (s : Status) → Edits (λ row. record row { status = s })
-status_edits s = record { key = λ a. refl; admitted = λ a. refl; day = λ a. refl }
-
--- an edit by an answer
-pub answer_edits : (s : Status) (reply : IsoMessage) (until : Option ℕ) →
-    Edits (λ row. record row { status = s; reply = reply; hold_end = until })
-answer_edits s reply hold_end = record { key = λ a. refl; admitted = λ a. refl; day = λ a. refl }
-
--- the edit of the one row with a key
-abbrev pub at_key : RequestKey → (Request → Request) → Request → Request
-at_key key changed row = if same_key row.key key then changed row else row
-
--- it keeps each row's merchant
-merchant_edited : (m : List ℕ) (key : RequestKey) (changed : Request → Request) → Edits changed →
-    (a : Request) →
-    bytes_eq (at_key key changed a).key.merchant m ≡ bytes_eq a.key.merchant m
-merchant_edited m key changed edits a =
-    elim (same_key a.key key) as (λ b. bytes_eq (if b then changed a else a).key.merchant m
-    ≡ bytes_eq a.key.merchant m)
-    [ true ↦ ap (λ k. bytes_eq k.merchant m) (edits.key a) | false ↦ refl ]
-
--- and what counts against a limit
-counts_edited : (d : ℕ) (key : RequestKey) (changed : Request → Request) → Edits changed →
-    (a : Request) →
-    ((at_key key changed a).admitted && ((at_key key changed a).day == d))
-    ≡ (a.admitted && (a.day == d))
-counts_edited d key changed edits a =
-    elim (same_key a.key key) as (λ b.
-    ((if b then changed a else a).admitted && ((if b then changed a else a).day == d))
-    ≡ (a.admitted && (a.day == d))) [
-      | true ↦ (λ i. edits.admitted a i && (edits.day a i == d))
-      | false ↦ refl
-    ]
-
--- so it goes through the merchant's rows alone
-pub requests_of_edited : (m : List ℕ) (key : RequestKey) (changed : Request → Request) →
-    Edits changed →
-    (rows : List Request) →
-    requests_of m (with_changed key changed rows) ≡ map (at_key key changed) (requests_of m rows)
-requests_of_edited m key changed edits rows =
-    filter-map (λ row. bytes_eq row.key.merchant m) (at_key key changed) (at_key key changed)
-    (merchant_edited m key changed edits) (λ a mine. refl) rows
-
-used_edited : (rows : List Request) (key : RequestKey) (changed : Request → Request) →
-    Edits changed → (d : ℕ) →
-    used_in (map (at_key key changed) rows) d ≡ used_in rows d
-used_edited rows key changed edits d =
-    count-view (at_key key changed) (λ row. row.admitted && (row.day == d)) rows
-    ∙ count-same (λ a. (at_key key changed a).admitted && ((at_key key changed a).day == d))
-    (λ row. row.admitted && (row.day == d)) (counts_edited d key changed edits) rows
-
 -- rows after an edit, while what the newest entry records is left out
 pub record RowsWithoutNewest (m : List ℕ) (rows : List Request) (e : Entry)
     (h : List Entry) : Type 0 where
@@ -155,20 +96,20 @@ pub record RowsWithoutNewest (m : List ℕ) (rows : List Request) (e : Entry)
   pub genuine : AdmitsOnlyEnrolled h
 
 -- rows in which one was edited
-pub without_newest_edited : (m : List ℕ) (rows : List Request) (e : Entry) (h : List Entry)
+pub without_newest_edited : {m : List ℕ} {rows : List Request} {e : Entry} {h : List Entry}
     (key : RequestKey)
-    (changed : Request → Request) → Edits changed → FollowsEntry (at_key key changed) e h →
+    (changed : Request → Request) → Edits changed → FollowsEntry (changing key changed) e h →
     Rows m rows h →
     RowsWithoutNewest m (with_changed key changed rows) e h
-without_newest_edited m rows e h key changed edits follows r =
+without_newest_edited {m} {rows} {e} {h} key changed edits follows r =
     record {
       lines =
-          ap (map line) (requests_of_edited m key changed edits rows)
-          ∙ lines_edited (at_key key changed) e h follows (requests_of m rows) (all_recorded h)
+          ap (map line) (requests_of-changed m key changed edits rows)
+          ∙ lines_edited (changing key changed) e h follows (requests_of m rows) (all_recorded h)
           (each_found_again h r.genuine) r.lines;
       used =
-          λ d. ap (λ rs. used_in rs d) (requests_of_edited m key changed edits rows)
-          ∙ (used_edited (requests_of m rows) key changed edits d ∙ r.used d);
+          λ d. ap (λ rs. used_in rs d) (requests_of-changed m key changed edits rows)
+          ∙ (used_in-changed key changed edits (requests_of m rows) d ∙ r.used d);
       genuine = r.genuine;
     }
 
@@ -178,10 +119,10 @@ older_same e same [] = refl
 older_same e same (f ∷ fs) = λ i. same f i ∷ older_same e same fs i
 
 -- rows that stay as they are
-pub without_newest_still : (m : List ℕ) (rows : List Request) (e : Entry) (h : List Entry) →
+pub without_newest_still : {m : List ℕ} {rows : List Request} {e : Entry} {h : List Entry} →
     is_acceptance e ≡ false →
     ((n : ℕ) → is_answer n e ≡ false) → Rows m rows h → RowsWithoutNewest m rows e h
-without_newest_still m rows e h accepted answers r =
+without_newest_still {e = e} {h = h} accepted answers r =
     record {
       lines = r.lines ∙ sym (older_same e (shown_aged e accepted answers) (all_recorded h));
       used = r.used;
@@ -189,12 +130,12 @@ without_newest_still m rows e h accepted answers r =
     }
 
 -- nothing is recorded
-pub rows_still : (m : List ℕ) (rows : List Request) (e : Entry) (h : List Entry) →
+pub rows_still : {m : List ℕ} {rows : List Request} {e : Entry} {h : List Entry} →
     is_acceptance e ≡ false →
     is_admission e h ≡ false → recording_first e h (request_of e.arrival) ≡ [] →
     RowsWithoutNewest m rows e h →
     Rows m rows (e ∷ h)
-rows_still m rows e h accepted admission none r =
+rows_still {e = e} {h = h} accepted admission none r =
     record {
       lines =
           r.lines ∙ sym
@@ -219,10 +160,10 @@ pub record Joins (m : List ℕ) (row : Request) (e : Entry) (h : List Entry) : T
   pub enrolled : is_admission e h ≡ true → is_some (enrolled h) ≡ true
 
 -- where it records one row more
-pub rows_joined : (m : List ℕ) (rows : List Request) (row : Request) (e : Entry) (h : List Entry) →
-    Joins m row e h →
+pub rows_joined : {m : List ℕ} {rows : List Request} {row : Request} {e : Entry}
+    {h : List Entry} → Joins m row e h →
     RowsWithoutNewest m rows e h → Rows m (rows ++ row ∷ []) (e ∷ h)
-rows_joined m rows row e h j r =
+rows_joined {m} {rows} {row} {e} {h} j r =
     let mine = filter-push_in (λ a. bytes_eq a.key.merchant m) rows row j.mine in
     let first : recording_first e h (request_of e.arrival) ≡ newest j.request e h ∷ [] =
     ap (recording_first e h) j.came

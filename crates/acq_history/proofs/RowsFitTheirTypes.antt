@@ -13,10 +13,7 @@ use Rattle.card_no.specs.Track2.{may_be_number}
 use Rattle.day_totals.specs.Day.{last_day}
 use Rattle.day_totals.specs.declared.leg.Leg.{Leg}
 use Rattle.acq_message.specs.declared.service.Service.{Service}
-use Rattle.acq_message.specs.declared.service.Service.TheVariants.{Authorization, Financial}
-use Rattle.acq_message.specs.declared.service.Service.TheVariants.{Completion, Reversal}
-use Rattle.acq_message.specs.declared.service.Service.TheVariants.{ReversalAdvice, Reconciliation}
-use Rattle.acq_message.specs.declared.service.Service.TheVariants.{NetworkManagement}
+use Rattle.acq_message.specs.declared.service.Service.TheVariants.{Authorization, NetworkManagement}
 use Rattle.acq_message.specs.declared.request_key.RequestKey.{RequestKey}
 use Rattle.acq_message.specs.declared.request_message.RequestMessage.{RequestMessage}
 use Rattle.acq_message.specs.declared.verdict.Verdict.{Verdict}
@@ -37,6 +34,7 @@ use Rattle.acq_core.specs.Changes.{reversal_posting, completion_posting}
 use Rattle.acq_core.specs.Tables.{Opening, Tables, new_tables, count, prior_of, reply_state_of}
 use Rattle.acq_core.specs.Tables.{leg_by, postings_of, postings_before, with_changed}
 use Rattle.acq_core.specs.Tables.{with_next_posting, known_in, after_any, step_tables, tables_after}
+use Rattle.acq_core.specs.Tables.{followed_row}
 use Rattle.acq_history.proofs.Members.{In}
 use Rattle.acq_history.proofs.Keys.{bytes_eq_itself, eqb_itself}
 use Rattle.acq_history.proofs.StepCases.{by_step}
@@ -110,14 +108,8 @@ hold_end-within : (s : Service) (moment : ℕ) (v : Verdict) (o : Option ℕ) �
     IfSome o AreHoldDays → IfSome (answered_hold_end s moment v o) (λ n. n ≤ greatest_hold_end)
 hold_end-within Authorization moment (verdict.Approved id) o is days =
     end_of_hold-within moment o is days
-hold_end-within Authorization moment (verdict.Declined text) o is days = tt
-hold_end-within Authorization moment verdict.NoAnswer o is days = tt
-hold_end-within Financial moment v o is days = tt
-hold_end-within Completion moment v o is days = tt
-hold_end-within Reversal moment v o is days = tt
-hold_end-within ReversalAdvice moment v o is days = tt
-hold_end-within Reconciliation moment v o is days = tt
-hold_end-within NetworkManagement moment v o is days = tt
+hold_end-within Authorization moment other o is days = tt
+hold_end-within s moment v o is days = tt
 
 -- ---- postings
 
@@ -190,8 +182,7 @@ answer-names : (v : Verdict) (row : Request) → FitsKey row.key → IsNumber ro
     IfSome (answer_posting v (prior_of row)) FitsNames
 answer-names (verdict.Approved id) row key card =
     approval-names row key card (leg_by row.key.service row)
-answer-names (verdict.Declined text) row key card = tt
-answer-names verdict.NoAnswer row key card = tt
+answer-names other row key card = tt
 
 -- those of one that a request makes of an earlier one
 today-names : (today : ℕ) (r : RequestMessage) (leg : Leg) (amount : ℕ) (row : Request) →
@@ -222,11 +213,11 @@ record HasFittingColumns (t : Tables) : Type 0 where
   postings : All (FitsPostingColumns t.limit) t.postings
   reconciliations : All FitsReconciliation t.reconciliations
 
--- a row whose status alone was changed
-followed : (key : RequestKey) (st : Status) (rows : List Request) → All FitsColumns rows →
-    All FitsColumns (with_changed key (λ row. record row { status = st }) rows)
-followed key st rows h =
-    All-with_changed FitsColumns key (λ row. record row { status = st }) rows
+-- rows with one that a completion or a reversal fitting_followed
+fitting_followed : (key : RequestKey) (st : Status) (rows : List Request) → All FitsColumns rows →
+    All FitsColumns (with_changed key (followed_row st) rows)
+fitting_followed key st rows h =
+    All-with_changed FitsColumns key (followed_row st) rows
     (λ x same c. record {
       key = c.key;
       amount = c.amount;
@@ -234,6 +225,19 @@ followed key st rows h =
       hold_end =
           c.hold_end;
     }) h
+
+-- tables with other requests and postings
+fitting_with : {t : Tables} {day : ℕ} {ranges : List Range} {rows : List Request}
+    {ps : List (ℕ × Posting)} →
+    HasFittingColumns t → All FitsColumns rows → All (FitsPostingColumns t.limit) ps →
+    HasFittingColumns (record t { day = day; ranges = ranges; requests = rows; postings = ps })
+fitting_with h requests postings = record {
+  merchants = h.merchants;
+  terminals = h.terminals;
+  requests = requests;
+  postings = postings;
+  reconciliations = h.reconciliations;
+}
 
 module _ (opening : Opening) (t : Tables) (ranges : HasRangesApart t) (cards : HasNoSensitiveData t)
     (day : t.day ≤ last_day) where
@@ -251,112 +255,65 @@ module _ (opening : Opening) (t : Tables) (ranges : HasRangesApart t) (cards : H
         malformed = λ r came b. h;
         replied = λ r came given hosts b. h;
         repeated = λ row member b. h;
-        refused = λ r came merchant g given hosts b. record {
-          merchants = h.merchants;
-          terminals = h.terminals;
-          requests =
-              All-push FitsColumns t.requests _ h.requests
-              (columns_of r (subst IsArrival came is) g.recordable _ refl refl tt refl);
-          postings = h.postings;
-          reconciliations = h.reconciliations;
-        };
-        admitted = λ r came merchant g service amount room range held b. record {
-          merchants = h.merchants;
-          terminals = h.terminals;
-          requests =
-              All-push FitsColumns t.requests _ h.requests
-              (columns_of r (subst IsArrival came is) g.recordable _ refl refl
-              (hold_days-valid t.ranges range
-              (and_parts (list_all is_valid_range t.ranges) (are_apart t.ranges) ranges).0 held)
-              refl);
-          postings = h.postings;
-          reconciliations = h.reconciliations;
-        };
-        completed = λ r came merchant g service amount room hold own b. record {
-          merchants = h.merchants;
-          terminals = h.terminals;
-          requests =
-              All-push FitsColumns _ _ (followed hold.key _ t.requests h.requests)
-              (columns_of r (subst IsArrival came is) g.recordable _ refl refl tt refl);
-          postings =
-              postings_fit t.limit t.postings (Some (completion_posting t.day r (prior_of hold)))
-              (today-names t.day r _ _ hold (key_of-fits r (subst IsArrival came is) g.recordable)
-              (card_of-row hold own.member))
-              (λ m on. (b.merchants m).posted on) h.postings;
-          reconciliations = h.reconciliations;
-        };
-        reversed = λ r came merchant g service room row own b. record {
-          merchants = h.merchants;
-          terminals = h.terminals;
-          requests =
-              All-push FitsColumns _ _ (followed row.key _ t.requests h.requests)
-              (columns_of r (subst IsArrival came is) g.recordable _ refl refl tt refl);
-          postings =
-              postings_fit t.limit t.postings (reversal_posting t.day r (prior_of row))
-              (reversal-names t.day r row (key_of-fits r (subst IsArrival came is) g.recordable)
-              (card_of-row row own.member)
-              (posted_leg (reply_state_of row.status row.reply) (leg_by row.key.service row)))
-              (λ m on. (b.merchants m).posted on) h.postings;
-          reconciliations = h.reconciliations;
-        };
-        reconciled = λ r came merchant g service on resolves b.
-            let within = reconciled_day-within t.day _ on resolves in
+        refused = λ r merchant g given hosts b. fitting_with h
+            (All-push FitsColumns t.requests _ h.requests
+            (columns_of r (subst IsArrival g.came is) g.recordable _ refl refl tt refl))
+            h.postings;
+        admitted = λ r merchant g range c b. fitting_with h
+            (All-push FitsColumns t.requests _ h.requests
+            (columns_of r (subst IsArrival g.came is) g.recordable _ refl refl
+            (hold_days-valid t.ranges range
+            (and_parts (list_all is_valid_range t.ranges) (are_apart t.ranges) ranges).0 c.held)
+            refl)) h.postings;
+        completed = λ r merchant g hold c b. fitting_with h
+            (All-push FitsColumns _ _ (fitting_followed hold.key _ t.requests h.requests)
+            (columns_of r (subst IsArrival g.came is) g.recordable _ refl refl tt refl))
+            (postings_fit t.limit t.postings (Some (completion_posting t.day r (prior_of hold)))
+            (today-names t.day r _ _ hold (key_of-fits r (subst IsArrival g.came is) g.recordable)
+            (card_of-row hold c.member))
+            (λ m on. (b.merchants m).posted on) h.postings);
+        reversed = λ r merchant g row c b. fitting_with h
+            (All-push FitsColumns _ _ (fitting_followed row.key _ t.requests h.requests)
+            (columns_of r (subst IsArrival g.came is) g.recordable _ refl refl tt refl))
+            (postings_fit t.limit t.postings (reversal_posting t.day r (prior_of row))
+            (reversal-names t.day r row (key_of-fits r (subst IsArrival g.came is) g.recordable)
+            (card_of-row row c.member)
+            (posted_leg (reply_state_of row.status row.reply) (leg_by row.key.service row)))
+            (λ m on. (b.merchants m).posted on) h.postings);
+        reconciled = λ r merchant g on c b.
+            let within = reconciled_day-within t.day _ on c.resolves in
             let today = day in record {
               merchants = h.merchants;
               terminals = h.terminals;
               requests =
                   All-push FitsColumns t.requests _ h.requests
-                  (columns_of r (subst IsArrival came is) g.recordable _ refl refl tt refl);
+                  (columns_of r (subst IsArrival g.came is) g.recordable _ refl refl tt refl);
               postings = h.postings;
               reconciliations =
                   All-push FitsReconciliation t.reconciliations _ h.reconciliations (record {
-                    merchant = (key_of-fits r (subst IsArrival came is) g.recordable).merchant;
+                    merchant = (key_of-fits r (subst IsArrival g.came is) g.recordable).merchant;
                     day = omega arith;
                   });
             };
-        answered = λ moment merchant reference v came row member pending n under b.
-            let columns : FitsColumns row = All-member FitsColumns t.requests row h.requests member
-            in record {
-              merchants = h.merchants;
-              terminals = h.terminals;
-              requests =
-                  All-with_changed FitsColumns row.key _ t.requests
-                  (λ x same c. record {
-                    key = c.key;
-                    amount = c.amount;
-                    hold_days = c.hold_days;
-                    hold_end =
-                        hold_end-within row.key.service moment v row.hold_days
-                        (subst IsArrival came is).0
-                        columns.hold_days;
-                  }) h.requests;
-              postings =
-                  postings_fit t.limit t.postings (answer_posting v (prior_of row))
-                  (answer-names v row columns.key (card_of-row row member))
-                  (λ m on. (b.merchants m).posted on) h.postings;
-              reconciliations = h.reconciliations;
-            };
-        cut_over = λ before b. record {
-          merchants = h.merchants;
-          terminals = h.terminals;
-          requests = h.requests;
-          postings = h.postings;
-          reconciliations = h.reconciliations;
-        };
-        range_added = λ range valid free b. record {
-          merchants = h.merchants;
-          terminals = h.terminals;
-          requests = h.requests;
-          postings = h.postings;
-          reconciliations = h.reconciliations;
-        };
-        range_dropped = λ low high b. record {
-          merchants = h.merchants;
-          terminals = h.terminals;
-          requests = h.requests;
-          postings = h.postings;
-          reconciliations = h.reconciliations;
-        };
+        answered = λ moment v row c b.
+            let columns : FitsColumns row =
+            All-member FitsColumns t.requests row h.requests c.member in fitting_with h
+            (All-with_changed FitsColumns row.key _ t.requests
+            (λ x same was. record {
+              key = was.key;
+              amount = was.amount;
+              hold_days = was.hold_days;
+              hold_end =
+                  hold_end-within row.key.service moment v row.hold_days
+                  (subst IsArrival c.came is).0
+                  columns.hold_days;
+            }) h.requests)
+            (postings_fit t.limit t.postings (answer_posting v (prior_of row))
+            (answer-names v row columns.key (card_of-row row c.member))
+            (λ m on. (b.merchants m).posted on) h.postings);
+        cut_over = λ came before b. fitting_with h h.requests h.postings;
+        range_added = λ range came valid free b. fitting_with h h.requests h.postings;
+        range_dropped = λ low high came b. fitting_with h h.requests h.postings;
         enrolled = λ merchant came new b. record {
           merchants = All-push FitsMerchant t.merchants merchant h.merchants
               (subst IsArrival came is);

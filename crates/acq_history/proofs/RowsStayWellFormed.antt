@@ -1,12 +1,11 @@
 -- What stays true of the rows of requests.
-use Rattle.std.proofs.Common.{◌≡◌, ℕ, ◌+◌, ◌<◌, ◌≤◌, List, [], ◌∷◌, ◌++◌, Option, Some, Bool, true}
-use Rattle.std.proofs.Common.{false, cond, ◌⊎◌, inl, inr, refl, sym, ap, ◌∙◌, subst, arith}
-use Rattle.std.specs.Prelude.{find, is_some, map}
+use Rattle.std.proofs.Common.{◌≡◌, ℕ, ◌+◌, ◌<◌, ◌≤◌, List, [], ◌∷◌, ◌++◌, Some, Bool, true, false}
+use Rattle.std.proofs.Common.{cond, ◌⊎◌, inl, inr, refl, sym, ap, ◌∙◌, subst, arith}
+use Rattle.std.specs.Prelude.{is_some, map}
 use Rattle.std.specs.Option.{option_or}
 use Rattle.std.specs.Str.{bytes_eq}
 use Rattle.std.proofs.lemmas.List.Folds.{find-append}
 use Rattle.acq_message.specs.declared.service.Service.TheVariants.{Authorization, Completion}
-use Rattle.acq_message.specs.declared.request_key.RequestKey.{RequestKey}
 use Rattle.acq_core.specs.declared.request.Request.{Request}
 use Rattle.acq_core.specs.declared.merchant.Merchant.{Merchant}
 use Rattle.acq_core.specs.declared.status.Status.TheVariants.{Completed}
@@ -14,14 +13,13 @@ use Rattle.acq_message.specs.Elements.{same_key}
 use Rattle.acq_core.specs.Tables.{requests_of, admitted_in, with_changed}
 use Rattle.acq_history.specs.Entries.{is_admissible, is_reversal}
 use Rattle.acq_history.specs.Conservation.{is_reversal_leg}
-use Rattle.acq_history.proofs.Members.{In, In-first, In-push, In-map}
-use Rattle.acq_history.proofs.GroundsOfDecision.{Other, Made, changed_is}
-use Rattle.acq_history.proofs.Keys.{bytes_eq_itself, same_key_is, same_key_from}
-use Rattle.acq_history.proofs.Lookups.{some_is}
-
--- the merchant with a name
-abbrev pub merchant_in : List Merchant → List ℕ → Option Merchant
-merchant_in merchants m = find (λ row. bytes_eq row.id m) merchants
+use Rattle.acq_history.proofs.Members.{In, In-first, In-push, In-map, In-mapped}
+use Rattle.acq_history.proofs.Keys.{bytes_eq_itself, same_key_is, same_key_itself}
+use Rattle.acq_history.proofs.Lookups.{some_is, count-view, count-same}
+use Rattle.acq_history.proofs.RowsWithChanges.{changing, changing_kept, Edits, IsChange}
+use Rattle.acq_history.proofs.RowsWithChanges.{requests_of-changed, Other, Made, changed_is}
+use Rattle.acq_history.proofs.Runs.{kept}
+use Rattle.acq_history.proofs.FoundRows.{merchant_among}
 
 -- how many of a merchant's requests were admitted
 abbrev pub admitted_by : List ℕ → List Request → ℕ
@@ -31,7 +29,7 @@ admitted_by m rows = admitted_in (requests_of m rows)
 pub record IsGiven (merchants : List Merchant) (rows : List Request) (m : List ℕ)
     (n : ℕ) : Type 0 where
   pub merchant : Merchant
-  pub enrolled : merchant_in merchants m ≡ Some merchant
+  pub enrolled : merchant_among merchants m ≡ Some merchant
   pub below : n < merchant.first_reference + admitted_by m rows
 
 -- the completed hold with a reference
@@ -71,10 +69,10 @@ pub record IsWellFormed (day : ℕ) (merchants : List Merchant) (rows : List Req
 -- ---- a day later, a merchant more
 
 -- on a later day
-pub well_formed_later : (day later : ℕ) (merchants : List Merchant) (rows : List Request) →
+pub well_formed_later : {day later : ℕ} {merchants : List Merchant} {rows : List Request} →
     day ≤ later →
     IsWellFormed day merchants rows → IsWellFormed later merchants rows
-well_formed_later day later merchants rows le k = record {
+well_formed_later le k = record {
   keys = k.keys;
   references = k.references;
   given = k.given;
@@ -86,10 +84,10 @@ well_formed_later day later merchants rows le k = record {
 }
 
 -- with one merchant more
-pub well_formed_with_merchant : (day : ℕ) (merchants : List Merchant) (merchant : Merchant)
-    (rows : List Request) →
+pub well_formed_with_merchant : {day : ℕ} {merchants : List Merchant} (merchant : Merchant)
+    {rows : List Request} →
     IsWellFormed day merchants rows → IsWellFormed day (merchants ++ merchant ∷ []) rows
-well_formed_with_merchant day merchants merchant rows k = record {
+well_formed_with_merchant {merchants = merchants} merchant {rows} k = record {
   keys = k.keys;
   references = k.references;
   given = λ a n i e. more a.key.merchant n (k.given a n i e);
@@ -106,7 +104,7 @@ well_formed_with_merchant day merchants merchant rows k = record {
       merchant = g.merchant;
       enrolled =
           find-append (λ row. bytes_eq row.id m) merchants (merchant ∷ [])
-          ∙ ap (λ o. option_or o (merchant_in (merchant ∷ []) m)) g.enrolled;
+          ∙ ap (λ o. option_or o (merchant_among (merchant ∷ []) m)) g.enrolled;
       below = g.below;
     }
 
@@ -165,7 +163,7 @@ IsHeld-push rows row m n h = record {
 pub record IsNext (merchants : List Merchant) (rows : List Request) (m : List ℕ)
     (n : ℕ) : Type 0 where
   pub merchant : Merchant
-  pub enrolled : merchant_in merchants m ≡ Some merchant
+  pub enrolled : merchant_among merchants m ≡ Some merchant
   pub next : n ≡ merchant.first_reference + admitted_by m rows
 
 -- a row that may be added
@@ -192,34 +190,34 @@ not_next merchants rows m n g x =
     let next = x.next in
     omega arith
 
+-- where none of the rows is like the one more, and no two of them alike are two, so it is with it
+one_of_more : (rows : List Request) (row : Request) (alike : Request → Request → Type 0) →
+    ((a b : Request) → In a rows → In b rows → alike a b → a ≡ b) →
+    ((a : Request) → In a rows → alike a row → ⊥) → ((a : Request) → In a rows → alike row a → ⊥) →
+    (a b : Request) → In a (rows ++ row ∷ []) → In b (rows ++ row ∷ []) → alike a b → a ≡ b
+one_of_more rows row alike old before after a b i j e = elim (In-push a rows row i) [
+  | inl x ↦ elim (In-push b rows row j) [
+    | inl y ↦ old a b x y e
+    | inr y ↦ absurd (before a x (subst (alike a) (sym y) e))
+  ]
+  | inr x ↦ elim (In-push b rows row j) [
+    | inl y ↦ absurd (after b y (subst (λ z. alike z b) (sym x) e))
+    | inr y ↦ sym x ∙ y
+  ]
+]
+
 -- with a row more that fits
-pub well_formed_with_row : (day : ℕ) (merchants : List Merchant) (rows : List Request)
-    (row : Request) →
+pub well_formed_with_row : {day : ℕ} {merchants : List Merchant} {rows : List Request}
+    {row : Request} →
     IsWellFormed day merchants rows → IsFit day merchants rows row →
     IsWellFormed day merchants (rows ++ row ∷ [])
-well_formed_with_row day merchants rows row k f = record {
-  keys = λ a b i j e. elim (In-push a rows row i) [
-    | inl old ↦ elim (In-push b rows row j) [
-      | inl older ↦ k.keys a b old older e
-      | inr new ↦ absurd (f.new a old (e ∙ ap (λ x. x.key) (sym new)))
-    ]
-    | inr new ↦ elim (In-push b rows row j) [
-      | inl old ↦ absurd (f.new b old (sym e ∙ ap (λ x. x.key) (sym new)))
-      | inr newer ↦ sym new ∙ newer
-    ]
-  ];
-  references = λ a b n i j m e g. elim (In-push a rows row i) [
-    | inl old ↦ elim (In-push b rows row j) [
-      | inl older ↦ k.references a b n old older m e g
-      | inr new ↦ absurd (fresh a n old e (m ∙ ap (λ x. x.key.merchant) (sym new))
-          (ap (λ x. x.reference) new ∙ g))
-    ]
-    | inr new ↦ elim (In-push b rows row j) [
-      | inl old ↦ absurd (fresh b n old g (sym m ∙ ap (λ x. x.key.merchant) (sym new))
-          (ap (λ x. x.reference) new ∙ e))
-      | inr newer ↦ sym new ∙ newer
-    ]
-  ];
+well_formed_with_row {day} {merchants} {rows} {row} k f = record {
+  keys = one_of_more rows row (λ a b. a.key ≡ b.key) k.keys f.new (λ a i e. f.new a i (sym e));
+  references = λ a b n i j m e g.
+      one_of_more rows row
+      (λ x y. (x.key.merchant ≡ y.key.merchant) × (x.reference ≡ Some n) × (y.reference ≡ Some n))
+      (λ x y p q s. k.references x y n p q s.0 s.1 s.2) (λ x p s. fresh x n p s.1 s.0 s.2)
+      (λ x p s. fresh x n p s.2 (sym s.0) s.1) a b i j (m, e, g);
   given = λ a n i e. elim (In-push a rows row i) [
     | inl old ↦ IsGiven-push merchants rows row a.key.merchant n (k.given a n old e)
     | inr new ↦
@@ -238,33 +236,14 @@ well_formed_with_row day merchants rows row k f = record {
         (IsHeld-push rows row row.key.merchant n
         (f.held n (subst (λ x. IsCompleting x x.key.merchant n) (sym new) c)))
   ];
-  one_completion = λ a b n i j c d. elim (In-push a rows row i) [
-    | inl old ↦ elim (In-push b rows row j) [
-      | inl older ↦ k.one_completion a b n old older c d
-      | inr new ↦
-          absurd (f.only a n old
-          (record {
-            merchant = refl;
-            service = ap (λ x. x.key.service) new ∙ d.service;
-            follows = ap (λ x. x.follows) new ∙ d.follows;
-          }) (record {
-            merchant = sym (ap (λ x. x.key.merchant) new ∙ d.merchant);
-            service = c.service;
-            follows =
-                c.follows;
-          }))
-    ]
-    | inr new ↦ elim (In-push b rows row j) [
-      | inl old ↦
-          absurd (f.only b n old (subst (λ x. IsCompleting x x.key.merchant n) (sym new) c)
-          (record {
-            merchant = d.merchant ∙ ap (λ x. x.key.merchant) (sym new);
-            service = d.service;
-            follows = d.follows;
-          }))
-      | inr newer ↦ sym new ∙ newer
-    ]
-  ];
+  one_completion = λ a b n i j c d.
+      one_of_more rows row
+      (λ x y. IsCompleting x x.key.merchant n × IsCompleting y x.key.merchant n)
+      (λ x y p q s. k.one_completion x y n p q s.0 s.1)
+      (λ x p s. f.only x n p
+      (record { merchant = refl; service = s.1.service; follows = s.1.follows })
+      (record { merchant = sym s.1.merchant; service = s.0.service; follows = s.0.follows }))
+      (λ x p s. f.only x n p s.0 s.1) a b i j (c, d);
   legs = λ a i s. elim (In-push a rows row i) [
     | inl old ↦ k.legs a old s
     | inr new ↦ subst (λ x. is_reversal_leg x.leg ≡ false) new
@@ -295,208 +274,146 @@ well_formed_with_row day merchants rows row k f = record {
 
 -- ---- a row changed
 
--- a row and what it is changed to: another status, perhaps another reply and end
-pub record IsChange (p q : Request) : Type 0 where
-  pub key : q.key ≡ p.key
-  pub reference : q.reference ≡ p.reference
-  pub follows : q.follows ≡ p.follows
-  pub leg : q.leg ≡ p.leg
-  pub day : q.day ≡ p.day
-  pub amount : q.amount ≡ p.amount
-  pub card : q.card ≡ p.card
-
 -- rows in which one was changed so
 pub record IsReplaced (rows later : List Request) (p q : Request) : Type 0 where
   pub before : (x : Request) → In x later → (In x rows × (x.key ≡ p.key → ⊥)) ⊎ (q ≡ x)
   pub after : (x : Request) → In x rows → In x later ⊎ (p ≡ x)
   pub changed : In q later
-  pub admitted : (m : List ℕ) → admitted_by m later ≡ admitted_by m rows
 
--- with a row changed
-pub well_formed_changed : (day : ℕ) (merchants : List Merchant) (rows later : List Request)
-    (p q : Request) →
-    In p rows → IsChange p q → (p.status ≡ Completed → ⊥) → IsReplaced rows later p q →
-    IsWellFormed day merchants rows → IsWellFormed day merchants later
-well_formed_changed day merchants rows later p q member c incomplete r k = record {
-  keys = λ a b i j e. elim (r.before a i) [
-    | inl old ↦ elim (r.before b j) [
-      | inl older ↦ k.keys a b old.0 older.0 e
-      | inr new ↦ absurd (old.1 (e ∙ (ap (λ x. x.key) (sym new) ∙ c.key)))
-    ]
-    | inr new ↦ elim (r.before b j) [
-      | inl old ↦ absurd (old.1 (sym e ∙ (ap (λ x. x.key) (sym new) ∙ c.key)))
-      | inr newer ↦ sym new ∙ newer
-    ]
+-- the rows in which the one with its key was changed
+pub replaced : {day : ℕ} {merchants : List Merchant} (rows : List Request) (p : Request)
+    (changed : Request → Request) →
+    In p rows → Edits changed → IsWellFormed day merchants rows →
+    IsReplaced rows (with_changed p.key changed rows) p (changed p)
+replaced rows p changed member edits kept = record {
+  before = λ x i. elim (changed_is p.key changed rows x i) [
+    | Other old other ↦ inl (old, other)
+    | Made y old e made ↦ inr (ap changed (kept.keys p y member old (sym e)) ∙ made)
   ];
-  references = λ a b n i j m e g. elim (r.before a i) [
-    | inl old ↦ elim (r.before b j) [
-      | inl older ↦ k.references a b n old.0 older.0 m e g
-      | inr new ↦
-          absurd (old.1
-          (ap (λ x. x.key)
-          (k.references a p n old.0 member
-          (m ∙ (ap (λ x. x.key.merchant) (sym new) ∙ ap (λ x. x.merchant) c.key)) e
-          (sym c.reference ∙ (ap (λ x. x.reference) new ∙ g)))))
-    ]
-    | inr new ↦ elim (r.before b j) [
-      | inl old ↦
-          absurd (old.1
-          (ap (λ x. x.key)
-          (k.references b p n old.0 member
-          (sym m ∙ (ap (λ x. x.key.merchant) (sym new) ∙ ap (λ x. x.merchant) c.key)) g
-          (sym c.reference ∙ (ap (λ x. x.reference) new ∙ e)))))
-      | inr newer ↦ sym new ∙ newer
-    ]
-  ];
-  given = λ a n i e. elim (r.before a i) [
-    | inl old ↦ still a.key.merchant n (k.given a n old.0 e)
-    | inr new ↦
-        still a.key.merchant n
-        (subst (λ m. IsGiven merchants rows m n)
-        (sym (ap (λ x. x.merchant) c.key) ∙ ap (λ x. x.key.merchant) new)
-        (k.given p n member (sym c.reference ∙ (ap (λ x. x.reference) new ∙ e))))
-  ];
-  admissible = λ a n i e. elim (r.before a i) [
-    | inl old ↦ k.admissible a n old.0 e
-    | inr new ↦
-        subst (λ s. is_admissible s ≡ true)
-        (sym (ap (λ x. x.service) c.key) ∙ ap (λ x. x.key.service) new)
-        (k.admissible p n member (sym c.reference ∙ (ap (λ x. x.reference) new ∙ e)))
-  ];
-  held = λ a n i d. elim (r.before a i) [
-    | inl old ↦ still_held a.key.merchant n (k.held a n old.0 d)
-    | inr new ↦
-        still_held a.key.merchant n
-        (subst (λ m. IsHeld rows m n) (same_merchant a new)
-        (k.held p n member
-        (earlier a p.key.merchant n new
-        (record {
-          merchant = sym (same_merchant a new);
-          service = d.service;
-          follows =
-              d.follows;
-        }))))
-  ];
-  one_completion = λ a b n i j d e. elim (r.before a i) [
-    | inl old ↦ elim (r.before b j) [
-      | inl older ↦ k.one_completion a b n old.0 older.0 d e
-      | inr new ↦
-          absurd (old.1
-          (ap (λ x. x.key)
-          (k.one_completion a p n old.0 member d (earlier b a.key.merchant n new e))))
-    ]
-    | inr new ↦ elim (r.before b j) [
-      | inl old ↦
-          absurd (old.1
-          (ap (λ x. x.key)
-          (k.one_completion b p n old.0 member
-          (record { merchant = refl; service = e.service; follows = e.follows })
-          (earlier a b.key.merchant n new
-          (record { merchant = sym e.merchant; service = d.service; follows = d.follows })))))
-      | inr newer ↦ sym new ∙ newer
-    ]
-  ];
-  legs = λ a i s. elim (r.before a i) [
-    | inl old ↦ k.legs a old.0 s
-    | inr new ↦
-        subst (λ l. is_reversal_leg l ≡ false) (sym c.leg ∙ ap (λ x. x.leg) new)
-        (k.legs p member
-        (ap is_reversal (ap (λ x. x.service) (sym c.key) ∙ ap (λ x. x.key.service) new) ∙ s))
-  ];
-  days = λ a i. elim (r.before a i) [
-    | inl old ↦ k.days a old.0
-    | inr new ↦ subst (λ d. d ≤ day) (sym c.day ∙ ap (λ x. x.day) new) (k.days p member)
-  ];
-}
-  where
-    still : (m : List ℕ) (n : ℕ) → IsGiven merchants rows m n → IsGiven merchants later m n
-    still m n g =
-        record {
-          merchant = g.merchant;
-          enrolled = g.enrolled;
-          below = let below = g.below in let same = r.admitted m in
-              omega arith;
-        }
-
-    still_held : (m : List ℕ) (n : ℕ) → IsHeld rows m n → IsHeld later m n
-    still_held m n h = elim (r.after h.hold h.member) [
-      | inl stays ↦
-          record {
-            hold = h.hold;
-            member = stays;
-            merchant = h.merchant;
-            service = h.service;
-            reference = h.reference;
-            completed = h.completed;
-          }
-      | inr same ↦ absurd (incomplete (ap (λ x. x.status) same ∙ h.completed))
-    ]
-
-    same_merchant : (a : Request) → q ≡ a → p.key.merchant ≡ a.key.merchant
-    same_merchant a new = sym (ap (λ x. x.merchant) c.key) ∙ ap (λ x. x.key.merchant) new
-
-    -- the changed row completed before what it completes
-    earlier : (a : Request) (m : List ℕ) (n : ℕ) → q ≡ a → IsCompleting a m n → IsCompleting p m n
-    earlier a m n new d = record {
-      merchant = sym (ap (λ x. x.merchant) c.key) ∙ (ap (λ x. x.key.merchant) new ∙ d.merchant);
-      service = sym (ap (λ x. x.service) c.key) ∙ (ap (λ x. x.key.service) new ∙ d.service);
-      follows = sym c.follows ∙ (ap (λ x. x.follows) new ∙ d.follows);
-    }
-
--- ---- what a change by key replaces
-
--- a change that keeps keys and references keeps the counts
-admitted-changed : (m : List ℕ) (u : Request → Request) → ((x : Request) → (u x).key ≡ x.key) →
-    ((x : Request) → (u x).reference ≡ x.reference) → (rows : List Request) →
-    admitted_by m (map u rows) ≡ admitted_by m rows
-admitted-changed m u k r [] = refl
-admitted-changed m u k r (x ∷ xs) =
-    let rest = admitted-changed m u k r xs in
-    ap (λ b. admitted_in (cond b (u x ∷ requests_of m (map u xs)) (requests_of m (map u xs))))
-    (ap (λ key. bytes_eq key.merchant m) (k x))
-    ∙ elim (bytes_eq x.key.merchant m) as (λ b.
-    admitted_in (cond b (u x ∷ requests_of m (map u xs)) (requests_of m (map u xs)))
-    ≡ admitted_in (cond b (x ∷ requests_of m xs) (requests_of m xs))) [
-      | true ↦
-          ap (λ o. cond (is_some o) (1 + admitted_by m (map u xs)) (admitted_by m (map u xs))) (r x)
-          ∙ ap (λ n. cond (is_some x.reference) (1 + n) n) rest
-      | false ↦ rest
-    ]
-
--- the rows in which the one with a key was changed
-pub replaced : (day : ℕ) (merchants : List Merchant) (rows : List Request) (p : Request)
-    (key : RequestKey)
-    (changed : Request → Request) → In p rows → p.key ≡ key →
-    ((x : Request) → (changed x).key ≡ x.key) →
-    ((x : Request) → (changed x).reference ≡ x.reference) → IsWellFormed day merchants rows →
-    IsReplaced rows (with_changed key changed rows) p (changed p)
-replaced day merchants rows p key changed member same k r kept = record {
-  before = λ x i. elim (changed_is key changed rows x i) [
-    | Other old other ↦ inl (old, (λ e. other (e ∙ same)))
-    | Made y old e made ↦ inr (ap changed (kept.keys p y member old (same ∙ sym e)) ∙ made)
-  ];
-  after = λ x i. step x i (same_key x.key key) refl;
+  after = λ x i. step x i (same_key x.key p.key) refl;
   changed =
-      subst (λ x. In x (map u rows)) (ap (λ b. cond b (changed p) p) (same_key_from p.key key same))
+      subst (λ x. In x (map u rows)) (ap (λ b. cond b (changed p) p) (same_key_itself p.key))
       (In-map u p rows member);
-  admitted =
-      λ m. admitted-changed m u (λ x. cond_key x (same_key x.key key))
-      (λ x. cond_reference x (same_key x.key key)) rows;
 }
   where
     u : Request → Request
-    u = λ row. cond (same_key row.key key) (changed row) row
+    u = changing p.key changed
 
-    step : (x : Request) → In x rows → (b : Bool) → same_key x.key key ≡ b →
-        In x (with_changed key changed rows) ⊎ (p ≡ x)
-    step x i true e = inr (kept.keys p x member i (same ∙ sym (same_key_is x.key key e)))
+    step : (x : Request) → In x rows → (b : Bool) → same_key x.key p.key ≡ b →
+        In x (with_changed p.key changed rows) ⊎ (p ≡ x)
+    step x i true e = inr (kept.keys p x member i (sym (same_key_is x.key p.key e)))
     step x i false e =
         inl (subst (λ y. In y (map u rows)) (ap (λ b. cond b (changed x) x) e) (In-map u x rows i))
 
-    cond_key : (x : Request) (b : Bool) → (cond b (changed x) x).key ≡ x.key
-    cond_key x true = k x
-    cond_key x false = refl
+-- the row that one of the later rows was made of
+record IsMadeOf (rows : List Request) (u : Request → Request) (x : Request) : Type 0 where
+  row : Request
+  member : In row rows
+  made : u row ≡ x
+  change : IsChange row x
 
-    cond_reference : (x : Request) (b : Bool) → (cond b (changed x) x).reference ≡ x.reference
-    cond_reference x true = r x
-    cond_reference x false = refl
+-- a completion was one before
+completed_before : {rows : List Request} {u : Request → Request} {x : Request}
+    (o : IsMadeOf rows u x) (m : List ℕ) (n : ℕ) → IsCompleting x m n → IsCompleting o.row m n
+completed_before o m n c = record {
+  merchant = sym (ap (λ k. k.merchant) o.change.key) ∙ c.merchant;
+  service = sym (ap (λ k. k.service) o.change.key) ∙ c.service;
+  follows = sym o.change.follows ∙ c.follows;
+}
+
+-- with a row changed that is no completed hold
+pub well_formed_changed : {day : ℕ} {merchants : List Merchant} {rows : List Request} (p : Request)
+    (changed : Request → Request) →
+    In p rows → Edits changed → (p.status ≡ Completed → ⊥) → IsWellFormed day merchants rows →
+    IsWellFormed day merchants (with_changed p.key changed rows)
+well_formed_changed {day} {merchants} {rows} p changed member edits incomplete k = record {
+  keys = λ a b i j e.
+      let x = of a i in
+      let y = of b j in
+      one a b x y (k.keys x.row y.row x.member y.member (sym x.change.key ∙ (e ∙ y.change.key)));
+  references = λ a b n i j m e g.
+      let x = of a i in
+      let y = of b j in
+      one a b x y
+      (k.references x.row y.row n x.member y.member
+      (sym (ap (λ z. z.merchant) x.change.key) ∙ (m ∙ ap (λ z. z.merchant) y.change.key))
+      (sym x.change.reference ∙ e) (sym y.change.reference ∙ g));
+  given = λ a n i e.
+      let x = of a i in
+      let g = k.given x.row n x.member (sym x.change.reference ∙ e) in
+      subst (λ z. IsGiven merchants (with_changed p.key changed rows) z.merchant n)
+      (sym x.change.key)
+      (record {
+        merchant = g.merchant;
+        enrolled = g.enrolled;
+        below = let below = g.below in let same = admitted x.row.key.merchant in omega arith;
+      });
+  admissible = λ a n i e.
+      let x = of a i in
+      subst (λ z. is_admissible z.service ≡ true) (sym x.change.key)
+      (k.admissible x.row n x.member (sym x.change.reference ∙ e));
+  held = λ a n i c.
+      let x = of a i in
+      let same : a.key.merchant ≡ x.row.key.merchant = ap (λ z. z.merchant) x.change.key in
+      let h = k.held x.row n x.member
+      (completed_before x x.row.key.merchant n
+      (record { merchant = same; service = c.service; follows = c.follows })) in
+      record {
+        hold = h.hold;
+        member = stays h.hold h.member h.completed;
+        merchant = h.merchant ∙ sym same;
+        service = h.service;
+        reference = h.reference;
+        completed = h.completed;
+      };
+  one_completion = λ a b n i j c d.
+      let x = of a i in
+      let y = of b j in
+      let same : a.key.merchant ≡ x.row.key.merchant = ap (λ z. z.merchant) x.change.key in
+      one a b x y
+      (k.one_completion x.row y.row n x.member y.member
+      (completed_before x x.row.key.merchant n
+      (record { merchant = same; service = c.service; follows = c.follows }))
+      (completed_before y x.row.key.merchant n
+      (record { merchant = d.merchant ∙ same; service = d.service; follows = d.follows })));
+  legs = λ a i s.
+      let x = of a i in
+      ap is_reversal_leg x.change.leg
+      ∙ k.legs x.row x.member (ap (λ z. is_reversal z.service) (sym x.change.key) ∙ s);
+  days = λ a i.
+      let x = of a i in subst (λ d. d ≤ day) (sym x.change.day) (k.days x.row x.member);
+}
+  where
+    u : Request → Request
+    u = changing p.key changed
+
+    of : (x : Request) → In x (with_changed p.key changed rows) →
+        IsMadeOf rows (changing p.key changed) x
+    of x i =
+        let o = In-mapped u x rows i in
+        record {
+          row = o.0;
+          member = o.1;
+          made = o.2;
+          change = subst (IsChange o.0) o.2 (changing_kept p.key changed edits o.0);
+        }
+
+    one : (a b : Request) (x : IsMadeOf rows (changing p.key changed) a)
+        (y : IsMadeOf rows (changing p.key changed) b) → x.row ≡ y.row → a ≡ b
+    one a b x y e = sym x.made ∙ (ap u e ∙ y.made)
+
+    admitted : (m : List ℕ) →
+        admitted_by m (with_changed p.key changed rows) ≡ admitted_by m rows
+    admitted m =
+        ap admitted_in (requests_of-changed m p.key changed edits rows)
+        ∙ (count-view u (λ x. is_some x.reference) (requests_of m rows)
+        ∙ count-same (λ x. is_some (u x).reference) (λ x. is_some x.reference)
+        (λ x. ap is_some (changing_kept p.key changed edits x).reference) (requests_of m rows))
+
+    -- a completed hold is not the row that is changed
+    stays : (x : Request) → In x rows → x.status ≡ Completed →
+        In x (with_changed p.key changed rows)
+    stays x i done = elim ((replaced rows p changed member edits k).after x i) [
+      | inl there ↦ there
+      | inr same ↦ absurd (incomplete (ap (λ z. z.status) same ∙ done))
+    ]

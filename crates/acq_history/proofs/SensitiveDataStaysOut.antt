@@ -1,6 +1,6 @@
 -- No row keeps a track, a PIN block or chip data, and no reply has them, whatever comes.
 use Rattle.std.proofs.Common.{◌≡◌, ℕ, List, [], ◌∷◌, ◌++◌, Option, Some, None, Bool, true, false}
-use Rattle.std.proofs.Common.{eqb, ltb, inl, inr, refl, ap, ◌∙◌, subst, arith}
+use Rattle.std.proofs.Common.{eqb, ltb, inl, inr, refl, ap, ◌∙◌, subst, arith, sym}
 use Rattle.std.specs.Prelude.{All, IfSome, filter, option_map, not, codes, ◌||◌, if◌then◌else◌}
 use Rattle.std.specs.Option.{option_or}
 use Rattle.std.specs.List.{list_all, list_any}
@@ -12,10 +12,7 @@ use Rattle.iso_codec.specs.Table.{format_of}
 use Rattle.iso_codec.specs.Message.{IsoMessage, IsMessage, IsKind, numbers, Ascends, is_element}
 use Rattle.iso_codec.specs.Message.{content_of, is_among}
 use Rattle.acq_message.specs.declared.service.Service.{Service}
-use Rattle.acq_message.specs.declared.service.Service.TheVariants.{Authorization, Financial}
-use Rattle.acq_message.specs.declared.service.Service.TheVariants.{Completion, Reversal}
-use Rattle.acq_message.specs.declared.service.Service.TheVariants.{ReversalAdvice, Reconciliation}
-use Rattle.acq_message.specs.declared.service.Service.TheVariants.{NetworkManagement}
+use Rattle.acq_message.specs.declared.service.Service.TheVariants.{Authorization}
 use Rattle.acq_message.specs.Services.{digits_of}
 use Rattle.acq_message.specs.Cards.{card_of, track_in, track_of}
 use Rattle.acq_message.specs.Elements.{essential, element_if, essence_of}
@@ -23,18 +20,23 @@ use Rattle.acq_core.specs.declared.arrival.Arrival.{Arrival}
 use Rattle.acq_core.specs.declared.request.Request.{Request}
 use Rattle.acq_core.specs.Changes.{change_of}
 use Rattle.acq_core.specs.Tables.{Tables, new_tables, known_in, after_any, step_tables}
-use Rattle.acq_core.specs.Tables.{tables_after}
+use Rattle.acq_core.specs.Tables.{tables_after, with_changed}
 use Rattle.acq_history.proofs.Lookups.{or_true}
 use Rattle.acq_history.specs.Replies.{reply_elements, IsReplyText}
 use Rattle.acq_history.specs.CardData.{sensitive_elements, IsEssence, may_be_acquirer}
 use Rattle.acq_history.specs.CardData.{KeepsNoSensitiveData, SpellsNoSensitiveData}
 use Rattle.acq_history.specs.CardData.{SensitiveDataStaysOut}
-use Rattle.acq_history.proofs.StepCases.{by_step}
+use Rattle.acq_history.proofs.StepCases.{by_step, IsRecording}
 use Rattle.acq_history.proofs.Arrivals.{IsArrival, kept_by_events}
-use Rattle.acq_history.proofs.RowsWithChanges.{All-with_changed, All-member}
+use Rattle.acq_history.proofs.RowsWithChanges.{All-with_changed, All-member, Edits, followed_kept}
+use Rattle.acq_history.proofs.RowsWithChanges.{answered_kept}
 use Rattle.acq_history.proofs.ContentsFit.{content-fits}
 use Rattle.acq_history.proofs.ReplyBodies.{all_weaker, among_passes, kept_ascends}
 use Rattle.acq_history.proofs.RepliesAreMessages.{IsRowReply, replies_are_messages}
+use Rattle.acq_history.proofs.Runs.{kept}
+use Rattle.acq_message.specs.declared.request_key.RequestKey.{RequestKey}
+use Rattle.acq_core.specs.declared.merchant.Merchant.{Merchant}
+use Rattle.acq_message.specs.declared.request_message.RequestMessage.{RequestMessage}
 
 -- ---- elements
 
@@ -126,12 +128,7 @@ acquirer-fits m whole (Some text) e = acquirer_in_element text (content-fits m 3
 -- the type of an essence
 essence_kind : (service : Service) → IsKind (digits_of service ++ codes "0")
 essence_kind Authorization = record { size = refl; digits = refl }
-essence_kind Financial = record { size = refl; digits = refl }
-essence_kind Completion = record { size = refl; digits = refl }
-essence_kind Reversal = record { size = refl; digits = refl }
-essence_kind ReversalAdvice = record { size = refl; digits = refl }
-essence_kind Reconciliation = record { size = refl; digits = refl }
-essence_kind NetworkManagement = record { size = refl; digits = refl }
+essence_kind service = record { size = refl; digits = refl }
 
 -- elements that all stand above 2
 above_two : (es : List (ℕ × List ℕ)) → Ascends 1 (numbers es) →
@@ -200,6 +197,28 @@ record IsClean (row : Request) : Type 0 where
 abbrev AreClean : Tables → Type 0
 AreClean t = All IsClean t.requests
 
+-- a request's row, with its own card or that of its hold
+clean_row : (r : RequestMessage) (row : Request) → IsMessage r.message →
+    row.essence ≡ essence_of r.service r.message →
+    row.acquirer ≡ content_of r.message.elements 32 → IsNumber row.card → IsClean row
+clean_row r row whole essence acquirer card = record {
+  essence = subst IsEssence (sym essence) (essence_of-is r.service r.message whole);
+  card = card;
+  acquirer = acquirer-fits r.message whole row.acquirer (sym acquirer);
+}
+
+-- a change keeps what a row keeps of its request
+clean_changed : (key : RequestKey) (changed : Request → Request) → Edits changed →
+    (rows : List Request) → All IsClean rows → All IsClean (with_changed key changed rows)
+clean_changed key changed edits rows =
+    All-with_changed IsClean key changed rows (λ x same p. record {
+      essence = subst IsEssence (sym (edits x).essence) p.essence;
+      card = subst IsNumber (sym (edits x).card) p.card;
+      acquirer =
+          subst (λ o. IfSome o (λ text. may_be_acquirer text ≡ true)) (sym (edits x).acquirer)
+          p.acquirer;
+    })
+
 step : (t : Tables) (a : Arrival) → IsArrival a → AreClean t → AreClean (step_tables t a)
 step t a is h =
     by_step t a (λ d. AreClean (after_any t (change_of (known_in t a) d)))
@@ -208,51 +227,37 @@ step t a is h =
       malformed = λ r came. h;
       replied = λ r came given hosts. h;
       repeated = λ row member. h;
-      refused = λ r came merchant g given hosts.
-          All-push IsClean t.requests _ h (record {
-            essence = essence_of-is r.service r.message (subst IsArrival came is).message;
-            card = card_of-number r.message (subst IsArrival came is).message;
-            acquirer = acquirer-fits r.message (subst IsArrival came is).message _ refl;
-          });
-      admitted = λ r came merchant g service amount room range held.
-          All-push IsClean t.requests _ h (record {
-            essence = essence_of-is r.service r.message (subst IsArrival came is).message;
-            card = card_of-number r.message (subst IsArrival came is).message;
-            acquirer = acquirer-fits r.message (subst IsArrival came is).message _ refl;
-          });
-      completed = λ r came merchant g service amount room hold own.
-          All-push IsClean _ _
-          (All-with_changed IsClean hold.key _ t.requests
-          (λ x same p. record { essence = p.essence; card = p.card; acquirer = p.acquirer }) h)
-          (record {
-            essence = essence_of-is r.service r.message (subst IsArrival came is).message;
-            card = (All-member IsClean t.requests hold h own.member).card;
-            acquirer = acquirer-fits r.message (subst IsArrival came is).message _ refl;
-          });
-      reversed = λ r came merchant g service room row own.
-          All-push IsClean _ _
-          (All-with_changed IsClean row.key _ t.requests
-          (λ x same p. record { essence = p.essence; card = p.card; acquirer = p.acquirer }) h)
-          (record {
-            essence = essence_of-is r.service r.message (subst IsArrival came is).message;
-            card = card_of-number r.message (subst IsArrival came is).message;
-            acquirer = acquirer-fits r.message (subst IsArrival came is).message _ refl;
-          });
-      reconciled = λ r came merchant g service day on.
-          All-push IsClean t.requests _ h (record {
-            essence = essence_of-is r.service r.message (subst IsArrival came is).message;
-            card = card_of-number r.message (subst IsArrival came is).message;
-            acquirer = acquirer-fits r.message (subst IsArrival came is).message _ refl;
-          });
-      answered = λ moment merchant reference v came row member pending n under.
-          All-with_changed IsClean row.key _ t.requests
-          (λ x same p. record { essence = p.essence; card = p.card; acquirer = p.acquirer }) h;
-      cut_over = λ before. h;
-      range_added = λ range valid free. h;
-      range_dropped = λ low high. h;
+      refused = λ r merchant g given hosts.
+          All-push IsClean t.requests _ h (own r merchant g _ refl refl refl);
+      admitted = λ r merchant g range c.
+          All-push IsClean t.requests _ h (own r merchant g _ refl refl refl);
+      completed = λ r merchant g hold c.
+          All-push IsClean _ _ (clean_changed hold.key _ (followed_kept _) t.requests h)
+          (clean_row r _ (whole r merchant g) refl refl
+          (All-member IsClean t.requests hold h c.member).card);
+      reversed = λ r merchant g row c.
+          All-push IsClean _ _ (clean_changed row.key _ (followed_kept _) t.requests h)
+          (own r merchant g _ refl refl refl);
+      reconciled = λ r merchant g day c.
+          All-push IsClean t.requests _ h (own r merchant g _ refl refl refl);
+      answered = λ moment v row c. clean_changed row.key _ (answered_kept _ _ _) t.requests h;
+      cut_over = λ came before. h;
+      range_added = λ range came valid free. h;
+      range_dropped = λ low high came. h;
       enrolled = λ merchant came new. h;
       terminal_added = λ terminal came new. h;
     })
+  where
+    whole : (r : RequestMessage) (merchant : Merchant) → IsRecording t a r merchant →
+        IsMessage r.message
+    whole r merchant g = (subst IsArrival g.came is).message
+
+    own : (r : RequestMessage) (merchant : Merchant) → IsRecording t a r merchant →
+        (row : Request) → row.essence ≡ essence_of r.service r.message →
+        row.acquirer ≡ content_of r.message.elements 32 → row.card ≡ card_of r.message → IsClean row
+    own r merchant g row essence acquirer card =
+        clean_row r row (whole r merchant g) essence acquirer
+        (subst IsNumber (sym card) (card_of-number r.message (whole r merchant g)))
 
 -- with what replies have
 with_reply : (row : Request) → IsClean row → IsRowReply row → KeepsNoSensitiveData row

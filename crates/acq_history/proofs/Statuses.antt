@@ -2,9 +2,7 @@
 use Rattle.std.proofs.Common.{◌≡◌, true, refl}
 use Rattle.iso_codec.specs.Message.{IsoMessage}
 use Rattle.acq_core.specs.declared.status.Status.{Status}
-use Rattle.acq_core.specs.declared.status.Status.TheVariants.{Refused, Pending, Declined, Approved}
-use Rattle.acq_core.specs.declared.status.Status.TheVariants.{Completed, Reversed, ReversedPending}
-use Rattle.acq_core.specs.declared.status.Status.TheVariants.{Reconciled}
+use Rattle.acq_core.specs.declared.status.Status.TheVariants.{Pending, Approved}
 use Rattle.acq_core.specs.declared.reply_state.ReplyState.TheVariants.{Awaited}
 use Rattle.acq_core.specs.Tables.{reply_state_of, is_approved}
 
@@ -12,20 +10,8 @@ pub reply_state_of-awaited : (s : Status) (reply draft : IsoMessage) →
     reply_state_of s reply ≡ Awaited draft →
     s ≡ Pending
 reply_state_of-awaited Pending reply draft e = refl
-reply_state_of-awaited Refused reply draft e = absurd (cc)
-reply_state_of-awaited Declined reply draft e = absurd (cc)
-reply_state_of-awaited Approved reply draft e = absurd (cc)
-reply_state_of-awaited Completed reply draft e = absurd (cc)
-reply_state_of-awaited Reversed reply draft e = absurd (cc)
-reply_state_of-awaited ReversedPending reply draft e = absurd (cc)
-reply_state_of-awaited Reconciled reply draft e = absurd (cc)
+reply_state_of-awaited status reply draft e = absurd (cc)
 
 pub is_approved_is : (s : Status) → is_approved s ≡ true → s ≡ Approved
 is_approved_is Approved e = refl
-is_approved_is Refused e = absurd (cc)
-is_approved_is Pending e = absurd (cc)
-is_approved_is Declined e = absurd (cc)
-is_approved_is Completed e = absurd (cc)
-is_approved_is Reversed e = absurd (cc)
-is_approved_is ReversedPending e = absurd (cc)
-is_approved_is Reconciled e = absurd (cc)
+is_approved_is status e = absurd (cc)

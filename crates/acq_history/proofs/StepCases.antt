@@ -1,12 +1,11 @@
 -- By cases over a step: what holds in each case that the tables allow holds of what is decided on
--- them. Where a request
--- is accepted, none of its service's refusals applied.
-use Rattle.std.proofs.Common.{◌≡◌, ℕ, ◌+◌, ◌<◌, List, [], ◌∷◌, Option, Some, None, Bool, true}
+-- them. A case hands out all that the checks have shown.
+use Rattle.std.proofs.Common.{◌≡◌, ℕ, ◌+◌, ◌<◌, ◌≤◌, List, [], ◌∷◌, Option, Some, None, Bool, true}
 use Rattle.std.proofs.Common.{false, refl, sym, ap, ◌∙◌, subst, ltb}
-use Rattle.std.specs.Prelude.{not, nat_lt, ◌==◌, ◌||◌, ◌&&◌, option_and_then, find, if◌then◌else◌}
+use Rattle.std.specs.Prelude.{not, nat_lt, ◌==◌, ◌&&◌, option_and_then, find, if◌then◌else◌}
 use Rattle.std.specs.List.{list_all, list_any}
 use Rattle.std.specs.Str.{bytes_eq}
-use Rattle.std.proofs.lemmas.Bool.{and_parts, ltb-true}
+use Rattle.std.proofs.lemmas.Bool.{and_parts, ltb-true, ltb-false}
 use Rattle.iso_codec.specs.Message.{IsoMessage, content_of}
 use Rattle.card_no.specs.declared.range.Range.{Range}
 use Rattle.card_no.specs.CardNumbers.{is_valid_card}
@@ -30,9 +29,7 @@ use Rattle.acq_core.specs.declared.merchant.Merchant.{Merchant}
 use Rattle.acq_core.specs.declared.terminal.Terminal.{Terminal}
 use Rattle.acq_core.specs.declared.request.Request.{Request}
 use Rattle.acq_core.specs.declared.status.Status.{Status}
-use Rattle.acq_core.specs.declared.status.Status.TheVariants.{Refused, Pending, Declined, Approved}
-use Rattle.acq_core.specs.declared.status.Status.TheVariants.{Completed, Reversed, ReversedPending}
-use Rattle.acq_core.specs.declared.status.Status.TheVariants.{Reconciled}
+use Rattle.acq_core.specs.declared.status.Status.TheVariants.{Pending, ReversedPending}
 use Rattle.acq_core.specs.declared.output.Output.{Output}
 use Rattle.acq_core.specs.declared.output.Output.TheVariants as output
 use Rattle.acq_core.specs.declared.arrival.Arrival.{Arrival}
@@ -56,10 +53,11 @@ use Rattle.acq_core.specs.Tables.{Tables, prior_of, reply_state_of, is_reversibl
 use Rattle.acq_core.specs.Tables.{recorded_in, referred_in, admitted_in, used_in, known_in}
 use Rattle.acq_core.proofs.DecisionCases.{IsFresh}
 use Rattle.acq_history.specs.Entries.{is_admissible, is_reversal}
-use Rattle.acq_history.proofs.Lookups.{or_split, not_false, then_some}
+use Rattle.acq_history.proofs.Lookups.{not_false, then_some}
 use Rattle.acq_history.proofs.Members.{In, In-find}
 use Rattle.acq_history.proofs.RecordableRequests.{WantsByKey, wants_by_key, recordable_some}
 use Rattle.acq_history.proofs.FoundRows.{IsNew, row_of_key, row_of_reference, is_new}
+use Rattle.acq_history.proofs.Keys.{eqb_is}
 
 -- the codes that the host gives of itself, and not in an issuer's words
 abbrev pub is_hosts : ResponseCode → Bool
@@ -73,34 +71,74 @@ is_reply other = false
 
 -- ---- what the tables show
 
--- a request whose key is new, of a merchant that is enrolled
-pub record IsRecording (t : Tables) (r : RequestMessage) (merchant : Merchant) : Type 0 where
-  pub recordable : r.service ≡ NetworkManagement → ⊥
-  pub enrolled : find (λ row. bytes_eq row.id (text_at r.message 42)) t.merchants ≡ Some merchant
-  pub new : IsNew t (key_of r.service r.message)
-
 -- the day of the request's merchant admits one more
 abbrev pub HasRoom : Tables → RequestMessage → Type 0
 HasRoom t r = used_in (requests_of (text_at r.message 42) t.requests) t.day < t.limit
-
--- a hold of the request's merchant that is open when the request comes
-pub record IsOpenHold (t : Tables) (r : RequestMessage) (hold : Request) : Type 0 where
-  pub member : In hold t.requests
-  pub merchant : hold.key.merchant ≡ text_at r.message 42
-  pub number : ℕ
-  pub reference : hold.reference ≡ Some number
-  pub opens : is_open_at r.moment (prior_of hold).hold_end ≡ true
-
--- a row of the request's merchant that can be reversed
-pub record IsOriginal (t : Tables) (r : RequestMessage) (row : Request) : Type 0 where
-  pub member : In row t.requests
-  pub merchant : row.key.merchant ≡ text_at r.message 42
-  pub reversible : is_reversible row.status ≡ true
 
 -- the reference that the request's merchant gives next
 abbrev pub next_reference : Tables → RequestMessage → Merchant → ℕ
 next_reference t r merchant =
     merchant.first_reference + admitted_in (requests_of (text_at r.message 42) t.requests)
+
+-- a request that is recorded: its merchant is enrolled, and its key is new
+pub record IsRecording (t : Tables) (a : Arrival) (r : RequestMessage)
+    (merchant : Merchant) : Type 0 where
+  pub came : a ≡ Requested r
+  pub recordable : r.service ≡ NetworkManagement → ⊥
+  pub enrolled : find (λ row. bytes_eq row.id (text_at r.message 42)) t.merchants ≡ Some merchant
+  pub new : IsNew t (key_of r.service r.message)
+
+-- an authorization, a sale or a return that is admitted
+pub record IsAdmission (t : Tables) (r : RequestMessage) (merchant : Merchant)
+    (range : Range) : Type 0 where
+  pub service : is_admissible r.service ≡ true
+  pub transaction : is_other_transaction merchant r ≡ false
+  pub amount : is_accepted_amount (amount_in r.message) ≡ true
+  pub card : is_valid_card (or_empty (card_of r.message)) ≡ true
+  pub unexpired : is_expired t.day (expiry_of r.message) ≡ false
+  pub held : In range t.ranges
+  pub room : HasRoom t r
+
+-- a completion of a hold of its merchant's that is open when it comes
+pub record IsCompletion (t : Tables) (r : RequestMessage) (merchant : Merchant)
+    (hold : Request) : Type 0 where
+  pub service : r.service ≡ Completion
+  pub transaction : is_other_transaction merchant r ≡ false
+  pub amount : is_accepted_amount (amount_in r.message) ≡ true
+  pub member : In hold t.requests
+  pub own : hold.key.merchant ≡ text_at r.message 42
+  pub number : ℕ
+  pub reference : hold.reference ≡ Some number
+  pub opens : is_open_at r.moment (prior_of hold).hold_end ≡ true
+  pub within : amount_in r.message ≤ hold.amount
+  pub room : HasRoom t r
+
+-- a reversal of a request of its merchant's that can be reversed
+pub record IsReversal (t : Tables) (r : RequestMessage) (row : Request) : Type 0 where
+  pub service : is_reversal r.service ≡ true
+  pub member : In row t.requests
+  pub own : row.key.merchant ≡ text_at r.message 42
+  pub acquirer : fits_acquirer (original_acquirer r.message) row.acquirer ≡ true
+  pub reversible : is_reversible row.status ≡ true
+  pub amount : amount_in r.message ≡ row.amount
+  pub room : HasRoom t r
+
+-- a reconciliation of a day
+pub record IsReconciling (t : Tables) (r : RequestMessage) (day : ℕ) : Type 0 where
+  pub service : r.service ≡ Reconciliation
+  pub resolves : reconciled_day t.day (content_of r.message.elements 15) ≡ Some day
+
+-- an answer to a pending request
+pub record IsAnswering (t : Tables) (a : Arrival) (moment : ℕ) (v : Verdict)
+    (row : Request) : Type 0 where
+  pub merchant : List ℕ
+  pub named : ℕ
+  pub came : a ≡ Answered moment merchant named v
+  pub member : In row t.requests
+  pub own : row.key.merchant ≡ merchant
+  pub number : ℕ
+  pub reference : row.reference ≡ Some number
+  pub pending : row.status ≡ Pending
 
 -- what is to be shown of each decision on what came
 pub record StepCases (t : Tables) (a : Arrival) (P : Decision → Type 0) : Type 0 where
@@ -108,39 +146,28 @@ pub record StepCases (t : Tables) (a : Arrival) (P : Decision → Type 0) : Type
   pub reported : (o : Output) → is_reply o ≡ false → P (Reports o)
   pub malformed : (r : RequestMessage) → a ≡ Malformed r → P (Replies r code.FormatError)
   pub replied : (r : RequestMessage) → a ≡ Requested r → (given : ResponseCode) →
-      is_hosts given ≡ true →
-      P (Replies r given)
+      is_hosts given ≡ true → P (Replies r given)
   pub repeated : (row : Request) → In row t.requests → P (Repeats row.reply)
   -- a request is recorded
-  pub refused : (r : RequestMessage) → a ≡ Requested r → (merchant : Merchant) →
-      IsRecording t r merchant → (given : ResponseCode) →
-      is_hosts given ≡ true → P (Refuses r given)
-  pub admitted : (r : RequestMessage) → a ≡ Requested r → (merchant : Merchant) →
-      IsRecording t r merchant → is_admissible r.service ≡ true →
-      is_accepted_amount (amount_in r.message) ≡ true → HasRoom t r → (range : Range) →
-      In range t.ranges → P (Admits r range (next_reference t r merchant))
-  pub completed : (r : RequestMessage) → a ≡ Requested r → (merchant : Merchant) →
-      IsRecording t r merchant → r.service ≡ Completion →
-      is_accepted_amount (amount_in r.message) ≡ true → HasRoom t r → (hold : Request) →
-      IsOpenHold t r hold →
-      P (Completes r (prior_of hold))
-  pub reversed : (r : RequestMessage) → a ≡ Requested r → (merchant : Merchant) →
-      IsRecording t r merchant → is_reversal r.service ≡ true →
-      HasRoom t r → (row : Request) → IsOriginal t r row → P (Reverses r (prior_of row))
-  pub reconciled : (r : RequestMessage) → a ≡ Requested r → (merchant : Merchant) →
-      IsRecording t r merchant → r.service ≡ Reconciliation →
-      (day : ℕ) → reconciled_day t.day (content_of r.message.elements 15) ≡ Some day →
-      P (Reconciles r day)
+  pub refused : (r : RequestMessage) (merchant : Merchant) → IsRecording t a r merchant →
+      (given : ResponseCode) → is_hosts given ≡ true → P (Refuses r given)
+  pub admitted : (r : RequestMessage) (merchant : Merchant) → IsRecording t a r merchant →
+      (range : Range) → IsAdmission t r merchant range →
+      P (Admits r range (next_reference t r merchant))
+  pub completed : (r : RequestMessage) (merchant : Merchant) → IsRecording t a r merchant →
+      (hold : Request) → IsCompletion t r merchant hold → P (Completes r (prior_of hold))
+  pub reversed : (r : RequestMessage) (merchant : Merchant) → IsRecording t a r merchant →
+      (row : Request) → IsReversal t r row → P (Reverses r (prior_of row))
+  pub reconciled : (r : RequestMessage) (merchant : Merchant) → IsRecording t a r merchant →
+      (day : ℕ) → IsReconciling t r day → P (Reconciles r day)
   -- a pending request is answered
-  pub answered : (moment : ℕ) (merchant : List ℕ) (reference : ℕ) (v : Verdict) →
-      a ≡ Answered moment merchant reference v → (row : Request) → In row t.requests →
-      row.status ≡ Pending →
-      (n : ℕ) → row.reference ≡ Some n → P (Answers moment v (prior_of row) row.reply)
+  pub answered : (moment : ℕ) (v : Verdict) (row : Request) → IsAnswering t a moment v row →
+      P (Answers moment v (prior_of row) row.reply)
   -- what all share, or a merchant's enrolment, is changed
-  pub cut_over : t.day < last_day → P CutsOver
-  pub range_added : (range : Range) → is_valid_range range ≡ true →
+  pub cut_over : a ≡ CutOver → t.day < last_day → P CutsOver
+  pub range_added : (range : Range) → a ≡ RangeAdded range → is_valid_range range ≡ true →
       overlapped_by (between range.low range.high) t.ranges ≡ None → P (AddsRange range)
-  pub range_dropped : (low high : ℕ) → P (DropsRange low high)
+  pub range_dropped : (low high : ℕ) → a ≡ RangeDropped low high → P (DropsRange low high)
   pub enrolled : (merchant : Merchant) → a ≡ Enrolled merchant →
       find (λ row. bytes_eq row.id merchant.id) t.merchants ≡ None → P (Enrols merchant)
   pub terminal_added : (terminal : Terminal) → a ≡ TerminalAdded terminal →
@@ -150,20 +177,24 @@ pub record StepCases (t : Tables) (a : Arrival) (P : Decision → Type 0) : Type
 
 -- ---- requests
 
+-- none of the refusals applies
+abbrev NoneApplies : List (Bool × ResponseCode) → Type 0
+NoneApplies [] = Unit {0}
+NoneApplies (x ∷ xs) = (x.0 ≡ false) × NoneApplies xs
+
 -- one of the refusals, or what is accepted where none applies
-by_refusals : (P : Decision → Type 0) (r : RequestMessage) (refusals : List (Bool × ResponseCode))
+by_checks : (P : Decision → Type 0) (r : RequestMessage) (refusals : List (Bool × ResponseCode))
     (accepted : Decision) → ((given : ResponseCode) → is_hosts given ≡ true → P (Refuses r given)) →
     list_all (λ x. is_hosts x.1) refusals ≡ true →
-    (list_any (λ x. x.0) refusals ≡ false → P accepted) →
+    (NoneApplies refusals → P accepted) →
     P (first_of r refusals accepted)
-by_refusals P r [] accepted refuse all accept = accept refl
-by_refusals P r (x ∷ xs) accepted refuse all accept =
+by_checks P r [] accepted refuse all accept = accept tt
+by_checks P r (x ∷ xs) accepted refuse all accept =
     let parts = and_parts (is_hosts x.1) (list_all (λ y. is_hosts y.1) xs) all in
     let step : (b : Bool) → x.0 ≡ b → P (if b then Refuses r x.1 else first_of r xs accepted) =
     elim [
       | true ↦ (λ e. refuse x.1 parts.0)
-      | false ↦ (λ e. by_refusals P r xs accepted refuse parts.1
-          (λ none. accept (ap (λ b. b || list_any (λ y. y.0) xs) e ∙ none)))
+      | false ↦ (λ e. by_checks P r xs accepted refuse parts.1 (λ none. accept (e, none)))
     ] in
     step x.0 refl
 
@@ -190,8 +221,10 @@ module _ (t : Tables) (r : RequestMessage) (P : Decision → Type 0)
       (recordable_some r.service r recordable)
 
   -- a fresh request is one that is recorded
-  recording : (merchant : Merchant) → IsFresh k r merchant → IsRecording t r merchant
+  recording : (merchant : Merchant) → IsFresh k r merchant →
+      IsRecording t (Requested r) r merchant
   recording merchant fresh = record {
+    came = refl;
     recordable = fresh.recordable;
     enrolled =
         sym (ap (option_and_then (λ id. find (λ row. bytes_eq row.id m) t.merchants))
@@ -212,16 +245,30 @@ module _ (t : Tables) (r : RequestMessage) (P : Decision → Type 0)
       (sym (ap (λ n. nat_lt n t.limit) used) ∙ not_false (nat_lt k.used k.limit) free)
 
   refused : (merchant : Merchant) → IsFresh k r merchant → (given : ResponseCode) →
-      is_hosts given ≡ true →
-      P (Refuses r given)
-  refused merchant fresh = cases.refused r refl merchant (recording merchant fresh)
+      is_hosts given ≡ true → P (Refuses r given)
+  refused merchant fresh = cases.refused r merchant (recording merchant fresh)
+
+  -- the checks of an authorization, a sale or a return by itself, and of a completion
+  abbrev admission_checks : Merchant → List (Bool × ResponseCode)
+  admission_checks merchant =
+      (is_other_transaction merchant r, code.InvalidTransaction)
+      ∷ (not (is_accepted_amount (amount_in r.message)), code.InvalidAmount)
+      ∷ (not (is_valid_card (or_empty (card_of r.message))), code.InvalidCard)
+      ∷ (is_expired k.today (expiry_of r.message), code.ExpiredCard)
+      ∷ []
+
+  abbrev completion_checks : Merchant → List (Bool × ResponseCode)
+  completion_checks merchant =
+      (is_other_transaction merchant r, code.InvalidTransaction)
+      ∷ (not (is_accepted_amount (amount_in r.message)), code.InvalidAmount)
+      ∷ []
 
   by_range : (merchant : Merchant) → IsFresh k r merchant → is_admissible r.service ≡ true →
-      is_accepted_amount (amount_in r.message) ≡ true → (o : Option Range) → k.range ≡ o →
+      NoneApplies (admission_checks merchant) → (o : Option Range) → k.range ≡ o →
       P (admission_in k merchant r o)
-  by_range merchant fresh service amount None is = refused merchant fresh code.NoSuchIssuer refl
-  by_range merchant fresh service amount (Some range) is =
-      by_refusals P r ((is_full k, code.LimitExceeded) ∷ [])
+  by_range merchant fresh service checked None is = refused merchant fresh code.NoSuchIssuer refl
+  by_range merchant fresh service checked (Some range) is =
+      by_checks P r ((is_full k, code.LimitExceeded) ∷ [])
       (Admits r range (merchant.first_reference + k.admitted))
       (refused merchant fresh) refl
       (λ none.
@@ -230,57 +277,53 @@ module _ (t : Tables) (r : RequestMessage) (P : Decision → Type 0)
       subst (λ n. P (Admits r range (merchant.first_reference + n)))
       (sym (ap (number_if (admitted_in (requests_of m t.requests)))
       (wants fresh.recordable).merchant))
-      (cases.admitted r refl merchant (recording merchant fresh) service amount
-      (room merchant fresh (or_split (is_full k) false none).0) range
-      (In-find (holds_prefix prefix.0) t.ranges range prefix.2).0))
+      (cases.admitted r merchant (recording merchant fresh) range (record {
+        service = service;
+        transaction = checked.0;
+        amount = not_false (is_accepted_amount (amount_in r.message)) checked.1.0;
+        card = not_false (is_valid_card (or_empty (card_of r.message))) checked.1.1.0;
+        unexpired = checked.1.1.1.0;
+        held = (In-find (holds_prefix prefix.0) t.ranges range prefix.2).0;
+        room = room merchant fresh none.0;
+      })))
 
   by_admission : (merchant : Merchant) → IsFresh k r merchant → is_admissible r.service ≡ true →
       P (admission k merchant r)
   by_admission merchant fresh service =
-      let card = not (is_valid_card (or_empty (card_of r.message))) in
-      let expired = is_expired k.today (expiry_of r.message) in
-      let amount = not (is_accepted_amount (amount_in r.message)) in
-      by_refusals P r (
-      (is_other_transaction merchant r, code.InvalidTransaction)
-      ∷ (not (is_accepted_amount (amount_in r.message)), code.InvalidAmount)
-      ∷ (not (is_valid_card (or_empty (card_of r.message))), code.InvalidCard)
-      ∷ (is_expired k.today (expiry_of r.message), code.ExpiredCard)
-      ∷ []
-      ) (admission_in k merchant r k.range) (refused merchant fresh) refl
-      (λ none.
-      let later = (or_split (is_other_transaction merchant r)
-      (amount || (card || (expired || false))) none).1 in
-      by_range merchant fresh service
-      (not_false (is_accepted_amount (amount_in r.message))
-      (or_split amount (card || (expired || false)) later).0)
-      k.range refl)
+      by_checks P r (admission_checks merchant) (admission_in k merchant r k.range)
+      (refused merchant fresh) refl
+      (λ none. by_range merchant fresh service none k.range refl)
 
   by_hold : (merchant : Merchant) → IsFresh k r merchant → r.service ≡ Completion →
-      is_accepted_amount (amount_in r.message) ≡ true → (o : Option Prior) → k.referred ≡ o →
+      NoneApplies (completion_checks merchant) → (o : Option Prior) → k.referred ≡ o →
       P (completion_of k r (open_hold r.moment o))
-  by_hold merchant fresh service amount None is = refused merchant fresh code.RecordNotFound refl
-  by_hold merchant fresh service amount (Some hold) is =
+  by_hold merchant fresh service checked None is = refused merchant fresh code.RecordNotFound refl
+  by_hold merchant fresh service checked (Some hold) is =
       let step : (b : Bool) → is_open_at r.moment hold.hold_end ≡ b →
       P (completion_of k r (if b then Some hold else None)) =
       elim [
         | true ↦ (λ opens.
-            by_refusals P r ((nat_lt hold.amount (amount_in r.message), code.InvalidAmount)
+            by_checks P r ((nat_lt hold.amount (amount_in r.message), code.InvalidAmount)
             ∷ (is_full k, code.LimitExceeded) ∷ []) (Completes r hold) (refused merchant fresh) refl
             (λ none.
-            let free =
-            or_split (is_full k) false
-            (or_split (nat_lt hold.amount (amount_in r.message)) (is_full k || false) none).1 in
             let found = row_of_reference t m (wanted_for t.day r.service r.message).reference hold
             is in
-            subst (λ p. P (Completes r p)) found.0.found.says
-            (cases.completed r refl merchant (recording merchant fresh) service amount
-            (room merchant fresh free.0)
-            found.0.found.row (record {
+            let row = found.0.found.row in
+            let says = found.0.found.says in
+            subst (λ p. P (Completes r p)) says
+            (cases.completed r merchant (recording merchant fresh) row (record {
+              service = service;
+              transaction = checked.0;
+              amount = not_false (is_accepted_amount (amount_in r.message)) checked.1.0;
               member = found.0.found.member;
-              merchant = found.1;
+              own = found.1;
               number = found.0.number;
               reference = found.0.reference;
-              opens = ap (λ p. is_open_at r.moment p.hold_end) found.0.found.says ∙ opens;
+              opens = ap (λ p. is_open_at r.moment p.hold_end) says ∙ opens;
+              within =
+                  ltb-false row.amount (amount_in r.message)
+                  (ap (λ p. nat_lt p.amount (amount_in r.message)) says ∙ none.0);
+              room = room merchant fresh none.1.0;
             }))))
         | false ↦ (λ shut. refused merchant fresh code.RecordNotFound refl)
       ] in
@@ -289,56 +332,53 @@ module _ (t : Tables) (r : RequestMessage) (P : Decision → Type 0)
   by_completion : (merchant : Merchant) → IsFresh k r merchant → r.service ≡ Completion →
       P (completion k merchant r)
   by_completion merchant fresh service =
-      let amount = not (is_accepted_amount (amount_in r.message)) in
-      by_refusals P r (
-      (is_other_transaction merchant r, code.InvalidTransaction)
-      ∷ (not (is_accepted_amount (amount_in r.message)), code.InvalidAmount)
-      ∷ []
-      ) (completion_of k r (open_hold r.moment k.referred)) (refused merchant fresh) refl
-      (λ none.
-      let later = (or_split (is_other_transaction merchant r) (amount || false) none).1 in
-      by_hold merchant fresh service
-      (not_false (is_accepted_amount (amount_in r.message)) (or_split amount false later).0)
-      k.referred refl)
+      by_checks P r (completion_checks merchant)
+      (completion_of k r (open_hold r.moment k.referred)) (refused merchant fresh) refl
+      (λ none. by_hold merchant fresh service none k.referred refl)
 
   by_found : (merchant : Merchant) → IsFresh k r merchant → is_reversal r.service ≡ true →
-      (p : Prior) →
-      k.original ≡ Some p → P (reversal_of k r (Some p))
-  by_found merchant fresh service p is =
-      let amount = not (amount_in r.message == p.amount) in
-      by_refusals P r ((not p.is_reversible, code.NoActionTaken)
+      (p : Prior) → k.original ≡ Some p →
+      fits_acquirer (original_acquirer r.message) p.acquirer ≡ true → P (reversal_of k r (Some p))
+  by_found merchant fresh service p is fits =
+      by_checks P r ((not p.is_reversible, code.NoActionTaken)
       ∷ (not (amount_in r.message == p.amount), code.InvalidAmount)
       ∷ (is_full k, code.LimitExceeded) ∷ [])
       (Reverses r p) (refused merchant fresh) refl
       (λ none.
-      let first = or_split (not p.is_reversible) (amount || (is_full k || false)) none in
-      let free = or_split (is_full k) false (or_split amount (is_full k || false) first.1).1 in
       let found = row_of_key t m (wanted_for t.day r.service r.message).original p is in
-      subst (λ x. P (Reverses r x)) found.0.says
-      (cases.reversed r refl merchant (recording merchant fresh) service
-      (room merchant fresh free.0) found.0.row
-      (record {
+      let says = found.0.says in
+      subst (λ x. P (Reverses r x)) says
+      (cases.reversed r merchant (recording merchant fresh) found.0.row (record {
+        service = service;
         member = found.0.member;
-        merchant = found.1;
-        reversible = ap (λ x. x.is_reversible) found.0.says ∙ not_false p.is_reversible first.0;
+        own = found.1;
+        acquirer = ap (λ x. fits_acquirer (original_acquirer r.message) x.acquirer) says ∙ fits;
+        reversible = ap (λ x. x.is_reversible) says ∙ not_false p.is_reversible none.0;
+        amount =
+            eqb_is (amount_in r.message) p.amount
+            (not_false (amount_in r.message == p.amount) none.1.0)
+            ∙ sym (ap (λ x. x.amount) says);
+        room = room merchant fresh none.1.1.0;
       })))
 
   by_original : (merchant : Merchant) → IsFresh k r merchant → is_reversal r.service ≡ true →
       (o : Option Prior) → k.original ≡ o → P (reversal_of k r (original_of r.message o))
   by_original merchant fresh service None is = refused merchant fresh code.RecordNotFound refl
   by_original merchant fresh service (Some p) is =
-      elim (fits_acquirer (original_acquirer r.message) p.acquirer)
-      as (λ b. P (reversal_of k r (if b then Some p else None))) [
-        | true ↦ by_found merchant fresh service p is
-        | false ↦ refused merchant fresh code.RecordNotFound refl
-      ]
+      let step : (b : Bool) → fits_acquirer (original_acquirer r.message) p.acquirer ≡ b →
+      P (reversal_of k r (if b then Some p else None)) =
+      elim [
+        | true ↦ (λ fits. by_found merchant fresh service p is fits)
+        | false ↦ (λ other. refused merchant fresh code.RecordNotFound refl)
+      ] in
+      step (fits_acquirer (original_acquirer r.message) p.acquirer) refl
 
   by_day : (merchant : Merchant) → IsFresh k r merchant → r.service ≡ Reconciliation →
       (o : Option ℕ) → reconciled_day t.day (content_of r.message.elements 15) ≡ o →
       P (reconciliation_of r o)
   by_day merchant fresh service None is = refused merchant fresh code.ReconcileError refl
-  by_day merchant fresh service (Some day) is = cases.reconciled r refl merchant
-      (recording merchant fresh) service day is
+  by_day merchant fresh service (Some day) is = cases.reconciled r merchant
+      (recording merchant fresh) day (record { service = service; resolves = is })
 
   by_service : (merchant : Merchant) → IsFresh k r merchant → (s : Service) → r.service ≡ s →
       P (decision_by s k merchant r)
@@ -359,12 +399,7 @@ module _ (t : Tables) (r : RequestMessage) (P : Decision → Type 0)
       P (repeat_of (reply_state_of s row.reply))
   by_reply_state row member Pending = cases.reported output.Waiting refl
   by_reply_state row member ReversedPending = cases.reported output.Late refl
-  by_reply_state row member Refused = cases.repeated row member
-  by_reply_state row member Declined = cases.repeated row member
-  by_reply_state row member Approved = cases.repeated row member
-  by_reply_state row member Completed = cases.repeated row member
-  by_reply_state row member Reversed = cases.repeated row member
-  by_reply_state row member Reconciled = cases.repeated row member
+  by_reply_state row member status = cases.repeated row member
 
   by_key : (merchant : Merchant) → (r.service ≡ NetworkManagement → ⊥) →
       k.merchant ≡ Some merchant →
@@ -400,15 +435,7 @@ module _ (t : Tables) (r : RequestMessage) (P : Decision → Type 0)
   by_recordable : (s : Service) → r.service ≡ s → P (decision_of_request s k r)
   by_recordable NetworkManagement is =
       cases.replied r refl (network_response r.message) (network_response-hosts r.message)
-  by_recordable Authorization is = by_merchant (λ n. absurd (let h = sym is ∙ n in cc)) k.merchant
-      refl
-  by_recordable Financial is = by_merchant (λ n. absurd (let h = sym is ∙ n in cc)) k.merchant refl
-  by_recordable Completion is = by_merchant (λ n. absurd (let h = sym is ∙ n in cc)) k.merchant refl
-  by_recordable Reversal is = by_merchant (λ n. absurd (let h = sym is ∙ n in cc)) k.merchant refl
-  by_recordable ReversalAdvice is = by_merchant (λ n. absurd (let h = sym is ∙ n in cc)) k.merchant
-      refl
-  by_recordable Reconciliation is = by_merchant (λ n. absurd (let h = sym is ∙ n in cc)) k.merchant
-      refl
+  by_recordable service is = by_merchant (λ n. absurd (let h = sym is ∙ n in cc)) k.merchant refl
 
   by_request : P (decision_of_request r.service k r)
   by_request = by_recordable r.service refl
@@ -418,18 +445,22 @@ module _ (t : Tables) (r : RequestMessage) (P : Decision → Type 0)
 module _ (t : Tables) (moment : ℕ) (merchant : List ℕ) (reference : ℕ) (v : Verdict) (P : Decision →
     Type 0)
     (cases : StepCases t (Answered moment merchant reference v) P) where
-  by_row : (row : Request) → In row t.requests → (n : ℕ) → row.reference ≡ Some n → (s : Status) →
-      row.status ≡ s →
+  by_row : (row : Request) → In row t.requests → row.key.merchant ≡ merchant → (n : ℕ) →
+      row.reference ≡ Some n → (s : Status) → row.status ≡ s →
       P (decision_of_reply_state moment v (prior_of row) (reply_state_of s row.reply))
-  by_row row member n under Pending is =
-      cases.answered moment merchant reference v refl row member is n under
-  by_row row member n under ReversedPending is = cases.reported output.Late refl
-  by_row row member n under Refused is = cases.reported output.AlreadyAnswered refl
-  by_row row member n under Declined is = cases.reported output.AlreadyAnswered refl
-  by_row row member n under Approved is = cases.reported output.AlreadyAnswered refl
-  by_row row member n under Completed is = cases.reported output.AlreadyAnswered refl
-  by_row row member n under Reversed is = cases.reported output.AlreadyAnswered refl
-  by_row row member n under Reconciled is = cases.reported output.AlreadyAnswered refl
+  by_row row member own n under Pending is =
+      cases.answered moment v row (record {
+        merchant = merchant;
+        named = reference;
+        came = refl;
+        member = member;
+        own = own;
+        number = n;
+        reference = under;
+        pending = is;
+      })
+  by_row row member own n under ReversedPending is = cases.reported output.Late refl
+  by_row row member own n under status is = cases.reported output.AlreadyAnswered refl
 
   by_prior : (o : Option Prior) → referred_in (requests_of merchant t.requests) reference ≡ o →
       P (decision_of_prior moment v o)
@@ -438,7 +469,7 @@ module _ (t : Tables) (moment : ℕ) (merchant : List ℕ) (reference : ℕ) (v 
       let found = row_of_reference t merchant (Some reference) p is in
       let row = found.0.found.row in
       subst (λ x. P (decision_of_reply_state moment v x x.reply_state)) found.0.found.says
-      (by_row row found.0.found.member found.0.number found.0.reference row.status refl)
+      (by_row row found.0.found.member found.1 found.0.number found.0.reference row.status refl)
 
   by_answer : (o : Option Merchant) →
       P (decision_of_answer (known_in t (Answered moment merchant reference v)) moment v o)
@@ -452,7 +483,7 @@ by_new_range : (t : Tables) (range : Range) (P : Decision → Type 0) →
     is_valid_range range ≡ true → (o : Option Range) →
     overlapped_by (between range.low range.high) t.ranges ≡ o →
     P (decision_of_new_range range o)
-by_new_range t range P cases valid None is = cases.range_added range valid is
+by_new_range t range P cases valid None is = cases.range_added range refl valid is
 by_new_range t range P cases valid (Some other) is = cases.reported (output.Overlap other) refl
 
 by_old_range : (t : Tables) (low high : ℕ) (P : Decision → Type 0) →
@@ -462,7 +493,7 @@ by_old_range t low high P cases None = cases.reported output.NoSuchRange refl
 by_old_range t low high P cases (Some range) =
     elim (has_ends low high range) as
     (λ b. P (if b then DropsRange low high else Reports output.NoSuchRange)) [
-      | true ↦ cases.range_dropped low high
+      | true ↦ cases.range_dropped low high refl
       | false ↦ cases.reported output.NoSuchRange refl
     ]
 
@@ -497,7 +528,7 @@ by_step t CutOver P cases =
     let step : (b : Bool) → ltb t.day last_day ≡ b →
     P (if b then CutsOver else Reports output.LastDay) =
     elim [
-      | true ↦ (λ e. cases.cut_over (ltb-true t.day last_day e))
+      | true ↦ (λ e. cases.cut_over refl (ltb-true t.day last_day e))
       | false ↦ (λ e. cases.reported output.LastDay refl)
     ] in
     step (ltb t.day last_day) refl

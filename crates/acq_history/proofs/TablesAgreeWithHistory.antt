@@ -6,7 +6,7 @@ use Rattle.std.specs.Option.{option_or}
 use Rattle.std.specs.List.{list_any}
 use Rattle.std.specs.Str.{bytes_eq}
 use Rattle.card_no.specs.declared.range.Range.{Range}
-use Rattle.card_no.specs.Ranges.{range_of_prefix, overlapped_by}
+use Rattle.card_no.specs.Ranges.{range_of_prefix, overlapped_by, between}
 use Rattle.day_totals.specs.declared.leg.Leg.{Leg}
 use Rattle.std.proofs.lemmas.Bool.{and_parts}
 use Rattle.std.proofs.Math.Bool.{and-false}
@@ -19,15 +19,11 @@ use Rattle.acq_message.specs.Elements.{or_empty, text_at}
 use Rattle.acq_core.specs.declared.arrival.Arrival.{Arrival}
 use Rattle.acq_message.specs.declared.request_message.RequestMessage.{RequestMessage}
 use Rattle.acq_core.specs.Arrivals.{merchant_named, is_shared}
-use Rattle.acq_core.specs.declared.arrival.Arrival.TheVariants.{Undecoded, Unserved, Malformed}
-use Rattle.acq_core.specs.declared.arrival.Arrival.TheVariants.{Requested, Answered, CutOver}
-use Rattle.acq_core.specs.declared.arrival.Arrival.TheVariants.{RangeAdded, RangeDropped, Enrolled}
-use Rattle.acq_core.specs.declared.arrival.Arrival.TheVariants.{TerminalAdded}
+use Rattle.acq_core.specs.declared.arrival.Arrival.TheVariants.{CutOver, RangeAdded, RangeDropped}
 use Rattle.acq_core.specs.Known.{Prior, wanted_by, known_for}
 use Rattle.acq_core.specs.Outcome.{Outcome}
 use Rattle.acq_core.specs.Changes.{answer_posting, approval_posting, reversal_posting}
 use Rattle.acq_core.specs.Changes.{posting_today, reversal_leg, posted_leg}
-use Rattle.card_no.specs.Ranges.{between}
 use Rattle.acq_core.specs.Tables.{Opening, Tables, postings_of, facts_in, known_in, totals_on}
 use Rattle.acq_core.specs.Tables.{with_next_posting}
 use Rattle.acq_core.proofs.Counts.{or_none}
@@ -59,10 +55,10 @@ pub record Agrees (opening : Opening) (m : List ℕ) (t : Tables) (h : List Entr
 -- ---- what is known
 
 -- so look-ups in both know the same
-pub facts_in_is : (opening : Opening) (m : List ℕ) (t : Tables) (h : List Entry) →
+pub facts_in_is : {opening : Opening} {m : List ℕ} {t : Tables} {h : List Entry} →
     Agrees opening m t h →
     facts_in t m ≡ facts_of opening h
-facts_in_is opening m t h a =
+facts_in_is {opening} {m} {t} {h} a =
     λ i. record {
       today = a.common.day i;
       limit = a.common.bounded i;
@@ -78,32 +74,26 @@ facts_in_is opening m t h a =
     }
 
 -- for an event of the merchant's
-pub known_in_mine : (opening : Opening) (m : List ℕ) (t : Tables) (h : List Entry) →
+pub known_in_mine : {opening : Opening} {m : List ℕ} {t : Tables} {h : List Entry} →
     Agrees opening m t h →
     (a : Arrival) →
     merchant_named a ≡ Some m → known_in t a ≡ known_by opening h a
-known_in_mine opening m t h g a named =
+known_in_mine {t = t} g a named =
     ap (λ o. known_for (wanted_by t.day a) (facts_in t (or_empty o))) named
-    ∙ (λ i. known_for (wanted_by (g.common.day i) a) (facts_in_is opening m t h g i))
+    ∙ (λ i. known_for (wanted_by (g.common.day i) a) (facts_in_is g i))
 
 -- for a shared event
-pub known_in_shared : (opening : Opening) (m : List ℕ) (t : Tables) (h : List Entry) →
+pub known_in_shared : {opening : Opening} {m : List ℕ} {t : Tables} {h : List Entry} →
     Agrees opening m t h →
     (a : Arrival) → is_shared a ≡ true → known_in t a ≡ known_by opening h a
-known_in_shared opening m t h g CutOver shared =
-    λ i. known_for (wanted_by (g.common.day i) CutOver) (facts_in_is opening m t h g i)
-known_in_shared opening m t h g (RangeAdded range) shared =
-    λ i. known_for (wanted_by (g.common.day i) (RangeAdded range)) (facts_in_is opening m t h g i)
-known_in_shared opening m t h g (RangeDropped low high) shared =
+known_in_shared g CutOver shared =
+    λ i. known_for (wanted_by (g.common.day i) CutOver) (facts_in_is g i)
+known_in_shared g (RangeAdded range) shared =
+    λ i. known_for (wanted_by (g.common.day i) (RangeAdded range)) (facts_in_is g i)
+known_in_shared g (RangeDropped low high) shared =
     λ i. known_for (wanted_by (g.common.day i) (RangeDropped low high))
-    (facts_in_is opening m t h g i)
-known_in_shared opening m t h g (Undecoded fault) shared = absurd (cc)
-known_in_shared opening m t h g (Unserved message) shared = absurd (cc)
-known_in_shared opening m t h g (Malformed r) shared = absurd (cc)
-known_in_shared opening m t h g (Requested r) shared = absurd (cc)
-known_in_shared opening m t h g (Answered moment merchant reference v) shared = absurd (cc)
-known_in_shared opening m t h g (Enrolled merchant) shared = absurd (cc)
-known_in_shared opening m t h g (TerminalAdded terminal) shared = absurd (cc)
+    (facts_in_is g i)
+known_in_shared g other shared = absurd (cc)
 
 -- a party that is named so is that one
 pub names_is : (o : Option (List ℕ)) (m : List ℕ) → names o m ≡ true → o ≡ Some m
@@ -112,8 +102,8 @@ names_is (Some named) m e = ap (λ x. Some x) (bytes_eq_is named m e)
 
 -- ---- entries that change nothing of what isn't a request or a posting
 
-pub common_still : (opening : Opening) (m : List ℕ) (bound today : ℕ) (merchants : List Merchant)
-    (terminals : List Terminal) (held : List Range) (a : Arrival) (o : Outcome) (h : List Entry) →
+pub common_still : {opening : Opening} {m : List ℕ} {bound today : ℕ} {merchants : List Merchant}
+    {terminals : List Terminal} {held : List Range} {h : List Entry} (a : Arrival) (o : Outcome) →
     is_performed o ≡ false →
     Common opening m bound today merchants terminals held h →
     Common opening m bound today merchants terminals held
@@ -124,7 +114,7 @@ pub common_still : (opening : Opening) (m : List ℕ) (bound today : ℕ) (merch
       outcome =
           o;
     } ∷ h)
-common_still opening m bound today merchants terminals held a o h performed c =
+common_still {opening} {h = h} a o performed c =
     record {
       bounded = c.bounded;
       day =
@@ -176,8 +166,7 @@ approval_posting_is_of p (Some leg) = refl
 -- what an answer posts is of the answered request's merchant
 pub answer_posting_is_of : (v : Verdict) (p : Prior) → IsOf p.key.merchant (answer_posting v p)
 answer_posting_is_of (verdict.Approved id) p = approval_posting_is_of p p.leg
-answer_posting_is_of (verdict.Declined text) p = tt
-answer_posting_is_of verdict.NoAnswer p = tt
+answer_posting_is_of other p = tt
 
 -- what a reversal posts is of its own
 pub reversal_posting_is_of : (today : ℕ) (r : RequestMessage) (p : Prior) →

@@ -10,7 +10,7 @@ use Rattle.acq_message.specs.declared.request_message.RequestMessage.{RequestMes
 use Rattle.acq_core.specs.declared.arrival.Arrival.TheVariants.{Requested}
 use Rattle.acq_core.specs.Known.{Known, Prior}
 use Rattle.acq_core.specs.declared.reply_state.ReplyState.{ReplyState}
-use Rattle.acq_core.specs.declared.reply_state.ReplyState.TheVariants.{Kept, Awaited, Late}
+use Rattle.acq_core.specs.declared.reply_state.ReplyState.TheVariants.{Kept}
 use Rattle.acq_core.specs.Decision.{Replies, network_response, repeat_of}
 use Rattle.acq_core.specs.Outcome.{Outcome, outcome_of}
 use Rattle.acq_core.specs.Changes.{change_of}
@@ -29,18 +29,7 @@ pub refusal_is : (given : ResponseCode) → is_refusal given ≡ true → IsRefu
 refusal_is code.Approved e = absurd (cc)
 refusal_is code.FormatError e = absurd (cc)
 refusal_is code.InvalidMerchant e = absurd (cc)
-refusal_is code.InvalidTransaction e = (refl, refl)
-refusal_is code.InvalidAmount e = (refl, refl)
-refusal_is code.InvalidCard e = (refl, refl)
-refusal_is code.NoSuchIssuer e = (refl, refl)
-refusal_is code.NoActionTaken e = (refl, refl)
-refusal_is code.RecordNotFound e = (refl, refl)
-refusal_is code.ExpiredCard e = (refl, refl)
-refusal_is code.LimitExceeded e = (refl, refl)
-refusal_is code.IssuerInoperative e = (refl, refl)
-refusal_is code.DuplicateTransmission e = (refl, refl)
-refusal_is code.ReconcileError e = (refl, refl)
-refusal_is (code.Declined text) e = (refl, refl)
+refusal_is other e = (refl, refl)
 
 -- what isn't approved isn't accepted
 pub accepts_not : (rq : Option RequestMessage) (o : Outcome) → is_approved o ≡ false →
@@ -85,58 +74,39 @@ module _ (k : Known) (r : RequestMessage) where
         recorded = λ q came past. managed_unrecorded r.service r q is came;
       }
 
+  -- what is not approved, and known if it is past the merchant check
+  quiet_with : (o : Outcome) → is_asked o ≡ false → is_performed o ≡ false →
+      is_approved o ≡ false → (is_past_merchant o ≡ true → is_some k.recorded ≡ true) →
+      IsQuiet k r o
+  quiet_with o asked performed approved known =
+      record {
+        asked = asked;
+        performed = performed;
+        accepted = accepts_not (request_of (Requested r)) o approved;
+        recorded = λ q came past. known past;
+      }
+
   -- an unknown merchant or terminal
   pub quiet_unknown : IsQuiet k r (outcome_of k (Replies r code.InvalidMerchant))
-  quiet_unknown =
-      record {
-        asked = refl;
-        performed = refl;
-        accepted = accepts_not (request_of (Requested r))
-            (outcome_of k (Replies r code.InvalidMerchant)) refl;
-        recorded = λ q came past. absurd (cc);
-      }
+  quiet_unknown = quiet_with (outcome_of k (Replies r code.InvalidMerchant)) refl refl refl
+      (λ past. absurd (cc))
 
   -- another request under a recorded key
   pub quiet_duplicate : (p : Prior) → k.recorded ≡ Some p →
       IsQuiet k r (outcome_of k (Replies r code.DuplicateTransmission))
   quiet_duplicate p is =
-      record {
-        asked = refl;
-        performed = refl;
-        accepted = accepts_not (request_of (Requested r))
-            (outcome_of k (Replies r code.DuplicateTransmission)) refl;
-        recorded = λ q came past. ap is_some is;
-      }
+      quiet_with (outcome_of k (Replies r code.DuplicateTransmission)) refl refl refl
+      (λ past. ap is_some is)
 
   -- a repeat
   pub quiet_repeated : (p : Prior) → k.recorded ≡ Some p → (s : ReplyState) →
       IsQuiet k r (outcome_of k (repeat_of s))
   quiet_repeated p is (Kept reply) =
-      record {
-        asked = refl;
-        performed = refl;
-        accepted = accepts_not (request_of (Requested r)) (outcome_of k (repeat_of (Kept reply)))
-            refl;
-        recorded = λ q came past. ap is_some is;
-      }
-  quiet_repeated p is (Awaited draft) =
-      record {
-        asked = refl;
-        performed = refl;
-        accepted = accepts_not (request_of (Requested r)) (outcome_of k (repeat_of (Awaited draft)))
-            refl;
-        recorded = λ q came past. ap is_some is;
-      }
-  quiet_repeated p is Late =
-      record {
-        asked = refl;
-        performed = refl;
-        accepted = accepts_not (request_of (Requested r)) (outcome_of k (repeat_of Late)) refl;
-        recorded = λ q came past. ap is_some is;
-      }
+      quiet_with (outcome_of k (repeat_of (Kept reply))) refl refl refl (λ past. ap is_some is)
+  quiet_repeated p is s =
+      quiet_with (outcome_of k (repeat_of s)) refl refl refl (λ past. ap is_some is)
 
 -- a repeat changes no table
 pub change_of_repeat : (k : Known) (s : ReplyState) → change_of k (repeat_of s) ≡ None
 change_of_repeat k (Kept reply) = refl
-change_of_repeat k (Awaited draft) = refl
-change_of_repeat k Late = refl
+change_of_repeat k other = refl

@@ -85,36 +85,36 @@ module _ (opening : Opening) (t : Tables) (opens : IsOpening opening)
         malformed = λ r came later. tt;
         replied = λ r came given is later. tt;
         repeated = λ row member later. tt;
-        refused = λ r came merchant g given is later. unreferred_is_new t _ g.new refl
+        refused = λ r merchant g given is later. unreferred_is_new t _ g.new refl
             (λ e. absurd cc);
-        admitted = λ r came merchant g service amount free range held later.
+        admitted = λ r merchant g range c later.
             referred_is_new t _ merchant (merchant_in t (text_at r.message 42)) g.enrolled
             (sound.references (text_at r.message 42)) g.new refl
-            (room (text_at r.message 42) t.day free)
+            (room (text_at r.message 42) t.day c.room)
             (later.numbers.merchants (text_at r.message 42)).admitted;
-        completed = λ r came merchant g service amount free hold own later. (
-          unreferred_is_new t _ g.new refl (λ e. room (text_at r.message 42) t.day free),
+        completed = λ r merchant g hold c later. (
+          unreferred_is_new t _ g.new refl (λ e. room (text_at r.message 42) t.day c.room),
           has_room_for_posting t (Some (completion_posting t.day r (prior_of hold)))
               (λ m day. (later.numbers.merchants m).totals day),
           record { merchant = refl; day = refl },
         );
-        reversed = λ r came merchant g service free row own later. (
-          unreferred_is_new t _ g.new refl (λ e. room (text_at r.message 42) t.day free),
+        reversed = λ r merchant g row c later. (
+          unreferred_is_new t _ g.new refl (λ e. room (text_at r.message 42) t.day c.room),
           has_room_for_posting t (reversal_posting t.day r (prior_of row))
               (λ m day. (later.numbers.merchants m).totals day),
           reversal_posted_by t.day r (prior_of row),
         );
-        reconciled = λ r came merchant g service day is later. unreferred_is_new t _ g.new refl
+        reconciled = λ r merchant g day c later. unreferred_is_new t _ g.new refl
             (λ e. absurd cc);
-        answered = λ moment merchant reference v came row member pending n under later.
+        answered = λ moment v row c later.
             has_room_for_posting t (answer_posting v (prior_of row))
             (λ m day. (later.numbers.merchants m).totals day);
-        cut_over = λ before later. tt;
-        range_added = λ range valid free later.
+        cut_over = λ came before later. tt;
+        range_added = λ range came valid free later.
             ap (λ b. cond b (option_map Overlap (overlapped_by range t.ranges)) (Some BadRange))
             valid
             ∙ ap (option_map Overlap) free;
-        range_dropped = λ low high. tt;
+        range_dropped = λ low high came. tt;
         enrolled = λ merchant came new later. new;
         terminal_added = λ terminal came new later. new;
       })

@@ -14,7 +14,7 @@ use Rattle.acq_core.specs.Tables.{tables_after}
 use Rattle.acq_history.specs.PartyHistory.{known_by, history_of, book_after}
 use Rattle.acq_history.specs.Isolation.{open_at}
 use Rattle.acq_history.proofs.IsolatedParties.{isolated}
-use Rattle.acq_history.proofs.MerchantsRuns.{from_new, posted, holds}
+use Rattle.acq_history.proofs.MerchantsRuns.{from_new, posts_alone, holds_alone}
 use Rattle.acq_history.proofs.TablesAgreeWithHistory.{known_in_mine}
 use Rattle.acq_history.specs.Conservation.{IsConserved}
 use Rattle.acq_history.specs.DaySums.{postings_on}
@@ -51,7 +51,7 @@ module _ (opening : Opening) (past : List Event) where
       ∙ ap (λ o. Some o)
       ((λ i. step_output (then i) (came i))
       ∙ (λ i. output_of (named i)
-      (outcome (known_in_mine opening m t h (from_new opening m (past ++ before))
+      (outcome (known_in_mine (from_new opening m (past ++ before))
       (Requested r) named i)
       (Requested r)))))
 
@@ -68,7 +68,8 @@ module _ (opening : Opening) (past : List Event) where
       sym (tables_after-append (new_tables opening) past further) in
       record {
         outputs = λ party. isolated party opening past further;
-        posted = λ m. ap (λ t. postings_of m t.postings) then ∙ posted m opening (past ++ further);
+        posted = λ m. ap (λ t. postings_of m t.postings) then
+            ∙ posts_alone m opening (past ++ further);
         holds = λ m moment.
             ap (λ t. open_at moment (map prior_of (requests_of m t.requests))) then
             ∙ holds m opening moment (past ++ further);

@@ -113,29 +113,29 @@ referred_after_step t a (unique, h) =
       malformed = λ r came. h;
       replied = λ r came given is. h;
       repeated = λ row member. h;
-      refused = λ r came merchant g given is.
+      refused = λ r merchant g given is.
           with_row t.requests _ h (λ kind approved none. true≢false (sym approved));
-      admitted = λ r came merchant g service amount room range held.
+      admitted = λ r merchant g range c.
           with_row t.requests _ h (λ kind approved none. absurd (cc));
-      completed = λ r came merchant g service amount room hold own.
+      completed = λ r merchant g hold c.
           with_row _ _
           (with_changes t.requests hold.key _ h
           (λ y here is kind approved none. true≢false (sym approved)))
-          (λ kind approved none. completion_not r.service service kind);
-      reversed = λ r came merchant g service room row own.
+          (λ kind approved none. completion_not r.service c.service kind);
+      reversed = λ r merchant g row c.
           with_row _ _
           (with_changes t.requests row.key _ h
           (λ y here is kind approved none. reversed_not _ approved))
-          (λ kind approved none. reversal_not r.service service kind);
-      reconciled = λ r came merchant g service day is.
+          (λ kind approved none. reversal_not r.service c.service kind);
+      reconciled = λ r merchant g day c.
           with_row t.requests _ h (λ kind approved none. true≢false (sym approved));
-      answered = λ moment merchant reference v came row member pending n under.
+      answered = λ moment v row c.
           with_changes t.requests row.key _ h (λ y here is kind approved none.
-          let same = one_request t.requests y row unique.requests here member is in
-          absurd (let e = sym none ∙ ap (λ (r : Request). r.reference) same ∙ under in cc));
-      cut_over = λ before. h;
-      range_added = λ range valid free. h;
-      range_dropped = λ low high. h;
+          let same = one_request t.requests y row unique.requests here c.member is in
+          absurd (let e = sym none ∙ ap (λ (r : Request). r.reference) same ∙ c.reference in cc));
+      cut_over = λ came before. h;
+      range_added = λ range came valid free. h;
+      range_dropped = λ low high came. h;
       enrolled = λ merchant came new. h;
       terminal_added = λ terminal came new. h;
     })
