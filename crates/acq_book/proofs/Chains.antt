@@ -1,14 +1,14 @@
 -- Look-ups, one after another.
 use Rattle.std.proofs.Common.{ℕ, Bool, true, ◌∙◌, refl, arith}
 use Rattle.acq_core.specs.Tables.{Tables}
-use Rattle.acq_book.specs.Promise.{Looks}
+use Rattle.acq_book.specs.Promise.{LooksBy}
 
 -- a look-up that succeeded, and what was looked up then
 pub looks_more : {S : Type 0} (tables : S → Tables) (is_honest is_open : S → Type 0)
     (may_leave : S → Tables → Type 0) (failures : S → ℕ) (a b c : S) (succeeded : Bool) →
-    Looks tables is_honest is_open may_leave failures a b true →
-    Looks tables is_honest is_open may_leave failures b c succeeded →
-    Looks tables is_honest is_open may_leave failures a c succeeded
+    LooksBy tables is_honest is_open may_leave failures a b true →
+    LooksBy tables is_honest is_open may_leave failures b c succeeded →
+    LooksBy tables is_honest is_open may_leave failures a c succeeded
 looks_more tables is_honest is_open may_leave failures a b c succeeded first second = record {
   was_honest = λ h. first.was_honest (second.was_honest h);
   was_open = λ o. first.was_open (second.was_open o);

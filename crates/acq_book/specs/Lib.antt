@@ -8,3 +8,4 @@ pub mod Keys
 pub mod Rows
 pub mod Sums
 pub mod Indexes
+pub mod Calls

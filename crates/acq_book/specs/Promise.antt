@@ -17,7 +17,7 @@ IfStore (Err Store) failed = failed
 
 -- A look-up or a walk leaves the tables as they are, and adds nothing to what a stop may leave.
 -- Where it succeeded, the book stays open.
-pub record Looks {S : Type 0} (tables : S → Tables) (is_honest is_open : S → Type 0)
+pub record LooksBy {S : Type 0} (tables : S → Tables) (is_honest is_open : S → Type 0)
     (may_leave : S → Tables → Type 0) (failures : S → ℕ) (old new : S)
     (succeeded : Bool) : Type 0 where
   pub was_honest : is_honest new → is_honest old
@@ -31,7 +31,7 @@ pub record Looks {S : Type 0} (tables : S → Tables) (is_honest is_open : S →
 -- or the tables with the whole change; after a change that was made only these, where before it
 -- only the tables themselves might be left. A book that is open was so before, or its tables are
 -- such as events lead to.
-pub record Makes {S : Type 0} (tables : S → Tables) (is_honest is_open : S → Type 0)
+pub record MakesBy {S : Type 0} (tables : S → Tables) (is_honest is_open : S → Type 0)
     (may_leave : S → Tables → Type 0) (failures : S → ℕ) (old new : S)
     (succeeded : Bool) (changed : Tables) : Type 0 where
   pub was_honest : is_honest new → is_honest old

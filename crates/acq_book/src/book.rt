@@ -8,7 +8,7 @@ ghost use Rattle.acq_book.specs.Lookups.{merchant_at, has_terminal_at, range_at,
 ghost use Rattle.acq_book.specs.Lookups.{request_at, referred_at, admitted_at, used_at, totals_at};
 ghost use Rattle.acq_book.specs.Lookups.{pending_at, last_reconciliation_at};
 ghost use Rattle.acq_book.specs.Lookups.{postings_at, merchants_at, holds_at};
-ghost use Rattle.acq_book.specs.Promise.{HasRisen, IfStore, Looks, Makes};
+ghost use Rattle.acq_book.specs.Promise.{HasRisen, IfStore, LooksBy, MakesBy};
 ghost use Rattle.acq_book.specs.Visits.{SawAll, SawSome};
 
 use crate::book_fault::BookFault;
@@ -44,14 +44,14 @@ pub trait Book {
     /// How many messages of a merchant a day admits.
     fn limit(&mut self) -> Result<Limit, BookFault>
         ensures value { is_open self.new → IfOk result (λ n. n ≡ (tables self.old).limit) }
-        ensures looks { Looks tables is_honest is_open may_leave failures
+        ensures looks { LooksBy tables is_honest is_open may_leave failures
             self.old self.new (is_ok result) }
         ensures store { IfStore result (HasRisen (failures self.old) (failures self.new)) };
 
     /// The business day.
     fn day(&mut self) -> Result<Day, BookFault>
         ensures value { is_open self.new → IfOk result (λ day. day ≡ (tables self.old).day) }
-        ensures looks { Looks tables is_honest is_open may_leave failures
+        ensures looks { LooksBy tables is_honest is_open may_leave failures
             self.old self.new (is_ok result) }
         ensures store { IfStore result (HasRisen (failures self.old) (failures self.new)) };
 
@@ -59,7 +59,7 @@ pub trait Book {
     fn merchant(&mut self, id: MerchantId) -> Result<Option<Merchant>, BookFault>
         ensures value { is_open self.new → IfOk result
             (λ row. row ≡ merchant_at (tables self.old) id) }
-        ensures looks { Looks tables is_honest is_open may_leave failures
+        ensures looks { LooksBy tables is_honest is_open may_leave failures
             self.old self.new (is_ok result) }
         ensures store { IfStore result (HasRisen (failures self.old) (failures self.new)) };
 
@@ -67,7 +67,7 @@ pub trait Book {
     fn has_terminal(&mut self, merchant: MerchantId, id: TerminalId) -> Result<bool, BookFault>
         ensures value { is_open self.new → IfOk result
             (λ has. has ≡ has_terminal_at (tables self.old) merchant id) }
-        ensures looks { Looks tables is_honest is_open may_leave failures
+        ensures looks { LooksBy tables is_honest is_open may_leave failures
             self.old self.new (is_ok result) }
         ensures store { IfStore result (HasRisen (failures self.old) (failures self.new)) };
 
@@ -75,7 +75,7 @@ pub trait Book {
     fn range(&mut self, prefix: Prefix) -> Result<Option<Range>, BookFault>
         ensures value { is_open self.new → IfOk result
             (λ range. range ≡ range_at (tables self.old) prefix) }
-        ensures looks { Looks tables is_honest is_open may_leave failures
+        ensures looks { LooksBy tables is_honest is_open may_leave failures
             self.old self.new (is_ok result) }
         ensures store { IfStore result (HasRisen (failures self.old) (failures self.new)) };
 
@@ -83,7 +83,7 @@ pub trait Book {
     fn overlapping(&mut self, low: u32, high: u32) -> Result<Option<Range>, BookFault>
         ensures value { is_open self.new → IfOk result
             (λ range. range ≡ overlapping_at (tables self.old) low high) }
-        ensures looks { Looks tables is_honest is_open may_leave failures
+        ensures looks { LooksBy tables is_honest is_open may_leave failures
             self.old self.new (is_ok result) }
         ensures store { IfStore result (HasRisen (failures self.old) (failures self.new)) };
 
@@ -91,7 +91,7 @@ pub trait Book {
     fn request(&mut self, key: RequestKey) -> Result<Option<Request>, BookFault>
         ensures value { is_open self.new → IfOk result
             (λ row. row ≡ request_at (tables self.old) key) }
-        ensures looks { Looks tables is_honest is_open may_leave failures
+        ensures looks { LooksBy tables is_honest is_open may_leave failures
             self.old self.new (is_ok result) }
         ensures store { IfStore result (HasRisen (failures self.old) (failures self.new)) };
 
@@ -103,7 +103,7 @@ pub trait Book {
     ) -> Result<Option<Request>, BookFault>
         ensures value { is_open self.new → IfOk result
             (λ row. row ≡ referred_at (tables self.old) merchant reference) }
-        ensures looks { Looks tables is_honest is_open may_leave failures
+        ensures looks { LooksBy tables is_honest is_open may_leave failures
             self.old self.new (is_ok result) }
         ensures store { IfStore result (HasRisen (failures self.old) (failures self.new)) };
 
@@ -111,7 +111,7 @@ pub trait Book {
     fn admitted(&mut self, merchant: MerchantId) -> Result<AdmittedCount, BookFault>
         ensures value { is_open self.new → IfOk result
             (λ n. n ≡ admitted_at (tables self.old) merchant) }
-        ensures looks { Looks tables is_honest is_open may_leave failures
+        ensures looks { LooksBy tables is_honest is_open may_leave failures
             self.old self.new (is_ok result) }
         ensures store { IfStore result (HasRisen (failures self.old) (failures self.new)) };
 
@@ -119,7 +119,7 @@ pub trait Book {
     fn used(&mut self, merchant: MerchantId, day: Day) -> Result<UsedCount, BookFault>
         ensures value { is_open self.new → IfOk result
             (λ n. n ≡ used_at (tables self.old) merchant day) }
-        ensures looks { Looks tables is_honest is_open may_leave failures
+        ensures looks { LooksBy tables is_honest is_open may_leave failures
             self.old self.new (is_ok result) }
         ensures store { IfStore result (HasRisen (failures self.old) (failures self.new)) };
 
@@ -127,14 +127,14 @@ pub trait Book {
     fn totals(&mut self, merchant: MerchantId, day: Day) -> Result<Totals, BookFault>
         ensures value { is_open self.new → IfOk result
             (λ totals. totals ≡ totals_at (tables self.old) merchant day) }
-        ensures looks { Looks tables is_honest is_open may_leave failures
+        ensures looks { LooksBy tables is_honest is_open may_leave failures
             self.old self.new (is_ok result) }
         ensures store { IfStore result (HasRisen (failures self.old) (failures self.new)) };
 
     /// How many requests of a day are pending, of all merchants.
     fn pending(&mut self, day: Day) -> Result<u64, BookFault>
         ensures value { is_open self.new → IfOk result (λ n. n ≡ pending_at (tables self.old) day) }
-        ensures looks { Looks tables is_honest is_open may_leave failures
+        ensures looks { LooksBy tables is_honest is_open may_leave failures
             self.old self.new (is_ok result) }
         ensures store { IfStore result (HasRisen (failures self.old) (failures self.new)) };
 
@@ -146,7 +146,7 @@ pub trait Book {
     ) -> Result<Option<Reconciliation>, BookFault>
         ensures value { is_open self.new → IfOk result
             (λ row. row ≡ last_reconciliation_at (tables self.old) merchant day) }
-        ensures looks { Looks tables is_honest is_open may_leave failures
+        ensures looks { LooksBy tables is_honest is_open may_leave failures
             self.old self.new (is_ok result) }
         ensures store { IfStore result (HasRisen (failures self.old) (failures self.new)) };
 
@@ -160,7 +160,7 @@ pub trait Book {
             (SawAll V.sees (postings_at (tables self.old) day) visitor.old visitor.new) }
         ensures begun { is_honest self.new → is_open self.old → OnErr result
             (SawSome V.sees (postings_at (tables self.old) day) visitor.old visitor.new) }
-        ensures looks { Looks tables is_honest is_open may_leave failures
+        ensures looks { LooksBy tables is_honest is_open may_leave failures
             self.old self.new (is_ok result) }
         ensures store { IfStore result (HasRisen (failures self.old) (failures self.new)) };
 
@@ -170,7 +170,7 @@ pub trait Book {
             (SawAll V.sees (merchants_at (tables self.old)) visitor.old visitor.new) }
         ensures begun { is_honest self.new → is_open self.old → OnErr result
             (SawSome V.sees (merchants_at (tables self.old)) visitor.old visitor.new) }
-        ensures looks { Looks tables is_honest is_open may_leave failures
+        ensures looks { LooksBy tables is_honest is_open may_leave failures
             self.old self.new (is_ok result) }
         ensures store { IfStore result (HasRisen (failures self.old) (failures self.new)) };
 
@@ -185,7 +185,7 @@ pub trait Book {
             (SawAll V.sees (holds_at (tables self.old) merchant) visitor.old visitor.new) }
         ensures begun { is_honest self.new → is_open self.old → OnErr result
             (SawSome V.sees (holds_at (tables self.old) merchant) visitor.old visitor.new) }
-        ensures looks { Looks tables is_honest is_open may_leave failures
+        ensures looks { LooksBy tables is_honest is_open may_leave failures
             self.old self.new (is_ok result) }
         ensures store { IfStore result (HasRisen (failures self.old) (failures self.new)) };
 
@@ -194,7 +194,7 @@ pub trait Book {
     fn apply(&mut self, change: &Change) -> Result<(), BookFault>
         requires fits { is_open self.old → Fits (tables self.old) change.now }
         requires past { is_open self.old → HasPast (after (tables self.old) change.now) }
-        ensures makes { Makes tables is_honest is_open may_leave failures
+        ensures makes { MakesBy tables is_honest is_open may_leave failures
             self.old self.new (is_ok result) (after (tables self.old) change.now) }
         ensures store { IfStore result (HasRisen (failures self.old) (failures self.new)) };
 

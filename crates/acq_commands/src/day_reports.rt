@@ -1,7 +1,8 @@
 //! Reports on days, one after the other.
 
 ghost use Rattle.std.specs.Prelude.{◌≡◌, ◌+◌, Err, IfErr, OnOk, Result};
-ghost use Rattle.acq_book.specs.Promise.{HasRisen, Looks};
+ghost use Rattle.acq_book.specs.Calls.{Looks};
+ghost use Rattle.acq_book.specs.Promise.{HasRisen};
 ghost use Rattle.acq_reports.specs.Faults.{IfStoreFailed, failed_writes, is_settled};
 ghost use Rattle.acq_reports.specs.Refusals.{day_refusal};
 ghost use Rattle.acq_reports.specs.Writing.{Reports};
@@ -29,8 +30,7 @@ pub fn write_reports<B: Book, K: Sink>(
         result }
     ensures writes { B.is_honest book.new → B.is_open book.old
         → K.failures output.new ≡ K.failures output.old + failed_writes result }
-    ensures looks { Looks B.tables B.is_honest B.is_open B.may_leave B.failures
-        book.old book.new (is_settled result) }
+    ensures looks { Looks B.Book book.old book.new (is_settled result) }
     ensures store { IfStoreFailed result (HasRisen (B.failures book.old) (B.failures book.new)) }
 {
     for report in reports.iter() {
@@ -51,8 +51,7 @@ fn write_report<B: Book, K: Sink>(
         (K.sent output.old) (K.sent output.new) result }
     ensures writes { B.is_honest book.new → B.is_open book.old
         → K.failures output.new ≡ K.failures output.old + failed_writes result }
-    ensures looks { Looks B.tables B.is_honest B.is_open B.may_leave B.failures
-        book.old book.new (is_settled result) }
+    ensures looks { Looks B.Book book.old book.new (is_settled result) }
     ensures store { IfStoreFailed result (HasRisen (B.failures book.old) (B.failures book.new)) }
 {
     match report.kind {

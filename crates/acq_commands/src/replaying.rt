@@ -4,7 +4,8 @@ ghost use Rattle.std.specs.Prelude.{◌≡◌, ◌⊎◌, ◌+◌, ◌++◌, ℕ
 ghost use Rattle.std.specs.Prelude.{IfErr, IsErrOf, OnOk};
 ghost use Rattle.acq_core.specs.Arrivals.{arrival_of};
 ghost use Rattle.acq_core.specs.Tables.{step_output, step_tables, tables_after};
-ghost use Rattle.acq_book.specs.Promise.{HasRisen, Makes};
+ghost use Rattle.acq_book.specs.Calls.{Makes};
+ghost use Rattle.acq_book.specs.Promise.{HasRisen};
 ghost use Rattle.acq_book.specs.declared.book_fault.BookFault.{BookFault};
 ghost use Rattle.acq_out.specs.OutputLines.{WritesLine, line_of};
 ghost use Rattle.acq_link.specs.Moves.{TakesAll};
@@ -89,7 +90,7 @@ fn take_next<B: Book + Drop, K: Sink>(
     event: &Event,
     output: &mut K,
 ) -> Result<(), Fault>
-    ensures made { OnOk result (Makes B.tables B.is_honest B.is_open B.may_leave B.failures
+    ensures made { OnOk result (Makes B.Book
         host.old host.new true (step_tables (B.tables host.old) (arrival_of event.now))) }
     ensures sent { B.is_honest host.new → B.is_open host.old → OnOk result
         (K.sent output.new ≡ K.sent output.old
@@ -97,11 +98,11 @@ fn take_next<B: Book + Drop, K: Sink>(
     // With a fault of the book it was not taken, with one of its line it was.
     ensures fault { IfErr result (λ fault.
         ((f : BookFault) × (fault ≡ of_book f)
-        × Makes B.tables B.is_honest B.is_open B.may_leave B.failures host.old host.new false
+        × Makes B.Book host.old host.new false
         (step_tables (B.tables host.old) (arrival_of event.now))
         × (K.sent output.new ≡ K.sent output.old))
         ⊎ ((f : OutFault) × (fault ≡ of_out f)
-        × Makes B.tables B.is_honest B.is_open B.may_leave B.failures host.old host.new true
+        × Makes B.Book host.old host.new true
         (step_tables (B.tables host.old) (arrival_of event.now))
         × (B.is_honest host.new → B.is_open host.old → WritesLine
         (step_output (B.tables host.old) (arrival_of event.now))

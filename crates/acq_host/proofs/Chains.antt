@@ -1,7 +1,7 @@
 -- Look-ups, one after another, and a change after them.
 use Rattle.std.proofs.Common.{◌≡◌, ◌≤◌, ℕ, Bool, true, Err, inl, inr, ⊎_elim, ◌∙◌, refl, sym, arith}
 use Rattle.acq_core.specs.Tables.{Tables}
-use Rattle.acq_book.specs.Promise.{HasRisen, IfStore, Looks, Makes}
+use Rattle.acq_book.specs.Promise.{HasRisen, IfStore, LooksBy, MakesBy}
 use Rattle.acq_book.specs.declared.book_fault.BookFault.{BookFault}
 use Rattle.acq_book.specs.declared.book_fault.BookFault.TheVariants.{Memory, Store}
 pub use Rattle.acq_book.proofs.Chains.{looks_more}
@@ -11,9 +11,9 @@ pub makes_after : {S : Type 0} (tables : S → Tables) (is_honest is_open : S �
     (may_leave : S → Tables → Type 0) (failures : S → ℕ) (honest : (s : S) → is_open s →
     is_honest s) (a b c : S)
     (succeeded : Bool) (made changed : Tables) → (is_open b → made ≡ changed) →
-    Looks tables is_honest is_open may_leave failures a b true →
-    Makes tables is_honest is_open may_leave failures b c succeeded made →
-    Makes tables is_honest is_open may_leave failures a c succeeded changed
+    LooksBy tables is_honest is_open may_leave failures a b true →
+    MakesBy tables is_honest is_open may_leave failures b c succeeded made →
+    MakesBy tables is_honest is_open may_leave failures a c succeeded changed
 makes_after tables is_honest is_open may_leave failures honest a b c succeeded made changed same
     first second = record {
       was_honest = λ h. first.was_honest (second.was_honest h);

@@ -9,7 +9,7 @@ use Rattle.acq_core.specs.declared.event.Event.{Event}
 use Rattle.acq_core.specs.declared.output.Output.{Output}
 use Rattle.acq_core.specs.Arrivals.{arrival_of}
 use Rattle.acq_core.specs.Tables.{Tables, outputs, tables_after, step_output, step_tables}
-use Rattle.acq_book.specs.Promise.{Makes}
+use Rattle.acq_book.specs.Promise.{MakesBy}
 use Rattle.acq_history.proofs.FinalDays.{tables_after-append}
 use Rattle.acq_host.specs.Runs.{after_first}
 
@@ -73,7 +73,7 @@ module _ {S : Type 0} (tables : S → Tables) (is_honest is_open : S → Type 0)
   pub took_next : (a b c : S) (events : List Event) (at : ℕ) (e : Event) (said now : List Output) →
       at < length events → e ≡ get_or events at e →
       HasTaken tables is_honest is_open may_leave failures a b (take at events) said →
-      Makes tables is_honest is_open may_leave failures b c true
+      MakesBy tables is_honest is_open may_leave failures b c true
       (step_tables (tables b) (arrival_of e)) →
       (is_honest c → is_open b → now ≡ said ++ step_output (tables b) (arrival_of e) ∷ []) →
       HasTaken tables is_honest is_open may_leave failures a c (take (at + 1) events) now
@@ -106,7 +106,7 @@ module _ {S : Type 0} (tables : S → Tables) (is_honest is_open : S → Type 0)
       at < length events →
       e ≡ get_or events at e →
       HasTaken tables is_honest is_open may_leave failures a b (take at events) said →
-      Makes tables is_honest is_open may_leave failures b c false
+      MakesBy tables is_honest is_open may_leave failures b c false
       (step_tables (tables b) (arrival_of e)) →
       is_honest c → is_open a → ((t : Tables) → may_leave a t → t ≡ tables a) → (t : Tables) →
       may_leave c t →

@@ -6,7 +6,8 @@ ghost use Rattle.acq_core.specs.Changes.{change_for};
 ghost use Rattle.acq_core.specs.Tables.{after_any, known_in, step_output};
 ghost use Rattle.acq_core.specs.Pasts.{HasPast};
 ghost use Rattle.acq_book.specs.Fits.{Fits};
-ghost use Rattle.acq_book.specs.Promise.{HasRisen, IfStore, Looks, Makes};
+ghost use Rattle.acq_book.specs.Calls.{Looks, Makes};
+ghost use Rattle.acq_book.specs.Promise.{HasRisen, IfStore};
 
 use crate::looking_up::{look_up, nothing_looked};
 use acq_book::{Book, BookFault};
@@ -24,8 +25,7 @@ pub(crate) fn decide<B: Book>(
         x.0 ≡ step_output (B.tables book.old) (arrival_of event.now)) }
     ensures change { B.is_open book.new → IfOk result (λ x. let a = arrival_of event.now in
         x.1 ≡ change_for (known_in (B.tables book.old) a) a) }
-    ensures looks { Looks B.tables B.is_honest B.is_open B.may_leave B.failures
-        book.old book.new (is_ok result) }
+    ensures looks { Looks B.Book book.old book.new (is_ok result) }
     ensures store { IfStore result (HasRisen (B.failures book.old) (B.failures book.new)) }
 {
     let arrival = Arrival::of(alloc, event)?;
@@ -40,7 +40,7 @@ pub(crate) fn decide<B: Book>(
 pub(crate) fn apply<B: Book>(book: &mut B, change: Option<Change>) -> Result<(), BookFault>
     requires fits { B.is_open book.old → IfSome change (Fits (B.tables book.old)) }
     requires past { B.is_open book.old → HasPast (after_any (B.tables book.old) change) }
-    ensures makes { Makes B.tables B.is_honest B.is_open B.may_leave B.failures
+    ensures makes { Makes B.Book
         book.old book.new (is_ok result) (after_any (B.tables book.old) change) }
     ensures store { IfStore result (HasRisen (B.failures book.old) (B.failures book.new)) }
 {

@@ -5,7 +5,8 @@ ghost use Rattle.std.specs.Prelude.{IfOk, IfErr, OnOk, OnErr};
 ghost use Rattle.acq_core.specs.Arrivals.{arrival_of};
 ghost use Rattle.acq_core.specs.Tables.{Tables, new_tables, outputs, step_output, step_tables};
 ghost use Rattle.acq_core.specs.Tables.{tables_after};
-ghost use Rattle.acq_book.specs.Promise.{HasRisen, IfStore, Makes};
+ghost use Rattle.acq_book.specs.Calls.{Makes};
+ghost use Rattle.acq_book.specs.Promise.{HasRisen, IfStore};
 ghost use Rattle.acq_host.specs.Clearing.{KeptItsClearing};
 ghost use Rattle.acq_host.specs.Headline.{IsAlone, KeptItsPostings};
 ghost use Rattle.acq_core.specs.Pasts.{HasPast};
@@ -81,8 +82,7 @@ impl<B: Book + Drop> Host<B> {
         // A reply is the text of one, and so fits a frame.
         ensures reply { B.is_honest self.new → B.is_open self.old → IfOk result IsWellSaid }
         // The tables after it, and what a stop at any moment may leave.
-        ensures tables { Makes B.tables B.is_honest B.is_open B.may_leave B.failures
-            self.old self.new (is_ok result)
+        ensures tables { Makes B.Book self.old self.new (is_ok result)
             (step_tables (B.tables self.old) (arrival_of event.now)) }
         ensures past { B.is_open self.new → HasPast (B.tables self.new) }
         ensures store { IfStore result (HasRisen (B.failures self.old) (B.failures self.new)) }
@@ -148,8 +148,7 @@ impl<B: Book + Drop> Host<B> {
         ensures said { B.is_honest self.new → B.is_open self.old → OnOk result (said.new.items
             ≡ said.old.items ++ step_output (B.tables self.old) (arrival_of event.now) ∷ []) }
         ensures kept { OnErr result (said.new.items ≡ said.old.items) }
-        ensures tables { Makes B.tables B.is_honest B.is_open B.may_leave B.failures
-            self.old self.new (is_ok result)
+        ensures tables { Makes B.Book self.old self.new (is_ok result)
             (step_tables (B.tables self.old) (arrival_of event.now)) }
         ensures past { B.is_open self.new → OnOk result (HasPast (B.tables self.new)) }
         ensures store { IfStore result (HasRisen (B.failures self.old) (B.failures self.new)) }

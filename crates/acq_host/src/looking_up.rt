@@ -7,7 +7,8 @@ ghost use Rattle.acq_core.specs.Looking.{known_of};
 ghost use Rattle.acq_core.specs.Tables.{Tables, known_in};
 ghost use Rattle.acq_book.specs.Lookups.{merchant_at, has_terminal_at, range_at, overlapping_at};
 ghost use Rattle.acq_book.specs.Lookups.{request_at, referred_at, admitted_at, used_at, totals_at};
-ghost use Rattle.acq_book.specs.Promise.{HasRisen, IfStore, Looks};
+ghost use Rattle.acq_book.specs.Calls.{Looks};
+ghost use Rattle.acq_book.specs.Promise.{HasRisen, IfStore};
 ghost use Rattle.acq_host.specs.Looked.{IsLooked};
 
 use acq_book::{Book, BookFault};
@@ -27,8 +28,7 @@ pub(crate) fn look_up<B: Book>(
 ) -> Result<(), BookFault>
     ensures known { B.is_open book.new → IsLooked (B.tables book.old) nothing looked.old
         → OnOk result (known_of looked.new ≡ known_in (B.tables book.old) arrival.now) }
-    ensures looks { Looks B.tables B.is_honest B.is_open B.may_leave B.failures
-        book.old book.new (is_ok result) }
+    ensures looks { Looks B.Book book.old book.new (is_ok result) }
     ensures store { IfStore result (HasRisen (B.failures book.old) (B.failures book.new)) }
 {
     let wanted = arrival.wanted(looked.today);
@@ -105,8 +105,7 @@ fn look_up_wanted<B: Book>(
 ) -> Result<(), BookFault>
     ensures looked { B.is_open book.new → IsLooked (B.tables book.old) nothing looked.old
         → OnOk result (IsLooked (B.tables book.old) wanted.now looked.new) }
-    ensures looks { Looks B.tables B.is_honest B.is_open B.may_leave B.failures
-        book.old book.new (is_ok result) }
+    ensures looks { Looks B.Book book.old book.new (is_ok result) }
     ensures store { IfStore result (HasRisen (B.failures book.old) (B.failures book.new)) }
 {
     let today = looked.today;
@@ -128,8 +127,7 @@ fn look_up_wanted<B: Book>(
 fn merchant<B: Book>(book: &mut B, id: Option<MerchantId>) -> Result<Option<Merchant>, BookFault>
     ensures value { B.is_open book.new → IfOk result (λ row.
         row ≡ option_and_then (merchant_at (B.tables book.old)) id) }
-    ensures looks { Looks B.tables B.is_honest B.is_open B.may_leave B.failures
-        book.old book.new (is_ok result) }
+    ensures looks { Looks B.Book book.old book.new (is_ok result) }
     ensures store { IfStore result (HasRisen (B.failures book.old) (B.failures book.new)) }
 {
     match id {
@@ -148,8 +146,7 @@ fn has_terminal<B: Book>(
     ensures value { B.is_open book.new → IfOk result (λ has.
         has ≡ holds_if (has_terminal_at (B.tables book.old) (or_empty merchant))
         (option_and_then (λ m. id) merchant)) }
-    ensures looks { Looks B.tables B.is_honest B.is_open B.may_leave B.failures
-        book.old book.new (is_ok result) }
+    ensures looks { Looks B.Book book.old book.new (is_ok result) }
     ensures store { IfStore result (HasRisen (B.failures book.old) (B.failures book.new)) }
 {
     match (merchant, id) {
@@ -163,8 +160,7 @@ fn has_terminal<B: Book>(
 fn admitted<B: Book>(book: &mut B, merchant: Option<MerchantId>) -> Result<AdmittedCount, BookFault>
     ensures value { B.is_open book.new → IfOk result (λ n.
         n ≡ number_if (admitted_at (B.tables book.old) (or_empty merchant)) merchant) }
-    ensures looks { Looks B.tables B.is_honest B.is_open B.may_leave B.failures
-        book.old book.new (is_ok result) }
+    ensures looks { Looks B.Book book.old book.new (is_ok result) }
     ensures store { IfStore result (HasRisen (B.failures book.old) (B.failures book.new)) }
 {
     match merchant {
@@ -187,8 +183,7 @@ fn used<B: Book>(
 ) -> Result<UsedCount, BookFault>
     ensures value { B.is_open book.new → IfOk result (λ n.
         n ≡ number_if (used_at (B.tables book.old) (or_empty merchant) day) merchant) }
-    ensures looks { Looks B.tables B.is_honest B.is_open B.may_leave B.failures
-        book.old book.new (is_ok result) }
+    ensures looks { Looks B.Book book.old book.new (is_ok result) }
     ensures store { IfStore result (HasRisen (B.failures book.old) (B.failures book.new)) }
 {
     match merchant {
@@ -212,8 +207,7 @@ fn totals<B: Book>(
     ensures value { B.is_open book.new → IfOk result (λ totals.
         totals ≡ totals_if (totals_at (B.tables book.old) (or_empty merchant))
         (option_and_then (λ m. day) merchant)) }
-    ensures looks { Looks B.tables B.is_honest B.is_open B.may_leave B.failures
-        book.old book.new (is_ok result) }
+    ensures looks { Looks B.Book book.old book.new (is_ok result) }
     ensures store { IfStore result (HasRisen (B.failures book.old) (B.failures book.new)) }
 {
     match (merchant, day) {
@@ -227,8 +221,7 @@ fn totals<B: Book>(
 fn range<B: Book>(book: &mut B, prefix: Option<Prefix>) -> Result<Option<Range>, BookFault>
     ensures value { B.is_open book.new → IfOk result (λ range.
         range ≡ option_and_then (range_at (B.tables book.old)) prefix) }
-    ensures looks { Looks B.tables B.is_honest B.is_open B.may_leave B.failures
-        book.old book.new (is_ok result) }
+    ensures looks { Looks B.Book book.old book.new (is_ok result) }
     ensures store { IfStore result (HasRisen (B.failures book.old) (B.failures book.new)) }
 {
     match prefix {
@@ -245,8 +238,7 @@ fn overlapping<B: Book>(
 ) -> Result<Option<Range>, BookFault>
     ensures value { B.is_open book.new → IfOk result (λ range.
         range ≡ option_and_then (λ ends. overlapping_at (B.tables book.old) ends.0 ends.1) bounds) }
-    ensures looks { Looks B.tables B.is_honest B.is_open B.may_leave B.failures
-        book.old book.new (is_ok result) }
+    ensures looks { Looks B.Book book.old book.new (is_ok result) }
     ensures store { IfStore result (HasRisen (B.failures book.old) (B.failures book.new)) }
 {
     match bounds {
@@ -260,8 +252,7 @@ fn overlapping<B: Book>(
 fn request<B: Book>(book: &mut B, key: Option<RequestKey>) -> Result<Option<Request>, BookFault>
     ensures value { B.is_open book.new → IfOk result (λ row.
         row ≡ option_and_then (request_at (B.tables book.old)) key) }
-    ensures looks { Looks B.tables B.is_honest B.is_open B.may_leave B.failures
-        book.old book.new (is_ok result) }
+    ensures looks { Looks B.Book book.old book.new (is_ok result) }
     ensures store { IfStore result (HasRisen (B.failures book.old) (B.failures book.new)) }
 {
     match key {
@@ -280,8 +271,7 @@ fn referred<B: Book>(
     ensures value { B.is_open book.new → IfOk result (λ row.
         row ≡ option_and_then (referred_at (B.tables book.old) (or_empty merchant))
         (option_and_then (λ m. reference) merchant)) }
-    ensures looks { Looks B.tables B.is_honest B.is_open B.may_leave B.failures
-        book.old book.new (is_ok result) }
+    ensures looks { Looks B.Book book.old book.new (is_ok result) }
     ensures store { IfStore result (HasRisen (B.failures book.old) (B.failures book.new)) }
 {
     match (merchant, reference) {

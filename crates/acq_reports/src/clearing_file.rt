@@ -1,7 +1,8 @@
 //! Clearing files.
 
 ghost use Rattle.std.specs.Prelude.{◌≡◌, ◌+◌, ◌∷◌, [], IfOk};
-ghost use Rattle.acq_book.specs.Promise.{HasRisen, Looks};
+ghost use Rattle.acq_book.specs.Calls.{Looks};
+ghost use Rattle.acq_book.specs.Promise.{HasRisen};
 ghost use Rattle.acq_reports.specs.ClearingFile.{clearing_text, posting_line};
 ghost use Rattle.acq_reports.specs.Faults.{IfStoreFailed, failed_writes, is_settled};
 ghost use Rattle.acq_reports.specs.Marks.{csv_line, leg_name};
@@ -40,8 +41,7 @@ pub fn clearing<B: Book, K: Sink>(
         (K.sent writer.old) (K.sent writer.new) result }
     ensures writes { B.is_honest book.new → B.is_open book.old
         → K.failures writer.new ≡ K.failures writer.old + failed_writes result }
-    ensures looks { Looks B.tables B.is_honest B.is_open B.may_leave B.failures
-        book.old book.new (is_settled result) }
+    ensures looks { Looks B.Book book.old book.new (is_settled result) }
     ensures store { IfStoreFailed result (HasRisen (B.failures book.old) (B.failures book.new)) }
 {
     check_day(book, day)?;
@@ -57,8 +57,7 @@ fn write_postings<B: Book, K: Sink>(
 ) -> Result<(), ReportFault>
     ensures text { B.is_honest book.new → B.is_open book.old → Writes K.sent K.failures
         (clearing_text (B.tables book.old) day) writer.old writer.new result }
-    ensures looks { Looks B.tables B.is_honest B.is_open B.may_leave B.failures
-        book.old book.new (is_settled result) }
+    ensures looks { Looks B.Book book.old book.new (is_settled result) }
     ensures store { IfStoreFailed result (HasRisen (B.failures book.old) (B.failures book.new)) }
 {
     let mut report = Report::new(alloc, writer);

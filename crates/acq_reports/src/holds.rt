@@ -3,7 +3,8 @@
 ghost use Rattle.std.specs.Prelude.{◌≡◌, ◌+◌, IfOk, unwrap_or};
 ghost use Rattle.day_totals.specs.Digits.{zero_padded};
 ghost use Rattle.acq_message.specs.Elements.{or_empty};
-ghost use Rattle.acq_book.specs.Promise.{HasRisen, Looks};
+ghost use Rattle.acq_book.specs.Calls.{Looks};
+ghost use Rattle.acq_book.specs.Promise.{HasRisen};
 ghost use Rattle.acq_reports.specs.Faults.{IfStoreFailed, failed_writes, is_settled};
 ghost use Rattle.acq_reports.specs.Marks.{csv_line};
 ghost use Rattle.acq_reports.specs.OpenHolds.{holds_text, hold_fields, is_before_end};
@@ -45,8 +46,7 @@ pub fn open_holds<B: Book, K: Sink>(
         (K.sent writer.old) (K.sent writer.new) result }
     ensures writes { B.is_honest book.new → B.is_open book.old
         → K.failures writer.new ≡ K.failures writer.old + failed_writes result }
-    ensures looks { Looks B.tables B.is_honest B.is_open B.may_leave B.failures
-        book.old book.new (is_settled result) }
+    ensures looks { Looks B.Book book.old book.new (is_settled result) }
     ensures store { IfStoreFailed result (HasRisen (B.failures book.old) (B.failures book.new)) }
 {
     check_merchant(book, merchant)?;
@@ -63,8 +63,7 @@ fn write_holds<B: Book, K: Sink>(
 ) -> Result<(), ReportFault>
     ensures text { B.is_honest book.new → B.is_open book.old → Writes K.sent K.failures
         (holds_text (B.tables book.old) merchant moment) writer.old writer.new result }
-    ensures looks { Looks B.tables B.is_honest B.is_open B.may_leave B.failures
-        book.old book.new (is_settled result) }
+    ensures looks { Looks B.Book book.old book.new (is_settled result) }
     ensures store { IfStoreFailed result (HasRisen (B.failures book.old) (B.failures book.new)) }
 {
     let mut holds = OpenHolds {

@@ -2,7 +2,8 @@
 
 ghost use Rattle.std.specs.Prelude.{◌≡◌, ◌++◌, ◌∷◌, [], is_ok, IfOk};
 ghost use Rattle.acq_book.specs.Lookups.{merchants_at};
-ghost use Rattle.acq_book.specs.Promise.{HasRisen, IfStore, Looks};
+ghost use Rattle.acq_book.specs.Calls.{Looks};
+ghost use Rattle.acq_book.specs.Promise.{HasRisen, IfStore};
 ghost use Rattle.acq_reports.specs.SettlementReport.{names_of};
 
 use acq_book::{Book, BookFault, Visit};
@@ -39,8 +40,7 @@ pub(crate) fn merchant_names<B: Book>(
 ) -> Result<Vec<MerchantId>, BookFault>
     ensures names { B.is_honest book.new → B.is_open book.old → IfOk result (λ names.
         names.items ≡ names_of (merchants_at (B.tables book.old))) }
-    ensures looks { Looks B.tables B.is_honest B.is_open B.may_leave B.failures
-        book.old book.new (is_ok result) }
+    ensures looks { Looks B.Book book.old book.new (is_ok result) }
     ensures store { IfStore result (HasRisen (B.failures book.old) (B.failures book.new)) }
 {
     let mut seen = Names {

@@ -1,6 +1,7 @@
 //! What is asked for that can't be given.
 
-ghost use Rattle.acq_book.specs.Promise.{HasRisen, Looks};
+ghost use Rattle.acq_book.specs.Calls.{Looks};
+ghost use Rattle.acq_book.specs.Promise.{HasRisen};
 ghost use Rattle.acq_reports.specs.Faults.{IfStoreFailed, is_settled};
 ghost use Rattle.acq_reports.specs.Refusals.{day_refusal, merchant_refusal};
 ghost use Rattle.acq_reports.specs.Writing.{Allows};
@@ -14,8 +15,7 @@ use day_totals::Day;
 #[tactic(auto, using(crate::proofs::Chains::looks_more))]
 pub(crate) fn check_day<B: Book>(book: &mut B, day: Day) -> Result<(), ReportFault>
     ensures refuses { B.is_open book.new → Allows (day_refusal (B.tables book.old) day) result }
-    ensures looks { Looks B.tables B.is_honest B.is_open B.may_leave B.failures
-        book.old book.new (is_settled result) }
+    ensures looks { Looks B.Book book.old book.new (is_settled result) }
     ensures store { IfStoreFailed result (HasRisen (B.failures book.old) (B.failures book.new)) }
 {
     let today = book.day()?;
@@ -34,8 +34,7 @@ pub(crate) fn check_day<B: Book>(book: &mut B, day: Day) -> Result<(), ReportFau
 pub(crate) fn check_merchant<B: Book>(book: &mut B, id: MerchantId) -> Result<(), ReportFault>
     ensures refuses { B.is_open book.new
         → Allows (merchant_refusal (B.tables book.old) id) result }
-    ensures looks { Looks B.tables B.is_honest B.is_open B.may_leave B.failures
-        book.old book.new (is_settled result) }
+    ensures looks { Looks B.Book book.old book.new (is_settled result) }
     ensures store { IfStoreFailed result (HasRisen (B.failures book.old) (B.failures book.new)) }
 {
     match book.merchant(id)? {

@@ -4,7 +4,8 @@ ghost use Rattle.std.specs.Prelude.{◌≡◌, ◌+◌, ◌++◌, is_ok, codes};
 ghost use Rattle.std.specs.Prelude.{IfOk, OnOk, OnErr};
 ghost use Rattle.std.specs.Fmt.{decimal};
 ghost use Rattle.std.specs.List.{flat_map};
-ghost use Rattle.acq_book.specs.Promise.{HasRisen, IfStore, Looks};
+ghost use Rattle.acq_book.specs.Calls.{Looks};
+ghost use Rattle.acq_book.specs.Promise.{HasRisen, IfStore};
 ghost use Rattle.acq_reports.specs.Faults.{IfStoreFailed, failed_writes, is_settled};
 ghost use Rattle.acq_reports.specs.Marks.{dotted};
 ghost use Rattle.acq_reports.specs.Refusals.{day_refusal};
@@ -50,8 +51,7 @@ pub fn settlement<B: Book, K: Sink>(
         (K.sent writer.old) (K.sent writer.new) result }
     ensures writes { B.is_honest book.new → B.is_open book.old
         → K.failures writer.new ≡ K.failures writer.old + failed_writes result }
-    ensures looks { Looks B.tables B.is_honest B.is_open B.may_leave B.failures
-        book.old book.new (is_settled result) }
+    ensures looks { Looks B.Book book.old book.new (is_settled result) }
     ensures store { IfStoreFailed result (HasRisen (B.failures book.old) (B.failures book.new)) }
 {
     check_day(book, day)?;
@@ -69,8 +69,7 @@ fn write_report<B: Book, K: Sink>(
 ) -> Result<(), ReportFault>
     ensures text { B.is_honest book.new → B.is_open book.old → Writes K.sent K.failures
         (report_on (B.tables book.old) day names.now) writer.old writer.new result }
-    ensures looks { Looks B.tables B.is_honest B.is_open B.may_leave B.failures
-        book.old book.new (is_settled result) }
+    ensures looks { Looks B.Book book.old book.new (is_settled result) }
     ensures store { IfStoreFailed result (HasRisen (B.failures book.old) (B.failures book.new)) }
 {
     let mut report = Report::new(alloc, writer);
@@ -88,8 +87,7 @@ fn write_lines<B: Book, K: Sink>(
 ) -> Result<(), BookFault>
     ensures text { B.is_honest book.new → B.is_open book.old → PutsReport K.sent K.failures
         (report_on (B.tables book.old) day names.now) report.old report.new result }
-    ensures looks { Looks B.tables B.is_honest B.is_open B.may_leave B.failures
-        book.old book.new (is_ok result) }
+    ensures looks { Looks B.Book book.old book.new (is_ok result) }
     ensures store { IfStore result (HasRisen (B.failures book.old) (B.failures book.new)) }
 {
     let alloc = report.alloc();
@@ -117,8 +115,7 @@ fn write_merchants<B: Book, K: Sink>(
     ensures text { B.is_honest book.new → B.is_open book.old → PutsLines K.sent K.failures
         (flat_map (merchant_line (B.tables book.old) day) names.now)
         report.old report.new result }
-    ensures looks { Looks B.tables B.is_honest B.is_open B.may_leave B.failures
-        book.old book.new (is_ok result) }
+    ensures looks { Looks B.Book book.old book.new (is_ok result) }
     ensures store { IfStore result (HasRisen (B.failures book.old) (B.failures book.new)) }
 {
     for name in names.iter() {
@@ -142,8 +139,7 @@ fn write_merchant<B: Book, K: Sink>(
     ensures put { B.is_open book.new → IfOk result (λ more. Puts K.sent K.failures
         (merchant_line (B.tables book.old) day name) report.old more report.new) }
     ensures unput { OnErr result (report.new ≡ report.old) }
-    ensures looks { Looks B.tables B.is_honest B.is_open B.may_leave B.failures
-        book.old book.new (is_ok result) }
+    ensures looks { Looks B.Book book.old book.new (is_ok result) }
     ensures store { IfStore result (HasRisen (B.failures book.old) (B.failures book.new)) }
 {
     let totals = book.totals(name, day)?;

@@ -13,7 +13,7 @@ use Rattle.std.proofs.lemmas.Bool.{and_parts}
 use Rattle.card_no.specs.Ranges.{are_apart, is_valid_range}
 use Rattle.acq_history.proofs.BooksAreSound.{books_are_sound}
 use Rattle.acq_book.specs.declared.book_fault.BookFault.{BookFault}
-use Rattle.acq_book.specs.Promise.{Looks}
+use Rattle.acq_book.specs.Promise.{LooksBy}
 use Rattle.acq_sql_rows.specs.Relation.{Holds}
 use Rattle.acq_sql_rows.specs.ReadBack.{tables_of}
 use Rattle.acq_sql_changes.specs.Changed.{IsAt}
@@ -110,7 +110,7 @@ module _ {S : Type 0} (g : Ghosts S) (old new : Kept S) (succeeded : Bool)
 
   -- what a look-up over the connection leaves, a look-up of the book leaves
   pub looks_at : old.failures ≤ new.failures
-      → Looks (tables g) (is_honest g) (is_open g) (may_leave g) (λ (b : Kept S). b.failures) old
+      → LooksBy (tables g) (is_honest g) (is_open g) (may_leave g) (λ (b : Kept S). b.failures) old
       new succeeded
   looks_at rise = record {
     was_honest = was_honest;

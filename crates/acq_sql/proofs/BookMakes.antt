@@ -11,7 +11,7 @@ use Rattle.acq_core.specs.declared.change.Change.{Change}
 use Rattle.acq_core.specs.Pasts.{HasPast}
 use Rattle.acq_core.specs.Tables as core
 use Rattle.acq_book.specs.Fits.{Fits}
-use Rattle.acq_book.specs.Promise.{Makes}
+use Rattle.acq_book.specs.Promise.{MakesBy}
 use Rattle.acq_sql_rows.specs.ReadBack.{tables_in}
 use Rattle.acq_sql_rows.proofs.TablesReadBack.{tables_of-holds}
 use Rattle.acq_sql_changes.specs.Changed.{IsAt, LeavesTables}
@@ -67,7 +67,7 @@ module _ {S T : Type 0} (g : Ghosts S) (law : LeavesCommit g) (old new : Kept S)
       step result undone is
 
   pub makes_at : old.failures ≤ new.failures
-      → Makes (tables g) (is_honest g) (is_open g) (may_leave g) (λ (b : Kept S). b.failures) old
+      → MakesBy (tables g) (is_honest g) (is_open g) (may_leave g) (λ (b : Kept S). b.failures) old
       new (is_ok result)
       changed
   makes_at rise = record {

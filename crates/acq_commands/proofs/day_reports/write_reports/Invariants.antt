@@ -1,12 +1,12 @@
 -- the reports so far went out whole, and the book is as it was
 use Rattle.std.proofs.Common.{◌≡◌, ◌++◌, true, take}
-use Rattle.acq_book.specs.Promise.{Looks}
+use Rattle.acq_book.specs.Calls.{Looks}
 use Rattle.acq_commands.specs.DayReports.{AreGiven, report_texts}
 use Rattle.acq_commands.proofs.day_reports.write_reports.Given as goal
 
 abbrev pub invariant-loop-report : goal.invariant-loop-report
 invariant-loop-report g l =
-    Looks g.B.Book.tables g.B.Book.is_honest g.B.Book.is_open g.B.Book.may_leave g.B.Book.failures
+    Looks g.B.Book
     l.fn.book l.book true
     × (g.B.Book.is_honest l.book → g.B.Book.is_open l.fn.book
     → AreGiven (g.B.Book.tables l.fn.book) (take l.report-index l.reports)

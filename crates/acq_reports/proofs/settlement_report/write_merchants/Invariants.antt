@@ -1,14 +1,14 @@
 -- the lines so far went out, and the book is as it was
 use Rattle.std.proofs.Common.{true, take}
 use Rattle.std.specs.List.{flat_map}
-use Rattle.acq_book.specs.Promise.{Looks}
+use Rattle.acq_book.specs.Calls.{Looks}
 use Rattle.acq_reports.specs.SettlementReport.{merchant_line}
 use Rattle.acq_reports.specs.Writing.{WentOut}
 use Rattle.acq_reports.proofs.settlement_report.write_merchants.Given as goal
 
 abbrev pub invariant-loop-name : goal.invariant-loop-name
 invariant-loop-name g l =
-    Looks g.B.Book.tables g.B.Book.is_honest g.B.Book.is_open g.B.Book.may_leave g.B.Book.failures
+    Looks g.B.Book
     l.fn.book l.book true
     × (g.B.Book.is_honest l.book → g.B.Book.is_open l.fn.book
     → WentOut g.K.Sink.sent g.K.Sink.failures

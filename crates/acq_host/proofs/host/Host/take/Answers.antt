@@ -4,7 +4,7 @@ use Rattle.std.specs.Prelude.{true, false, is_ok, IfSome}
 use Rattle.acq_core.specs.Arrivals.{arrival_of}
 use Rattle.acq_core.specs.Tables.{after_any, step_output, step_tables}
 use Rattle.acq_book.specs.Fits.{Fits}
-use Rattle.acq_book.specs.Promise.{Makes}
+use Rattle.acq_book.specs.Calls.{Makes}
 use Rattle.acq_core.specs.Pasts.{IsBook, HasPast}
 use Rattle.acq_history.proofs.BooksAreSound.{books_are_sound}
 use Rattle.acq_history.proofs.BooksGoOn.{books_go_on}
@@ -34,13 +34,11 @@ pub returns-in_err-apply-clause-tables : goal.returns-in_err-apply-clause-tables
 returns-in_err-apply-clause-tables g c =
     let looks = c.in_ok-output.ensures.looks in
     let failed : is_ok c.from_residual-in_err-apply.result ≡ false = search rules in
-    subst (λ ok. Makes g.B.Book.tables g.B.Book.is_honest g.B.Book.is_open g.B.Book.may_leave
-    g.B.Book.failures
+    subst (λ ok. Makes g.B.Book
     c.args.self.now c.apply.new.book ok
     (step_tables (g.B.Book.tables c.args.self.now) (arrival_of c.args.event.now)))
     (sym failed)
-    (subst (λ b. Makes g.B.Book.tables g.B.Book.is_honest g.B.Book.is_open g.B.Book.may_leave
-    g.B.Book.failures b
+    (subst (λ b. Makes g.B.Book b
     c.apply.new.book false (step_tables (g.B.Book.tables b) (arrival_of c.args.event.now)))
     c.self.view_is
     (makes_after g.B.Book.tables g.B.Book.is_honest g.B.Book.is_open g.B.Book.may_leave
@@ -91,8 +89,7 @@ returns-clause-reply g c = λ h o party text is.
 pub returns-clause-tables : goal.returns-clause-tables
 returns-clause-tables g c =
     let looks = c.in_ok-output.ensures.looks in
-    subst (λ b. Makes g.B.Book.tables g.B.Book.is_honest g.B.Book.is_open g.B.Book.may_leave
-    g.B.Book.failures b
+    subst (λ b. Makes g.B.Book b
     c.apply.new.book true (step_tables (g.B.Book.tables b) (arrival_of c.args.event.now)))
     c.self.view_is
     (makes_after g.B.Book.tables g.B.Book.is_honest g.B.Book.is_open g.B.Book.may_leave

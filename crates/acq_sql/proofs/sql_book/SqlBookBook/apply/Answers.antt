@@ -2,7 +2,7 @@ use Rattle.std.proofs.Common.{is_ok, subst, sym}
 use Rattle.acq_core.specs.Pasts.{HasPast}
 use Rattle.acq_core.specs.Tables.{after}
 use Rattle.acq_book.specs.Fits.{Fits}
-use Rattle.acq_book.specs.Promise.{Makes}
+use Rattle.acq_book.specs.Promise.{MakesBy}
 use Rattle.acq_sql.specs.Kept.{Kept}
 use Rattle.acq_sql.specs.Opened.{tables, is_honest, is_open, may_leave}
 use Rattle.acq_sql.proofs.BookMakes.{makes_at}
@@ -15,12 +15,12 @@ returns-clause-makes g c =
     let now : Kept _ =
     record { connection = c.apply-made.new.conn; failures = c.counted.new.failures } in
     let change = c.args.change.now in
-    subst (λ (k : Kept _). Makes (tables g.S.Store) (is_honest g.S.Store) (is_open g.S.Store)
+    subst (λ (k : Kept _). MakesBy (tables g.S.Store) (is_honest g.S.Store) (is_open g.S.Store)
     (may_leave g.S.Store)
     (λ (book : Kept _). book.failures) k now (is_ok c.counted.result)
     (after (tables g.S.Store k) change))
     c.self.view_is
-    (subst (λ b. Makes (tables g.S.Store) (is_honest g.S.Store) (is_open g.S.Store)
+    (subst (λ b. MakesBy (tables g.S.Store) (is_honest g.S.Store) (is_open g.S.Store)
     (may_leave g.S.Store)
     (λ (book : Kept _). book.failures) old now b (after (tables g.S.Store old) change))
     (sym c.counted.ensures.succeeds)
