@@ -276,21 +276,26 @@ decision_of_terminal terminal there (Some merchant) =
     if there then Reports output.Done else AddsTerminal terminal
 
 -- ---- what is to be done about what came
-abbrev pub decision_under : PrefixProfile → Known → Arrival → Decision
-decision_under profile k (arrival.Undecoded fault) = Reports (output.Undecodable fault)
-decision_under profile k (arrival.Unserved m) = Reports (output.UnservedType m.kind)
-decision_under profile k (arrival.Malformed r) = Replies r code.FormatError
-decision_under profile k (arrival.Requested r) = decision_of_request r.service k r
-decision_under profile k (arrival.Answered moment merchant reference verdict) =
-    decision_of_answer k moment verdict k.merchant
-decision_under profile k arrival.CutOver = if nat_lt k.today last_day then CutsOver else Reports output.LastDay
-decision_under profile k (arrival.RangeAdded range) =
-    if is_valid_range_under profile range then decision_of_new_range range k.overlapped
-    else Reports output.BadRange
-decision_under profile k (arrival.RangeDropped low high) = decision_of_old_range low high k.overlapped
-decision_under profile k (arrival.Enrolled merchant) = decision_of_enrolment merchant k.merchant
-decision_under profile k (arrival.TerminalAdded terminal) =
-    decision_of_terminal terminal k.has_terminal k.merchant
 
+-- under a profile of prefixes
+module _ (profile : PrefixProfile) where
+  abbrev pub decision_under : Known → Arrival → Decision
+  decision_under k (arrival.Undecoded fault) = Reports (output.Undecodable fault)
+  decision_under k (arrival.Unserved m) = Reports (output.UnservedType m.kind)
+  decision_under k (arrival.Malformed r) = Replies r code.FormatError
+  decision_under k (arrival.Requested r) = decision_of_request r.service k r
+  decision_under k (arrival.Answered moment merchant reference verdict) =
+      decision_of_answer k moment verdict k.merchant
+  decision_under k arrival.CutOver =
+      if nat_lt k.today last_day then CutsOver else Reports output.LastDay
+  decision_under k (arrival.RangeAdded range) =
+      if is_valid_range_under profile range then decision_of_new_range range k.overlapped
+      else Reports output.BadRange
+  decision_under k (arrival.RangeDropped low high) = decision_of_old_range low high k.overlapped
+  decision_under k (arrival.Enrolled merchant) = decision_of_enrolment merchant k.merchant
+  decision_under k (arrival.TerminalAdded terminal) =
+      decision_of_terminal terminal k.has_terminal k.merchant
+
+-- under the one in force
 abbrev pub decision : Known → Arrival → Decision
 decision = decision_under in_force

@@ -89,15 +89,6 @@ nothing =
       totals_day = None;
     }
 
--- the prefix of a valid card
-abbrev pub prefix_in_under : PrefixProfile → IsoMessage → Option ℕ
-prefix_in_under profile m =
-    if is_valid_card (or_empty (card_of m)) then Some (prefix_of_under profile (or_empty (card_of m)))
-    else None
-
-abbrev pub prefix_in : IsoMessage → Option ℕ
-prefix_in = prefix_in_under in_force
-
 -- the day that a reconciliation is of: today, or the latest day with the month and day of element
 -- 15
 abbrev pub reconciled_day : ℕ → Option (List ℕ) → Option ℕ
@@ -113,45 +104,64 @@ wanted_by_key service m =
       key = Some (key_of service m);
     }
 
--- what a request of each service needs
-abbrev pub wanted_for_under : PrefixProfile → ℕ → Service → IsoMessage → Wanted
-wanted_for_under profile today Authorization m =
-    record (wanted_by_key Authorization m) { prefix = prefix_in_under profile m }
-wanted_for_under profile today Financial m =
-    record (wanted_by_key Financial m) { prefix = prefix_in_under profile m }
-wanted_for_under profile today Completion m =
-    record (wanted_by_key Completion m) { reference = reference_in m }
-wanted_for_under profile today Reversal m =
-    record (wanted_by_key Reversal m) { original = original_key m }
-wanted_for_under profile today ReversalAdvice m =
-    record (wanted_by_key ReversalAdvice m) { original = original_key m }
-wanted_for_under profile today Reconciliation m =
-    record (wanted_by_key Reconciliation m) {
-      totals_day = reconciled_day today (content_of m.elements 15);
-    }
-wanted_for_under profile today NetworkManagement m = nothing
+-- ---- under a profile of prefixes
+
+module _ (profile : PrefixProfile) where
+  -- the prefix of a valid card
+  abbrev pub prefix_in_under : IsoMessage → Option ℕ
+  prefix_in_under m =
+      if is_valid_card (or_empty (card_of m))
+      then Some (prefix_of_under profile (or_empty (card_of m)))
+      else None
+
+  -- what a request of each service needs
+  abbrev pub wanted_for_under : ℕ → Service → IsoMessage → Wanted
+  wanted_for_under today Authorization m =
+      record (wanted_by_key Authorization m) { prefix = prefix_in_under m }
+  wanted_for_under today Financial m =
+      record (wanted_by_key Financial m) { prefix = prefix_in_under m }
+  wanted_for_under today Completion m =
+      record (wanted_by_key Completion m) { reference = reference_in m }
+  wanted_for_under today Reversal m =
+      record (wanted_by_key Reversal m) { original = original_key m }
+  wanted_for_under today ReversalAdvice m =
+      record (wanted_by_key ReversalAdvice m) { original = original_key m }
+  wanted_for_under today Reconciliation m =
+      record (wanted_by_key Reconciliation m) {
+        totals_day = reconciled_day today (content_of m.elements 15);
+      }
+  wanted_for_under today NetworkManagement m = nothing
+
+  -- what to look up on a day for what came
+  abbrev pub wanted_by_under : ℕ → Arrival → Wanted
+  wanted_by_under today (arrival.Undecoded fault) = nothing
+  wanted_by_under today (arrival.Unserved m) = nothing
+  wanted_by_under today (arrival.Malformed r) = nothing
+  wanted_by_under today (arrival.Requested r) = wanted_for_under today r.service r.message
+  wanted_by_under today (arrival.Answered moment merchant reference verdict) =
+      record nothing { merchant = Some merchant; reference = Some reference }
+  wanted_by_under today arrival.CutOver = nothing
+  wanted_by_under today (arrival.RangeAdded range) =
+      record nothing { bounds = Some (range.low, range.high) }
+  wanted_by_under today (arrival.RangeDropped low high) =
+      record nothing { bounds = Some (low, high) }
+  wanted_by_under today (arrival.Enrolled merchant) =
+      record nothing { merchant = Some merchant.id }
+  wanted_by_under today (arrival.TerminalAdded terminal) =
+      record nothing { merchant = Some terminal.merchant; terminal = Some terminal.id }
+
+-- ---- under the one in force
+
+abbrev pub prefix_in : IsoMessage → Option ℕ
+prefix_in = prefix_in_under in_force
 
 abbrev pub wanted_for : ℕ → Service → IsoMessage → Wanted
 wanted_for = wanted_for_under in_force
 
--- what to look up on a day for what came
-abbrev pub wanted_by_under : PrefixProfile → ℕ → Arrival → Wanted
-wanted_by_under profile today (arrival.Undecoded fault) = nothing
-wanted_by_under profile today (arrival.Unserved m) = nothing
-wanted_by_under profile today (arrival.Malformed r) = nothing
-wanted_by_under profile today (arrival.Requested r) = wanted_for_under profile today r.service r.message
-wanted_by_under profile today (arrival.Answered moment merchant reference verdict) =
-    record nothing { merchant = Some merchant; reference = Some reference }
-wanted_by_under profile today arrival.CutOver = nothing
-wanted_by_under profile today (arrival.RangeAdded range) =
-    record nothing { bounds = Some (range.low, range.high) }
-wanted_by_under profile today (arrival.RangeDropped low high) = record nothing { bounds = Some (low, high) }
-wanted_by_under profile today (arrival.Enrolled merchant) = record nothing { merchant = Some merchant.id }
-wanted_by_under profile today (arrival.TerminalAdded terminal) =
-    record nothing { merchant = Some terminal.merchant; terminal = Some terminal.id }
-
 abbrev pub wanted_by : ℕ → Arrival → Wanted
 wanted_by = wanted_by_under in_force
+
+-- ---- what the look-ups give
 
 -- whether a terminal that is wanted is there
 abbrev pub holds_if : (List ℕ → Bool) → Option (List ℕ) → Bool

@@ -1,6 +1,6 @@
 -- The tables, what their rows say of a merchant, what a change makes of them, and whole runs over
 -- them.
-use Rattle.std.specs.Prelude.{ℕ, ◌+◌, ◌==◌, Bool, true, false, ◌&&◌, List, [], ◌∷◌, ◌++◌, map}
+use Rattle.std.specs.Prelude.{ℕ, ◌+◌, ◌==◌, Bool, ◌&&◌, List, [], ◌∷◌, ◌++◌, map}
 use Rattle.std.specs.Prelude.{filter, find, Option, Some, None, option_map, is_some}
 use Rattle.std.specs.Prelude.{if◌then◌else◌}
 use Rattle.std.specs.List.{list_any}
@@ -248,33 +248,31 @@ abbrev pub after_any : Tables → Option Change → Tables
 after_any t None = t
 after_any t (Some change) = after t change
 
--- ---- steps and runs under a profile
+-- ---- steps and runs
 
--- what the host says to what came
-abbrev pub step_output_under : PrefixProfile → Tables → Arrival → Output
-step_output_under profile t a =
-    output_of (merchant_named a) (outcome_under profile (known_in_under profile t a) a)
+-- under a profile of prefixes
+module _ (profile : PrefixProfile) where
+  -- what the host says to what came
+  abbrev pub step_output_under : Tables → Arrival → Output
+  step_output_under t a =
+      output_of (merchant_named a) (outcome_under profile (known_in_under profile t a) a)
 
--- the tables after what came
-abbrev pub step_tables_under : PrefixProfile → Tables → Arrival → Tables
-step_tables_under profile t a =
-    after_any t (change_for_under profile (known_in_under profile t a) a)
+  -- the tables after what came
+  abbrev pub step_tables_under : Tables → Arrival → Tables
+  step_tables_under t a = after_any t (change_for_under profile (known_in_under profile t a) a)
 
--- what the host says to events, one after the other
-abbrev pub outputs_under : PrefixProfile → Tables → List Event → List Output
-outputs_under profile t [] = []
-outputs_under profile t (e ∷ es) =
-    step_output_under profile t (arrival_of e)
-    ∷ outputs_under profile (step_tables_under profile t (arrival_of e)) es
+  -- what the host says to events, one after the other
+  abbrev pub outputs_under : Tables → List Event → List Output
+  outputs_under t [] = []
+  outputs_under t (e ∷ es) =
+      step_output_under t (arrival_of e) ∷ outputs_under (step_tables_under t (arrival_of e)) es
 
--- the tables after events
-abbrev pub tables_after_under : PrefixProfile → Tables → List Event → Tables
-tables_after_under profile t [] = t
-tables_after_under profile t (e ∷ es) =
-    tables_after_under profile (step_tables_under profile t (arrival_of e)) es
+  -- the tables after events
+  abbrev pub tables_after_under : Tables → List Event → Tables
+  tables_after_under t [] = t
+  tables_after_under t (e ∷ es) = tables_after_under (step_tables_under t (arrival_of e)) es
 
--- ---- under the one in force
-
+-- under the one in force
 abbrev pub step_output : Tables → Arrival → Output
 step_output = step_output_under in_force
 
