@@ -50,7 +50,7 @@ use Rattle.acq_history.proofs.PostingsOfChangedRows.{Grows-replaced, from_replac
 use Rattle.acq_history.proofs.Lookups.{some_is}
 use Rattle.acq_history.proofs.RowsWithChanges.{Edits, followed_kept, answered_kept}
 use Rattle.acq_history.proofs.StepCases.{by_step, IsRecording, IsCompletion, IsReversal}
-use Rattle.acq_history.proofs.StepCases.{next_reference, IsAdmission}
+use Rattle.acq_history.proofs.StepCases.{next_reference, IsAdmission, IsAnswering}
 use Rattle.acq_core.specs.declared.arrival.Arrival.{Arrival}
 use Rattle.acq_history.proofs.Runs.{kept}
 
@@ -392,20 +392,6 @@ sound_reversed t r merchant row g c s = record {
 
 -- ---- an answer
 
--- one that posts nothing
-sound_answered_unposted : (t : Tables) (row : Request) (st : Status) (reply : IsoMessage)
-    (until : Option ℕ) →
-    In row t.requests → row.status ≡ status.Pending →
-    posted (answered_row st reply until row) ≡ posted row → IsInOrder t →
-    AreInOrder t.day t.merchants (edited t row (answered_row st reply until)) t.postings
-sound_answered_unposted t row st reply until i pending same s =
-    let e = edited_is t row (answered_row st reply until) (answered_kept st reply until) i
-    (ap is_reversible pending) s in
-    record {
-      well_formed = e.well_formed;
-      match_rows = unposted s.match_rows (e.grows (λ k f. same ∙ f)) (e.from same);
-    }
-
 -- what an approval posts under a leg
 abbrev sold : Request → Leg → Posting
 sold row leg =
@@ -420,103 +406,113 @@ sold row leg =
       trace = row.key.trace;
     }
 
--- an approval of a sale or return
-sound_sold : (t : Tables) (row : Request) (n : ℕ) (leg : Leg) (reply : IsoMessage)
-    (until : Option ℕ) →
-    In row t.requests →
-    row.status ≡ status.Pending → row.reference ≡ Some n → leg_by row.key.service row ≡ Some leg →
-    IsInOrder t →
-    AreInOrder t.day t.merchants (edited t row (answered_row status.Approved reply until))
-    (with_next_posting t.postings (approval_posting (prior_of row) (Some leg)))
-sound_sold t row n leg reply until i pending reference legged s = record {
-  well_formed = e.well_formed;
-  match_rows =
-      posted_next s.match_rows (e.grows (λ k f. absurd (let none = unposted_yet in cc)))
-      from (record {
-        reversal = false;
-        reverses = λ yes. absurd (cc);
-        leg = ap is_reversal_leg of.same ∙ s.well_formed.legs row i of.service;
-        first =
-            λ h. none_posted row n s.well_formed i reference unposted_yet incomplete
-            (subst (λ k. HasPosted false t.requests row.key.merchant k) number h);
-        made = record {
-          row = answered_row status.Approved reply until row;
-          member = e.replaced.changed;
-          merchant = refl;
-          under = now ∙ ap (λ k. Some k) (sym number);
-        };
-      });
-}
-  where
-    e : IsEdited t row (answered_row status.Approved reply until)
-    e = edited_is t row (answered_row status.Approved reply until)
-        (answered_kept status.Approved reply until) i (ap is_reversible pending) s
+-- to a pending request, with what it gets as its reply and its end
+module _ {a : Arrival} {moment : ℕ} {v : Verdict} (t : Tables) (row : Request)
+    (c : IsAnswering t a moment v row) (s : IsInOrder t) (reply : IsoMessage)
+    (until : Option ℕ) where
+  -- the row after it
+  abbrev after_answer : Status → Request → Request
+  after_answer st = answered_row st reply until
 
-    incomplete : row.status ≡ status.Completed → ⊥
-    incomplete f = cc
+  -- the rows, where the row gets this status, and a posting more
+  abbrev AnsweredInOrder : Status → Option Posting → Type 0
+  AnsweredInOrder st o =
+      AreInOrder t.day t.merchants (edited t row (after_answer st)) (with_next_posting t.postings o)
 
-    of : IsLegOf row.key.service row leg
-    of = leg_of row.key.service row leg legged
+  answered_is : (st : Status) → IsEdited t row (after_answer st)
+  answered_is st =
+      edited_is t row (after_answer st) (answered_kept st reply until) c.member
+      (ap is_reversible c.pending) s
 
-    kind : row.key.service ≡ Financial
-    kind = leg_by_admissible row.key.service row leg legged
-        (s.well_formed.admissible row n i reference)
+  -- one that posts nothing
+  answered_unposted : (st : Status) → posted (after_answer st row) ≡ posted row →
+      AnsweredInOrder st None
+  answered_unposted st same =
+      let e = answered_is st in
+      record {
+        well_formed = e.well_formed;
+        match_rows = unposted s.match_rows (e.grows (λ k f. same ∙ f)) (e.from same);
+      }
 
-    unposted_yet : posted row ≡ None
-    unposted_yet = ap (λ k. posted_by k row) kind ∙ ap (λ k. cond (is_posted k) row.reference None)
-        pending
-
-    now : posted (answered_row status.Approved reply until row) ≡ Some n
-    now = ap (λ k. posted_by k (answered_row status.Approved reply until row)) kind ∙ reference
-
-    number : or_zero (reference_by row.key.service row) ≡ n
-    number = ap or_zero (ap (λ k. reference_by k row) kind ∙ reference)
-
-    from : FromBeforeOr t.postings (sold row leg)
-        (edited t row (answered_row status.Approved reply until))
-    from x k j f = elim (e.replaced.before x j) [
-      | inl old ↦ inl (s.match_rows.there x k old.0 f)
-      | inr changed ↦
-          let mine : IsPostingOf (sold row leg) (answered_row status.Approved reply until row) k =
-          record {
+  -- an approval of a sale or return
+  answered_sold : (leg : Leg) → leg_by row.key.service row ≡ Some leg →
+      AnsweredInOrder status.Approved (approval_posting (prior_of row) (Some leg))
+  answered_sold leg legged = record {
+    well_formed = e.well_formed;
+    match_rows =
+        posted_next s.match_rows (e.grows (λ k f. absurd (let none = unposted_yet in cc)))
+        from (record {
+          reversal = false;
+          reverses = λ yes. absurd (cc);
+          leg = ap is_reversal_leg of.same ∙ s.well_formed.legs row c.member of.service;
+          first =
+              λ h. none_posted row c.number s.well_formed c.member c.reference unposted_yet
+              incomplete (subst (λ k. HasPosted false t.requests row.key.merchant k) number h);
+          made = record {
+            row = after_answer status.Approved row;
+            member = e.replaced.changed;
             merchant = refl;
-            reference = number ∙ some_is n k (sym now ∙ (ap posted changed ∙ f));
-            leg = of.same;
-            amount = refl;
-            card = refl;
-            day = refl;
-          } in
-          inr (subst (λ y. IsPostingOf (sold row leg) y k) changed mine)
-    ]
+            under = now ∙ ap (λ k. Some k) (sym number);
+          };
+        });
+  }
+    where
+      e : IsEdited t row (after_answer status.Approved)
+      e = answered_is status.Approved
 
--- an approval
-sound_approved : (t : Tables) (row : Request) (n : ℕ) (reply : IsoMessage) (until : Option ℕ) →
-    In row t.requests → row.status ≡ status.Pending → row.reference ≡ Some n → IsInOrder t →
-    AreInOrder t.day t.merchants (edited t row (answered_row status.Approved reply until))
-    (with_next_posting t.postings (approval_posting (prior_of row) (leg_by row.key.service row)))
-sound_approved t row n reply until i pending reference s = step (leg_by row.key.service row) refl
-  where
-    step : (o : Option Leg) → leg_by row.key.service row ≡ o →
-        AreInOrder t.day t.merchants (edited t row (answered_row status.Approved reply until))
-        (with_next_posting t.postings (approval_posting (prior_of row) o))
-    step None f =
-        sound_answered_unposted t row status.Approved reply until i pending
-        (posted_unsold row.key.service (answered_row status.Approved reply until row) row n f
-        reference refl) s
-    step (Some leg) f = sound_sold t row n leg reply until i pending reference f s
+      incomplete : row.status ≡ status.Completed → ⊥
+      incomplete f = let pending = c.pending in cc
 
--- any answer to a pending request
-sound_answered : (t : Tables) (v : Verdict) (row : Request) (n : ℕ) (reply : IsoMessage)
-    (until : Option ℕ) →
-    In row t.requests → row.status ≡ status.Pending → row.reference ≡ Some n → IsInOrder t →
-    AreInOrder t.day t.merchants (edited t row (answered_row (answered_status v) reply until))
-    (with_next_posting t.postings (answer_posting v (prior_of row)))
-sound_answered t (verdict.Approved id) row n reply until i pending reference s =
-    sound_approved t row n reply until i pending reference s
-sound_answered t v row n reply until i pending reference s =
-    sound_answered_unposted t row status.Declined reply until i pending
-    (posted_same row.key.service (answered_row status.Declined reply until row) row
-    (sym (ap is_posted pending)) refl refl) s
+      of : IsLegOf row.key.service row leg
+      of = leg_of row.key.service row leg legged
+
+      kind : row.key.service ≡ Financial
+      kind = leg_by_admissible row.key.service row leg legged
+          (s.well_formed.admissible row c.number c.member c.reference)
+
+      unposted_yet : posted row ≡ None
+      unposted_yet = ap (λ k. posted_by k row) kind
+          ∙ ap (λ k. cond (is_posted k) row.reference None) c.pending
+
+      now : posted (after_answer status.Approved row) ≡ Some c.number
+      now = ap (λ k. posted_by k (after_answer status.Approved row)) kind ∙ c.reference
+
+      number : or_zero (reference_by row.key.service row) ≡ c.number
+      number = ap or_zero (ap (λ k. reference_by k row) kind ∙ c.reference)
+
+      from : FromBeforeOr t.postings (sold row leg) (edited t row (after_answer status.Approved))
+      from x k j f = elim (e.replaced.before x j) [
+        | inl old ↦ inl (s.match_rows.there x k old.0 f)
+        | inr changed ↦
+            let mine : IsPostingOf (sold row leg) (after_answer status.Approved row) k =
+            record {
+              merchant = refl;
+              reference = number ∙ some_is c.number k (sym now ∙ (ap posted changed ∙ f));
+              leg = of.same;
+              amount = refl;
+              card = refl;
+              day = refl;
+            } in
+            inr (subst (λ y. IsPostingOf (sold row leg) y k) changed mine)
+      ]
+
+  -- an approval
+  answered_approved : (o : Option Leg) → leg_by row.key.service row ≡ o →
+      AnsweredInOrder status.Approved (approval_posting (prior_of row) o)
+  answered_approved None f =
+      answered_unposted status.Approved
+      (posted_unsold row.key.service (after_answer status.Approved row) row c.number f c.reference
+      refl)
+  answered_approved (Some leg) f = answered_sold leg f
+
+  -- any answer
+  answered : (given : Verdict) →
+      AnsweredInOrder (answered_status given) (answer_posting given (prior_of row))
+  answered (verdict.Approved id) = answered_approved (leg_by row.key.service row) refl
+  answered other =
+      answered_unposted status.Declined
+      (posted_same row.key.service (after_answer status.Declined row) row
+      (sym (ap is_posted c.pending)) refl refl)
 
 -- ---- steps
 
@@ -536,8 +532,7 @@ sound_step t a s =
       reversed = λ r merchant g row c. sound_reversed t r merchant row g c s;
       reconciled = λ r merchant g day c.
           sound_with_row t _ g.new refl refl refl refl (omega arith) s;
-      answered = λ moment v row c.
-          sound_answered t v row c.number _ _ c.member c.pending c.reference s;
+      answered = λ moment v row c. answered t row c s _ _ v;
       cut_over = λ came before.
           record {
             well_formed = well_formed_later (omega arith) s.well_formed;

@@ -144,7 +144,8 @@ record IsMade (m : List ℕ) (on : ℕ) (p : Posting) : Type 0 where
   amount : is_accepted_amount p.amount ≡ true
   reference : is_reference p.reference ≡ true
 
-some_of : (m : List ℕ) (on : ℕ) (o : Option Posting) → IfSome o (IsMade m on) → IfSome o (IsOfDay m on)
+some_of : (m : List ℕ) (on : ℕ) (o : Option Posting) → IfSome o (IsMade m on) →
+    IfSome o (IsOfDay m on)
 some_of m on None h = tt
 some_of m on (Some p) h = h.of
 
