@@ -43,7 +43,7 @@ use Rattle.acq_history.proofs.RowsStayWellFormed.{replaced}
 use Rattle.acq_history.proofs.PostingsOfChangedRows.{IsLegOf, IsReversible, reversed_as}
 use Rattle.acq_history.proofs.PostingsOfChangedRows.{posted_same, posted_none, posted_reversing}
 use Rattle.acq_history.proofs.PostingsOfChangedRows.{posted_unsold, leg_of, leg_by_admissible}
-use Rattle.acq_history.proofs.PostingsOfChangedRows.{reversal_leg_is, is_open_until_row, reversible}
+use Rattle.acq_history.proofs.PostingsOfChangedRows.{reversal_leg_is, reversible}
 use Rattle.acq_history.proofs.PostingsOfChangedRows.{posted_leg_approved, once_posted, none_posted}
 use Rattle.acq_history.proofs.PostingsOfChangedRows.{Grows-push, Grows-both, from_push, pushed}
 use Rattle.acq_history.proofs.PostingsOfChangedRows.{Grows-replaced, from_replaced}
@@ -53,6 +53,7 @@ use Rattle.acq_history.proofs.StepCases.{by_step, IsRecording, IsCompletion, IsR
 use Rattle.acq_history.proofs.StepCases.{next_reference, IsAdmission, IsAnswering}
 use Rattle.acq_core.specs.declared.arrival.Arrival.{Arrival}
 use Rattle.acq_history.proofs.Runs.{kept}
+use Rattle.acq_history.proofs.Statuses.{open_row, is_some_open}
 
 -- what holds of every book
 record AreInOrder (day : ℕ) (merchants : List Merchant) (rows : List Request)
@@ -247,7 +248,7 @@ sound_completed t r merchant hold g c s = record {
     posting = completion_posting t.day r (prior_of hold)
 
     is : (hold.key.service ≡ Authorization) × (hold.status ≡ status.Approved)
-    is = is_open_until_row hold.key.service hold r.moment c.opens
+    is = open_row hold.key.service hold (is_some_open r.moment (prior_of hold).hold_end c.opens)
 
     e : IsEdited t hold done
     e = edited_is t hold done (followed_kept status.Completed) c.member (ap is_reversible is.1) s

@@ -41,6 +41,9 @@ pub not_some : {X : Type 0} (o : Option X) → not (is_some o) ≡ true → o �
 not_some None e = refl
 not_some (Some x) e = absurd (cc)
 
+pub none_some : {X P : Type 0} (x : X) → None ≡ Some x → P
+none_some x e = absurd (cc)
+
 pub some_is : {X : Type 0} (x y : X) → Some x ≡ Some y → x ≡ y
 some_is x y e = cc
 

@@ -16,10 +16,8 @@ use Rattle.acq_core.specs.declared.status.Status.{Status}
 use Rattle.acq_core.specs.declared.status.Status.TheVariants.{Pending, Approved, Completed}
 use Rattle.acq_core.specs.declared.posting.Posting.{Posting}
 use Rattle.acq_message.specs.Elements.{or_empty}
-use Rattle.acq_core.specs.Decision.{is_open_at}
 use Rattle.acq_core.specs.Changes.{reversal_leg, reversed_status, posted_leg}
-use Rattle.acq_core.specs.Tables.{reply_state_of, is_reversible, is_approved, leg_by, reference_by}
-use Rattle.acq_core.specs.Tables.{hold_end_by}
+use Rattle.acq_core.specs.Tables.{reply_state_of, is_reversible, leg_by, reference_by}
 use Rattle.acq_history.specs.Entries.{is_admissible, is_reversal}
 use Rattle.acq_history.specs.Conservation.{is_reversal_leg}
 use Rattle.acq_history.proofs.Members.{In, In-first, In-push}
@@ -28,7 +26,6 @@ use Rattle.acq_history.proofs.PostingsOfRequests.{reversed_under, HasPosted, Has
 use Rattle.acq_history.proofs.PostingsOfRequests.{PostingsMatchRows, Grows, FromBefore, unposted}
 use Rattle.acq_history.proofs.PostingsOfRequests.{under_by}
 use Rattle.acq_history.proofs.RowsStayWellFormed.{IsWellFormed, IsReplaced}
-use Rattle.acq_history.proofs.Statuses.{is_approved_is}
 use Rattle.acq_history.proofs.RowsWithChanges.{IsChange}
 use Rattle.acq_history.proofs.Lookups.{clash}
 
@@ -143,19 +140,6 @@ reversal_leg_is DebitReversal e = absurd (cc)
 reversal_leg_is other e = refl
 
 -- ---- status
-
--- an open row is an approved hold
-pub is_open_until_row : (s : Service) (row : Request) (moment : ℕ) →
-    is_open_at moment (hold_end_by s row) ≡ true →
-    (s ≡ Authorization) × (row.status ≡ Approved)
-is_open_until_row Authorization row moment e = step (is_approved row.status) refl e
-  where
-    step : (b : Bool) → is_approved row.status ≡ b →
-        is_open_at moment (cond b row.hold_end None) ≡ true →
-        (Authorization ≡ Authorization) × (row.status ≡ Approved)
-    step true h f = (refl, is_approved_is row.status h)
-    step false h f = absurd (cc)
-is_open_until_row service row moment e = absurd (cc)
 
 -- what can be reversed was not, and a reversal keeps whether it posted
 pub record IsReversible (s : Status) (reply : IsoMessage) : Type 0 where

@@ -38,10 +38,9 @@ use Rattle.acq_history.specs.History.{Found, aged, next_reference, is_admitted, 
 use Rattle.acq_history.specs.History.{reference_of, reference_by, leg_by, card_by, hold_days_of}
 use Rattle.acq_history.specs.History.{answer_to, is_completed, is_reversed, any_with}
 use Rattle.acq_history.specs.History.{reply_state_with, prior}
-use Rattle.acq_history.specs.History as history
 use Rattle.acq_history.proofs.Lookups.{not_true, or_true, own_none}
 use Rattle.acq_history.proofs.RecordedInHistory.{key_in}
-use Rattle.acq_history.proofs.Statuses.{reply_state_of-awaited, is_approved_is}
+use Rattle.acq_history.proofs.Statuses.{reply_state_of-awaited, open_row}
 use Rattle.acq_history.proofs.RowsWithChanges.{followed_kept, answered_kept, IsChange}
 
 -- ---- what became of a recorded request
@@ -99,55 +98,32 @@ prior_by fate f =
       hold_end = open_by f.request.service (hold_days_of f) fate;
     }
 
--- what came later doesn't matter to these
-leg_by_later : (f : Found) (es : List Entry) (s : Service) →
-    leg_by s (record f { later = es }) ≡ leg_by s f
-leg_by_later f es Financial = refl
-leg_by_later f es s = refl
-
-card_by_later : (f : Found) (es : List Entry) (s : Service) →
-    card_by s (record f { later = es }) ≡ card_by s f
-card_by_later f es Completion = refl
-card_by_later f es s = refl
-
-reference_by_later : (f : Found) (es : List Entry) (s : Service) →
-    reference_by s (record f { later = es }) ≡ reference_by s f
-reference_by_later f es Completion = refl
-reference_by_later f es s = refl
-
--- a history says until when it is open by what became of it
-open_by_is : (f : Found) (s : Service) →
-    history.hold_end_by s f ≡ open_by s (hold_days_of f) (fate_of f)
-open_by_is f Authorization = refl
-open_by_is f s = refl
-
--- what is known of it, by what came later
-prior_later : (f : Found) (es : List Entry) → let g : Found = record f { later = es } in
-    prior g ≡ prior_by (fate_of g) f
-prior_later f es =
-    let g : Found = record f { later = es } in
-    λ i. record {
-      key = key_of f.request.service f.request.message;
-      essence = essence_of f.request.service f.request.message;
-      day = f.entry.day;
-      amount = amount_in f.request.message;
-      leg = leg_by_later f es f.request.service i;
-      card = card_by_later f es f.request.service i;
-      acquirer = content_of f.request.message.elements 32;
-      reference = reference_by_later f es f.request.service i;
-      hold_days = hold_days_of f;
-      reply_state = history.reply_state_of g;
-      is_reversible = history.is_reversible g;
-      hold_end = open_by_is g f.request.service i;
-    }
+-- what is known of it is known by what became of it; what else came later doesn't matter
+prior_later : (moment : ℕ) (s : Service) (message : IsoMessage) (e : Entry)
+    (before later es : List Entry) →
+    let f : Found =
+    record {
+      request = record { moment = moment; service = s; message = message };
+      entry = e;
+      before = before;
+      later = later;
+    } in
+    let g : Found = record f { later = es } in prior g ≡ prior_by (fate_of g) f
+prior_later moment Completion message e before later es = refl
+prior_later moment s message e before later es = refl
 
 pub prior_is : (f : Found) → prior f ≡ prior_by (fate_of f) f
-prior_is f = prior_later f f.later
+prior_is f =
+    prior_later f.request.moment f.request.service f.request.message f.entry f.before f.later
+    f.later
 
 -- one entry later, by what became of it
 pub prior_aged : (e : Entry) (f : Found) (fate : Fate) → fate_of (aged e f) ≡ fate →
     prior (aged e f) ≡ prior_by fate f
-prior_aged e f fate is = prior_later f (e ∷ f.later) ∙ ap (λ x. prior_by x f) is
+prior_aged e f fate is =
+    prior_later f.request.moment f.request.service f.request.message f.entry f.before f.later
+    (e ∷ f.later)
+    ∙ ap (λ x. prior_by x f) is
 
 -- ---- by one more entry
 
@@ -423,16 +399,6 @@ open_by_done row Authorization days fate off on =
     (option_and_then (λ e. approval_in e.arrival) fate.answer))) on)
 open_by_done row s days fate off on = refl
 
-open_by_approved : (a : Request) (k : Service) → is_some (tables.hold_end_by k a) ≡ true →
-    a.status ≡ status.Approved
-open_by_approved a Authorization e =
-    let step : (b : Bool) → tables.is_approved a.status ≡ b →
-    is_some (cond b a.hold_end None) ≡ true →
-    a.status ≡ status.Approved =
-    elim [ true ↦ (λ t h. is_approved_is a.status t) | false ↦ (λ t h. absurd (cc)) ] in
-    step (tables.is_approved a.status) refl e
-open_by_approved a service e = absurd (cc)
-
 -- an open hold that is completed
 pub prior_of_completed : (a : Request) (f : Found) (fate : Fate) →
     prior_of a ≡ prior_by fate f →
@@ -440,7 +406,7 @@ pub prior_of_completed : (a : Request) (f : Found) (fate : Fate) →
     prior_of (followed_row status.Completed a) ≡ prior_by (record fate { completed = true }) f
 prior_of_completed a f fate is ends =
     let approved : a.status ≡ status.Approved =
-    open_by_approved a a.key.service (ap (λ x. is_some x.hold_end) is ∙ ends) in
+    (open_row a.key.service a (ap (λ x. is_some x.hold_end) is ∙ ends)).1 in
     let at : a.key.service ≡ f.request.service = ap (λ x. x.key.service) is in
     prior_of_changed a (followed_row status.Completed a) f fate
     (record fate { completed = true }) (followed_kept status.Completed a) is
