@@ -1,10 +1,11 @@
 -- What look-ups, counts and filters make of an edit of a list.
 use Rattle.std.proofs.Common.{◌≡◌, ◌+◌, List, [], ◌∷◌, ◌++◌, Option, Some, None, Bool, true, false}
-use Rattle.std.proofs.Common.{cond, refl, sym, ap, ◌∙◌}
+use Rattle.std.proofs.Common.{cond, inl, inr, refl, sym, ap, ◌∙◌}
 use Rattle.std.specs.Prelude.{map, filter, find, option_map, option_and_then, ◌||◌, not, is_some}
 use Rattle.std.specs.Prelude.{is_none}
 use Rattle.std.specs.Option.{option_or}
-use Rattle.std.specs.List.{list_any}
+use Rattle.std.specs.List.{list_all, list_any}
+use Rattle.std.proofs.lemmas.Bool.{and_from, cases_Bool}
 use Rattle.std.proofs.lemmas.List.{append-nil}
 use Rattle.std.proofs.lemmas.List.Elements.{filter-append}
 use Rattle.acq_core.specs.Tables.{count}
@@ -165,6 +166,15 @@ count-filter {X} p q narrower (x ∷ xs) =
       ]
     ] in
     step (p x) (q x) refl refl
+
+-- what a filter keeps passes
+pub filter_all : {X : Type 0} (p : X → Bool) (xs : List X) → list_all p (filter p xs) ≡ true
+filter_all p [] = refl
+filter_all p (x ∷ xs) =
+    elim (cases_Bool (p x)) [
+      | inl kept ↦ rw kept (and_from (p x) (list_all p (filter p xs)) kept (filter_all p xs))
+      | inr dropped ↦ rw dropped (filter_all p xs)
+    ]
 
 -- what is found through a filter passes it
 pub found_passes : {X : Type 0} (p c : X → Bool) (xs : List X) (x : X) →
