@@ -213,7 +213,7 @@ record HasFittingColumns (t : Tables) : Type 0 where
   postings : All (FitsPostingColumns t.limit) t.postings
   reconciliations : All FitsReconciliation t.reconciliations
 
--- rows with one that a completion or a reversal fitting_followed
+-- rows with one that a completion or a reversal followed
 fitting_followed : (key : RequestKey) (st : Status) (rows : List Request) → All FitsColumns rows →
     All FitsColumns (with_changed key (followed_row st) rows)
 fitting_followed key st rows h =
