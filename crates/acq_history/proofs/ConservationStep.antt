@@ -91,8 +91,7 @@ not_completing row m n e c = let follows = c.follows in cc
 -- a refusal or a reconciliation
 sound_with_row : (t : Tables) (row : Request) →
     IsNew t row.key → row.reference ≡ None → row.follows ≡ None →
-    is_posted row.status ≡ false → is_reversal_leg row.leg ≡ false → row.day ≤ t.day →
-    IsInOrder t →
+    is_posted row.status ≡ false → is_reversal_leg row.leg ≡ false → row.day ≤ t.day → IsInOrder t →
     AreInOrder t.day t.merchants (t.requests ++ row ∷ []) t.postings
 sound_with_row t row new unreferred unfollowing unposting leg dated s = record {
   well_formed =
@@ -118,8 +117,7 @@ admitted_leg_is service m = refl
 
 -- an admission keeps a book in order
 sound_admitted : {a : Arrival} (t : Tables) (r : RequestMessage) (merchant : Merchant)
-    (range : Range) → IsRecording t a r merchant → IsAdmission t r merchant range →
-    IsInOrder t →
+    (range : Range) → IsRecording t a r merchant → IsAdmission t r merchant range → IsInOrder t →
     AreInOrder t.day t.merchants
     (t.requests ++ admitted_row t.day r range (next_reference t r merchant) ∷ []) t.postings
 sound_admitted t r merchant range g c s = record {
@@ -154,8 +152,7 @@ record IsEdited (t : Tables) (row : Request) (changed : Request → Request) : T
   well_formed : IsWellFormed t.day t.merchants (edited t row changed)
   grows : ((n : ℕ) → posted row ≡ Some n → posted (changed row) ≡ Some n) →
       Grows t.requests (edited t row changed)
-  from : posted (changed row) ≡ posted row →
-      FromBefore t.requests t.postings (edited t row changed)
+  from : posted (changed row) ≡ posted row → FromBefore t.requests t.postings (edited t row changed)
 
 -- what changes could have been reversed
 edited_is : (t : Tables) (row : Request) (changed : Request → Request) → Edits changed →
@@ -182,8 +179,7 @@ done = followed_row status.Completed
 
 -- a completion of an open hold keeps a book in order
 sound_completed : {a : Arrival} (t : Tables) (r : RequestMessage) (merchant : Merchant)
-    (hold : Request) → IsRecording t a r merchant → IsCompletion t r merchant hold →
-    IsInOrder t →
+    (hold : Request) → IsRecording t a r merchant → IsCompletion t r merchant hold → IsInOrder t →
     AreInOrder t.day t.merchants (edited t hold done ++ completion_row t.day r (prior_of hold) ∷ [])
     (with_next_posting t.postings (Some (completion_posting t.day r (prior_of hold))))
 sound_completed t r merchant hold g c s = record {
@@ -330,8 +326,7 @@ sound_reversed t r merchant row g c s = record {
     same_posted : posted (undone row row) ≡ posted row
     same_posted = posted_same row.key.service (undone row row) row can.posts refl refl
 
-    grows : Grows t.requests
-        (edited t row (undone row) ++ reversal_row t.day r (prior_of row) ∷ [])
+    grows : Grows t.requests (edited t row (undone row) ++ reversal_row t.day r (prior_of row) ∷ [])
     grows =
         Grows-both (e.grows (λ k f. same_posted ∙ f)) (Grows-push (edited t row (undone row)) after)
 

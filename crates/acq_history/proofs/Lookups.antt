@@ -58,8 +58,7 @@ map_some {X} {Y} f None y e = absurd (let h : ◌≡◌ {A = Option Y} None (Som
 map_some f (Some x) y e = (x, refl, some_is (f x) y e)
 
 pub then_some : {X Y : Type 0} (f : X → Option Y) (o : Option X) (y : Y) →
-    option_and_then f o ≡ Some y →
-    (x : X) × (o ≡ Some x) × (f x ≡ Some y)
+    option_and_then f o ≡ Some y → (x : X) × (o ≡ Some x) × (f x ≡ Some y)
 then_some {X} {Y} f None y e = absurd (let h : ◌≡◌ {A = Option Y} None (Some y) = e in cc)
 then_some f (Some x) y e = (x, refl, e)
 
@@ -151,8 +150,7 @@ filter-push_out p xs y e =
 
 -- a count of what passes a narrower test does not see the filter
 pub count-filter : {X : Type 0} (p q : X → Bool) → ((x : X) → q x ≡ true → p x ≡ true) →
-    (xs : List X) →
-    count q (filter p xs) ≡ count q xs
+    (xs : List X) → count q (filter p xs) ≡ count q xs
 count-filter p q narrower [] = refl
 count-filter {X} p q narrower (x ∷ xs) =
     let step : (b c : Bool) → p x ≡ b → q x ≡ c →
@@ -211,7 +209,6 @@ each-push P [] ys a b = b
 each-push P (x ∷ xs) ys a b = (a.0, each-push P xs ys a.1 b)
 
 pub each-map : {X Y : Type 0} (P : X → Type 0) (Q : Y → Type 0) (u : X → Y) →
-    ((x : X) → P x → Q (u x)) →
-    (xs : List X) → Each P xs → Each Q (map u xs)
+    ((x : X) → P x → Q (u x)) → (xs : List X) → Each P xs → Each Q (map u xs)
 each-map P Q u f [] a = tt
 each-map P Q u f (x ∷ xs) a = (f x a.0, each-map P Q u f xs a.1)

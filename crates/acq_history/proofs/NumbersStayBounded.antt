@@ -132,8 +132,7 @@ or_zero-bounded (Some n) h = h
 
 -- what a row posts under is of an accepted amount
 leg_by-amount : (today : ℕ) (s : Service) (row : Request) (leg : Leg) → IsSoundRow today row →
-    row.key.service ≡ s →
-    leg_by s row ≡ Some leg → is_accepted_amount row.amount ≡ true
+    row.key.service ≡ s → leg_by s row ≡ Some leg → is_accepted_amount row.amount ≡ true
 leg_by-amount today Financial row leg sound is e =
     let found = map_some (λ reference. row.leg) row.reference leg e in sound.amount found.0 found.1
 leg_by-amount today Completion row leg sound is e =
@@ -155,8 +154,7 @@ some_of m on None h = tt
 some_of m on (Some p) h = h.of
 
 postings_with : (today on : ℕ) (m : List ℕ) (ps : List (ℕ × Posting)) (o : Option Posting) →
-    on ≤ today →
-    IfSome o (IsMade m on) → All (IsBoundedPosting today) ps →
+    on ≤ today → IfSome o (IsMade m on) → All (IsBoundedPosting today) ps →
     All (IsBoundedPosting today) (with_next_posting ps o)
 postings_with today on m ps None le made h = h
 postings_with today on m ps (Some p) le made h =
@@ -164,8 +162,7 @@ postings_with today on m ps (Some p) le made h =
     (record {
       day = let at = made.of.day in omega arith;
       amount = made.amount;
-      reference =
-          made.reference;
+      reference = made.reference;
     })
 
 -- what an approval posts, to the day of its row
@@ -409,8 +406,7 @@ module _ (opening : Opening) (begins : IsOpening opening) where
               (λ row p. record {
                 day = let on = p.day in omega arith;
                 amount = p.amount;
-                reference =
-                    p.reference;
+                reference = p.reference;
               })
               t.postings h.postings;
           counts = h.counts;

@@ -97,8 +97,7 @@ alike_same : (m : List ℕ) (t : Tables) → Alike m t t
 alike_same m t = alike_rows refl refl
 
 -- an edit of another merchant's row
-edit_out : (m : List ℕ) (key : RequestKey) (changed : Request → Request) →
-    Edits changed →
+edit_out : (m : List ℕ) (key : RequestKey) (changed : Request → Request) → Edits changed →
     bytes_eq key.merchant m ≡ false → (rows : List Request) →
     requests_of m (with_changed key changed rows) ≡ requests_of m rows
 edit_out m key changed edits other rows =

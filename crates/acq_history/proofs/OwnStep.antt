@@ -111,8 +111,7 @@ module _ {opening : Opening} {m : List ℕ} {t : Tables} {h : List Entry}
 
   -- a request that changes nothing
   unchanged : (r : RequestMessage) (d : Decision) → change_of (known (Requested r)) d ≡ None →
-      IsQuiet (known (Requested r)) r (outcome_of (known (Requested r)) d) →
-      Keeps g (Requested r) d
+      IsQuiet (known (Requested r)) r (outcome_of (known (Requested r)) d) → Keeps g (Requested r) d
   unchanged r d none quiet =
       subst (λ c. Agrees opening m (after_any t c)
       (at (Requested r) (outcome_of (known (Requested r)) d) ∷ h))
@@ -156,8 +155,7 @@ module _ {opening : Opening} {m : List ℕ} {t : Tables} {h : List Entry}
 
   -- the rows, where the entry is neither a request nor an answer that is taken
   still_rows : (a : Arrival) (o : Outcome) → request_of a ≡ None →
-      ((n : ℕ) → is_answer n (at a o) ≡ false) →
-      Rows m t.requests (at a o ∷ h)
+      ((n : ℕ) → is_answer n (at a o) ≡ false) → Rows m t.requests (at a o ∷ h)
   still_rows a o none answers =
       rows_still (ap (λ rq. accepts is_acceptable rq o) none)
       (ap (λ rq. admits rq (at a o) h) none) (ap (recording_first (at a o) h) none)
@@ -313,8 +311,7 @@ module _ {opening : Opening} {m : List ℕ} {t : Tables} {h : List Entry}
         posted = g.posted;
       }
 
-  range_added : (range : Range) →
-      Keeps g (RangeAdded range)
+  range_added : (range : Range) → Keeps g (RangeAdded range)
       (decision (known (RangeAdded range)) (RangeAdded range))
   range_added range =
       elim (is_valid_range range) as (λ b.

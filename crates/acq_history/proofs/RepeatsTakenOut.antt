@@ -56,8 +56,7 @@ change_of_recorded k r there =
 module _ (opening : Opening) (m : List ℕ) where
   -- what the key check decides on
   change_of_recorded_key : (t : Tables) (h : List Entry) → Agrees opening m t h → (a : Arrival) →
-      is_by_key h a ≡ true →
-      change_for (known_by opening h a) a ≡ None
+      is_by_key h a ≡ true → change_for (known_by opening h a) a ≡ None
   change_of_recorded_key t h g (Requested r) there =
       let step : (rq : Option RequestMessage) → request_of (Requested r) ≡ rq →
       has_recorded rq h ≡ true →
@@ -89,8 +88,7 @@ module _ (opening : Opening) (m : List ℕ) where
 
   -- two histories that agree with the same tables tell the same
   same_outputs : (t : Tables) (h k : List Entry) → Agrees opening m t h → Agrees opening m t k →
-      (es : List Event) →
-      list_all is_own es ≡ true →
+      (es : List Event) → list_all is_own es ≡ true →
       outputs_alone opening (Some m) k es ≡ outputs_alone opening (Some m) h es
   same_outputs t h k g f [] mine = refl
   same_outputs t h k g f (e ∷ es) mine =

@@ -152,8 +152,7 @@ answer_here e es o n is on =
 
 -- an entry that completes it
 completed_here : (e : Entry) (es : List Entry) (o : Option ℕ) (n : ℕ) → o ≡ Some n →
-    is_completing n e ≡ true →
-    any_with is_completing o (e ∷ es) ≡ true
+    is_completing n e ≡ true → any_with is_completing o (e ∷ es) ≡ true
 completed_here e es o n is on =
     ap (λ p. any_with is_completing p (e ∷ es)) is ∙ ap (λ b. b || list_any (is_completing n) es) on
 
@@ -212,8 +211,7 @@ module _ (e : Entry) (f : Found) where
 
 -- what is no acceptance neither completes nor reverses
 completes_not : (n : ℕ) (rq : Option RequestMessage) (o : Outcome) →
-    accepts is_acceptable rq o ≡ false →
-    completes n rq o ≡ false
+    accepts is_acceptable rq o ≡ false → completes n rq o ≡ false
 completes_not n None o e = refl
 completes_not n (Some r) o e = step r.service (is_approved o) (is_number n (reference_in r.message))
     e
@@ -229,8 +227,7 @@ completes_not n (Some r) o e = step r.service (is_approved o) (is_number n (refe
     step NetworkManagement a b e = refl
 
 reverses_not : (key : RequestKey) (rq : Option RequestMessage) (o : Outcome) →
-    accepts is_acceptable rq o ≡ false →
-    reverses key rq o ≡ false
+    accepts is_acceptable rq o ≡ false → reverses key rq o ≡ false
 reverses_not key None o e = refl
 reverses_not key (Some r) o e = step r.service (is_approved o) (is_key key (original_key r.message))
     e
@@ -255,8 +252,7 @@ shown f = (prior f, reference_of f)
 
 -- an entry that changes nothing of what was found
 pub shown_aged : (e : Entry) → is_acceptance e ≡ false → ((n : ℕ) → is_answer n e ≡ false) →
-    (f : Found) →
-    shown (aged e f) ≡ shown f
+    (f : Found) → shown (aged e f) ≡ shown f
 shown_aged e accepted answers f =
     let later : prior (aged e f) ≡ prior f =
     prior_aged_same e f (λ n is. answers n)
@@ -321,8 +317,7 @@ prior_of_changed p q f was fate c e shows =
 -- ---- an answer
 
 open_by_answered : (a : Request) (k : Service) (moment : ℕ) (v : Verdict) (reply : IsoMessage)
-    (days : Option ℕ) (e : Entry) →
-    approval_in e.arrival ≡ approval_by moment v →
+    (days : Option ℕ) (e : Entry) → approval_in e.arrival ≡ approval_by moment v →
     tables.hold_end_by k
     (answered_row (answered_status v) reply (answered_hold_end k moment v days) a)
     ≡ open_by k days (record untouched { answer = Some e })
@@ -400,8 +395,7 @@ open_by_done row Authorization days fate off on =
 open_by_done row s days fate off on = refl
 
 -- an open hold that is completed
-pub prior_of_completed : (a : Request) (f : Found) (fate : Fate) →
-    prior_of a ≡ prior_by fate f →
+pub prior_of_completed : (a : Request) (f : Found) (fate : Fate) → prior_of a ≡ prior_by fate f →
     is_some (prior_by fate f).hold_end ≡ true →
     prior_of (followed_row status.Completed a) ≡ prior_by (record fate { completed = true }) f
 prior_of_completed a f fate is ends =
@@ -443,8 +437,7 @@ is_approved_reversed (Kept reply) = refl
 is_approved_reversed other = refl
 
 -- a request that can be reversed, and is
-pub prior_of_reversed : (a : Request) (f : Found) (fate : Fate) →
-    prior_of a ≡ prior_by fate f →
+pub prior_of_reversed : (a : Request) (f : Found) (fate : Fate) → prior_of a ≡ prior_by fate f →
     (prior_by fate f).is_reversible ≡ true →
     prior_of (followed_row (reversed_status (prior_by fate f).reply_state) a)
     ≡ prior_by (record fate { reversed = true }) f

@@ -46,8 +46,7 @@ are_public ks = list_all (λ k. not (is_among sensitive_elements (k, []))) ks
 
 -- so a message with these elements alone lacks sensitive data
 lacks_by : (ks : List ℕ) (es : List (ℕ × List ℕ)) → are_public ks ≡ true →
-    list_all (is_among ks) es ≡ true →
-    not (list_any (is_among sensitive_elements) es) ≡ true
+    list_all (is_among ks) es ≡ true → not (list_any (is_among sensitive_elements) es) ≡ true
 lacks_by ks [] h k = refl
 lacks_by ks (e ∷ es) h k =
     let parts = and_parts (is_among ks e) (list_all (is_among ks) es) k in
@@ -123,8 +122,7 @@ essence_kind service = record { size = refl; digits = refl }
 
 -- elements that all stand above 2
 above_two : (es : List (ℕ × List ℕ)) → Ascends 1 (numbers es) →
-    list_all (is_among essential) es ≡ true →
-    Ascends 2 (numbers es)
+    list_all (is_among essential) es ≡ true → Ascends 2 (numbers es)
 above_two [] up all = tt
 above_two (e ∷ es) up all =
     let parts = and_parts (is_among essential e) (list_all (is_among essential) es) all in

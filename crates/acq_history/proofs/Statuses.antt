@@ -12,8 +12,7 @@ use Rattle.acq_message.specs.declared.service.Service.{Service}
 use Rattle.acq_message.specs.declared.service.Service.TheVariants.{Authorization}
 
 pub reply_state_of-awaited : (s : Status) (reply draft : IsoMessage) →
-    reply_state_of s reply ≡ Awaited draft →
-    s ≡ Pending
+    reply_state_of s reply ≡ Awaited draft → s ≡ Pending
 reply_state_of-awaited Pending reply draft e = refl
 reply_state_of-awaited status reply draft e = absurd (cc)
 
