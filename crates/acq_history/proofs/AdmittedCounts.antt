@@ -91,8 +91,7 @@ admitted_in-before (x ∷ xs) n all =
 
 -- so no more were admitted than the limits of all days allow
 pub admitted_in-within : (rows : List Request) (limit n : ℕ) →
-    ((day : ℕ) → used_in rows day ≤ limit) →
-    All (IsCounted n) rows → admitted_in rows ≤ n * limit
+    ((day : ℕ) → used_in rows day ≤ limit) → All (IsCounted n) rows → admitted_in rows ≤ n * limit
 admitted_in-within rows limit n within all =
     let a = admitted_in-before rows n all in
     let b = used_before-within rows limit n within in

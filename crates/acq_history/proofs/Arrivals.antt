@@ -47,8 +47,7 @@ of_message moment m (Some service) whole =
     step (is_malformed service m) refl
 
 of_reading : (moment : ℕ) (r : Result IsoMessage DecodeFault) →
-    ((m : IsoMessage) → r ≡ Ok m → IsMessage m) →
-    IsArrival (arrival_of_reading moment r)
+    ((m : IsoMessage) → r ≡ Ok m → IsMessage m) → IsArrival (arrival_of_reading moment r)
 of_reading moment (Err fault) whole = tt
 of_reading moment (Ok m) whole = of_message moment m (service_of m.kind) (whole m refl)
 

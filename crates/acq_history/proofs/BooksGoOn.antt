@@ -41,8 +41,7 @@ kept_from opening P step t (e ∷ es) book are h =
 -- where each step may take it that its tables are a book's
 pub kept_in_books : (opening : Opening) (P : Tables → Type 0) → IsOpening opening →
     ((t : Tables) (e : Event) → IsBook opening t → IsEvent e → P t →
-    P (step_tables t (arrival_of e))) →
-    (es : List Event) → AreEvents es → P (new_tables opening) →
+    P (step_tables t (arrival_of e))) → (es : List Event) → AreEvents es → P (new_tables opening) →
     P (tables_after (new_tables opening) es)
 kept_in_books opening P opens step es are h =
     kept_from opening P step (new_tables opening) es (books_begin opening opens) are h

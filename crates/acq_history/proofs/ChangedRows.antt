@@ -92,9 +92,7 @@ module _ (h : List Entry) (n : ℕ) (g : Found) (p : Prior) (found : referred n 
     (is : prior g ≡ p) where
   -- so it is with an answer
   pub answer_follows : (moment day : ℕ) (merchant : List ℕ) (v : Verdict) (ranges : List Range)
-      (reply draft : IsoMessage) →
-      p.reply_state ≡ Awaited draft →
-      FollowsEntry
+      (reply draft : IsoMessage) → p.reply_state ≡ Awaited draft → FollowsEntry
       (changing p.key (answered_row (answered_status v) reply
       (answered_hold_end p.key.service moment v p.hold_days)))
       (entry_on day ranges (Answered moment merchant n v) (Replied (verdict_code v) reply)) h
@@ -152,8 +150,7 @@ pub reversal_follows : (h : List Entry) (key : RequestKey) (g : Found) (p : Prio
     recorded key h ≡ Some g → prior g ≡ p →
     (r : RequestMessage) (day : ℕ) (ranges : List Range) (reply : IsoMessage) →
     request_of (Requested r) ≡ Some r → is_reversal r.service ≡ true →
-    original_key r.message ≡ Some key →
-    p.is_reversible ≡ true →
+    original_key r.message ≡ Some key → p.is_reversible ≡ true →
     FollowsEntry (changing p.key (followed_row (reversed_status p.reply_state)))
     (entry_on day ranges (Requested r) (Replied code.Approved reply)) h
 reversal_follows h key g p found is r day ranges reply came fits asks reversible =

@@ -43,16 +43,17 @@ use Rattle.acq_history.proofs.RowsStayWellFormed.{replaced}
 use Rattle.acq_history.proofs.PostingsOfChangedRows.{IsLegOf, IsReversible, reversed_as}
 use Rattle.acq_history.proofs.PostingsOfChangedRows.{posted_same, posted_none, posted_reversing}
 use Rattle.acq_history.proofs.PostingsOfChangedRows.{posted_unsold, leg_of, leg_by_admissible}
-use Rattle.acq_history.proofs.PostingsOfChangedRows.{reversal_leg_is, is_open_until_row, reversible}
+use Rattle.acq_history.proofs.PostingsOfChangedRows.{reversal_leg_is, reversible}
 use Rattle.acq_history.proofs.PostingsOfChangedRows.{posted_leg_approved, once_posted, none_posted}
 use Rattle.acq_history.proofs.PostingsOfChangedRows.{Grows-push, Grows-both, from_push, pushed}
 use Rattle.acq_history.proofs.PostingsOfChangedRows.{Grows-replaced, from_replaced}
 use Rattle.acq_history.proofs.Lookups.{some_is}
 use Rattle.acq_history.proofs.RowsWithChanges.{Edits, followed_kept, answered_kept}
 use Rattle.acq_history.proofs.StepCases.{by_step, IsRecording, IsCompletion, IsReversal}
-use Rattle.acq_history.proofs.StepCases.{next_reference, IsAdmission}
+use Rattle.acq_history.proofs.StepCases.{next_reference, IsAdmission, IsAnswering}
 use Rattle.acq_core.specs.declared.arrival.Arrival.{Arrival}
 use Rattle.acq_history.proofs.Runs.{kept}
+use Rattle.acq_history.proofs.Statuses.{open_row, is_some_open}
 
 -- what holds of every book
 record AreInOrder (day : ℕ) (merchants : List Merchant) (rows : List Request)
@@ -90,8 +91,7 @@ not_completing row m n e c = let follows = c.follows in cc
 -- a refusal or a reconciliation
 sound_with_row : (t : Tables) (row : Request) →
     IsNew t row.key → row.reference ≡ None → row.follows ≡ None →
-    is_posted row.status ≡ false → is_reversal_leg row.leg ≡ false → row.day ≤ t.day →
-    IsInOrder t →
+    is_posted row.status ≡ false → is_reversal_leg row.leg ≡ false → row.day ≤ t.day → IsInOrder t →
     AreInOrder t.day t.merchants (t.requests ++ row ∷ []) t.postings
 sound_with_row t row new unreferred unfollowing unposting leg dated s = record {
   well_formed =
@@ -117,8 +117,7 @@ admitted_leg_is service m = refl
 
 -- an admission keeps a book in order
 sound_admitted : {a : Arrival} (t : Tables) (r : RequestMessage) (merchant : Merchant)
-    (range : Range) → IsRecording t a r merchant → IsAdmission t r merchant range →
-    IsInOrder t →
+    (range : Range) → IsRecording t a r merchant → IsAdmission t r merchant range → IsInOrder t →
     AreInOrder t.day t.merchants
     (t.requests ++ admitted_row t.day r range (next_reference t r merchant) ∷ []) t.postings
 sound_admitted t r merchant range g c s = record {
@@ -153,8 +152,7 @@ record IsEdited (t : Tables) (row : Request) (changed : Request → Request) : T
   well_formed : IsWellFormed t.day t.merchants (edited t row changed)
   grows : ((n : ℕ) → posted row ≡ Some n → posted (changed row) ≡ Some n) →
       Grows t.requests (edited t row changed)
-  from : posted (changed row) ≡ posted row →
-      FromBefore t.requests t.postings (edited t row changed)
+  from : posted (changed row) ≡ posted row → FromBefore t.requests t.postings (edited t row changed)
 
 -- what changes could have been reversed
 edited_is : (t : Tables) (row : Request) (changed : Request → Request) → Edits changed →
@@ -181,8 +179,7 @@ done = followed_row status.Completed
 
 -- a completion of an open hold keeps a book in order
 sound_completed : {a : Arrival} (t : Tables) (r : RequestMessage) (merchant : Merchant)
-    (hold : Request) → IsRecording t a r merchant → IsCompletion t r merchant hold →
-    IsInOrder t →
+    (hold : Request) → IsRecording t a r merchant → IsCompletion t r merchant hold → IsInOrder t →
     AreInOrder t.day t.merchants (edited t hold done ++ completion_row t.day r (prior_of hold) ∷ [])
     (with_next_posting t.postings (Some (completion_posting t.day r (prior_of hold))))
 sound_completed t r merchant hold g c s = record {
@@ -247,7 +244,7 @@ sound_completed t r merchant hold g c s = record {
     posting = completion_posting t.day r (prior_of hold)
 
     is : (hold.key.service ≡ Authorization) × (hold.status ≡ status.Approved)
-    is = is_open_until_row hold.key.service hold r.moment c.opens
+    is = open_row hold.key.service hold (is_some_open r.moment (prior_of hold).hold_end c.opens)
 
     e : IsEdited t hold done
     e = edited_is t hold done (followed_kept status.Completed) c.member (ap is_reversible is.1) s
@@ -329,8 +326,7 @@ sound_reversed t r merchant row g c s = record {
     same_posted : posted (undone row row) ≡ posted row
     same_posted = posted_same row.key.service (undone row row) row can.posts refl refl
 
-    grows : Grows t.requests
-        (edited t row (undone row) ++ reversal_row t.day r (prior_of row) ∷ [])
+    grows : Grows t.requests (edited t row (undone row) ++ reversal_row t.day r (prior_of row) ∷ [])
     grows =
         Grows-both (e.grows (λ k f. same_posted ∙ f)) (Grows-push (edited t row (undone row)) after)
 
@@ -392,20 +388,6 @@ sound_reversed t r merchant row g c s = record {
 
 -- ---- an answer
 
--- one that posts nothing
-sound_answered_unposted : (t : Tables) (row : Request) (st : Status) (reply : IsoMessage)
-    (until : Option ℕ) →
-    In row t.requests → row.status ≡ status.Pending →
-    posted (answered_row st reply until row) ≡ posted row → IsInOrder t →
-    AreInOrder t.day t.merchants (edited t row (answered_row st reply until)) t.postings
-sound_answered_unposted t row st reply until i pending same s =
-    let e = edited_is t row (answered_row st reply until) (answered_kept st reply until) i
-    (ap is_reversible pending) s in
-    record {
-      well_formed = e.well_formed;
-      match_rows = unposted s.match_rows (e.grows (λ k f. same ∙ f)) (e.from same);
-    }
-
 -- what an approval posts under a leg
 abbrev sold : Request → Leg → Posting
 sold row leg =
@@ -420,103 +402,113 @@ sold row leg =
       trace = row.key.trace;
     }
 
--- an approval of a sale or return
-sound_sold : (t : Tables) (row : Request) (n : ℕ) (leg : Leg) (reply : IsoMessage)
-    (until : Option ℕ) →
-    In row t.requests →
-    row.status ≡ status.Pending → row.reference ≡ Some n → leg_by row.key.service row ≡ Some leg →
-    IsInOrder t →
-    AreInOrder t.day t.merchants (edited t row (answered_row status.Approved reply until))
-    (with_next_posting t.postings (approval_posting (prior_of row) (Some leg)))
-sound_sold t row n leg reply until i pending reference legged s = record {
-  well_formed = e.well_formed;
-  match_rows =
-      posted_next s.match_rows (e.grows (λ k f. absurd (let none = unposted_yet in cc)))
-      from (record {
-        reversal = false;
-        reverses = λ yes. absurd (cc);
-        leg = ap is_reversal_leg of.same ∙ s.well_formed.legs row i of.service;
-        first =
-            λ h. none_posted row n s.well_formed i reference unposted_yet incomplete
-            (subst (λ k. HasPosted false t.requests row.key.merchant k) number h);
-        made = record {
-          row = answered_row status.Approved reply until row;
-          member = e.replaced.changed;
-          merchant = refl;
-          under = now ∙ ap (λ k. Some k) (sym number);
-        };
-      });
-}
-  where
-    e : IsEdited t row (answered_row status.Approved reply until)
-    e = edited_is t row (answered_row status.Approved reply until)
-        (answered_kept status.Approved reply until) i (ap is_reversible pending) s
+-- to a pending request, with what it gets as its reply and its end
+module _ {a : Arrival} {moment : ℕ} {v : Verdict} (t : Tables) (row : Request)
+    (c : IsAnswering t a moment v row) (s : IsInOrder t) (reply : IsoMessage)
+    (until : Option ℕ) where
+  -- the row after it
+  abbrev after_answer : Status → Request → Request
+  after_answer st = answered_row st reply until
 
-    incomplete : row.status ≡ status.Completed → ⊥
-    incomplete f = cc
+  -- the rows, where the row gets this status, and a posting more
+  abbrev AnsweredInOrder : Status → Option Posting → Type 0
+  AnsweredInOrder st o =
+      AreInOrder t.day t.merchants (edited t row (after_answer st)) (with_next_posting t.postings o)
 
-    of : IsLegOf row.key.service row leg
-    of = leg_of row.key.service row leg legged
+  answered_is : (st : Status) → IsEdited t row (after_answer st)
+  answered_is st =
+      edited_is t row (after_answer st) (answered_kept st reply until) c.member
+      (ap is_reversible c.pending) s
 
-    kind : row.key.service ≡ Financial
-    kind = leg_by_admissible row.key.service row leg legged
-        (s.well_formed.admissible row n i reference)
+  -- one that posts nothing
+  answered_unposted : (st : Status) → posted (after_answer st row) ≡ posted row →
+      AnsweredInOrder st None
+  answered_unposted st same =
+      let e = answered_is st in
+      record {
+        well_formed = e.well_formed;
+        match_rows = unposted s.match_rows (e.grows (λ k f. same ∙ f)) (e.from same);
+      }
 
-    unposted_yet : posted row ≡ None
-    unposted_yet = ap (λ k. posted_by k row) kind ∙ ap (λ k. cond (is_posted k) row.reference None)
-        pending
-
-    now : posted (answered_row status.Approved reply until row) ≡ Some n
-    now = ap (λ k. posted_by k (answered_row status.Approved reply until row)) kind ∙ reference
-
-    number : or_zero (reference_by row.key.service row) ≡ n
-    number = ap or_zero (ap (λ k. reference_by k row) kind ∙ reference)
-
-    from : FromBeforeOr t.postings (sold row leg)
-        (edited t row (answered_row status.Approved reply until))
-    from x k j f = elim (e.replaced.before x j) [
-      | inl old ↦ inl (s.match_rows.there x k old.0 f)
-      | inr changed ↦
-          let mine : IsPostingOf (sold row leg) (answered_row status.Approved reply until row) k =
-          record {
+  -- an approval of a sale or return
+  answered_sold : (leg : Leg) → leg_by row.key.service row ≡ Some leg →
+      AnsweredInOrder status.Approved (approval_posting (prior_of row) (Some leg))
+  answered_sold leg legged = record {
+    well_formed = e.well_formed;
+    match_rows =
+        posted_next s.match_rows (e.grows (λ k f. absurd (let none = unposted_yet in cc)))
+        from (record {
+          reversal = false;
+          reverses = λ yes. absurd (cc);
+          leg = ap is_reversal_leg of.same ∙ s.well_formed.legs row c.member of.service;
+          first =
+              λ h. none_posted row c.number s.well_formed c.member c.reference unposted_yet
+              incomplete (subst (λ k. HasPosted false t.requests row.key.merchant k) number h);
+          made = record {
+            row = after_answer status.Approved row;
+            member = e.replaced.changed;
             merchant = refl;
-            reference = number ∙ some_is n k (sym now ∙ (ap posted changed ∙ f));
-            leg = of.same;
-            amount = refl;
-            card = refl;
-            day = refl;
-          } in
-          inr (subst (λ y. IsPostingOf (sold row leg) y k) changed mine)
-    ]
+            under = now ∙ ap (λ k. Some k) (sym number);
+          };
+        });
+  }
+    where
+      e : IsEdited t row (after_answer status.Approved)
+      e = answered_is status.Approved
 
--- an approval
-sound_approved : (t : Tables) (row : Request) (n : ℕ) (reply : IsoMessage) (until : Option ℕ) →
-    In row t.requests → row.status ≡ status.Pending → row.reference ≡ Some n → IsInOrder t →
-    AreInOrder t.day t.merchants (edited t row (answered_row status.Approved reply until))
-    (with_next_posting t.postings (approval_posting (prior_of row) (leg_by row.key.service row)))
-sound_approved t row n reply until i pending reference s = step (leg_by row.key.service row) refl
-  where
-    step : (o : Option Leg) → leg_by row.key.service row ≡ o →
-        AreInOrder t.day t.merchants (edited t row (answered_row status.Approved reply until))
-        (with_next_posting t.postings (approval_posting (prior_of row) o))
-    step None f =
-        sound_answered_unposted t row status.Approved reply until i pending
-        (posted_unsold row.key.service (answered_row status.Approved reply until row) row n f
-        reference refl) s
-    step (Some leg) f = sound_sold t row n leg reply until i pending reference f s
+      incomplete : row.status ≡ status.Completed → ⊥
+      incomplete f = let pending = c.pending in cc
 
--- any answer to a pending request
-sound_answered : (t : Tables) (v : Verdict) (row : Request) (n : ℕ) (reply : IsoMessage)
-    (until : Option ℕ) →
-    In row t.requests → row.status ≡ status.Pending → row.reference ≡ Some n → IsInOrder t →
-    AreInOrder t.day t.merchants (edited t row (answered_row (answered_status v) reply until))
-    (with_next_posting t.postings (answer_posting v (prior_of row)))
-sound_answered t (verdict.Approved id) row n reply until i pending reference s =
-    sound_approved t row n reply until i pending reference s
-sound_answered t v row n reply until i pending reference s =
-    sound_answered_unposted t row status.Declined reply until i pending
-    (posted_same row.key.service (answered_row status.Declined reply until row) row
-    (sym (ap is_posted pending)) refl refl) s
+      of : IsLegOf row.key.service row leg
+      of = leg_of row.key.service row leg legged
+
+      kind : row.key.service ≡ Financial
+      kind = leg_by_admissible row.key.service row leg legged
+          (s.well_formed.admissible row c.number c.member c.reference)
+
+      unposted_yet : posted row ≡ None
+      unposted_yet = ap (λ k. posted_by k row) kind
+          ∙ ap (λ k. cond (is_posted k) row.reference None) c.pending
+
+      now : posted (after_answer status.Approved row) ≡ Some c.number
+      now = ap (λ k. posted_by k (after_answer status.Approved row)) kind ∙ c.reference
+
+      number : or_zero (reference_by row.key.service row) ≡ c.number
+      number = ap or_zero (ap (λ k. reference_by k row) kind ∙ c.reference)
+
+      from : FromBeforeOr t.postings (sold row leg) (edited t row (after_answer status.Approved))
+      from x k j f = elim (e.replaced.before x j) [
+        | inl old ↦ inl (s.match_rows.there x k old.0 f)
+        | inr changed ↦
+            let mine : IsPostingOf (sold row leg) (after_answer status.Approved row) k =
+            record {
+              merchant = refl;
+              reference = number ∙ some_is c.number k (sym now ∙ (ap posted changed ∙ f));
+              leg = of.same;
+              amount = refl;
+              card = refl;
+              day = refl;
+            } in
+            inr (subst (λ y. IsPostingOf (sold row leg) y k) changed mine)
+      ]
+
+  -- an approval
+  answered_approved : (o : Option Leg) → leg_by row.key.service row ≡ o →
+      AnsweredInOrder status.Approved (approval_posting (prior_of row) o)
+  answered_approved None f =
+      answered_unposted status.Approved
+      (posted_unsold row.key.service (after_answer status.Approved row) row c.number f c.reference
+      refl)
+  answered_approved (Some leg) f = answered_sold leg f
+
+  -- any answer
+  answered : (given : Verdict) →
+      AnsweredInOrder (answered_status given) (answer_posting given (prior_of row))
+  answered (verdict.Approved id) = answered_approved (leg_by row.key.service row) refl
+  answered other =
+      answered_unposted status.Declined
+      (posted_same row.key.service (after_answer status.Declined row) row
+      (sym (ap is_posted c.pending)) refl refl)
 
 -- ---- steps
 
@@ -536,8 +528,7 @@ sound_step t a s =
       reversed = λ r merchant g row c. sound_reversed t r merchant row g c s;
       reconciled = λ r merchant g day c.
           sound_with_row t _ g.new refl refl refl refl (omega arith) s;
-      answered = λ moment v row c.
-          sound_answered t v row c.number _ _ c.member c.pending c.reference s;
+      answered = λ moment v row c. answered t row c s _ _ v;
       cut_over = λ came before.
           record {
             well_formed = well_formed_later (omega arith) s.well_formed;

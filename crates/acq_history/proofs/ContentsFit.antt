@@ -28,8 +28,7 @@ use Rattle.acq_history.proofs.ReplyBodies.{among_passes}
 
 -- the content of an element fits it
 pub content-fits : (m : IsoMessage) (n : ℕ) (text : List ℕ) → IsMessage m →
-    content_of m.elements n ≡ Some text →
-    is_element (n, text) ≡ true
+    content_of m.elements n ≡ Some text → is_element (n, text) ≡ true
 content-fits m n text whole e =
     fits_by (format_of n) n text (text_fits m.elements n text whole.each e)
 

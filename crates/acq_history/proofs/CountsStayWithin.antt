@@ -47,8 +47,7 @@ used_on-push m rows row day =
     count-filter_push (λ x. bytes_eq x.key.merchant m) (λ x. x.admitted && eqb x.day day) rows row
 
 pending_on-push : (m : List ℕ) (rows : List Request) (row : Request) (day : ℕ) →
-    pending_on m (rows ++ row ∷ []) day
-    ≡ pending_on m rows day + one_if
+    pending_on m (rows ++ row ∷ []) day ≡ pending_on m rows day + one_if
     (bytes_eq row.key.merchant m && (is_pending row.status && eqb row.day day))
 pending_on-push m rows row day =
     count-filter_push (λ x. bytes_eq x.key.merchant m) (λ x. is_pending x.status && eqb x.day day)
@@ -101,8 +100,7 @@ pub record IsCountedRow (rows later : List Request) (ps more : List (ℕ × Post
   pub counts : row.admitted ≡ true
   pub same : (m : List ℕ) (day : ℕ) → used_on m later day ≡ used_on m rows day
   pub fewer : (m : List ℕ) (day : ℕ) → pending_on m later day ≤ pending_on m rows day
-  pub once : (m : List ℕ) (day : ℕ) →
-      posted_on m more day + one_if
+  pub once : (m : List ℕ) (day : ℕ) → posted_on m more day + one_if
       (bytes_eq row.key.merchant m && (is_pending row.status && eqb row.day day))
       ≤ posted_on m ps day + one_at row.key.merchant row.day m day
 
@@ -184,8 +182,7 @@ module _ (key : RequestKey) (changed : Request → Request) (edits : Edits chang
 
   -- the request that was answered no longer waits
   pending_on-answered : (row : Request) → In row rows → row.key ≡ key →
-      is_pending row.status ≡ true →
-      (m : List ℕ) (day : ℕ) →
+      is_pending row.status ≡ true → (m : List ℕ) (day : ℕ) →
       pending_on m (with_changed key changed rows) day + one_at row.key.merchant row.day m day
       ≤ pending_on m rows day
   pending_on-answered row member same pending m day = step (bytes_eq row.key.merchant m)

@@ -46,8 +46,7 @@ posting_by_day ReversalAdvice e h r p posts =
 posting_by_day service e h r p posts = absurd (cc)
 
 pub requests_post_today : (e : Entry) (h : List Entry) (r : RequestMessage) (p : Posting) →
-    e.arrival ≡ Requested r →
-    posting_of e h ≡ Some p → p.day ≡ e.day
+    e.arrival ≡ Requested r → posting_of e h ≡ Some p → p.day ≡ e.day
 requests_post_today e h r p came posts =
     step (is_acceptance e) (sym (ap (λ a. posting_from a e h) came) ∙ posts)
   where

@@ -247,8 +247,7 @@ closed_day_stays t day es past none =
 
 -- so its postings are final
 pub postings_of_closed_day : (t : Tables) (day : ℕ) (es more : List Event) →
-    day < (tables_after t es).day →
-    has_pending day (tables_after t es).requests ≡ false →
+    day < (tables_after t es).day → has_pending day (tables_after t es).requests ≡ false →
     postings_on day (tables_after t (es ++ more)).postings ≡ postings_on day
     (tables_after t es).postings
 postings_of_closed_day t day es more past none =

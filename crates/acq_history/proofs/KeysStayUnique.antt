@@ -105,23 +105,13 @@ unique_after_step t a h =
       admitted = λ r merchant g range c.
           unique_with h (unique_with_row t.requests t.requests _ refl g.new h.requests);
       completed = λ r merchant g hold c.
-          record {
-            requests =
-                unique_with_row t.requests _ _
-                (keys-with_changed hold.key _ (followed_kept _) t.requests)
-                g.new h.requests;
-            merchants = h.merchants;
-            terminals = h.terminals;
-          };
+          unique_with h
+          (unique_with_row t.requests _ _
+          (keys-with_changed hold.key _ (followed_kept _) t.requests) g.new h.requests);
       reversed = λ r merchant g row c.
-          record {
-            requests =
-                unique_with_row t.requests _ _
-                (keys-with_changed row.key _ (followed_kept _) t.requests)
-                g.new h.requests;
-            merchants = h.merchants;
-            terminals = h.terminals;
-          };
+          unique_with h
+          (unique_with_row t.requests _ _
+          (keys-with_changed row.key _ (followed_kept _) t.requests) g.new h.requests);
       reconciled = λ r merchant g day c.
           unique_with h (unique_with_row t.requests t.requests _ refl g.new h.requests);
       answered = λ moment v row c.

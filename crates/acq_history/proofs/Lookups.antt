@@ -1,10 +1,11 @@
 -- What look-ups, counts and filters make of an edit of a list.
 use Rattle.std.proofs.Common.{◌≡◌, ◌+◌, List, [], ◌∷◌, ◌++◌, Option, Some, None, Bool, true, false}
-use Rattle.std.proofs.Common.{cond, refl, sym, ap, ◌∙◌}
+use Rattle.std.proofs.Common.{cond, inl, inr, refl, sym, ap, ◌∙◌}
 use Rattle.std.specs.Prelude.{map, filter, find, option_map, option_and_then, ◌||◌, not, is_some}
 use Rattle.std.specs.Prelude.{is_none}
 use Rattle.std.specs.Option.{option_or}
-use Rattle.std.specs.List.{list_any}
+use Rattle.std.specs.List.{list_all, list_any}
+use Rattle.std.proofs.lemmas.Bool.{and_from, cases_Bool}
 use Rattle.std.proofs.lemmas.List.{append-nil}
 use Rattle.std.proofs.lemmas.List.Elements.{filter-append}
 use Rattle.acq_core.specs.Tables.{count}
@@ -41,6 +42,9 @@ pub not_some : {X : Type 0} (o : Option X) → not (is_some o) ≡ true → o �
 not_some None e = refl
 not_some (Some x) e = absurd (cc)
 
+pub none_some : {X P : Type 0} (x : X) → None ≡ Some x → P
+none_some x e = absurd (cc)
+
 pub some_is : {X : Type 0} (x y : X) → Some x ≡ Some y → x ≡ y
 some_is x y e = cc
 
@@ -54,8 +58,7 @@ map_some {X} {Y} f None y e = absurd (let h : ◌≡◌ {A = Option Y} None (Som
 map_some f (Some x) y e = (x, refl, some_is (f x) y e)
 
 pub then_some : {X Y : Type 0} (f : X → Option Y) (o : Option X) (y : Y) →
-    option_and_then f o ≡ Some y →
-    (x : X) × (o ≡ Some x) × (f x ≡ Some y)
+    option_and_then f o ≡ Some y → (x : X) × (o ≡ Some x) × (f x ≡ Some y)
 then_some {X} {Y} f None y e = absurd (let h : ◌≡◌ {A = Option Y} None (Some y) = e in cc)
 then_some f (Some x) y e = (x, refl, e)
 
@@ -147,8 +150,7 @@ filter-push_out p xs y e =
 
 -- a count of what passes a narrower test does not see the filter
 pub count-filter : {X : Type 0} (p q : X → Bool) → ((x : X) → q x ≡ true → p x ≡ true) →
-    (xs : List X) →
-    count q (filter p xs) ≡ count q xs
+    (xs : List X) → count q (filter p xs) ≡ count q xs
 count-filter p q narrower [] = refl
 count-filter {X} p q narrower (x ∷ xs) =
     let step : (b c : Bool) → p x ≡ b → q x ≡ c →
@@ -162,6 +164,15 @@ count-filter {X} p q narrower (x ∷ xs) =
       ]
     ] in
     step (p x) (q x) refl refl
+
+-- what a filter keeps passes
+pub filter_all : {X : Type 0} (p : X → Bool) (xs : List X) → list_all p (filter p xs) ≡ true
+filter_all p [] = refl
+filter_all p (x ∷ xs) =
+    elim (cases_Bool (p x)) [
+      | inl kept ↦ rw kept (and_from (p x) (list_all p (filter p xs)) kept (filter_all p xs))
+      | inr dropped ↦ rw dropped (filter_all p xs)
+    ]
 
 -- what is found through a filter passes it
 pub found_passes : {X : Type 0} (p c : X → Bool) (xs : List X) (x : X) →
@@ -198,7 +209,6 @@ each-push P [] ys a b = b
 each-push P (x ∷ xs) ys a b = (a.0, each-push P xs ys a.1 b)
 
 pub each-map : {X Y : Type 0} (P : X → Type 0) (Q : Y → Type 0) (u : X → Y) →
-    ((x : X) → P x → Q (u x)) →
-    (xs : List X) → Each P xs → Each Q (map u xs)
+    ((x : X) → P x → Q (u x)) → (xs : List X) → Each P xs → Each Q (map u xs)
 each-map P Q u f [] a = tt
 each-map P Q u f (x ∷ xs) a = (f x a.0, each-map P Q u f xs a.1)

@@ -57,8 +57,7 @@ In-find p [] x e = absurd (cc)
 In-find {X} p (y ∷ ys) x e = step (In-find p ys x) (p y) refl e
   where
     step : (find p ys ≡ Some x → In x ys × (p x ≡ true)) → (b : Bool) → p y ≡ b →
-        cond b (Some y) (find p ys) ≡ Some x →
-        In x (y ∷ ys) × (p x ≡ true)
+        cond b (Some y) (find p ys) ≡ Some x → In x (y ∷ ys) × (p x ≡ true)
     step rest true h f = let same : y ≡ x = cc in (inl same, subst (λ z. p z ≡ true) same h)
     step rest false h f = let a = rest f in (inr a.0, a.1)
 
@@ -69,8 +68,7 @@ In-find_none p [] e x h = absurd h
 In-find_none {X} p (y ∷ ys) e x h = step (λ f i. In-find_none p ys f x i) (p y) refl e h
   where
     step : (find p ys ≡ None → In x ys → p x ≡ false) → (b : Bool) → p y ≡ b →
-        cond b (Some y) (find p ys) ≡ None →
-        In x (y ∷ ys) → p x ≡ false
+        cond b (Some y) (find p ys) ≡ None → In x (y ∷ ys) → p x ≡ false
     step rest true q f i = absurd (cc)
     step rest false q f (inl same) = subst (λ z. p z ≡ false) same q
     step rest false q f (inr i) = rest f i

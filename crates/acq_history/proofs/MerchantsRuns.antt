@@ -24,8 +24,7 @@ new_agrees opening m = record {
     day = refl;
     ranges = refl;
     merchant = refl;
-    terminal =
-        λ id. refl;
+    terminal = λ id. refl;
   };
   rows = record { lines = refl; used = λ day. refl; genuine = tt };
   posted = refl;

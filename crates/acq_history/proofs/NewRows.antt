@@ -105,9 +105,7 @@ row_open row off service = refl
 
 -- a refused request, or a reconciliation
 pub idle_line : (r : RequestMessage) (e : Entry) (h : List Entry) (given : ResponseCode)
-    (reply : IsoMessage)
-    (s : Status) →
-    e.outcome ≡ Replied given reply →
+    (reply : IsoMessage) (s : Status) → e.outcome ≡ Replied given reply →
     is_admitted (newest r e h) ≡ false → is_accepted (newest r e h) ≡ false →
     tables.reply_state_of s reply ≡ Kept reply →
     tables.is_reversible s ≡ false → tables.is_approved s ≡ false →
@@ -139,8 +137,7 @@ idle_line r e h given reply s replied admitted accepted state reversible closed 
 
 -- what is admitted shows its own reference and its own card
 own_reference : (g : Found) (n : ℕ) (s : Service) → is_admissible s ≡ true →
-    reference_of g ≡ Some n →
-    reference_by s g ≡ Some n
+    reference_of g ≡ Some n → reference_by s g ≡ Some n
 own_reference g n Completion fits is = absurd (cc)
 own_reference g n service fits is = is
 

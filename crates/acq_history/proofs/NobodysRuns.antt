@@ -79,8 +79,7 @@ module _ (opening : Opening) (t : Tables) (h : List Entry) (s : AgreesInShared o
         arrival = a;
         day = day_after opening.first_day h;
         ranges = ranges_after h;
-        outcome =
-            outcome_of k d;
+        outcome = outcome_of k d;
       }
       ∷ h)
 
@@ -103,8 +102,7 @@ module _ (opening : Opening) (t : Tables) (h : List Entry) (s : AgreesInShared o
         | true ↦ record {
           bounded = s.bounded;
           day = s.day;
-          ranges =
-              ap (λ rs. without_range rs low high) s.ranges;
+          ranges = ap (λ rs. without_range rs low high) s.ranges;
         }
         | false ↦ record { bounded = s.bounded; day = s.day; ranges = s.ranges }
       ]
@@ -165,8 +163,7 @@ module _ (opening : Opening) (t : Tables) (h : List Entry) (s : AgreesInShared o
 
   -- whatever names no merchant and isn't shared
   pub nobodys_step : (a : Arrival) → IsNaming a → is_none (merchant_named a) ≡ true →
-      is_shared a ≡ false →
-      IsNobodysStep a
+      is_shared a ≡ false → IsNobodysStep a
   nobodys_step (Undecoded fault) naming alone apart =
       (refl, record { bounded = s.bounded; day = s.day; ranges = s.ranges })
   nobodys_step (Unserved message) naming alone apart =
@@ -208,8 +205,7 @@ others_keep_shared opening t h s a naming other alone =
           record {
             bounded = like.limit ∙ s.bounded;
             day = like.day ∙ s.day;
-            ranges =
-                like.ranges ∙ s.ranges;
+            ranges = like.ranges ∙ s.ranges;
           })
     ] in
     step (merchant_named a) refl

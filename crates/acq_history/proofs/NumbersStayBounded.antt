@@ -1,5 +1,5 @@
 -- Numbers stay within their bounds, whatever comes.
-use Rattle.std.proofs.Common.{◌≡◌, ℕ, ◌+◌, ◌*◌, ◌≤◌, List, [], ◌∷◌, length, Option, Some, None}
+use Rattle.std.proofs.Common.{◌∙◌, ◌≡◌, ℕ, ◌+◌, ◌*◌, ◌≤◌, List, [], ◌∷◌, length, Option, Some, None}
 use Rattle.std.proofs.Common.{Bool, true, false, cond, refl, sym, ap, subst, arith, eqb, leb}
 use Rattle.std.specs.Prelude.{All, IfSome, map, filter, find, option_map}
 use Rattle.std.specs.Str.{bytes_eq}
@@ -23,7 +23,6 @@ use Rattle.acq_core.specs.declared.arrival.Arrival.{Arrival}
 use Rattle.acq_core.specs.declared.merchant.Merchant.{Merchant}
 use Rattle.acq_core.specs.declared.posting.Posting.{Posting}
 use Rattle.acq_core.specs.declared.request.Request.{Request}
-use Rattle.acq_core.specs.declared.status.Status.{Status}
 use Rattle.acq_core.specs.declared.status.Status.TheVariants as status
 use Rattle.acq_core.specs.declared.reply_state.ReplyState.{ReplyState}
 use Rattle.acq_core.specs.declared.reply_state.ReplyState.TheVariants.{Kept}
@@ -34,7 +33,7 @@ use Rattle.acq_core.specs.Changes.{reversal_posting, answered_status, reversed_s
 use Rattle.acq_core.specs.Tables.{Opening, Tables, new_tables, count, is_pending, prior_of}
 use Rattle.acq_core.specs.Tables.{reply_state_of, reference_by, leg_by, requests_of, postings_of}
 use Rattle.acq_core.specs.Tables.{admitted_in, with_changed, with_next_posting, postings_before}
-use Rattle.acq_core.specs.Tables.{known_in, after_any, step_tables, tables_after, followed_row}
+use Rattle.acq_core.specs.Tables.{known_in, after_any, step_tables, tables_after}
 use Rattle.acq_history.specs.Entries.{is_reversal}
 use Rattle.acq_history.proofs.Lookups.{map_some}
 use Rattle.acq_history.proofs.Members.{In-find, from_In}
@@ -44,7 +43,7 @@ use Rattle.acq_history.specs.Bounds.{NumbersStayBounded}
 use Rattle.acq_history.proofs.StepCases.{next_reference, by_step}
 use Rattle.acq_history.proofs.Arrivals.{IsArrival, kept_by_events}
 use Rattle.acq_history.proofs.RowsWithChanges.{All-with_changed, All-member, followed_kept}
-use Rattle.acq_history.proofs.RowsWithChanges.{answered_kept}
+use Rattle.acq_history.proofs.RowsWithChanges.{answered_kept, Edits}
 use Rattle.acq_history.proofs.AdmittedCounts.{IsCounted, admitted_in-within}
 use Rattle.acq_history.proofs.CountsStayWithin.{AreCountsWithin, IsOfDay, within_uncounted}
 use Rattle.acq_history.proofs.CountsStayWithin.{within_counted, posted_on-ended, used_on-changed}
@@ -78,23 +77,29 @@ sound_later today later row le s = record {
   completion = s.completion;
 }
 
--- rows with one that a completion or a reversal sound_followed
-sound_followed : (today : ℕ) (key : RequestKey) (st : Status) (rows : List Request) →
-    All (IsSoundRow today) rows →
-    All (IsSoundRow today) (with_changed key (followed_row st) rows)
-sound_followed today key st rows all =
-    All-with_changed (IsSoundRow today) key (followed_row st) rows
-    (λ x same s. record {
+-- rows with one changed, whose amount stays an accepted one
+sound_changed : (today : ℕ) (key : RequestKey) (changed : Request → Request) → Edits changed →
+    ((x : Request) → x.key ≡ key → is_accepted_amount x.amount ≡ true →
+    is_accepted_amount (changed x).amount ≡ true) →
+    (rows : List Request) → All (IsSoundRow today) rows →
+    All (IsSoundRow today) (with_changed key changed rows)
+sound_changed today key changed edits amounts rows =
+    All-with_changed (IsSoundRow today) key changed rows (λ x same s.
+    let c = edits x in
+    record {
       bounded = record {
-        day = s.bounded.day;
-        reference = s.bounded.reference;
-        follows =
+        day = subst (λ d. d ≤ today) (sym c.day) s.bounded.day;
+        reference = subst (λ o. IfSome o (λ n. is_reference n ≡ true)) (sym c.reference)
+            s.bounded.reference;
+        follows = subst (λ o. IfSome o (λ n. is_reference n ≡ true)) (sym c.follows)
             s.bounded.follows;
       };
-      counts = s.counts;
-      amount = s.amount;
-      completion = s.completion;
-    }) all
+      counts = λ n e. c.admitted ∙ s.counts n (sym c.reference ∙ e);
+      amount = λ n e. amounts x same (s.amount n (sym c.reference ∙ e));
+      completion = λ k n e.
+          amounts x same (s.completion (sym (ap (λ z. z.service) c.key) ∙ k) n
+          (sym c.follows ∙ e));
+    })
 
 -- one without a reference, which follows nothing that posts
 sound_plain : (today : ℕ) (row : Request) → row.day ≡ today → row.reference ≡ None →
@@ -127,8 +132,7 @@ or_zero-bounded (Some n) h = h
 
 -- what a row posts under is of an accepted amount
 leg_by-amount : (today : ℕ) (s : Service) (row : Request) (leg : Leg) → IsSoundRow today row →
-    row.key.service ≡ s →
-    leg_by s row ≡ Some leg → is_accepted_amount row.amount ≡ true
+    row.key.service ≡ s → leg_by s row ≡ Some leg → is_accepted_amount row.amount ≡ true
 leg_by-amount today Financial row leg sound is e =
     let found = map_some (λ reference. row.leg) row.reference leg e in sound.amount found.0 found.1
 leg_by-amount today Completion row leg sound is e =
@@ -144,13 +148,13 @@ record IsMade (m : List ℕ) (on : ℕ) (p : Posting) : Type 0 where
   amount : is_accepted_amount p.amount ≡ true
   reference : is_reference p.reference ≡ true
 
-some_of : (m : List ℕ) (on : ℕ) (o : Option Posting) → IfSome o (IsMade m on) → IfSome o (IsOfDay m on)
+some_of : (m : List ℕ) (on : ℕ) (o : Option Posting) → IfSome o (IsMade m on) →
+    IfSome o (IsOfDay m on)
 some_of m on None h = tt
 some_of m on (Some p) h = h.of
 
 postings_with : (today on : ℕ) (m : List ℕ) (ps : List (ℕ × Posting)) (o : Option Posting) →
-    on ≤ today →
-    IfSome o (IsMade m on) → All (IsBoundedPosting today) ps →
+    on ≤ today → IfSome o (IsMade m on) → All (IsBoundedPosting today) ps →
     All (IsBoundedPosting today) (with_next_posting ps o)
 postings_with today on m ps None le made h = h
 postings_with today on m ps (Some p) le made h =
@@ -158,8 +162,7 @@ postings_with today on m ps (Some p) le made h =
     (record {
       day = let at = made.of.day in omega arith;
       amount = made.amount;
-      reference =
-          made.reference;
+      reference = made.reference;
     })
 
 -- what an approval posts, to the day of its row
@@ -333,7 +336,8 @@ module _ (opening : Opening) (begins : IsOpening opening) where
             All-member (IsSoundRow t.day) t.requests hold h.rows c.member in
             let made = completion_made t.day t.day r hold sound c.amount in sound_with h
             (All-push (IsSoundRow t.day) _ _
-            (sound_followed t.day hold.key status.Completed t.requests h.rows)
+            (sound_changed t.day hold.key _ (followed_kept status.Completed) (λ x same a. a)
+            t.requests h.rows)
             (sound_plain t.day _ refl refl
             (reference_by-bounded t.day hold.key.service hold sound.bounded)
             (λ s n e. c.amount)))
@@ -353,7 +357,8 @@ module _ (opening : Opening) (begins : IsOpening opening) where
             All-member (IsSoundRow t.day) t.requests row h.rows c.member in
             let ended = reversed_status-ended (reply_state_of row.status row.reply) in
             let made = reversal_made t.day t.day r row sound in sound_with h
-            (All-push (IsSoundRow t.day) _ _ (sound_followed t.day row.key _ t.requests h.rows)
+            (All-push (IsSoundRow t.day) _ _
+            (sound_changed t.day row.key _ (followed_kept _) (λ x same a. a) t.requests h.rows)
             (sound_plain t.day _ refl refl
             (reference_by-bounded t.day row.key.service row sound.bounded)
             (λ s n e. absurd (let no : is_reversal r.service ≡ false = ap is_reversal s in
@@ -379,17 +384,8 @@ module _ (opening : Opening) (begins : IsOpening opening) where
             let sound : IsSoundRow t.day row =
             All-member (IsSoundRow t.day) t.requests row h.rows c.member in
             let made = answer_made t.day v row sound in sound_with h
-            (All-with_changed (IsSoundRow t.day) row.key _ t.requests
-            (λ x same s. record {
-              bounded = record {
-                day = s.bounded.day;
-                reference = s.bounded.reference;
-                follows = s.bounded.follows;
-              };
-              counts = s.counts;
-              amount = s.amount;
-              completion = s.completion;
-            }) h.rows)
+            (sound_changed t.day row.key _ (answered_kept _ _ _) (λ x same a. a) t.requests
+            h.rows)
             (postings_with t.day row.day row.key.merchant t.postings
             (answer_posting v (prior_of row))
             sound.bounded.day made h.postings)
@@ -410,8 +406,7 @@ module _ (opening : Opening) (begins : IsOpening opening) where
               (λ row p. record {
                 day = let on = p.day in omega arith;
                 amount = p.amount;
-                reference =
-                    p.reference;
+                reference = p.reference;
               })
               t.postings h.postings;
           counts = h.counts;

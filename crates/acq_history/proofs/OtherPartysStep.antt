@@ -32,7 +32,7 @@ use Rattle.acq_core.specs.Tables.{after_any, known_in, step_tables, used_in}
 use Rattle.acq_history.specs.Entries.{Entry, request_of}
 use Rattle.acq_history.specs.PartyHistory.{names}
 use Rattle.acq_history.proofs.Lookups.{clash, or_split, not_false, map_same, any-push, filter-map}
-use Rattle.acq_history.proofs.Lookups.{filter-push_out}
+use Rattle.acq_history.proofs.Lookups.{filter-push_out, none_some}
 use Rattle.acq_history.proofs.Keys.{same_key_is, eqb_is}
 use Rattle.acq_core.proofs.Counts.{or_none}
 use Rattle.acq_history.proofs.RecordableRequests.{recordable_some}
@@ -97,8 +97,7 @@ alike_same : (m : List ℕ) (t : Tables) → Alike m t t
 alike_same m t = alike_rows refl refl
 
 -- an edit of another merchant's row
-edit_out : (m : List ℕ) (key : RequestKey) (changed : Request → Request) →
-    Edits changed →
+edit_out : (m : List ℕ) (key : RequestKey) (changed : Request → Request) → Edits changed →
     bytes_eq key.merchant m ≡ false → (rows : List Request) →
     requests_of m (with_changed key changed rows) ≡ requests_of m rows
 edit_out m key changed edits other rows =
@@ -222,8 +221,7 @@ all_at p n (k ∷ ns) there all =
 needs_merchant : (moment : ℕ) (s : Service) (message : IsoMessage) (q : RequestMessage) →
     let r : RequestMessage = record { moment = moment; service = s; message = message } in
     request_of (Requested r) ≡ Some q → list_any (λ k. eqb k 42) (needed s) ≡ true
-needs_merchant moment NetworkManagement message q came =
-    absurd (let no : ◌≡◌ {A = Option RequestMessage} None (Some q) = came in cc)
+needs_merchant moment NetworkManagement message q came = none_some q came
 needs_merchant moment service message q came = refl
 
 -- what the first check passes has all that it needs
@@ -242,15 +240,14 @@ passed_has s message passed =
 naming_of_message : (moment : ℕ) (message : IsoMessage) (o : Option Service) (q : RequestMessage) →
     request_of (arrival_of_message moment message o) ≡ Some q →
     is_some (merchant_named (arrival_of_message moment message o)) ≡ true
-naming_of_message moment message None q came =
-    absurd (let no : ◌≡◌ {A = Option RequestMessage} None (Some q) = came in cc)
+naming_of_message moment message None q came = none_some q came
 naming_of_message moment message (Some s) q came =
     let r : RequestMessage = record { moment = moment; service = s; message = message } in
     let step : (b : Bool) → is_malformed s message ≡ b →
     request_of (if b then Malformed r else Requested r) ≡ Some q →
     is_some (merchant_named (if b then Malformed r else Requested r)) ≡ true =
     elim [
-      | true ↦ (λ e c. absurd (let no : ◌≡◌ {A = Option RequestMessage} None (Some q) = c in cc))
+      | true ↦ (λ e c. none_some q c)
       | false ↦
           (λ e c. all_at (has message) 42 (needed s) (needs_merchant moment s message q c)
           (passed_has s message e))
@@ -262,17 +259,13 @@ naming_of_reading : (moment : ℕ) (o : Result IsoMessage DecodeFault) (q : Requ
     is_some (merchant_named (arrival_of_reading moment o)) ≡ true
 naming_of_reading moment (Ok message) q came = naming_of_message moment message
     (service_of message.kind) q came
-naming_of_reading moment (Err fault) q came =
-    absurd (let no : ◌≡◌ {A = Option RequestMessage} None (Some q) = came in cc)
+naming_of_reading moment (Err fault) q came = none_some q came
 
 -- so an event that is recorded names its merchant
 pub naming_of : (e : Event) (q : RequestMessage) → request_of (arrival_of e) ≡ Some q →
     is_some (merchant_named (arrival_of e)) ≡ true
 naming_of (event.Frame moment text) q came = naming_of_reading moment (reading_of text) q came
-naming_of (event.Cutover moment) q came =
-    absurd (let no : ◌≡◌ {A = Option RequestMessage} None (Some q) = came in cc)
-naming_of (event.AddRange range) q came =
-    absurd (let no : ◌≡◌ {A = Option RequestMessage} None (Some q) = came in cc)
-naming_of (event.DropRange low high) q came =
-    absurd (let no : ◌≡◌ {A = Option RequestMessage} None (Some q) = came in cc)
+naming_of (event.Cutover moment) q came = none_some q came
+naming_of (event.AddRange range) q came = none_some q came
+naming_of (event.DropRange low high) q came = none_some q came
 naming_of other q came = refl

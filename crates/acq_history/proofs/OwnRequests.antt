@@ -91,8 +91,7 @@ reversal_by e h r service fits = absurd (cc)
 
 -- nothing is admitted whose issuer isn't asked
 admits_not : (rq : Option RequestMessage) (e : Entry) (h : List Entry) →
-    is_asked e.outcome ≡ false →
-    admits rq e h ≡ false
+    is_asked e.outcome ≡ false → admits rq e h ≡ false
 admits_not None e h off = refl
 admits_not (Some r) e h off =
     ap (λ b. is_admissible r.service && b && is_none (recorded (key_of r.service r.message) h)) off
@@ -166,8 +165,7 @@ module _ {opening : Opening} {m : List ℕ} {t : Tables} {h : List Entry}
   quiet_step r o quiet =
       let e = entry (Requested r) o in
       record {
-        common =
-            common_still (Requested r) o quiet.performed g.common;
+        common = common_still (Requested r) o quiet.performed g.common;
         rows =
             rows_still quiet.accepted
             (admits_not (request_of (Requested r)) e h quiet.asked)
@@ -231,8 +229,7 @@ module _ {opening : Opening} {m : List ℕ} {t : Tables} {h : List Entry}
 
   -- a refused request
   pub refused_step : (r : RequestMessage) → merchant_named (Requested r) ≡ Some m →
-      (given : ResponseCode) →
-      request_of (Requested r) ≡ Some r →
+      (given : ResponseCode) → request_of (Requested r) ≡ Some r →
       (known_by opening h (Requested r)).recorded ≡ None → IsRefusal given →
       Keeps (Requested r) (Refuses r given)
   refused_step r named given came new is =
@@ -279,8 +276,7 @@ module _ {opening : Opening} {m : List ℕ} {t : Tables} {h : List Entry}
       (range : Range) (merchant : Merchant) → request_of (Requested r) ≡ Some r →
       (known_by opening h (Requested r)).recorded ≡ None → is_admissible r.service ≡ true →
       (known_by opening h (Requested r)).range ≡ Some range →
-      (known_by opening h (Requested r)).merchant ≡ Some merchant →
-      Keeps (Requested r)
+      (known_by opening h (Requested r)).merchant ≡ Some merchant → Keeps (Requested r)
       (Admits r range (merchant.first_reference + (known_by opening h (Requested r)).admitted))
   admitted_step r named range merchant came new fits in_range there =
       let k = known_by opening h (Requested r) in

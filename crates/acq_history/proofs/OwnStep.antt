@@ -28,7 +28,7 @@ use Rattle.acq_core.specs.declared.arrival.Arrival.TheVariants.{TerminalAdded}
 use Rattle.acq_core.specs.Known.{Known, Prior}
 use Rattle.acq_core.specs.declared.reply_state.ReplyState.TheVariants.{Awaited}
 use Rattle.acq_core.specs.Decision.{Decision, Reports, Replies, network_response, repeat_of}
-use Rattle.acq_core.specs.Decision.{is_open_at, Completes, Answers, CutsOver, DropsRange, decision}
+use Rattle.acq_core.specs.Decision.{Completes, Answers, CutsOver, DropsRange, decision}
 use Rattle.acq_core.specs.Decision.{decision_of_new_range, decision_of_old_range}
 use Rattle.acq_core.specs.Decision.{decision_of_enrolment, decision_of_terminal}
 use Rattle.day_totals.specs.Day.{last_day}
@@ -49,6 +49,7 @@ use Rattle.acq_history.specs.History.{postings, posting_of}
 use Rattle.acq_history.specs.PartyHistory.{known_by, entry_for}
 use Rattle.acq_history.specs.Isolation.{recording_first}
 use Rattle.acq_history.proofs.Lookups.{some_is, map_some, then_map, any-push, found_passes}
+use Rattle.acq_history.proofs.Lookups.{none_some}
 use Rattle.acq_history.proofs.Keys.{bytes_eq_is, bytes_eq_itself}
 use Rattle.acq_core.proofs.DecisionCases.{by_request, by_answer}
 use Rattle.acq_core.proofs.Counts.{or_none}
@@ -66,6 +67,7 @@ use Rattle.acq_history.proofs.TablesAgreeWithHistory.{answer_posting_is_of}
 use Rattle.acq_history.proofs.OwnRequests.{Keeps, quiet_step, refused_step, reconciled_step}
 use Rattle.acq_history.proofs.OwnRequests.{admitted_step, completed_step, reversed_step}
 use Rattle.acq_history.proofs.RowsWithChanges.{answered_kept}
+use Rattle.acq_history.proofs.Statuses.{is_some_open}
 
 -- what is found in a merchant's rows has its key
 pub referred_merchant : (m : List ℕ) (rows : List Request) (n : ℕ) (p : Prior) →
@@ -77,11 +79,6 @@ referred_merchant m rows n p there =
     ∙ bytes_eq_is found.0.key.merchant m
     (found_passes (λ row. bytes_eq row.key.merchant m) (λ row. is_number n row.reference) rows
     found.0 found.1)
-
--- a hold that is open has an end
-is_some_open : (moment : ℕ) (o : Option ℕ) → is_open_at moment o ≡ true → is_some o ≡ true
-is_some_open moment None e = absurd (cc)
-is_some_open moment (Some until) e = refl
 
 -- the step of the tables is the step of the history
 abbrev pub IsStep : Opening → List ℕ → Tables → List Entry → Arrival → Type 0
@@ -114,8 +111,7 @@ module _ {opening : Opening} {m : List ℕ} {t : Tables} {h : List Entry}
 
   -- a request that changes nothing
   unchanged : (r : RequestMessage) (d : Decision) → change_of (known (Requested r)) d ≡ None →
-      IsQuiet (known (Requested r)) r (outcome_of (known (Requested r)) d) →
-      Keeps g (Requested r) d
+      IsQuiet (known (Requested r)) r (outcome_of (known (Requested r)) d) → Keeps g (Requested r) d
   unchanged r d none quiet =
       subst (λ c. Agrees opening m (after_any t c)
       (at (Requested r) (outcome_of (known (Requested r)) d) ∷ h))
@@ -159,8 +155,7 @@ module _ {opening : Opening} {m : List ℕ} {t : Tables} {h : List Entry}
 
   -- the rows, where the entry is neither a request nor an answer that is taken
   still_rows : (a : Arrival) (o : Outcome) → request_of a ≡ None →
-      ((n : ℕ) → is_answer n (at a o) ≡ false) →
-      Rows m t.requests (at a o ∷ h)
+      ((n : ℕ) → is_answer n (at a o) ≡ false) → Rows m t.requests (at a o ∷ h)
   still_rows a o none answers =
       rows_still (ap (λ rq. accepts is_acceptable rq o) none)
       (ap (λ rq. admits rq (at a o) h) none) (ap (recording_first (at a o) h) none)
@@ -316,8 +311,7 @@ module _ {opening : Opening} {m : List ℕ} {t : Tables} {h : List Entry}
         posted = g.posted;
       }
 
-  range_added : (range : Range) →
-      Keeps g (RangeAdded range)
+  range_added : (range : Range) → Keeps g (RangeAdded range)
       (decision (known (RangeAdded range)) (RangeAdded range))
   range_added range =
       elim (is_valid_range range) as (λ b.
@@ -375,7 +369,7 @@ module _ {opening : Opening} {m : List ℕ} {t : Tables} {h : List Entry}
       terminal_added terminal (some_is terminal.merchant m named)
       (known (TerminalAdded terminal)).has_terminal
       (known (TerminalAdded terminal)).merchant
-  keeps_mine other named = absurd (let no : ◌≡◌ {A = Option (List ℕ)} None (Some m) = named in cc)
+  keeps_mine other named = none_some m named
 
   -- whatever is shared
   keeps_shared : (a : Arrival) → is_shared a ≡ true → KeepsAt a

@@ -16,10 +16,8 @@ use Rattle.acq_core.specs.declared.status.Status.{Status}
 use Rattle.acq_core.specs.declared.status.Status.TheVariants.{Pending, Approved, Completed}
 use Rattle.acq_core.specs.declared.posting.Posting.{Posting}
 use Rattle.acq_message.specs.Elements.{or_empty}
-use Rattle.acq_core.specs.Decision.{is_open_at}
 use Rattle.acq_core.specs.Changes.{reversal_leg, reversed_status, posted_leg}
-use Rattle.acq_core.specs.Tables.{reply_state_of, is_reversible, is_approved, leg_by, reference_by}
-use Rattle.acq_core.specs.Tables.{hold_end_by}
+use Rattle.acq_core.specs.Tables.{reply_state_of, is_reversible, leg_by, reference_by}
 use Rattle.acq_history.specs.Entries.{is_admissible, is_reversal}
 use Rattle.acq_history.specs.Conservation.{is_reversal_leg}
 use Rattle.acq_history.proofs.Members.{In, In-first, In-push}
@@ -28,7 +26,6 @@ use Rattle.acq_history.proofs.PostingsOfRequests.{reversed_under, HasPosted, Has
 use Rattle.acq_history.proofs.PostingsOfRequests.{PostingsMatchRows, Grows, FromBefore, unposted}
 use Rattle.acq_history.proofs.PostingsOfRequests.{under_by}
 use Rattle.acq_history.proofs.RowsStayWellFormed.{IsWellFormed, IsReplaced}
-use Rattle.acq_history.proofs.Statuses.{is_approved_is}
 use Rattle.acq_history.proofs.RowsWithChanges.{IsChange}
 use Rattle.acq_history.proofs.Lookups.{clash}
 
@@ -60,16 +57,14 @@ reversed_as row n e = step (is_reversed row.status) refl e
 
 -- rows that agree in this have posted alike
 pub posted_same : (s : Service) (a b : Request) → is_posted a.status ≡ is_posted b.status →
-    a.reference ≡ b.reference →
-    a.follows ≡ b.follows → posted_by s a ≡ posted_by s b
+    a.reference ≡ b.reference → a.follows ≡ b.follows → posted_by s a ≡ posted_by s b
 posted_same Financial a b e f g = λ i. cond (e i) (f i) None
 posted_same Completion a b e f g = g
 posted_same service a b e f g = refl
 
 -- what has no status of a posting, and follows nothing, has posted nothing
 pub posted_none : (s : Service) (row : Request) → is_posted row.status ≡ false →
-    row.follows ≡ None →
-    posted_by s row ≡ None
+    row.follows ≡ None → posted_by s row ≡ None
 posted_none s row e f = posted_same s row (record row { status = Pending; follows = None }) e refl f
     ∙ none s
   where
@@ -90,8 +85,7 @@ posted_reversing service row e = refl
 
 -- a request with a reference, but no leg, posts nothing
 pub posted_unsold : (s : Service) (a b : Request) (n : ℕ) → leg_by s b ≡ None →
-    b.reference ≡ Some n →
-    a.follows ≡ b.follows → posted_by s a ≡ posted_by s b
+    b.reference ≡ Some n → a.follows ≡ b.follows → posted_by s a ≡ posted_by s b
 posted_unsold Financial a b n e f g =
     absurd (let some : option_map (λ reference. b.leg) b.reference
     ≡ Some b.leg = ap (option_map (λ reference. b.leg)) f in cc)
@@ -130,8 +124,7 @@ leg_of service row leg e = absurd (cc)
 
 -- of the requests that are admitted, sales and returns alone have a leg
 pub leg_by_admissible : (s : Service) (row : Request) (leg : Leg) → leg_by s row ≡ Some leg →
-    is_admissible s ≡ true →
-    s ≡ Financial
+    is_admissible s ≡ true → s ≡ Financial
 leg_by_admissible Financial row leg e a = refl
 leg_by_admissible service row leg e a = absurd (cc)
 
@@ -143,19 +136,6 @@ reversal_leg_is DebitReversal e = absurd (cc)
 reversal_leg_is other e = refl
 
 -- ---- status
-
--- an open row is an approved hold
-pub is_open_until_row : (s : Service) (row : Request) (moment : ℕ) →
-    is_open_at moment (hold_end_by s row) ≡ true →
-    (s ≡ Authorization) × (row.status ≡ Approved)
-is_open_until_row Authorization row moment e = step (is_approved row.status) refl e
-  where
-    step : (b : Bool) → is_approved row.status ≡ b →
-        is_open_at moment (cond b row.hold_end None) ≡ true →
-        (Authorization ≡ Authorization) × (row.status ≡ Approved)
-    step true h f = (refl, is_approved_is row.status h)
-    step false h f = absurd (cc)
-is_open_until_row service row moment e = absurd (cc)
 
 -- what can be reversed was not, and a reversal keeps whether it posted
 pub record IsReversible (s : Status) (reply : IsoMessage) : Type 0 where
@@ -183,8 +163,7 @@ posted_leg_approved status reply o leg f e = absurd (cc)
 pub once_posted : {day : ℕ} {merchants : List Merchant} {rows : List Request} (a b : Request)
     (n : ℕ) →
     IsWellFormed day merchants rows → In a rows → In b rows → a.key.merchant ≡ b.key.merchant →
-    posted a ≡ Some n →
-    posted b ≡ Some n → a ≡ b
+    posted a ≡ Some n → posted b ≡ Some n → a ≡ b
 once_posted {rows = rows} a b n k i j m e f = step (posted_as a.key.service a n e)
     (posted_as b.key.service b n f)
   where
@@ -248,8 +227,7 @@ Grows-both a b = record { stays = λ reversal m n h. b.stays reversal m n (a.sta
 
 -- a row more that has posted nothing
 pub from_push : (rows : List Request) (row : Request) (ps : List (ℕ × Posting)) →
-    posted row ≡ None →
-    FromBefore rows ps rows → FromBefore rows ps (rows ++ row ∷ [])
+    posted row ≡ None → FromBefore rows ps rows → FromBefore rows ps (rows ++ row ∷ [])
 from_push rows row ps none from x n i e = elim (In-push x rows row i) [
   | inl old ↦ from x n old e
   | inr new ↦ absurd (let under : posted row ≡ Some n = ap posted new ∙ e in cc)
@@ -287,8 +265,7 @@ Grows-replaced {p = p} {q = q} r c same none = record {
 
 -- a changed row has the same posting
 HasPosting-change : (ps : List (ℕ × Posting)) (p q : Request) (n : ℕ) → IsChange p q →
-    posted p ≡ Some n → HasPosting ps p n →
-    HasPosting ps q n
+    posted p ≡ Some n → HasPosting ps p n → HasPosting ps q n
 HasPosting-change ps p q n c under h = record {
   posting = h.posting;
   member = h.member;

@@ -105,8 +105,7 @@ FromBefore rows ps later = (row : Request) (n : ℕ) → In row later → posted
 
 -- rows that change and post nothing
 pub unposted : {rows later : List Request} {ps : List (ℕ × Posting)} → PostingsMatchRows rows ps →
-    Grows rows later →
-    FromBefore rows ps later → PostingsMatchRows later ps
+    Grows rows later → FromBefore rows ps later → PostingsMatchRows later ps
 unposted b g from = record {
   made = λ x i. g.stays _ _ _ (b.made x i);
   there = from;
@@ -164,8 +163,7 @@ record SaysPosting (m : List ℕ) (n : ℕ) (reversal : Bool) (x : ℕ × Postin
   leg : is_reversal_leg x.1.leg ≡ reversal
 
 says_posting : (m : List ℕ) (n : ℕ) (reversal : Bool) (x : ℕ × Posting) →
-    is_posting m n reversal x ≡ true →
-    SaysPosting m n reversal x
+    is_posting m n reversal x ≡ true → SaysPosting m n reversal x
 says_posting m n reversal x h =
     let parts = and_parts (bytes_eq x.1.merchant m && (x.1.reference == n)) _ h in
     let front = and_parts (bytes_eq x.1.merchant m) (x.1.reference == n) parts.0 in
@@ -182,8 +180,7 @@ says_posting m n reversal x h =
 
 -- postings of one merchant and day stand beside the same
 beside_same : (a b : Posting) → a.merchant ≡ b.merchant → a.day ≡ b.day →
-    (ps : List (ℕ × Posting)) →
-    count (is_beside a) ps ≡ count (is_beside b) ps
+    (ps : List (ℕ × Posting)) → count (is_beside a) ps ≡ count (is_beside b) ps
 beside_same a b e f ps = λ i. count (λ row. bytes_eq row.1.merchant (e i) && (row.1.day == f i)) ps
 
 beside_itself : (n : ℕ) (p : Posting) → is_beside p (n, p) ≡ true
@@ -217,8 +214,7 @@ numbered_posting ps p = (count (is_beside p) ps + 1, p)
 
 -- numbers of the merchant and day stay below their count
 numbers_push : (rows : List Request) (ps : List (ℕ × Posting)) (p : Posting) →
-    PostingsMatchRows rows ps →
-    (x : ℕ × Posting) → In x (with_next_posting ps (Some p)) →
+    PostingsMatchRows rows ps → (x : ℕ × Posting) → In x (with_next_posting ps (Some p)) →
     x.0 ≤ count (is_beside x.1) (with_next_posting ps (Some p))
 numbers_push rows ps p b x i = elim (In-push x ps (numbered_posting ps p) i) [
   | inl old ↦
@@ -240,8 +236,7 @@ HasOriginal-push ps x y h =
     record { original = h.original; member = In-first h.original ps _ h.member; of = h.of }
 
 HasPosting-push : (ps : List (ℕ × Posting)) (row : Request) (n : ℕ) (y : ℕ × Posting) →
-    HasPosting ps row n →
-    HasPosting (ps ++ y ∷ []) row n
+    HasPosting ps row n → HasPosting (ps ++ y ∷ []) row n
 HasPosting-push ps row n y h =
     record { posting = h.posting; member = In-first h.posting ps _ h.member; of = h.of }
 
@@ -253,8 +248,7 @@ FromBeforeOr ps p later =
 
 -- each row that posted has its posting, also the newest
 there_push : (ps : List (ℕ × Posting)) (p : Posting) (later : List Request) →
-    FromBeforeOr ps p later →
-    (row : Request) (n : ℕ) → In row later → posted row ≡ Some n →
+    FromBeforeOr ps p later → (row : Request) (n : ℕ) → In row later → posted row ≡ Some n →
     HasPosting (with_next_posting ps (Some p)) row n
 there_push ps p later from row n i e = elim (from row n i e) [
   | inl old ↦ HasPosting-push ps row n _ old
@@ -321,8 +315,7 @@ posted_next {rows} {later} {ps} {p} b g from f = record {
           inr (same, omega arith)
     ]
 
-    reversing : Reverses ps p →
-        HasOriginal (with_next_posting ps (Some p)) (numbered_posting ps p)
+    reversing : Reverses ps p → HasOriginal (with_next_posting ps (Some p)) (numbered_posting ps p)
     reversing r = record {
       original = r.original;
       member = In-first r.original ps _ r.member;

@@ -41,7 +41,6 @@ pub record WantsByKey (w : Wanted) (s : Service) (m : IsoMessage) : Type 0 where
   pub key : w.key ≡ Some (key_of s m)
 
 pub wants_by_key : (day : ℕ) (s : Service) (q r : RequestMessage) (m : IsoMessage) →
-    recordable q s ≡ Some r →
-    WantsByKey (wanted_for day s m) s m
+    recordable q s ≡ Some r → WantsByKey (wanted_for day s m) s m
 wants_by_key day NetworkManagement q r m e = absurd (cc)
 wants_by_key day service q r m e = record { merchant = refl; terminal = refl; key = refl }

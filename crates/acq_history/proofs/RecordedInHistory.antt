@@ -32,8 +32,7 @@ key_in f = key_of f.request.service f.request.message
 
 -- the newest entry's request, found by its key only where that is new
 new_by_key : (q : Found → Bool) (x : Found) (o : Option Found) (u : Found → Found)
-    (p : Option Found) (s c : Bool) →
-    q x ≡ s → (s ≡ true → p ≡ o) →
+    (p : Option Found) (s c : Bool) → q x ≡ s → (s ≡ true → p ≡ o) →
     option_or (option_map u o) (find q (cond (c && not (is_some p)) (x ∷ []) []))
     ≡ option_or (option_map u o) (cond (s && c) (Some x) None)
 new_by_key q x (Some g) u p s c fits same = refl
@@ -76,8 +75,7 @@ find_recorded key (e ∷ h) =
 
 -- the newest entry's request, found by its reference
 new_by_reference : (q : Found → Bool) (x : Found) (adm c b : Bool) → q x ≡ (adm && b) →
-    (adm ≡ true → c ≡ true) →
-    find q (cond c (x ∷ []) []) ≡ cond (adm && b) (Some x) None
+    (adm ≡ true → c ≡ true) → find q (cond c (x ∷ []) []) ≡ cond (adm && b) (Some x) None
 new_by_reference q x true c b fits there =
     (λ i. find q (cond (there refl i) (x ∷ []) [])) ∙ ap (λ t. cond t (Some x) None) fits
 new_by_reference q x false c b fits there =
@@ -207,8 +205,7 @@ below_new n (Some merchant) p a false there adm is = absurd (cc)
 
 -- with one more entry
 below_more : (n : ℕ) (e : Entry) (h : List Entry) (p : Option Merchant) (rq : Option RequestMessage)
-    (f : Found) →
-    (admits rq e h ≡ true → is_some (enrolled h) ≡ true) →
+    (f : Found) → (admits rq e h ≡ true → is_some (enrolled h) ≡ true) →
     ((g : Found) → referred n h ≡ Some g → IsBelow n (enrolled h) (admitted h)) →
     option_or (option_map (aged e) (referred n h)) (referring n e h rq) ≡ Some f →
     IsBelow n (option_or (enrolled h) p) (cond (admits rq e h) (1 + admitted h) (admitted h))
@@ -265,8 +262,7 @@ reference_if false k n e = absurd (cc)
 
 -- the newest entry's request
 newest_found_again : (e : Entry) (h : List Entry) (r : RequestMessage) →
-    AdmitsOnlyEnrolled (e ∷ h) →
-    request_of e.arrival ≡ Some r → (c : Bool) →
+    AdmitsOnlyEnrolled (e ∷ h) → request_of e.arrival ≡ Some r → (c : Bool) →
     (is_past_merchant e.outcome && not (is_some (recorded (key_of r.service r.message) h))) ≡ c →
     Each (IsFoundAgain (e ∷ h)) (cond c (newest r e h ∷ []) [])
 newest_found_again e h r genuine came false first = tt
@@ -356,8 +352,7 @@ referred_is n (e ∷ h) f is = referred_more n e h (request_of e.arrival) f refl
     (λ g eg. referred_is n h g eg) is
 
 recorded_more : (key : RequestKey) (e : Entry) (h : List Entry) (rq : Option RequestMessage)
-    (f : Found) →
-    ((g : Found) → recorded key h ≡ Some g → key_in g ≡ key) →
+    (f : Found) → ((g : Found) → recorded key h ≡ Some g → key_in g ≡ key) →
     option_or (option_map (aged e) (recorded key h)) (recording key e h rq) ≡ Some f →
     key_in f ≡ key
 recorded_more key e h None f before is =

@@ -140,8 +140,7 @@ with_changes merchants rows key changed edits h m =
 
 -- with a merchant more
 with_merchant : (merchants : List Merchant) (rows : List Request) (merchant : Merchant) →
-    AreRows merchants rows →
-    AreRows (merchants ++ merchant ∷ []) rows
+    AreRows merchants rows → AreRows (merchants ++ merchant ∷ []) rows
 with_merchant merchants rows merchant h m =
     subst (λ o. AreRowsOf o (requests_of m rows))
     (sym (find-append (λ row. bytes_eq row.id m) merchants (merchant ∷ [])))

@@ -1,7 +1,7 @@
 -- A request that the key check decides on changes no table, so no later event sees it.
 use Rattle.std.proofs.Common.{◌≡◌, ℕ, List, [], ◌∷◌, Option, Some, None, Bool, true, false, cond}
 use Rattle.std.proofs.Common.{refl, sym, ap, ◌∙◌, subst}
-use Rattle.std.specs.Prelude.{filter, is_some, ◌&&◌, ◌||◌}
+use Rattle.std.specs.Prelude.{is_some, ◌&&◌, ◌||◌}
 use Rattle.std.specs.List.{list_all}
 use Rattle.std.proofs.lemmas.Bool.{and_parts}
 use Rattle.acq_core.specs.declared.event.Event.{Event}
@@ -26,6 +26,7 @@ use Rattle.acq_history.proofs.TablesAgreeWithHistory.{Agrees, known_in_mine, kno
 use Rattle.acq_history.proofs.TablesAgreeWithHistory.{names_is}
 use Rattle.acq_history.proofs.OwnRequests.{recorded_known, is_some_map}
 use Rattle.acq_history.proofs.MerchantsRuns.{own_step, from_new}
+use Rattle.acq_history.proofs.Lookups.{filter_all}
 
 is_some_not_none : {X : Type 0} {P : Type 0} (o : Option X) → is_some o ≡ true → o ≡ None → P
 is_some_not_none None there none = absurd (cc)
@@ -55,8 +56,7 @@ change_of_recorded k r there =
 module _ (opening : Opening) (m : List ℕ) where
   -- what the key check decides on
   change_of_recorded_key : (t : Tables) (h : List Entry) → Agrees opening m t h → (a : Arrival) →
-      is_by_key h a ≡ true →
-      change_for (known_by opening h a) a ≡ None
+      is_by_key h a ≡ true → change_for (known_by opening h a) a ≡ None
   change_of_recorded_key t h g (Requested r) there =
       let step : (rq : Option RequestMessage) → request_of (Requested r) ≡ rq →
       has_recorded rq h ≡ true →
@@ -88,8 +88,7 @@ module _ (opening : Opening) (m : List ℕ) where
 
   -- two histories that agree with the same tables tell the same
   same_outputs : (t : Tables) (h k : List Entry) → Agrees opening m t h → Agrees opening m t k →
-      (es : List Event) →
-      list_all is_own es ≡ true →
+      (es : List Event) → list_all is_own es ≡ true →
       outputs_alone opening (Some m) k es ≡ outputs_alone opening (Some m) h es
   same_outputs t h k g f [] mine = refl
   same_outputs t h k g f (e ∷ es) mine =
@@ -134,19 +133,9 @@ module _ (opening : Opening) (m : List ℕ) where
       ] in
       step (out && is_by_key h a) refl
 
-all_filtered : {X : Type 0} (p : X → Bool) (xs : List X) → list_all p (filter p xs) ≡ true
-all_filtered p [] = refl
-all_filtered {X} p (x ∷ xs) =
-    let step : (b : Bool) → p x ≡ b → list_all p (cond b (x ∷ filter p xs) (filter p xs)) ≡ true =
-    elim [
-      | true ↦ (λ e. (λ i. e i && list_all p (filter p xs)) ∙ all_filtered p xs)
-      | false ↦ (λ e. all_filtered p xs)
-    ] in
-    step (p x) refl
-
 pub repeats : (m : List ℕ) → RepeatsAreQuiet m
 repeats m opening past further outs =
     let h = history_of opening (Some m) past in
     let g = from_new opening m past in
     quiet opening m (book_after opening past) h h g g outs (own (Some m) further)
-    (all_filtered (λ e. is_of (Some m) (arrival_of e) || is_shared (arrival_of e)) further)
+    (filter_all (λ e. is_of (Some m) (arrival_of e) || is_shared (arrival_of e)) further)

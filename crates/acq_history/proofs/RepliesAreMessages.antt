@@ -78,8 +78,7 @@ module _ (day : ℕ) (r : RequestMessage) (dated : day ≤ last_day) (whole : Is
       (code_element-may given is))
 
   pub totals_reply-is : (given : ResponseCode) (in_balance : Bool) (totals : DayTotals) →
-      IsCode given →
-      IsReply r.service (totals_reply day r given in_balance totals)
+      IsCode given → IsReply r.service (totals_reply day r given in_balance totals)
   totals_reply-is given in_balance totals is =
       reply_with (day_element r.service day ++ code_element given
       ++ totals_elements in_balance totals)
@@ -90,8 +89,7 @@ module _ (day : ℕ) (r : RequestMessage) (dated : day ≤ last_day) (whole : Is
       (totals_elements-may in_balance totals))
 
 answered_reply-is : (service : Service) (draft : IsoMessage) (v : Verdict) → IsVerdict v →
-    IsReply service draft →
-    IsReply service (answered_reply draft v)
+    IsReply service draft → IsReply service (answered_reply draft v)
 answered_reply-is service draft v is r =
     reply_of_body service (answered_reply draft v) r.kind
     (body_with_all (verdict_elements v) draft.elements (body_of_reply service draft r)

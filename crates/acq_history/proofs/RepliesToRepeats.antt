@@ -65,9 +65,7 @@ passes : (k : Known) (q : RequestMessage) (o : Option Merchant) →
 passes k q None e = absurd (cc)
 passes k q (Some merchant) e = step k.has_terminal refl e
   where
-    step : (b : Bool) → k.has_terminal ≡ b →
-        is_past_merchant
-        (outcome_of k
+    step : (b : Bool) → k.has_terminal ≡ b → is_past_merchant (outcome_of k
         (cond b (decision_of_key q k.recorded (decision_by q.service k merchant q))
         (Replies q code.InvalidMerchant)))
         ≡ true → (found : Merchant) × (Some merchant ≡ Some found) × (k.has_terminal ≡ true)
@@ -112,8 +110,7 @@ terminal_is a b e = ap (λ k. k.terminal) (same_key_is a b e)
 
 -- what an entry records is its request
 records : (e : Entry) (h : List Entry) (key : RequestKey) (o : Option RequestMessage) (f : Found) →
-    recording key e h o ≡ Some f →
-    (r : RequestMessage) × (o ≡ Some r)
+    recording key e h o ≡ Some f → (r : RequestMessage) × (o ≡ Some r)
     × ((same_key (key_of r.service r.message) key && is_past_merchant e.outcome) ≡ true)
 records e h key None f q = absurd (cc)
 records e h key (Some r) f q =
@@ -121,8 +118,7 @@ records e h key (Some r) f q =
   where
     step : (b : Bool) →
         (same_key (key_of r.service r.message) key && is_past_merchant e.outcome) ≡ b →
-        cond b (Some (newest r e h)) None ≡ Some f →
-        (x : RequestMessage) × (Some r ≡ Some x)
+        cond b (Some (newest r e h)) None ≡ Some f → (x : RequestMessage) × (Some r ≡ Some x)
         × ((same_key (key_of x.service x.message) key && is_past_merchant e.outcome) ≡ true)
     step true t p = (r, refl, t)
     step false t p = absurd (cc)
@@ -138,8 +134,7 @@ ServesAll-step opening h a all key f found =
 
     step : (o : Option Found) → recorded key h ≡ o →
         option_or (option_map (aged (entry_for opening h a)) o)
-        (recording key (entry_for opening h a) h (request_of a))
-        ≡ Some f → Serves h key.terminal
+        (recording key (entry_for opening h a) h (request_of a)) ≡ Some f → Serves h key.terminal
     step (Some g) q p = all key g q
     step None q p =
         let x = records (entry_for opening h a) h key (request_of a) f p in

@@ -44,8 +44,7 @@ pub record IsBody (es : List (ℕ × List ℕ)) : Type 0 where
 
 -- what all pass, all pass of what follows from it
 pub all_weaker : {X : Type 0} (p q : X → Bool) → ((x : X) → p x ≡ true → q x ≡ true) →
-    (xs : List X) →
-    list_all p xs ≡ true → list_all q xs ≡ true
+    (xs : List X) → list_all p xs ≡ true → list_all q xs ≡ true
 all_weaker p q weaker [] h = refl
 all_weaker p q weaker (x ∷ xs) h =
     let parts = and_parts (p x) (list_all p xs) h in
@@ -54,8 +53,7 @@ all_weaker p q weaker (x ∷ xs) h =
 -- ---- what is added
 
 all_with : (p : ℕ × List ℕ → Bool) (es : List (ℕ × List ℕ)) (n : ℕ) (text : List ℕ) →
-    list_all p es ≡ true →
-    p (n, text) ≡ true → list_all p (with_content es n text) ≡ true
+    list_all p es ≡ true → p (n, text) ≡ true → list_all p (with_content es n text) ≡ true
 all_with p [] n text h k = and_from (p (n, text)) true k refl
 all_with p (e ∷ es) n text h k =
     let parts = and_parts (p e) (list_all p es) h in
@@ -69,16 +67,14 @@ all_with p (e ∷ es) n text h k =
     ]
 
 body_with : (es : List (ℕ × List ℕ)) (n : ℕ) (text : List ℕ) → IsBody es →
-    may_have (n, text) ≡ true →
-    IsBody (with_content es n text)
+    may_have (n, text) ≡ true → IsBody (with_content es n text)
 body_with es n text b fits =
     let parts = and_parts (is_element (n, text)) (is_among reply_elements (n, text)) fits in
     let format = format_of_element n text parts.0 in
     let s = format_in_bounds n format.0 format.1 in
     record {
       each = all_with may_have es n text b.each fits;
-      ascends =
-          ascends_with 1 es n text b.ascends s.1;
+      ascends = ascends_with 1 es n text b.ascends s.1;
     }
 
 pub body_with_all : (added es : List (ℕ × List ℕ)) → IsBody es → list_all may_have added ≡ true →
@@ -96,8 +92,7 @@ are_of_replies ks = list_all (λ k. is_among reply_elements (k, [])) ks
 
 -- what holds of each of these numbers holds of an element's number among them
 pub among_passes : (q : ℕ → Bool) (ks : List ℕ) (e : ℕ × List ℕ) → list_all q ks ≡ true →
-    is_among ks e ≡ true →
-    q e.0 ≡ true
+    is_among ks e ≡ true → q e.0 ≡ true
 among_passes q [] e h k = absurd cc
 among_passes q (n ∷ ks) e h k =
     let parts = and_parts (q n) (list_all q ks) h in
@@ -111,8 +106,7 @@ echoed-of_replies Authorization = refl
 echoed-of_replies service = refl
 
 kept_each : (ks : List ℕ) (es : List (ℕ × List ℕ)) → are_of_replies ks ≡ true →
-    list_all is_element es ≡ true →
-    list_all may_have (filter (is_among ks) es) ≡ true
+    list_all is_element es ≡ true → list_all may_have (filter (is_among ks) es) ≡ true
 kept_each ks [] h k = refl
 kept_each ks (e ∷ es) h k =
     let parts = and_parts (is_element e) (list_all is_element es) k in
@@ -129,8 +123,7 @@ ascends_lower low m [] le up = tt
 ascends_lower low m (n ∷ ns) le up = let above = up.0 in (omega arith, up.1)
 
 pub kept_ascends : (p : ℕ × List ℕ → Bool) (low : ℕ) (es : List (ℕ × List ℕ)) →
-    Ascends low (numbers es) →
-    Ascends low (numbers (filter p es))
+    Ascends low (numbers es) → Ascends low (numbers (filter p es))
 kept_ascends p low [] up = tt
 kept_ascends p low (e ∷ es) up =
     let above = up.0 in
@@ -154,8 +147,7 @@ reply_kind-kind service = record { size = refl; digits = refl }
 
 -- elements of a reply, under the type of a service's replies
 pub reply_of_body : (service : Service) (m : IsoMessage) → m.kind ≡ reply_kind service →
-    IsBody m.elements →
-    IsReply service m
+    IsBody m.elements → IsReply service m
 reply_of_body service m is b = record {
   is_message = record {
     kind_fits = subst IsKind (sym is) (reply_kind-kind service);
@@ -177,8 +169,7 @@ body_of_reply service m r = record {
 }
   where
     both : (es : List (ℕ × List ℕ)) → list_all is_element es ≡ true →
-        list_all (is_among reply_elements) es ≡ true →
-        list_all may_have es ≡ true
+        list_all (is_among reply_elements) es ≡ true → list_all may_have es ≡ true
     both [] h k = refl
     both (e ∷ es) h k =
         let a = and_parts (is_element e) (list_all is_element es) h in

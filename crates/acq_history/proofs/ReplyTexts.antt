@@ -111,8 +111,7 @@ plain_form (Llvar greatest) text h long plain =
 plain_form (Lllvar greatest) text h long plain = absurd cc
 
 plain_spelled : (o : Option ElementFormat) (text : List ℕ) → is_plain_format o ≡ true →
-    allows o text ≡ true →
-    IsPlain (spelled_by o text)
+    allows o text ≡ true → IsPlain (spelled_by o text)
 plain_spelled None text h k = absurd cc
 plain_spelled (Some f) text h k =
     let a = and_parts (is_plain_class f.class) (is_short_form f.form) h in
@@ -149,8 +148,7 @@ plain_body (e ∷ es) h =
 
 -- no more than 127
 few : (low : ℕ) (es : List (ℕ × List ℕ)) → low ≤ 128 → Ascends low (numbers es) →
-    list_all is_element es ≡ true →
-    length es + low ≤ 128
+    list_all is_element es ≡ true → length es + low ≤ 128
 few low [] le up k = omega arith
 few low (e ∷ es) le up k =
     let parts = and_parts (is_element e) (list_all is_element es) k in

@@ -38,10 +38,9 @@ use Rattle.acq_history.specs.History.{Found, aged, next_reference, is_admitted, 
 use Rattle.acq_history.specs.History.{reference_of, reference_by, leg_by, card_by, hold_days_of}
 use Rattle.acq_history.specs.History.{answer_to, is_completed, is_reversed, any_with}
 use Rattle.acq_history.specs.History.{reply_state_with, prior}
-use Rattle.acq_history.specs.History as history
 use Rattle.acq_history.proofs.Lookups.{not_true, or_true, own_none}
 use Rattle.acq_history.proofs.RecordedInHistory.{key_in}
-use Rattle.acq_history.proofs.Statuses.{reply_state_of-awaited, is_approved_is}
+use Rattle.acq_history.proofs.Statuses.{reply_state_of-awaited, open_row}
 use Rattle.acq_history.proofs.RowsWithChanges.{followed_kept, answered_kept, IsChange}
 
 -- ---- what became of a recorded request
@@ -99,55 +98,32 @@ prior_by fate f =
       hold_end = open_by f.request.service (hold_days_of f) fate;
     }
 
--- what came later doesn't matter to these
-leg_by_later : (f : Found) (es : List Entry) (s : Service) →
-    leg_by s (record f { later = es }) ≡ leg_by s f
-leg_by_later f es Financial = refl
-leg_by_later f es s = refl
-
-card_by_later : (f : Found) (es : List Entry) (s : Service) →
-    card_by s (record f { later = es }) ≡ card_by s f
-card_by_later f es Completion = refl
-card_by_later f es s = refl
-
-reference_by_later : (f : Found) (es : List Entry) (s : Service) →
-    reference_by s (record f { later = es }) ≡ reference_by s f
-reference_by_later f es Completion = refl
-reference_by_later f es s = refl
-
--- a history says until when it is open by what became of it
-open_by_is : (f : Found) (s : Service) →
-    history.hold_end_by s f ≡ open_by s (hold_days_of f) (fate_of f)
-open_by_is f Authorization = refl
-open_by_is f s = refl
-
--- what is known of it, by what came later
-prior_later : (f : Found) (es : List Entry) → let g : Found = record f { later = es } in
-    prior g ≡ prior_by (fate_of g) f
-prior_later f es =
-    let g : Found = record f { later = es } in
-    λ i. record {
-      key = key_of f.request.service f.request.message;
-      essence = essence_of f.request.service f.request.message;
-      day = f.entry.day;
-      amount = amount_in f.request.message;
-      leg = leg_by_later f es f.request.service i;
-      card = card_by_later f es f.request.service i;
-      acquirer = content_of f.request.message.elements 32;
-      reference = reference_by_later f es f.request.service i;
-      hold_days = hold_days_of f;
-      reply_state = history.reply_state_of g;
-      is_reversible = history.is_reversible g;
-      hold_end = open_by_is g f.request.service i;
-    }
+-- what is known of it is known by what became of it; what else came later doesn't matter
+prior_later : (moment : ℕ) (s : Service) (message : IsoMessage) (e : Entry)
+    (before later es : List Entry) →
+    let f : Found =
+    record {
+      request = record { moment = moment; service = s; message = message };
+      entry = e;
+      before = before;
+      later = later;
+    } in
+    let g : Found = record f { later = es } in prior g ≡ prior_by (fate_of g) f
+prior_later moment Completion message e before later es = refl
+prior_later moment s message e before later es = refl
 
 pub prior_is : (f : Found) → prior f ≡ prior_by (fate_of f) f
-prior_is f = prior_later f f.later
+prior_is f =
+    prior_later f.request.moment f.request.service f.request.message f.entry f.before f.later
+    f.later
 
 -- one entry later, by what became of it
 pub prior_aged : (e : Entry) (f : Found) (fate : Fate) → fate_of (aged e f) ≡ fate →
     prior (aged e f) ≡ prior_by fate f
-prior_aged e f fate is = prior_later f (e ∷ f.later) ∙ ap (λ x. prior_by x f) is
+prior_aged e f fate is =
+    prior_later f.request.moment f.request.service f.request.message f.entry f.before f.later
+    (e ∷ f.later)
+    ∙ ap (λ x. prior_by x f) is
 
 -- ---- by one more entry
 
@@ -176,8 +152,7 @@ answer_here e es o n is on =
 
 -- an entry that completes it
 completed_here : (e : Entry) (es : List Entry) (o : Option ℕ) (n : ℕ) → o ≡ Some n →
-    is_completing n e ≡ true →
-    any_with is_completing o (e ∷ es) ≡ true
+    is_completing n e ≡ true → any_with is_completing o (e ∷ es) ≡ true
 completed_here e es o n is on =
     ap (λ p. any_with is_completing p (e ∷ es)) is ∙ ap (λ b. b || list_any (is_completing n) es) on
 
@@ -236,8 +211,7 @@ module _ (e : Entry) (f : Found) where
 
 -- what is no acceptance neither completes nor reverses
 completes_not : (n : ℕ) (rq : Option RequestMessage) (o : Outcome) →
-    accepts is_acceptable rq o ≡ false →
-    completes n rq o ≡ false
+    accepts is_acceptable rq o ≡ false → completes n rq o ≡ false
 completes_not n None o e = refl
 completes_not n (Some r) o e = step r.service (is_approved o) (is_number n (reference_in r.message))
     e
@@ -253,8 +227,7 @@ completes_not n (Some r) o e = step r.service (is_approved o) (is_number n (refe
     step NetworkManagement a b e = refl
 
 reverses_not : (key : RequestKey) (rq : Option RequestMessage) (o : Outcome) →
-    accepts is_acceptable rq o ≡ false →
-    reverses key rq o ≡ false
+    accepts is_acceptable rq o ≡ false → reverses key rq o ≡ false
 reverses_not key None o e = refl
 reverses_not key (Some r) o e = step r.service (is_approved o) (is_key key (original_key r.message))
     e
@@ -279,8 +252,7 @@ shown f = (prior f, reference_of f)
 
 -- an entry that changes nothing of what was found
 pub shown_aged : (e : Entry) → is_acceptance e ≡ false → ((n : ℕ) → is_answer n e ≡ false) →
-    (f : Found) →
-    shown (aged e f) ≡ shown f
+    (f : Found) → shown (aged e f) ≡ shown f
 shown_aged e accepted answers f =
     let later : prior (aged e f) ≡ prior f =
     prior_aged_same e f (λ n is. answers n)
@@ -345,8 +317,7 @@ prior_of_changed p q f was fate c e shows =
 -- ---- an answer
 
 open_by_answered : (a : Request) (k : Service) (moment : ℕ) (v : Verdict) (reply : IsoMessage)
-    (days : Option ℕ) (e : Entry) →
-    approval_in e.arrival ≡ approval_by moment v →
+    (days : Option ℕ) (e : Entry) → approval_in e.arrival ≡ approval_by moment v →
     tables.hold_end_by k
     (answered_row (answered_status v) reply (answered_hold_end k moment v days) a)
     ≡ open_by k days (record untouched { answer = Some e })
@@ -423,24 +394,13 @@ open_by_done row Authorization days fate off on =
     (option_and_then (λ e. approval_in e.arrival) fate.answer))) on)
 open_by_done row s days fate off on = refl
 
-open_by_approved : (a : Request) (k : Service) → is_some (tables.hold_end_by k a) ≡ true →
-    a.status ≡ status.Approved
-open_by_approved a Authorization e =
-    let step : (b : Bool) → tables.is_approved a.status ≡ b →
-    is_some (cond b a.hold_end None) ≡ true →
-    a.status ≡ status.Approved =
-    elim [ true ↦ (λ t h. is_approved_is a.status t) | false ↦ (λ t h. absurd (cc)) ] in
-    step (tables.is_approved a.status) refl e
-open_by_approved a service e = absurd (cc)
-
 -- an open hold that is completed
-pub prior_of_completed : (a : Request) (f : Found) (fate : Fate) →
-    prior_of a ≡ prior_by fate f →
+pub prior_of_completed : (a : Request) (f : Found) (fate : Fate) → prior_of a ≡ prior_by fate f →
     is_some (prior_by fate f).hold_end ≡ true →
     prior_of (followed_row status.Completed a) ≡ prior_by (record fate { completed = true }) f
 prior_of_completed a f fate is ends =
     let approved : a.status ≡ status.Approved =
-    open_by_approved a a.key.service (ap (λ x. is_some x.hold_end) is ∙ ends) in
+    (open_row a.key.service a (ap (λ x. is_some x.hold_end) is ∙ ends)).1 in
     let at : a.key.service ≡ f.request.service = ap (λ x. x.key.service) is in
     prior_of_changed a (followed_row status.Completed a) f fate
     (record fate { completed = true }) (followed_kept status.Completed a) is
@@ -477,8 +437,7 @@ is_approved_reversed (Kept reply) = refl
 is_approved_reversed other = refl
 
 -- a request that can be reversed, and is
-pub prior_of_reversed : (a : Request) (f : Found) (fate : Fate) →
-    prior_of a ≡ prior_by fate f →
+pub prior_of_reversed : (a : Request) (f : Found) (fate : Fate) → prior_of a ≡ prior_by fate f →
     (prior_by fate f).is_reversible ≡ true →
     prior_of (followed_row (reversed_status (prior_by fate f).reply_state) a)
     ≡ prior_by (record fate { reversed = true }) f

@@ -47,8 +47,7 @@ found_line q rows fs same =
     ∙ map_map (λ (x : Prior × Option ℕ). x.0) shown (find (λ f. q (shown f)) fs))
 
 pub recorded_in_is : (m : List ℕ) (rows : List Request) (h : List Entry) → Rows m rows h →
-    (key : RequestKey) →
-    recorded_in (requests_of m rows) key ≡ option_map prior (recorded key h)
+    (key : RequestKey) → recorded_in (requests_of m rows) key ≡ option_map prior (recorded key h)
 recorded_in_is m rows h r key =
     found_line (λ x. same_key x.0.key key) (requests_of m rows) (all_recorded h) r.lines
     ∙ ap (option_map prior) (find_recorded key h)
@@ -79,8 +78,7 @@ head_is x y xs ys e = (cc, cc)
 -- so edited rows show what the requests show one entry later
 lines_edited : (u : Request → Request) (e : Entry) (h : List Entry) → FollowsEntry u e h →
     (rows : List Request) (fs : List Found) → Each (IsFoundAgain h) fs →
-    map line rows ≡ map shown fs →
-    map line (map u rows) ≡ map shown (map (aged e) fs)
+    map line rows ≡ map shown fs → map line (map u rows) ≡ map shown (map (aged e) fs)
 lines_edited u e h follows [] [] each same = refl
 lines_edited u e h follows (a ∷ rows) (f ∷ fs) each same =
     let both = head_is (line a) (shown f) (map line rows) (map shown fs) same in
@@ -99,8 +97,7 @@ pub record RowsWithoutNewest (m : List ℕ) (rows : List Request) (e : Entry)
 pub without_newest_edited : {m : List ℕ} {rows : List Request} {e : Entry} {h : List Entry}
     (key : RequestKey)
     (changed : Request → Request) → Edits changed → FollowsEntry (changing key changed) e h →
-    Rows m rows h →
-    RowsWithoutNewest m (with_changed key changed rows) e h
+    Rows m rows h → RowsWithoutNewest m (with_changed key changed rows) e h
 without_newest_edited {m} {rows} {e} {h} key changed edits follows r =
     record {
       lines =
@@ -133,8 +130,7 @@ without_newest_still {e = e} {h = h} accepted answers r =
 pub rows_still : {m : List ℕ} {rows : List Request} {e : Entry} {h : List Entry} →
     is_acceptance e ≡ false →
     is_admission e h ≡ false → recording_first e h (request_of e.arrival) ≡ [] →
-    RowsWithoutNewest m rows e h →
-    Rows m rows (e ∷ h)
+    RowsWithoutNewest m rows e h → Rows m rows (e ∷ h)
 rows_still {e = e} {h = h} accepted admission none r =
     record {
       lines =

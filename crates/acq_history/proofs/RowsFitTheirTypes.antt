@@ -66,8 +66,7 @@ record FitsColumns (row : Request) : Type 0 where
 
 -- a row of a request, without a hold's end
 columns_of : (r : RequestMessage) → IsWhole r → (r.service ≡ NetworkManagement → ⊥) →
-    (row : Request) →
-    row.key ≡ key_of r.service r.message → row.amount ≡ amount_in r.message →
+    (row : Request) → row.key ≡ key_of r.service r.message → row.amount ≡ amount_in r.message →
     IfSome row.hold_days AreHoldDays → row.hold_end ≡ None → FitsColumns row
 columns_of r whole recordable row key amount days endless = record {
   key = subst FitsKey (sym key) (key_of-fits r whole recordable);
@@ -78,8 +77,7 @@ columns_of r whole recordable row key amount days endless = record {
 
 -- a range of a list of valid ones
 hold_days-valid : (ranges : List Range) (range : Range) → list_all is_valid_range ranges ≡ true →
-    In range ranges →
-    AreHoldDays range.hold_days
+    In range ranges → AreHoldDays range.hold_days
 hold_days-valid [] range valid member = absurd member
 hold_days-valid (x ∷ xs) range valid (inl is) =
     let one = (and_parts (is_valid_range x) (list_all is_valid_range xs) valid).0 in
@@ -213,7 +211,7 @@ record HasFittingColumns (t : Tables) : Type 0 where
   postings : All (FitsPostingColumns t.limit) t.postings
   reconciliations : All FitsReconciliation t.reconciliations
 
--- rows with one that a completion or a reversal fitting_followed
+-- rows with one that a completion or a reversal followed
 fitting_followed : (key : RequestKey) (st : Status) (rows : List Request) → All FitsColumns rows →
     All FitsColumns (with_changed key (followed_row st) rows)
 fitting_followed key st rows h =
@@ -222,8 +220,7 @@ fitting_followed key st rows h =
       key = c.key;
       amount = c.amount;
       hold_days = c.hold_days;
-      hold_end =
-          c.hold_end;
+      hold_end = c.hold_end;
     }) h
 
 -- tables with other requests and postings

@@ -51,8 +51,7 @@ pub record IsCompleting (row : Request) (m : List ℕ) (n : ℕ) : Type 0 where
 pub record IsWellFormed (day : ℕ) (merchants : List Merchant) (rows : List Request) : Type 0 where
   pub keys : (a b : Request) → In a rows → In b rows → a.key ≡ b.key → a ≡ b
   pub references : (a b : Request) (n : ℕ) → In a rows → In b rows →
-      a.key.merchant ≡ b.key.merchant →
-      a.reference ≡ Some n → b.reference ≡ Some n → a ≡ b
+      a.key.merchant ≡ b.key.merchant → a.reference ≡ Some n → b.reference ≡ Some n → a ≡ b
   pub given : (a : Request) (n : ℕ) → In a rows → a.reference ≡ Some n →
       IsGiven merchants rows a.key.merchant n
   pub admissible : (a : Request) (n : ℕ) → In a rows → a.reference ≡ Some n →
@@ -60,8 +59,7 @@ pub record IsWellFormed (day : ℕ) (merchants : List Merchant) (rows : List Req
   pub held : (a : Request) (n : ℕ) → In a rows → IsCompleting a a.key.merchant n →
       IsHeld rows a.key.merchant n
   pub one_completion : (a b : Request) (n : ℕ) → In a rows → In b rows →
-      IsCompleting a a.key.merchant n →
-      IsCompleting b a.key.merchant n → a ≡ b
+      IsCompleting a a.key.merchant n → IsCompleting b a.key.merchant n → a ≡ b
   pub legs : (a : Request) → In a rows → is_reversal a.key.service ≡ false →
       is_reversal_leg a.leg ≡ false
   pub days : (a : Request) → In a rows → a.day ≤ day
@@ -70,8 +68,7 @@ pub record IsWellFormed (day : ℕ) (merchants : List Merchant) (rows : List Req
 
 -- on a later day
 pub well_formed_later : {day later : ℕ} {merchants : List Merchant} {rows : List Request} →
-    day ≤ later →
-    IsWellFormed day merchants rows → IsWellFormed later merchants rows
+    day ≤ later → IsWellFormed day merchants rows → IsWellFormed later merchants rows
 well_formed_later le k = record {
   keys = k.keys;
   references = k.references;
@@ -139,8 +136,7 @@ admitted_one row n e =
 
 -- a given reference stays given
 IsGiven-push : (merchants : List Merchant) (rows : List Request) (row : Request) (m : List ℕ)
-    (n : ℕ) →
-    IsGiven merchants rows m n → IsGiven merchants (rows ++ row ∷ []) m n
+    (n : ℕ) → IsGiven merchants rows m n → IsGiven merchants (rows ++ row ∷ []) m n
 IsGiven-push merchants rows row m n g = record {
   merchant = g.merchant;
   enrolled = g.enrolled;
@@ -180,8 +176,7 @@ pub record IsFit (day : ℕ) (merchants : List Merchant) (rows : List Request)
 
 -- no request has the reference that comes next
 not_next : (merchants : List Merchant) (rows : List Request) (m : List ℕ) (n : ℕ) →
-    IsGiven merchants rows m n →
-    IsNext merchants rows m n → ⊥
+    IsGiven merchants rows m n → IsNext merchants rows m n → ⊥
 not_next merchants rows m n g x =
     let same : g.merchant ≡ x.merchant = some_is _ _ (sym g.enrolled ∙ x.enrolled) in
     let firsts : g.merchant.first_reference ≡ x.merchant.first_reference =
@@ -208,8 +203,7 @@ one_of_more rows row alike old before after a b i j e = elim (In-push a rows row
 
 -- with a row more that fits
 pub well_formed_with_row : {day : ℕ} {merchants : List Merchant} {rows : List Request}
-    {row : Request} →
-    IsWellFormed day merchants rows → IsFit day merchants rows row →
+    {row : Request} → IsWellFormed day merchants rows → IsFit day merchants rows row →
     IsWellFormed day merchants (rows ++ row ∷ [])
 well_formed_with_row {day} {merchants} {rows} {row} k f = record {
   keys = one_of_more rows row (λ a b. a.key ≡ b.key) k.keys f.new (λ a i e. f.new a i (sym e));
@@ -256,8 +250,7 @@ well_formed_with_row {day} {merchants} {rows} {row} k f = record {
 }
   where
     fresh : (a : Request) (n : ℕ) → In a rows → a.reference ≡ Some n →
-        a.key.merchant ≡ row.key.merchant →
-        row.reference ≡ Some n → ⊥
+        a.key.merchant ≡ row.key.merchant → row.reference ≡ Some n → ⊥
     fresh a n i e m g =
         not_next merchants rows row.key.merchant n
         (subst (λ x. IsGiven merchants rows x n) m (k.given a n i e))
@@ -282,8 +275,7 @@ pub record IsReplaced (rows later : List Request) (p q : Request) : Type 0 where
 
 -- the rows in which the one with its key was changed
 pub replaced : {day : ℕ} {merchants : List Merchant} (rows : List Request) (p : Request)
-    (changed : Request → Request) →
-    In p rows → Edits changed → IsWellFormed day merchants rows →
+    (changed : Request → Request) → In p rows → Edits changed → IsWellFormed day merchants rows →
     IsReplaced rows (with_changed p.key changed rows) p (changed p)
 replaced rows p changed member edits kept = record {
   before = λ x i. elim (changed_is p.key changed rows x i) [
@@ -402,8 +394,7 @@ well_formed_changed {day} {merchants} {rows} p changed member edits incomplete k
         (y : IsMadeOf rows (changing p.key changed) b) → x.row ≡ y.row → a ≡ b
     one a b x y e = sym x.made ∙ (ap u e ∙ y.made)
 
-    admitted : (m : List ℕ) →
-        admitted_by m (with_changed p.key changed rows) ≡ admitted_by m rows
+    admitted : (m : List ℕ) → admitted_by m (with_changed p.key changed rows) ≡ admitted_by m rows
     admitted m =
         ap admitted_in (requests_of-changed m p.key changed edits rows)
         ∙ (count-view u (λ x. is_some x.reference) (requests_of m rows)

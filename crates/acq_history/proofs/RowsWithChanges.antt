@@ -104,8 +104,7 @@ pub data IsChanged (key : RequestKey) (changed : Request → Request) (rows : Li
   Made : (y : Request) → In y rows → y.key ≡ key → changed y ≡ x → IsChanged key changed rows x
 
 pub changed_is : (key : RequestKey) (changed : Request → Request) (rows : List Request)
-    (x : Request) →
-    In x (with_changed key changed rows) → IsChanged key changed rows x
+    (x : Request) → In x (with_changed key changed rows) → IsChanged key changed rows x
 changed_is key changed rows x h =
     let a = In-mapped (λ row. cond (same_key row.key key) (changed row) row) x rows h in
     let step : (b : Bool) → same_key a.0.key key ≡ b → cond b (changed a.0) a.0 ≡ x →
@@ -120,8 +119,7 @@ changed_is key changed rows x h =
 
 -- what holds of all rows, and of the changed one, holds of all after it
 pub All-with_changed : (P : Request → Type 0) (key : RequestKey) (changed : Request → Request)
-    (rows : List Request) →
-    ((x : Request) → x.key ≡ key → P x → P (changed x)) → All P rows →
+    (rows : List Request) → ((x : Request) → x.key ≡ key → P x → P (changed x)) → All P rows →
     All P (with_changed key changed rows)
 All-with_changed P key changed rows keeps h =
     All-map P (changing key changed) rows

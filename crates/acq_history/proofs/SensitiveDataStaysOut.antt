@@ -21,7 +21,7 @@ use Rattle.acq_core.specs.declared.request.Request.{Request}
 use Rattle.acq_core.specs.Changes.{change_of}
 use Rattle.acq_core.specs.Tables.{Tables, new_tables, known_in, after_any, step_tables}
 use Rattle.acq_core.specs.Tables.{tables_after, with_changed}
-use Rattle.acq_history.proofs.Lookups.{or_true}
+use Rattle.acq_history.proofs.Lookups.{or_true, filter_all}
 use Rattle.acq_history.specs.Replies.{reply_elements, IsReplyText}
 use Rattle.acq_history.specs.CardData.{sensitive_elements, IsEssence, may_be_acquirer}
 use Rattle.acq_history.specs.CardData.{KeepsNoSensitiveData, SpellsNoSensitiveData}
@@ -46,8 +46,7 @@ are_public ks = list_all (λ k. not (is_among sensitive_elements (k, []))) ks
 
 -- so a message with these elements alone lacks sensitive data
 lacks_by : (ks : List ℕ) (es : List (ℕ × List ℕ)) → are_public ks ≡ true →
-    list_all (is_among ks) es ≡ true →
-    not (list_any (is_among sensitive_elements) es) ≡ true
+    list_all (is_among ks) es ≡ true → not (list_any (is_among sensitive_elements) es) ≡ true
 lacks_by ks [] h k = refl
 lacks_by ks (e ∷ es) h k =
     let parts = and_parts (is_among ks e) (list_all (is_among ks) es) k in
@@ -58,15 +57,6 @@ lacks_by ks (e ∷ es) h k =
     neither : (a b : Bool) → not a ≡ true → not b ≡ true → not (a || b) ≡ true
     neither true b f g = f
     neither false b f g = g
-
--- what a filter keeps passes
-filter_all : {X : Type 0} (p : X → Bool) (xs : List X) → list_all p (filter p xs) ≡ true
-filter_all p [] = refl
-filter_all p (x ∷ xs) =
-    elim (cases_Bool (p x)) [
-      | inl kept ↦ rw kept (and_from (p x) (list_all p (filter p xs)) kept (filter_all p xs))
-      | inr dropped ↦ rw dropped (filter_all p xs)
-    ]
 
 kept_elements : (p : ℕ × List ℕ → Bool) (es : List (ℕ × List ℕ)) → list_all is_element es ≡ true →
     list_all is_element (filter p es) ≡ true
@@ -132,8 +122,7 @@ essence_kind service = record { size = refl; digits = refl }
 
 -- elements that all stand above 2
 above_two : (es : List (ℕ × List ℕ)) → Ascends 1 (numbers es) →
-    list_all (is_among essential) es ≡ true →
-    Ascends 2 (numbers es)
+    list_all (is_among essential) es ≡ true → Ascends 2 (numbers es)
 above_two [] up all = tt
 above_two (e ∷ es) up all =
     let parts = and_parts (is_among essential e) (list_all (is_among essential) es) all in

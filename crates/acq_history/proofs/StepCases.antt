@@ -221,8 +221,7 @@ module _ (t : Tables) (r : RequestMessage) (P : Decision → Type 0)
       (recordable_some r.service r recordable)
 
   -- a fresh request is one that is recorded
-  recording : (merchant : Merchant) → IsFresh k r merchant →
-      IsRecording t (Requested r) r merchant
+  recording : (merchant : Merchant) → IsFresh k r merchant → IsRecording t (Requested r) r merchant
   recording merchant fresh = record {
     came = refl;
     recordable = fresh.recordable;
@@ -402,8 +401,7 @@ module _ (t : Tables) (r : RequestMessage) (P : Decision → Type 0)
   by_reply_state row member status = cases.repeated row member
 
   by_key : (merchant : Merchant) → (r.service ≡ NetworkManagement → ⊥) →
-      k.merchant ≡ Some merchant →
-      k.has_terminal ≡ true → (o : Option Prior) → k.recorded ≡ o →
+      k.merchant ≡ Some merchant → k.has_terminal ≡ true → (o : Option Prior) → k.recorded ≡ o →
       P (decision_of_key r o (decision_by r.service k merchant r))
   by_key merchant recordable there terminal None is =
       by_service merchant
@@ -479,10 +477,8 @@ module _ (t : Tables) (moment : ℕ) (merchant : List ℕ) (reference : ℕ) (v 
 -- ---- the rest
 
 by_new_range : (t : Tables) (range : Range) (P : Decision → Type 0) →
-    StepCases t (RangeAdded range) P →
-    is_valid_range range ≡ true → (o : Option Range) →
-    overlapped_by (between range.low range.high) t.ranges ≡ o →
-    P (decision_of_new_range range o)
+    StepCases t (RangeAdded range) P → is_valid_range range ≡ true → (o : Option Range) →
+    overlapped_by (between range.low range.high) t.ranges ≡ o → P (decision_of_new_range range o)
 by_new_range t range P cases valid None is = cases.range_added range refl valid is
 by_new_range t range P cases valid (Some other) is = cases.reported (output.Overlap other) refl
 

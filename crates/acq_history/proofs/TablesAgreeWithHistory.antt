@@ -56,8 +56,7 @@ pub record Agrees (opening : Opening) (m : List ℕ) (t : Tables) (h : List Entr
 
 -- so look-ups in both know the same
 pub facts_in_is : {opening : Opening} {m : List ℕ} {t : Tables} {h : List Entry} →
-    Agrees opening m t h →
-    facts_in t m ≡ facts_of opening h
+    Agrees opening m t h → facts_in t m ≡ facts_of opening h
 facts_in_is {opening} {m} {t} {h} a =
     λ i. record {
       today = a.common.day i;
@@ -75,8 +74,7 @@ facts_in_is {opening} {m} {t} {h} a =
 
 -- for an event of the merchant's
 pub known_in_mine : {opening : Opening} {m : List ℕ} {t : Tables} {h : List Entry} →
-    Agrees opening m t h →
-    (a : Arrival) →
+    Agrees opening m t h → (a : Arrival) →
     merchant_named a ≡ Some m → known_in t a ≡ known_by opening h a
 known_in_mine {t = t} g a named =
     ap (λ o. known_for (wanted_by t.day a) (facts_in t (or_empty o))) named
@@ -84,8 +82,7 @@ known_in_mine {t = t} g a named =
 
 -- for a shared event
 pub known_in_shared : {opening : Opening} {m : List ℕ} {t : Tables} {h : List Entry} →
-    Agrees opening m t h →
-    (a : Arrival) → is_shared a ≡ true → known_in t a ≡ known_by opening h a
+    Agrees opening m t h → (a : Arrival) → is_shared a ≡ true → known_in t a ≡ known_by opening h a
 known_in_shared g CutOver shared =
     λ i. known_for (wanted_by (g.common.day i) CutOver) (facts_in_is g i)
 known_in_shared g (RangeAdded range) shared =
@@ -111,8 +108,7 @@ pub common_still : {opening : Opening} {m : List ℕ} {bound today : ℕ} {merch
       arrival = a;
       day = day_after opening.first_day h;
       ranges = ranges_after h;
-      outcome =
-          o;
+      outcome = o;
     } ∷ h)
 common_still {opening} {h = h} a o performed c =
     record {
@@ -152,8 +148,7 @@ postings_of_mine m rows (Some p) is =
 
 -- one of another merchant's is none
 pub postings_of_other : (m n : List ℕ) (rows : List (ℕ × Posting)) (o : Option Posting) → IsOf n o →
-    bytes_eq n m ≡ false →
-    postings_of m (with_next_posting rows o) ≡ postings_of m rows
+    bytes_eq n m ≡ false → postings_of m (with_next_posting rows o) ≡ postings_of m rows
 postings_of_other m n rows None is other = refl
 postings_of_other m n rows (Some p) is other =
     filter-push_out (λ row. bytes_eq row.1.merchant m) rows _ (ap (λ k. bytes_eq k m) is ∙ other)

@@ -47,8 +47,7 @@ pub record IsQuiet (k : Known) (r : RequestMessage) (o : Outcome) : Type 0 where
   pub performed : is_performed o ≡ false
   pub accepted : accepts is_acceptable (request_of (Requested r)) o ≡ false
   pub recorded : (q : RequestMessage) → request_of (Requested r) ≡ Some q →
-      is_past_merchant o ≡ true →
-      is_some k.recorded ≡ true
+      is_past_merchant o ≡ true → is_some k.recorded ≡ true
 
 -- network management is neither accepted nor recorded
 managed_accepts : (s : Service) (r : RequestMessage) (o : Outcome) → s ≡ NetworkManagement →

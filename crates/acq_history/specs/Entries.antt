@@ -18,10 +18,8 @@ use Rattle.acq_message.specs.Numbers.{is_number}
 use Rattle.acq_message.specs.Elements.{reference_in, same_key, original_key}
 use Rattle.acq_core.specs.declared.arrival.Arrival.{Arrival}
 use Rattle.acq_message.specs.declared.request_message.RequestMessage.{RequestMessage}
-use Rattle.acq_core.specs.declared.arrival.Arrival.TheVariants.{Undecoded, Unserved, Malformed}
 use Rattle.acq_core.specs.declared.arrival.Arrival.TheVariants.{Requested, Answered, CutOver}
-use Rattle.acq_core.specs.declared.arrival.Arrival.TheVariants.{RangeAdded, RangeDropped, Enrolled}
-use Rattle.acq_core.specs.declared.arrival.Arrival.TheVariants.{TerminalAdded}
+use Rattle.acq_core.specs.declared.arrival.Arrival.TheVariants.{Enrolled, TerminalAdded}
 use Rattle.acq_core.specs.Outcome.{Outcome, Replied, Repeated, Asked, Performed, Reported}
 
 -- what came, the day and the ranges that stood when it came, and its outcome
@@ -44,33 +42,22 @@ is_code a b = false
 abbrev pub reply_in : Outcome → Option IsoMessage
 reply_in (Replied code reply) = Some reply
 reply_in (Repeated reply) = Some reply
-reply_in (Asked query) = None
-reply_in Performed = None
-reply_in (Reported output) = None
+reply_in outcome = None
 
 -- the issuer was asked
 abbrev pub is_asked : Outcome → Bool
 is_asked (Asked query) = true
-is_asked (Replied code reply) = false
-is_asked (Repeated reply) = false
-is_asked Performed = false
-is_asked (Reported output) = false
+is_asked outcome = false
 
 -- what was asked for was done
 abbrev pub is_performed : Outcome → Bool
 is_performed Performed = true
-is_performed (Asked query) = false
-is_performed (Replied code reply) = false
-is_performed (Repeated reply) = false
-is_performed (Reported output) = false
+is_performed outcome = false
 
 -- the host itself approved
 abbrev pub is_approved : Outcome → Bool
 is_approved (Replied given reply) = is_code code.Approved given
-is_approved (Asked query) = false
-is_approved (Repeated reply) = false
-is_approved Performed = false
-is_approved (Reported output) = false
+is_approved outcome = false
 
 -- neither the first check refused it, nor was its merchant or terminal unknown
 abbrev pub is_past_merchant : Outcome → Bool
@@ -91,15 +78,7 @@ recordable r service = Some r
 -- the request that an arrival is, of those that are recorded
 abbrev pub request_of : Arrival → Option RequestMessage
 request_of (Requested r) = recordable r r.service
-request_of (Undecoded fault) = None
-request_of (Unserved m) = None
-request_of (Malformed r) = None
-request_of (Answered moment merchant reference verdict) = None
-request_of CutOver = None
-request_of (RangeAdded range) = None
-request_of (RangeDropped low high) = None
-request_of (Enrolled merchant) = None
-request_of (TerminalAdded terminal) = None
+request_of arrival = None
 
 -- the requests that are admitted when the issuer is asked
 abbrev pub is_admissible : Service → Bool
@@ -164,15 +143,7 @@ is_reversing key e = reverses key (request_of e.arrival) e.outcome
 -- what an issuer said to the request with this reference
 abbrev pub answers : ℕ → Arrival → Bool
 answers n (Answered moment merchant reference verdict) = reference == n
-answers n (Undecoded fault) = false
-answers n (Unserved m) = false
-answers n (Malformed r) = false
-answers n (Requested r) = false
-answers n CutOver = false
-answers n (RangeAdded range) = false
-answers n (RangeDropped low high) = false
-answers n (Enrolled merchant) = false
-answers n (TerminalAdded terminal) = false
+answers n arrival = false
 
 -- an answer that was taken: it gave a reply
 abbrev pub is_answer : ℕ → Entry → Bool
@@ -187,51 +158,19 @@ approval_by moment verdict.NoAnswer = None
 -- the moment of the approval that an arrival is
 abbrev pub approval_in : Arrival → Option ℕ
 approval_in (Answered moment merchant reference v) = approval_by moment v
-approval_in (Undecoded fault) = None
-approval_in (Unserved m) = None
-approval_in (Malformed r) = None
-approval_in (Requested r) = None
-approval_in CutOver = None
-approval_in (RangeAdded range) = None
-approval_in (RangeDropped low high) = None
-approval_in (Enrolled merchant) = None
-approval_in (TerminalAdded terminal) = None
+approval_in arrival = None
 
 -- a cutover that was made
 abbrev pub is_cutover : Arrival → Bool
 is_cutover CutOver = true
-is_cutover (Undecoded fault) = false
-is_cutover (Unserved m) = false
-is_cutover (Malformed r) = false
-is_cutover (Requested r) = false
-is_cutover (Answered moment merchant reference verdict) = false
-is_cutover (RangeAdded range) = false
-is_cutover (RangeDropped low high) = false
-is_cutover (Enrolled merchant) = false
-is_cutover (TerminalAdded terminal) = false
+is_cutover arrival = false
 
 -- the merchant that is to be enrolled
 abbrev pub enrolment_in : Arrival → Option Merchant
 enrolment_in (Enrolled merchant) = Some merchant
-enrolment_in (Undecoded fault) = None
-enrolment_in (Unserved m) = None
-enrolment_in (Malformed r) = None
-enrolment_in (Requested r) = None
-enrolment_in (Answered moment merchant reference verdict) = None
-enrolment_in CutOver = None
-enrolment_in (RangeAdded range) = None
-enrolment_in (RangeDropped low high) = None
-enrolment_in (TerminalAdded terminal) = None
+enrolment_in arrival = None
 
 -- the terminal that is to be added
 abbrev pub terminal_in : Arrival → Option (List ℕ)
 terminal_in (TerminalAdded terminal) = Some terminal.id
-terminal_in (Undecoded fault) = None
-terminal_in (Unserved m) = None
-terminal_in (Malformed r) = None
-terminal_in (Requested r) = None
-terminal_in (Answered moment merchant reference verdict) = None
-terminal_in CutOver = None
-terminal_in (RangeAdded range) = None
-terminal_in (RangeDropped low high) = None
-terminal_in (Enrolled merchant) = None
+terminal_in arrival = None

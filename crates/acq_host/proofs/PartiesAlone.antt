@@ -72,7 +72,7 @@ module _ (opening : Opening) (past : List Event) where
             ∙ posts_alone m opening (past ++ further);
         holds = λ m moment.
             ap (λ t. open_at moment (map prior_of (requests_of m t.requests))) then
-            ∙ holds m opening moment (past ++ further);
+            ∙ holds_alone m opening moment (past ++ further);
         balanced = gets_balance further;
       }
 
