@@ -24,7 +24,8 @@ pub requests_is : table_defined_by schema.requests_text ≡ Ok schema.requests
 unfolding everything
 requests_is = refl
 
-pub references_is : index_defined_by (record schema.requests { tree = schema.requests_tree }) schema.references_text
+pub references_is :
+    index_defined_by (record schema.requests { tree = schema.requests_tree }) schema.references_text
     ≡ Ok schema.references
 unfolding everything
 references_is = refl

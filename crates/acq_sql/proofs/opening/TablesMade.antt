@@ -90,7 +90,8 @@ makes_requests =
       uncounted = refl;
     }
 
-pub makes_references : Indexes (created schema.up_to_ranges schema.requests) schema.references_text 4
+pub makes_references :
+    Indexes (created schema.up_to_ranges schema.requests) schema.references_text 4
     (record schema.requests { tree = schema.requests_tree }) schema.references
 unfolding understood everything schema.up_to_ranges schema.up_to_terminals schema.up_to_merchants
     schema.up_to_book

@@ -27,7 +27,8 @@ returns-clause-extends g c clean5 inside blank =
     let made1 = c.in_ok-create.ensures.adds clean1 inside schema.up_to_ranges schema.requests
     makes_requests blank in
     let made2 = c.in_ok-create_index.ensures.adds clean2 mode1
-    (created schema.up_to_ranges schema.requests) 4 (record schema.requests { tree = schema.requests_tree })
+    (created schema.up_to_ranges schema.requests) 4
+    (record schema.requests { tree = schema.requests_tree })
     schema.references makes_references made1 in
     let made3 = c.in_ok-create-2.ensures.adds clean3 mode2 schema.up_to_requests schema.postings
     makes_postings made2 in
