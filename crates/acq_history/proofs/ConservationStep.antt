@@ -43,17 +43,17 @@ use Rattle.acq_history.proofs.RowsStayWellFormed.{replaced}
 use Rattle.acq_history.proofs.PostingsOfChangedRows.{IsLegOf, IsReversible, reversed_as}
 use Rattle.acq_history.proofs.PostingsOfChangedRows.{posted_same, posted_none, posted_reversing}
 use Rattle.acq_history.proofs.PostingsOfChangedRows.{posted_unsold, leg_of, leg_by_admissible}
-use Rattle.acq_history.proofs.PostingsOfChangedRows.{reversal_leg_is, reversible}
-use Rattle.acq_history.proofs.PostingsOfChangedRows.{posted_leg_approved, once_posted, none_posted}
-use Rattle.acq_history.proofs.PostingsOfChangedRows.{Grows-push, Grows-both, from_push, pushed}
-use Rattle.acq_history.proofs.PostingsOfChangedRows.{Grows-replaced, from_replaced}
+use Rattle.acq_history.proofs.PostingsOfChangedRows.{reversal_leg_is, reversible, posted_leg_is}
+use Rattle.acq_history.proofs.PostingsOfChangedRows.{once_posted, none_posted, Grows-push}
+use Rattle.acq_history.proofs.PostingsOfChangedRows.{Grows-both, from_push, pushed, Grows-replaced}
+use Rattle.acq_history.proofs.PostingsOfChangedRows.{from_replaced}
 use Rattle.acq_history.proofs.Lookups.{some_is}
 use Rattle.acq_history.proofs.RowsWithChanges.{Edits, followed_kept, answered_kept}
 use Rattle.acq_history.proofs.StepCases.{by_step, IsRecording, IsCompletion, IsReversal}
 use Rattle.acq_history.proofs.StepCases.{next_reference, IsAdmission, IsAnswering}
 use Rattle.acq_core.specs.declared.arrival.Arrival.{Arrival}
 use Rattle.acq_history.proofs.Runs.{kept}
-use Rattle.acq_history.proofs.Statuses.{open_row, is_some_open}
+use Rattle.acq_history.proofs.Statuses.{open_row, is_some_open, IsApproved}
 
 -- what holds of every book
 record AreInOrder (day : ℕ) (merchants : List Merchant) (rows : List Request)
@@ -243,14 +243,14 @@ sound_completed t r merchant hold g c s = record {
     posting : Posting
     posting = completion_posting t.day r (prior_of hold)
 
-    is : (hold.key.service ≡ Authorization) × (hold.status ≡ status.Approved)
+    is : (hold.key.service ≡ Authorization) × IsApproved hold.status
     is = open_row hold.key.service hold (is_some_open r.moment (prior_of hold).hold_end c.opens)
 
     e : IsEdited t hold done
-    e = edited_is t hold done (followed_kept status.Completed) c.member (ap is_reversible is.1) s
+    e = edited_is t hold done (followed_kept status.Completed) c.member is.1.reversible s
 
     incomplete : hold.status ≡ status.Completed → ⊥
-    incomplete f = let approved = is.1 in cc
+    incomplete f = (reversible hold.status hold.reply is.1.reversible).not_completed f
 
     same_posted : posted (done hold) ≡ posted hold
     same_posted = unposted_by (done hold) is.0 ∙ sym (unposted_by hold is.0)
@@ -343,10 +343,10 @@ sound_reversed t r merchant row g c s = record {
         (option_map (λ leg. posting_today t.day r (reversal_leg leg) row.amount (prior_of row)) o))
     step None f = unposted s.match_rows grows from
     step (Some leg) f =
-        let was = posted_leg_approved row.status row.reply (leg_by row.key.service row) leg
+        let was = posted_leg_is row.status row.reply (leg_by row.key.service row) leg
         c.reversible f in
-        let of = leg_of row.key.service row leg was.1 in
-        let under : posted row ≡ Some of.number = of.under (ap is_posted was.0) in
+        let of = leg_of row.key.service row leg was.under in
+        let under : posted row ≡ Some of.number = of.under was.posted in
         let number : or_zero (reference_by row.key.service row) ≡ of.number =
         ap or_zero of.reference in
         let original = s.match_rows.there row of.number c.member under in
@@ -370,8 +370,7 @@ sound_reversed t r merchant row g c s = record {
             member = In-first (undone row row) (edited t row (undone row)) _ e.replaced.changed;
             merchant = c.own;
             under =
-                ap (λ k. cond (is_reversed (reversed_status (reply_state_of k row.reply)))
-                (posted (undone row row)) None) was.0
+                ap (λ b. cond b (posted (undone row row)) None) was.reversed
                 ∙ (same_posted ∙ (under ∙ ap (λ k. Some k) (sym number)));
           };
           reverses = λ yes. record {

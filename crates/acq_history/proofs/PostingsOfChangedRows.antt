@@ -150,12 +150,17 @@ reversible Approved reply e =
     record { posts = refl; not_reversed = refl; not_completed = λ h. absurd (cc) }
 reversible status reply e = absurd (cc)
 
--- where the leg of what can be reversed was posted, it was approved
-pub posted_leg_approved : (s : Status) (reply : IsoMessage) (o : Option Leg) (leg : Leg) →
-    is_reversible s ≡ true →
-    posted_leg (reply_state_of s reply) o ≡ Some leg → (s ≡ Approved) × (o ≡ Some leg)
-posted_leg_approved Approved reply o leg f e = (refl, e)
-posted_leg_approved status reply o leg f e = absurd (cc)
+-- where the leg of what can be reversed was posted, it had posted, and its reversal will have
+pub record IsPostedLeg (s : Status) (reply : IsoMessage) (o : Option Leg) (leg : Leg) : Type 0 where
+  pub posted : is_posted s ≡ true
+  pub reversed : is_reversed (reversed_status (reply_state_of s reply)) ≡ true
+  pub under : o ≡ Some leg
+
+pub posted_leg_is : (s : Status) (reply : IsoMessage) (o : Option Leg) (leg : Leg) →
+    is_reversible s ≡ true → posted_leg (reply_state_of s reply) o ≡ Some leg →
+    IsPostedLeg s reply o leg
+posted_leg_is Approved reply o leg f e = record { posted = refl; reversed = refl; under = e }
+posted_leg_is status reply o leg f e = absurd (cc)
 
 -- ---- under one reference
 

@@ -40,7 +40,7 @@ use Rattle.acq_history.specs.History.{answer_to, is_completed, is_reversed, any_
 use Rattle.acq_history.specs.History.{reply_state_with, prior}
 use Rattle.acq_history.proofs.Lookups.{not_true, or_true, own_none}
 use Rattle.acq_history.proofs.RecordedInHistory.{key_in}
-use Rattle.acq_history.proofs.Statuses.{reply_state_of-awaited, open_row}
+use Rattle.acq_history.proofs.Statuses.{reply_state_of-awaited, open_row, IsApproved}
 use Rattle.acq_history.proofs.RowsWithChanges.{followed_kept, answered_kept, IsChange}
 
 -- ---- what became of a recorded request
@@ -399,14 +399,14 @@ pub prior_of_completed : (a : Request) (f : Found) (fate : Fate) → prior_of a 
     is_some (prior_by fate f).hold_end ≡ true →
     prior_of (followed_row status.Completed a) ≡ prior_by (record fate { completed = true }) f
 prior_of_completed a f fate is ends =
-    let approved : a.status ≡ status.Approved =
+    let was : IsApproved a.status =
     (open_row a.key.service a (ap (λ x. is_some x.hold_end) is ∙ ends)).1 in
     let at : a.key.service ≡ f.request.service = ap (λ x. x.key.service) is in
     prior_of_changed a (followed_row status.Completed a) f fate
     (record fate { completed = true }) (followed_kept status.Completed a) is
     (record {
       amount = ap (λ x. x.amount) is;
-      state = sym (ap (λ s. tables.reply_state_of s a.reply) approved) ∙ ap (λ x. x.reply_state) is;
+      state = sym (was.kept a.reply) ∙ ap (λ x. x.reply_state) is;
       reversible = sym (ap (λ b. b && not fate.reversed && not (is_declined_by fate))
           (and-false (is_admitted f || is_accepted f)));
       ends = (λ i. tables.hold_end_by (at i) (followed_row status.Completed a))

@@ -4,10 +4,10 @@ use Rattle.std.specs.Prelude.{is_some}
 use Rattle.iso_codec.specs.Message.{IsoMessage}
 use Rattle.acq_core.specs.declared.status.Status.{Status}
 use Rattle.acq_core.specs.declared.status.Status.TheVariants.{Pending, Approved}
-use Rattle.acq_core.specs.declared.reply_state.ReplyState.TheVariants.{Awaited}
+use Rattle.acq_core.specs.declared.reply_state.ReplyState.TheVariants.{Kept, Awaited}
 use Rattle.acq_core.specs.declared.request.Request.{Request}
 use Rattle.acq_core.specs.Decision.{is_open_at}
-use Rattle.acq_core.specs.Tables.{reply_state_of, is_approved, hold_end_by}
+use Rattle.acq_core.specs.Tables.{reply_state_of, is_reversible, is_approved, hold_end_by}
 use Rattle.acq_message.specs.declared.service.Service.{Service}
 use Rattle.acq_message.specs.declared.service.Service.TheVariants.{Authorization}
 
@@ -16,18 +16,23 @@ pub reply_state_of-awaited : (s : Status) (reply draft : IsoMessage) →
 reply_state_of-awaited Pending reply draft e = refl
 reply_state_of-awaited status reply draft e = absurd (cc)
 
-pub is_approved_is : (s : Status) → is_approved s ≡ true → s ≡ Approved
-is_approved_is Approved e = refl
-is_approved_is status e = absurd (cc)
+-- what is approved can be reversed, and its reply is kept
+pub record IsApproved (s : Status) : Type 0 where
+  pub reversible : is_reversible s ≡ true
+  pub kept : (reply : IsoMessage) → reply_state_of s reply ≡ Kept reply
+
+pub approved : (s : Status) → is_approved s ≡ true → IsApproved s
+approved Approved e = record { reversible = refl; kept = λ reply. refl }
+approved s e = absurd (cc)
 
 -- a row that has an end is an approved hold
 pub open_row : (s : Service) (row : Request) → is_some (hold_end_by s row) ≡ true →
-    (s ≡ Authorization) × (row.status ≡ Approved)
+    (s ≡ Authorization) × IsApproved row.status
 open_row Authorization row e = step (is_approved row.status) refl e
   where
     step : (b : Bool) → is_approved row.status ≡ b → is_some (cond b row.hold_end None) ≡ true →
-        (Authorization ≡ Authorization) × (row.status ≡ Approved)
-    step true h f = (refl, is_approved_is row.status h)
+        (Authorization ≡ Authorization) × IsApproved row.status
+    step true h f = (refl, approved row.status h)
     step false h f = absurd (cc)
 open_row s row e = absurd (cc)
 
