@@ -14,8 +14,8 @@ use Rattle.acq_book.specs.Fits.{Fits}
 use Rattle.acq_book.specs.Promise.{MakesBy}
 use Rattle.acq_sql_rows.specs.ReadBack.{tables_in}
 use Rattle.acq_sql_rows.proofs.TablesReadBack.{tables_of-holds}
-use Rattle.acq_sql_changes.specs.Changed.{IsAt, LeavesTables}
-use Rattle.acq_sql.specs.Applied.{Applies, StopsWhole, Suits}
+use Rattle.acq_sql_changes.specs.Changed.{IsAt, LeadsTo, LeavesTables}
+use Rattle.acq_sql.specs.Applied.{Applies, Suits}
 use Rattle.acq_sql.specs.Kept.{Kept}
 use Rattle.acq_sql.specs.Opened.{tables, is_honest, is_open, may_leave}
 
@@ -26,9 +26,7 @@ LeavesCommit {S} g =
 
 module _ {S T : Type 0} (g : Ghosts S) (law : LeavesCommit g) (old new : Kept S) (change : Change)
     (result : Result T Error)
-    (done : Applies (state g old.connection) (state g new.connection) result change)
-    (undone : LeavesTables (state g old.connection) (state g new.connection) result)
-    (crash : StopsWhole (state g old.connection) (state g new.connection) change)
+    (applies : Applies (state g old.connection) (state g new.connection) result change)
     (fits : is_open g old → Fits (tables g old) change)
     (past : is_open g old → HasPast (core.after (tables g old) change)) where
   abbrev before : State
@@ -37,21 +35,24 @@ module _ {S T : Type 0} (g : Ghosts S) (law : LeavesCommit g) (old new : Kept S)
   abbrev after : State
   after = state g new.connection
 
+  abbrev after_change : core.Tables → core.Tables
+  after_change t = core.after t change
+
   abbrev changed : core.Tables
-  changed = core.after (tables g old) change
+  changed = after_change (tables g old)
 
   suits : is_open g old → Suits change (tables g old)
   suits o = (fits o, o.past)
 
   led : is_ok result ≡ true → HasCleanDisk after → is_open g old → IsAt after changed
   led is clean o =
-      let step : (r : Result T Error) → Applies before after r change → is_ok r ≡ true →
-      IsAt after changed =
+      let step : (r : Result T Error) → LeadsTo before after r (Suits change) after_change →
+      is_ok r ≡ true → IsAt after changed =
       elim [
         | Ok x ↦ (λ did is. did clean (tables g old) o.at (suits o))
         | Err e ↦ (λ did is. absurd (true≢false (sym is)))
       ] in
-      step result done is
+      step result applies.done is
 
   tables_led : is_ok result ≡ true → HasCleanDisk after → is_open g old → tables g new ≡ changed
   tables_led is clean o = tables_of-holds after.now changed (led is clean o).holds
@@ -64,14 +65,14 @@ module _ {S T : Type 0} (g : Ghosts S) (law : LeavesCommit g) (old new : Kept S)
         | Ok x ↦ (λ did is. absurd (true≢false is))
         | Err e ↦ (λ did is. did end.clean end.at.is_open (tables g old) o.at)
       ] in
-      step result undone is
+      step result applies.undone is
 
   pub makes_at : old.failures ≤ new.failures
       → MakesBy (tables g) (is_honest g) (is_open g) (may_leave g) (λ (b : Kept S). b.failures) old
       new (is_ok result)
       changed
   makes_at rise = record {
-    was_honest = λ clean. let up = crash.clean in omega (arith, up, clean);
+    was_honest = λ clean. let up = applies.stop.clean in omega (arith, up, clean);
     was_open = λ end. inr end.past;
     stays_open = λ is clean o.
         let same = sym (tables_led is clean o) in
@@ -86,7 +87,7 @@ module _ {S T : Type 0} (g : Ghosts S) (law : LeavesCommit g) (old new : Kept S)
     leaves = λ o clean t way. ⊎_elim
         (λ (was : before.may_leave way.0). inl (way.0, was, way.2))
         (λ whole. inr (way.2 ∙ tables_of-holds _ changed (whole (tables g old) o.at (suits o))))
-        (crash.crash clean way.0 way.1);
+        (applies.stop.crash clean way.0 way.1);
     settled = λ is o clean only t way.
         let at = led is clean o in
         let kept = law new.connection.store way.0 at.is_open way.1 in

@@ -6,16 +6,12 @@ use Rattle.acq_core.specs.declared.change.Change.{Change}
 use Rattle.acq_core.specs.Pasts.{HasPast}
 use Rattle.acq_core.specs.Tables.{Tables, after}
 use Rattle.acq_book.specs.Fits.{Fits}
-use Rattle.acq_sql_changes.specs.Changed.{LeadsToWhere, StopsWithinWhere}
+use Rattle.acq_sql_changes.specs.Changed.{ChangesWhole}
 
 -- the change fits the tables, and these are a book's
 abbrev pub Suits : Change → Tables → Type 0
 Suits change t = Fits t change × HasPast t
 
--- where the change suits, a success leads to the tables with the whole of it
+-- where the change suits, it is made whole or not at all
 abbrev pub Applies : {T : Type 0} → State → State → Result T Error → Change → Type 0
-Applies old new result change = LeadsToWhere old new result (Suits change) (λ t. after t change)
-
--- where the change suits, a stop leaves what it might before, or the tables with the whole of it
-abbrev pub StopsWhole : State → State → Change → Type 0
-StopsWhole old new change = StopsWithinWhere old new (Suits change) (λ t. after t change)
+Applies old new result change = ChangesWhole old new result (Suits change) (λ t. after t change)

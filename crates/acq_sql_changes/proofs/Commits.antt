@@ -1,22 +1,24 @@
--- What a transaction has written so far, and what its commit leaves.
-use Rattle.std.proofs.Common.{◌≡◌, ◌≤◌, inl, ℕ, true, false, cond, refl, sym, subst, ◌∙◌, arith}
-use Rattle.std.proofs.Common.{List, [], Ok, Result, OnOk, IsTrue}
-use Rattle.std.proofs.lemmas.Result.{IfOk-weaker}
+-- What a transaction has written so far, and what its end leaves.
+use Rattle.std.proofs.Common.{◌≡◌, ◌≤◌, inl, inr, ℕ, true, false, true≢false, cond, refl, sym}
+use Rattle.std.proofs.Common.{subst, ◌∙◌, arith, List, [], Ok, Err, Result, OnOk, IfErr, IsErr, IsTrue}
+use Rattle.std.proofs.lemmas.Result.{IfOk-weaker, IfErr-weaker}
 use Rattle.std.proofs.lemmas.Slice.Eq.{bytes_eq-Decides}
 use Rattle.sqlite_trees.specs.Tree.{Trees}
 use Rattle.sqlite_trees.specs.declared.store.Store as store
 use Rattle.sqlite.specs.declared.error.Error.{Error}
 use Rattle.sqlite.specs.Effect.{Database}
 use Rattle.sqlite.specs.Held.{Held, state}
-use Rattle.sqlite.specs.State.{State, HasCleanDisk, Shows, KeepsCounts, Survives}
-use Rattle.sqlite.proofs.StateLemmas.{survives_then, survives_weaker}
+use Rattle.sqlite.specs.State.{State, HasCleanDisk, Shows, KeepsCounts, KeepsCommit, IsRolledBack}
+use Rattle.sqlite.specs.State.{Survives}
+use Rattle.sqlite.specs.Steps.{FailsToCommit}
+use Rattle.sqlite.proofs.StateLemmas.{survives_then}
 use Rattle.sqlite.proofs.Callers.{survives_begin}
 use Rattle.acq_core.specs.Tables.{Tables}
 use Rattle.acq_sql_rows.specs.Tallies.{Tally, Running, Tallies, FitsTally, plus, tally_in, raised}
 use Rattle.acq_sql_rows.specs.Relation.{Holds, HoldsRows}
-use Rattle.acq_sql_changes.specs.Written.{Changes, Raises, StaysInside, CommitsNothing}
+use Rattle.acq_sql_changes.specs.Written.{WritesInside, Changes, Raises}
 use Rattle.acq_sql_changes.proofs.writes.RunningTotals.{is_key, tally_raised, number_itself}
-use Rattle.acq_sql_changes.specs.Changed.{IsAt, HoldsAfter}
+use Rattle.acq_sql_changes.specs.Changed.{IsAt, HoldsAfter, AnyTables, ChangesWhole}
 use Rattle.acq_sql_changes.proofs.ListTallies.{LeavesTallies, ComesToMore, more_tallied}
 use Rattle.acq_sql_changes.proofs.Room.{HasShortDays}
 
@@ -26,10 +28,15 @@ was_clean a b up late = omega (arith, up, late)
 
 -- ---- what was written so far
 
--- a transaction that began here has changed the tables so, and a stop leaves nothing of it
-pub record Wrote (old now : State) (changed : Tables → Tables) : Type 0 where
-  pub survives : Survives old now (λ _. ⊥)
+-- a transaction that began here is open, with nothing committed, and a stop leaves nothing of it
+pub record IsWithin (old now : State) : Type 0 where
   pub inside : HasCleanDisk now → IsTrue now.in_transaction
+  pub kept : HasCleanDisk now → KeepsCommit old now
+  pub stop : Survives old now (λ _. ⊥)
+
+-- and has changed the tables so
+pub record Wrote (old now : State) (changed : Tables → Tables) : Type 0 where
+  pub within : IsWithin old now
   pub rows : HasCleanDisk now → (t : Tables) (runs : List Running) → HoldsRows old.now t runs
       → HoldsRows now.now (changed t) runs
 
@@ -50,34 +57,58 @@ pub began : {S : Type 0} (g : store.Ghosts S) (old begin : Held S) →
     → Wrote (state g old) (state g begin) (λ t. t)
 began g old begin is =
     rw is (record {
-      survives = survives_begin g old (state g (record old { in_transaction = true })) (λ _. ⊥)
-          (survives_itself (state g (record old { in_transaction = true })));
-      inside = λ clean. refl;
+      within = record {
+        inside = λ clean. refl;
+        kept = λ clean. record { was_open = λ h. h; committed = λ _. refl };
+        stop = survives_begin g old (state g (record old { in_transaction = true })) (λ _. ⊥)
+            (survives_itself (state g (record old { in_transaction = true })));
+      };
       rows = λ clean t runs rows. rows;
     })
 
-module _ (old mid new : State) (before : Tables → Tables) (count : ℕ)
-    (so_far : Wrote old mid before)
-    (inside : StaysInside mid new (Ok count)) (survives : CommitsNothing mid new) where
+module _ (old mid new : State) (so_far : IsWithin old mid) {T : Type 0} (result : Result T Error)
+    (LeadsTo : Database → Database → Type 0) (write : WritesInside mid new result LeadsTo) where
   clean_before : HasCleanDisk new → HasCleanDisk mid
-  clean_before clean = was_clean _ _ survives.clean clean
+  clean_before clean = was_clean _ _ write.stop.clean clean
 
-  longer : Survives old new (λ _. ⊥)
-  longer =
-      survives_then old mid new _ _ (λ _. ⊥) (λ _ db none. none) (λ _ db none. none) so_far.survives
-      survives
-
-  -- with one write more
-  pub wrote : (changed : Tables → Tables) → Changes mid new (Ok count) changed →
-      Wrote old new (λ t. changed (before t))
-  wrote changed changes =
+  kept_still : HasCleanDisk new → KeepsCommit old new
+  kept_still clean =
+      let early = clean_before clean in
+      let first = so_far.kept early in
+      let then = write.kept clean (so_far.inside early) in
       record {
-        survives = longer;
-        inside = λ clean. (inside clean (so_far.inside (clean_before clean))).mode;
-        rows = λ clean t runs rows. changes clean (so_far.inside (clean_before clean))
-            (before t) runs
-            (so_far.rows (clean_before clean) t runs rows);
+        was_open = λ opened. first.was_open (then.was_open opened);
+        committed = λ opened. then.committed opened ∙ first.committed (then.was_open opened);
       }
+
+  stop_still : Survives old new (λ _. ⊥)
+  stop_still =
+      survives_then old mid new _ _ (λ _. ⊥) (λ _ db none. none) (λ _ db none. none) so_far.stop
+      write.stop
+
+module _ {old mid new : State} {count : ℕ} {LeadsTo : Database → Database → Type 0} where
+  -- one that succeeded leaves it open
+  pub within_still : IsWithin old mid → WritesInside mid new (Ok count) LeadsTo → IsWithin old new
+  within_still so_far write =
+      record {
+        inside = λ clean. (write.inside clean
+            (so_far.inside (clean_before _ _ _ so_far _ _ write clean))).mode;
+        kept = kept_still _ _ _ so_far _ _ write;
+        stop = stop_still _ _ _ so_far _ _ write;
+      }
+
+-- with one write more
+pub wrote : {old mid new : State} {before : Tables → Tables} {count : ℕ} → Wrote old mid before
+    → (changed : Tables → Tables) → WritesInside mid new (Ok count) (Changes changed)
+    → Wrote old new (λ t. changed (before t))
+wrote {before = before} so_far changed write =
+    record {
+      within = within_still so_far.within write;
+      rows = λ clean t runs rows.
+          let early = clean_before _ _ _ so_far.within _ _ write clean in
+          write.leads clean (so_far.within.inside early) (before t) runs
+          (so_far.rows early t runs rows);
+    }
 
 -- what the lists come to with what came has room in the running totals
 has_room : (t : Tables) (runs : List Running) (merchant : List ℕ) (day : ℕ) (more : Tally)
@@ -96,22 +127,21 @@ has_room t runs merchant day more tallied short =
         ≡ plus (tally_in runs merchant day) more
     itself = rw own refl
 
--- ---- the commit
+-- ---- the whole change
 
 -- a transaction that began here has made the whole change of the tables of which this is so
 pub record Makes (old last : State) (fits : Tables → Type 0) (changed : Tables →
     Tables) : Type 0 where
-  pub survives : Survives old last (λ _. ⊥)
+  pub within : IsWithin old last
   pub holds : HasCleanDisk last → (t : Tables) → Holds old.now t → fits t →
       Holds last.now (changed t)
 
 -- where no day comes to anything else
-pub makes : (old last : State) (changed : Tables → Tables) → Wrote old last changed →
-    LeavesTallies changed
-    → Makes old last (λ _. Unit {0}) changed
-makes old last changed wrote same =
+pub makes : {old last : State} {changed : Tables → Tables} → Wrote old last changed
+    → LeavesTallies changed → Makes old last AnyTables changed
+makes wrote same =
     record {
-      survives = wrote.survives;
+      within = wrote.within;
       holds = λ clean t h _. record {
         runs = h.runs;
         rows = wrote.rows clean t h.runs h.rows;
@@ -120,33 +150,33 @@ makes old last changed wrote same =
       };
     }
 
-module _ (old mid last : State) (before : Tables → Tables) (count : ℕ)
-    (so_far : Wrote old mid before)
-    (inside : StaysInside mid last (Ok count)) (survives : CommitsNothing mid last) where
-  -- where what came is raised last
-  pub makes_raised : (merchant : List ℕ) (day : ℕ) (more : Tally) →
-      Raises mid last (Ok count) merchant day more
-      → (fits : Tables → Type 0) (changed : Tables → Tables)
-      → ((t : Tables) → fits t → ComesToMore t (before t) merchant day more)
-      → ((t : Tables) → fits t → HasShortDays t → HasShortDays (before t))
-      → ((t : Tables) → fits t → before t ≡ changed t) → Makes old last fits changed
-  makes_raised merchant day more raises fits changed come short same =
-      record {
-        survives = longer old mid last before count so_far inside survives;
-        holds = λ clean t h fit.
-            let early = clean_before old mid last before count so_far inside survives clean in
-            let tallied = more_tallied t (before t) h.runs merchant day more (come t fit) h.tallied
-            in
-            let all = short t fit h.short in
-            let room = has_room (before t) h.runs merchant day more tallied all in
-            subst (Holds last.now) (same t fit) (record {
-              runs = raised merchant day more h.runs;
-              rows = raises clean (so_far.inside early) (before t) h.runs
-                  (so_far.rows early t h.runs h.rows) room;
-              tallied = tallied;
-              short = all;
-            });
-      }
+-- where what came is raised last
+pub makes_raised : {old mid last : State} {before : Tables → Tables} {count : ℕ}
+    → Wrote old mid before → (merchant : List ℕ) (day : ℕ) (more : Tally)
+    → WritesInside mid last (Ok count) (Raises merchant day more)
+    → (fits : Tables → Type 0) (changed : Tables → Tables)
+    → ((t : Tables) → fits t → ComesToMore t (before t) merchant day more)
+    → ((t : Tables) → fits t → HasShortDays t → HasShortDays (before t))
+    → ((t : Tables) → fits t → before t ≡ changed t) → Makes old last fits changed
+makes_raised {last = last} {before = before} so_far merchant day more write fits changed come short
+    same =
+    record {
+      within = within_still so_far.within write;
+      holds = λ clean t h fit.
+          let early = clean_before _ _ _ so_far.within _ _ write clean in
+          let tallied = more_tallied t (before t) h.runs merchant day more (come t fit) h.tallied in
+          let all = short t fit h.short in
+          let room = has_room (before t) h.runs merchant day more tallied all in
+          subst (Holds last.now) (same t fit) (record {
+            runs = raised merchant day more h.runs;
+            rows = write.leads clean (so_far.within.inside early) (before t) h.runs
+                (so_far.rows early t h.runs h.rows) room;
+            tallied = tallied;
+            short = all;
+          });
+    }
+
+-- ---- the commit
 
 -- a commit leaves the connection between two transactions
 pub at_commit : (last end : State) (t : Tables) → Holds last.now t →
@@ -186,37 +216,78 @@ left_holds db trees t h is =
       short = h.short;
     })
 
-module _ {C : Type 0} (read : C → State) (old last : State) (end after : C) (same : end ≡ after)
-    (fits : Tables → Type 0) (changed : Tables → Tables) (made : Makes old last fits changed)
-    (survives : Survives last (read end) (λ trees. trees ≡ last.now.trees)) where
-  -- a commit that succeeded leads to the tables
-  pub committed : {T : Type 0} (result : Result T Error)
-      → (HasCleanDisk (read end) → OnOk result (IsTrue last.in_transaction
-      × Shows last (read end) last.now last.now false × KeepsCounts last (read end)
-      × ((read end).marks ≡ [])))
-      → HasCleanDisk (read after) → (t : Tables) → IsAt old t → fits t →
-      OnOk result (IsAt (read after) (changed t))
-  committed result ok late t at fit =
-      let clean = subst (λ x. HasCleanDisk (read x)) (sym same) late in
-      let held = made.holds (was_clean _ _ survives.clean clean) t at.holds fit in
-      subst (λ x. OnOk result (IsAt (read x) (changed t))) same
-      (IfOk-weaker result _ _ (λ _ shown. at_commit last (read end) (changed t) held shown.1)
-      (ok clean))
+-- what a transaction wrote is gone where it was rolled back
+at_undone : (old last end : State) (t : Tables) → IsTrue end.is_open
+    → (HasCleanDisk last → KeepsCommit old last) → HasCleanDisk last → IsRolledBack last end
+    → IsAt old t → IsAt end t
+at_undone old last end t opened keeps clean back at =
+    let gone = back.undone opened in
+    let kept = (keeps clean).committed (back.was_open opened) in
+    record {
+      is_open = opened;
+      settled = back.autocommit;
+      same = gone.0 ∙ sym gone.1;
+      holds = subst (λ d. Holds d t) (sym (gone.0 ∙ kept ∙ sym at.same)) at.holds;
+    }
 
-  -- a stop leaves what it might before, or the tables
-  pub stops_within : Survives old (read after)
-      (λ trees. (t : Tables) → IsAt old t → fits t → HoldsAfter (changed t) trees)
-  stops_within =
+-- a transaction that its failed commit ended was rolled back
+at_failure : (old last end : State) (t : Tables) (e : Error) → IsTrue end.is_open
+    → IsWithin old last → HasCleanDisk last → FailsToCommit last end e → IsAt old t → IsAt end t
+at_failure old last end t e opened within clean (inl fails) at =
+    at_undone old last end t opened within.kept clean fails.3 at
+at_failure old last end t e opened within clean (inr late) at =
+    absurd (true≢false (sym (within.inside clean) ∙ late.1))
+
+module _ {S : Type 0} (g : store.Ghosts S) {old last : State} {end after : Held S}
+    {fits : Tables → Type 0} {changed : Tables → Tables} {T : Type 0} where
+  -- a commit makes the whole change, or rolls it back
+  pub commits : Makes old last fits changed → end ≡ after → (result : Result T Error)
+      → end.in_transaction ≡ false
+      → (HasCleanDisk (state g end) → OnOk result (IsTrue last.in_transaction
+      × Shows last (state g end) last.now last.now false × KeepsCounts last (state g end)
+      × ((state g end).marks ≡ [])))
+      → (HasCleanDisk (state g end) → IfErr result (FailsToCommit last (state g end)))
+      → Survives last (state g end) (λ trees. trees ≡ last.now.trees)
+      → ChangesWhole old (state g after) result fits changed
+  commits made same result ended ok err survives =
+      let end_state = state g end in
+      let was = was_clean _ _ survives.clean in
       let P : Trees → Type 0 = λ trees. (t : Tables) → IsAt old t → fits t →
       HoldsAfter (changed t) trees in
-      subst (λ x. Survives old (read x) P) same
-      (survives_then old last (read end) _ _ P (λ _ db none. absurd none)
-      (λ clean db is t at fit. left_holds last.now db (changed t)
-      (made.holds (was_clean _ _ survives.clean clean) t at.holds fit) is) made.survives survives)
+      subst (λ x. ChangesWhole old (state g x) result fits changed) same (record {
+        settled = ended;
+        done = λ clean t at fit. IfOk-weaker result _ _
+            (λ _ shown. at_commit last end_state (changed t) (made.holds (was clean) t at.holds fit)
+            shown.1)
+            (ok clean);
+        undone = λ clean opened t at. IfErr-weaker result _ _
+            (λ e failed. at_failure old last end_state t e opened made.within (was clean) failed at)
+            (err clean);
+        stop = survives_then old last end_state _ _ P (λ _ db none. absurd none)
+            (λ clean db is t at fit. left_holds last.now db (changed t)
+            (made.holds (was clean) t at.holds fit) is)
+            made.within.stop survives;
+      })
 
--- the same of any tables
-pub of_all : (old new : State) (changed : Tables → Tables)
-    → Survives old new (λ trees. (t : Tables) → IsAt old t → Unit {0} →
-    HoldsAfter (changed t) trees)
-    → Survives old new (λ trees. (t : Tables) → IsAt old t → HoldsAfter (changed t) trees)
-of_all old new changed = survives_weaker old new _ _ (λ _ db h t at. h t at tt)
+  -- where a write failed, its transaction was dropped, and all is rolled back
+  pub gives_up : {mid : State} {U : Type 0} {written : Result U Error}
+      {Leads : Database → Database → Type 0} → IsWithin old mid
+      → WritesInside mid last written Leads → end ≡ after → end.in_transaction ≡ false
+      → (HasCleanDisk (state g end) → IsRolledBack last (state g end))
+      → Survives last (state g end) (λ _. ⊥) → (result : Result T Error) → IsErr result
+      → ChangesWhole old (state g after) result fits changed
+  gives_up so_far write same ended undone survives (Ok x) is =
+      absurd (cc)
+  gives_up so_far write same ended undone survives (Err e) is =
+      let end_state = state g end in
+      let was = was_clean _ _ survives.clean in
+      let P : Trees → Type 0 = λ trees. (t : Tables) → IsAt old t → fits t →
+      HoldsAfter (changed t) trees in
+      subst (λ x. ChangesWhole {T = T} old (state g x) (Err e) fits changed) same (record {
+        settled = ended;
+        done = λ clean t at fit. tt;
+        undone = λ clean opened t at. at_undone old last end_state t opened
+            (kept_still _ _ _ so_far _ _ write) (was clean) (undone clean) at;
+        stop = survives_then old last end_state _ _ P (λ _ db none. absurd none)
+            (λ _ db none. absurd none) (stop_still _ _ _ so_far _ _ write) survives;
+      })

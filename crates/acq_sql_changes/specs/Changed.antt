@@ -28,31 +28,33 @@ pub record IsAt (s : State) (t : Tables) : Type 0 where
 abbrev pub HoldsAfter : Tables → Trees → Type 0
 HoldsAfter t trees = Holds (record { schema = book_schema; trees = trees }) t
 
--- a change that succeeded leads to these tables
-abbrev pub LeadsTo : {T : Type 0} → State → State → Result T Error → (Tables → Tables) → Type 0
-LeadsTo old new result changed =
-    HasCleanDisk new → (t : Tables) → IsAt old t → OnOk result (IsAt new (changed t))
+-- of tables of which this is so, a change that succeeded leads to these
+abbrev pub LeadsTo : {T : Type 0} →
+    State → State → Result T Error → (Tables → Type 0) → (Tables → Tables) → Type 0
+LeadsTo old new result fits changed =
+    HasCleanDisk new → (t : Tables) → IsAt old t → fits t → OnOk result (IsAt new (changed t))
 
 -- a change that failed leaves the tables as they were
 abbrev pub LeavesTables : {T : Type 0} → State → State → Result T Error → Type 0
 LeavesTables old new result =
     HasCleanDisk new → IsTrue new.is_open → (t : Tables) → IsAt old t → OnErr result (IsAt new t)
 
--- a stop leaves what it might before, or the tables with the whole change
-abbrev pub StopsWithin : State → State → (Tables → Tables) → Type 0
-StopsWithin old new changed =
-    Survives old new (λ trees. (t : Tables) → IsAt old t → HoldsAfter (changed t) trees)
-
--- of tables of which this is so, a change that succeeded leads to these
-abbrev pub LeadsToWhere : {T : Type 0} →
-    State → State → Result T Error → (Tables → Type 0) → (Tables → Tables) → Type 0
-LeadsToWhere old new result fits changed =
-    HasCleanDisk new → (t : Tables) → IsAt old t → fits t → OnOk result (IsAt new (changed t))
-
 -- of such tables, a stop leaves what it might before, or the tables with the whole change
-abbrev pub StopsWithinWhere : State → State → (Tables → Type 0) → (Tables → Tables) → Type 0
-StopsWithinWhere old new fits changed =
+abbrev pub StopsWithin : State → State → (Tables → Type 0) → (Tables → Tables) → Type 0
+StopsWithin old new fits changed =
     Survives old new (λ trees. (t : Tables) → IsAt old t → fits t → HoldsAfter (changed t) trees)
+
+-- A change in one transaction is made whole or not at all, of tables of which this is so.
+pub record ChangesWhole {T : Type 0} (old new : State) (result : Result T Error)
+    (fits : Tables → Type 0) (changed : Tables → Tables) : Type 0 where
+  pub settled : new.in_transaction ≡ false
+  pub done : LeadsTo old new result fits changed
+  pub undone : LeavesTables old new result
+  pub stop : StopsWithin old new fits changed
+
+-- so of any tables
+abbrev pub AnyTables : Tables → Type 0
+AnyTables t = Unit {0}
 
 -- ---- a request that counts against its day
 

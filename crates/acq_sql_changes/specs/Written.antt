@@ -2,6 +2,7 @@
 use Rattle.std.specs.Prelude.{ℕ, ◌<◌, ◌^◌, true, List, [], ◌∷◌, ◌++◌, Option, IfSome, Result, OnOk}
 use Rattle.std.specs.Prelude.{IsTrue}
 use Rattle.sqlite.specs.declared.error.Error.{Error}
+use Rattle.sqlite.specs.Effect.{Database}
 use Rattle.sqlite.specs.State.{State, HasCleanDisk, KeepsCommit, Shows, Survives}
 use Rattle.row_lemmas.specs.Created.{IsBlank}
 use Rattle.iso_codec.specs.Message.{IsoMessage}
@@ -23,26 +24,7 @@ use Rattle.acq_sql_rows.specs.Relation.{HoldsRows}
 
 -- ---- one write
 
--- a write that succeeded changes the tables so, and no running total
-abbrev pub Changes : State → State → Result ℕ Error → (Tables → Tables) → Type 0
-Changes old new result changed =
-    HasCleanDisk new → IsTrue old.in_transaction → (t : Tables) (runs : List Running)
-    → HoldsRows old.now t runs → OnOk result (HoldsRows new.now (changed t) runs)
-
--- a write that succeeded adds this to the running totals of a merchant and day, where there is room
-abbrev pub Raises : State → State → Result ℕ Error → List ℕ → ℕ → Tally → Type 0
-Raises old new result merchant day more =
-    HasCleanDisk new → IsTrue old.in_transaction → (t : Tables) (runs : List Running)
-    → HoldsRows old.now t runs → FitsTally (plus (tally_in runs merchant day) more)
-    → OnOk result (HoldsRows new.now t (raised merchant day more runs))
-
--- a write that succeeded begins a book, where the tables had no rows
-abbrev pub BeginsBook : State → State → Result ℕ Error → Opening → Type 0
-BeginsBook old new result opening =
-    HasCleanDisk new → IsTrue old.in_transaction → IsBlank book_schema old.now
-    → OnOk result (HoldsRows new.now (new_tables opening) [])
-
--- a write that succeeded leaves its transaction open, and shows what it made
+-- a call that succeeded leaves its transaction open, and shows what it made
 abbrev pub StaysInside : {T : Type 0} → State → State → Result T Error → Type 0
 StaysInside old new result =
     HasCleanDisk new → IsTrue old.in_transaction
@@ -55,6 +37,32 @@ KeepsCommitted old new = HasCleanDisk new → IsTrue old.in_transaction → Keep
 -- a stop leaves nothing of it
 abbrev pub CommitsNothing : State → State → Type 0
 CommitsNothing old new = Survives old new (λ _. ⊥)
+
+-- A write inside a transaction commits nothing, and one that succeeded leads from the database
+-- before it to the one after it so.
+pub record WritesInside {T : Type 0} (old new : State) (result : Result T Error)
+    (LeadsTo : Database → Database → Type 0) : Type 0 where
+  pub leads : HasCleanDisk new → IsTrue old.in_transaction → OnOk result (LeadsTo old.now new.now)
+  pub inside : StaysInside old new result
+  pub kept : KeepsCommitted old new
+  pub stop : CommitsNothing old new
+
+-- the tables are changed so, and no running total
+abbrev pub Changes : (Tables → Tables) → Database → Database → Type 0
+Changes changed db next =
+    (t : Tables) (runs : List Running)
+    → HoldsRows db t runs → HoldsRows next (changed t) runs
+
+-- this is added to the running totals of a merchant and day, where there is room
+abbrev pub Raises : List ℕ → ℕ → Tally → Database → Database → Type 0
+Raises merchant day more db next =
+    (t : Tables) (runs : List Running) → HoldsRows db t runs
+    → FitsTally (plus (tally_in runs merchant day) more)
+    → HoldsRows next t (raised merchant day more runs)
+
+-- a book begins, where the tables had no rows
+abbrev pub BeginsBook : Opening → Database → Database → Type 0
+BeginsBook opening db next = IsBlank book_schema db → HoldsRows next (new_tables opening) []
 
 -- ---- what each makes of the tables
 

@@ -5,7 +5,7 @@ ghost use Rattle.sqlite.specs.Held.{state};
 ghost use Rattle.iso_codec.specs.Message.{IsMessage};
 ghost use Rattle.iso_codec.specs.Reading.{spelling};
 ghost use Rattle.acq_sql_changes.specs.Written.{IsShortEnd};
-ghost use Rattle.acq_sql_changes.specs.Changed.{LeadsTo, LeavesTables, StopsWithin};
+ghost use Rattle.acq_sql_changes.specs.Changed.{ChangesWhole, AnyTables};
 ghost use Rattle.acq_sql_changes.specs.Changed.{with_whole_answer};
 
 use crate::issuer_answer::IssuerAnswer;
@@ -21,12 +21,7 @@ pub fn answer<'x, S: Alter>(
     requires whole { IsMessage answer.now.reply.now }
     requires spelled { answer.now.text.now ≡ spelling answer.now.reply.now }
     requires hold_end { IsShortEnd answer.now.hold_end }
-    ensures settled { conn.new.in_transaction ≡ false }
-    ensures done { LeadsTo (state S.Store conn.old) (state S.Store conn.new) result
-        (with_whole_answer answer.now.key answer.now.status answer.now.reply.now
-        answer.now.hold_end None) }
-    ensures undone { LeavesTables (state S.Store conn.old) (state S.Store conn.new) result }
-    ensures crash { StopsWithin (state S.Store conn.old) (state S.Store conn.new)
+    ensures { ChangesWhole (state S.Store conn.old) (state S.Store conn.new) result AnyTables
         (with_whole_answer answer.now.key answer.now.status answer.now.reply.now
         answer.now.hold_end None) }
 {

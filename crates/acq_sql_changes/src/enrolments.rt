@@ -3,7 +3,7 @@
 ghost use Rattle.std.specs.Prelude.{◌≡◌, false};
 ghost use Rattle.sqlite.specs.Held.{state};
 ghost use Rattle.acq_sql_changes.specs.Written.{with_merchant, with_terminal};
-ghost use Rattle.acq_sql_changes.specs.Changed.{LeadsTo, LeavesTables, StopsWithin};
+ghost use Rattle.acq_sql_changes.specs.Changed.{ChangesWhole, AnyTables};
 
 use crate::writes::{add_merchant, add_terminal};
 use acq_core::{Merchant, Terminal};
@@ -12,11 +12,7 @@ use sqlite::{Alter, Connection, Error};
 /// Enrols a merchant.
 pub fn enrol<S: Alter>(conn: &mut Connection<S>, merchant: &Merchant) -> Result<(), Error>
     requires settled { conn.old.in_transaction ≡ false }
-    ensures settled { conn.new.in_transaction ≡ false }
-    ensures done { LeadsTo (state S.Store conn.old) (state S.Store conn.new) result
-        (with_merchant merchant.now) }
-    ensures undone { LeavesTables (state S.Store conn.old) (state S.Store conn.new) result }
-    ensures crash { StopsWithin (state S.Store conn.old) (state S.Store conn.new)
+    ensures { ChangesWhole (state S.Store conn.old) (state S.Store conn.new) result AnyTables
         (with_merchant merchant.now) }
 {
     let mut tx = conn.transaction();
@@ -27,11 +23,7 @@ pub fn enrol<S: Alter>(conn: &mut Connection<S>, merchant: &Merchant) -> Result<
 /// Adds a terminal.
 pub fn enrol_terminal<S: Alter>(conn: &mut Connection<S>, terminal: &Terminal) -> Result<(), Error>
     requires settled { conn.old.in_transaction ≡ false }
-    ensures settled { conn.new.in_transaction ≡ false }
-    ensures done { LeadsTo (state S.Store conn.old) (state S.Store conn.new) result
-        (with_terminal terminal.now) }
-    ensures undone { LeavesTables (state S.Store conn.old) (state S.Store conn.new) result }
-    ensures crash { StopsWithin (state S.Store conn.old) (state S.Store conn.new)
+    ensures { ChangesWhole (state S.Store conn.old) (state S.Store conn.new) result AnyTables
         (with_terminal terminal.now) }
 {
     let mut tx = conn.transaction();

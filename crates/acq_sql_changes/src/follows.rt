@@ -5,7 +5,7 @@ ghost use Rattle.sqlite.specs.Held.{state};
 ghost use Rattle.iso_codec.specs.Message.{IsMessage};
 ghost use Rattle.iso_codec.specs.Reading.{spelling};
 ghost use Rattle.acq_sql_changes.specs.Written.{IsShortEnd};
-ghost use Rattle.acq_sql_changes.specs.Changed.{LeadsToWhere, LeavesTables, StopsWithinWhere};
+ghost use Rattle.acq_sql_changes.specs.Changed.{ChangesWhole};
 ghost use Rattle.acq_sql_changes.specs.Changed.{HasRoomFor, HasRoomToFollow, with_follow};
 
 use crate::tallies::{totals_of_posting, used_by};
@@ -27,11 +27,7 @@ pub fn follow<'x, S: Alter>(
     requires whole { IsMessage request.now.reply }
     requires spelled { reply.now ≡ spelling request.now.reply }
     requires hold_end { IsShortEnd request.now.hold_end }
-    ensures settled { conn.new.in_transaction ≡ false }
-    ensures done { LeadsToWhere (state S.Store conn.old) (state S.Store conn.new) result
-        (HasRoomFor request.now) (with_follow request.now original status None) }
-    ensures undone { LeavesTables (state S.Store conn.old) (state S.Store conn.new) result }
-    ensures crash { StopsWithinWhere (state S.Store conn.old) (state S.Store conn.new)
+    ensures { ChangesWhole (state S.Store conn.old) (state S.Store conn.new) result
         (HasRoomFor request.now) (with_follow request.now original status None) }
 {
     let used = used_by(request);
@@ -59,12 +55,7 @@ pub fn follow_and_post<'x, S: Alter>(
     requires spelled { reply.now ≡ spelling request.now.reply }
     requires hold_end { IsShortEnd request.now.hold_end }
     requires number { number < 2 ^ 63 }
-    ensures settled { conn.new.in_transaction ≡ false }
-    ensures done { LeadsToWhere (state S.Store conn.old) (state S.Store conn.new) result
-        (HasRoomToFollow request.now number posting.now)
-        (with_follow request.now original status (Some posting.now)) }
-    ensures undone { LeavesTables (state S.Store conn.old) (state S.Store conn.new) result }
-    ensures crash { StopsWithinWhere (state S.Store conn.old) (state S.Store conn.new)
+    ensures { ChangesWhole (state S.Store conn.old) (state S.Store conn.new) result
         (HasRoomToFollow request.now number posting.now)
         (with_follow request.now original status (Some posting.now)) }
 {

@@ -5,7 +5,7 @@ ghost use Rattle.sqlite.specs.Held.{state};
 ghost use Rattle.iso_codec.specs.Message.{IsMessage};
 ghost use Rattle.iso_codec.specs.Reading.{spelling};
 ghost use Rattle.acq_sql_changes.specs.Written.{IsShortEnd};
-ghost use Rattle.acq_sql_changes.specs.Changed.{LeadsToWhere, LeavesTables, StopsWithinWhere};
+ghost use Rattle.acq_sql_changes.specs.Changed.{ChangesWhole};
 ghost use Rattle.acq_sql_changes.specs.Changed.{HasRoomToPost, with_whole_answer};
 
 use crate::issuer_answer::IssuerAnswer;
@@ -26,13 +26,7 @@ pub fn answer_and_post<'x, S: Alter>(
     requires spelled { answer.now.text.now ≡ spelling answer.now.reply.now }
     requires hold_end { IsShortEnd answer.now.hold_end }
     requires number { number < 2 ^ 63 }
-    ensures settled { conn.new.in_transaction ≡ false }
-    ensures done { LeadsToWhere (state S.Store conn.old) (state S.Store conn.new) result
-        (HasRoomToPost number posting.now)
-        (with_whole_answer answer.now.key answer.now.status answer.now.reply.now
-        answer.now.hold_end (Some posting.now)) }
-    ensures undone { LeavesTables (state S.Store conn.old) (state S.Store conn.new) result }
-    ensures crash { StopsWithinWhere (state S.Store conn.old) (state S.Store conn.new)
+    ensures { ChangesWhole (state S.Store conn.old) (state S.Store conn.new) result
         (HasRoomToPost number posting.now)
         (with_whole_answer answer.now.key answer.now.status answer.now.reply.now
         answer.now.hold_end (Some posting.now)) }

@@ -3,7 +3,7 @@
 ghost use Rattle.std.specs.Prelude.{◌≡◌, false};
 ghost use Rattle.sqlite.specs.Held.{state};
 ghost use Rattle.acq_sql_changes.specs.Written.{with_added_range, with_dropped_range};
-ghost use Rattle.acq_sql_changes.specs.Changed.{LeadsTo, LeavesTables, StopsWithin};
+ghost use Rattle.acq_sql_changes.specs.Changed.{ChangesWhole, AnyTables};
 
 use card_no::Range;
 use sqlite::{Alter, Connection, Error};
@@ -11,11 +11,7 @@ use sqlite::{Alter, Connection, Error};
 /// Adds a range.
 pub fn add_range<S: Alter>(conn: &mut Connection<S>, range: &Range) -> Result<(), Error>
     requires settled { conn.old.in_transaction ≡ false }
-    ensures settled { conn.new.in_transaction ≡ false }
-    ensures done { LeadsTo (state S.Store conn.old) (state S.Store conn.new) result
-        (with_added_range range.now) }
-    ensures undone { LeavesTables (state S.Store conn.old) (state S.Store conn.new) result }
-    ensures crash { StopsWithin (state S.Store conn.old) (state S.Store conn.new)
+    ensures { ChangesWhole (state S.Store conn.old) (state S.Store conn.new) result AnyTables
         (with_added_range range.now) }
 {
     let mut tx = conn.transaction();
@@ -26,11 +22,7 @@ pub fn add_range<S: Alter>(conn: &mut Connection<S>, range: &Range) -> Result<()
 /// Drops the range with these ends.
 pub fn drop_range<S: Alter>(conn: &mut Connection<S>, low: u32, high: u32) -> Result<(), Error>
     requires settled { conn.old.in_transaction ≡ false }
-    ensures settled { conn.new.in_transaction ≡ false }
-    ensures done { LeadsTo (state S.Store conn.old) (state S.Store conn.new) result
-        (with_dropped_range low high) }
-    ensures undone { LeavesTables (state S.Store conn.old) (state S.Store conn.new) result }
-    ensures crash { StopsWithin (state S.Store conn.old) (state S.Store conn.new)
+    ensures { ChangesWhole (state S.Store conn.old) (state S.Store conn.new) result AnyTables
         (with_dropped_range low high) }
 {
     let mut tx = conn.transaction();

@@ -5,7 +5,7 @@ ghost use Rattle.sqlite.specs.Held.{state};
 ghost use Rattle.iso_codec.specs.Message.{IsMessage};
 ghost use Rattle.iso_codec.specs.Reading.{spelling};
 ghost use Rattle.acq_sql_changes.specs.Written.{IsShortEnd};
-ghost use Rattle.acq_sql_changes.specs.Changed.{LeadsToWhere, LeavesTables, StopsWithinWhere};
+ghost use Rattle.acq_sql_changes.specs.Changed.{ChangesWhole};
 ghost use Rattle.acq_sql_changes.specs.Changed.{HasRoomToReconcile, with_reconciled};
 
 use crate::tallies::used_by;
@@ -28,12 +28,7 @@ pub fn reconcile<'x, S: Alter>(
     requires spelled { reply.now ≡ spelling request.now.reply }
     requires hold_end { IsShortEnd request.now.hold_end }
     requires number { number < 2 ^ 63 }
-    ensures settled { conn.new.in_transaction ≡ false }
-    ensures done { LeadsToWhere (state S.Store conn.old) (state S.Store conn.new) result
-        (HasRoomToReconcile request.now number reconciliation.now)
-        (with_reconciled request.now reconciliation.now) }
-    ensures undone { LeavesTables (state S.Store conn.old) (state S.Store conn.new) result }
-    ensures crash { StopsWithinWhere (state S.Store conn.old) (state S.Store conn.new)
+    ensures { ChangesWhole (state S.Store conn.old) (state S.Store conn.new) result
         (HasRoomToReconcile request.now number reconciliation.now)
         (with_reconciled request.now reconciliation.now) }
 {

@@ -5,7 +5,7 @@ ghost use Rattle.sqlite.specs.Held.{state};
 ghost use Rattle.iso_codec.specs.Message.{IsMessage};
 ghost use Rattle.iso_codec.specs.Reading.{spelling};
 ghost use Rattle.acq_sql_changes.specs.Written.{with_request, IsShortEnd};
-ghost use Rattle.acq_sql_changes.specs.Changed.{LeadsToWhere, LeavesTables, StopsWithinWhere};
+ghost use Rattle.acq_sql_changes.specs.Changed.{ChangesWhole};
 ghost use Rattle.acq_sql_changes.specs.Changed.{HasRoomFor};
 
 use crate::tallies::used_by;
@@ -24,11 +24,7 @@ pub fn record_request<'x, S: Alter>(
     requires whole { IsMessage request.now.reply }
     requires spelled { reply.now ≡ spelling request.now.reply }
     requires hold_end { IsShortEnd request.now.hold_end }
-    ensures settled { conn.new.in_transaction ≡ false }
-    ensures done { LeadsToWhere (state S.Store conn.old) (state S.Store conn.new) result
-        (HasRoomFor request.now) (with_request request.now) }
-    ensures undone { LeavesTables (state S.Store conn.old) (state S.Store conn.new) result }
-    ensures crash { StopsWithinWhere (state S.Store conn.old) (state S.Store conn.new)
+    ensures { ChangesWhole (state S.Store conn.old) (state S.Store conn.new) result
         (HasRoomFor request.now) (with_request request.now) }
 {
     let used = used_by(request);

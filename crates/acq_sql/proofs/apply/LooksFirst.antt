@@ -1,34 +1,46 @@
--- What a stop leaves of a change, also after a look-up.
-use Rattle.std.proofs.Common.{true, refl, arith}
+-- What a change leaves, also after a look-up.
+use Rattle.std.proofs.Common.{true, refl, arith, Result}
+use Rattle.sqlite.specs.declared.error.Error.{Error}
 use Rattle.sqlite.specs.State.{State, HasCleanDisk}
 use Rattle.sqlite.proofs.StateLemmas.{survives_then, survives_weaker}
 use Rattle.acq_core.specs.Tables.{Tables}
 use Rattle.acq_sql_rows.specs.Relation.{Holds}
-use Rattle.acq_sql_changes.specs.Changed.{IsAt, StopsWithinWhere}
+use Rattle.acq_sql_changes.specs.Changed.{IsAt, ChangesWhole}
 use Rattle.acq_sql_reads.specs.Looked.{LooksOnly}
 use Rattle.acq_sql_reads.proofs.Leaves.{at_unchanged}
 
--- of fewer tables
-pub stops_for : (old new : State) (early late : Tables → Type 0) (changed : Tables → Tables)
-    → ((t : Tables) → early t → late t) → StopsWithinWhere old new late changed →
-    StopsWithinWhere old new early changed
-stops_for old new early late changed fits =
-    survives_weaker old new _ _ (λ _ db left t at is. left t at (fits t is))
+module _ {T : Type 0} {result : Result T Error} {early late : Tables → Type 0}
+    {changed : Tables → Tables} where
+  -- of fewer tables
+  pub whole_for : {old new : State} → ((t : Tables) → early t → late t)
+      → ChangesWhole old new result late changed → ChangesWhole old new result early changed
+  whole_for fits whole =
+      record {
+        settled = whole.settled;
+        done = λ clean t at fit. whole.done clean t at (fits t fit);
+        undone = whole.undone;
+        stop = survives_weaker _ _ _ _ (λ _ db left t at fit. left t at (fits t fit)) whole.stop;
+      }
 
-module _ (old mid new : State) (looks : LooksOnly old mid true) (early late : Tables → Type 0)
-    (changed : Tables → Tables) (stops : StopsWithinWhere mid new late changed)
-    (leads : HasCleanDisk mid → (t : Tables) → Holds old.now t → early t → late t) where
-  clean_first : HasCleanDisk new → HasCleanDisk mid
-  clean_first clean = omega (arith, stops.clean, clean)
+  -- after a look-up
+  pub whole_from : {old mid new : State} → LooksOnly old mid true
+      → (HasCleanDisk mid → (t : Tables) → Holds old.now t → early t → late t)
+      → ChangesWhole mid new result late changed → ChangesWhole old new result early changed
+  whole_from {old = old} {mid = mid} {new = new} looks leads whole =
+      record {
+        settled = whole.settled;
+        done = λ clean t at fit. whole.done clean t (at_first clean t at)
+            (leads (clean_first clean) t at.holds fit);
+        undone = λ clean opened t at. whole.undone clean opened t (at_first clean t at);
+        stop = survives_then old mid new _ _ _ (λ _ db none. absurd none)
+            (λ clean db left t at fit. left t (at_first clean t at)
+            (leads (clean_first clean) t at.holds fit))
+            looks.stop whole.stop;
+      }
+    where
+      clean_first : HasCleanDisk new → HasCleanDisk mid
+      clean_first clean = omega (arith, whole.stop.clean, clean)
 
-  -- the look-up left the tables as they were
-  at_first : HasCleanDisk mid → (t : Tables) → IsAt old t → IsAt mid t
-  at_first clean t at = at_unchanged old mid t (looks.same clean refl) at
-
-  pub stops_from : StopsWithinWhere old new early changed
-  stops_from =
-      survives_then old mid new _ _ _ (λ _ db none. absurd none)
-      (λ clean db left t at fits.
-      let first = clean_first clean in
-      left t (at_first first t at) (leads first t at.holds fits))
-      looks.stop stops
+      -- the look-up left the tables as they were
+      at_first : HasCleanDisk new → (t : Tables) → IsAt old t → IsAt mid t
+      at_first clean t at = at_unchanged old mid t (looks.same (clean_first clean) refl) at

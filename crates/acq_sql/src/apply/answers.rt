@@ -6,8 +6,7 @@ ghost use Rattle.iso_codec.specs.Message.{IsMessage};
 ghost use Rattle.iso_codec.specs.Reading.{spelling};
 ghost use Rattle.acq_core.specs.declared.change.Change.TheVariants as change;
 ghost use Rattle.acq_sql_changes.specs.Written.{IsShortEnd};
-ghost use Rattle.acq_sql_changes.specs.Changed.{LeavesTables};
-ghost use Rattle.acq_sql.specs.Applied.{Applies, StopsWhole};
+ghost use Rattle.acq_sql.specs.Applied.{Applies};
 
 use crate::apply::numbers::number_of_posting;
 use crate::apply::request_columns::{check_hold_end, spelled};
@@ -28,11 +27,7 @@ pub fn answer<'x, S: Alter>(
     posting: &'x Option<Posting>,
 ) -> Result<(), Error>
     requires settled { conn.old.in_transaction ≡ false }
-    ensures settled { conn.new.in_transaction ≡ false }
-    ensures done { Applies (state S.Store conn.old) (state S.Store conn.new) result
-        (change.Answered key status reply.now hold_end posting.now) }
-    ensures undone { LeavesTables (state S.Store conn.old) (state S.Store conn.new) result }
-    ensures crash { StopsWhole (state S.Store conn.old) (state S.Store conn.new)
+    ensures { Applies (state S.Store conn.old) (state S.Store conn.new) result
         (change.Answered key status reply.now hold_end posting.now) }
 {
     check_hold_end(hold_end)?;

@@ -2,8 +2,7 @@
 
 ghost use Rattle.std.specs.Prelude.{◌≡◌, false};
 ghost use Rattle.sqlite.specs.Held.{state};
-ghost use Rattle.acq_sql_changes.specs.Changed.{LeavesTables};
-ghost use Rattle.acq_sql.specs.Applied.{Applies, StopsWhole};
+ghost use Rattle.acq_sql.specs.Applied.{Applies};
 
 use crate::apply::answers::answer;
 use crate::apply::follows::follow;
@@ -21,10 +20,7 @@ pub fn apply<S: Alter>(
     change: &Change,
 ) -> Result<(), Error>
     requires settled { conn.old.in_transaction ≡ false }
-    ensures settled { conn.new.in_transaction ≡ false }
-    ensures done { Applies (state S.Store conn.old) (state S.Store conn.new) result change.now }
-    ensures undone { LeavesTables (state S.Store conn.old) (state S.Store conn.new) result }
-    ensures crash { StopsWhole (state S.Store conn.old) (state S.Store conn.new) change.now }
+    ensures { Applies (state S.Store conn.old) (state S.Store conn.new) result change.now }
 {
     match change {
         Change::AddMerchant(merchant) => enrol(conn, merchant),

@@ -3,8 +3,7 @@
 ghost use Rattle.std.specs.Prelude.{◌≡◌, false};
 ghost use Rattle.sqlite.specs.Held.{state};
 ghost use Rattle.acq_core.specs.declared.change.Change.TheVariants as change;
-ghost use Rattle.acq_sql_changes.specs.Changed.{LeavesTables};
-ghost use Rattle.acq_sql.specs.Applied.{Applies, StopsWhole};
+ghost use Rattle.acq_sql.specs.Applied.{Applies};
 
 use crate::apply::numbers::number_of_posting;
 use crate::apply::request_columns::{check_hold_end, spelled};
@@ -23,11 +22,7 @@ pub fn follow<'x, S: Alter>(
     posting: &'x Option<Posting>,
 ) -> Result<(), Error>
     requires settled { conn.old.in_transaction ≡ false }
-    ensures settled { conn.new.in_transaction ≡ false }
-    ensures done { Applies (state S.Store conn.old) (state S.Store conn.new) result
-        (change.Follow request.now original status posting.now) }
-    ensures undone { LeavesTables (state S.Store conn.old) (state S.Store conn.new) result }
-    ensures crash { StopsWhole (state S.Store conn.old) (state S.Store conn.new)
+    ensures { Applies (state S.Store conn.old) (state S.Store conn.new) result
         (change.Follow request.now original status posting.now) }
 {
     check_hold_end(request.hold_end)?;

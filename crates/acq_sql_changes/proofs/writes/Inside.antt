@@ -1,5 +1,6 @@
 -- What each write does inside a transaction.
 use Rattle.std.proofs.Common.{◌≡◌, ℕ, List, [], ◌∷◌, ◌++◌, Option, None, Ok, Err, Result, OnOk}
+use Rattle.std.proofs.Common.{IsTrue, true, inl, inr, ⊎_elim}
 use Rattle.sqlite_value.specs.declared.value.Value.TheVariants.{Text}
 use Rattle.sqlite_value.specs.Order.{Row}
 use Rattle.sqlite_schema.specs.declared.command.Command.{Command}
@@ -8,10 +9,12 @@ use Rattle.sqlite_schema.specs.declared.command.Command.TheVariants.{Delete}
 use Rattle.sqlite_schema.specs.declared.command.Conflict.TheVariants.{Abort}
 use Rattle.sqlite_schema.specs.declared.command.Source.TheVariants.{Values}
 use Rattle.sqlite.specs.declared.error.Error.{Error}
-use Rattle.sqlite.specs.State.{State, Runs, mode_of, ExecutesInside}
-use Rattle.sqlite.proofs.Callers.{runs_as}
+use Rattle.sqlite.specs.Effect.{Database}
+use Rattle.sqlite.specs.State.{State, HasCleanDisk, KeepsCommit, IsUnchanged, IsRolledBack}
+use Rattle.sqlite.specs.State.{Shows, Runs, mode_of, ExecutesInside}
+use Rattle.sqlite.specs.Listing.{understood}
+use Rattle.sqlite.proofs.Callers.{runs_as, statement_of}
 use Rattle.row_lemmas.specs.Values.{number, number_or_null}
-use Rattle.row_lemmas.specs.Created.{IsBlank}
 use Rattle.row_lemmas.specs.Queries.{alone}
 use Rattle.iso_codec.specs.Message.{IsoMessage, IsMessage}
 use Rattle.iso_codec.specs.Reading.{spelling}
@@ -23,9 +26,9 @@ use Rattle.acq_core.specs.declared.request.Request.{Request}
 use Rattle.acq_core.specs.declared.status.Status.{Status}
 use Rattle.acq_core.specs.declared.posting.Posting.{Posting}
 use Rattle.acq_core.specs.declared.reconciliation.Reconciliation.{Reconciliation}
-use Rattle.acq_core.specs.Tables.{Tables, Opening, new_tables}
+use Rattle.acq_core.specs.Tables.{Opening}
 use Rattle.acq_sql_rows.specs.Schema.{book_schema}
-use Rattle.acq_sql_rows.specs.Tallies.{Tally, Running, FitsTally, plus, tally_in, raised}
+use Rattle.acq_sql_rows.specs.Tallies.{Tally}
 use Rattle.acq_sql_rows.specs.Rows.{book_row, merchant_row, terminal_row, key_row, request_row}
 use Rattle.acq_sql_rows.specs.Rows.{posting_row}
 use Rattle.acq_core.specs.Statuses.{status_number}
@@ -34,150 +37,200 @@ use Rattle.acq_sql_rows.specs.Texts as text
 use Rattle.acq_sql_rows.specs.Queries.{new_row, new_range, set_day_query, drop_range_query}
 use Rattle.acq_sql_rows.specs.Queries.{answer_query, follow_query}
 use Rattle.acq_sql_rows.specs.Queries.{raises}
-use Rattle.acq_sql_rows.specs.Relation.{HoldsRows}
 use Rattle.acq_sql_rows.proofs.TextLemmas as text_means
 use Rattle.acq_sql_rows.proofs.TextLemmas.{Means}
 use Rattle.acq_sql_changes.specs.Written as written
+use Rattle.acq_sql_changes.specs.Written.{WritesInside, CommitsNothing, Changes, Raises, BeginsBook}
 use Rattle.acq_sql_changes.proofs.writes.ListWrites as list
 use Rattle.acq_sql_changes.proofs.writes.RangeWrites as range
 use Rattle.acq_sql_changes.proofs.writes.RaiseWrites.{it, running_raised}
 
-pub ran_inside : (sql : List ℕ) (params : Row) (old new : State) (res : Result ℕ Error) (P : Type 0)
-    (command : Command)
-    → old.now.schema ≡ book_schema → Means sql command
-    → ((text : List ℕ) (count : ℕ) → Runs old new None command text params count → P)
-    → ExecutesInside 0 sql params old new res → OnOk res P
-ran_inside sql params old new (Ok count) P command has means does h =
-    does _ count (runs_as sql params old new book_schema has command means.0 means.1 count h.0)
-ran_inside sql params old new (Err e) P command has means does h = tt
+-- ---- any write
 
-pub book_inside : (old new : State) (res : Result ℕ Error) (opening : Opening) →
-    IsBlank book_schema old.now
-    → ExecutesInside 0 text.add_book_text (book_row opening.limit opening.first_day) old new res
-    → OnOk res (HoldsRows new.now (new_tables opening) [])
-book_inside old new res opening blank =
-    ran_inside text.add_book_text (book_row opening.limit opening.first_day) old new res
-    (HoldsRows new.now (new_tables opening) []) (Insert 0 (Values (new_row 3) 4)) blank.schema_is
-    text_means.add_book_means
-    (λ text count w. list.book_added old.step_limit (mode_of old) old.now new.now text w.tally
-    opening blank w.sound w.changed)
+unchanged_keeps : (old new : State) → IsUnchanged old new → KeepsCommit old new
+unchanged_keeps old new h =
+    record { was_open = λ _. h.0.was_open; committed = λ _. h.0.committed_is }
 
-module _ (old new : State) (res : Result ℕ Error) (t : Tables) (runs : List Running)
-    (has : HoldsRows old.now t runs) where
+undone_keeps : (old new : State) → IsRolledBack old new → KeepsCommit old new
+undone_keeps old new h =
+    record { was_open = h.was_open; committed = λ opened. (h.undone opened).1 }
+
+keeps : (sql : List ℕ) (params : Row) (old new : State) (res : Result ℕ Error) →
+    ExecutesInside 0 sql params old new res → KeepsCommit old new
+keeps sql params old new (Ok count) h =
+    record { was_open = λ _. h.1.was_open; committed = λ _. h.1.committed_is }
+keeps sql params old new (Err e) (inl h) =
+    ⊎_elim (unchanged_keeps old new) (undone_keeps old new) h.1
+keeps sql params old new (Err e) (inr h) = unchanged_keeps old new h.2
+
+abbrev pub answer_params : RequestKey → Status → IsoMessage → Option ℕ → Row
+answer_params key status reply hold_end =
+    key_row key
+    ++ number (status_number status) ∷ number_or_null hold_end ∷ Text (spelling reply) ∷ []
+
+-- the command ran
+record Ran (old new : State) (command : Command) (params : Row) : Type 0 where
+  text : List ℕ
+  count : ℕ
+  ran : Runs old new None command text params count
+
+module _ (old new : State) (res : Result ℕ Error) (stop : CommitsNothing old new) where
+  -- the statement was executed in the transaction
+  abbrev Executed : List ℕ → Row → Type 0
+  Executed sql params =
+      HasCleanDisk new → IsTrue old.in_transaction → ExecutesInside 0 sql params old new res
+
+  -- a write leads where its command does
+  writes : (sql : List ℕ) (params : Row) (LeadsTo : Database → Database → Type 0)
+      (command : Command) → Means sql command
+      → ((old.now.schema ≡ book_schema → Ran old new command params) → LeadsTo old.now new.now)
+      → Executed sql params → WritesInside old new res LeadsTo
+  writes sql params LeadsTo command means leads executed =
+      record {
+        leads = λ clean inside. led res (executed clean inside);
+        inside = λ clean inside. shown res (executed clean inside);
+        kept = λ clean inside. keeps sql params old new res (executed clean inside);
+        stop = stop;
+      }
+    where
+      led : (r : Result ℕ Error) → ExecutesInside 0 sql params old new r →
+          OnOk r (LeadsTo old.now new.now)
+      led (Ok count) h =
+          leads (λ has. record {
+            text = statement_of sql (understood book_schema sql);
+            count = count;
+            ran = runs_as sql params old new book_schema has command means.0 means.1 count h.0;
+          })
+      led (Err e) h = tt
+
+      shown : (r : Result ℕ Error) → ExecutesInside 0 sql params old new r →
+          OnOk r (Shows old new new.now old.committed true)
+      shown (Ok count) h = h.1
+      shown (Err e) h = tt
+
+  -- ---- each
+
+  pub book_inside : (opening : Opening)
+      → Executed text.add_book_text (book_row opening.limit opening.first_day)
+      → WritesInside old new res (BeginsBook opening)
+  book_inside opening =
+      writes text.add_book_text (book_row opening.limit opening.first_day) (BeginsBook opening)
+      (Insert 0 (Values (new_row 3) 4)) text_means.add_book_means
+      (λ ran blank. let w = ran blank.schema_is in
+      list.book_added old.step_limit (mode_of old) old.now new.now w.text w.ran.tally opening blank
+      w.ran.sound w.ran.changed)
+
   pub merchant_inside : (m : Merchant)
-      → ExecutesInside 0 text.add_merchant_text (merchant_row m) old new res →
-      OnOk res (HoldsRows new.now (written.with_merchant m t) runs)
+      → Executed text.add_merchant_text (merchant_row m)
+      → WritesInside old new res (Changes (written.with_merchant m))
   merchant_inside m =
-      ran_inside text.add_merchant_text (merchant_row m) old new res
-      (HoldsRows new.now (written.with_merchant m t) runs)
-      (Insert 1 (Values (new_row 3) 4)) has.schema text_means.add_merchant_means
-      (λ text count w. list.merchant_added old.step_limit (mode_of old) old.now new.now text w.tally
-      t runs has w.sound m w.changed)
+      writes text.add_merchant_text (merchant_row m) (Changes (written.with_merchant m))
+      (Insert 1 (Values (new_row 3) 4)) text_means.add_merchant_means
+      (λ ran t runs has. let w = ran has.schema in
+      list.merchant_added old.step_limit (mode_of old) old.now new.now
+      w.text w.ran.tally t runs has w.ran.sound m w.ran.changed)
 
   pub terminal_inside : (x : Terminal)
-      → ExecutesInside 0 text.add_terminal_text (terminal_row x) old new res →
-      OnOk res (HoldsRows new.now (written.with_terminal x t) runs)
+      → Executed text.add_terminal_text (terminal_row x)
+      → WritesInside old new res (Changes (written.with_terminal x))
   terminal_inside x =
-      ran_inside text.add_terminal_text (terminal_row x) old new res
-      (HoldsRows new.now (written.with_terminal x t) runs)
-      (Insert 2 (Values (new_row 2) 3)) has.schema text_means.add_terminal_means
-      (λ text count w. list.terminal_added old.step_limit (mode_of old) old.now new.now text w.tally
-      t runs has w.sound x w.changed)
+      writes text.add_terminal_text (terminal_row x) (Changes (written.with_terminal x))
+      (Insert 2 (Values (new_row 2) 3)) text_means.add_terminal_means
+      (λ ran t runs has. let w = ran has.schema in
+      list.terminal_added old.step_limit (mode_of old) old.now new.now
+      w.text w.ran.tally t runs has w.ran.sound x w.ran.changed)
 
   pub range_added_inside : (r : Range)
-      → ExecutesInside 0 text.add_range_text (range.range_params r) old new res →
-      OnOk res (HoldsRows new.now (written.with_added_range r t) runs)
+      → Executed text.add_range_text (range.range_params r)
+      → WritesInside old new res (Changes (written.with_added_range r))
   range_added_inside r =
-      ran_inside text.add_range_text (range.range_params r) old new res
-      (HoldsRows new.now (written.with_added_range r t) runs)
-      (Insert 3 (Values new_range 5)) has.schema text_means.add_range_means
-      (λ text count w. range.range_added old.step_limit (mode_of old) old.now new.now text w.tally t
-      runs has w.sound r w.changed)
+      writes text.add_range_text (range.range_params r) (Changes (written.with_added_range r))
+      (Insert 3 (Values new_range 5)) text_means.add_range_means
+      (λ ran t runs has. let w = ran has.schema in
+      range.range_added old.step_limit (mode_of old) old.now new.now
+      w.text w.ran.tally t runs has w.ran.sound r w.ran.changed)
 
   pub range_dropped_inside : (low high : ℕ)
-      → ExecutesInside 0 text.drop_range_text (number low ∷ number high ∷ []) old new res →
-      OnOk res (HoldsRows new.now (written.with_dropped_range low high t) runs)
+      → Executed text.drop_range_text (number low ∷ number high ∷ [])
+      → WritesInside old new res (Changes (written.with_dropped_range low high))
   range_dropped_inside low high =
-      ran_inside text.drop_range_text (number low ∷ number high ∷ []) old new res
-      (HoldsRows new.now (written.with_dropped_range low high t) runs)
-      (Delete 3 (alone drop_range_query)) has.schema text_means.drop_range_means
-      (λ text count w. range.range_dropped old.step_limit (mode_of old) old.now new.now text w.tally
-      t runs has w.sound low high w.changed)
+      writes text.drop_range_text (number low ∷ number high ∷ [])
+      (Changes (written.with_dropped_range low high))
+      (Delete 3 (alone drop_range_query)) text_means.drop_range_means
+      (λ ran t runs has. let w = ran has.schema in
+      range.range_dropped old.step_limit (mode_of old) old.now new.now
+      w.text w.ran.tally t runs has w.ran.sound low high w.ran.changed)
 
   pub day_inside : (day : ℕ)
-      → ExecutesInside 0 text.set_day_text (number day ∷ []) old new res →
-      OnOk res (HoldsRows new.now (written.on_day day t) runs)
+      → Executed text.set_day_text (number day ∷ [])
+      → WritesInside old new res (Changes (written.on_day day))
   day_inside day =
-      ran_inside text.set_day_text (number day ∷ []) old new res
-      (HoldsRows new.now (written.on_day day t) runs)
-      (Update 0 (alone set_day_query)) has.schema text_means.set_day_means
-      (λ text count w. list.day_set old.step_limit (mode_of old) old.now new.now text w.tally t runs
-      has w.sound day w.changed)
+      writes text.set_day_text (number day ∷ []) (Changes (written.on_day day))
+      (Update 0 (alone set_day_query)) text_means.set_day_means
+      (λ ran t runs has. let w = ran has.schema in
+      list.day_set old.step_limit (mode_of old) old.now new.now
+      w.text w.ran.tally t runs has w.ran.sound day w.ran.changed)
 
   pub request_inside : (r : Request) → IsMessage r.reply
-      → ExecutesInside 0 text.add_request_text (request_row r) old new res →
-      OnOk res (HoldsRows new.now (written.with_request r t) runs)
+      → Executed text.add_request_text (request_row r)
+      → WritesInside old new res (Changes (written.with_request r))
   request_inside r whole =
-      ran_inside text.add_request_text (request_row r) old new res
-      (HoldsRows new.now (written.with_request r t) runs)
-      (Insert 4 (Values (new_row 18) 19)) has.schema text_means.add_request_means
-      (λ text count w. list.request_added old.step_limit (mode_of old) old.now new.now text w.tally
-      t runs has w.sound r whole w.changed)
+      writes text.add_request_text (request_row r) (Changes (written.with_request r))
+      (Insert 4 (Values (new_row 18) 19)) text_means.add_request_means
+      (λ ran t runs has. let w = ran has.schema in
+      list.request_added old.step_limit (mode_of old) old.now new.now
+      w.text w.ran.tally t runs has w.ran.sound r whole w.ran.changed)
 
   pub answer_inside : (key : RequestKey) (status : Status) (reply : IsoMessage)
       (hold_end : Option ℕ) → IsMessage reply
-      → ExecutesInside 0 text.answer_text
-      (key_row key ++ number (status_number status) ∷ number_or_null hold_end
-      ∷ Text (spelling reply) ∷ []) old new res →
-      OnOk res (HoldsRows new.now (written.with_answer key status reply hold_end t) runs)
+      → Executed text.answer_text (answer_params key status reply hold_end)
+      → WritesInside old new res (Changes (written.with_answer key status reply hold_end))
   answer_inside key status reply hold_end whole =
-      ran_inside text.answer_text
-      (key_row key ++ number (status_number status) ∷ number_or_null hold_end
-      ∷ Text (spelling reply) ∷ []) old new res
-      (HoldsRows new.now (written.with_answer key status reply hold_end t) runs)
-      (Update 4 (alone answer_query)) has.schema text_means.answer_means
-      (λ text count w. list.request_answered old.step_limit (mode_of old) old.now new.now text
-      w.tally t runs has w.sound key status reply hold_end whole w.changed)
+      writes text.answer_text (answer_params key status reply hold_end)
+      (Changes (written.with_answer key status reply hold_end))
+      (Update 4 (alone answer_query)) text_means.answer_means
+      (λ ran t runs has. let w = ran has.schema in
+      list.request_answered old.step_limit (mode_of old) old.now new.now
+      w.text w.ran.tally t runs has w.ran.sound key status reply hold_end whole w.ran.changed)
 
   pub follow_inside : (key : RequestKey) (status : Status)
-      → ExecutesInside 0 text.follow_text (key_row key ++ number (status_number status) ∷ []) old
-      new res → OnOk res (HoldsRows new.now (written.with_status key status t) runs)
+      → Executed text.follow_text (key_row key ++ number (status_number status) ∷ [])
+      → WritesInside old new res (Changes (written.with_status key status))
   follow_inside key status =
-      ran_inside text.follow_text (key_row key ++ number (status_number status) ∷ []) old new res
-      (HoldsRows new.now (written.with_status key status t) runs)
-      (Update 4 (alone follow_query)) has.schema text_means.follow_means
-      (λ text count w. list.request_followed old.step_limit (mode_of old) old.now new.now text
-      w.tally t runs has w.sound key status w.changed)
+      writes text.follow_text (key_row key ++ number (status_number status) ∷ [])
+      (Changes (written.with_status key status))
+      (Update 4 (alone follow_query)) text_means.follow_means
+      (λ ran t runs has. let w = ran has.schema in
+      list.request_followed old.step_limit (mode_of old) old.now new.now
+      w.text w.ran.tally t runs has w.ran.sound key status w.ran.changed)
 
   pub posting_inside : (n : ℕ) (p : Posting)
-      → ExecutesInside 0 text.add_posting_text (posting_row (n, p)) old new res →
-      OnOk res (HoldsRows new.now (written.with_posting n p t) runs)
+      → Executed text.add_posting_text (posting_row (n, p))
+      → WritesInside old new res (Changes (written.with_posting n p))
   posting_inside n p =
-      ran_inside text.add_posting_text (posting_row (n, p)) old new res
-      (HoldsRows new.now (written.with_posting n p t) runs)
-      (Insert 5 (Values (new_row 9) 10)) has.schema text_means.add_posting_means
-      (λ text count w. list.posting_added old.step_limit (mode_of old) old.now new.now text w.tally
-      t runs has w.sound n p w.changed)
+      writes text.add_posting_text (posting_row (n, p)) (Changes (written.with_posting n p))
+      (Insert 5 (Values (new_row 9) 10)) text_means.add_posting_means
+      (λ ran t runs has. let w = ran has.schema in
+      list.posting_added old.step_limit (mode_of old) old.now new.now
+      w.text w.ran.tally t runs has w.ran.sound n p w.ran.changed)
 
   pub reconciliation_inside : (n : ℕ) (r : Reconciliation)
-      → ExecutesInside 0 text.add_reconciliation_text (reconciliation_row (n, r)) old new res →
-      OnOk res (HoldsRows new.now (written.with_reconciliation n r t) runs)
+      → Executed text.add_reconciliation_text (reconciliation_row (n, r))
+      → WritesInside old new res (Changes (written.with_reconciliation n r))
   reconciliation_inside n r =
-      ran_inside text.add_reconciliation_text (reconciliation_row (n, r)) old new res
-      (HoldsRows new.now (written.with_reconciliation n r t) runs)
-      (Insert 6 (Values (new_row 4) 5)) has.schema text_means.add_reconciliation_means
-      (λ text count w. list.reconciliation_added old.step_limit (mode_of old) old.now new.now text
-      w.tally t runs has w.sound n r w.changed)
+      writes text.add_reconciliation_text (reconciliation_row (n, r))
+      (Changes (written.with_reconciliation n r))
+      (Insert 6 (Values (new_row 4) 5)) text_means.add_reconciliation_means
+      (λ ran t runs has. let w = ran has.schema in
+      list.reconciliation_added old.step_limit (mode_of old) old.now new.now
+      w.text w.ran.tally t runs has w.ran.sound n r w.ran.changed)
 
-  pub raised_inside : (merchant : List ℕ) (day : ℕ) (more : Tally) →
-      FitsTally (plus (tally_in runs merchant day) more)
-      → ExecutesInside 0 text.raise_text (running_row (it merchant day more)) old new res
-      → OnOk res (HoldsRows new.now t (raised merchant day more runs))
-  raised_inside merchant day more room =
-      ran_inside text.raise_text (running_row (it merchant day more)) old new res
-      (HoldsRows new.now t (raised merchant day more runs))
-      (InsertOr 7 Abort (Values (new_row 11) 12) (raises ∷ []))
-      has.schema text_means.raise_means
-      (λ text count w. running_raised merchant day more old.step_limit
-      (mode_of old) old.now new.now text w.tally t runs
-      has room w.sound w.changed)
+  pub raised_inside : (merchant : List ℕ) (day : ℕ) (more : Tally)
+      → Executed text.raise_text (running_row (it merchant day more))
+      → WritesInside old new res (Raises merchant day more)
+  raised_inside merchant day more =
+      writes text.raise_text (running_row (it merchant day more)) (Raises merchant day more)
+      (InsertOr 7 Abort (Values (new_row 11) 12) (raises ∷ [])) text_means.raise_means
+      (λ ran t runs has room. let w = ran has.schema in
+      running_raised merchant day more old.step_limit (mode_of old) old.now new.now
+      w.text w.ran.tally t runs has room w.ran.sound w.ran.changed)

@@ -31,6 +31,8 @@ use Rattle.acq_core.specs.declared.posting.Posting.{Posting}
 use Rattle.acq_core.specs.declared.reconciliation.Reconciliation.{Reconciliation}
 use Rattle.acq_core.specs.Tables.{Tables, Opening, new_tables, answered_row, followed_row}
 use Rattle.acq_sql_rows.specs.Schema.{book_schema}
+use Rattle.acq_sql_rows.specs.Schema.{book_tree, merchants_tree, terminals_tree, requests_tree}
+use Rattle.acq_sql_rows.specs.Schema.{postings_tree, reconciliations_tree}
 use Rattle.acq_sql_rows.specs.Schema as schema
 use Rattle.acq_sql_rows.specs.Tallies.{Running}
 use Rattle.acq_sql_rows.specs.Rows.{book_row, merchant_row, terminal_row, key_row, request_row}
@@ -160,7 +162,7 @@ unfolding book_schema schema.up_to_reconciliations schema.up_to_postings schema.
 book_added limit mode old new text noted opening blank sound does =
     let row = book_row opening.limit opening.first_day in
     let w = inserted book_schema 0 at.the_book at.book_placed
-    (at.lone 0) limit mode old new blank.schema_is text
+    (at.lone book_tree) limit mode old new blank.schema_is text
     row noted (new_row 3) 4 does in
     let added = numbered_added (λ (o : Opening). book_row o.limit o.first_day) book_schema mode.keys
     old.trees new.trees
@@ -180,13 +182,14 @@ module _ (limit : Option ℕ) (mode : Mode) (old new : Database) (text : List �
       → HoldsRows new (with_merchant m t) runs
   merchant_added m does =
       let w = inserted book_schema 1 at.the_merchants at.merchants_placed
-      (at.lone 1) limit mode old new has.schema text
+      (at.lone merchants_tree) limit mode old new has.schema text
       (merchant_row m) noted (new_row 3) 4 does in
       let added = numbered_added merchant_row book_schema mode.keys old.trees new.trees
       at.the_merchants
       (Null ∷ merchant_row m) t.merchants m has.merchants (laid_merchant m) w.1 in
-      at.merchants_turned old new t runs has w.0 sound
-      (at.others_of mode.keys old.trees new.trees _ w.1) _ added
+      at.turned old new t runs has w.0 sound merchants_tree _
+      (at.others_of mode.keys old.trees new.trees _ w.1) added (with_merchant m t) runs refl
+      has.rising has.recorded has.apart
 
   pub terminal_added : (x : Terminal)
       → Does limit mode (terminal_row x) old text None (Insert 2 (Values (new_row 2) 3))
@@ -194,13 +197,14 @@ module _ (limit : Option ℕ) (mode : Mode) (old new : Database) (text : List �
       → HoldsRows new (with_terminal x t) runs
   terminal_added x does =
       let w = inserted book_schema 2 at.the_terminals at.terminals_placed
-      (at.lone 3) limit mode old new has.schema text
+      (at.lone terminals_tree) limit mode old new has.schema text
       (terminal_row x) noted (new_row 2) 3 does in
       let added = numbered_added terminal_row book_schema mode.keys old.trees new.trees
       at.the_terminals
       (Null ∷ terminal_row x) t.terminals x has.terminals (laid_terminal x) w.1 in
-      at.terminals_turned old new t runs has w.0 sound
-      (at.others_of mode.keys old.trees new.trees _ w.1) _ added
+      at.turned old new t runs has w.0 sound terminals_tree _
+      (at.others_of mode.keys old.trees new.trees _ w.1) added (with_terminal x t) runs refl
+      has.rising has.recorded has.apart
 
   pub request_added : (r : Request) → IsMessage r.reply
       → Does limit mode (request_row r) old text None (Insert 4 (Values (new_row 18) 19))
@@ -208,14 +212,14 @@ module _ (limit : Option ℕ) (mode : Mode) (old new : Database) (text : List �
       → HoldsRows new (with_request r t) runs
   request_added r whole does =
       let w = inserted book_schema 4 at.the_requests at.requests_placed
-      (at.lone 6) limit mode old new has.schema text
+      (at.lone requests_tree) limit mode old new has.schema text
       (request_row r) noted (new_row 18) 19 does in
       let added = numbered_added request_row book_schema mode.keys old.trees new.trees
       at.the_requests
       (Null ∷ request_row r) t.requests r has.requests (laid_request r) w.1 in
-      at.requests_turned old new t runs has w.0 sound
-      (at.others_of mode.keys old.trees new.trees _ w.1) _ added
-      (recorded_more t.requests r has.recorded whole)
+      at.turned old new t runs has w.0 sound requests_tree _
+      (at.others_of mode.keys old.trees new.trees _ w.1) added (with_request r t) runs refl
+      has.rising (recorded_more t.requests r has.recorded whole) has.apart
 
   pub posting_added : (n : ℕ) (p : Posting)
       → Does limit mode (posting_row (n, p)) old text None (Insert 5 (Values (new_row 9) 10))
@@ -223,13 +227,14 @@ module _ (limit : Option ℕ) (mode : Mode) (old new : Database) (text : List �
       → HoldsRows new (with_posting n p t) runs
   posting_added n p does =
       let w = inserted book_schema 5 at.the_postings at.postings_placed
-      (at.lone 9) limit mode old new has.schema text
+      (at.lone postings_tree) limit mode old new has.schema text
       (posting_row (n, p)) noted (new_row 9) 10 does in
       let added = numbered_added posting_row book_schema mode.keys old.trees new.trees
       at.the_postings
       (Null ∷ posting_row (n, p)) t.postings (n, p) has.postings (laid_posting (n, p)) w.1 in
-      at.postings_turned old new t runs has w.0 sound
-      (at.others_of mode.keys old.trees new.trees _ w.1) _ added
+      at.turned old new t runs has w.0 sound postings_tree _
+      (at.others_of mode.keys old.trees new.trees _ w.1) added (with_posting n p t) runs refl
+      has.rising has.recorded has.apart
 
   pub reconciliation_added : (n : ℕ) (r : Reconciliation)
       → Does limit mode (reconciliation_row (n, r)) old text None (Insert 6 (Values (new_row 4) 5))
@@ -237,14 +242,15 @@ module _ (limit : Option ℕ) (mode : Mode) (old new : Database) (text : List �
       → HoldsRows new (with_reconciliation n r t) runs
   reconciliation_added n r does =
       let w = inserted book_schema 6 at.the_reconciliations at.reconciliations_placed
-      (at.lone 11) limit mode old new
+      (at.lone reconciliations_tree) limit mode old new
       has.schema text (reconciliation_row (n, r)) noted (new_row 4) 5 does in
       let added = numbered_added reconciliation_row book_schema mode.keys old.trees new.trees
       at.the_reconciliations
       (Null ∷ reconciliation_row (n, r)) t.reconciliations (n, r) has.reconciliations
       (laid_reconciliation (n, r)) w.1 in
-      at.reconciliations_turned old new t runs has w.0 sound
-      (at.others_of mode.keys old.trees new.trees _ w.1) _ added
+      at.turned old new t runs has w.0 sound reconciliations_tree _
+      (at.others_of mode.keys old.trees new.trees _ w.1) added (with_reconciliation n r t) runs refl
+      has.rising has.recorded has.apart
 
   -- ---- UPDATE of the book's row
 
@@ -255,15 +261,16 @@ module _ (limit : Option ℕ) (mode : Mode) (old new : Database) (text : List �
   day_set day does =
       let params = number day ∷ [] in
       let w = updated_by book_schema 0 at.the_book at.book_placed
-      (at.lone 0) limit mode old new has.schema text
+      (at.lone book_tree) limit mode old new has.schema text
       params noted set_day_query does in
       let set = numbered_updated (book_row t.limit) book_schema mode.keys old.trees new.trees
       at.the_book (t.day ∷ [])
       has.book [] (drop 1 set_day_query.project) params w.1.0 (w.1.1.answer Null)
       (λ d. true) (λ d. day) (λ id d here among. refl)
       (λ id d here among is. laid_book t.limit id day) w.1.2 in
-      at.book_turned old new t runs has w.0 sound
-      (at.others_of mode.keys old.trees new.trees _ w.1.2) day set
+      at.turned old new t runs has w.0 sound book_tree _
+      (at.others_of mode.keys old.trees new.trees _ w.1.2) set (on_day day t) runs refl
+      has.rising has.recorded has.apart
 
   -- ---- UPDATE of the request with a key
 
@@ -293,7 +300,7 @@ module _ (limit : Option ℕ) (mode : Mode) (old new : Database) (text : List �
         ∷ [] in
         let params = key_row key ++ more in
         let w = updated_by book_schema 4 at.the_requests at.requests_placed
-        (at.lone 6) limit mode old new has.schema text
+        (at.lone requests_tree) limit mode old new has.schema text
         params noted answer_query does in
         let u = answered_row status reply hold_end in
         let changed = numbered_updated request_row book_schema mode.keys old.trees new.trees
@@ -301,9 +308,11 @@ module _ (limit : Option ℕ) (mode : Mode) (old new : Database) (text : List �
         has.requests key_is (drop 1 answer_query.project) params w.1.0 (w.1.1.answer Null)
         (λ x. same_key x.key key) u (λ id x here among. key_test more id x)
         (λ id x here among is. laid_number id (u x)) w.1.2 in
-        at.requests_turned old new t runs has w.0 sound
-        (at.others_of mode.keys old.trees new.trees _ w.1.2) _ changed
+        at.turned old new t runs has w.0 sound requests_tree _
+        (at.others_of mode.keys old.trees new.trees _ w.1.2) changed
+        (with_answer key status reply hold_end t) runs refl has.rising
         (recorded_changed (λ x. same_key x.key key) u (λ row is. whole) t.requests has.recorded)
+        has.apart
 
     pub request_followed : (status : Status)
         → Does limit mode (key_row key ++ number (status_number status) ∷ []) old text None
@@ -313,7 +322,7 @@ module _ (limit : Option ℕ) (mode : Mode) (old new : Database) (text : List �
         let more = number (status_number status) ∷ [] in
         let params = key_row key ++ more in
         let w = updated_by book_schema 4 at.the_requests at.requests_placed
-        (at.lone 6) limit mode old new has.schema text
+        (at.lone requests_tree) limit mode old new has.schema text
         params noted follow_query does in
         let u = followed_row status in
         let changed = numbered_updated request_row book_schema mode.keys old.trees new.trees
@@ -321,6 +330,8 @@ module _ (limit : Option ℕ) (mode : Mode) (old new : Database) (text : List �
         has.requests key_is (drop 1 follow_query.project) params w.1.0 (w.1.1.answer Null)
         (λ x. same_key x.key key) u (λ id x here among. key_test more id x)
         (λ id x here among is. laid_number id (u x)) w.1.2 in
-        at.requests_turned old new t runs has w.0 sound
-        (at.others_of mode.keys old.trees new.trees _ w.1.2) _ changed
+        at.turned old new t runs has w.0 sound requests_tree _
+        (at.others_of mode.keys old.trees new.trees _ w.1.2) changed (with_status key status t)
+        runs refl has.rising
         (recorded_changed (λ x. same_key x.key key) u (λ row is. is) t.requests has.recorded)
+        has.apart

@@ -36,6 +36,7 @@ use Rattle.row_lemmas.proofs.StatementEffects.{bare, upserted, Raises}
 use Rattle.row_lemmas.proofs.RowChanges.{numbered_updated}
 use Rattle.acq_core.specs.Tables.{Tables}
 use Rattle.acq_sql_rows.specs.Schema.{book_schema}
+use Rattle.acq_sql_rows.specs.Schema.{running_tree}
 use Rattle.acq_sql_rows.specs.Schema as schema
 use Rattle.acq_sql_rows.specs.Tallies.{Tally, Running, AreApart, FitsTally, is_for, plus, tally_in}
 use Rattle.acq_sql_rows.specs.Tallies.{or_no_tally, raised}
@@ -148,20 +149,20 @@ module _ (merchant : List ℕ) (day : ℕ) (more : Tally) where
     rows = rows_of running_row runs
 
     abbrev next : ℤ
-    next = next_rowid (old.trees 13)
+    next = next_rowid (old.trees running_tree)
 
     abbrev row : Row
     row = Int next ∷ running_row it
 
-    in_rows : (r : Row) → Has (old.trees 13) r → Has rows r
+    in_rows : (r : Row) → Has (old.trees running_tree) r → Has rows r
     in_rows r h = subst (λ l. Has l r) has.running h
 
-    in_tree : (r : Row) → Has rows r → Has (old.trees 13) r
+    in_tree : (r : Row) → Has rows r → Has (old.trees running_tree) r
     in_tree r h = subst (λ l. Has l r) (sym has.running) h
 
     abbrev Meets : List Row → Type 0
     Meets found = AreConflicts (Some (1 ∷ 2 ∷ [])) book_schema.indexes (bare at.the_running)
-        (old.trees 13) row found
+        (old.trees running_tree) row found
 
     absent : Meets [] → find (is_for merchant day) runs ≡ None
     absent none = none_find (is_for merchant day) runs (λ x h.
@@ -174,9 +175,9 @@ module _ (merchant : List ℕ) (day : ℕ) (more : Tally) where
 
     appended : Applies book_schema mode.keys old.trees
         (edit_of old.trees (bare at.the_running) [] Given 0 (row ∷ [])) new.trees
-        → new.trees 13 ≡ rows_of running_row (runs ++ it ∷ [])
+        → new.trees running_tree ≡ rows_of running_row (runs ++ it ∷ [])
     appended applied =
-        applied.rows ∙ ap (λ (r : Row). put_row r (old.trees 13)) (laid_at next it)
+        applied.rows ∙ ap (λ (r : Row). put_row r (old.trees running_tree)) (laid_at next it)
         ∙ ap (λ l. put_row (Int (next_rowid l) ∷ running_row it) l) has.running
         ∙ element_put running_row runs it
 
@@ -246,7 +247,7 @@ module _ (merchant : List ℕ) (day : ℕ) (more : Tally) where
           (alone raise_query) given answers
           → Applies book_schema mode.keys old.trees
           (edit_of old.trees (bare at.the_running) (ids_of answers) Given 1 answers) new.trees
-          → new.trees 13 ≡ rows_of running_row (raised_in merchant day more runs)
+          → new.trees running_tree ≡ rows_of running_row (raised_in merchant day more runs)
       changed answers answer applied =
           numbered_updated running_row book_schema mode.keys old.trees new.trees
           (bare at.the_running) runs has.running
@@ -259,7 +260,7 @@ module _ (merchant : List ℕ) (day : ℕ) (more : Tally) where
 
     abbrev Lands : Row → List Row → Type 0
     Lands r found =
-        Raises book_schema 7 at.the_running at.running_placed (at.lone 13) limit mode old new
+        Raises book_schema 7 at.the_running at.running_placed (at.lone running_tree) limit mode old new
         has.schema text
         (running_row it) noted (1 ∷ 2 ∷ []) raise_query r new.trees found
 
@@ -269,23 +270,23 @@ module _ (merchant : List ℕ) (day : ℕ) (more : Tally) where
         → HoldsRows new t (raised merchant day more runs)
     running_raised does =
         let w = upserted book_schema 7 at.the_running at.running_placed
-        (at.lone 13) limit mode old new has.schema text
+        (at.lone running_tree) limit mode old new has.schema text
         (running_row it) noted (1 ∷ 2 ∷ []) raise_query (new_row 11) 12
         (Null ∷ running_row it) refl does in
-        let laid : with_rowid Chosen (old.trees 13)
+        let laid : with_rowid Chosen (old.trees running_tree)
         (cast_row (bare at.the_running) (Null ∷ running_row it)) ≡ row =
-        ap (with_rowid Chosen (old.trees 13)) (laid_running it) in
+        ap (with_rowid Chosen (old.trees running_tree)) (laid_running it) in
         let conflict : Row →
         Type 0 = λ r. AreConflicts (Some (1 ∷ 2 ∷ [])) book_schema.indexes (bare at.the_running)
-        (old.trees 13) r w.1.0 in
+        (old.trees running_tree) r w.1.0 in
         go w.1.0 (subst conflict laid w.1.1) (subst (λ r. Lands r w.1.0) laid w.1.2) w.0
       where
-        whole : new.schema ≡ book_schema → at.Others old.trees new.trees 13
-            → new.trees 13 ≡ rows_of running_row (raised merchant day more runs)
+        whole : new.schema ≡ book_schema → at.Others old.trees new.trees running_tree
+            → new.trees running_tree ≡ rows_of running_row (raised merchant day more runs)
             → HoldsRows new t (raised merchant day more runs)
         whole schema_is rest all =
-            at.running_turned old new t runs has schema_is sound rest
-            (raised merchant day more runs) all
+            at.turned old new t runs has schema_is sound running_tree _ rest all
+            t (raised merchant day more runs) refl has.rising has.recorded
             (raised_apart merchant day more runs has.apart)
 
         go : (found : List Row) → Meets found → Lands row found → new.schema ≡ book_schema

@@ -34,6 +34,7 @@ use Rattle.card_no.specs.declared.range.Range.{Range}
 use Rattle.card_no.specs.Ranges.{with_range, has_ends}
 use Rattle.acq_core.specs.Tables.{Tables}
 use Rattle.acq_sql_rows.specs.Schema.{book_schema}
+use Rattle.acq_sql_rows.specs.Schema.{ranges_tree}
 use Rattle.acq_sql_rows.specs.Tallies.{Running}
 use Rattle.acq_sql_rows.specs.Rows.{range_row}
 use Rattle.acq_sql_rows.specs.Queries.{new_range, ends_are, drop_range_query}
@@ -138,23 +139,23 @@ module _ (limit : Option ℕ) (mode : Mode) (old new : Database) (text : List �
       → HoldsRows new (with_added_range r t) runs
   range_added r does =
       let w = inserted book_schema 3 at.the_ranges at.ranges_placed
-      (at.lone 5) limit mode old new has.schema text
+      (at.lone ranges_tree) limit mode old new has.schema text
       (range_params r) noted new_range 5 does in
-      let given = with_rowid Chosen (old.trees 5) (cast_row at.the_ranges (range_row r)) in
+      let given = with_rowid Chosen (old.trees ranges_tree) (cast_row at.the_ranges (range_row r)) in
       -- the row has its rowid, so none is chosen
-      let laid : given ≡ range_row r = ap (with_rowid Chosen (old.trees 5)) (laid_range r) in
-      let fresh : are_fresh (old.trees 5) (given ∷ []) ≡ true = w.1.fresh in
-      let taken : is_taken (old.trees 5) (range_row r) ≡ false =
+      let laid : given ≡ range_row r = ap (with_rowid Chosen (old.trees ranges_tree)) (laid_range r) in
+      let fresh : are_fresh (old.trees ranges_tree) (given ∷ []) ≡ true = w.1.fresh in
+      let taken : is_taken (old.trees ranges_tree) (range_row r) ≡ false =
       not-true _ (and_parts _ _
-      (subst (λ (row : Row). are_fresh (old.trees 5) (row ∷ []) ≡ true) laid fresh)).0 in
+      (subst (λ (row : Row). are_fresh (old.trees ranges_tree) (row ∷ []) ≡ true) laid fresh)).0 in
       let free = free_of t.ranges r (subst (λ l. is_taken l (range_row r) ≡ false) has.ranges taken)
       in
-      let added = w.1.rows ∙ ap (λ (row : Row). put_row row (old.trees 5)) laid
+      let added = w.1.rows ∙ ap (λ (row : Row). put_row row (old.trees ranges_tree)) laid
       ∙ ap (put_row (range_row r)) has.ranges
       ∙ range_put t.ranges r free in
-      at.ranges_turned old new t runs has w.0 sound
-      (at.others_of mode.keys old.trees new.trees _ w.1) _ added
-      (still_rising t.ranges r has.rising free)
+      at.turned old new t runs has w.0 sound ranges_tree _
+      (at.others_of mode.keys old.trees new.trees _ w.1) added (with_added_range r t) runs refl
+      (still_rising t.ranges r has.rising free) has.recorded has.apart
 
   pub range_dropped : (low high : ℕ)
       → Does limit mode (number low ∷ number high ∷ []) old text None
@@ -163,7 +164,7 @@ module _ (limit : Option ℕ) (mode : Mode) (old new : Database) (text : List �
   range_dropped low high does =
       let params = number low ∷ number high ∷ [] in
       let w = deleted_by book_schema 3 at.the_ranges at.ranges_placed
-      (at.lone 5) limit mode old new has.schema text
+      (at.lone ranges_tree) limit mode old new has.schema text
       params noted drop_range_query does in
       let p = picked ends_are params in
       let shaped = subst (IsShaped shape.Table) (sym has.ranges) (ranges_shaped t.ranges has.rising)
@@ -174,7 +175,8 @@ module _ (limit : Option ℕ) (mode : Mode) (old new : Database) (text : List �
       let left = gone ∙ ap (filter (λ r. not (p r))) has.ranges
       ∙ filter-map (λ r. not (p r)) range_row t.ranges
       ∙ (λ i. range_rows (filter (λ x. not (ends_test low high x i)) t.ranges)) in
-      at.ranges_turned old new t runs has w.0 sound
-      (at.others_of mode.keys old.trees new.trees _ w.1.2) _ left
+      at.turned old new t runs has w.0 sound ranges_tree _
+      (at.others_of mode.keys old.trees new.trees _ w.1.2) left (with_dropped_range low high t) runs
+      refl
       (ascending-filter (λ (a b : Range). a.low < b.low) (λ x. not (has_ends low high x)) t.ranges
-      has.rising)
+      has.rising) has.recorded has.apart

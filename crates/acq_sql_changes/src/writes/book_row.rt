@@ -2,8 +2,7 @@
 
 ghost use Rattle.std.specs.Prelude.{◌≡◌};
 ghost use Rattle.sqlite.specs.Held.{state};
-ghost use Rattle.acq_sql_changes.specs.Written.{BeginsBook, StaysInside, KeepsCommitted};
-ghost use Rattle.acq_sql_changes.specs.Written.{CommitsNothing};
+ghost use Rattle.acq_sql_changes.specs.Written.{WritesInside, BeginsBook};
 
 use acq_core::Limit;
 use acq_sql_rows::tables::VERSION;
@@ -19,13 +18,8 @@ pub fn add_book<S: Alter>(
     first_day: Day,
 ) -> Result<usize, Error>
     ensures same_reference { tx.new.conn.ghost_name ≡ tx.old.conn.ghost_name }
-    ensures begins { BeginsBook (state S.Store tx.old.conn.now) (state S.Store tx.new.conn.now)
-        result (record { limit = limit; first_day = first_day }) }
-    ensures inside { StaysInside (state S.Store tx.old.conn.now) (state S.Store tx.new.conn.now)
-        result }
-    ensures kept { KeepsCommitted (state S.Store tx.old.conn.now) (state S.Store tx.new.conn.now) }
-    ensures survives { CommitsNothing (state S.Store tx.old.conn.now)
-        (state S.Store tx.new.conn.now) }
+    ensures writes { WritesInside (state S.Store tx.old.conn.now) (state S.Store tx.new.conn.now)
+        result (BeginsBook (record { limit = limit; first_day = first_day })) }
 {
     tx.execute(
         "INSERT INTO book VALUES (?1, ?2, ?3)",

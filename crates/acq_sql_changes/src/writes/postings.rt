@@ -2,7 +2,7 @@
 
 ghost use Rattle.std.specs.Prelude.{◌≡◌, ◌<◌, ◌^◌};
 ghost use Rattle.sqlite.specs.Held.{state};
-ghost use Rattle.acq_sql_changes.specs.Written.{Changes, StaysInside, KeepsCommitted, CommitsNothing};
+ghost use Rattle.acq_sql_changes.specs.Written.{WritesInside, Changes};
 ghost use Rattle.acq_sql_changes.specs.Written.{with_posting};
 
 use acq_core::Posting;
@@ -18,13 +18,8 @@ pub fn add_posting<S: Alter>(
 ) -> Result<usize, Error>
     requires { number < 2 ^ 63 }
     ensures same_reference { tx.new.conn.ghost_name ≡ tx.old.conn.ghost_name }
-    ensures changes { Changes (state S.Store tx.old.conn.now) (state S.Store tx.new.conn.now) result
-        (with_posting number posting.now) }
-    ensures inside { StaysInside (state S.Store tx.old.conn.now) (state S.Store tx.new.conn.now)
-        result }
-    ensures kept { KeepsCommitted (state S.Store tx.old.conn.now) (state S.Store tx.new.conn.now) }
-    ensures survives { CommitsNothing (state S.Store tx.old.conn.now)
-        (state S.Store tx.new.conn.now) }
+    ensures writes { WritesInside (state S.Store tx.old.conn.now) (state S.Store tx.new.conn.now)
+        result (Changes (with_posting number posting.now)) }
 {
     let merchant = posting.merchant.to_bytes();
     let terminal = posting.terminal.to_bytes();

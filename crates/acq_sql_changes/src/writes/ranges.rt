@@ -2,7 +2,7 @@
 
 ghost use Rattle.std.specs.Prelude.{◌≡◌};
 ghost use Rattle.sqlite.specs.Held.{state};
-ghost use Rattle.acq_sql_changes.specs.Written.{Changes, StaysInside, KeepsCommitted, CommitsNothing};
+ghost use Rattle.acq_sql_changes.specs.Written.{WritesInside, Changes};
 ghost use Rattle.acq_sql_changes.specs.Written.{with_added_range, with_dropped_range};
 
 use acq_sql_rows::short_value;
@@ -13,13 +13,8 @@ use sqlite::{Alter, Error, Transaction};
 /// Adds a range.
 pub fn add_range<S: Alter>(tx: &mut Transaction<'_, S>, range: &Range) -> Result<usize, Error>
     ensures same_reference { tx.new.conn.ghost_name ≡ tx.old.conn.ghost_name }
-    ensures changes { Changes (state S.Store tx.old.conn.now) (state S.Store tx.new.conn.now) result
-        (with_added_range range.now) }
-    ensures inside { StaysInside (state S.Store tx.old.conn.now) (state S.Store tx.new.conn.now)
-        result }
-    ensures kept { KeepsCommitted (state S.Store tx.old.conn.now) (state S.Store tx.new.conn.now) }
-    ensures survives { CommitsNothing (state S.Store tx.old.conn.now)
-        (state S.Store tx.new.conn.now) }
+    ensures writes { WritesInside (state S.Store tx.old.conn.now) (state S.Store tx.new.conn.now)
+        result (Changes (with_added_range range.now)) }
 {
     tx.execute(
         "INSERT INTO ranges VALUES (?1, ?2, ?3, ?4)",
@@ -39,13 +34,8 @@ pub fn drop_range<S: Alter>(
     high: u32,
 ) -> Result<usize, Error>
     ensures same_reference { tx.new.conn.ghost_name ≡ tx.old.conn.ghost_name }
-    ensures changes { Changes (state S.Store tx.old.conn.now) (state S.Store tx.new.conn.now) result
-        (with_dropped_range low high) }
-    ensures inside { StaysInside (state S.Store tx.old.conn.now) (state S.Store tx.new.conn.now)
-        result }
-    ensures kept { KeepsCommitted (state S.Store tx.old.conn.now) (state S.Store tx.new.conn.now) }
-    ensures survives { CommitsNothing (state S.Store tx.old.conn.now)
-        (state S.Store tx.new.conn.now) }
+    ensures writes { WritesInside (state S.Store tx.old.conn.now) (state S.Store tx.new.conn.now)
+        result (Changes (with_dropped_range low high)) }
 {
     tx.execute(
         "DELETE FROM ranges WHERE low = ?1 AND high = ?2",

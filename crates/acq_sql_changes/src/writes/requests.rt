@@ -2,7 +2,7 @@
 
 ghost use Rattle.std.specs.Prelude.{◌≡◌};
 ghost use Rattle.sqlite.specs.Held.{state};
-ghost use Rattle.acq_sql_changes.specs.Written.{Changes, StaysInside, KeepsCommitted, CommitsNothing};
+ghost use Rattle.acq_sql_changes.specs.Written.{WritesInside, Changes};
 ghost use Rattle.acq_sql_changes.specs.Written.{with_request, IsShortEnd};
 ghost use Rattle.iso_codec.specs.Message.{IsMessage};
 ghost use Rattle.iso_codec.specs.Reading.{spelling};
@@ -25,13 +25,8 @@ pub fn add_request<'x, S: Alter>(
     requires spelled { reply.now ≡ spelling request.now.reply }
     requires hold_end { IsShortEnd request.now.hold_end }
     ensures same_reference { tx.new.conn.ghost_name ≡ tx.old.conn.ghost_name }
-    ensures changes { Changes (state S.Store tx.old.conn.now) (state S.Store tx.new.conn.now) result
-        (with_request request.now) }
-    ensures inside { StaysInside (state S.Store tx.old.conn.now) (state S.Store tx.new.conn.now)
-        result }
-    ensures kept { KeepsCommitted (state S.Store tx.old.conn.now) (state S.Store tx.new.conn.now) }
-    ensures survives { CommitsNothing (state S.Store tx.old.conn.now)
-        (state S.Store tx.new.conn.now) }
+    ensures writes { WritesInside (state S.Store tx.old.conn.now) (state S.Store tx.new.conn.now)
+        result (Changes (with_request request.now)) }
 {
     let merchant = request.key.merchant.to_bytes();
     let terminal = request.key.terminal.to_bytes();

@@ -5,7 +5,7 @@ ghost use Rattle.sqlite_value.specs.Value.{owned};
 ghost use Rattle.sqlite.specs.Held.{state};
 ghost use Rattle.row_lemmas.specs.Values.{number};
 ghost use Rattle.day_totals.specs.Totals.{total_for};
-ghost use Rattle.acq_sql_changes.specs.Written.{Raises, StaysInside, KeepsCommitted, CommitsNothing};
+ghost use Rattle.acq_sql_changes.specs.Written.{WritesInside, Raises};
 ghost use Rattle.acq_sql_changes.specs.Written.{tally_from};
 
 use acq_core::MerchantId;
@@ -25,13 +25,8 @@ pub fn raise<S: Alter>(
 ) -> Result<usize, Error>
     requires { used < 2 ^ 63 }
     ensures same_reference { tx.new.conn.ghost_name ≡ tx.old.conn.ghost_name }
-    ensures raises { Raises (state S.Store tx.old.conn.now) (state S.Store tx.new.conn.now) result
-        merchant day (tally_from used posted.now) }
-    ensures inside { StaysInside (state S.Store tx.old.conn.now) (state S.Store tx.new.conn.now)
-        result }
-    ensures kept { KeepsCommitted (state S.Store tx.old.conn.now) (state S.Store tx.new.conn.now) }
-    ensures survives { CommitsNothing (state S.Store tx.old.conn.now)
-        (state S.Store tx.new.conn.now) }
+    ensures writes { WritesInside (state S.Store tx.old.conn.now) (state S.Store tx.new.conn.now)
+        result (Raises merchant day (tally_from used posted.now)) }
 {
     let merchant = merchant.to_bytes();
     tx.execute(

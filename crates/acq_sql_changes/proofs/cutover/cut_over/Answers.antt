@@ -1,32 +1,13 @@
 use Rattle.std.proofs.Common.{◌≡◌, refl, rules}
-use Rattle.sqlite.specs.Held.{state}
 use Rattle.acq_sql_changes.specs.Written.{on_day}
-use Rattle.acq_sql_changes.proofs.Commits.{Makes, began, wrote, makes, committed, stops_within}
-use Rattle.acq_sql_changes.proofs.Commits.{of_all}
-use Rattle.acq_sql_changes.proofs.cutover.cut_over.Given.{Over}
+use Rattle.acq_sql_changes.proofs.Commits.{began, wrote, makes, commits}
 use Rattle.acq_sql_changes.proofs.cutover.cut_over.Goals as goal
-use Rattle.acq_sql_changes.proofs.cutover.cut_over.Goals.{After-commit}
 
-made : (g : Over) (c : After-commit g) → Makes (state g.S.Store c.args.conn.now)
-    (state g.S.Store c.set_day.new.tx.conn.now) (λ _. Unit {0})
-    (on_day c.args.day)
-made g c =
-    let begin = began g.S.Store _ _ c.transaction-tx.ensures.begun in
-    let set = c.in_ok-set_day in
-    let whole = wrote _ _ _ _ set.field-0 begin set.ensures.inside set.ensures.survives
-    (on_day c.args.day) set.ensures.changes in
-    makes _ _ _ whole (λ t m d. refl)
-
-pub returns-clause-done : goal.returns-clause-done
-returns-clause-done g c clean t at =
+pub returns : goal.returns
+returns g c =
     let same : c.commit.new.self.0 ≡ c.conn-2-1.given.0 = search rules in
-    let whole = made g (goal.at.returns-clause-done g c).After-commit in
-    committed (state g.S.Store) _ _ _ _ same _ _ whole c.commit.ensures.survives c.commit.result
-    c.commit.ensures.ok
-    clean t at tt
-
-pub returns-clause-crash : goal.returns-clause-crash
-returns-clause-crash g c =
-    let same : c.commit.new.self.0 ≡ c.conn-2-1.given.0 = search rules in
-    let whole = made g (goal.at.returns-clause-crash g c).After-commit in
-    of_all _ _ _ (stops_within (state g.S.Store) _ _ _ _ same _ _ whole c.commit.ensures.survives)
+    let done = c.commit.ensures in
+    let begin = began g.S.Store c.args.conn.now _ c.transaction-tx.ensures.begun in
+    let whole = wrote begin (on_day c.args.day) c.in_ok-set_day.ensures.writes in
+    commits g.S.Store (makes whole (λ t m d. refl))
+    same c.commit.result done.ended done.ok done.err done.survives

@@ -25,8 +25,7 @@ returns-clause-makes g c =
     (λ (book : Kept _). book.failures) old now b (after (tables g.S.Store old) change))
     (sym c.counted.ensures.succeeds)
     (makes_at g.S.Store g.met.S.Store.settled old now change c.apply-made.result
-    c.apply-made.ensures.done
-    c.apply-made.ensures.undone c.apply-made.ensures.crash
+    c.apply-made.ensures
     (subst (λ (k : Kept _). is_open g.S.Store k → Fits (tables g.S.Store k) change)
     (sym c.self.view_is)
     c.requires.fits)

@@ -1,13 +1,11 @@
-use Rattle.sqlite.specs.Held.{state}
 use Rattle.acq_sql_changes.proofs.writes.Inside.{range_dropped_inside}
 use Rattle.acq_sql_changes.proofs.writes.ranges.drop_range.Goals as goal
 
-pub returns-clause-changes : goal.returns-clause-changes
-returns-clause-changes g c clean inside t runs has =
-    range_dropped_inside (state g.S.Store c.args.tx.now.conn.now)
-    (state g.S.Store c.execute.new.self.conn.now) c.execute.result
-    t runs has c.args.low c.args.high
+pub returns-clause-writes : goal.returns-clause-writes
+returns-clause-writes g c =
+    range_dropped_inside _ _ c.execute.result c.execute.ensures.survives
+    c.args.low c.args.high
     (rw (
       c.short_value.ensures,
       c.short_value-2.ensures,
-    ) at (c.execute.ensures.runs clean inside))
+    ) at c.execute.ensures.runs)

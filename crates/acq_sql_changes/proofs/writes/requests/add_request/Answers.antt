@@ -1,14 +1,12 @@
-use Rattle.sqlite.specs.Held.{state}
 use Rattle.acq_sql_changes.proofs.writes.Bound.{bound_number, bound_text}
 use Rattle.acq_sql_changes.proofs.writes.Inside.{request_inside}
 use Rattle.acq_sql_changes.proofs.writes.requests.add_request.Goals as goal
 
-pub returns-clause-changes : goal.returns-clause-changes
-returns-clause-changes g c clean inside t runs has =
+pub returns-clause-writes : goal.returns-clause-writes
+returns-clause-writes g c =
     let r = c.args.request.now in
-    request_inside (state g.S.Store c.args.tx.now.conn.now)
-    (state g.S.Store c.execute.new.self.conn.now) c.execute.result
-    t runs has r c.requires.whole
+    request_inside _ _ c.execute.result c.execute.ensures.survives
+    r c.requires.whole
     (rw (
       c.to_bytes-merchant.ensures.value,
       c.to_bytes-terminal.ensures.value,
@@ -34,4 +32,4 @@ returns-clause-changes g c clean inside t runs has =
       bound_text r.acquirer,
       bound_number r.hold_days,
       bound_number r.hold_end,
-    ) at (c.execute.ensures.runs clean inside))
+    ) at c.execute.ensures.runs)
