@@ -8,6 +8,7 @@
 #![tactic(auto)]
 
 pub mod tables;
+pub mod texts;
 mod values;
 
 pub use values::{

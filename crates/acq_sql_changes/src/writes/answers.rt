@@ -8,7 +8,7 @@ ghost use Rattle.iso_codec.specs.Message.{IsMessage};
 ghost use Rattle.iso_codec.specs.Reading.{spelling};
 
 use acq_core::{RequestKey, Status};
-use acq_sql_rows::{hold_end_value, status_value};
+use acq_sql_rows::{hold_end_value, status_value, texts};
 use iso_codec::Message;
 use sqlite::types::ValueRef;
 use sqlite::{Alter, Error, Transaction};
@@ -35,7 +35,7 @@ pub fn answer_request<'x, S: Alter>(
     let trace = key.trace.to_bytes();
     let stamp = key.transmission.to_bytes();
     tx.execute(
-        "UPDATE requests SET status = ?6, until = ?7, reply = ?8 WHERE merchant = ?1 AND terminal = ?2 AND kind = ?3 AND trace = ?4 AND stamp = ?5",
+        texts::ANSWER,
         &[
             ValueRef::Text(&merchant),
             ValueRef::Text(&terminal),
@@ -65,7 +65,7 @@ pub fn follow_request<S: Alter>(
     let trace = key.trace.to_bytes();
     let stamp = key.transmission.to_bytes();
     tx.execute(
-        "UPDATE requests SET status = ?6 WHERE merchant = ?1 AND terminal = ?2 AND kind = ?3 AND trace = ?4 AND stamp = ?5",
+        texts::FOLLOW,
         &[
             ValueRef::Text(&merchant),
             ValueRef::Text(&terminal),

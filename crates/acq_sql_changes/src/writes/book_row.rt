@@ -6,7 +6,7 @@ ghost use Rattle.acq_sql_changes.specs.Written.{WritesInside, BeginsBook};
 
 use acq_core::Limit;
 use acq_sql_rows::tables::VERSION;
-use acq_sql_rows::{day_value, short_value};
+use acq_sql_rows::{day_value, short_value, texts};
 use day_totals::Day;
 use sqlite::{Alter, Error, Transaction};
 
@@ -22,7 +22,7 @@ pub fn add_book<S: Alter>(
         result (BeginsBook (record { limit = limit; first_day = first_day })) }
 {
     tx.execute(
-        "INSERT INTO book VALUES (?1, ?2, ?3)",
+        texts::ADD_BOOK,
         &[
             short_value(VERSION),
             short_value(limit.number()),

@@ -6,7 +6,7 @@ ghost use Rattle.acq_sql_changes.specs.Written.{WritesInside, Changes};
 ghost use Rattle.acq_sql_changes.specs.Written.{on_day, with_reconciliation};
 
 use acq_core::Reconciliation;
-use acq_sql_rows::{bit_value, day_value, number_value};
+use acq_sql_rows::{bit_value, day_value, number_value, texts};
 use day_totals::Day;
 use sqlite::types::ValueRef;
 use sqlite::{Alter, Error, Transaction};
@@ -17,7 +17,7 @@ pub fn set_day<S: Alter>(tx: &mut Transaction<'_, S>, day: Day) -> Result<usize,
     ensures writes { WritesInside (state S.Store tx.old.conn.now) (state S.Store tx.new.conn.now)
         result (Changes (on_day day)) }
 {
-    tx.execute("UPDATE book SET day = ?1", &[day_value(day)])
+    tx.execute(texts::SET_DAY, &[day_value(day)])
 }
 
 /// Adds a reconciliation, with its number of the merchant and day.
@@ -33,7 +33,7 @@ pub fn add_reconciliation<S: Alter>(
 {
     let merchant = reconciliation.merchant.to_bytes();
     tx.execute(
-        "INSERT INTO reconciliations VALUES (?1, ?2, ?3, ?4)",
+        texts::ADD_RECONCILIATION,
         &[
             ValueRef::Text(&merchant),
             day_value(reconciliation.day),

@@ -6,7 +6,7 @@ ghost use Rattle.acq_sql_changes.specs.Written.{WritesInside, Changes};
 ghost use Rattle.acq_sql_changes.specs.Written.{with_merchant, with_terminal};
 
 use acq_core::{Merchant, Terminal};
-use acq_sql_rows::first_reference_value;
+use acq_sql_rows::{first_reference_value, texts};
 use sqlite::types::ValueRef;
 use sqlite::{Alter, Error, Transaction};
 
@@ -22,7 +22,7 @@ pub fn add_merchant<S: Alter>(
     let id = merchant.id.to_bytes();
     let currency = merchant.currency.to_bytes();
     tx.execute(
-        "INSERT INTO merchants VALUES (?1, ?2, ?3)",
+        texts::ADD_MERCHANT,
         &[
             ValueRef::Text(&id),
             ValueRef::Text(&currency),
@@ -43,7 +43,7 @@ pub fn add_terminal<S: Alter>(
     let merchant = terminal.merchant.to_bytes();
     let id = terminal.id.to_bytes();
     tx.execute(
-        "INSERT INTO terminals VALUES (?1, ?2)",
+        texts::ADD_TERMINAL,
         &[ValueRef::Text(&merchant), ValueRef::Text(&id)],
     )
 }

@@ -6,7 +6,7 @@ ghost use Rattle.acq_sql_changes.specs.Written.{WritesInside, Changes};
 ghost use Rattle.acq_sql_changes.specs.Written.{with_posting};
 
 use acq_core::Posting;
-use acq_sql_rows::{amount_value, day_value, leg_value, number_value, reference_value};
+use acq_sql_rows::{amount_value, day_value, leg_value, number_value, reference_value, texts};
 use sqlite::types::ValueRef;
 use sqlite::{Alter, Error, Transaction};
 
@@ -25,7 +25,7 @@ pub fn add_posting<S: Alter>(
     let terminal = posting.terminal.to_bytes();
     let trace = posting.trace.to_bytes();
     tx.execute(
-        "INSERT INTO postings VALUES (?1, ?2, ?3, ?4, ?5, ?6, ?7, ?8, ?9)",
+        texts::ADD_POSTING,
         &[
             ValueRef::Text(&merchant),
             day_value(posting.day),

@@ -5,7 +5,7 @@ ghost use Rattle.sqlite.specs.Held.{state};
 ghost use Rattle.acq_sql_changes.specs.Written.{WritesInside, Changes};
 ghost use Rattle.acq_sql_changes.specs.Written.{with_added_range, with_dropped_range};
 
-use acq_sql_rows::short_value;
+use acq_sql_rows::{short_value, texts};
 use card_no::Range;
 use sqlite::types::ValueRef;
 use sqlite::{Alter, Error, Transaction};
@@ -17,7 +17,7 @@ pub fn add_range<S: Alter>(tx: &mut Transaction<'_, S>, range: &Range) -> Result
         result (Changes (with_added_range range.now)) }
 {
     tx.execute(
-        "INSERT INTO ranges VALUES (?1, ?2, ?3, ?4)",
+        texts::ADD_RANGE,
         &[
             short_value(range.low),
             short_value(range.high),
@@ -37,8 +37,5 @@ pub fn drop_range<S: Alter>(
     ensures writes { WritesInside (state S.Store tx.old.conn.now) (state S.Store tx.new.conn.now)
         result (Changes (with_dropped_range low high)) }
 {
-    tx.execute(
-        "DELETE FROM ranges WHERE low = ?1 AND high = ?2",
-        &[short_value(low), short_value(high)],
-    )
+    tx.execute(texts::DROP_RANGE, &[short_value(low), short_value(high)])
 }

@@ -10,7 +10,7 @@ ghost use Rattle.iso_codec.specs.Reading.{spelling};
 use acq_core::Request;
 use acq_sql_rows::{
     amount_value, bit_value, day_value, hold_days_value, hold_end_value, leg_value, reference_if,
-    status_value, text_if,
+    status_value, text_if, texts,
 };
 use sqlite::types::ValueRef;
 use sqlite::{Alter, Error, Transaction};
@@ -34,7 +34,7 @@ pub fn add_request<'x, S: Alter>(
     let trace = request.key.trace.to_bytes();
     let stamp = request.key.transmission.to_bytes();
     tx.execute(
-        "INSERT INTO requests VALUES (?1, ?2, ?3, ?4, ?5, ?6, ?7, ?8, ?9, ?10, ?11, ?12, ?13, ?14, ?15, ?16, ?17, ?18)",
+        texts::ADD_REQUEST,
         &[
             ValueRef::Text(&merchant),
             ValueRef::Text(&terminal),

@@ -9,7 +9,7 @@ ghost use Rattle.acq_sql_changes.specs.Written.{WritesInside, Raises};
 ghost use Rattle.acq_sql_changes.specs.Written.{tally_from};
 
 use acq_core::MerchantId;
-use acq_sql_rows::{day_value, number_value};
+use acq_sql_rows::{day_value, number_value, texts};
 use day_totals::{Day, Leg, Totals};
 use sqlite::types::ValueRef;
 use sqlite::{Alter, Error, Transaction};
@@ -30,7 +30,7 @@ pub fn raise<S: Alter>(
 {
     let merchant = merchant.to_bytes();
     tx.execute(
-        "INSERT INTO running VALUES (?1, ?2, ?3, ?4, ?5, ?6, ?7, ?8, ?9, ?10, ?11) ON CONFLICT (merchant, day) DO UPDATE SET used = used + ?3, credits = credits + ?4, credit_reversals = credit_reversals + ?5, debits = debits + ?6, debit_reversals = debit_reversals + ?7, credit_amount = credit_amount + ?8, credit_reversal_amount = credit_reversal_amount + ?9, debit_amount = debit_amount + ?10, debit_reversal_amount = debit_reversal_amount + ?11",
+        texts::RAISE,
         &[
             ValueRef::Text(&merchant),
             day_value(day),

@@ -1,0 +1,45 @@
+//! The texts of the writes. `specs/Queries.antt` says what they mean.
+
+/// The row of a new book.
+pub const ADD_BOOK: &str = "INSERT INTO book VALUES (?1, ?2, ?3)";
+
+/// Another business day.
+pub const SET_DAY: &str = "UPDATE book SET day = ?1";
+
+/// A merchant.
+pub const ADD_MERCHANT: &str = "INSERT INTO merchants VALUES (?1, ?2, ?3)";
+
+/// A terminal.
+pub const ADD_TERMINAL: &str = "INSERT INTO terminals VALUES (?1, ?2)";
+
+/// A range.
+pub const ADD_RANGE: &str = "INSERT INTO ranges VALUES (?1, ?2, ?3, ?4)";
+
+/// A range with these ends is taken out.
+pub const DROP_RANGE: &str = "DELETE FROM ranges WHERE low = ?1 AND high = ?2";
+
+/// A request, its columns in order.
+pub const ADD_REQUEST: &str = "INSERT INTO requests VALUES (?1, ?2, ?3, ?4, ?5, ?6, ?7, ?8, ?9, \
+    ?10, ?11, ?12, ?13, ?14, ?15, ?16, ?17, ?18)";
+
+/// What an answer makes of the request with a key.
+pub const ANSWER: &str = "UPDATE requests SET status = ?6, until = ?7, reply = ?8 \
+    WHERE merchant = ?1 AND terminal = ?2 AND kind = ?3 AND trace = ?4 AND stamp = ?5";
+
+/// What a completion or a reversal makes of the request with a key.
+pub const FOLLOW: &str = "UPDATE requests SET status = ?6 WHERE merchant = ?1 AND terminal = ?2 \
+    AND kind = ?3 AND trace = ?4 AND stamp = ?5";
+
+/// A posting, with its number.
+pub const ADD_POSTING: &str = "INSERT INTO postings VALUES (?1, ?2, ?3, ?4, ?5, ?6, ?7, ?8, ?9)";
+
+/// A reconciliation, with its number.
+pub const ADD_RECONCILIATION: &str = "INSERT INTO reconciliations VALUES (?1, ?2, ?3, ?4)";
+
+/// What is added to a merchant's running totals of a day.
+pub const RAISE: &str = "INSERT INTO running VALUES (?1, ?2, ?3, ?4, ?5, ?6, ?7, ?8, ?9, ?10, \
+    ?11) ON CONFLICT (merchant, day) DO UPDATE SET used = used + ?3, credits = credits + ?4, \
+    credit_reversals = credit_reversals + ?5, debits = debits + ?6, \
+    debit_reversals = debit_reversals + ?7, credit_amount = credit_amount + ?8, \
+    credit_reversal_amount = credit_reversal_amount + ?9, debit_amount = debit_amount + ?10, \
+    debit_reversal_amount = debit_reversal_amount + ?11";
