@@ -67,7 +67,7 @@ began g old begin is =
     })
 
 module _ (old mid new : State) (so_far : IsWithin old mid) {T : Type 0} (result : Result T Error)
-    (LeadsTo : Database → Database → Type 0) (write : WritesInside mid new result LeadsTo) where
+    (Leads : Database → Database → Type 0) (write : WritesInside mid new result Leads) where
   clean_before : HasCleanDisk new → HasCleanDisk mid
   clean_before clean = was_clean _ _ write.stop.clean clean
 
@@ -86,9 +86,9 @@ module _ (old mid new : State) (so_far : IsWithin old mid) {T : Type 0} (result 
       survives_then old mid new _ _ (λ _. ⊥) (λ _ db none. none) (λ _ db none. none) so_far.stop
       write.stop
 
-module _ {old mid new : State} {count : ℕ} {LeadsTo : Database → Database → Type 0} where
+module _ {old mid new : State} {count : ℕ} {Leads : Database → Database → Type 0} where
   -- one that succeeded leaves it open
-  pub within_still : IsWithin old mid → WritesInside mid new (Ok count) LeadsTo → IsWithin old new
+  pub within_still : IsWithin old mid → WritesInside mid new (Ok count) Leads → IsWithin old new
   within_still so_far write =
       record {
         inside = λ clean. (write.inside clean
@@ -238,56 +238,69 @@ at_failure old last end t e opened within clean (inl fails) at =
 at_failure old last end t e opened within clean (inr late) at =
     absurd (true≢false (sym (within.inside clean) ∙ late.1))
 
+-- what a commit says, and the drop of a transaction
+abbrev pub Committed : {S T : Type 0} → store.Ghosts S → State → Held S → Result T Error → Type 0
+Committed g last end result =
+    record {
+      ended : end.in_transaction ≡ false;
+      ok : HasCleanDisk (state g end) → OnOk result (IsTrue last.in_transaction
+          × Shows last (state g end) last.now last.now false × KeepsCounts last (state g end)
+          × ((state g end).marks ≡ []));
+      err : HasCleanDisk (state g end) → IfErr result (FailsToCommit last (state g end));
+      survives : Survives last (state g end) (λ trees. trees ≡ last.now.trees);
+    }
+
+abbrev pub Dropped : {S : Type 0} → store.Ghosts S → State → Held S → Type 0
+Dropped g last end =
+    record {
+      ended : end.in_transaction ≡ false;
+      undone : HasCleanDisk (state g end) → IsRolledBack last (state g end);
+      survives : Survives last (state g end) (λ _. ⊥);
+    }
+
 module _ {S : Type 0} (g : store.Ghosts S) {old last : State} {end after : Held S}
     {fits : Tables → Type 0} {changed : Tables → Tables} {T : Type 0} where
   -- a commit makes the whole change, or rolls it back
   pub commits : Makes old last fits changed → end ≡ after → (result : Result T Error)
-      → end.in_transaction ≡ false
-      → (HasCleanDisk (state g end) → OnOk result (IsTrue last.in_transaction
-      × Shows last (state g end) last.now last.now false × KeepsCounts last (state g end)
-      × ((state g end).marks ≡ [])))
-      → (HasCleanDisk (state g end) → IfErr result (FailsToCommit last (state g end)))
-      → Survives last (state g end) (λ trees. trees ≡ last.now.trees)
-      → ChangesWhole old (state g after) result fits changed
-  commits made same result ended ok err survives =
+      → Committed g last end result → ChangesWhole old (state g after) result fits changed
+  commits made same result commit =
       let end_state = state g end in
-      let was = was_clean _ _ survives.clean in
+      let was = was_clean _ _ commit.survives.clean in
       let P : Trees → Type 0 = λ trees. (t : Tables) → IsAt old t → fits t →
       HoldsAfter (changed t) trees in
       subst (λ x. ChangesWhole old (state g x) result fits changed) same (record {
-        settled = ended;
+        settled = commit.ended;
         done = λ clean t at fit. IfOk-weaker result _ _
             (λ _ shown. at_commit last end_state (changed t) (made.holds (was clean) t at.holds fit)
             shown.1)
-            (ok clean);
+            (commit.ok clean);
         undone = λ clean opened t at. IfErr-weaker result _ _
             (λ e failed. at_failure old last end_state t e opened made.within (was clean) failed at)
-            (err clean);
+            (commit.err clean);
         stop = survives_then old last end_state _ _ P (λ _ db none. absurd none)
             (λ clean db is t at fit. left_holds last.now db (changed t)
             (made.holds (was clean) t at.holds fit) is)
-            made.within.stop survives;
+            made.within.stop commit.survives;
       })
 
   -- where a write failed, its transaction was dropped, and all is rolled back
   pub gives_up : {mid : State} {U : Type 0} {written : Result U Error}
       {Leads : Database → Database → Type 0} → IsWithin old mid
-      → WritesInside mid last written Leads → end ≡ after → end.in_transaction ≡ false
-      → (HasCleanDisk (state g end) → IsRolledBack last (state g end))
-      → Survives last (state g end) (λ _. ⊥) → (result : Result T Error) → IsErr result
+      → WritesInside mid last written Leads → end ≡ after → Dropped g last end
+      → (result : Result T Error) → IsErr result
       → ChangesWhole old (state g after) result fits changed
-  gives_up so_far write same ended undone survives (Ok x) is =
+  gives_up so_far write same dropped (Ok x) is =
       absurd (cc)
-  gives_up so_far write same ended undone survives (Err e) is =
+  gives_up so_far write same dropped (Err e) is =
       let end_state = state g end in
-      let was = was_clean _ _ survives.clean in
+      let was = was_clean _ _ dropped.survives.clean in
       let P : Trees → Type 0 = λ trees. (t : Tables) → IsAt old t → fits t →
       HoldsAfter (changed t) trees in
       subst (λ x. ChangesWhole {T = T} old (state g x) (Err e) fits changed) same (record {
-        settled = ended;
+        settled = dropped.ended;
         done = λ clean t at fit. tt;
         undone = λ clean opened t at. at_undone old last end_state t opened
-            (kept_still _ _ _ so_far _ _ write) (was clean) (undone clean) at;
+            (kept_still _ _ _ so_far _ _ write) (was clean) (dropped.undone clean) at;
         stop = survives_then old last end_state _ _ P (λ _ db none. absurd none)
-            (λ _ db none. absurd none) (stop_still _ _ _ so_far _ _ write) survives;
+            (λ _ db none. absurd none) (stop_still _ _ _ so_far _ _ write) dropped.survives;
       })

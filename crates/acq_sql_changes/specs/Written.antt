@@ -41,8 +41,8 @@ CommitsNothing old new = Survives old new (λ _. ⊥)
 -- A write inside a transaction commits nothing, and one that succeeded leads from the database
 -- before it to the one after it so.
 pub record WritesInside {T : Type 0} (old new : State) (result : Result T Error)
-    (LeadsTo : Database → Database → Type 0) : Type 0 where
-  pub leads : HasCleanDisk new → IsTrue old.in_transaction → OnOk result (LeadsTo old.now new.now)
+    (Leads : Database → Database → Type 0) : Type 0 where
+  pub leads : HasCleanDisk new → IsTrue old.in_transaction → OnOk result (Leads old.now new.now)
   pub inside : StaysInside old new result
   pub kept : KeepsCommitted old new
   pub stop : CommitsNothing old new

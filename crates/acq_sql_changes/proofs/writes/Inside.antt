@@ -81,11 +81,11 @@ module _ (old new : State) (res : Result ℕ Error) (stop : CommitsNothing old n
       HasCleanDisk new → IsTrue old.in_transaction → ExecutesInside 0 sql params old new res
 
   -- a write leads where its command does
-  writes : (sql : List ℕ) (params : Row) (LeadsTo : Database → Database → Type 0)
+  writes : (sql : List ℕ) (params : Row) (Leads : Database → Database → Type 0)
       (command : Command) → Means sql command
-      → ((old.now.schema ≡ book_schema → Ran old new command params) → LeadsTo old.now new.now)
-      → Executed sql params → WritesInside old new res LeadsTo
-  writes sql params LeadsTo command means leads executed =
+      → ((old.now.schema ≡ book_schema → Ran old new command params) → Leads old.now new.now)
+      → Executed sql params → WritesInside old new res Leads
+  writes sql params Leads command means leads executed =
       record {
         leads = λ clean inside. led res (executed clean inside);
         inside = λ clean inside. shown res (executed clean inside);
@@ -94,7 +94,7 @@ module _ (old new : State) (res : Result ℕ Error) (stop : CommitsNothing old n
       }
     where
       led : (r : Result ℕ Error) → ExecutesInside 0 sql params old new r →
-          OnOk r (LeadsTo old.now new.now)
+          OnOk r (Leads old.now new.now)
       led (Ok count) h =
           leads (λ has. record {
             text = statement_of sql (understood book_schema sql);

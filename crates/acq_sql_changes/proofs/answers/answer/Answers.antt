@@ -8,7 +8,6 @@ use Rattle.acq_sql_changes.proofs.answers.answer.Goals as goal
 pub returns : goal.returns
 returns g c =
     let same : c.commit.new.self.0 ≡ c.conn-2-1.given.0 = search rules in
-    let done = c.commit.ensures in
     let of = c.args.answer.now.key in
     let status = c.args.answer.now.status in
     let reply = c.args.answer.now.reply.now in
@@ -18,4 +17,4 @@ returns g c =
     let whole =
     wrote begin (with_answer of status reply end) c.in_ok-answer_request.ensures.writes in
     let whole = makes whole (λ t. changed_tally t of (answered_row status reply end) kept) in
-    commits g.S.Store whole same c.commit.result done.ended done.ok done.err done.survives
+    commits g.S.Store whole same c.commit.result c.commit.ensures

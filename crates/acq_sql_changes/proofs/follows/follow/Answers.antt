@@ -12,7 +12,6 @@ use Rattle.acq_sql_changes.proofs.follows.follow.Goals as goal
 pub returns : goal.returns
 returns g c =
     let same : c.commit.new.self.0 ≡ c.conn-2-1.given.0 = search rules in
-    let done = c.commit.ensures in
     let r = c.args.request.now in
     let of = c.args.original in
     let status = c.args.status in
@@ -30,4 +29,4 @@ returns g c =
     (λ t room short. request_short (early t) r (changed_short t of u kept short)
     (changed_room t of u kept r room))
     (λ t _. refl) in
-    commits g.S.Store whole same c.commit.result done.ended done.ok done.err done.survives
+    commits g.S.Store whole same c.commit.result c.commit.ensures

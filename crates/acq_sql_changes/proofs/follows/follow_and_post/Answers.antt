@@ -13,7 +13,6 @@ use Rattle.acq_sql_changes.proofs.follows.follow_and_post.Goals as goal
 pub returns : goal.returns
 returns g c =
     let same : c.commit.new.self.0 ≡ c.conn-2-1.given.0 = search rules in
-    let done = c.commit.ensures in
     let r = c.args.request.now in
     let p = c.args.posting.now in
     let n = c.args.number in
@@ -37,7 +36,7 @@ returns g c =
     (request_short (early t) r (changed_short t of u kept short)
     (changed_room t of u kept r room.0)) room.1.0)
     (λ t room. ap (λ k. with_posting k p (with_request r (early t))) room.1.1) in
-    commits g.S.Store whole same c.commit.result done.ended done.ok done.err done.survives
+    commits g.S.Store whole same c.commit.result c.commit.ensures
 
 pub returns-in_err-raise : goal.returns-in_err-raise
 returns-in_err-raise g c =
@@ -46,6 +45,5 @@ returns-in_err-raise g c =
     let followed = within_still begin.within c.in_ok-follow_request.ensures.writes in
     let added = within_still followed c.in_ok-add_request.ensures.writes in
     let posted = within_still added c.in_ok-add_posting.ensures.writes in
-    let dropped = c.drop-tx-in_err-raise.ensures in
-    gives_up g.S.Store posted c.raise.ensures.writes same dropped.ended dropped.undone
-    dropped.survives _ c.from_residual-in_err-raise.ensures.0
+    gives_up g.S.Store posted c.raise.ensures.writes same c.drop-tx-in_err-raise.ensures _
+    c.from_residual-in_err-raise.ensures.0

@@ -11,7 +11,6 @@ use Rattle.acq_sql_changes.proofs.posted_answers.answer_and_post.Goals as goal
 pub returns : goal.returns
 returns g c =
     let same : c.commit.new.self.0 ≡ c.conn-2-1.given.0 = search rules in
-    let done = c.commit.ensures in
     let p = c.args.posting.now in
     let n = c.args.number in
     let of = c.args.answer.now.key in
@@ -31,4 +30,4 @@ returns g c =
     (tally_posted (early t) n p))
     (λ t room short. posting_short (early t) n p (changed_short t of u kept short) room.0)
     (λ t room. ap (λ k. with_posting k p (early t)) room.1) in
-    commits g.S.Store whole same c.commit.result done.ended done.ok done.err done.survives
+    commits g.S.Store whole same c.commit.result c.commit.ensures

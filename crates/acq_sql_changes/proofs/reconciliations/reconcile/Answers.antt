@@ -10,7 +10,6 @@ use Rattle.acq_sql_changes.proofs.reconciliations.reconcile.Goals as goal
 pub returns : goal.returns
 returns g c =
     let same : c.commit.new.self.0 ≡ c.conn-2-1.given.0 = search rules in
-    let done = c.commit.ensures in
     let r = c.args.request.now in
     let n = c.args.number in
     let x = c.args.reconciliation.now in
@@ -23,4 +22,4 @@ returns g c =
     (HasRoomToReconcile r n x) (with_reconciled r x) (λ t _. tally_requested t r)
     (λ t room short. request_short t r short room.0)
     (λ t room. ap (λ k. with_reconciliation k x (with_request r t)) room.1) in
-    commits g.S.Store whole same c.commit.result done.ended done.ok done.err done.survives
+    commits g.S.Store whole same c.commit.result c.commit.ensures

@@ -10,7 +10,6 @@ use Rattle.acq_sql_changes.proofs.requests.record_request.Goals as goal
 pub returns : goal.returns
 returns g c =
     let same : c.commit.new.self.0 ≡ c.conn-2-1.given.0 = search rules in
-    let done = c.commit.ensures in
     let r = c.args.request.now in
     let begin = began g.S.Store c.args.conn.now _ c.transaction-tx.ensures.begun in
     let added = wrote begin (with_request r) c.in_ok-add_request.ensures.writes in
@@ -19,4 +18,4 @@ returns g c =
     (HasRoomFor r) (with_request r) (λ t _. tally_requested t r)
     (λ t room short. request_short t r short room)
     (λ t _. refl) in
-    commits g.S.Store whole same c.commit.result done.ended done.ok done.err done.survives
+    commits g.S.Store whole same c.commit.result c.commit.ensures
