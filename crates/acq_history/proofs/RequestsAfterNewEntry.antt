@@ -40,7 +40,8 @@ use Rattle.acq_history.specs.History.{answer_to, is_completed, is_reversed, any_
 use Rattle.acq_history.specs.History.{reply_state_with, prior}
 use Rattle.acq_history.proofs.Lookups.{not_true, or_true, own_none}
 use Rattle.acq_history.proofs.RecordedInHistory.{key_in}
-use Rattle.acq_history.proofs.Statuses.{reply_state_of-awaited, open_row, IsApproved}
+use Rattle.acq_core.proofs.Statuses.{only_awaited}
+use Rattle.acq_history.proofs.Statuses.{open_row, IsApproved}
 use Rattle.acq_history.proofs.RowsWithChanges.{followed_kept, answered_kept, IsChange}
 
 -- ---- what became of a recorded request
@@ -350,7 +351,7 @@ pub prior_of_answered : (a : Request) (f : Found) (fate : Fate) (draft : IsoMess
 prior_of_answered a f fate draft moment v reply e is pending approval replied =
     let until = answered_hold_end f.request.service moment v (hold_days_of f) in
     let waits : a.status ≡ status.Pending =
-    reply_state_of-awaited a.status a.reply draft (ap (λ x. x.reply_state) is ∙ pending) in
+    only_awaited a.status a.reply draft (ap (λ x. x.reply_state) is ∙ pending) in
     let taken = is_admitted f || is_accepted f in
     let reversible : true ≡ (prior_by fate f).is_reversible =
     sym (ap tables.is_reversible waits) ∙ ap (λ x. x.is_reversible) is in

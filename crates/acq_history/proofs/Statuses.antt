@@ -3,18 +3,13 @@ use Rattle.std.proofs.Common.{◌≡◌, ℕ, Option, Some, None, Bool, true, fa
 use Rattle.std.specs.Prelude.{is_some}
 use Rattle.iso_codec.specs.Message.{IsoMessage}
 use Rattle.acq_core.specs.declared.status.Status.{Status}
-use Rattle.acq_core.specs.declared.status.Status.TheVariants.{Pending, Approved}
-use Rattle.acq_core.specs.declared.reply_state.ReplyState.TheVariants.{Kept, Awaited}
+use Rattle.acq_core.specs.declared.status.Status.TheVariants.{Approved}
+use Rattle.acq_core.specs.declared.reply_state.ReplyState.TheVariants.{Kept}
 use Rattle.acq_core.specs.declared.request.Request.{Request}
 use Rattle.acq_core.specs.Decision.{is_open_at}
 use Rattle.acq_core.specs.Tables.{reply_state_of, is_reversible, is_approved, hold_end_by}
 use Rattle.acq_message.specs.declared.service.Service.{Service}
 use Rattle.acq_message.specs.declared.service.Service.TheVariants.{Authorization}
-
-pub reply_state_of-awaited : (s : Status) (reply draft : IsoMessage) →
-    reply_state_of s reply ≡ Awaited draft → s ≡ Pending
-reply_state_of-awaited Pending reply draft e = refl
-reply_state_of-awaited status reply draft e = absurd (cc)
 
 -- what is approved can be reversed, and its reply is kept
 pub record IsApproved (s : Status) : Type 0 where
