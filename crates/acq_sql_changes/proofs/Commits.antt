@@ -1,6 +1,7 @@
 -- What a transaction has written so far, and what its end leaves.
 use Rattle.std.proofs.Common.{◌≡◌, ◌≤◌, inl, inr, ℕ, true, false, true≢false, cond, refl, sym}
-use Rattle.std.proofs.Common.{subst, ◌∙◌, arith, List, [], Ok, Err, Result, OnOk, IfErr, IsErr, IsTrue}
+use Rattle.std.proofs.Common.{subst, ◌∙◌, arith, List, [], Ok, Err, Result, OnOk, IfErr, IsErr}
+use Rattle.std.proofs.Common.{IsTrue}
 use Rattle.std.proofs.lemmas.Result.{IfOk-weaker, IfErr-weaker}
 use Rattle.std.proofs.lemmas.Slice.Eq.{bytes_eq-Decides}
 use Rattle.sqlite_trees.specs.Tree.{Trees}

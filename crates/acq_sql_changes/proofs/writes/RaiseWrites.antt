@@ -260,8 +260,8 @@ module _ (merchant : List ℕ) (day : ℕ) (more : Tally) where
 
     abbrev Lands : Row → List Row → Type 0
     Lands r found =
-        Raises book_schema 7 at.the_running at.running_placed (at.lone running_tree) limit mode old new
-        has.schema text
+        Raises book_schema 7 at.the_running at.running_placed (at.lone running_tree) limit mode old
+        new has.schema text
         (running_row it) noted (1 ∷ 2 ∷ []) raise_query r new.trees found
 
     pub running_raised :

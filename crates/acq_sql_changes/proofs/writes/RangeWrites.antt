@@ -141,9 +141,11 @@ module _ (limit : Option ℕ) (mode : Mode) (old new : Database) (text : List �
       let w = inserted book_schema 3 at.the_ranges at.ranges_placed
       (at.lone ranges_tree) limit mode old new has.schema text
       (range_params r) noted new_range 5 does in
-      let given = with_rowid Chosen (old.trees ranges_tree) (cast_row at.the_ranges (range_row r)) in
+      let given =
+      with_rowid Chosen (old.trees ranges_tree) (cast_row at.the_ranges (range_row r)) in
       -- the row has its rowid, so none is chosen
-      let laid : given ≡ range_row r = ap (with_rowid Chosen (old.trees ranges_tree)) (laid_range r) in
+      let laid : given ≡ range_row r =
+      ap (with_rowid Chosen (old.trees ranges_tree)) (laid_range r) in
       let fresh : are_fresh (old.trees ranges_tree) (given ∷ []) ≡ true = w.1.fresh in
       let taken : is_taken (old.trees ranges_tree) (range_row r) ≡ false =
       not-true _ (and_parts _ _
