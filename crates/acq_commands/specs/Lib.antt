@@ -5,3 +5,4 @@ pub mod Once
 pub mod Replay
 pub mod Runs
 pub mod Show
+pub mod Streams

@@ -1,11 +1,12 @@
 -- Frames in, reply frames out: one connection over a book.
-use Rattle.std.specs.Prelude.{◌≡◌, ℕ, List, ◌++◌, Result, Ok, Err}
+use Rattle.std.specs.Prelude.{◌≡◌, ℕ, ◌++◌, Result, Ok, Err}
 use Rattle.std.specs.List.{All}
 use Rattle.acq_core.specs.Tables.{Opening, Tables, new_tables}
 use Rattle.acq_front.specs.Serving.{Connection, Serves}
 use Rattle.acq_front.specs.Talk.{Saying}
 use Rattle.acq_front.specs.declared.front_fault.FrontFault.{FrontFault}
 use Rattle.acq_commands.specs.Faults.{of_front}
+use Rattle.acq_commands.specs.Streams.{Stream}
 use Rattle.acq_commands.specs.declared.fault.Fault.{Fault}
 
 -- what a book begins with that is made for one run: the greatest limit, and the first day
@@ -20,16 +21,16 @@ told_of (Err cause) = Err (of_front cause)
 -- Over a book at the old tables one connection was served, at moments that may be given, with what
 -- issuers may say. The book that was left, where it stays open, is at the new tables.
 abbrev pub ServesOnce : (ℕ → Type 0) → Saying → (old : Tables) → Type 0 → (new : Tables)
-    → List ℕ → List ℕ → List ℕ → List ℕ → Result (Unit {0}) Fault → Type 0
-ServesOnce may_give may_say old stays_open new received received_after sent sent_after ended =
+    → (received sent : Stream) → Result (Unit {0}) Fault → Type 0
+ServesOnce may_give may_say old stays_open new received sent ended =
     (c : Connection) × (served : Result (Unit {0}) FrontFault)
-    × (received_after ≡ received ++ c.input) × (sent_after ≡ sent ++ c.output)
+    × (received.after ≡ received.before ++ c.input) × (sent.after ≡ sent.before ++ c.output)
     × All may_give c.moments × Serves may_say old stays_open new c served
     × (ended ≡ told_of served)
 
 -- so over a new book in memory
-abbrev pub ServesInMemory : (ℕ → Type 0) → Saying → List ℕ → List ℕ → List ℕ → List ℕ
+abbrev pub ServesInMemory : (ℕ → Type 0) → Saying → (received sent : Stream)
     → Result (Unit {0}) Fault → Type 0
-ServesInMemory may_give may_say received received_after sent sent_after ended =
+ServesInMemory may_give may_say received sent ended =
     (left : Tables) × ServesOnce may_give may_say (new_tables widest_opening) (Unit {0}) left
-    received received_after sent sent_after ended
+    received sent ended

@@ -8,6 +8,7 @@ use Rattle.acq_core.specs.Tables.{Tables, outputs, tables_after}
 use Rattle.acq_host.specs.Runs.{after_first}
 use Rattle.acq_out.specs.EventLines.{events_of_text}
 use Rattle.acq_out.specs.OutputLines.{line_of}
+use Rattle.acq_commands.specs.Streams.{Course, Stream}
 use Rattle.acq_commands.specs.declared.fault.Fault as fault
 
 -- the lines of what the host says to events
@@ -32,24 +33,25 @@ Reaches said taken written part (fault.TheVariants.Write n) =
 Reaches said taken written part other = ⊥
 
 -- All events of a text were taken, and their lines written.
-pub record ReplaysAll {S : Type 0} (tables : S → Tables) (old new : S)
-    (text sent sent_after : List ℕ) : Type 0 where
+pub record ReplaysAll {S : Type 0} (book : Course S) (text : List ℕ) (sent : Stream) : Type 0 where
   pub events : List Event
   pub spelled : events_of_text text ≡ Ok events
-  pub lines_sent : sent_after ≡ sent ++ lines (tables old) events
-  pub leads : tables new ≡ tables_after (tables old) events
+  pub lines_sent : sent.after ≡ sent.before ++ lines (book.tables book.old) events
+  pub leads : book.tables book.new ≡ tables_after (book.tables book.old) events
 
 -- So many first events were taken, and so many lines written whole, with a part of the next; and
 -- an event was in hand.
-pub record Stops {S : Type 0} (tables : S → Tables) (is_open : S → Type 0) (old new : S)
-    (events : List Event) (sent sent_after : List ℕ) (cause : fault.Fault) : Type 0 where
+pub record Stops {S : Type 0} (book : Course S) (events : List Event) (sent : Stream)
+    (cause : fault.Fault) : Type 0 where
   pub taken : ℕ
   pub written : ℕ
   pub part : List ℕ
-  pub lines_sent : sent_after ≡ sent ++ (lines (tables old) (take written events) ++ part)
+  pub lines_sent :
+      sent.after ≡ sent.before ++ (lines (book.tables book.old) (take written events) ++ part)
   pub in_hand : written < length events
-  pub next : Reaches (outputs (tables old) events) taken written part cause
-  pub leads : is_open new → tables new ≡ after_first taken (tables old) events
+  pub next : Reaches (outputs (book.tables book.old) events) taken written part cause
+  pub leads : book.is_open book.new →
+      book.tables book.new ≡ after_first taken (book.tables book.old) events
 
 -- The faults that can stop the events of a text once they are read.
 abbrev pub StopsEvents : fault.Fault → Type 0
@@ -60,31 +62,28 @@ StopsEvents other = ⊥
 
 -- Where a text's events were stopped, by the fault: a bad line, and a read that failed, before any
 -- event was taken; want of memory perhaps then, too.
-abbrev pub StopsAt : {S : Type 0} → (S → Tables) → (S → Type 0) → S → S → List ℕ → List ℕ → List ℕ
-    → fault.Fault → Type 0
-StopsAt tables is_open old new text sent sent_after (fault.TheVariants.BadLine n) =
-    (events_of_text text ≡ Err n) × (new ≡ old) × (sent_after ≡ sent)
-StopsAt tables is_open old new text sent sent_after fault.TheVariants.Read =
-    (new ≡ old) × (sent_after ≡ sent)
-StopsAt tables is_open old new text sent sent_after fault.TheVariants.Memory =
-    ((new ≡ old) × (sent_after ≡ sent))
+abbrev pub StopsAt : {S : Type 0} → Course S → List ℕ → Stream → fault.Fault → Type 0
+StopsAt book text sent (fault.TheVariants.BadLine n) =
+    (events_of_text text ≡ Err n) × (book.new ≡ book.old) × (sent.after ≡ sent.before)
+StopsAt book text sent fault.TheVariants.Read =
+    (book.new ≡ book.old) × (sent.after ≡ sent.before)
+StopsAt book text sent fault.TheVariants.Memory =
+    ((book.new ≡ book.old) × (sent.after ≡ sent.before))
     ⊎ ((events : List Event) × (events_of_text text ≡ Ok events)
-    × Stops tables is_open old new events sent sent_after fault.TheVariants.Memory)
-StopsAt tables is_open old new text sent sent_after fault.TheVariants.Store =
+    × Stops book events sent fault.TheVariants.Memory)
+StopsAt book text sent fault.TheVariants.Store =
     (events : List Event) × (events_of_text text ≡ Ok events)
-    × Stops tables is_open old new events sent sent_after fault.TheVariants.Store
-StopsAt tables is_open old new text sent sent_after (fault.TheVariants.Write n) =
+    × Stops book events sent fault.TheVariants.Store
+StopsAt book text sent (fault.TheVariants.Write n) =
     (events : List Event) × (events_of_text text ≡ Ok events)
-    × Stops tables is_open old new events sent sent_after (fault.TheVariants.Write n)
-StopsAt tables is_open old new text sent sent_after other = ⊥
+    × Stops book events sent (fault.TheVariants.Write n)
+StopsAt book text sent other = ⊥
 
 -- how the lines of a text were taken, and what went out
-abbrev pub Replays : {S : Type 0} → (S → Tables) → (S → Type 0) → S → S → List ℕ → List ℕ → List ℕ
-    → Result (Unit {0}) fault.Fault → Type 0
-Replays tables is_open old new text sent sent_after (Ok u) =
-    ReplaysAll tables old new text sent sent_after
-Replays tables is_open old new text sent sent_after (Err f) =
-    StopsAt tables is_open old new text sent sent_after f
+abbrev pub Replays : {S : Type 0} → Course S → List ℕ → Stream → Result (Unit {0}) fault.Fault
+    → Type 0
+Replays book text sent (Ok u) = ReplaysAll book text sent
+Replays book text sent (Err f) = StopsAt book text sent f
 
 -- said of each end but want of memory and a read that failed: the others come after the reading
 abbrev pub AfterReading : Result (Unit {0}) fault.Fault → Type 0 → Type 0

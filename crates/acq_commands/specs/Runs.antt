@@ -9,13 +9,15 @@ use Rattle.acq_commands.specs.declared.fault.Fault.{Fault}
 use Rattle.acq_commands.specs.declared.replay_options.ReplayOptions.{ReplayOptions}
 use Rattle.acq_commands.specs.DayReports.{StopsTaking, TakesEvents, WritesReports, told}
 use Rattle.acq_commands.specs.Replay.{Replays}
+use Rattle.acq_commands.specs.Streams.{Stream}
 
 -- The event lines that were read were taken over a new book, and what came of them was written.
-abbrev pub RunsLines : Opening → List ℕ → List ℕ → List ℕ → List ℕ → Result (Unit {0}) Fault
-    → Type 0
-RunsLines opening received received_after sent sent_after ended =
-    (text : List ℕ) × (book : Tables) × (received_after ≡ received ++ text)
-    × Replays (λ t. t) (λ t. Unit {0}) (new_tables opening) book text sent sent_after ended
+abbrev pub RunsLines : Opening → (received sent : Stream) → Result (Unit {0}) Fault → Type 0
+RunsLines opening received sent ended =
+    (text : List ℕ) × (book : Tables) × (received.after ≡ received.before ++ text)
+    × Replays
+    (record { tables = λ t. t; is_open = λ t. Unit {0}; old = new_tables opening; new = book })
+    text sent ended
 
 -- what stops the event lines before any report is begun: nothing goes out
 abbrev pub StopsBefore : Opening → List ℕ → List ℕ → List ℕ → Fault → Type 0
@@ -39,30 +41,27 @@ EndsReports opening reports text sent sent_after ended =
     ⊎ ((written : Result (Unit {0}) ReportFault) × (ended ≡ told written)
     × ReportsAfter opening reports text sent sent_after written)
 
-abbrev pub RunsReports : Opening → List DayReport → List ℕ → List ℕ → List ℕ → List ℕ
+abbrev pub RunsReports : Opening → List DayReport → (received sent : Stream)
     → Result (Unit {0}) Fault → Type 0
-RunsReports opening reports received received_after sent sent_after ended =
-    (text : List ℕ) × (received_after ≡ received ++ text)
-    × EndsReports opening reports text sent sent_after ended
+RunsReports opening reports received sent ended =
+    (text : List ℕ) × (received.after ≡ received.before ++ text)
+    × EndsReports opening reports text sent.before sent.after ended
 
 -- lines of what came of the events, or reports where some are asked for
-abbrev pub RunsEither : Opening → List DayReport → List ℕ → List ℕ → List ℕ → List ℕ
+abbrev pub RunsEither : Opening → List DayReport → (received sent : Stream)
     → Result (Unit {0}) Fault → Type 0
-RunsEither opening [] received received_after sent sent_after ended =
-    RunsLines opening received received_after sent sent_after ended
-RunsEither opening (r ∷ rs) received received_after sent sent_after ended =
-    RunsReports opening (r ∷ rs) received received_after sent sent_after ended
+RunsEither opening [] received sent ended = RunsLines opening received sent ended
+RunsEither opening (r ∷ rs) received sent ended =
+    RunsReports opening (r ∷ rs) received sent ended
 
 -- over a new book where there is no file; what is done to the book of a file is said by the calls
 -- that open it and take the events
-abbrev pub RunsIn : Option (String Global) → Opening → List DayReport → List ℕ → List ℕ → List ℕ
-    → List ℕ → Result (Unit {0}) Fault → Type 0
-RunsIn None opening reports received received_after sent sent_after ended =
-    RunsEither opening reports received received_after sent sent_after ended
-RunsIn (Some path) opening reports received received_after sent sent_after ended = Unit {0}
-
-abbrev pub RunsReplay : ReplayOptions → List ℕ → List ℕ → List ℕ → List ℕ
+abbrev pub RunsIn : Option (String Global) → Opening → List DayReport → (received sent : Stream)
     → Result (Unit {0}) Fault → Type 0
-RunsReplay options received received_after sent sent_after ended =
+RunsIn None opening reports received sent ended = RunsEither opening reports received sent ended
+RunsIn (Some path) opening reports received sent ended = Unit {0}
+
+abbrev pub RunsReplay : ReplayOptions → (received sent : Stream) → Result (Unit {0}) Fault → Type 0
+RunsReplay options received sent ended =
     RunsIn options.book (record { limit = options.limit; first_day = options.first_day })
-    options.reports.items received received_after sent sent_after ended
+    options.reports.items received sent ended

@@ -6,6 +6,7 @@ use Rattle.acq_link.specs.HexLines.{messages_of_text}
 use Rattle.acq_link.specs.Frames.{Frames, FramesThen, framed, is_partial, has_bad_length}
 use Rattle.acq_link.specs.FramesAt.{BeginsWithFrame}
 use Rattle.acq_show.specs.Shown.{shown}
+use Rattle.acq_commands.specs.Streams.{Stream}
 use Rattle.acq_commands.specs.declared.fault.Fault as fault
 use Rattle.acq_commands.specs.declared.input_form.InputForm.{InputForm}
 use Rattle.acq_commands.specs.declared.input_form.InputForm.TheVariants as form
@@ -82,11 +83,10 @@ ShowsInput form.Frames input out ended = Shows input out ended
 ShowsInput form.HexLines input out ended = ShowsHex input out ended
 
 -- What was read was shown so, and this was written.
-abbrev pub RunsShow : InputForm → List ℕ → List ℕ → List ℕ → List ℕ
-    → Result (Unit {0}) fault.Fault → Type 0
-RunsShow form received received_after sent sent_after ended =
-    (bytes out : List ℕ) × (received_after ≡ received ++ bytes) × (sent_after ≡ sent ++ out)
-    × ShowsInput form bytes out ended
+abbrev pub RunsShow : InputForm → (received sent : Stream) → Result (Unit {0}) fault.Fault → Type 0
+RunsShow form received sent ended =
+    (bytes out : List ℕ) × (received.after ≡ received.before ++ bytes)
+    × (sent.after ≡ sent.before ++ out) × ShowsInput form bytes out ended
 
 -- one message was shown, or what a fault leaves
 abbrev pub ShowsOne : List ℕ → List ℕ → List ℕ → Result (Unit {0}) fault.Fault → Type 0

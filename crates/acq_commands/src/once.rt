@@ -30,8 +30,9 @@ pub fn once_on<B: Book + Drop, C: Clock, I: Issuer, S: Source, K: Sink>(
     // How what came was served, over the book that is left.
     ensures served { (left : B) × (B.is_honest left → B.is_open book
         → ServesOnce (C.may_give clock.old) (I.may_say issuer.old) (B.tables book)
-        (B.is_open left) (B.tables left) (S.received input.old) (S.received input.new)
-        (K.sent output.old) (K.sent output.new) result) }
+        (B.is_open left) (B.tables left)
+        (record { before = S.received input.old; after = S.received input.new })
+        (record { before = K.sent output.old; after = K.sent output.new }) result) }
     // Where all is well, the whole input was read.
     ensures whole { OnOk result
         (TakesAll (S.remaining input.old) (S.received input.old) (S.received input.new)) }
@@ -56,8 +57,8 @@ pub fn once_in_memory<C: Clock, I: Issuer, S: Source, K: Sink>(
     output: &mut K,
 ) -> Result<(), Fault>
     ensures served { ServesInMemory (C.may_give clock.old) (I.may_say issuer.old)
-        (S.received input.old) (S.received input.new) (K.sent output.old) (K.sent output.new)
-        result }
+        (record { before = S.received input.old; after = S.received input.new })
+        (record { before = K.sent output.old; after = K.sent output.new }) result }
     ensures whole { OnOk result
         (TakesAll (S.remaining input.old) (S.received input.old) (S.received input.new)) }
     ensures reads { S.failures input.new ≡ S.failures input.old + failed_reads result }

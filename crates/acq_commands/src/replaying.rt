@@ -36,8 +36,9 @@ pub fn replay<B: Book + Drop, S: Source, K: Sink, P: Progress>(
     // What was read, what was written of it, and what the book took.
     ensures replays { B.is_honest host.new → B.is_open host.old → (text : List ℕ)
         × (S.received input.new ≡ S.received input.old ++ text)
-        × Replays B.tables B.is_open host.old host.new text (K.sent output.old) (K.sent output.new)
-        result }
+        × Replays
+        (record { tables = B.tables; is_open = B.is_open; old = host.old; new = host.new }) text
+        (record { before = K.sent output.old; after = K.sent output.new }) result }
     // Unless memory ran out or a read failed, the whole input was read.
     ensures whole { AfterReading result
         (TakesAll (S.remaining input.old) (S.received input.old) (S.received input.new)) }
@@ -68,8 +69,8 @@ fn take_all<B: Book + Drop, K: Sink, P: Progress>(
     ensures tables { B.is_honest host.new → B.is_open host.old → OnOk result
         (B.tables host.new ≡ tables_after (B.tables host.old) events.now) }
     ensures stops { B.is_honest host.new → B.is_open host.old → IfErr result (λ fault.
-        Stops B.tables B.is_open host.old host.new events.now
-        (K.sent output.old) (K.sent output.new) fault) }
+        Stops (record { tables = B.tables; is_open = B.is_open; old = host.old; new = host.new })
+        events.now (record { before = K.sent output.old; after = K.sent output.new }) fault) }
     ensures which { IfErr result StopsEvents }
     ensures writes { K.failures output.new ≡ K.failures output.old + failed_writes result }
     ensures store { IsErrOf result Store

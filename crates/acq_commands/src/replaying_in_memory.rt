@@ -25,8 +25,9 @@ pub fn replay_in_memory<S: Source, K: Sink, P: Progress>(
     output: &mut K,
     progress: &mut P,
 ) -> Result<(), Fault>
-    ensures runs { RunsReplay options.now (S.received input.old) (S.received input.new)
-        (K.sent output.old) (K.sent output.new) result }
+    ensures runs { RunsReplay options.now
+        (record { before = S.received input.old; after = S.received input.new })
+        (record { before = K.sent output.old; after = K.sent output.new }) result }
     ensures whole { AfterReading result
         (TakesAll (S.remaining input.old) (S.received input.old) (S.received input.new)) }
 {
@@ -48,8 +49,8 @@ fn replay_to_lines<S: Source, K: Sink, P: Progress>(
 ) -> Result<(), Fault>
     ensures runs { RunsLines
         (record { limit = options.now.limit; first_day = options.now.first_day })
-        (S.received input.old) (S.received input.new)
-        (K.sent output.old) (K.sent output.new) result }
+        (record { before = S.received input.old; after = S.received input.new })
+        (record { before = K.sent output.old; after = K.sent output.new }) result }
     ensures whole { AfterReading result
         (TakesAll (S.remaining input.old) (S.received input.old) (S.received input.new)) }
 {
@@ -72,8 +73,9 @@ fn replay_to_reports<S: Source, K: Sink, P: Progress>(
 ) -> Result<(), Fault>
     ensures runs { RunsReports
         (record { limit = options.now.limit; first_day = options.now.first_day })
-        options.now.reports.items (S.received input.old) (S.received input.new)
-        (K.sent output.old) (K.sent output.new) result }
+        options.now.reports.items
+        (record { before = S.received input.old; after = S.received input.new })
+        (record { before = K.sent output.old; after = K.sent output.new }) result }
     ensures whole { AfterReading result
         (TakesAll (S.remaining input.old) (S.received input.old) (S.received input.new)) }
 {

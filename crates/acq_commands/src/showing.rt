@@ -24,8 +24,9 @@ pub fn show<S: Source, K: Sink>(
     output: &mut K,
 ) -> Result<(), Fault>
     // What was read, and how it was shown.
-    ensures shown { RunsShow form (S.received input.old) (S.received input.new)
-        (K.sent output.old) (K.sent output.new) result }
+    ensures shown { RunsShow form
+        (record { before = S.received input.old; after = S.received input.new })
+        (record { before = K.sent output.old; after = K.sent output.new }) result }
     // Unless memory ran out or a read failed, the whole input was read.
     ensures whole { AfterReading result
         (TakesAll (S.remaining input.old) (S.received input.old) (S.received input.new)) }

@@ -116,7 +116,9 @@ module _ (may_say : Saying) where
   pub took_alone : (t new : Tables) (moment : ℕ) (message : List ℕ) (o : Output) →
       step_output t (arrival_of (Frame moment message)) ≡ o → AsksNothing o →
       new ≡ step_tables t (arrival_of (Frame moment message)) →
-      TookMessage may_say t new message (moment ∷ []) [] (Frame moment message ∷ [])
+      TookMessage may_say t new
+      (record { message = message; moments = moment ∷ []; verdicts = [] })
+      (Frame moment message ∷ [])
   took_alone t new moment message o is nothing tables = record {
     makes = makes_alone t moment message o is nothing;
     tables = tables;
@@ -130,7 +132,8 @@ module _ (may_say : Saying) where
       mid ≡ step_tables t (arrival_of (Frame moment message)) →
       new ≡ step_tables mid (arrival_of (Answer next query.merchant query.reference verdict)) →
       may_say query verdict →
-      TookMessage may_say t new message (moment ∷ next ∷ []) (verdict ∷ [])
+      TookMessage may_say t new
+      (record { message = message; moments = moment ∷ next ∷ []; verdicts = verdict ∷ [] })
       (Frame moment message ∷ Answer next query.merchant query.reference verdict ∷ [])
   took_answer t mid new moment next message query verdict is between tables said = record {
     makes = makes_asking t moment next message query verdict is;

@@ -104,7 +104,8 @@ module _ (may_give : ℕ → Type 0) (may_say : Saying) (old new : Tables) where
   answers : (came held left went unsent message moments : List ℕ) (verdicts : List Verdict)
       (ended : Result Round fault.FrontFault) → All may_give moments →
       BeginsWithFrame held message left →
-      front.Answered may_say old new message unsent moments verdicts →
+      front.Answered may_say old new
+      (record { message = message; moments = moments; verdicts = verdicts }) unsent →
       Goes may_give may_say old new (parts came held went []) (parts came left went unsent) ended
   answers came held left went unsent message moments verdicts ended given begins a = record {
     events = a.events;

@@ -19,8 +19,8 @@ use Rattle.acq_host.proofs.PartiesAlone.{is_alone}
 use Rattle.acq_front.specs.declared.front_fault.FrontFault as fault
 use Rattle.acq_front.specs.Faults.{of_stream}
 use Rattle.acq_front.specs.Talk.{talk, replies, queries, Saying, AreSaid}
-use Rattle.acq_front.specs.Turns.{is_read, Makes, TookMessage, TookAllButAnswer, Answered, Refused}
-use Rattle.acq_front.specs.Turns.{CutShort, Turns}
+use Rattle.acq_front.specs.Turns.{is_read, Makes, Incoming, TookMessage, TookAllButAnswer, Answered}
+use Rattle.acq_front.specs.Turns.{Refused, CutShort, Turns}
 use Rattle.acq_front.specs.Serving.{Connection, AllAnswered, CutsLast, LeavesOff, Serves, AllRead}
 use Rattle.acq_front.proofs.TalkGoesOn.{GoesOn, goes_on_none, goes_on_more, talk_is, talk_ends}
 use Rattle.acq_front.proofs.TalkGoesOn.{replies-append, said_more, said_weaker}
@@ -83,14 +83,14 @@ written_more old mid events made output out at so more =
     subst (λ (rs : List (List ℕ)). Frames (output ++ out) rs) (sym (replies-append old events made))
     (frames_append so later)
 
--- a message more was taken, at these moments and with these verdicts, and these bytes went out
-abbrev pub with_message : Connection → List ℕ → List ℕ → List ℕ → List Verdict → List ℕ → Connection
-with_message c message out moments verdicts left = record {
+-- a message more was taken, and these bytes went out
+abbrev pub with_message : Connection → Incoming → List ℕ → List ℕ → Connection
+with_message c m out left = record {
   input = c.input;
   output = c.output ++ out;
-  moments = c.moments ++ moments;
-  verdicts = c.verdicts ++ verdicts;
-  messages = c.messages ++ message ∷ [];
+  moments = c.moments ++ m.moments;
+  verdicts = c.verdicts ++ m.verdicts;
+  messages = c.messages ++ m.message ∷ [];
   rest = left;
 }
 
@@ -164,35 +164,35 @@ module _ (S : Saying) where
 
   -- the next message's events were taken too
   took_more : (old mid new : Tables) (c : Connection) (held : List ℕ) (made : List Event)
-      (message out moments left : List ℕ) (verdicts : List Verdict) →
-      (so : Going S old mid c held) → BeginsWithFrame held message left →
-      TookMessage S mid new message moments verdicts made →
-      TookAll S old new (with_message c message out moments verdicts left) (so.events ++ made)
-  took_more old mid new c held made message out moments left verdicts so begins took = record {
-    came = frames_then_more c held message left so.took.came so.rest begins;
-    goes = goes_on_more old c.messages message c.moments moments c.verdicts verdicts so.events made
-        so.took.goes
-        (subst (λ (t : Tables). Makes t message moments verdicts made) so.took.tables took.makes);
+      (m : Incoming) (out left : List ℕ) →
+      (so : Going S old mid c held) → BeginsWithFrame held m.message left →
+      TookMessage S mid new m made →
+      TookAll S old new (with_message c m out left) (so.events ++ made)
+  took_more old mid new c held made m out left so begins took = record {
+    came = frames_then_more c held m.message left so.took.came so.rest begins;
+    goes = goes_on_more old c.messages m.message c.moments m.moments c.verdicts m.verdicts so.events
+        made so.took.goes
+        (subst (λ (t : Tables). Makes t m.message m.moments m.verdicts made) so.took.tables
+        took.makes);
     tables = took.tables ∙ ap (λ (t : Tables). tables_after t made) so.took.tables
         ∙ sym (tables_after-append old so.events made);
-    said = said_more S old mid so.events made c.verdicts verdicts so.took.tables so.took.said
+    said = said_more S old mid so.events made c.verdicts m.verdicts so.took.tables so.took.said
         took.said;
   }
 
   pub going_more : {old mid new : Tables} {c : Connection} {held : List ℕ}
-      (message out moments left : List ℕ) (verdicts : List Verdict) →
-      Going S old mid c held → BeginsWithFrame held message left → is_read message ≡ true →
-      Answered S mid new message out moments verdicts →
-      Going S old new (with_message c message out moments verdicts left) left
-  going_more {old = old} {mid = mid} {new = new} {c = c} {held = held} message out moments left
-      verdicts so begins reads answered = record {
+      (m : Incoming) (out left : List ℕ) →
+      Going S old mid c held → BeginsWithFrame held m.message left → is_read m.message ≡ true →
+      Answered S mid new m out →
+      Going S old new (with_message c m out left) left
+  going_more {old = old} {mid = mid} {new = new} {c = c} {held = held} m out left so begins reads
+      answered = record {
         events = so.events ++ answered.events;
-        took = took_more old mid new c held answered.events message out moments left verdicts so begins
-            answered.took;
-        written = written_more old mid so.events answered.events c.output out so.took.tables so.written
-            answered.written;
+        took = took_more old mid new c held answered.events m out left so begins answered.took;
+        written = written_more old mid so.events answered.events c.output out so.took.tables
+            so.written answered.written;
         rest = refl;
-        read = all_read c.messages message so.read reads;
+        read = all_read c.messages m.message so.read reads;
       }
 
   -- ---- ends
@@ -281,17 +281,16 @@ module _ (S : Saying) where
       pub verdicts_are : d.verdicts ≡ c.verdicts ++ verdicts
 
   module _ (old mid : Tables) (stays_open : Type 0) (new : Tables) (c : Connection)
-      (held message left out moments : List ℕ)
-      (verdicts : List Verdict) (so : Going S old mid c held)
-      (begins : BeginsWithFrame held message left) where
+      (held left : List ℕ) (m : Incoming) (out : List ℕ) (so : Going S old mid c held)
+      (begins : BeginsWithFrame held m.message left) where
     abbrev with_it : Connection
-    with_it = with_message c message out moments verdicts left
+    with_it = with_message c m out left
 
     -- nothing of it was taken
-    refused_whole : out ≡ [] → (stays_open → new ≡ mid) → verdicts ≡ [] →
-        LeavesOff S old stays_open new (with_nothing_taken c out moments verdicts)
+    refused_whole : out ≡ [] → (stays_open → new ≡ mid) → m.verdicts ≡ [] →
+        LeavesOff S old stays_open new (with_nothing_taken c out m.moments m.verdicts)
     refused_whole none kept unasked =
-        let same : c.verdicts ++ verdicts ≡ c.verdicts =
+        let same : c.verdicts ++ m.verdicts ≡ c.verdicts =
         ap (λ (l : List Verdict). c.verdicts ++ l) unasked ∙ append-nil c.verdicts in
         record {
           came = so.took.came;
@@ -299,8 +298,8 @@ module _ (S : Saying) where
           events = so.events;
           missing = [];
           at_most_one = inl refl;
-          all = ap (λ (l : List Verdict). talk old c.messages (c.moments ++ moments) l) same
-              ∙ talk_is old c.messages c.moments moments c.verdicts so.events so.took.goes
+          all = ap (λ (l : List Verdict). talk old c.messages (c.moments ++ m.moments) l) same
+              ∙ talk_is old c.messages c.moments m.moments c.verdicts so.events so.took.goes
               ∙ sym (append-nil so.events);
           tables = λ still. kept still ∙ so.took.tables;
           alone = λ still. ran_alone old new so.events (kept still ∙ so.took.tables);
@@ -309,20 +308,20 @@ module _ (S : Saying) where
         }
 
     -- its answer wasn't taken
-    refused_answer : out ≡ [] → TookAllButAnswer S mid stays_open new message moments verdicts →
+    refused_answer : out ≡ [] → TookAllButAnswer S mid stays_open new m →
         LeavesOff S old stays_open new with_it
     refused_answer none most =
         let first = most.came ∷ [] in
         let led : stays_open → new ≡ tables_after old (so.events ++ first) =
         λ still. most.tables still ∙ ap (λ (t : Tables). tables_after t first) so.took.tables
         ∙ sym (tables_after-append old so.events first) in
-        let goes = goes_on_more old c.messages message c.moments moments c.verdicts verdicts
+        let goes = goes_on_more old c.messages m.message c.moments m.moments c.verdicts m.verdicts
         so.events (most.came ∷ most.answer ∷ []) so.took.goes
-        (subst (λ (t : Tables). Makes t message moments verdicts (most.came ∷ most.answer ∷ []))
-        so.took.tables most.makes) in
+        (subst (λ (t : Tables). Makes t m.message m.moments m.verdicts
+        (most.came ∷ most.answer ∷ [])) so.took.tables most.makes) in
         record {
-          came = frames_then_more c held message left so.took.came so.rest begins;
-          read = all_read c.messages message so.read most.reads;
+          came = frames_then_more c held m.message left so.took.came so.rest begins;
+          read = all_read c.messages m.message so.read most.reads;
           events = so.events ++ first;
           missing = most.answer ∷ [];
           at_most_one = inr (most.answer, most.is_answer, refl);
@@ -331,8 +330,8 @@ module _ (S : Saying) where
               ∙ sym (append_assoc so.events first (most.answer ∷ []));
           tables = led;
           alone = λ still. ran_alone old new (so.events ++ first) (led still);
-          said = said_more S old mid so.events first c.verdicts verdicts so.took.tables so.took.said
-              most.said;
+          said = said_more S old mid so.events first c.verdicts m.verdicts so.took.tables
+              so.took.said most.said;
           written = written_more old mid so.events first c.output out so.took.tables so.written
               (record {
                 each = ap (list_all fits_frame) most.silent;
@@ -342,17 +341,16 @@ module _ (S : Saying) where
         }
 
     -- its reply's frame went out in part
-    cuts_last : (n : ℕ) → CutShort S mid new message out moments verdicts n →
+    cuts_last : (n : ℕ) → CutShort S mid new m out n →
         CutsLast S old new with_it n
     cuts_last n cut =
-        let took = took_more old mid new c held cut.events message out moments left verdicts so
-        begins cut.took in
+        let took = took_more old mid new c held cut.events m out left so begins cut.took in
         let talked = talk_ends old with_it.messages with_it.moments with_it.verdicts
         (so.events ++ cut.events) took.goes in
         let led = took.tables ∙ ap (tables_after old) (sym talked) in
         record {
           came = took.came;
-          read = all_read c.messages message so.read cut.reads;
+          read = all_read c.messages m.message so.read cut.reads;
           tables = led;
           alone = ran_alone old new (talk old with_it.messages with_it.moments with_it.verdicts)
               led;
@@ -371,23 +369,22 @@ module _ (S : Saying) where
 
     -- what is left where a message stops a connection
     abbrev Stopped : fault.FrontFault → Type 0
-    Stopped f = (d : Connection) × Extends c d out moments verdicts × Serves S old stays_open new d
-        (Err f)
+    Stopped f = (d : Connection) × Extends c d out m.moments m.verdicts
+        × Serves S old stays_open new d (Err f)
 
-    extends_with : Extends c with_it out moments verdicts
+    extends_with : Extends c with_it out m.moments m.verdicts
     extends_with = record { input = refl; output = refl; moments_are = refl; verdicts_are = refl }
 
-    refused : Refused S mid stays_open new message out moments verdicts →
-        (d : Connection) × Extends c d out moments verdicts × LeavesOff S old stays_open new d
+    refused : Refused S mid stays_open new m out →
+        (d : Connection) × Extends c d out m.moments m.verdicts × LeavesOff S old stays_open new d
     refused (none, inl (kept, unasked)) = (
-      with_nothing_taken c out moments verdicts,
+      with_nothing_taken c out m.moments m.verdicts,
       record { input = refl; output = refl; moments_are = refl; verdicts_are = refl },
       refused_whole none kept unasked,
     )
     refused (none, inr most) = (with_it, extends_with, refused_answer none most)
 
-    pub stopped : (f : fault.FrontFault) →
-        Turns S mid stays_open new message out moments verdicts (Err f) → Stopped f
+    pub stopped : (f : fault.FrontFault) → Turns S mid stays_open new m out (Err f) → Stopped f
     stopped fault.TheVariants.Memory stops = refused stops
     stopped fault.TheVariants.Store stops = refused stops
     stopped (fault.TheVariants.Undecodable f) (answered, unread) = (
@@ -395,11 +392,16 @@ module _ (S : Saying) where
       extends_with,
       (
         all_answered (so.events ++ answered.events)
-            (took_more old mid new c held answered.events message out moments left verdicts so
-            begins answered.took)
+            (took_more old mid new c held answered.events m out left so begins answered.took)
             (written_more old mid so.events answered.events c.output out so.took.tables so.written
             answered.written),
-        record { before = c.messages; last = message; are = refl; read = so.read; unread = unread },
+        record {
+          before = c.messages;
+          last = m.message;
+          are = refl;
+          read = so.read;
+          unread = unread;
+        },
       ),
     )
     stopped (fault.TheVariants.Write n) cut = (with_it, extends_with, cuts_last n cut)
@@ -410,23 +412,20 @@ module _ (S : Saying) where
 -- ---- an issuer that might say more
 
 module _ (S R : Saying) (f : (q : Query) (v : Verdict) → S q v → R q v) (old : Tables)
-    (stays_open : Type 0) (new : Tables)
-    (message out moments : List ℕ) (verdicts : List Verdict) where
-  took_weaker : (events : List Event) → TookMessage S old new message moments verdicts events →
-      TookMessage R old new message moments verdicts events
+    (stays_open : Type 0) (new : Tables) (m : Incoming) (out : List ℕ) where
+  took_weaker : (events : List Event) → TookMessage S old new m events →
+      TookMessage R old new m events
   took_weaker events took = record {
     makes = took.makes;
     tables = took.tables;
-    said = said_weaker S R f (queries old events) verdicts took.said;
+    said = said_weaker S R f (queries old events) m.verdicts took.said;
   }
 
-  answered_weaker : Answered S old new message out moments verdicts →
-      Answered R old new message out moments verdicts
+  answered_weaker : Answered S old new m out → Answered R old new m out
   answered_weaker a =
       record { events = a.events; took = took_weaker a.events a.took; written = a.written }
 
-  refused_weaker : Refused S old stays_open new message out moments verdicts →
-      Refused R old stays_open new message out moments verdicts
+  refused_weaker : Refused S old stays_open new m out → Refused R old stays_open new m out
   refused_weaker (none, inl same) = (none, inl same)
   refused_weaker (none, inr most) = (
     none,
@@ -437,14 +436,13 @@ module _ (S R : Saying) (f : (q : Query) (v : Verdict) → S q v → R q v) (old
       reads = most.reads;
       makes = most.makes;
       tables = most.tables;
-      said = said_weaker S R f (queries old (most.came ∷ [])) verdicts most.said;
+      said = said_weaker S R f (queries old (most.came ∷ [])) m.verdicts most.said;
       silent = most.silent;
     }),
   )
 
   pub turns_weaker : (r : Result (Unit {0}) fault.FrontFault) →
-      Turns S old stays_open new message out moments verdicts r →
-      Turns R old stays_open new message out moments verdicts r
+      Turns S old stays_open new m out r → Turns R old stays_open new m out r
   turns_weaker (Ok u) (answered, reads) = (answered_weaker answered, reads)
   turns_weaker (Err fault.TheVariants.Memory) stops = refused_weaker stops
   turns_weaker (Err fault.TheVariants.Store) stops = refused_weaker stops

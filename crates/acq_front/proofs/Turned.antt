@@ -19,8 +19,8 @@ use Rattle.acq_host.specs.Runs.{IsWellSaid}
 use Rattle.acq_front.specs.declared.front_fault.FrontFault as fault
 use Rattle.acq_front.specs.Faults.{of_book, IfStore}
 use Rattle.acq_front.specs.Talk.{Saying, reply_in, replies}
-use Rattle.acq_front.specs.Turns.{is_read, TookMessage, TookAllButAnswer, Answered, Refused, Turns}
-use Rattle.acq_front.specs.Turns.{ReplyFits, Sends, SendsReply}
+use Rattle.acq_front.specs.Turns.{is_read, Incoming, TookMessage, TookAllButAnswer, Answered}
+use Rattle.acq_front.specs.Turns.{Refused, Turns, ReplyFits, Sends, SendsReply}
 use Rattle.acq_front.proofs.Reading.{undecodable_is, reads}
 use Rattle.acq_front.proofs.MessagesTaken.{AsksNothing, makes_asking, replies_one, replies_two}
 use Rattle.acq_front.proofs.MessagesTaken.{frames_none, frames_one, said_one, took_alone}
@@ -54,24 +54,20 @@ if_store (Err (fault.TheVariants.Write n)) P Q f p = tt
 
 -- the book refused
 pub book_stops : (may_say : Saying) (e : book.BookFault) (old : Tables) (stays_open : Type 0)
-    (new : Tables) (message out moments : List ℕ) (verdicts : List Verdict) →
-    Refused may_say old stays_open new message out moments verdicts →
-    Turns may_say old stays_open new message out moments verdicts (Err (of_book e))
-book_stops may_say book.TheVariants.Memory old stays_open new message out moments verdicts refused =
-    refused
-book_stops may_say book.TheVariants.Store old stays_open new message out moments verdicts refused =
-    refused
+    (new : Tables) (m : Incoming) (out : List ℕ) →
+    Refused may_say old stays_open new m out →
+    Turns may_say old stays_open new m out (Err (of_book e))
+book_stops may_say book.TheVariants.Memory old stays_open new m out refused = refused
+book_stops may_say book.TheVariants.Store old stays_open new m out refused = refused
 
 module _ (may_say : Saying) (old : Tables) (stays_open : Type 0) (new : Tables)
-    (message moments : List ℕ)
-    (verdicts : List Verdict) (events : List Event) (reads : is_read message ≡ true)
-    (took : TookMessage may_say old new message moments verdicts events) where
+    (m : Incoming) (events : List Event) (reads : is_read m.message ≡ true)
+    (took : TookMessage may_say old new m events) where
   -- a reply's frame went out, or its first bytes
   reply_sent : (text before now : List ℕ) (r : Result (Unit {0}) fault.FrontFault) →
       replies old events ≡ text ∷ [] →
       fits_frame text ≡ true → Sends text before now r →
-      (out : List ℕ) × (now ≡ before ++ out) × Turns may_say old stays_open new message out moments
-      verdicts r
+      (out : List ℕ) × (now ≡ before ++ out) × Turns may_say old stays_open new m out r
   reply_sent text before now (Ok u) one fits sent = (
     frame text,
     sent,
@@ -108,8 +104,7 @@ module _ (may_say : Saying) (old : Tables) (stays_open : Type 0) (new : Tables)
 
   -- nothing was to go out
   nothing_sent : (before now : List ℕ) → replies old events ≡ [] → now ≡ before →
-      (out : List ℕ) × (now ≡ before ++ out) × Turns may_say old stays_open new message out moments
-      verdicts (Ok tt)
+      (out : List ℕ) × (now ≡ before ++ out) × Turns may_say old stays_open new m out (Ok tt)
   nothing_sent before now none same = (
     [],
     same ∙ sym (append-nil before),
@@ -119,8 +114,7 @@ module _ (may_say : Saying) (old : Tables) (stays_open : Type 0) (new : Tables)
   -- what the host said last was sent, if it is a reply
   pub said_sent : (o : Output) (before now : List ℕ) (r : Result (Unit {0}) fault.FrontFault) →
       replies old events ≡ reply_in o → ReplyFits o → SendsReply o before now r →
-      (out : List ℕ) × (now ≡ before ++ out) × Turns may_say old stays_open new message out moments
-      verdicts r
+      (out : List ℕ) × (now ≡ before ++ out) × Turns may_say old stays_open new m out r
   said_sent (Reply party text) before now r are fits sent = reply_sent text before now r are
       (fits party text refl) sent
   said_sent o before now (Ok u) are fits sent = nothing_sent before now are sent
@@ -130,22 +124,26 @@ module _ (may_say : Saying) (old : Tables) (stays_open : Type 0) (new : Tables)
 
 module _ (may_say : Saying) (t : Tables) (moment : ℕ) (text message : List ℕ)
     (same : text ≡ message) where
+  -- a message that nobody is asked about
+  abbrev alone : List ℕ → Incoming
+  alone x = record { message = x; moments = moment ∷ []; verdicts = [] }
+
   -- it doesn't read
   pub unread : (stays_open : Type 0) (new : Tables) (f : DecodeFault) →
       step_output t (arrival_of (Frame moment text)) ≡ Undecodable f →
       new ≡ step_tables t (arrival_of (Frame moment text)) →
-      Turns may_say t stays_open new message [] (moment ∷ []) []
+      Turns may_say t stays_open new (alone message) []
       (Err (fault.TheVariants.Undecodable f))
   unread stays_open new f is tables =
-      let answered : Answered may_say t new text [] (moment ∷ []) [] = record {
+      let answered : Answered may_say t new (alone text) [] = record {
         events = Frame moment text ∷ [];
         took = took_alone may_say t new moment text (Undecodable f) is (λ query e. cc) tables;
         written = frames_none (replies_one t (Frame moment text) (Undecodable f) is);
       } in
-      let turned : Turns may_say t stays_open new text [] (moment ∷ []) []
+      let turned : Turns may_say t stays_open new (alone text) []
       (Err (fault.TheVariants.Undecodable f)) =
       (answered, undecodable_is t moment text f is) in
-      subst (λ (x : List ℕ). Turns may_say t stays_open new x [] (moment ∷ []) []
+      subst (λ (x : List ℕ). Turns may_say t stays_open new (alone x) []
       (Err (fault.TheVariants.Undecodable f))) same turned
 
   -- nobody is asked, and the reply, if there is one, is sent
@@ -155,12 +153,11 @@ module _ (may_say : Saying) (t : Tables) (moment : ℕ) (text message : List ℕ
       new ≡ step_tables t (arrival_of (Frame moment text)) →
       AsksNothing o → ((f : DecodeFault) → o ≡ Undecodable f → ⊥) → ReplyFits o →
       SendsReply o before now r →
-      (out : List ℕ) × (now ≡ before ++ out) × Turns may_say t stays_open new message out
-      (moment ∷ []) [] r
+      (out : List ℕ) × (now ≡ before ++ out) × Turns may_say t stays_open new (alone message) out r
   plain_sent stays_open new o before now r is tables nothing read fits sent =
       subst (λ (x : List ℕ). (out : List ℕ) × (now ≡ before ++ out)
-      × Turns may_say t stays_open new x out (moment ∷ []) [] r) same
-      (said_sent may_say t stays_open new text (moment ∷ []) [] (Frame moment text ∷ [])
+      × Turns may_say t stays_open new (alone x) out r) same
+      (said_sent may_say t stays_open new (alone text) (Frame moment text ∷ [])
       (reads t moment text o is read) (took_alone may_say t new moment text o is nothing tables)
       o before now r (replies_one t (Frame moment text) o is) fits sent)
 
@@ -171,12 +168,15 @@ module _ (may_say : Saying) (t : Tables) (moment : ℕ) (text message : List ℕ
     abbrev answer : Event
     answer = Answer next query.merchant query.reference verdict
 
+    -- a message whose issuer is asked
+    abbrev asking : List ℕ → Incoming
+    asking x = record { message = x; moments = moment ∷ next ∷ []; verdicts = verdict ∷ [] }
+
     -- the issuer was asked, and its answer was not taken
     pub answer_refused : (stays_open : Type 0) (new : Tables) → (stays_open → new ≡ mid) →
-        Refused may_say t stays_open new message [] (moment ∷ next ∷ []) (verdict ∷ [])
+        Refused may_say t stays_open new (asking message) []
     answer_refused stays_open new kept =
-        let most : TookAllButAnswer may_say t stays_open new text (moment ∷ next ∷ [])
-        (verdict ∷ []) = record {
+        let most : TookAllButAnswer may_say t stays_open new (asking text) = record {
           came = Frame moment text;
           answer = answer;
           is_answer = tt;
@@ -186,25 +186,24 @@ module _ (may_say : Saying) (t : Tables) (moment : ℕ) (text message : List ℕ
           said = said_one may_say t moment text query verdict is said;
           silent = replies_one t (Frame moment text) (Ask query) is;
         } in
-        let refused : Refused may_say t stays_open new text [] (moment ∷ next ∷ []) (verdict ∷ []) =
+        let refused : Refused may_say t stays_open new (asking text) [] =
         (refl, inr most) in
-        subst (λ (x : List ℕ). Refused may_say t stays_open new x [] (moment ∷ next ∷ [])
-        (verdict ∷ [])) same refused
+        subst (λ (x : List ℕ). Refused may_say t stays_open new (asking x) []) same refused
 
     -- its answer was taken, and the reply, if there is one, is sent
     pub answer_sent : (stays_open : Type 0) (new : Tables) (o : Output) (before now : List ℕ)
         (r : Result (Unit {0}) fault.FrontFault) →
         o ≡ step_output mid (arrival_of answer) → new ≡ step_tables mid (arrival_of answer) →
         ReplyFits o → SendsReply o before now r →
-        (out : List ℕ) × (now ≡ before ++ out) × Turns may_say t stays_open new message out
-        (moment ∷ next ∷ []) (verdict ∷ []) r
+        (out : List ℕ) × (now ≡ before ++ out)
+        × Turns may_say t stays_open new (asking message) out r
     answer_sent stays_open new o before now r out tables fits sent =
         let said_last : step_output (step_tables t (arrival_of (Frame moment text)))
         (arrival_of answer) ≡ o =
         ap (λ (x : Tables). step_output x (arrival_of answer)) (sym between) ∙ sym out in
         subst (λ (x : List ℕ). (out : List ℕ) × (now ≡ before ++ out)
-        × Turns may_say t stays_open new x out (moment ∷ next ∷ []) (verdict ∷ []) r) same
-        (said_sent may_say t stays_open new text (moment ∷ next ∷ []) (verdict ∷ [])
+        × Turns may_say t stays_open new (asking x) out r) same
+        (said_sent may_say t stays_open new (asking text)
         (Frame moment text ∷ answer ∷ [])
         (reads t moment text (Ask query) is (λ f e. cc))
         (took_answer may_say t mid new moment next text query verdict is between tables said)

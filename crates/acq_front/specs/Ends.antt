@@ -38,7 +38,8 @@ module _ (may_give : ℕ → Type 0) (may_say : Saying) (old : Tables) (stays_op
     pub moments : List ℕ
     pub given : All may_give moments
     pub verdicts : List Verdict
-    pub turns : front.Turns may_say old stays_open new message unsent moments verdicts ended
+    pub turns : front.Turns may_say old stays_open new
+        (record { message = message; moments = moments; verdicts = verdicts }) unsent ended
 
   -- one turn
   abbrev pub Steps : List ℕ → List ℕ → List ℕ → Result Turn fault.FrontFault → Type 0

@@ -70,7 +70,8 @@ module _ (may_give : ℕ → Type 0) (may_say : Saying) (old new : Tables) where
     pub moments : List ℕ
     pub given : All may_give moments
     pub verdicts : List Verdict
-    pub took : TookMessage may_say old new message moments verdicts events
+    pub took : TookMessage may_say old new
+        (record { message = message; moments = moments; verdicts = verdicts }) events
 
   -- A round: the host took nothing, or the events of one message; and behind any log, by whichever
   -- connections its events came, the connection goes on to follow it.

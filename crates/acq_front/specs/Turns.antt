@@ -33,67 +33,70 @@ Makes t message moments verdicts events =
     } in
     taking t message (moments ++ later) (verdicts ++ others) ≡ made
 
+-- a message that came, and what the clock and the issuer gave for it
+pub record Incoming : Type 0 where
+  pub message : List ℕ
+  pub moments : List ℕ
+  pub verdicts : List Verdict
+
 -- the host took the events that a message makes
-pub record TookMessage (may_say : Saying) (old new : Tables) (message moments : List ℕ)
-    (verdicts : List Verdict) (events : List Event) : Type 0 where
-  pub makes : Makes old message moments verdicts events
+pub record TookMessage (may_say : Saying) (old new : Tables) (m : Incoming)
+    (events : List Event) : Type 0 where
+  pub makes : Makes old m.message m.moments m.verdicts events
   pub tables : new ≡ tables_after old events
-  pub said : AreSaid may_say (queries old events) verdicts
+  pub said : AreSaid may_say (queries old events) m.verdicts
 
 -- and what went out are the frames of their replies
-pub record Answered (may_say : Saying) (old new : Tables) (message out moments : List ℕ)
-    (verdicts : List Verdict) : Type 0 where
-  pub events : List Event
-  pub took : TookMessage may_say old new message moments verdicts events
-  pub written : Frames out (replies old events)
+pub record Answered (may_say : Saying) (old new : Tables) (m : Incoming) (out : List ℕ) : Type 0
+  where
+    pub events : List Event
+    pub took : TookMessage may_say old new m events
+    pub written : Frames out (replies old events)
 
 -- the message was taken, and the answer behind it was not
 pub record TookAllButAnswer (may_say : Saying) (old : Tables) (stays_open : Type 0) (new : Tables)
-    (message moments : List ℕ) (verdicts : List Verdict) : Type 0 where
+    (m : Incoming) : Type 0 where
   pub came : Event
   pub answer : Event
   pub is_answer : IsAnswer answer
-  pub reads : is_read message ≡ true
-  pub makes : Makes old message moments verdicts (came ∷ answer ∷ [])
+  pub reads : is_read m.message ≡ true
+  pub makes : Makes old m.message m.moments m.verdicts (came ∷ answer ∷ [])
   pub tables : stays_open → new ≡ tables_after old (came ∷ [])
-  pub said : AreSaid may_say (queries old (came ∷ [])) verdicts
+  pub said : AreSaid may_say (queries old (came ∷ [])) m.verdicts
   pub silent : replies old (came ∷ []) ≡ []
 
 -- the message was not taken, or the answer behind it was not; and nothing went out
-abbrev pub Refused : Saying → Tables → Type 0 → Tables → List ℕ → List ℕ → List ℕ →
-    List Verdict → Type 0
-Refused may_say old stays_open new message out moments verdicts =
+abbrev pub Refused : Saying → Tables → Type 0 → Tables → Incoming → List ℕ → Type 0
+Refused may_say old stays_open new m out =
     (out ≡ [])
-    × (((stays_open → new ≡ old) × (verdicts ≡ []))
-    ⊎ TookAllButAnswer may_say old stays_open new message moments verdicts)
+    × (((stays_open → new ≡ old) × (m.verdicts ≡ []))
+    ⊎ TookAllButAnswer may_say old stays_open new m)
 
 -- the message was taken, and of its reply's frame the first n bytes went out
-pub record CutShort (may_say : Saying) (old new : Tables) (message out moments : List ℕ)
-    (verdicts : List Verdict) (n : ℕ) : Type 0 where
+pub record CutShort (may_say : Saying) (old new : Tables) (m : Incoming) (out : List ℕ)
+    (n : ℕ) : Type 0 where
   pub events : List Event
   pub reply : List ℕ
-  pub took : TookMessage may_say old new message moments verdicts events
-  pub reads : is_read message ≡ true
+  pub took : TookMessage may_say old new m events
+  pub reads : is_read m.message ≡ true
   pub replied : replies old events ≡ reply ∷ []
   pub short : n < length (frame reply)
   pub written : out ≡ take n (frame reply)
 
 -- how one message was taken and answered
-abbrev pub Turns : Saying → Tables → Type 0 → Tables → List ℕ → List ℕ → List ℕ → List Verdict →
+abbrev pub Turns : Saying → Tables → Type 0 → Tables → Incoming → List ℕ →
     Result (Unit {0}) fault.FrontFault → Type 0
-Turns may_say old stays_open new message out moments verdicts (Ok u) =
-    Answered may_say old new message out moments verdicts × (is_read message ≡ true)
-Turns may_say old stays_open new message out moments verdicts (Err fault.TheVariants.Memory) =
-    Refused may_say old stays_open new message out moments verdicts
-Turns may_say old stays_open new message out moments verdicts (Err fault.TheVariants.Store) =
-    Refused may_say old stays_open new message out moments verdicts
-Turns may_say old stays_open new message out moments verdicts
-    (Err (fault.TheVariants.Undecodable f)) =
-    Answered may_say old new message out moments verdicts × (reading_of message ≡ Err f)
-Turns may_say old stays_open new message out moments verdicts
-    (Err (fault.TheVariants.Write n)) =
-    CutShort may_say old new message out moments verdicts n
-Turns may_say old stays_open new message out moments verdicts (Err other) = ⊥
+Turns may_say old stays_open new m out (Ok u) =
+    Answered may_say old new m out × (is_read m.message ≡ true)
+Turns may_say old stays_open new m out (Err fault.TheVariants.Memory) =
+    Refused may_say old stays_open new m out
+Turns may_say old stays_open new m out (Err fault.TheVariants.Store) =
+    Refused may_say old stays_open new m out
+Turns may_say old stays_open new m out (Err (fault.TheVariants.Undecodable f)) =
+    Answered may_say old new m out × (reading_of m.message ≡ Err f)
+Turns may_say old stays_open new m out (Err (fault.TheVariants.Write n)) =
+    CutShort may_say old new m out n
+Turns may_say old stays_open new m out (Err other) = ⊥
 
 -- a reply, if there is one, fits a frame
 abbrev pub ReplyFits : Output → Type 0

@@ -105,7 +105,8 @@ pub fn answer_message<B: Book + Drop, K: Sink, C: Clock, I: Issuer>(
         × All (C.may_give clock.old) moments
         × GivesAll Verdict.NoAnswer (I.coming issuer.old) (I.coming issuer.new) verdicts
         × Turns (I.may_say issuer.old) (B.tables host.old) (B.is_open host.new)
-        (B.tables host.new) message.items out moments verdicts result }
+        (B.tables host.new)
+        (record { message = message.items; moments = moments; verdicts = verdicts }) out result }
     ensures was_honest { B.is_honest host.new → B.is_honest host.old }
     ensures stays_open { B.is_honest host.new → B.is_open host.old
         → UnlessRefused result (B.is_open host.new) }

@@ -15,17 +15,18 @@ use Rattle.acq_commands.specs.Faults.{status_after}
 use Rattle.acq_commands.specs.Once.{ServesInMemory}
 use Rattle.acq_commands.specs.Runs.{RunsReplay}
 use Rattle.acq_commands.specs.Show.{RunsShow}
+use Rattle.acq_commands.specs.Streams.{Stream}
 use Rattle.acq_stand_in.specs.Answers.{says_by}
 use Rattle.acq_stand_in.specs.declared.card_answer.CardAnswer.{CardAnswer}
 
 -- Frames were served over a new book where there is no file, at moments that may be given, with
 -- what issuers may say; what is done to the book of a file is said by the calls that open it and
 -- serve them.
-abbrev pub ServesIn : Option (String Global) → (ℕ → Type 0) → Saying → List ℕ → List ℕ → List ℕ
-    → List ℕ → Result (Unit {0}) Fault → Type 0
-ServesIn None may_give may_say received received_after sent sent_after ended =
-    ServesInMemory may_give may_say received received_after sent sent_after ended
-ServesIn (Some path) may_give may_say received received_after sent sent_after ended = Unit {0}
+abbrev pub ServesIn : Option (String Global) → (ℕ → Type 0) → Saying → (received sent : Stream)
+    → Result (Unit {0}) Fault → Type 0
+ServesIn None may_give may_say received sent ended =
+    ServesInMemory may_give may_say received sent ended
+ServesIn (Some path) may_give may_say received sent ended = Unit {0}
 
 -- the moments at which frames may come: this one, or where none is asked for, any
 abbrev pub MayCome : Option ℕ → ℕ → Type 0
@@ -33,27 +34,22 @@ MayCome None moment = Unit {0}
 MayCome (Some at) moment = moment ≡ at
 
 -- nothing was read or written
-abbrev pub IsUntouched : List ℕ → List ℕ → List ℕ → List ℕ → Type 0
-IsUntouched received received_after sent sent_after =
-    (received_after ≡ received) × (sent_after ≡ sent)
+abbrev pub IsUntouched : (received sent : Stream) → Type 0
+IsUntouched received sent = (received.after ≡ received.before) × (sent.after ≡ sent.before)
 
 -- Frames were served: without a file of issuers' answers no issuer answered, and with one its
 -- answers did, or it gave none, and nothing was read or written.
-abbrev pub ServesBy : Option (String Global) → OnceOptions → List ℕ → List ℕ → List ℕ → List ℕ
+abbrev pub ServesBy : Option (String Global) → OnceOptions → (received sent : Stream)
     → Result (Unit {0}) Fault → Type 0
-ServesBy None asked received received_after sent sent_after ended =
-    ServesIn asked.book (MayCome asked.moment) says_nothing received received_after sent sent_after
-    ended
-ServesBy (Some path) asked received received_after sent sent_after ended =
+ServesBy None asked received sent ended =
+    ServesIn asked.book (MayCome asked.moment) says_nothing received sent ended
+ServesBy (Some path) asked received sent ended =
     ((answers : List CardAnswer)
-    × ServesIn asked.book (MayCome asked.moment) (says_by answers) received received_after sent
-    sent_after ended)
-    ⊎ IsUntouched received received_after sent sent_after
+    × ServesIn asked.book (MayCome asked.moment) (says_by answers) received sent ended)
+    ⊎ IsUntouched received sent
 
-abbrev pub ServesAsked : OnceOptions → List ℕ → List ℕ → List ℕ → List ℕ
-    → Result (Unit {0}) Fault → Type 0
-ServesAsked asked received received_after sent sent_after ended =
-    ServesBy asked.issuers asked received received_after sent sent_after ended
+abbrev pub ServesAsked : OnceOptions → (received sent : Stream) → Result (Unit {0}) Fault → Type 0
+ServesAsked asked received sent ended = ServesBy asked.issuers asked received sent ended
 
 -- Where all is well, the whole input was read, where it is known what was to come.
 abbrev pub ReadsWhole : Option (List ℕ) → List ℕ → List ℕ → Result (Unit {0}) Fault → Type 0
@@ -61,25 +57,21 @@ ReadsWhole remaining received received_after ended =
     OnOk ended (TakesAll remaining received received_after)
 
 -- What was asked is done.
-abbrev pub Does : Action → Option (List ℕ) → List ℕ → List ℕ → List ℕ → List ℕ
+abbrev pub Does : Action → Option (List ℕ) → (received sent : Stream)
     → Result (Unit {0}) Fault → Type 0
-Does (Init new) remaining received received_after sent sent_after ended =
-    (received_after ≡ received) × (sent_after ≡ sent)
-Does (Once asked) remaining received received_after sent sent_after ended =
-    ServesAsked asked received received_after sent sent_after ended
-    × ReadsWhole remaining received received_after ended
-Does (Listen asked) remaining received received_after sent sent_after ended =
-    (received_after ≡ received) × (sent_after ≡ sent)
-Does (Replay options) remaining received received_after sent sent_after ended =
-    RunsReplay options received received_after sent sent_after ended
-    × ReadsWhole remaining received received_after ended
-Does (Report options) remaining received received_after sent sent_after ended =
-    received_after ≡ received
-Does (Holds options) remaining received received_after sent sent_after ended =
-    received_after ≡ received
-Does (Show form) remaining received received_after sent sent_after ended =
-    RunsShow form received received_after sent sent_after ended
-    × ReadsWhole remaining received received_after ended
+Does (Init new) remaining received sent ended = IsUntouched received sent
+Does (Once asked) remaining received sent ended =
+    ServesAsked asked received sent ended
+    × ReadsWhole remaining received.before received.after ended
+Does (Listen asked) remaining received sent ended = IsUntouched received sent
+Does (Replay options) remaining received sent ended =
+    RunsReplay options received sent ended
+    × ReadsWhole remaining received.before received.after ended
+Does (Report options) remaining received sent ended = received.after ≡ received.before
+Does (Holds options) remaining received sent ended = received.after ≡ received.before
+Does (Show form) remaining received sent ended =
+    RunsShow form received sent ended
+    × ReadsWhole remaining received.before received.after ended
 
 -- faults are told in between only where connections are served
 abbrev pub Tells : Action → List ℕ → List ℕ → Type 0
@@ -93,12 +85,10 @@ IsQuiet words told told_after =
 
 -- What the words ask for is done, and the status is that of how it ended; or an option's value is
 -- out of its form, or there was no memory for the words, and nothing is done.
-abbrev pub Runs : List (List ℕ) → Option (List ℕ) → List ℕ → List ℕ → List ℕ → List ℕ → ℕ
-    → Type 0
-Runs words remaining received received_after sent sent_after status =
+abbrev pub Runs : List (List ℕ) → Option (List ℕ) → (received sent : Stream) → ℕ → Type 0
+Runs words remaining received sent status =
     ((action : Action) × (ended : Result (Unit {0}) Fault) × AsksFor words (Ok action)
-    × Does action remaining received received_after sent sent_after ended
-    × (status ≡ status_after ended))
-    ⊎ ((option : OptionName) × AsksFor words (Err option)
-    × IsUntouched received received_after sent sent_after × (status ≡ 2))
-    ⊎ (IsUntouched received received_after sent sent_after × (status ≡ 3))
+    × Does action remaining received sent ended × (status ≡ status_after ended))
+    ⊎ ((option : OptionName) × AsksFor words (Err option) × IsUntouched received sent
+    × (status ≡ 2))
+    ⊎ (IsUntouched received sent × (status ≡ 3))

@@ -56,8 +56,9 @@ pub fn command<
     ensures status { result ≤ 3 }
     // Where nothing is wrong with the arguments, what they ask for is done.
     ensures ran { fault_of program (map W.text args.now) ≡ []
-        → Runs (map W.text args.now) (S.remaining input.old) (S.received input.old)
-        (S.received input.new) (K.sent output.old) (K.sent output.new) result }
+        → Runs (map W.text args.now) (S.remaining input.old)
+        (record { before = S.received input.old; after = S.received input.new })
+        (record { before = K.sent output.old; after = K.sent output.new }) result }
     // Else nothing was read.
     ensures unread { ¬ (fault_of program (map W.text args.now) ≡ [])
         → S.received input.new ≡ S.received input.old }
@@ -95,8 +96,9 @@ fn run<B: Book + Drop, M: Machine<B> + Drop, C: Clock, S: Source, K: Sink, F: Si
     faults: &mut F,
     progress: &mut P,
 ) -> Result<(), Fault>
-    ensures done { Does action (S.remaining input.old) (S.received input.old)
-        (S.received input.new) (K.sent output.old) (K.sent output.new) result }
+    ensures done { Does action (S.remaining input.old)
+        (record { before = S.received input.old; after = S.received input.new })
+        (record { before = K.sent output.old; after = K.sent output.new }) result }
     ensures told { Tells action (F.sent faults.old) (F.sent faults.new) }
 {
     match action {
@@ -139,8 +141,9 @@ fn once<B: Book + Drop, M: Machine<B> + Drop, C: Clock, S: Source, K: Sink>(
     input: &mut S,
     output: &mut K,
 ) -> Result<(), Fault>
-    ensures served { ServesAsked asked.now (S.received input.old) (S.received input.new)
-        (K.sent output.old) (K.sent output.new) result }
+    ensures served { ServesAsked asked.now
+        (record { before = S.received input.old; after = S.received input.new })
+        (record { before = K.sent output.old; after = K.sent output.new }) result }
     ensures whole { ReadsWhole
         (S.remaining input.old) (S.received input.old) (S.received input.new) result }
 {
@@ -175,10 +178,11 @@ fn once_at<B: Book + Drop, M: Machine<B> + Drop, C: Clock, I: Issuer + Drop, S: 
 ) -> Result<(), Fault>
     ensures served { MatchResult issuers
         (λ issuer. ServesIn asked.now.book (MayCome asked.now.moment) (I.may_say issuer)
-        (S.received input.old) (S.received input.new) (K.sent output.old) (K.sent output.new)
-        result)
-        (λ fault. IsUntouched (S.received input.old) (S.received input.new)
-        (K.sent output.old) (K.sent output.new)) }
+        (record { before = S.received input.old; after = S.received input.new })
+        (record { before = K.sent output.old; after = K.sent output.new }) result)
+        (λ fault. IsUntouched
+        (record { before = S.received input.old; after = S.received input.new })
+        (record { before = K.sent output.old; after = K.sent output.new })) }
     ensures whole { ReadsWhole
         (S.remaining input.old) (S.received input.old) (S.received input.new) result }
 {
@@ -208,10 +212,11 @@ fn once_over<B: Book + Drop, M: Machine<B> + Drop, C: Clock, I: Issuer + Drop, S
 ) -> Result<(), Fault>
     ensures served { MatchResult issuers
         (λ issuer. ServesIn path.now (C.may_give clock.old) (I.may_say issuer)
-        (S.received input.old) (S.received input.new) (K.sent output.old) (K.sent output.new)
-        result)
-        (λ fault. IsUntouched (S.received input.old) (S.received input.new)
-        (K.sent output.old) (K.sent output.new)) }
+        (record { before = S.received input.old; after = S.received input.new })
+        (record { before = K.sent output.old; after = K.sent output.new }) result)
+        (λ fault. IsUntouched
+        (record { before = S.received input.old; after = S.received input.new })
+        (record { before = K.sent output.old; after = K.sent output.new })) }
     ensures whole { ReadsWhole
         (S.remaining input.old) (S.received input.old) (S.received input.new) result }
 {

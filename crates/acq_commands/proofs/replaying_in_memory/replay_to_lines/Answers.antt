@@ -9,9 +9,18 @@ returns-clause-runs g c =
       so.0,
       c.replay-ended.new.host,
       so.1,
-      subst (λ (t : Tables). Replays (λ (u : Tables). u)
-          (λ (u : Tables). Unit {0}) t c.replay-ended.new.host so.0
-          (g.K.Sink.sent c.args.output.now) (g.K.Sink.sent c.replay-ended.new.output)
+      subst (λ (t : Tables). Replays
+          (record {
+            tables = λ (u : Tables). u;
+            is_open = λ (u : Tables). Unit {0};
+            old = t;
+            new = c.replay-ended.new.host;
+          })
+          so.0
+          (record {
+            before = g.K.Sink.sent c.args.output.now;
+            after = g.K.Sink.sent c.replay-ended.new.output;
+          })
           c.replay-ended.result)
           c.in_memory-host.ensures so.2,
     )

@@ -19,8 +19,7 @@ returns-in_err-said-clause-turns g c = λ h o.
           (All-nil _),
       gives_none _ _,
       rw (p.1, p.2)
-          (book_stops may_say c.in_err-said.field-0.0 _ _ _ c.args.message.items []
-          (c.now.result ∷ []) []
+          (book_stops may_say c.in_err-said.field-0.0 _ _ _ _ []
           (refl, inl ((λ still. c.in_err-said.ensures.tables.unmade refl o still), refl))),
     )
 
@@ -60,8 +59,7 @@ returns-in_err-said-in-Ask-clause-turns g c = λ h o.
           c.now.ensures.given
           (c.now.ensures.later c.now-in-Ask.result c.now-in-Ask.ensures.given),
       gives_one _ _ _ _ c.answer-verdict.ensures.coming,
-      rw (p.1, p.2) (book_stops may_say c.in_err-said-in-Ask.field-0.0 _ _ _ c.args.message.items []
-          (c.now.result ∷ c.now-in-Ask.result ∷ []) (c.answer-verdict.result ∷ [])
+      rw (p.1, p.2) (book_stops may_say c.in_err-said-in-Ask.field-0.0 _ _ _ _ []
           (answer_refused may_say (g.B.Book.tables c.args.host.now) c.now.result c.from_vec.result
           c.args.message.items
           c.from_vec.ensures c.now-in-Ask.result c.in-Ask.query c.answer-verdict.result

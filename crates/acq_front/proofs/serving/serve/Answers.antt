@@ -4,6 +4,7 @@ use Rattle.std.proofs.lemmas.Result.{err_from_is_err_and}
 use Rattle.std.proofs.lemmas.List.{take-append-le}
 use Rattle.acq_message.specs.declared.verdict.Verdict.TheVariants.{NoAnswer}
 use Rattle.acq_front.specs.Talk.{first_moment}
+use Rattle.acq_front.specs.Turns.{Incoming}
 use Rattle.std.proofs.lemmas.List.Elements.{All-nil}
 use Rattle.acq_front.proofs.GivenInOrder.{gives_none, gives_append, gives_along, may_append}
 use Rattle.acq_front.proofs.StreamRead.{consumes_none, consumes_append, received_more}
@@ -64,11 +65,12 @@ returns-in_err-answer_message-clause-served g c = λ h o.
     let mid = g.B.Book.tables c.loop-message.host in
     let new = g.B.Book.tables c.answer_message.new.host in
     let still = g.B.Book.is_open c.answer_message.new.host in
-    let message = c.in-Some.message.items in
+    let m : Incoming =
+    record { message = c.in-Some.message.items; moments = e.1; verdicts = e.2 } in
     let w = turns_weaker (g.I.Issuer.may_say c.loop-message.issuer) may_say
-    c.loop-message.invariant.5 mid still new message e.0 e.1 e.2 (Err fault) e.7 in
-    let x = stopped may_say old mid still new i.0 c.loop-message.input message
-    c.take_message.new.self e.0 e.1 e.2 i.6 begins fault w in (
+    c.loop-message.invariant.5 mid still new m e.0 (Err fault) e.7 in
+    let x = stopped may_say old mid still new i.0 c.loop-message.input
+    c.take_message.new.self m e.0 i.6 begins fault w in (
       x.0,
       i.1 ∙ ap (λ (l : List ℕ). g.S.Source.received c.args.source.now ++ l) (sym x.1.input),
       received_more (g.K.Sink.sent c.args.sink.now) _ _ i.0.output e.0 i.2 e.3
@@ -92,12 +94,12 @@ loop-message-preserved-in-Some g c =
           let mid = g.B.Book.tables c.loop-message.host in
           let new = g.B.Book.tables c.answer_message.new.host in
           let still = g.B.Book.is_open c.answer_message.new.host in
-          let message = c.in-Some.message.items in
+          let m : Incoming =
+          record { message = c.in-Some.message.items; moments = e.1; verdicts = e.2 } in
           let w = turns_weaker (g.I.Issuer.may_say c.loop-message.issuer) may_say
-          c.loop-message.invariant.5 mid still new message e.0 e.1 e.2 (Ok tt) e.7 in
-          let so = going_more may_say message e.0 e.1 c.take_message.new.self e.2 i.6 begins w.1 w.0
-          in (
-            with_message i.0 message e.0 e.1 e.2 c.take_message.new.self,
+          c.loop-message.invariant.5 mid still new m e.0 (Ok tt) e.7 in
+          let so = going_more may_say m e.0 c.take_message.new.self i.6 begins w.1 w.0 in (
+            with_message i.0 m e.0 c.take_message.new.self,
             i.1,
             received_more (g.K.Sink.sent c.args.sink.now) _ _ i.0.output e.0 i.2 e.3,
             gives_append first_moment _ _ _ i.0.moments e.1 i.3 e.4,
