@@ -2,6 +2,7 @@
 
 use acq_book::BookFault;
 use acq_core::Output;
+use std::fmt;
 
 /// Why a run of events stopped before its end. A host whose book is still open holds the tables
 /// after the events before the one that wasn't taken, so a run can go on from there.
@@ -13,4 +14,11 @@ pub struct RunFault {
     pub outputs: Vec<Output>,
     /// Why it wasn't taken.
     pub fault: BookFault,
+}
+
+/// Without the outputs, whose replies hold card numbers.
+impl fmt::Debug for RunFault {
+    fn fmt<W: fmt::Write>(&self, f: &mut fmt::Formatter<W>) -> fmt::Result {
+        write!(f, "RunFault at {}: {:?}", self.at, self.fault)
+    }
 }
