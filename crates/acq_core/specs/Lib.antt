@@ -7,6 +7,7 @@ pub mod Decision
 pub mod Outcome
 pub mod Changes
 pub mod Tables
+pub mod Widening
 pub mod Events
 pub mod Pasts
 pub mod Looking

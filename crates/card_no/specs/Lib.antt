@@ -3,6 +3,7 @@ pub mod CardNumbers
 pub mod Track2
 pub mod Ranges
 pub mod RangeChanges
+pub mod Widening
 pub mod RangeFiles
 pub mod FaultTexts
 pub mod Worked

@@ -11,12 +11,17 @@ pub record PrefixProfile : Type 0 where
   pub digits : ℕ
   pub greatest : ℕ
 
+-- those of ISO/IEC 7812-1:2017
+abbrev pub eight_digits : PrefixProfile
+eight_digits = record { digits = 8; greatest = 99_999_999 }
+
+-- those of earlier editions, which books of version 1 have
 abbrev pub six_digits : PrefixProfile
 six_digits = record { digits = 6; greatest = 999_999 }
 
 -- the profile in force; what is said under a profile without naming it is said under this one
 abbrev pub in_force : PrefixProfile
-in_force = six_digits
+in_force = eight_digits
 
 -- ---- under a profile
 

@@ -31,10 +31,10 @@ impl Model for Prefix {
 
 impl Prefix {
     /// How many digits a prefix has.
-    pub const DIGITS: usize = 6;
+    pub const DIGITS: usize = 8;
 
     /// The greatest number of so many digits.
-    pub const GREATEST: u32 = 999_999;
+    pub const GREATEST: u32 = 99_999_999;
 
     /// The prefix with this number, where it is no greater than [`Prefix::GREATEST`].
     pub fn from_number(number: u32) -> Option<Prefix>
