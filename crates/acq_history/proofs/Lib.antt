@@ -48,3 +48,7 @@ pub mod RowsStayWellFormed
 pub mod PostingsOfRequests
 pub mod PostingsOfChangedRows
 pub mod ConservationStep
+pub mod RangeListsWidened
+pub mod WidenedDecisions
+pub mod WidenedSteps
+pub mod WidenedRuns
