@@ -11,6 +11,7 @@ mod issuers_files;
 mod lines;
 mod listens;
 mod long_runs;
+mod migrations;
 mod opening;
 mod output_text;
 mod range_files;
