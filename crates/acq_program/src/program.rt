@@ -126,7 +126,8 @@ An event line is a record of six fields of CSV, with no header line; fields not 
                                        an issuer's answer to what was asked: `approved` and an
                                        authorization id, `declined` and a code, or `none`
   cutover,MOMENT,,,,                   the business day ends, and the next begins
-MOMENT counts seconds since 1970-01-01 00:00:00 UTC.
+LOW and HIGH are the first eight digits of card numbers. MOMENT counts seconds since 1970-01-01
+00:00:00 UTC.
 
 What comes of an event is one line:
   reply MESSAGE                        this goes to the terminal

@@ -23,4 +23,5 @@ mod stops;
 mod talks;
 mod together;
 mod two_days;
+mod widened_ranges;
 mod wording;
