@@ -3,6 +3,7 @@ pub mod Members
 pub mod Keys
 pub mod RecordableRequests
 pub mod Statuses
+pub mod WhatRemains
 pub mod NextReference
 pub mod DayOfPosting
 pub mod FoundRows
