@@ -22,6 +22,7 @@ use Rattle.acq_message.specs.declared.response_code.ResponseCode.{ResponseCode}
 use Rattle.acq_message.specs.declared.response_code.ResponseCode.TheVariants as code
 use Rattle.acq_message.specs.Numbers.{is_accepted_amount}
 use Rattle.acq_message.specs.Elements.{amount_in, or_empty, essence_of, original_acquirer}
+use Rattle.acq_message.specs.Elements.{remaining_in}
 use Rattle.acq_message.specs.Cards.{card_of, expiry_of}
 use Rattle.acq_message.specs.declared.request_message.RequestMessage.{RequestMessage}
 use Rattle.acq_core.specs.Known.{Known, Prior, reconciled_day}
@@ -32,6 +33,7 @@ use Rattle.acq_core.specs.Decision.{Reverses, Reconciles, Answers, first_of, is_
 use Rattle.acq_core.specs.Decision.{is_other_transaction, is_expired, is_open_at, open_hold}
 use Rattle.acq_core.specs.Decision.{fits_acquirer, original_of, admission_in, admission}
 use Rattle.acq_core.specs.Decision.{completion_of, completion, reversal_of, reconciliation_of}
+use Rattle.acq_core.specs.Decision.{is_final_for, leaves_a_part}
 use Rattle.acq_core.specs.Decision.{network_response, decision_by, repeat_of, decision_of_key}
 use Rattle.acq_core.specs.Decision.{decision_of_merchant, decision_of_request}
 use Rattle.acq_core.specs.Decision.{decision_of_reply_state, decision_of_prior, decision_of_answer}
@@ -52,6 +54,11 @@ pub record IsFresh (k : Known) (r : RequestMessage) (merchant : Merchant) : Type
   pub terminal : k.has_terminal ≡ true
   pub new : k.recorded ≡ None
 
+-- the checks of a reversal passed this original
+pub record CanBeReversed (r : RequestMessage) (p : Prior) : Type 0 where
+  pub not_final : is_final_for (remaining_in r.message) p ≡ false
+  pub less : leaves_a_part (amount_in r.message) (remaining_in r.message) p ≡ true
+
 -- what is to be shown of each decision on a request
 pub record RequestCases (k : Known) (r : RequestMessage) (P : Decision → Type 0) : Type 0 where
   -- nothing is recorded
@@ -71,7 +78,7 @@ pub record RequestCases (k : Known) (r : RequestMessage) (P : Decision → Type 
       P (Completes r hold)
   pub reversed : (merchant : Merchant) → IsFresh k r merchant →
       (r.service ≡ Reversal) ⊎ (r.service ≡ ReversalAdvice) →
-      (p : Prior) → k.original ≡ Some p → p.is_reversible ≡ true → P (Reverses r p)
+      (p : Prior) → k.original ≡ Some p → CanBeReversed r p → P (Reverses r p)
   pub reconciled : (merchant : Merchant) → IsFresh k r merchant → r.service ≡ Reconciliation →
       (day : ℕ) → reconciled_day k.today (content_of r.message.elements 15) ≡ Some day →
       P (Reconciles r day)
@@ -146,21 +153,29 @@ module _ (k : Known) (r : RequestMessage) (P : Decision → Type 0) (cases : Req
       (o : Option Prior) → k.original ≡ o → P (reversal_of k r (original_of r.message o))
   by_original merchant fresh service None is = cases.refused merchant fresh code.RecordNotFound refl
   by_original merchant fresh service (Some p) is =
-      let later : List (Bool × ResponseCode) =
-      (not (amount_in r.message == p.amount), code.InvalidAmount) ∷ (is_full k, code.LimitExceeded)
-      ∷ [] in
-      let reversal : (b : Bool) → p.is_reversible ≡ b →
-      P (first_of r ((not b, code.NoActionTaken) ∷ later) (Reverses r p)) =
+      let remaining = remaining_in r.message in
+      let full : List (Bool × ResponseCode) = (is_full k, code.LimitExceeded) ∷ [] in
+      let refuse = cases.refused merchant fresh in
+      let in_part : (b : Bool) → leaves_a_part (amount_in r.message) remaining p ≡ b →
+      is_final_for remaining p ≡ false →
+      P (first_of r ((not b, code.InvalidAmount) ∷ full) (Reverses r p)) =
       elim [
-        | true ↦ (λ reversible. by_refusals P r later (Reverses r p)
-            (cases.refused merchant fresh) refl
-            (cases.reversed merchant fresh service p is reversible))
-        | false ↦ (λ reversible. cases.refused merchant fresh code.NoActionTaken refl)
+        | true ↦ (λ less going. by_refusals P r full (Reverses r p) refuse refl
+            (cases.reversed merchant fresh service p is (record { not_final = going; less = less })))
+        | false ↦ (λ less going. refuse code.InvalidAmount refl)
+      ] in
+      let later : List (Bool × ResponseCode) =
+      (not (leaves_a_part (amount_in r.message) remaining p), code.InvalidAmount) ∷ full in
+      let reversal : (b : Bool) → is_final_for remaining p ≡ b →
+      P (first_of r ((b, code.NoActionTaken) ∷ later) (Reverses r p)) =
+      elim [
+        | true ↦ (λ final. refuse code.NoActionTaken refl)
+        | false ↦ in_part (leaves_a_part (amount_in r.message) remaining p) refl
       ] in
       elim (fits_acquirer (original_acquirer r.message) p.acquirer)
       as (λ b. P (reversal_of k r (if b then Some p else None))) [
-        | true ↦ reversal p.is_reversible refl
-        | false ↦ cases.refused merchant fresh code.RecordNotFound refl
+        | true ↦ reversal (is_final_for remaining p) refl
+        | false ↦ refuse code.RecordNotFound refl
       ]
 
   by_day : (merchant : Merchant) → IsFresh k r merchant → r.service ≡ Reconciliation →

@@ -8,10 +8,12 @@ use Rattle.acq_core.specs.declared.status.Status.{Status}
 use Rattle.acq_core.specs.declared.status.Status.TheVariants.{Refused, Pending, Declined, Approved}
 use Rattle.acq_core.specs.declared.status.Status.TheVariants.{Completed, Reversed}
 use Rattle.acq_core.specs.declared.status.Status.TheVariants.{ReversedPending, Reconciled}
+use Rattle.acq_core.specs.declared.status.Status.TheVariants.{Lowered}
 use Rattle.acq_core.specs.declared.reply_state.ReplyState.{ReplyState}
 use Rattle.acq_core.specs.declared.reply_state.ReplyState.TheVariants.{Awaited}
 use Rattle.acq_core.specs.Statuses.{all_statuses, status_number, status_numbered}
-use Rattle.acq_core.specs.Tables.{reply_state_of, is_pending, is_approved}
+use Rattle.acq_core.specs.Decision.{is_awaited}
+use Rattle.acq_core.specs.Tables.{reply_state_of, is_pending}
 
 -- what holds of each in the list holds of every status
 pub by_status : (P : Status → Type 0) → AllByRecursion P all_statuses → (s : Status) → P s
@@ -23,6 +25,7 @@ by_status P all Completed = all.1.1.1.1.0
 by_status P all Reversed = all.1.1.1.1.1.0
 by_status P all ReversedPending = all.1.1.1.1.1.1.0
 by_status P all Reconciled = all.1.1.1.1.1.1.1.0
+by_status P all Lowered = all.1.1.1.1.1.1.1.1.0
 
 each_alike : {X : Type 0} (f g : Status → X) (all : List Status) → map f all ≡ map g all
     → AllByRecursion (λ s. f s ≡ g s) all
@@ -58,16 +61,8 @@ only_one test one h s passes =
 pub only_pending : (s : Status) → is_pending s ≡ true → s ≡ Pending
 only_pending = only_one is_pending Pending refl
 
-pub only_approved : (s : Status) → is_approved s ≡ true → s ≡ Approved
-only_approved = only_one is_approved Approved refl
-
-is_awaited : ReplyState → Bool
-is_awaited (Awaited draft) = true
-is_awaited state = false
-
 -- an answer is awaited of pending requests alone
 pub only_awaited : (s : Status) (reply draft : IsoMessage) → reply_state_of s reply ≡ Awaited draft
     → s ≡ Pending
-unfolding is_awaited
 only_awaited s reply draft e =
     only_one (λ t. is_awaited (reply_state_of t reply)) Pending refl s (ap is_awaited e)

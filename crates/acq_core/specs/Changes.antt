@@ -1,5 +1,6 @@
 -- What an event changes: the rows that it records, and what becomes of earlier ones.
-use Rattle.std.specs.Prelude.{ℕ, ◌+◌, ◌-◌, ◌*◌, true, false, Option, Some, None, option_map}
+use Rattle.std.specs.Prelude.{ℕ, ◌+◌, ◌-◌, ◌*◌, nat_lt, Bool, true, false, Option, Some, None}
+use Rattle.std.specs.Prelude.{option_map, if◌then◌else◌}
 use Rattle.iso_codec.specs.Message.{IsoMessage, content_of}
 use Rattle.card_no.specs.Prefix.{PrefixProfile, in_force}
 use Rattle.card_no.specs.declared.range.Range.{Range}
@@ -14,6 +15,7 @@ use Rattle.acq_message.specs.declared.request_message.RequestMessage.{RequestMes
 use Rattle.acq_message.specs.declared.response_code.ResponseCode.{ResponseCode}
 use Rattle.acq_message.specs.declared.response_code.ResponseCode.TheVariants as code
 use Rattle.acq_message.specs.Elements.{text_at, amount_in, key_of, essence_of, or_empty, sale_leg}
+use Rattle.acq_message.specs.Elements.{remaining_in}
 use Rattle.acq_message.specs.Cards.{card_of}
 use Rattle.acq_message.specs.Reply.{coded_reply, referring_reply, draft_reply, totals_reply}
 use Rattle.acq_message.specs.Reply.{answered_reply}
@@ -91,15 +93,11 @@ posted_leg (Kept reply) leg = leg
 posted_leg (Awaited draft) leg = None
 posted_leg Late leg = None
 
--- how much of its original's amount a reversal lets remain: nothing
-abbrev pub amount_to_remain : RequestMessage → ℕ
-amount_to_remain r = 0
-
 -- a reversal of what was posted under a leg posts what it takes of the original's amount, under the
 -- leg that reverses it
 abbrev pub reversing_posting : ℕ → RequestMessage → Prior → Leg → Posting
 reversing_posting today r p leg =
-    posting_today today r (reversal_leg leg) (p.amount - amount_to_remain r) p
+    posting_today today r (reversal_leg leg) (p.amount - remaining_in r.message) p
 
 -- what a reversal posts, where the original was posted
 abbrev pub reversal_posting : ℕ → RequestMessage → Prior → Option Posting
@@ -191,7 +189,7 @@ answered_status verdict.NoAnswer = status.Declined
 
 -- what a completion leaves of its hold
 abbrev pub remains_of_hold : Prior → Remains
-remains_of_hold hold = record { status = status.Completed }
+remains_of_hold hold = record { status = status.Completed; amount = hold.amount }
 
 -- the status of an original that is reversed
 abbrev pub reversed_status : ReplyState → Status
@@ -199,9 +197,17 @@ reversed_status (Kept reply) = status.Reversed
 reversed_status (Awaited draft) = status.ReversedPending
 reversed_status Late = status.ReversedPending
 
+-- a hold of which something is to remain is lowered
+abbrev pub is_lowered : Service → ℕ → Bool
+is_lowered Authorization remaining = nat_lt 0 remaining
+is_lowered service remaining = false
+
 -- what a reversal leaves of its original, of whose amount so much is to remain
 abbrev pub remains_of : Prior → ℕ → Remains
-remains_of p remaining = record { status = reversed_status p.reply_state }
+remains_of p remaining =
+    if is_lowered p.key.service remaining
+    then record { status = status.Lowered; amount = remaining }
+    else record { status = reversed_status p.reply_state; amount = p.amount }
 
 -- the last second of a hold of so many days that is approved at a moment
 abbrev pub end_of_hold : ℕ → ℕ → ℕ
@@ -227,7 +233,7 @@ change_of k (decided.Completes r hold) =
     Some (change.Follow (completion_row k.today r hold) hold.key (remains_of_hold hold)
     (Some (completion_posting k.today r hold)))
 change_of k (decided.Reverses r p) =
-    Some (change.Follow (reversal_row k.today r p) p.key (remains_of p (amount_to_remain r))
+    Some (change.Follow (reversal_row k.today r p) p.key (remains_of p (remaining_in r.message))
     (reversal_posting k.today r p))
 change_of k (decided.Reconciles r day) =
     Some (change.Reconciled (reconciliation_row k r day)

@@ -23,7 +23,7 @@ use Rattle.acq_message.specs.declared.response_code.ResponseCode.{ResponseCode}
 use Rattle.acq_message.specs.declared.response_code.ResponseCode.TheVariants as code
 use Rattle.acq_message.specs.Numbers.{is_accepted_amount}
 use Rattle.acq_message.specs.Elements.{text_at, or_empty, amount_in, transaction_in, essence_of}
-use Rattle.acq_message.specs.Elements.{original_acquirer}
+use Rattle.acq_message.specs.Elements.{original_acquirer, remaining_in}
 use Rattle.acq_message.specs.Cards.{card_of, expiry_of}
 use Rattle.acq_core.specs.declared.merchant.Merchant.{Merchant}
 use Rattle.acq_core.specs.declared.terminal.Terminal.{Terminal}
@@ -160,13 +160,28 @@ completion k merchant r =
     ∷ []
     ) (completion_of k r (open_hold r.moment k.referred))
 
+-- a request waits for its issuer's answer
+abbrev pub is_awaited : ReplyState → Bool
+is_awaited (Kept reply) = false
+is_awaited (Awaited draft) = true
+is_awaited Late = false
+
+-- the original can't be reversed, or not in part, since it is pending
+abbrev pub is_final_for : ℕ → Prior → Bool
+is_final_for remaining p =
+    not p.is_reversible || (is_awaited p.reply_state && nat_lt 0 remaining)
+
+-- a reversal names its original's amount, and lets less of it remain
+abbrev pub leaves_a_part : ℕ → ℕ → Prior → Bool
+leaves_a_part amount remaining p = (amount == p.amount) && nat_lt remaining p.amount
+
 -- a reversal of this original
 abbrev pub reversal_of : Known → RequestMessage → Option Prior → Decision
 reversal_of k r None = Refuses r code.RecordNotFound
 reversal_of k r (Some p) =
     first_of r (
-    (not p.is_reversible, code.NoActionTaken)
-    ∷ (not (amount_in r.message == p.amount), code.InvalidAmount)
+    (is_final_for (remaining_in r.message) p, code.NoActionTaken)
+    ∷ (not (leaves_a_part (amount_in r.message) (remaining_in r.message) p), code.InvalidAmount)
     ∷ (is_full k, code.LimitExceeded)
     ∷ []
     ) (Reverses r p)

@@ -5,6 +5,7 @@ use Rattle.acq_core.specs.declared.status.Status.{Status}
 use Rattle.acq_core.specs.declared.status.Status.TheVariants.{Refused, Pending, Declined, Approved}
 use Rattle.acq_core.specs.declared.status.Status.TheVariants.{Completed, Reversed}
 use Rattle.acq_core.specs.declared.status.Status.TheVariants.{ReversedPending, Reconciled}
+use Rattle.acq_core.specs.declared.status.Status.TheVariants.{Lowered}
 use Rattle.acq_core.specs.declared.reply_state.ReplyState.{ReplyState}
 use Rattle.acq_core.specs.declared.reply_state.ReplyState.TheVariants.{Kept, Awaited, Late}
 
@@ -43,12 +44,13 @@ standing Completed = closed 4
 standing Reversed = closed 5
 standing ReversedPending = record (closed 6) { repeat_gets = λ reply. Late }
 standing Reconciled = closed 7
+standing Lowered = record (closed 8) { is_approved = true }
 
 -- in the order of their numbers
 abbrev pub all_statuses : List Status
 all_statuses =
     Refused ∷ Pending ∷ Declined ∷ Approved ∷ Completed ∷ Reversed ∷ ReversedPending ∷ Reconciled
-    ∷ []
+    ∷ Lowered ∷ []
 
 -- a status's number in tables
 abbrev pub status_number : Status → ℕ

@@ -218,7 +218,7 @@ answered_row status reply hold_end row =
 
 -- a request that was completed or reversed, of which this remains
 abbrev pub followed_row : Remains → Request → Request
-followed_row remains row = record row { status = remains.status }
+followed_row remains row = record row { status = remains.status; amount = remains.amount }
 
 -- the tables after a change
 abbrev pub after : Tables → Change → Tables

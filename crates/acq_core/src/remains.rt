@@ -1,9 +1,11 @@
 //! What is left of an earlier request.
 
 use crate::status::Status;
+use acq_message::Amount;
 
 /// What a completion or a reversal leaves of the request that it follows.
 #[derive(Clone, Copy, Debug, PartialEq, Eq)]
 pub struct Remains {
     pub status: Status,
+    pub amount: Amount,
 }

@@ -22,6 +22,8 @@ pub enum Status {
     ReversedPending,
     /// 7: it is a reconciliation that was made.
     Reconciled,
+    /// 8: it is a hold that was approved and then lowered.
+    Lowered,
 }
 
 impl Status {
@@ -38,6 +40,7 @@ impl Status {
             Status::Reversed => 5,
             Status::ReversedPending => 6,
             Status::Reconciled => 7,
+            Status::Lowered => 8,
         }
     }
 
@@ -55,6 +58,7 @@ impl Status {
             5 => Some(Status::Reversed),
             6 => Some(Status::ReversedPending),
             7 => Some(Status::Reconciled),
+            8 => Some(Status::Lowered),
             _ => None,
         }
     }

@@ -7,7 +7,7 @@ use Rattle.std.specs.List.{list_all, list_any}
 use Rattle.card_no.specs.Track2.{may_be_number}
 use Rattle.iso_codec.specs.Message.{IsoMessage, IsMessage, is_among}
 use Rattle.iso_codec.specs.Reading.{spelling}
-use Rattle.acq_message.specs.Elements.{essential}
+use Rattle.acq_message.specs.Elements.{essential_of_any}
 use Rattle.acq_core.specs.declared.event.Event.{Event}
 use Rattle.acq_core.specs.declared.request.Request.{Request}
 use Rattle.acq_core.specs.declared.output.Output.{Output}
@@ -28,7 +28,7 @@ pub record IsEssence (text : List ℕ) : Type 0 where
   pub message : IsoMessage
   pub is_message : IsMessage message
   pub spelled : text ≡ spelling message
-  pub elements : list_all (is_among (2 ∷ essential)) message.elements ≡ true
+  pub elements : list_all (is_among (2 ∷ essential_of_any)) message.elements ≡ true
   pub lacks : lacks_sensitive_data message ≡ true
 
 -- at most eleven digits

@@ -28,14 +28,14 @@ is_posting m reference reversal row =
 abbrev pub IsEarlier : ℕ × Posting → ℕ × Posting → Type 0
 IsEarlier a b = (a.1.day < b.1.day) ⊎ ((a.1.day ≡ b.1.day) × (a.0 < b.0))
 
--- a posting that a reversal reverses: earlier, of the same merchant, reference, amount and card,
--- and of the matching leg
+-- a posting that a reversal reverses: earlier, of the same merchant, reference and card, of the
+-- matching leg, and of an amount that isn't less
 pub record IsOriginalOf (a b : ℕ × Posting) : Type 0 where
   pub earlier : IsEarlier a b
   pub merchant : a.1.merchant ≡ b.1.merchant
   pub reference : a.1.reference ≡ b.1.reference
   pub leg : reversal_leg a.1.leg ≡ b.1.leg
-  pub amount : a.1.amount ≡ b.1.amount
+  pub amount : b.1.amount ≤ a.1.amount
   pub card : a.1.card ≡ b.1.card
 
 -- For each merchant and reference there is at most one posting of an original and at most one of a

@@ -16,6 +16,7 @@ use Rattle.acq_message.specs.declared.response_code.ResponseCode.TheVariants as 
 use Rattle.iso_codec.specs.Message.{IsoMessage}
 use Rattle.acq_message.specs.Numbers.{is_number}
 use Rattle.acq_message.specs.Elements.{reference_in, same_key, original_key}
+use Rattle.acq_message.specs.Elements.{remaining_in}
 use Rattle.acq_core.specs.declared.arrival.Arrival.{Arrival}
 use Rattle.acq_message.specs.declared.request_message.RequestMessage.{RequestMessage}
 use Rattle.acq_core.specs.declared.arrival.Arrival.TheVariants.{Requested, Answered, CutOver}
@@ -139,6 +140,11 @@ reverses key (Some r) o =
 -- an entry that reverses the original with this key
 abbrev pub is_reversing : RequestKey → Entry → Bool
 is_reversing key e = reverses key (request_of e.arrival) e.outcome
+
+-- what a reversal lets remain of its original
+abbrev pub remaining_by : Option RequestMessage → ℕ
+remaining_by None = 0
+remaining_by (Some r) = remaining_in r.message
 
 -- what an issuer said to the request with this reference
 abbrev pub answers : ℕ → Arrival → Bool

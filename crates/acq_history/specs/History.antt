@@ -2,7 +2,7 @@
 -- newest entry stands first.
 use Rattle.std.specs.Prelude.{ℕ, ◌+◌, ◌==◌, Bool, true, false, not, ◌&&◌, ◌||◌, List, [], ◌∷◌, find}
 use Rattle.std.specs.Prelude.{Option, Some, None, option_map, option_and_then, is_some, is_none}
-use Rattle.std.specs.Prelude.{if◌then◌else◌}
+use Rattle.std.specs.Prelude.{unwrap_or, if◌then◌else◌}
 use Rattle.std.specs.List.{list_any}
 use Rattle.std.specs.Option.{option_or}
 use Rattle.std.specs.Str.{bytes_eq}
@@ -32,12 +32,13 @@ use Rattle.acq_core.specs.Known.{Prior, Facts}
 use Rattle.acq_message.specs.Elements.{sale_leg}
 use Rattle.acq_message.specs.Reply.{draft_reply}
 use Rattle.acq_core.specs.Changes.{end_of_hold, answer_posting, completion_posting}
-use Rattle.acq_core.specs.Changes.{reversal_posting}
+use Rattle.acq_core.specs.Changes.{reversal_posting, is_lowered}
 use Rattle.card_no.specs.Ranges.{between}
 use Rattle.acq_core.specs.Tables.{Opening, with_next_posting, totals_on}
 use Rattle.acq_history.specs.Entries.{Entry, reply_in, is_asked, is_performed, is_past_merchant}
 use Rattle.acq_history.specs.Entries.{request_of, is_admissible, accepts, is_acceptable}
 use Rattle.acq_history.specs.Entries.{is_acceptance, is_completing, is_reversing, is_answer}
+use Rattle.acq_history.specs.Entries.{remaining_by}
 use Rattle.acq_history.specs.Entries.{approval_in, is_cutover, enrolment_in, terminal_in}
 
 -- ---- what all share
@@ -175,9 +176,30 @@ any_with fits (Some n) es = list_any (fits n) es
 abbrev pub is_completed : Found → Bool
 is_completed f = any_with is_completing (reference_of f) f.later
 
--- an accepted reversal has it as its original
+-- the accepted reversal that has it as its original, by what that lets remain
+abbrev pub reversal_of : Found → Option ℕ
+reversal_of f =
+    option_map (λ e. remaining_by (request_of e.arrival))
+    (find (is_reversing (key_of f.request.service f.request.message)) f.later)
+
+-- there is one
 abbrev pub is_reversed : Found → Bool
-is_reversed f = list_any (is_reversing (key_of f.request.service f.request.message)) f.later
+is_reversed f = is_some (reversal_of f)
+
+-- what remains of a hold that was lowered
+abbrev pub lowered_to : Service → Option ℕ → Option ℕ
+lowered_to service None = None
+lowered_to service (Some remaining) =
+    if is_lowered service remaining then Some remaining else None
+
+-- it was reversed, and not lowered
+abbrev pub is_undone : Found → Bool
+is_undone f = is_reversed f && is_none (lowered_to f.request.service (reversal_of f))
+
+-- its amount: of a hold that was lowered, what remains
+abbrev pub amount_of : Found → ℕ
+amount_of f =
+    unwrap_or (lowered_to f.request.service (reversal_of f)) (amount_in f.request.message)
 
 -- it was answered, and not approved
 abbrev pub is_declined : Found → Bool
@@ -240,10 +262,10 @@ card_by Completion f =
     else card_of f.request.message
 card_by service f = card_of f.request.message
 
--- until when it is open: a hold that was approved and neither completed nor reversed
+-- until when it is open: a hold that was approved and neither completed nor undone
 abbrev pub hold_end_by : Service → Found → Option ℕ
 hold_end_by Authorization f =
-    if is_completed f || is_reversed f then None
+    if is_completed f || is_undone f then None
     else option_and_then (λ moment. option_map (end_of_hold moment) (hold_days_of f))
     (approval_of f)
 hold_end_by service f = None
@@ -255,7 +277,7 @@ prior f =
       key = key_of f.request.service f.request.message;
       essence = essence_of f.request.service f.request.message;
       day = f.entry.day;
-      amount = amount_in f.request.message;
+      amount = amount_of f;
       leg = leg_by f.request.service f;
       card = card_by f.request.service f;
       acquirer = content_of f.request.message.elements 32;

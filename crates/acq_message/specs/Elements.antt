@@ -12,7 +12,8 @@ use Rattle.day_totals.specs.declared.leg.Leg.{Leg}
 use Rattle.day_totals.specs.declared.leg.Leg.TheVariants.{Credit, Debit}
 use Rattle.acq_message.specs.declared.service.Service.{Service}
 use Rattle.acq_message.specs.declared.service.Service.TheVariants.{Authorization, Financial}
-use Rattle.acq_message.specs.declared.service.Service.TheVariants.{Completion}
+use Rattle.acq_message.specs.declared.service.Service.TheVariants.{Completion, Reversal}
+use Rattle.acq_message.specs.declared.service.Service.TheVariants.{ReversalAdvice}
 use Rattle.acq_message.specs.declared.request_key.RequestKey.{RequestKey}
 use Rattle.acq_message.specs.Services.{digits_of, same_service}
 use Rattle.acq_message.specs.Cards.{card_of}
@@ -76,9 +77,16 @@ same_key a b =
 
 -- ---- the essence
 
--- the elements that a repeat must have alike, beside the card number
-abbrev pub essential : List ℕ
-essential =
+-- the elements that a repeat of some service must have alike, beside the card number
+abbrev pub essential_of_any : List ℕ
+essential_of_any =
+    3 ∷ 4 ∷ 15 ∷ 37 ∷ 49 ∷ 74 ∷ 75 ∷ 76 ∷ 77 ∷ 86 ∷ 87 ∷ 88 ∷ 89 ∷ 90 ∷ 95 ∷ 97 ∷ []
+
+-- those of each service: all but 95, which says what a reversal lets remain, and of these all
+abbrev pub essential : Service → List ℕ
+essential Reversal = essential_of_any
+essential ReversalAdvice = essential_of_any
+essential service =
     3 ∷ 4 ∷ 15 ∷ 37 ∷ 49 ∷ 74 ∷ 75 ∷ 76 ∷ 77 ∷ 86 ∷ 87 ∷ 88 ∷ 89 ∷ 90 ∷ 97 ∷ []
 
 -- an element with this content, where there is one
@@ -91,8 +99,19 @@ abbrev pub essence_of : Service → IsoMessage → List ℕ
 essence_of service m =
     spelling (record {
       kind = digits_of service ++ codes "0";
-      elements = element_if 2 (card_of m) ++ filter (is_among essential) m.elements;
+      elements = element_if 2 (card_of m) ++ filter (is_among (essential service)) m.elements;
     })
+
+-- ---- what a reversal lets remain: element 95 begins with the amount, of twelve digits
+
+-- the text of the amount, nothing where the element isn't there
+abbrev pub remaining_text : IsoMessage → List ℕ
+remaining_text m = take 12 (text_at m 95)
+
+-- the amount; 0, which is a full reversal, where the element isn't there or begins with none
+abbrev pub remaining_in : IsoMessage → ℕ
+remaining_in m =
+    if list_all is_ascii_digit (remaining_text m) then digits_value 10 (remaining_text m) else 0
 
 -- ---- the original of a reversal: element 90 has its type, trace, transmission date and time,
 -- acquirer and forwarder

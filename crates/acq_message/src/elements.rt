@@ -1,11 +1,12 @@
 //! What a message says in its elements. Nothing here takes memory.
 
-ghost use Rattle.std.specs.Prelude.{◌≡◌, true, None, take, drop};
+ghost use Rattle.std.specs.Prelude.{◌≡◌, ◌≤◌, true, None, take, drop, length};
 ghost use Rattle.iso_codec.specs.Message.{content_of};
 ghost use Rattle.iso_codec.specs.Setting.{set_fault};
 ghost use Rattle.acq_message.specs.Elements.{has, text_at, number_at, amount_in, transaction_in};
 ghost use Rattle.acq_message.specs.Elements.{sale_leg};
 ghost use Rattle.acq_message.specs.Elements.{reference_in, original_acquirer};
+ghost use Rattle.acq_message.specs.Elements.{remaining_text, remaining_in};
 ghost use Rattle.acq_message.specs.ShortNumbers.{is_short_number};
 
 use crate::amount::Amount;
@@ -45,6 +46,32 @@ pub fn amount_in(message: &Message) -> Amount
     ensures { result ≡ amount_in message.now }
 {
     let Some(amount) = Amount::from_number(digits_value(content_at(message, 4))) else {
+        unreachable!();
+    };
+    amount
+}
+
+/// The text of the amount that a reversal lets remain: the first twelve bytes of element 95, nothing
+/// where it isn't there.
+pub(crate) fn remaining_text(message: &Message) -> &[u8]
+    ensures value { result.now ≡ remaining_text message.now }
+    ensures short { length result.now ≤ 12 }
+{
+    part(text_at(message, 95), 0, 12)
+}
+
+/// The amount that a reversal lets remain: 0, which is a full reversal, where element 95 isn't there
+/// or begins with no amount. Source: ISO 8583:1987, replacement amounts.
+pub fn remaining_in(message: &Message) -> Amount
+    ensures { result ≡ remaining_in message.now }
+{
+    let text = remaining_text(message);
+    let number = if all_digits(text) {
+        digits_value(text)
+    } else {
+        0
+    };
+    let Some(amount) = Amount::from_number(number) else {
         unreachable!();
     };
     amount

@@ -21,7 +21,7 @@ pub fn essence_of(
     ensures { IfOk result (λ text. text ≡ essence_of service message.now) }
 {
     let [a, b, c] = service.digits();
-    let mut essence = message.select(alloc, [a, b, c, b'0'], essential())?;
+    let mut essence = message.select(alloc, [a, b, c, b'0'], essential(service))?;
     if let Some(number) = card_number_of(message) {
         put(&mut essence, alloc, 2, number)?;
     }
@@ -29,8 +29,13 @@ pub fn essence_of(
 }
 
 /// The elements that a repeat must have alike, beside the card number.
-fn essential() -> &'static [u8]
-    ensures { result.now ≡ essential }
+fn essential(service: Service) -> &'static [u8]
+    ensures { result.now ≡ essential service }
 {
-    &[3, 4, 15, 37, 49, 74, 75, 76, 77, 86, 87, 88, 89, 90, 97]
+    match service {
+        Service::Reversal | Service::ReversalAdvice => {
+            &[3, 4, 15, 37, 49, 74, 75, 76, 77, 86, 87, 88, 89, 90, 95, 97]
+        }
+        _ => &[3, 4, 15, 37, 49, 74, 75, 76, 77, 86, 87, 88, 89, 90, 97],
+    }
 }

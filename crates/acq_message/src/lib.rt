@@ -45,7 +45,8 @@ pub use decline_code::DeclineCode;
 pub use digits::digits_value;
 pub use element_content::ElementContent;
 pub use elements::{
-    amount_in, original_acquirer, reference_in, sale_leg, settlement_date, text_at, transaction_in,
+    amount_in, original_acquirer, reference_in, remaining_in, sale_leg, settlement_date, text_at,
+    transaction_in,
 };
 pub use essence::essence_of;
 pub use first_check::is_malformed;

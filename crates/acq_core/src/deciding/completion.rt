@@ -68,7 +68,7 @@ fn is_open_at(moment: Moment, request: &Request) -> bool
     match request.hold_end {
         Some(hold_end) => {
             request.key.service == Service::Authorization
-                && request.status == Status::Approved
+                && matches!(request.status, Status::Approved | Status::Lowered)
                 && moment.seconds() <= hold_end
         }
         None => false,
@@ -105,6 +105,7 @@ pub(crate) fn completed(
         original: hold.key,
         remains: Remains {
             status: Status::Completed,
+            amount: hold.amount,
         },
         posting: Some(posting),
     };

@@ -1,6 +1,7 @@
 //! Reversals.
 
-ghost use Rattle.std.specs.Prelude.{◌≡◌, ◌++◌, ◌==◌, replicate, true, Some, IfOk};
+ghost use Rattle.std.specs.Prelude.{◌≡◌, ◌-◌, ◌++◌, ◌==◌, ◌&&◌, ◌||◌, not, nat_lt, replicate};
+ghost use Rattle.std.specs.Prelude.{true, Some, IfOk};
 ghost use Rattle.std.specs.List.{list_all};
 ghost use Rattle.std.specs.Str.{bytes_eq};
 ghost use Rattle.iso_codec.specs.Message.{IsoMessage};
@@ -8,8 +9,9 @@ ghost use Rattle.iso_codec.specs.Reading.{spelling};
 ghost use Rattle.acq_message.specs.Services.{is_recordable};
 ghost use Rattle.acq_message.specs.Reply.{referring_reply};
 ghost use Rattle.acq_core.specs.Changes.{reversal_row, reversal_posting, reversing_leg};
-ghost use Rattle.acq_core.specs.Changes.{amount_to_remain, remains_of, reversed_status};
-ghost use Rattle.acq_core.specs.Decision.{reversal_of, original_of, fits_acquirer};
+ghost use Rattle.acq_core.specs.Changes.{remains_of, reversed_status, is_lowered};
+ghost use Rattle.acq_core.specs.Decision.{reversal_of, original_of, fits_acquirer, is_awaited};
+ghost use Rattle.acq_message.specs.Elements.{remaining_in};
 ghost use Rattle.acq_core.specs.Looking.{known_of};
 ghost use Rattle.acq_core.specs.Meaning.{meaning_of, is_feasible};
 ghost use Rattle.acq_core.specs.Tables.{is_reversible, prior_of, reply_state_of};
@@ -27,8 +29,8 @@ use crate::remains::Remains;
 use crate::request::Request;
 use crate::status::Status;
 use acq_message::{
-    CheckedRequest, ElementContent, MerchantId, ResponseCode, amount_in, original_acquirer,
-    referring_reply,
+    Amount, CheckedRequest, ElementContent, MerchantId, ResponseCode, Service, amount_in,
+    original_acquirer, referring_reply, remaining_in,
 };
 use day_totals::{Day, Leg};
 use std::alloc::{AllocError, Global};
@@ -47,10 +49,11 @@ pub(super) fn reversal<'a>(looked: &'a Looked, request: &'a CheckedRequest) -> D
     if !fits_acquirer(original_acquirer(message), &original.acquirer) {
         return Decision::Refuses(request, ResponseCode::RecordNotFound);
     }
-    if !is_reversible(original.status) {
+    let remaining = remaining_in(message);
+    if is_final_for(remaining, original.status) {
         return Decision::Refuses(request, ResponseCode::NoActionTaken);
     }
-    if amount_in(message) != original.amount {
+    if amount_in(message) != original.amount || remaining.number() >= original.amount.number() {
         return Decision::Refuses(request, ResponseCode::InvalidAmount);
     }
     if is_full(looked) {
@@ -59,11 +62,16 @@ pub(super) fn reversal<'a>(looked: &'a Looked, request: &'a CheckedRequest) -> D
     Decision::Reverses { request, original }
 }
 
-/// Whether a reversal of a request that stands so can be accepted.
-fn is_reversible(status: Status) -> bool
-    ensures { result ≡ is_reversible status }
+/// Whether a request that stands so can't be reversed, or not in part, since it is pending.
+fn is_final_for(remaining: Amount, status: Status) -> bool
+    ensures { (reply : IsoMessage) → result ≡ (not (is_reversible status)
+        || (is_awaited (reply_state_of status reply) && nat_lt 0 remaining)) }
 {
-    matches!(status, Status::Pending | Status::Approved)
+    match status {
+        Status::Pending => remaining.number() > 0,
+        Status::Approved => false,
+        _ => true,
+    }
 }
 
 /// As many zeros as an acquirer has digits at most.
@@ -112,7 +120,7 @@ pub(crate) fn reversed(
         (prior_of original.now).reference ResponseCode.Approved))) }
     ensures change { IfOk result (λ x. let p = prior_of original.now in x.1
         ≡ Some (Change.Follow (reversal_row today request.now p) p.key
-        (remains_of p (amount_to_remain request.now)) (reversal_posting today request.now p))) }
+        (remains_of p (remaining_in request.now.message)) (reversal_posting today request.now p))) }
 {
     let message = request.as_request();
     let reply = referring_reply(
@@ -130,13 +138,13 @@ pub(crate) fn reversed(
     let change = Change::Follow {
         request: row,
         original: original.key,
-        remains: remains_of(original),
+        remains: remains_of(original, remaining_in(&message.message)),
         posting,
     };
     Ok((output, Some(change)))
 }
 
-/// What a reversal posts: the original's amount, where the original was posted.
+/// What a reversal posts: what it takes of the original's amount, where the original was posted.
 fn reversal_posting(
     alloc: Global,
     today: Day,
@@ -150,7 +158,7 @@ fn reversal_posting(
     match posted_leg(original) {
         Some(leg) => {
             let leg = reversal_leg(leg);
-            let amount = original.amount;
+            let amount = taken(original.amount, remaining_in(&request.as_request().message));
             Ok(Some(posting_today(alloc, today, request, leg, amount, original)?))
         }
         None => Ok(None),
@@ -167,13 +175,38 @@ fn reversing_leg(leg: Option<Leg>) -> Leg
     }
 }
 
-/// What is left of an original that is reversed, with nothing of its amount.
-fn remains_of(original: &Request) -> Remains
-    ensures { result ≡ remains_of (prior_of original.now) 0 }
+/// What is taken of an amount, of which so much remains.
+fn taken(amount: Amount, remaining: Amount) -> Amount
+    ensures { result ≡ amount - remaining }
 {
+    let taken = amount.number().saturating_sub(remaining.number());
+    let Some(taken) = Amount::from_number(taken) else {
+        unreachable!();
+    };
+    taken
+}
+
+/// What is left of an original that is reversed, of whose amount so much remains.
+fn remains_of(original: &Request, remaining: Amount) -> Remains
+    ensures { result ≡ remains_of (prior_of original.now) remaining }
+{
+    if is_lowered(original.key.service, remaining) {
+        return Remains {
+            status: Status::Lowered,
+            amount: remaining,
+        };
+    }
     Remains {
         status: reversed_status(original.status),
+        amount: original.amount,
     }
+}
+
+/// Whether it is a hold of which something remains.
+fn is_lowered(service: Service, remaining: Amount) -> bool
+    ensures { result ≡ is_lowered service remaining }
+{
+    service == Service::Authorization && remaining.number() > 0
 }
 
 /// The status of an original that is reversed.

@@ -1,7 +1,7 @@
 use Rattle.std.proofs.Common.{◌≡◌, ℕ, true, false, leb, ltb, List, [], ◌∷◌, ◌++◌, Some, None}
 use Rattle.std.proofs.Common.{get_or, refl, inl, inr, subst}
 use Rattle.std.specs.Prelude.{codes, IfOk}
-use Rattle.std.specs.List.{filter}
+use Rattle.std.specs.List.{filter, list_all}
 use Rattle.std.proofs.lemmas.Bool.{cases_Bool, ltb-true, lt-leb}
 use Rattle.iso_codec.specs.Message.{IsoMessage, with_content, is_among}
 use Rattle.iso_codec.specs.Reading.{spelling}
@@ -17,19 +17,30 @@ use Rattle.acq_message.proofs.NeededElements.{one_of_all}
 use Rattle.acq_message.proofs.essence.essence_of.Goals as goal
 use Rattle.acq_message.proofs.essence.essence_of.Goals.{in-Some+in_ok-put, in_default}
 
--- the card number stands before all essential elements
-front : (es : List (ℕ × List ℕ)) (text : List ℕ) →
-    with_content (filter (is_among essential) es) 2 text
-    ≡ (2, text) ∷ filter (is_among essential) es
-front [] text = refl
-front (e ∷ es) text =
-    elim (cases_Bool (is_among essential e)) [
+-- the card number stands before elements that are all behind it
+front : (numbers : List ℕ) → list_all (ltb 2) numbers ≡ true →
+    (es : List (ℕ × List ℕ)) (text : List ℕ) →
+    with_content (filter (is_among numbers) es) 2 text
+    ≡ (2, text) ∷ filter (is_among numbers) es
+front numbers behind [] text = refl
+front numbers behind (e ∷ es) text =
+    elim (cases_Bool (is_among numbers e)) [
       | inl kept ↦
-          let above : ltb 2 e.0 ≡ true = one_of_all (ltb 2) essential e.0 refl kept in
+          let above : ltb 2 e.0 ≡ true = one_of_all (ltb 2) numbers e.0 behind kept in
           let after : leb e.0 2 ≡ false = lt-leb e.0 2 (ltb-true 2 e.0 above) in
           rw (kept, after) refl
-      | inr dropped ↦ rw dropped (front es text)
+      | inr dropped ↦ rw dropped (front numbers behind es text)
     ]
+
+-- they are
+all_behind : (s : Service) → list_all (ltb 2) (essential s) ≡ true
+all_behind Authorization = refl
+all_behind Financial = refl
+all_behind Completion = refl
+all_behind Reversal = refl
+all_behind ReversalAdvice = refl
+all_behind Reconciliation = refl
+all_behind NetworkManagement = refl
 
 four_digits : (s : Service) (digits : List ℕ) → digits ≡ digits_of s
     → get_or digits 0 0 ∷ get_or digits 1 0 ∷ get_or digits 2 0 ∷ 48 ∷ [] ≡ digits_of s ++ codes "0"
@@ -55,15 +66,15 @@ selection m digits numbers = record {
 
 with_card : (s : Service) (m essence : IsoMessage) (digits numbers number : List ℕ) →
     digits ≡ digits_of s
-    → numbers ≡ essential → Some number ≡ card_of m → essence ≡ selection m digits numbers
+    → numbers ≡ essential s → Some number ≡ card_of m → essence ≡ selection m digits numbers
     → spelling (record { kind = essence.kind; elements = with_content essence.elements 2 number })
     ≡ essence_of s m
 with_card s m essence digits numbers number are_digits are_numbers is so =
-    rw (so, four_digits s digits are_digits, are_numbers, front m.elements number, ← is) refl
+    rw (so, four_digits s digits are_digits, are_numbers, front (essential s) (all_behind s) m.elements number, ← is) refl
 
 without_card : (s : Service) (m essence : IsoMessage) (digits numbers : List ℕ) →
     digits ≡ digits_of s
-    → numbers ≡ essential → None ≡ card_of m → essence ≡ selection m digits numbers
+    → numbers ≡ essential s → None ≡ card_of m → essence ≡ selection m digits numbers
     → spelling essence ≡ essence_of s m
 without_card s m essence digits numbers are_digits are_numbers is so =
     rw (so, four_digits s digits are_digits, are_numbers, ← is) refl
