@@ -48,7 +48,7 @@ def claim_and_reply(merchant):
 
 
 def main():
-    lines = ["addrange,400000,499999,12345,7,", "addrange,500000,599999,67890,1,"]
+    lines = ["addrange,40000000,49999999,12345,7,", "addrange,50000000,59999999,67890,1,"]
     for merchant in MERCHANTS:
         lines += [f"enrol,SHOP{merchant:011},978,1,,", f"terminal,SHOP{merchant:011},TERM0001,,,"]
     for rounds in range(ROUNDS):

@@ -38,7 +38,7 @@ def run(words, given=b""):
 
 def new_book(program, path):
     run([program, "init", "--db", path, "--limit", "999999", "--day", "2024-05-01"])
-    lines = ["addrange,400000,499999,12345,7,"]
+    lines = ["addrange,40000000,49999999,12345,7,"]
     for k in range(TOGETHER):
         lines += [f"enrol,MERCHANT{k:07d},978,1,,", f"terminal,MERCHANT{k:07d},TERM0001,,,"]
     run([program, "replay", "--db", path], "".join(f"{it}\n" for it in lines).encode())

@@ -25,7 +25,7 @@ def sale(merchant, trace):
 
 def lines_of_day(sales):
     """Event lines: merchants, and sales that are answered, one behind the other."""
-    lines = ['addrange,400000,499999,12345,7,']
+    lines = ['addrange,40000000,49999999,12345,7,']
     for merchant in range(MERCHANTS):
         lines += [f'enrol,MERCHANT{merchant:07},978,1,,', f'terminal,MERCHANT{merchant:07},TERM0001,,,']
     for number in range(sales):

@@ -43,7 +43,7 @@ try:
     with open(issuers, "w") as it:
         it.write("4111111111111111,approved,A1B2C3\n")
     subprocess.run([program, "init", "--db", book, "--limit", "999999", "--day", "2024-05-01"], check=True)
-    lines = "addrange,400000,499999,12345,7,\nenrol,MERCHANT0000001,978,1,,\nterminal,MERCHANT0000001,TERM0001,,,\n"
+    lines = "addrange,40000000,49999999,12345,7,\nenrol,MERCHANT0000001,978,1,,\nterminal,MERCHANT0000001,TERM0001,,,\n"
     subprocess.run([program, "replay", "--db", book], input=lines.encode(), stdout=subprocess.DEVNULL, check=True)
     with socket.socket() as free:
         free.bind(("127.0.0.1", 0))

@@ -18,7 +18,7 @@ sales, left = divmod(count - 1 - 2 * MERCHANTS, 2)
 if sales < 1:
     sys.exit("too few lines for a sale")
 with open(work + "/in", "w") as events, open(work + "/want", "w") as lines:
-    events.write("addrange,400000,499999,12345,7,\n")
+    events.write("addrange,40000000,49999999,12345,7,\n")
     for merchant in range(MERCHANTS):
         events.write(f"enrol,MERCHANT{merchant:07},978,1,,\nterminal,MERCHANT{merchant:07},TERM0001,,,\n")
     lines.write("done\n" * (1 + 2 * MERCHANTS))

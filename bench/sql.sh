@@ -56,7 +56,7 @@ def write_lines(name, merchants, first, sales, with_setup):
     sales_of[name] = sales
     with open(f"{work}/{name}", "w") as events, open(f"{work}/{name}.want", "w") as lines:
         if with_setup:
-            events.write("addrange,400000,499999,12345,7,\n")
+            events.write("addrange,40000000,49999999,12345,7,\n")
             for merchant in range(merchants):
                 events.write(f"enrol,MERCHANT{merchant:07},978,1,,\n"
                              f"terminal,MERCHANT{merchant:07},TERM0001,,,\n")

@@ -57,8 +57,9 @@ next_morning = 1714642200
 -- the ranges of most rows
 abbrev pub ranges : List Event
 ranges =
-    AddRange (record { low = 400000; high = 499999; issuer = codes "12345"; hold_days = 7 })
-    ∷ AddRange (record { low = 500000; high = 599999; issuer = codes "67890"; hold_days = 1 }) ∷ []
+    AddRange (record { low = 40000000; high = 49999999; issuer = codes "12345"; hold_days = 7 })
+    ∷ AddRange (record { low = 50000000; high = 59999999; issuer = codes "67890"; hold_days = 1 })
+    ∷ []
 
 -- the ranges, merchants and terminals of most rows
 abbrev pub setup : List Event

@@ -153,8 +153,9 @@ pub fn last_seconds()
         ∷ []) }
     ensures days_of_the_request { Gives 999999 merchant_a
         (sent (hold "000020" "000000005000" merchant_a)
-        ∷ DropRange 500000 599999
-        ∷ AddRange (record { low = 500000; high = 599999; issuer = codes "67890"; hold_days = 31 })
+        ∷ DropRange 50000000 59999999
+        ∷ AddRange
+        (record { low = 50000000; high = 59999999; issuer = codes "67890"; hold_days = 31 })
         ∷ approves "H00001" merchant_a 1
         ∷ Frame 1714642201 (completion "000021" "000000005000" "000000000001" merchant_a) ∷ [])
         (asked_to_hold merchant_a 1 5000

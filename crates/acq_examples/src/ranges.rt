@@ -12,33 +12,38 @@ ghost use Rattle.acq_examples.specs.Scripts.{replied};
 #[tactic(auto, unfolding(crate::proofs::Computing::on_literals))]
 pub fn bad()
     ensures low_above_high { GivesAll
-        (AddRange (record { low = 500000; high = 400000; issuer = codes "12345"; hold_days = 7 })
+        (AddRange
+        (record { low = 50000000; high = 40000000; issuer = codes "12345"; hold_days = 7 })
         ∷ []) (BadRange ∷ []) }
-    ensures high_of_seven_digits { GivesAll
-        (AddRange (record { low = 999999; high = 1000000; issuer = codes "12345"; hold_days = 7 })
+    ensures high_of_nine_digits { GivesAll
+        (AddRange
+        (record { low = 99999999; high = 100000000; issuer = codes "12345"; hold_days = 7 })
         ∷ []) (BadRange ∷ []) }
     ensures no_hold_days { GivesAll
-        (AddRange (record { low = 450000; high = 450000; issuer = codes "12345"; hold_days = 0 })
+        (AddRange
+        (record { low = 45000000; high = 45000000; issuer = codes "12345"; hold_days = 0 })
         ∷ []) (BadRange ∷ []) }
     ensures more_than_31_hold_days { GivesAll
-        (AddRange (record { low = 600000; high = 600000; issuer = codes "12345"; hold_days = 32 })
-        ∷ AddRange (record { low = 600000; high = 600000; issuer = codes "12345"; hold_days = 31 })
+        (AddRange
+        (record { low = 60000000; high = 60000000; issuer = codes "12345"; hold_days = 32 })
+        ∷ AddRange
+        (record { low = 60000000; high = 60000000; issuer = codes "12345"; hold_days = 31 })
         ∷ [])
         (BadRange ∷ Done ∷ []) }
     ensures issuers { GivesAll
         (AddRange
-        (record { low = 600000; high = 600000; issuer = codes "123456789012"; hold_days = 7 })
+        (record { low = 60000000; high = 60000000; issuer = codes "123456789012"; hold_days = 7 })
         ∷ AddRange
-        (record { low = 600000; high = 600000; issuer = codes "1234A"; hold_days = 7 })
+        (record { low = 60000000; high = 60000000; issuer = codes "1234A"; hold_days = 7 })
         ∷ AddRange
-        (record { low = 600000; high = 600000; issuer = codes "01234567890"; hold_days = 1 })
+        (record { low = 60000000; high = 60000000; issuer = codes "01234567890"; hold_days = 1 })
         ∷ [])
         (BadRange
         ∷ BadRange
         ∷ Done
         ∷ []) }
     ensures no_issuer { GivesAll
-        (AddRange (record { low = 600000; high = 600000; issuer = []; hold_days = 7 }) ∷ [])
+        (AddRange (record { low = 60000000; high = 60000000; issuer = []; hold_days = 7 }) ∷ [])
         (BadRange ∷ []) }
 {}
 
@@ -46,26 +51,33 @@ pub fn bad()
 #[tactic(auto, unfolding(crate::proofs::Computing::on_literals))]
 pub fn overlaps()
     ensures inside { GivesAll
-        (AddRange (record { low = 450000; high = 450000; issuer = codes "11111"; hold_days = 3 })
+        (AddRange
+        (record { low = 45000000; high = 45000000; issuer = codes "11111"; hold_days = 3 })
         ∷ [])
-        (Overlap (record { low = 400000; high = 499999; issuer = codes "12345"; hold_days = 7 })
+        (Overlap (record { low = 40000000; high = 49999999; issuer = codes "12345"; hold_days = 7 })
         ∷ []) }
     ensures across_both { GivesAll
-        (AddRange (record { low = 399999; high = 500000; issuer = codes "11111"; hold_days = 3 })
+        (AddRange
+        (record { low = 39999999; high = 50000000; issuer = codes "11111"; hold_days = 3 })
         ∷ [])
-        (Overlap (record { low = 400000; high = 499999; issuer = codes "12345"; hold_days = 7 })
+        (Overlap (record { low = 40000000; high = 49999999; issuer = codes "12345"; hold_days = 7 })
         ∷ []) }
     ensures least_low_added_last { GivesAllFrom may_1
-        (AddRange (record { low = 700000; high = 799999; issuer = codes "67890"; hold_days = 1 })
-        ∷ AddRange (record { low = 600000; high = 699999; issuer = codes "12345"; hold_days = 7 })
-        ∷ AddRange (record { low = 650000; high = 750000; issuer = codes "11111"; hold_days = 3 })
+        (AddRange
+        (record { low = 70000000; high = 79999999; issuer = codes "67890"; hold_days = 1 })
+        ∷ AddRange
+        (record { low = 60000000; high = 69999999; issuer = codes "12345"; hold_days = 7 })
+        ∷ AddRange
+        (record { low = 65000000; high = 75000000; issuer = codes "11111"; hold_days = 3 })
         ∷ [])
         (Done ∷ Done ∷ Overlap
-        (record { low = 600000; high = 699999; issuer = codes "12345"; hold_days = 7 }) ∷ [])
+        (record { low = 60000000; high = 69999999; issuer = codes "12345"; hold_days = 7 }) ∷ [])
         may_1 }
     ensures touching { GivesAll
-        (AddRange (record { low = 600000; high = 999999; issuer = codes "11111"; hold_days = 3 })
-        ∷ AddRange (record { low = 0; high = 399999; issuer = codes "11111"; hold_days = 3 }) ∷ [])
+        (AddRange
+        (record { low = 60000000; high = 99999999; issuer = codes "11111"; hold_days = 3 })
+        ∷ AddRange
+        (record { low = 0; high = 39999999; issuer = codes "11111"; hold_days = 3 }) ∷ [])
         (Done ∷ Done ∷ []) }
 {}
 
@@ -73,19 +85,30 @@ pub fn overlaps()
 /// them again.
 #[tactic(auto, unfolding(crate::proofs::Computing::on_literals))]
 pub fn dropped()
-    ensures other_high { GivesAll (DropRange 400000 499998 ∷ []) (NoSuchRange ∷ []) }
-    ensures other_low { GivesAll (DropRange 400001 499999 ∷ []) (NoSuchRange ∷ []) }
-    ensures ends_swapped { GivesAll (DropRange 499999 400000 ∷ []) (NoSuchRange ∷ []) }
-    ensures dropped_twice { GivesAll (DropRange 400000 499999 ∷ DropRange 400000 499999 ∷ [])
+    ensures other_high { GivesAll (DropRange 40000000 49999998 ∷ []) (NoSuchRange ∷ []) }
+    ensures other_low { GivesAll (DropRange 40000001 49999999 ∷ []) (NoSuchRange ∷ []) }
+    ensures ends_swapped { GivesAll (DropRange 49999999 40000000 ∷ []) (NoSuchRange ∷ []) }
+    ensures dropped_twice { GivesAll
+        (DropRange 40000000 49999999 ∷ DropRange 40000000 49999999 ∷ [])
         (Done ∷ NoSuchRange ∷ []) }
     ensures added_again { GivesAll
-        (DropRange 400000 499999
-        ∷ AddRange (record { low = 450000; high = 450000; issuer = codes "11111"; hold_days = 3 })
+        (DropRange 40000000 49999999
+        ∷ AddRange
+        (record { low = 45000000; high = 45000000; issuer = codes "11111"; hold_days = 3 })
         ∷ [])
         (Done ∷ Done ∷ []) }
+    ensures split { GivesAll
+        (DropRange 40000000 49999999
+        ∷ AddRange
+        (record { low = 45000000; high = 45000049; issuer = codes "12345"; hold_days = 7 })
+        ∷ AddRange
+        (record { low = 45000050; high = 45000099; issuer = codes "11111"; hold_days = 3 })
+        ∷ [])
+        (Done ∷ Done ∷ Done ∷ []) }
     ensures cards { Gives 999999 merchant_a
-        (DropRange 400000 499999 ∷ sent (sale "000001" "000000001000" merchant_a)
-        ∷ AddRange (record { low = 411111; high = 411111; issuer = codes "12345"; hold_days = 7 })
+        (DropRange 40000000 49999999 ∷ sent (sale "000001" "000000001000" merchant_a)
+        ∷ AddRange
+        (record { low = 41111111; high = 41111111; issuer = codes "12345"; hold_days = 7 })
         ∷ sent (sale "000002" "000000001000" merchant_a) ∷ [])
         (replied merchant_a (sale_refused "000001" "000000001000" "0501" "15" merchant_a)
         ∷ asked merchant_a 1 1000 ∷ []) }

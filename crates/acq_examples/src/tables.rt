@@ -617,8 +617,9 @@ pub fn whole()
               record { merchant = merchant_a; id = terminal }
               ∷ record { merchant = merchant_b; id = terminal } ∷ [];
           ranges =
-              record { low = 400000; high = 499999; issuer = codes "12345"; hold_days = 7 }
-              ∷ record { low = 500000; high = 599999; issuer = codes "67890"; hold_days = 1 } ∷ [];
+              record { low = 40000000; high = 49999999; issuer = codes "12345"; hold_days = 7 }
+              ∷ record { low = 50000000; high = 59999999; issuer = codes "67890"; hold_days = 1 }
+              ∷ [];
           requests =
               record {
                 key = key_from merchant_a Financial "000001" "0501093000";

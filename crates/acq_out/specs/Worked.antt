@@ -17,4 +17,4 @@ worked_query = record {
 }
 
 abbrev pub worked_range : Range
-worked_range = record { low = 4999; high = 499999; issuer = codes "012345"; hold_days = 7 }
+worked_range = record { low = 499900; high = 49999999; issuer = codes "012345"; hold_days = 7 }

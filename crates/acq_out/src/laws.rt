@@ -28,8 +28,8 @@ pub fn worked_event_lines()
     ensures cutover { events_of_text (codes "cutover,4102444799,,,,\n")
         ≡ Ok (event.Cutover 4102444799 ∷ []) }
     ensures ranges { events_of_text
-        (codes "addrange,004999,499999,012345,07,\ndroprange,004999,499999,,,\n")
-        ≡ Ok (event.AddRange worked_range ∷ event.DropRange 4999 499999 ∷ []) }
+        (codes "addrange,00499900,49999999,012345,07,\ndroprange,00499900,49999999,,,\n")
+        ≡ Ok (event.AddRange worked_range ∷ event.DropRange 499900 49999999 ∷ []) }
     ensures names { events_of_text
         (codes "enrol,SHOP,978,900000000000,,\r\nterminal,SHOP,T 1,,,\r\n")
         ≡ Ok (event.Enrol (codes "SHOP           ") (codes "978") 900000000000
@@ -51,7 +51,7 @@ pub fn worked_bad_lines()
     ensures long_name { events_of_text (codes "terminal,SHOP,123456789,,,\n") ≡ Err 1 }
     ensures zero { events_of_text (codes "enrol,SHOP,978,0,,\n") ≡ Err 1 }
     ensures code_00 { events_of_text (codes "answer,946684800,SHOP,1,declined,00\n") ≡ Err 1 }
-    ensures five_digits { events_of_text (codes "droprange,40000,499999,,,\n") ≡ Err 1 }
+    ensures six_digits { events_of_text (codes "droprange,400000,499999,,,\n") ≡ Err 1 }
 {}
 
 /// Output lines, computed.
@@ -61,7 +61,7 @@ pub fn worked_output_lines()
         ≡ codes "ask MERCHANT0000001 000000000001 411111******1111 1000 12345\n" }
     ensures done { line_of output.Done ≡ codes "done\n" }
     ensures overlap { line_of (output.Overlap worked_range)
-        ≡ codes "refused 21 004999 499999\n" }
+        ≡ codes "refused 21 00499900 49999999\n" }
     ensures undecodable { line_of (output.Undecodable (fault.UnknownElement 65))
         ≡ codes "refused 30 4 65\n" }
     ensures empty_frame { line_of (output.Undecodable (fault.Truncated 0))

@@ -12,6 +12,7 @@ pub mod OneRangeMore
 pub mod OneRangeLess
 pub mod LeastOverlap
 pub mod RangeAfterChange
+pub mod WidenedRanges
 pub mod RangeEndText
 pub mod RecordFields
 pub mod FileRecords

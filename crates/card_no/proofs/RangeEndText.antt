@@ -1,4 +1,4 @@
--- What `{:06}` prints of a range's end is what the texts of faults have.
+-- What a range's end is printed as, zeros in front, is what the texts of faults have.
 use Rattle.std.proofs.Common.{◌≡◌, ◌-◌, ◌^◌, ℕ, length, refl, arith}
 use Rattle.std.specs.Fmt.{char_count, decimal, format_spec, padded_integral, styled_decimal}
 use Rattle.std.proofs.lemmas.List.{append-nil}

@@ -1,5 +1,6 @@
--- The prefix of a card number is the number of its first digits, and finds the card's issuer.
--- How long it is, and so how great it may be, is this profile's own and stands here alone.
+-- The prefix of a card number is the number of its first digits, as many as an issuer identification
+-- number has (ISO/IEC 7812-1), and finds the card's issuer. How long it is, and so how great it may
+-- be, stands here alone.
 use Rattle.std.specs.Prelude.{ℕ, ◌≤◌, ◌==◌, Bool, ◌&&◌, List, length, Option, Some, None}
 use Rattle.std.specs.Prelude.{if◌then◌else◌}
 use Rattle.std.specs.List.{list_all}

@@ -9,8 +9,8 @@ ghost use Rattle.card_no.specs.Prefix.{prefix_digits, IsPrefix, is_prefix_text, 
 use crate::digits::{all_digits, number};
 use std::marker::Model;
 
-/// The number of a card number's first digits, [`Prefix::DIGITS`] of them, which finds the card's
-/// issuer (own profile). Contracts see the number.
+/// The number of a card number's first digits, as many as an issuer identification number has by
+/// ISO/IEC 7812-1:2017 ([`Prefix::DIGITS`]). It finds the card's issuer. Contracts see the number.
 #[derive(Clone, Copy, Debug, PartialEq, Eq, PartialOrd, Ord)]
 pub struct Prefix {
     number: u32,

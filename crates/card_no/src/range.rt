@@ -1,8 +1,10 @@
 //! The prefixes of one issuer's cards.
 
-ghost use Rattle.std.specs.Prelude.{◌≡◌, IfOk};
+ghost use Rattle.std.specs.Prelude.{◌≡◌, IfOk, true};
+ghost use Rattle.card_no.specs.Prefix.{six_digits, eight_digits};
 ghost use Rattle.card_no.specs.Ranges.{is_issuer, is_valid_range, holds_prefix, overlaps, between};
-ghost use Rattle.card_no.specs.Ranges.{has_ends};
+ghost use Rattle.card_no.specs.Ranges.{has_ends, is_valid_range_under};
+ghost use Rattle.card_no.specs.Widening.{widened};
 
 use crate::digits::all_digits;
 use crate::issuer_id::IssuerId;
@@ -67,6 +69,20 @@ impl Range {
             issuer,
             hold_days: self.hold_days,
         })
+    }
+
+    /// The range by prefixes of eight digits that holds the cards of this one by six: from the
+    /// first to the last prefix of eight digits that begins as one of its own. It takes no memory.
+    pub fn widen(self) -> Range
+        requires { is_valid_range_under six_digits self ≡ true }
+        ensures value { result ≡ widened self }
+        ensures valid { is_valid_range_under eight_digits result ≡ true }
+    {
+        Range {
+            low: self.low * 100,
+            high: self.high * 100 + 99,
+            ..self
+        }
     }
 
     /// Whether these are the range's ends.

@@ -1,9 +1,9 @@
 //! What the kinds of tables read, and what they say of it.
 //!
 //! `card`, `track2`, `class` and `hex` read bytes; `ranges` a file of ranges; `find`, `add` and
-//! `remove` a prefix or a range, on the ranges 400000 to 499999 and 500000 to 599999; `issuers` a
-//! file of issuers' answers, of which the card 4111111111111111 is asked; `day` a date, and
-//! `resolve` a month and day and the day that it is today; `element` an element's number and a
+//! `remove` a prefix or a range, on the ranges 40000000 to 49999999 and 50000000 to 59999999;
+//! `issuers` a file of issuers' answers, of which the card 4111111111111111 is asked; `day` a date,
+//! and `resolve` a month and day and the day that it is today; `element` an element's number and a
 //! content; `type` a message's type; `totals` four counts and four amounts, of credits, their
 //! reversals, debits and theirs; and the names of numbers and texts say whether one is taken.
 
@@ -187,7 +187,7 @@ fn put_fault(fault: &RangeFault, answer: &mut String) -> Result<(), RowFault> {
 fn two_ranges(alloc: Global) -> Result<RangeList, RowFault> {
     match RangeList::read_csv(
         alloc,
-        b"400000,499999,12345,7\n500000,599999,67890,1\n".as_slice(),
+        b"40000000,49999999,12345,7\n50000000,59999999,67890,1\n".as_slice(),
     ) {
         Ok(list) => Ok(list),
         Err(_) => Err(RowFault::Memory),

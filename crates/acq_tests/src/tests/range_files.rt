@@ -39,7 +39,7 @@ impl<'a> Read for Failing<'a> {
 
 #[test]
 fn each_read_failing(rt: HostRuntime) {
-    let text = b"400000,499999,12345,7\n500000,599999,67890,1\n".as_slice();
+    let text = b"40000000,49999999,12345,7\n50000000,59999999,67890,1\n".as_slice();
     let mut record = 1;
     for (fails, byte) in text.iter().enumerate() {
         let reader = Failing { text, at: 0, fails };

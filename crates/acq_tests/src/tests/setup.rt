@@ -13,8 +13,8 @@ pub(super) const GREATEST_LIMIT: u32 = 999_999;
 
 /// Two issuers' ranges, and two merchants with a terminal each.
 pub(super) const SETUP: [ScriptEvent; 6] = [
-    ScriptEvent::AddRange(400_000, 499_999, "12345", 7),
-    ScriptEvent::AddRange(500_000, 599_999, "67890", 1),
+    ScriptEvent::AddRange(40_000_000, 49_999_999, "12345", 7),
+    ScriptEvent::AddRange(50_000_000, 59_999_999, "67890", 1),
     ScriptEvent::Enrol("A", "978"),
     ScriptEvent::AddTerminal("A", "T"),
     ScriptEvent::Enrol("B", "978"),

@@ -14,5 +14,5 @@ returns c = record {
   long_name = refl;
   zero = refl;
   code_00 = refl;
-  five_digits = refl;
+  six_digits = refl;
 }

@@ -10,5 +10,6 @@ returns c = record {
   fields = refl;
   no_days = refl;
   many_days = refl;
+  six_digits = refl;
   three_digits = refl;
 }
