@@ -11,7 +11,7 @@
 #include <string.h>
 #include <time.h>
 
-enum { FIRST_DAY = 8887, LIMIT = 999999, PENDING = 1, APPROVED = 3, DEBIT = 2 };
+enum { FIRST_DAY = 8887, LIMIT = 999999, PENDING = 1, APPROVED = 3, DEBIT = 2, PREFIX_DIGITS = 8 };
 
 enum kind { ADD_RANGE, ENROL, TERMINAL, SALE, ANSWER, KINDS };
 
@@ -96,6 +96,11 @@ static const char schema[] =
     "PRIMARY KEY (merchant, day)) STRICT;";
 
 static sqlite3_stmt *prepared[STATEMENTS];
+
+static void copy(char *into, const char *from, size_t length) {
+    memcpy(into, from, length);
+    into[length] = 0;
+}
 
 static void text(enum statement which, int at, const char *value) {
     sqlite3_bind_text(prepared[which], at, value, -1, SQLITE_STATIC);
@@ -314,7 +319,7 @@ static void raise_running(const char *merchant, long long day, long long used, l
 }
 
 static void take_sale(const struct event *event) {
-    char essence[160], reply[400];
+    char essence[160], reply[400], prefix[PREFIX_DIGITS + 1];
     struct request recorded;
     long long day = look_up_day();
     long long first = first_reference(event->merchant);
@@ -322,8 +327,8 @@ static void take_sale(const struct event *event) {
     if (!look_up_terminal(event->merchant, event->terminal)) fail("no terminal");
     long long reference = first + look_up_admitted(event->merchant);
     if (look_up_running(event->merchant, day).used >= LIMIT) fail("over the limit");
-    number(RANGE, 1, strtoll((char[]){event->card[0], event->card[1], event->card[2], event->card[3],
-                                      event->card[4], event->card[5], 0}, NULL, 10));
+    copy(prefix, event->card, PREFIX_DIGITS);
+    number(RANGE, 1, atoll(prefix));
     long long hold_days = look_up_range(RANGE);
     if (hold_days < 0) fail("no range");
     text(REQUEST, 1, event->merchant);
@@ -408,11 +413,6 @@ static void (*const takers[KINDS])(const struct event *) = {
 };
 
 /* ---- lines ---- */
-
-static void copy(char *into, const char *from, size_t length) {
-    memcpy(into, from, length);
-    into[length] = 0;
-}
 
 /* The sale of a frame: elements 2, 3, 4, 7, 11, 41, 42 and 49. */
 static int read_sale(struct event *event, const char *hex) {

@@ -14,6 +14,7 @@ use Rattle.acq_core.specs.Tables.{with_changed, answered_row, followed_row, requ
 use Rattle.acq_core.specs.Tables.{admitted_in}
 use Rattle.acq_core.specs.declared.request.Request.{Request}
 use Rattle.acq_core.specs.declared.status.Status.{Status}
+use Rattle.acq_core.specs.declared.remains.Remains.{Remains}
 use Rattle.acq_message.specs.declared.request_key.RequestKey.{RequestKey}
 use Rattle.acq_book.specs.declared.lists.requests.Requests.TheInside.{Inside}
 use Rattle.acq_book.specs.Keys.{key_eq, IsKeyedBy, changed_at, place, refers}
@@ -132,8 +133,8 @@ module _ (k : RequestKey) (f : Request → Request) (u : IsUnseen f) where
           (λ old. is_number n old.reference) rows)
           ∙ h)
 
-pub edit_follow : (status : Status) → IsUnseen (followed_row status)
-edit_follow status =
+pub edit_follow : (remains : Remains) → IsUnseen (followed_row remains)
+edit_follow remains =
     record { key = λ row. refl; reference = λ row. refl; admitted = λ row. refl; day = λ row. refl }
 
 pub edit_answer : (status : Status) (reply : IsoMessage) (hold_end : Option ℕ) →

@@ -41,6 +41,6 @@ Fits t (change.DropRange low high) = remove_fault t.ranges low high ≡ None
 Fits t (change.SetDay day) = Unit {0}
 Fits t (change.AddRequest row) = IsNew t row
 Fits t (change.Answered key status reply hold_end posting) = HasRoom t posting
-Fits t (change.Follow row original status posting) =
+Fits t (change.Follow row original remains posting) =
     IsNew t row × HasRoom t posting × IfSome posting (IsPostedBy row)
 Fits t (change.Reconciled row reconciliation) = IsNew t row

@@ -13,7 +13,7 @@ use crate::visit::Visit;
 use crate::walks::{in_order_of_names, in_order_of_numbers, in_order_of_references, show};
 use acq_core::{
     AdmittedCount, Change, Limit, Merchant, MerchantId, Posting, Reconciliation, Reference,
-    Request, RequestKey, Status, Terminal, TerminalId, UsedCount,
+    Remains, Request, RequestKey, Status, Terminal, TerminalId, UsedCount,
 };
 use card_no::{Prefix, Range, RangeFault, RangeList};
 use day_totals::{Day, Totals};
@@ -153,20 +153,20 @@ impl ListBook {
         &mut self,
         request: &Request,
         original: &RequestKey,
-        status: Status,
+        remains: Remains,
         posting: &Option<Posting>,
     ) -> Result<(), AllocError>
         requires { Fits self.old
-            (change.Follow request.now original.now status posting.now) }
+            (change.Follow request.now original.now remains posting.now) }
         ensures ok { OnOk result (self.new ≡ after self.old
-            (change.Follow request.now original.now status posting.now)) }
+            (change.Follow request.now original.now remains posting.now)) }
         ensures err { OnErr result (self.new ≡ self.old) }
     {
         let request = request.copied(self.alloc)?;
         let posting = posting_copied(self.alloc, posting)?;
         self.requests.reserve()?;
         self.postings.reserve()?;
-        self.requests.follow(original, status);
+        self.requests.follow(original, remains);
         self.requests.push(request);
         self.postings.push_if(posting);
         Ok(())
@@ -310,9 +310,9 @@ impl Book for ListBook {
             Change::Follow {
                 request,
                 original,
-                status,
+                remains,
                 posting,
-            } => self.follow(request, original, *status, posting)?,
+            } => self.follow(request, original, *remains, posting)?,
             Change::Reconciled {
                 request,
                 reconciliation,

@@ -1,5 +1,5 @@
 -- What an event changes: the rows that it records, and what becomes of earlier ones.
-use Rattle.std.specs.Prelude.{ℕ, ◌+◌, ◌*◌, true, false, Option, Some, None, option_map}
+use Rattle.std.specs.Prelude.{ℕ, ◌+◌, ◌-◌, ◌*◌, true, false, Option, Some, None, option_map}
 use Rattle.iso_codec.specs.Message.{IsoMessage, content_of}
 use Rattle.card_no.specs.Prefix.{PrefixProfile, in_force}
 use Rattle.card_no.specs.declared.range.Range.{Range}
@@ -20,6 +20,7 @@ use Rattle.acq_message.specs.Reply.{answered_reply}
 use Rattle.acq_core.specs.declared.request.Request.{Request}
 use Rattle.acq_core.specs.declared.status.Status.{Status}
 use Rattle.acq_core.specs.declared.status.Status.TheVariants as status
+use Rattle.acq_core.specs.declared.remains.Remains.{Remains}
 use Rattle.acq_core.specs.declared.posting.Posting.{Posting}
 use Rattle.acq_core.specs.declared.change.Change.{Change}
 use Rattle.acq_core.specs.declared.change.Change.TheVariants as change
@@ -90,12 +91,20 @@ posted_leg (Kept reply) leg = leg
 posted_leg (Awaited draft) leg = None
 posted_leg Late leg = None
 
--- a reversal posts the original's amount under the leg that reverses it, where the original was
--- posted
+-- how much of its original's amount a reversal lets remain: nothing
+abbrev pub amount_to_remain : RequestMessage → ℕ
+amount_to_remain r = 0
+
+-- a reversal of what was posted under a leg posts what it takes of the original's amount, under the
+-- leg that reverses it
+abbrev pub reversing_posting : ℕ → RequestMessage → Prior → Leg → Posting
+reversing_posting today r p leg =
+    posting_today today r (reversal_leg leg) (p.amount - amount_to_remain r) p
+
+-- what a reversal posts, where the original was posted
 abbrev pub reversal_posting : ℕ → RequestMessage → Prior → Option Posting
 reversal_posting today r p =
-    option_map (λ leg. posting_today today r (reversal_leg leg) p.amount p)
-    (posted_leg p.reply_state p.leg)
+    option_map (reversing_posting today r p) (posted_leg p.reply_state p.leg)
 
 -- ---- rows of requests
 
@@ -180,11 +189,19 @@ answered_status (verdict.Approved id) = status.Approved
 answered_status (verdict.Declined text) = status.Declined
 answered_status verdict.NoAnswer = status.Declined
 
+-- what a completion leaves of its hold
+abbrev pub remains_of_hold : Prior → Remains
+remains_of_hold hold = record { status = status.Completed }
+
 -- the status of an original that is reversed
 abbrev pub reversed_status : ReplyState → Status
 reversed_status (Kept reply) = status.Reversed
 reversed_status (Awaited draft) = status.ReversedPending
 reversed_status Late = status.ReversedPending
+
+-- what a reversal leaves of its original, of whose amount so much is to remain
+abbrev pub remains_of : Prior → ℕ → Remains
+remains_of p remaining = record { status = reversed_status p.reply_state }
 
 -- the last second of a hold of so many days that is approved at a moment
 abbrev pub end_of_hold : ℕ → ℕ → ℕ
@@ -207,10 +224,10 @@ change_of k (decided.Refuses r code) = Some (change.AddRequest (refused_row k.to
 change_of k (decided.Admits r range reference) =
     Some (change.AddRequest (admitted_row k.today r range reference))
 change_of k (decided.Completes r hold) =
-    Some (change.Follow (completion_row k.today r hold) hold.key status.Completed
+    Some (change.Follow (completion_row k.today r hold) hold.key (remains_of_hold hold)
     (Some (completion_posting k.today r hold)))
 change_of k (decided.Reverses r p) =
-    Some (change.Follow (reversal_row k.today r p) p.key (reversed_status p.reply_state)
+    Some (change.Follow (reversal_row k.today r p) p.key (remains_of p (amount_to_remain r))
     (reversal_posting k.today r p))
 change_of k (decided.Reconciles r day) =
     Some (change.Reconciled (reconciliation_row k r day)

@@ -22,6 +22,7 @@ use Rattle.acq_core.specs.declared.merchant.Merchant.{Merchant}
 use Rattle.acq_core.specs.declared.terminal.Terminal.{Terminal}
 use Rattle.acq_core.specs.declared.request.Request.{Request}
 use Rattle.acq_core.specs.declared.status.Status.{Status}
+use Rattle.acq_core.specs.declared.remains.Remains.{Remains}
 use Rattle.acq_core.specs.declared.reply_state.ReplyState.{ReplyState}
 use Rattle.acq_core.specs.declared.posting.Posting.{Posting}
 use Rattle.acq_core.specs.declared.reconciliation.Reconciliation.{Reconciliation}
@@ -215,9 +216,9 @@ abbrev pub answered_row : Status → IsoMessage → Option ℕ → Request → R
 answered_row status reply hold_end row =
     record row { status = status; reply = reply; hold_end = hold_end }
 
--- what a completion or a reversal leaves of the request that it follows
-abbrev pub followed_row : Status → Request → Request
-followed_row status row = record row { status = status }
+-- a request that was completed or reversed, of which this remains
+abbrev pub followed_row : Remains → Request → Request
+followed_row remains row = record row { status = remains.status }
 
 -- the tables after a change
 abbrev pub after : Tables → Change → Tables
@@ -232,9 +233,9 @@ after t (change.Answered key status reply hold_end posting) =
       requests = with_changed key (answered_row status reply hold_end) t.requests;
       postings = with_next_posting t.postings posting;
     }
-after t (change.Follow row original status posting) =
+after t (change.Follow row original remains posting) =
     record t {
-      requests = with_changed original (followed_row status) t.requests ++ row ∷ [];
+      requests = with_changed original (followed_row remains) t.requests ++ row ∷ [];
       postings = with_next_posting t.postings posting;
     }
 after t (change.Reconciled row reconciliation) =

@@ -3,6 +3,7 @@
 use crate::merchant::Merchant;
 use crate::posting::Posting;
 use crate::reconciliation::Reconciliation;
+use crate::remains::Remains;
 use crate::request::Request;
 use crate::status::Status;
 use crate::terminal::Terminal;
@@ -38,12 +39,12 @@ pub enum Change {
         hold_end: Option<u64>,
         posting: Option<Posting>,
     },
-    /// A request is recorded that completes or reverses the earlier one with this key, which gets
-    /// this status.
+    /// A request is recorded that completes or reverses the earlier one with this key, of which
+    /// this remains.
     Follow {
         request: Request,
         original: RequestKey,
-        status: Status,
+        remains: Remains,
         posting: Option<Posting>,
     },
     /// A request is recorded that reconciles a day.

@@ -9,7 +9,6 @@ use Rattle.acq_message.specs.declared.service.Service.{Service}
 use Rattle.acq_message.specs.declared.service.Service.TheVariants.{Completion}
 use Rattle.acq_message.specs.declared.request_key.RequestKey.{RequestKey}
 use Rattle.acq_core.specs.declared.request.Request.{Request}
-use Rattle.acq_core.specs.declared.status.Status.TheVariants as status
 use Rattle.acq_message.specs.declared.verdict.Verdict.{Verdict}
 use Rattle.acq_message.specs.declared.response_code.ResponseCode.TheVariants as code
 use Rattle.acq_message.specs.Elements.{same_key, reference_in, original_key}
@@ -19,7 +18,8 @@ use Rattle.acq_core.specs.Known.{Prior}
 use Rattle.acq_core.specs.declared.reply_state.ReplyState.TheVariants.{Awaited}
 use Rattle.acq_core.specs.Outcome.{Replied, Outcome}
 use Rattle.acq_message.specs.Reply.{verdict_code}
-use Rattle.acq_core.specs.Changes.{answered_status, answered_hold_end, reversed_status}
+use Rattle.acq_core.specs.Changes.{answered_status, answered_hold_end, amount_to_remain}
+use Rattle.acq_core.specs.Changes.{remains_of, remains_of_hold}
 use Rattle.acq_core.specs.Tables.{prior_of, followed_row, answered_row}
 use Rattle.acq_message.specs.Numbers.{is_number}
 use Rattle.acq_history.specs.Entries.{Entry, request_of, is_completing, is_completion, is_reversal}
@@ -36,7 +36,7 @@ use Rattle.acq_history.proofs.RequestsAfterNewEntry.{fate_answered, fate_complet
 use Rattle.acq_history.proofs.RequestsAfterNewEntry.{prior_by}
 use Rattle.acq_history.proofs.RowsAgreeWithHistory.{FollowsEntry}
 use Rattle.acq_history.proofs.RowsWithChanges.{changing, Edits, followed_kept, answered_kept}
-use Rattle.acq_core.specs.declared.status.Status.{Status}
+use Rattle.acq_core.specs.declared.remains.Remains.{Remains}
 use Rattle.acq_core.specs.declared.arrival.Arrival.{Arrival}
 
 -- the entry of what came
@@ -119,7 +119,7 @@ module _ (h : List Entry) (n : ℕ) (g : Found) (p : Prior) (found : referred n 
   pub completion_follows : (moment day : ℕ) (message : IsoMessage) (ranges : List Range)
       (reply : IsoMessage) →
       reference_in message ≡ Some n → is_some p.hold_end ≡ true →
-      FollowsEntry (changing p.key (followed_row status.Completed))
+      FollowsEntry (changing p.key (followed_row (remains_of_hold p)))
       (entry_on day ranges
       (Requested (record { moment = moment; service = Completion; message = message }))
       (Replied code.Approved reply)) h
@@ -130,8 +130,10 @@ module _ (h : List Entry) (n : ℕ) (g : Found) (p : Prior) (found : referred n 
       (Replied code.Approved reply) in
       let by : (k : ℕ) → is_completing k e ≡ eqb n k = λ k. ap (is_number k) asks in
       let there = referred_is n h g found in
-      subst (λ x. FollowsEntry (changing x.key (followed_row status.Completed)) e h) is
-      (edit_follows h e g (followed_row status.Completed) (followed_kept status.Completed) there.1
+      let left = remains_of_hold (prior_by (fate_of g) g) in
+      subst (λ x. FollowsEntry (changing x.key (followed_row (remains_of_hold x))) e h)
+      (sym (prior_is g) ∙ is)
+      (edit_follows h e g (followed_row left) (followed_kept left) there.1
       (λ a same.
       prior_of_completed a g (fate_of g) (same ∙ prior_is g)
       (ap (λ x. is_some x.hold_end) (sym (prior_is g) ∙ is) ∙ ends)
@@ -151,14 +153,14 @@ pub reversal_follows : (h : List Entry) (key : RequestKey) (g : Found) (p : Prio
     (r : RequestMessage) (day : ℕ) (ranges : List Range) (reply : IsoMessage) →
     request_of (Requested r) ≡ Some r → is_reversal r.service ≡ true →
     original_key r.message ≡ Some key → p.is_reversible ≡ true →
-    FollowsEntry (changing p.key (followed_row (reversed_status p.reply_state)))
+    FollowsEntry (changing p.key (followed_row (remains_of p (amount_to_remain r))))
     (entry_on day ranges (Requested r) (Replied code.Approved reply)) h
 reversal_follows h key g p found is r day ranges reply came fits asks reversible =
-    subst (λ x. FollowsEntry (changing x.key (followed_row (reversed_status x.reply_state))) e h)
+    subst (λ x. FollowsEntry (changing x.key (followed_row (remains_of x remaining))) e h)
     (sym (prior_is g) ∙ is)
-    (edit_follows h e g (followed_row s) (followed_kept s) own
+    (edit_follows h e g (followed_row left) (followed_kept left) own
     (λ a same.
-    prior_of_reversed a g (fate_of g) (same ∙ prior_is g)
+    prior_of_reversed a g (fate_of g) remaining (same ∙ prior_is g)
     (ap (λ x. x.is_reversible) (sym (prior_is g) ∙ is) ∙ reversible)
     ∙ sym (prior_aged e g _
     (fate_reversed e g (λ k is. refl) (λ k is. completions k)
@@ -170,8 +172,11 @@ reversal_follows h key g p found is r day ranges reply came fits asks reversible
     e : Entry
     e = entry_on day ranges (Requested r) (Replied code.Approved reply)
 
-    s : Status
-    s = reversed_status (prior_by (fate_of g) g).reply_state
+    remaining : ℕ
+    remaining = amount_to_remain r
+
+    left : Remains
+    left = remains_of (prior_by (fate_of g) g) remaining
 
     here : key_in g ≡ key
     here = recorded_is key h g found

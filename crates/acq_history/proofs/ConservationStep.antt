@@ -22,9 +22,10 @@ use Rattle.acq_message.specs.declared.verdict.Verdict.TheVariants as verdict
 use Rattle.acq_message.specs.Elements.{transaction_in, key_of, or_empty, sale_leg}
 use Rattle.acq_message.specs.declared.request_message.RequestMessage.{RequestMessage}
 use Rattle.acq_core.specs.Changes.{change_of, admitted_leg, admitted_row, completion_row}
-use Rattle.acq_core.specs.Changes.{reversal_row, completion_posting, posting_today}
+use Rattle.acq_core.specs.Changes.{reversal_row, completion_posting, reversing_posting}
 use Rattle.acq_core.specs.Changes.{approval_posting, answer_posting, reversal_posting, reversal_leg}
-use Rattle.acq_core.specs.Changes.{posted_leg, reversed_status, answered_status, or_zero}
+use Rattle.acq_core.specs.Changes.{posted_leg, answered_status, or_zero, remains_of}
+use Rattle.acq_core.specs.Changes.{remains_of_hold, amount_to_remain}
 use Rattle.acq_core.specs.Tables.{Opening, Tables, new_tables, prior_of, reply_state_of}
 use Rattle.acq_core.specs.Tables.{is_reversible, leg_by, reference_by, known_in, with_changed}
 use Rattle.acq_core.specs.Tables.{with_next_posting, after_any, step_tables, tables_after}
@@ -32,6 +33,7 @@ use Rattle.acq_core.specs.Tables.{followed_row, answered_row}
 use Rattle.acq_history.specs.Entries.{is_reversal}
 use Rattle.acq_history.specs.Conservation.{is_reversal_leg, IsConserved}
 use Rattle.acq_history.proofs.Members.{In, In-first, In-last, In-push, from_In, to_In}
+use Rattle.acq_history.proofs.WhatRemains.{takes_all}
 use Rattle.acq_history.proofs.FoundRows.{IsNew}
 use Rattle.acq_history.proofs.PostingsOfRequests.{is_posted, is_reversed, posted_by, posted}
 use Rattle.acq_history.proofs.PostingsOfRequests.{IsPostingOf, HasPosted, PostingsMatchRows, Grows}
@@ -174,13 +176,14 @@ unposted_by : (x : Request) → x.key.service ≡ Authorization → posted x ≡
 unposted_by x f = ap (λ k. posted_by k x) f
 
 -- what becomes of a hold that is completed
-abbrev done : Request → Request
-done = followed_row status.Completed
+abbrev done : Request → Request → Request
+done hold = followed_row (remains_of_hold (prior_of hold))
 
 -- a completion of an open hold keeps a book in order
 sound_completed : {a : Arrival} (t : Tables) (r : RequestMessage) (merchant : Merchant)
     (hold : Request) → IsRecording t a r merchant → IsCompletion t r merchant hold → IsInOrder t →
-    AreInOrder t.day t.merchants (edited t hold done ++ completion_row t.day r (prior_of hold) ∷ [])
+    AreInOrder t.day t.merchants
+    (edited t hold (done hold) ++ completion_row t.day r (prior_of hold) ∷ [])
     (with_next_posting t.postings (Some (completion_posting t.day r (prior_of hold))))
 sound_completed t r merchant hold g c s = record {
   well_formed = well_formed_with_row e.well_formed (record {
@@ -191,7 +194,7 @@ sound_completed t r merchant hold g c s = record {
     next = λ k f. absurd (cc);
     admissible = λ k f. absurd (cc);
     held = λ k d. record {
-      hold = done hold;
+      hold = done hold hold;
       member = e.replaced.changed;
       merchant = c.own;
       service = is.0;
@@ -217,7 +220,8 @@ sound_completed t r merchant hold g c s = record {
   });
   match_rows =
       posted_next s.match_rows
-      (Grows-both (e.grows (λ k f. same_posted ∙ f)) (Grows-push (edited t hold done) row)) from
+      (Grows-both (e.grows (λ k f. same_posted ∙ f))
+      (Grows-push (edited t hold (done hold)) row)) from
       (record {
         reversal = false;
         leg = refl;
@@ -230,7 +234,7 @@ sound_completed t r merchant hold g c s = record {
         made =
             record {
               row = row;
-              member = In-last row (edited t hold done);
+              member = In-last row (edited t hold (done hold));
               merchant = refl;
               under = row_posted ∙ ap (λ k. Some k) (sym number);
             };
@@ -246,14 +250,14 @@ sound_completed t r merchant hold g c s = record {
     is : (hold.key.service ≡ Authorization) × IsApproved hold.status
     is = open_row hold.key.service hold (is_some_open r.moment (prior_of hold).hold_end c.opens)
 
-    e : IsEdited t hold done
-    e = edited_is t hold done (followed_kept status.Completed) c.member is.1.reversible s
+    e : IsEdited t hold (done hold)
+    e = edited_is t hold (done hold) (followed_kept _) c.member is.1.reversible s
 
     incomplete : hold.status ≡ status.Completed → ⊥
     incomplete f = (reversible hold.status hold.reply is.1.reversible).not_completed f
 
-    same_posted : posted (done hold) ≡ posted hold
-    same_posted = unposted_by (done hold) is.0 ∙ sym (unposted_by hold is.0)
+    same_posted : posted (done hold hold) ≡ posted hold
+    same_posted = unposted_by (done hold hold) is.0 ∙ sym (unposted_by hold is.0)
 
     under : reference_by hold.key.service hold ≡ Some c.number
     under = ap (λ k. reference_by k hold) is.0 ∙ c.reference
@@ -265,8 +269,8 @@ sound_completed t r merchant hold g c s = record {
     row_posted = ap (λ k. posted_by k (completion_row t.day r (prior_of hold))) c.service ∙ under
 
     from : FromBeforeOr t.postings (completion_posting t.day r (prior_of hold))
-        (edited t hold done ++ completion_row t.day r (prior_of hold) ∷ [])
-    from x k j f = elim (In-push x (edited t hold done) row j) [
+        (edited t hold (done hold) ++ completion_row t.day r (prior_of hold) ∷ [])
+    from x k j f = elim (In-push x (edited t hold (done hold)) row j) [
       | inl old ↦ inl (e.from same_posted x k old f)
       | inr changed ↦
           let of : IsPostingOf posting row k =
@@ -284,8 +288,8 @@ sound_completed t r merchant hold g c s = record {
 -- ---- a reversal
 
 -- what becomes of a request that is reversed
-abbrev undone : Request → Request → Request
-undone row = followed_row (reversed_status (reply_state_of row.status row.reply))
+abbrev undone : RequestMessage → Request → Request → Request
+undone r row = followed_row (remains_of (prior_of row) (amount_to_remain r))
 
 -- no reversal is a completion
 not_completion : (x : Service) → is_reversal x ≡ true → x ≡ Completion → ⊥
@@ -295,12 +299,12 @@ not_completion x f g = let no : is_reversal x ≡ false = ap is_reversal g in cc
 sound_reversed : {a : Arrival} (t : Tables) (r : RequestMessage) (merchant : Merchant)
     (row : Request) → IsRecording t a r merchant → IsReversal t r row → IsInOrder t →
     AreInOrder t.day t.merchants
-    (edited t row (undone row) ++ reversal_row t.day r (prior_of row) ∷ [])
+    (edited t row (undone r row) ++ reversal_row t.day r (prior_of row) ∷ [])
     (with_next_posting t.postings (reversal_posting t.day r (prior_of row)))
 sound_reversed t r merchant row g c s = record {
   well_formed =
       well_formed_with_row e.well_formed
-      (fits_plain t.day t.merchants (edited t row (undone row)) after fresh refl
+      (fits_plain t.day t.merchants (edited t row (undone r row)) after fresh refl
       (λ k d. not_completion r.service c.service d.service)
       (λ f. absurd (let yes = c.service in cc)) (omega arith));
   match_rows = step (posted_leg (reply_state_of row.status row.reply) (leg_by row.key.service row))
@@ -313,34 +317,35 @@ sound_reversed t r merchant row g c s = record {
     can : IsReversible row.status row.reply
     can = reversible row.status row.reply c.reversible
 
-    e : IsEdited t row (undone row)
-    e = edited_is t row (undone row) (followed_kept _) c.member c.reversible s
+    e : IsEdited t row (undone r row)
+    e = edited_is t row (undone r row) (followed_kept _) c.member c.reversible s
 
-    fresh : (a : Request) → In a (edited t row (undone row)) →
+    fresh : (a : Request) → In a (edited t row (undone r row)) →
         a.key ≡ key_of r.service r.message → ⊥
     fresh a j f = elim (e.replaced.before a j) [
       | inl old ↦ g.new a old.0 f
       | inr changed ↦ g.new row c.member (ap (λ x. x.key) changed ∙ f)
     ]
 
-    same_posted : posted (undone row row) ≡ posted row
-    same_posted = posted_same row.key.service (undone row row) row can.posts refl refl
+    same_posted : posted (undone r row row) ≡ posted row
+    same_posted = posted_same row.key.service (undone r row row) row can.posts refl refl
 
-    grows : Grows t.requests (edited t row (undone row) ++ reversal_row t.day r (prior_of row) ∷ [])
+    grows : Grows t.requests
+        (edited t row (undone r row) ++ reversal_row t.day r (prior_of row) ∷ [])
     grows =
-        Grows-both (e.grows (λ k f. same_posted ∙ f)) (Grows-push (edited t row (undone row)) after)
+        Grows-both (e.grows (λ k f. same_posted ∙ f))
+        (Grows-push (edited t row (undone r row)) after)
 
     from : FromBefore t.requests t.postings
-        (edited t row (undone row) ++ reversal_row t.day r (prior_of row) ∷ [])
-    from = from_push (edited t row (undone row)) after t.postings
+        (edited t row (undone r row) ++ reversal_row t.day r (prior_of row) ∷ [])
+    from = from_push (edited t row (undone r row)) after t.postings
         (posted_reversing r.service after c.service) (e.from same_posted)
 
     step : (o : Option Leg) →
         posted_leg (reply_state_of row.status row.reply) (leg_by row.key.service row) ≡ o →
         PostingsMatchRows
-        (edited t row (undone row) ++ reversal_row t.day r (prior_of row) ∷ [])
-        (with_next_posting t.postings
-        (option_map (λ leg. posting_today t.day r (reversal_leg leg) row.amount (prior_of row)) o))
+        (edited t row (undone r row) ++ reversal_row t.day r (prior_of row) ∷ [])
+        (with_next_posting t.postings (option_map (reversing_posting t.day r (prior_of row)) o))
     step None f = unposted s.match_rows grows from
     step (Some leg) f =
         let was = posted_leg_is row.status row.reply (leg_by row.key.service row) leg
@@ -366,11 +371,11 @@ sound_reversed t r merchant row g c s = record {
               ∙ can.not_reversed in
               cc;
           made = record {
-            row = undone row row;
-            member = In-first (undone row row) (edited t row (undone row)) _ e.replaced.changed;
+            row = undone r row row;
+            member = In-first (undone r row row) (edited t row (undone r row)) _ e.replaced.changed;
             merchant = c.own;
             under =
-                ap (λ b. cond b (posted (undone row row)) None) was.reversed
+                ap (λ b. cond b (posted (undone r row row)) None) was.reversed
                 ∙ (same_posted ∙ (under ∙ ap (λ k. Some k) (sym number)));
           };
           reverses = λ yes. record {
@@ -379,7 +384,7 @@ sound_reversed t r merchant row g c s = record {
             merchant = original.of.merchant ∙ c.own;
             reference = original.of.reference ∙ sym number;
             leg = ap reversal_leg (original.of.leg ∙ sym of.same);
-            amount = original.of.amount;
+            amount = original.of.amount ∙ sym (takes_all r row.amount);
             card = original.of.card;
             day = omega arith;
           };

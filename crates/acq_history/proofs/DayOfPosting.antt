@@ -10,8 +10,8 @@ use Rattle.acq_message.specs.Elements.{reference_in, original_key}
 use Rattle.acq_message.specs.declared.request_message.RequestMessage.{RequestMessage}
 use Rattle.acq_core.specs.declared.arrival.Arrival.TheVariants.{Requested}
 use Rattle.acq_core.specs.Known.{Prior}
-use Rattle.acq_core.specs.Changes.{completion_posting, reversal_posting, posted_leg, posting_today}
-use Rattle.acq_core.specs.Changes.{reversal_leg}
+use Rattle.acq_core.specs.Changes.{completion_posting, reversal_posting, posted_leg}
+use Rattle.acq_core.specs.Changes.{reversing_posting}
 use Rattle.acq_history.specs.Entries.{Entry, is_acceptance}
 use Rattle.acq_history.specs.History.{Found, recorded, referred, prior, posting_by, posting_from}
 use Rattle.acq_history.specs.History.{posting_of}
@@ -21,8 +21,7 @@ use Rattle.acq_history.proofs.Lookups.{map_some, then_some}
 pub reversal_posting_day : (today : ℕ) (r : RequestMessage) (p : Prior) (q : Posting) →
     reversal_posting today r p ≡ Some q → q.day ≡ today
 reversal_posting_day today r p q e =
-    let leg = map_some (λ leg. posting_today today r (reversal_leg leg) p.amount p)
-    (posted_leg p.reply_state p.leg) q e in
+    let leg = map_some (reversing_posting today r p) (posted_leg p.reply_state p.leg) q e in
     sym (ap (λ x. x.day) leg.2)
 
 -- the same of an original that is looked up

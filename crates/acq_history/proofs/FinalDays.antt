@@ -13,10 +13,9 @@ use Rattle.acq_core.specs.declared.posting.Posting.{Posting}
 use Rattle.acq_message.specs.declared.verdict.Verdict.{Verdict}
 use Rattle.acq_message.specs.declared.verdict.Verdict.TheVariants as verdict
 use Rattle.acq_core.specs.Arrivals.{arrival_of}
-use Rattle.acq_core.specs.declared.reply_state.ReplyState.{ReplyState}
-use Rattle.acq_core.specs.declared.reply_state.ReplyState.TheVariants.{Kept}
 use Rattle.acq_core.specs.Known.{Prior}
-use Rattle.acq_core.specs.Changes.{change_of, answered_status, reversed_status, answer_posting}
+use Rattle.acq_core.specs.Changes.{change_of, answered_status, answer_posting}
+use Rattle.acq_core.specs.Changes.{amount_to_remain}
 use Rattle.acq_core.specs.Changes.{approval_posting, reversal_posting, completion_posting}
 use Rattle.acq_core.specs.Tables.{Tables, is_pending, known_in, with_changed, with_next_posting}
 use Rattle.acq_core.specs.Tables.{after_any, step_tables, tables_after, prior_of}
@@ -26,6 +25,7 @@ use Rattle.acq_history.proofs.Members.{In, In-push, any_none}
 use Rattle.acq_history.proofs.Lookups.{some_is, filter-push_out}
 use Rattle.acq_history.proofs.DayOfPosting.{reversal_posting_day}
 use Rattle.acq_history.proofs.RowsWithChanges.{Other, Made, changed_is}
+use Rattle.acq_history.proofs.WhatRemains.{hold_ended, original_ended, not_pending}
 use Rattle.acq_history.proofs.StepCases.{by_step}
 use Rattle.acq_core.specs.declared.arrival.Arrival.{Arrival}
 
@@ -59,11 +59,6 @@ NonePending-changed day key changed rows none never x member pending on =
 answered_not_pending : (v : Verdict) → answered_status v ≡ Pending → ⊥
 answered_not_pending (verdict.Approved id) e = absurd (cc)
 answered_not_pending other e = absurd (cc)
-
--- so does a reversal
-reversed_not_pending : (s : ReplyState) → reversed_status s ≡ Pending → ⊥
-reversed_not_pending (Kept reply) e = absurd (cc)
-reversed_not_pending other e = absurd (cc)
 
 -- ---- what is posted
 
@@ -129,7 +124,8 @@ stays day t a c =
               past = c.past;
               none =
                   NonePending-push day _ _
-                  (NonePending-changed day hold.key _ t.requests c.none (λ row s. absurd (cc)))
+                  (NonePending-changed day hold.key _ t.requests c.none
+                  (λ row s. not_pending _ (hold_ended (prior_of hold)) s))
                   (λ s on. absurd (cc));
             };
         same =
@@ -145,7 +141,7 @@ stays day t a c =
               none =
                   NonePending-push day _ _
                   (NonePending-changed day row.key _ t.requests c.none
-                  (λ x s. reversed_not_pending _ s))
+                  (λ x s. not_pending _ (original_ended (prior_of row) (amount_to_remain r)) s))
                   (λ s on. absurd (cc));
             };
         same =

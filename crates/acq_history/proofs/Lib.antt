@@ -3,6 +3,7 @@ pub mod Members
 pub mod Keys
 pub mod RecordableRequests
 pub mod Statuses
+pub mod WhatRemains
 pub mod NextReference
 pub mod DayOfPosting
 pub mod FoundRows
@@ -48,3 +49,7 @@ pub mod RowsStayWellFormed
 pub mod PostingsOfRequests
 pub mod PostingsOfChangedRows
 pub mod ConservationStep
+pub mod RangeListsWidened
+pub mod WidenedDecisions
+pub mod WidenedSteps
+pub mod WidenedRuns

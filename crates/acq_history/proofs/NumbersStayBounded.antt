@@ -23,13 +23,12 @@ use Rattle.acq_core.specs.declared.arrival.Arrival.{Arrival}
 use Rattle.acq_core.specs.declared.merchant.Merchant.{Merchant}
 use Rattle.acq_core.specs.declared.posting.Posting.{Posting}
 use Rattle.acq_core.specs.declared.request.Request.{Request}
-use Rattle.acq_core.specs.declared.status.Status.TheVariants as status
 use Rattle.acq_core.specs.declared.reply_state.ReplyState.{ReplyState}
 use Rattle.acq_core.specs.declared.reply_state.ReplyState.TheVariants.{Kept}
 use Rattle.acq_core.specs.Numbers.{is_first_reference, greatest_limit}
 use Rattle.acq_core.specs.Changes.{or_zero, change_of, approval_posting, answer_posting}
-use Rattle.acq_core.specs.Changes.{posting_today, completion_posting, posted_leg, reversal_leg}
-use Rattle.acq_core.specs.Changes.{reversal_posting, answered_status, reversed_status}
+use Rattle.acq_core.specs.Changes.{completion_posting, posted_leg, reversing_posting}
+use Rattle.acq_core.specs.Changes.{reversal_posting, answered_status, amount_to_remain}
 use Rattle.acq_core.specs.Tables.{Opening, Tables, new_tables, count, is_pending, prior_of}
 use Rattle.acq_core.specs.Tables.{reply_state_of, reference_by, leg_by, requests_of, postings_of}
 use Rattle.acq_core.specs.Tables.{admitted_in, with_changed, with_next_posting, postings_before}
@@ -44,6 +43,7 @@ use Rattle.acq_history.proofs.StepCases.{next_reference, by_step}
 use Rattle.acq_history.proofs.Arrivals.{IsArrival, kept_by_events}
 use Rattle.acq_history.proofs.RowsWithChanges.{All-with_changed, All-member, followed_kept}
 use Rattle.acq_history.proofs.RowsWithChanges.{answered_kept, Edits}
+use Rattle.acq_history.proofs.WhatRemains.{hold_ended, original_ended, takes_all}
 use Rattle.acq_history.proofs.AdmittedCounts.{IsCounted, admitted_in-within}
 use Rattle.acq_history.proofs.CountsStayWithin.{AreCountsWithin, IsOfDay, within_uncounted}
 use Rattle.acq_history.proofs.CountsStayWithin.{within_counted, posted_on-ended, used_on-changed}
@@ -194,14 +194,14 @@ reversal_made today day r row sound =
   where
     step : (o : Option Leg) →
         posted_leg (reply_state_of row.status row.reply) (leg_by row.key.service row) ≡ o →
-        IfSome (option_map
-        (λ leg. posting_today today r (reversal_leg leg) row.amount (prior_of row)) o)
+        IfSome (option_map (reversing_posting today r (prior_of row)) o)
         (IsMade (text_at r.message 42) today)
     step None e = tt
     step (Some leg) e = record {
       of = record { merchant = refl; day = refl };
       amount =
-          leg_by-amount day row.key.service row leg sound refl
+          ap is_accepted_amount (takes_all r row.amount)
+          ∙ leg_by-amount day row.key.service row leg sound refl
           (posted_leg-some (reply_state_of row.status row.reply) (leg_by row.key.service row) leg
           e);
       reference = or_zero-bounded (reference_by row.key.service row)
@@ -224,10 +224,6 @@ completion_made today day r hold sound amount = record {
 answered_status-ended : (v : Verdict) → is_pending (answered_status v) ≡ false
 answered_status-ended (verdict.Approved id) = refl
 answered_status-ended other = refl
-
-reversed_status-ended : (s : ReplyState) → is_pending (reversed_status s) ≡ false
-reversed_status-ended (Kept reply) = refl
-reversed_status-ended other = refl
 
 -- ---- the tables
 
@@ -336,8 +332,7 @@ module _ (opening : Opening) (begins : IsOpening opening) where
             All-member (IsSoundRow t.day) t.requests hold h.rows c.member in
             let made = completion_made t.day t.day r hold sound c.amount in sound_with h
             (All-push (IsSoundRow t.day) _ _
-            (sound_changed t.day hold.key _ (followed_kept status.Completed) (λ x same a. a)
-            t.requests h.rows)
+            (sound_changed t.day hold.key _ (followed_kept _) (λ x same a. a) t.requests h.rows)
             (sound_plain t.day _ refl refl
             (reference_by-bounded t.day hold.key.service hold sound.bounded)
             (λ s n e. c.amount)))
@@ -346,8 +341,12 @@ module _ (opening : Opening) (begins : IsOpening opening) where
             (within_counted t.limit t.requests _ t.postings _ _
             (record {
               counts = refl;
-              same = used_on-changed hold.key _ (followed_kept _) (λ x. refl) t.requests;
-              fewer = pending_on-changed hold.key _ (followed_kept _) (λ x. refl) t.requests;
+              same =
+                  used_on-changed hold.key _ (followed_kept _)
+                  (λ x. (hold_ended (prior_of hold)).pending) t.requests;
+              fewer =
+                  pending_on-changed hold.key _ (followed_kept _)
+                  (λ x. (hold_ended (prior_of hold)).pending) t.requests;
               once = posted_on-ended t.postings
                   (Some (completion_posting t.day r (prior_of hold)))
                   (text_at r.message 42) t.day made.of;
@@ -355,7 +354,7 @@ module _ (opening : Opening) (begins : IsOpening opening) where
         reversed = λ r merchant g row c.
             let sound : IsSoundRow t.day row =
             All-member (IsSoundRow t.day) t.requests row h.rows c.member in
-            let ended = reversed_status-ended (reply_state_of row.status row.reply) in
+            let ended = (original_ended (prior_of row) (amount_to_remain r)).pending in
             let made = reversal_made t.day t.day r row sound in sound_with h
             (All-push (IsSoundRow t.day) _ _
             (sound_changed t.day row.key _ (followed_kept _) (λ x same a. a) t.requests h.rows)

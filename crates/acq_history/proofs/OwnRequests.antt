@@ -28,7 +28,8 @@ use Rattle.acq_core.specs.Decision.{Decision, Refuses, Admits, Completes, Revers
 use Rattle.acq_core.specs.Outcome.{Outcome, Replied, Asked, outcome_of, is_in_balance, balance_code}
 use Rattle.acq_core.specs.Outcome.{query_of}
 use Rattle.acq_message.specs.Reply.{coded_reply, referring_reply, totals_reply}
-use Rattle.acq_core.specs.Changes.{reversed_status, change_of, refused_row, reconciliation_row}
+use Rattle.acq_core.specs.Changes.{change_of, refused_row, reconciliation_row, amount_to_remain}
+use Rattle.acq_core.specs.Changes.{remains_of, remains_of_hold}
 use Rattle.acq_core.specs.Changes.{completion_posting, reversal_posting}
 use Rattle.acq_core.specs.Tables.{Opening, Tables, postings_of, with_next_posting, after_any}
 use Rattle.acq_core.specs.Tables.{followed_row}
@@ -370,8 +371,8 @@ module _ {opening : Opening} {m : List ℕ} {t : Tables} {h : List Entry}
               day = refl;
               enrolled = λ a. absurd (cc);
             })
-            (without_newest_edited hold.key (followed_row status.Completed)
-            (followed_kept status.Completed)
+            (without_newest_edited hold.key (followed_row (remains_of_hold hold))
+            (followed_kept (remains_of_hold hold))
             (completion_follows h n f hold found.1 found.2 moment day message
             (ranges_after h) reply asked.1 ends)
             g.rows);
@@ -402,6 +403,7 @@ module _ {opening : Opening} {m : List ℕ} {t : Tables} {h : List Entry}
       ap (λ rq. accepts is_acceptable rq o) came ∙ ap (λ b. b && true)
       (reversal_accepted r.service fits) in
       let admission : is_admission e h ≡ false = admits_not (request_of (Requested r)) e h refl in
+      let left = remains_of p (amount_to_remain r) in
       let posting : posting_of e h ≡ reversal_posting day r p =
       ap (λ b. cond b (posting_by r.service e h r) None) acceptance
       ∙ (reversal_by e h r r.service fits
@@ -423,8 +425,7 @@ module _ {opening : Opening} {m : List ℕ} {t : Tables} {h : List Entry}
               day = refl;
               enrolled = λ a. clash (is_admission e h) a admission;
             })
-            (without_newest_edited p.key (followed_row (reversed_status p.reply_state))
-            (followed_kept (reversed_status p.reply_state))
+            (without_newest_edited p.key (followed_row left) (followed_kept left)
             (reversal_follows h key f p found.1 found.2 r day
             (ranges_after h) reply came fits asked.1 reversible) g.rows);
         posted =

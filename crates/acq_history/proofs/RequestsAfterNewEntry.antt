@@ -21,11 +21,11 @@ use Rattle.acq_message.specs.declared.verdict.Verdict.{Verdict}
 use Rattle.acq_message.specs.declared.verdict.Verdict.TheVariants as verdict
 use Rattle.acq_message.specs.Elements.{key_of, essence_of, amount_in, reference_in, original_key}
 use Rattle.acq_message.specs.declared.request_message.RequestMessage.{RequestMessage}
-use Rattle.acq_core.specs.declared.reply_state.ReplyState.{ReplyState}
 use Rattle.acq_core.specs.declared.reply_state.ReplyState.TheVariants.{Kept, Awaited}
 use Rattle.acq_core.specs.Known.{Prior}
 use Rattle.acq_core.specs.Outcome.{Outcome}
 use Rattle.acq_core.specs.Changes.{end_of_hold, answered_status, answered_hold_end, reversed_status}
+use Rattle.acq_core.specs.Changes.{remains_of, remains_of_hold}
 use Rattle.acq_core.specs.Tables.{prior_of, followed_row, answered_row}
 use Rattle.acq_core.specs.Tables as tables
 use Rattle.acq_message.specs.Reply.{draft_reply}
@@ -42,6 +42,7 @@ use Rattle.acq_history.proofs.Lookups.{not_true, or_true, own_none}
 use Rattle.acq_history.proofs.RecordedInHistory.{key_in}
 use Rattle.acq_core.proofs.Statuses.{only_awaited}
 use Rattle.acq_history.proofs.Statuses.{open_row, IsApproved}
+use Rattle.acq_history.proofs.WhatRemains.{hold_ended, original_ended}
 use Rattle.acq_history.proofs.RowsWithChanges.{followed_kept, answered_kept, IsChange}
 
 -- ---- what became of a recorded request
@@ -398,21 +399,25 @@ open_by_done row s days fate off on = refl
 -- an open hold that is completed
 pub prior_of_completed : (a : Request) (f : Found) (fate : Fate) → prior_of a ≡ prior_by fate f →
     is_some (prior_by fate f).hold_end ≡ true →
-    prior_of (followed_row status.Completed a) ≡ prior_by (record fate { completed = true }) f
+    prior_of (followed_row (remains_of_hold (prior_by fate f)) a)
+    ≡ prior_by (record fate { completed = true }) f
 prior_of_completed a f fate is ends =
+    let left = remains_of_hold (prior_by fate f) in
+    let ended = hold_ended (prior_by fate f) in
     let was : IsApproved a.status =
     (open_row a.key.service a (ap (λ x. is_some x.hold_end) is ∙ ends)).1 in
     let at : a.key.service ≡ f.request.service = ap (λ x. x.key.service) is in
-    prior_of_changed a (followed_row status.Completed a) f fate
-    (record fate { completed = true }) (followed_kept status.Completed a) is
+    prior_of_changed a (followed_row left a) f fate
+    (record fate { completed = true }) (followed_kept left a) is
     (record {
       amount = ap (λ x. x.amount) is;
       state = sym (was.kept a.reply) ∙ ap (λ x. x.reply_state) is;
-      reversible = sym (ap (λ b. b && not fate.reversed && not (is_declined_by fate))
+      reversible = ended.reversible
+          ∙ sym (ap (λ b. b && not fate.reversed && not (is_declined_by fate))
           (and-false (is_admitted f || is_accepted f)));
-      ends = (λ i. tables.hold_end_by (at i) (followed_row status.Completed a))
-          ∙ open_by_done (followed_row status.Completed a) f.request.service (hold_days_of f)
-          (record fate { completed = true }) refl refl;
+      ends = (λ i. tables.hold_end_by (at i) (followed_row left a))
+          ∙ open_by_done (followed_row left a) f.request.service (hold_days_of f)
+          (record fate { completed = true }) ended.approved refl;
     })
 
 -- ---- a reversal
@@ -429,24 +434,17 @@ reply_state_of-reversed status.Approved reply o r draft reversible is =
     ap (λ p. reply_state_with p true draft) (sym (reply_state_with-kept o r draft reply (sym is)))
 reply_state_of-reversed s reply o r draft reversible is = absurd (cc)
 
-is_reversible_reversed : (s : ReplyState) → tables.is_reversible (reversed_status s) ≡ false
-is_reversible_reversed (Kept reply) = refl
-is_reversible_reversed other = refl
-
-is_approved_reversed : (s : ReplyState) → tables.is_approved (reversed_status s) ≡ false
-is_approved_reversed (Kept reply) = refl
-is_approved_reversed other = refl
-
 -- a request that can be reversed, and is
-pub prior_of_reversed : (a : Request) (f : Found) (fate : Fate) → prior_of a ≡ prior_by fate f →
-    (prior_by fate f).is_reversible ≡ true →
-    prior_of (followed_row (reversed_status (prior_by fate f).reply_state) a)
+pub prior_of_reversed : (a : Request) (f : Found) (fate : Fate) (remaining : ℕ) →
+    prior_of a ≡ prior_by fate f → (prior_by fate f).is_reversible ≡ true →
+    prior_of (followed_row (remains_of (prior_by fate f) remaining) a)
     ≡ prior_by (record fate { reversed = true }) f
-prior_of_reversed a f fate is reversible =
-    let s = reversed_status (prior_by fate f).reply_state in
+prior_of_reversed a f fate remaining is reversible =
+    let left = remains_of (prior_by fate f) remaining in
+    let ended = original_ended (prior_by fate f) remaining in
     let at : a.key.service ≡ f.request.service = ap (λ x. x.key.service) is in
-    prior_of_changed a (followed_row s a) f fate (record fate { reversed = true })
-    (followed_kept s a) is
+    prior_of_changed a (followed_row left a) f fate (record fate { reversed = true })
+    (followed_kept left a) is
     (record {
       amount = ap (λ x. x.amount) is;
       state =
@@ -455,11 +453,10 @@ prior_of_reversed a f fate is reversible =
           ∙ reply_state_of-reversed a.status a.reply _ fate.reversed _
           (ap (λ x. x.is_reversible) is ∙ reversible) (ap (λ x. x.reply_state) is);
       reversible =
-          is_reversible_reversed (prior_by fate f).reply_state
+          ended.reversible
           ∙ sym (ap (λ b. b && not (is_declined_by fate))
           (and-false ((is_admitted f || is_accepted f) && not fate.completed)));
-      ends = (λ i. tables.hold_end_by (at i) (followed_row s a))
-          ∙ open_by_done (followed_row s a) f.request.service (hold_days_of f)
-          (record fate { reversed = true })
-          (is_approved_reversed (prior_by fate f).reply_state) (or_true fate.completed);
+      ends = (λ i. tables.hold_end_by (at i) (followed_row left a))
+          ∙ open_by_done (followed_row left a) f.request.service (hold_days_of f)
+          (record fate { reversed = true }) ended.approved (or_true fate.completed);
     })

@@ -26,11 +26,11 @@ use Rattle.acq_core.specs.declared.event.Event.{Event}
 use Rattle.acq_core.specs.declared.arrival.Arrival.{Arrival}
 use Rattle.acq_core.specs.declared.posting.Posting.{Posting}
 use Rattle.acq_core.specs.declared.request.Request.{Request}
-use Rattle.acq_core.specs.declared.status.Status.{Status}
+use Rattle.acq_core.specs.declared.remains.Remains.{Remains}
 use Rattle.acq_core.specs.Arrivals.{arrival_of}
 use Rattle.acq_core.specs.Changes.{change_of, end_of_hold, answered_hold_end, approval_posting}
 use Rattle.acq_core.specs.Changes.{answer_posting, posting_today, posted_leg, reversal_leg}
-use Rattle.acq_core.specs.Changes.{reversal_posting, completion_posting}
+use Rattle.acq_core.specs.Changes.{reversal_posting, completion_posting, reversing_posting}
 use Rattle.acq_core.specs.Tables.{Opening, Tables, new_tables, count, prior_of, reply_state_of}
 use Rattle.acq_core.specs.Tables.{leg_by, postings_of, postings_before, with_changed}
 use Rattle.acq_core.specs.Tables.{with_next_posting, known_in, after_any, step_tables, tables_after}
@@ -196,11 +196,10 @@ today-names today r leg amount row key card = record {
 reversal-names : (today : ℕ) (r : RequestMessage) (row : Request) →
     FitsKey (key_of r.service r.message) →
     IsNumber row.card → (o : Option Leg) →
-    IfSome (option_map (λ leg. posting_today today r (reversal_leg leg) row.amount (prior_of row))
-    o) FitsNames
+    IfSome (option_map (reversing_posting today r (prior_of row)) o) FitsNames
 reversal-names today r row key card None = tt
 reversal-names today r row key card (Some leg) =
-    today-names today r (reversal_leg leg) row.amount row key card
+    today-names today r (reversal_leg leg) _ row key card
 
 -- ---- steps
 
@@ -212,10 +211,11 @@ record HasFittingColumns (t : Tables) : Type 0 where
   reconciliations : All FitsReconciliation t.reconciliations
 
 -- rows with one that a completion or a reversal followed
-fitting_followed : (key : RequestKey) (st : Status) (rows : List Request) → All FitsColumns rows →
-    All FitsColumns (with_changed key (followed_row st) rows)
-fitting_followed key st rows h =
-    All-with_changed FitsColumns key (followed_row st) rows
+fitting_followed : (key : RequestKey) (remains : Remains) (rows : List Request) →
+    All FitsColumns rows →
+    All FitsColumns (with_changed key (followed_row remains) rows)
+fitting_followed key remains rows h =
+    All-with_changed FitsColumns key (followed_row remains) rows
     (λ x same c. record {
       key = c.key;
       amount = c.amount;

@@ -8,6 +8,7 @@ use Rattle.acq_message.specs.declared.request_key.RequestKey.{RequestKey}
 use Rattle.acq_message.specs.Elements.{same_key}
 use Rattle.acq_core.specs.declared.request.Request.{Request}
 use Rattle.acq_core.specs.declared.status.Status.{Status}
+use Rattle.acq_core.specs.declared.remains.Remains.{Remains}
 use Rattle.acq_core.specs.Tables.{requests_of, with_changed, answered_row, followed_row}
 use Rattle.std.specs.Str.{bytes_eq}
 use Rattle.acq_history.proofs.Lookups.{filter-map}
@@ -36,8 +37,8 @@ pub record IsChange (p q : Request) : Type 0 where
 abbrev pub Edits : (Request → Request) → Type 0
 Edits changed = (row : Request) → IsChange row (changed row)
 
-pub followed_kept : (status : Status) → Edits (followed_row status)
-followed_kept status row = record {
+pub followed_kept : (remains : Remains) → Edits (followed_row remains)
+followed_kept remains row = record {
   key = refl;
   essence = refl;
   reference = refl;

@@ -23,7 +23,7 @@ use Rattle.acq_core.specs.declared.arrival.Arrival.TheVariants.{CutOver, RangeAd
 use Rattle.acq_core.specs.Known.{Prior, wanted_by, known_for}
 use Rattle.acq_core.specs.Outcome.{Outcome}
 use Rattle.acq_core.specs.Changes.{answer_posting, approval_posting, reversal_posting}
-use Rattle.acq_core.specs.Changes.{posting_today, reversal_leg, posted_leg}
+use Rattle.acq_core.specs.Changes.{reversing_posting, posted_leg}
 use Rattle.acq_core.specs.Tables.{Opening, Tables, postings_of, facts_in, known_in, totals_on}
 use Rattle.acq_core.specs.Tables.{with_next_posting}
 use Rattle.acq_core.proofs.Counts.{or_none}
@@ -169,7 +169,6 @@ pub reversal_posting_is_of : (today : ℕ) (r : RequestMessage) (p : Prior) →
 reversal_posting_is_of today r p = step (posted_leg p.reply_state p.leg)
   where
     step : (o : Option Leg) →
-        IsOf (text_at r.message 42)
-        (option_map (λ leg. posting_today today r (reversal_leg leg) p.amount p) o)
+        IsOf (text_at r.message 42) (option_map (reversing_posting today r p) o)
     step None = tt
     step (Some leg) = refl

@@ -18,3 +18,4 @@ pub mod Balance
 pub mod KeptRepeats
 pub mod Conservation
 pub mod Finality
+pub mod Widening

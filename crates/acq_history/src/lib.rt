@@ -13,5 +13,6 @@ pub mod history_laws;
 pub mod party_laws;
 pub mod posting_laws;
 mod types;
+pub mod widening_laws;
 
 pub use types::{every_event, every_opening, every_verdict};

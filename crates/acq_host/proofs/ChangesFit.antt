@@ -23,7 +23,7 @@ use Rattle.acq_core.specs.declared.arrival.Arrival.TheVariants.{TerminalAdded}
 use Rattle.acq_core.specs.Arrivals.{arrival_of}
 use Rattle.acq_core.specs.Changes.{answer_posting, completion_posting, reversal_posting, change_of}
 use Rattle.acq_core.specs.Changes.{change_for}
-use Rattle.acq_core.specs.Changes.{posted_leg, posting_today, reversal_leg, reversal_row}
+use Rattle.acq_core.specs.Changes.{posted_leg, reversing_posting, reversal_row}
 use Rattle.acq_core.specs.Decision.{Decision, Reports, DropsRange, CutsOver, repeat_of, decision}
 use Rattle.acq_core.specs.Decision.{decision_of_new_range}
 use Rattle.acq_core.specs.Decision.{decision_of_old_range, decision_of_enrolment}
@@ -53,7 +53,7 @@ reversal_posted_by : (today : ℕ) (r : RequestMessage) (p : Prior) →
     IfSome (reversal_posting today r p) (IsPostedBy (reversal_row today r p))
 reversal_posted_by today r p =
     elim (posted_leg p.reply_state p.leg) as (λ o.
-    IfSome (option_map (λ leg. posting_today today r (reversal_leg leg) p.amount p) o)
+    IfSome (option_map (reversing_posting today r p) o)
     (IsPostedBy (reversal_row today r p))) [
       | None ↦ tt
       | Some leg ↦ record { merchant = refl; day = refl }

@@ -3,8 +3,8 @@ use Rattle.std.proofs.Common.{◌≡◌, List, ℕ, Ok, Err, ◌∙◌, inl, inr
 use Rattle.std.specs.Prelude.{Result, OnOk}
 use Rattle.acq_program.specs.Arguments.{AsksFor}
 use Rattle.acq_program.specs.declared.action.Action.{Action}
-use Rattle.acq_program.specs.declared.action.Action.TheVariants.{Init, Once, Listen, Replay}
-use Rattle.acq_program.specs.declared.action.Action.TheVariants.{Report, Holds, Show}
+use Rattle.acq_program.specs.declared.action.Action.TheVariants.{Init, Migrate, Once, Listen}
+use Rattle.acq_program.specs.declared.action.Action.TheVariants.{Replay, Report, Holds, Show}
 use Rattle.acq_commands.specs.Faults.{status_after, status_of}
 use Rattle.acq_commands.specs.declared.fault.Fault.{Fault}
 use Rattle.acq_commands.specs.declared.fault.Fault.TheVariants as fault
@@ -38,6 +38,8 @@ pub still_quiet : (words : List (List ℕ)) (action : Action) (ended : Result (U
     status_after ended ≡ 0 →
     IsQuiet words told after
 still_quiet words (Init new) ended told mid after asks same quiet well =
+    inl (where_well ended (after ≡ mid) quiet well ∙ same)
+still_quiet words (Migrate path) ended told mid after asks same quiet well =
     inl (where_well ended (after ≡ mid) quiet well ∙ same)
 still_quiet words (Once asked) ended told mid after asks same quiet well =
     inl (where_well ended (after ≡ mid) quiet well ∙ same)

@@ -19,7 +19,7 @@ use Rattle.acq_core.specs.Numbers.{is_limit}
 use Rattle.acq_out.specs.Fields.{merchant_of_text, moment_of_text}
 use Rattle.acq_program.specs.Program.{program}
 use Rattle.acq_program.specs.declared.action.Action.{Action}
-use Rattle.acq_program.specs.declared.action.Action.TheVariants.{Init, Once, Listen}
+use Rattle.acq_program.specs.declared.action.Action.TheVariants.{Init, Migrate, Once, Listen}
 use Rattle.acq_program.specs.declared.action.Action.TheVariants.{Replay, Report, Holds, Show}
 use Rattle.acq_commands.specs.declared.day_report.DayReport.{DayReport}
 use Rattle.acq_commands.specs.declared.input_form.InputForm.{InputForm}
@@ -263,6 +263,14 @@ InitIn texts path = Then (LimitIs texts) (InitWith texts path)
 abbrev pub AsksInit : OptionTexts → Result Action OptionName → Type 0
 AsksInit texts = Then (FileIs texts) (InitIn texts)
 
+-- the book in this file
+abbrev pub IsMigrate : String Global → Result Action OptionName → Type 0
+IsMigrate path read = read ≡ Ok (Migrate path)
+
+-- what `migrate` is asked for
+abbrev pub AsksMigrate : OptionTexts → Result Action OptionName → Type 0
+AsksMigrate texts = Then (FileIs texts) IsMigrate
+
 -- frames over this book, with this file of issuers' answers, at this moment
 abbrev pub IsOnce : Option Text → Option Text → Option ℕ → Result Action OptionName → Type 0
 IsOnce book issuers moment (Ok (Once asked)) =
@@ -389,6 +397,7 @@ Asks (Some command) asked =
     ⊎ Names (codes "holds") AsksHolds command asked
     ⊎ Names (codes "show") AsksShow command asked
     ⊎ Names (codes "listen") AsksListen command asked
+    ⊎ Names (codes "migrate") AsksMigrate command asked
 
 -- nothing is wrong with the words by clap's rules, and they ask for this
 abbrev pub AsksFor : List Text → Result Action OptionName → Type 0

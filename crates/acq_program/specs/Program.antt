@@ -28,6 +28,10 @@ init =
     with_rule (with_rule (with_rule (new_app (codes "init"))
     (required (codes "db"))) (required (codes "limit"))) (required (codes "day"))
 
+-- `migrate --db FILE`
+abbrev pub migrate : App
+migrate = with_rule (new_app (codes "migrate")) (required (codes "db"))
+
 -- `once [--db FILE] [--issuers FILE] [--at MOMENT]`
 abbrev pub once : App
 once =
@@ -80,8 +84,8 @@ acqd =
 -- with the commands that make a book, or take what comes in
 abbrev pub making : App
 making =
-    with_subcommand (with_subcommand (with_subcommand (with_subcommand acqd init.top) once.top)
-    listen.top) replay.top
+    with_subcommand (with_subcommand (with_subcommand (with_subcommand
+    (with_subcommand acqd init.top) migrate.top) once.top) listen.top) replay.top
 
 -- the program and its commands
 abbrev pub program : App

@@ -3,8 +3,8 @@ use Rattle.std.specs.Prelude.{◌≡◌, ◌⊎◌, ℕ, List, Option, None, Som
 use Rattle.std.specs.declared.alloc.Global.{Global}
 use Rattle.acq_link.specs.Moves.{TakesAll}
 use Rattle.acq_program.specs.declared.action.Action.{Action}
-use Rattle.acq_program.specs.declared.action.Action.TheVariants.{Init, Once, Listen, Replay}
-use Rattle.acq_program.specs.declared.action.Action.TheVariants.{Report, Holds, Show}
+use Rattle.acq_program.specs.declared.action.Action.TheVariants.{Init, Migrate, Once, Listen}
+use Rattle.acq_program.specs.declared.action.Action.TheVariants.{Replay, Report, Holds, Show}
 use Rattle.acq_program.specs.declared.option_name.OptionName.{OptionName}
 use Rattle.acq_program.specs.Arguments.{AsksFor}
 use Rattle.acq_front.specs.Talk.{Saying, says_nothing}
@@ -60,6 +60,7 @@ ReadsWhole remaining received received_after ended =
 abbrev pub Does : Action → Option (List ℕ) → (received sent : Stream)
     → Result (Unit {0}) Fault → Type 0
 Does (Init new) remaining received sent ended = IsUntouched received sent
+Does (Migrate path) remaining received sent ended = IsUntouched received sent
 Does (Once asked) remaining received sent ended =
     ServesAsked asked received sent ended
     × ReadsWhole remaining received.before received.after ended

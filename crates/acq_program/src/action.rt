@@ -9,6 +9,8 @@ use acq_commands::{
 pub enum Action {
     /// Make a new book in a file.
     Init(NewBook),
+    /// Migrate the book of an earlier version in the file at this path.
+    Migrate(String),
     /// Answer the frames of the input, once, over a new book or the one in a file.
     Once(OnceOptions),
     /// Answer the frames of connections over the book in a file.

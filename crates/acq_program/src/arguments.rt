@@ -2,7 +2,8 @@
 
 ghost use Rattle.std.specs.Prelude.{◌≡◌, IfErr, IfOk, codes, map, option_map, string_bytes};
 ghost use Rattle.clap.specs.Words.{first_value, found_of};
-ghost use Rattle.acq_program.specs.Arguments.{AsksHolds, AsksInit, AsksListen, AsksOnce};
+ghost use Rattle.acq_program.specs.Arguments.{AsksHolds, AsksInit, AsksListen};
+ghost use Rattle.acq_program.specs.Arguments.{AsksMigrate, AsksOnce};
 ghost use Rattle.acq_program.specs.Arguments.{AsksReplay, AsksReport, CountIs, DayIs, FileIs};
 ghost use Rattle.acq_program.specs.Arguments.{IdleIs, IsNoMemory, LimitIs, MerchantIs};
 ghost use Rattle.acq_program.specs.Arguments.{MomentIfThere, MomentIs, PortIs, Reads, TogetherIs};
@@ -36,6 +37,7 @@ pub fn action_of<W: AsStr>(alloc: Global, args: &[W]) -> Result<Action, UsageFau
     let matches = program(alloc)?.try_get_matches_from(args)?;
     match matches.subcommand() {
         Some(("init", options)) => init_of(alloc, options),
+        Some(("migrate", options)) => migrate_of(alloc, options),
         Some(("once", options)) => once_of(alloc, options),
         Some(("listen", options)) => listen_of(alloc, options),
         Some(("replay", options)) => replay_of(alloc, options),
@@ -59,6 +61,14 @@ fn init_of(alloc: Global, options: &ArgMatches) -> Result<Action, UsageFault>
         limit,
         first_day,
     }))
+}
+
+/// What `migrate` is asked for.
+fn migrate_of(alloc: Global, options: &ArgMatches) -> Result<Action, UsageFault>
+    ensures { Reads (AsksMigrate (found_texts (found_of options.now))) result }
+{
+    let path = file_option(alloc, options)?;
+    Ok(Action::Migrate(path))
 }
 
 /// What `once` is asked for.

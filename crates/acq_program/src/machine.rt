@@ -33,6 +33,10 @@ pub trait Machine<B: Book + Drop>: Sized {
     fn make_book(self, path: &str, limit: Limit, first_day: Day) -> Result<B, Fault>
         ensures { IfErr result IsOpening };
 
+    /// Migrates the book in the file at a path, where it is of the version before.
+    fn migrate_book(self, path: &str) -> Result<B, Fault>
+        ensures { IfErr result IsOpening };
+
     /// Reads the file of issuers' answers at a path.
     fn read_answers(&self, alloc: Global, path: &str) -> Result<StandIn, Fault>
         ensures { IfErr result IsOfAnswers };

@@ -3,8 +3,8 @@
 ghost use Rattle.std.specs.Prelude.{◌≡◌, false, IfOk};
 ghost use Rattle.clap.specs.Words.{app_of, new_app, rule_of, with_rule};
 ghost use Rattle.clap.specs.declared.builder.action.ArgAction.TheVariants.{Append};
-ghost use Rattle.acq_program.specs.Program.{holds, init, listen, listen_at_port, making, on_a_day};
-ghost use Rattle.acq_program.specs.Program.{once, option};
+ghost use Rattle.acq_program.specs.Program.{holds, init, listen, listen_at_port, making};
+ghost use Rattle.acq_program.specs.Program.{migrate, on_a_day, once, option};
 ghost use Rattle.acq_program.specs.Program.{option_with_value, program, replay, required, show};
 
 use clap::{Arg, ArgAction, Command};
@@ -31,6 +31,26 @@ file can't be used. A fault is one line on standard error:
 
 Example:
   acqd init --db book.db --limit 999999 --day 2024-05-01";
+
+const ABOUT_MIGRATE: &str = "Migrates the book of an earlier version in a file";
+
+const MORE_OF_MIGRATE: &str = "\
+Books of version 1 have card ranges of six digits, those of version 2 of eight, as issuers are
+numbered since ISO/IEC 7812-1:2017. Each range LOW to HIGH becomes LOW00 to HIGH99, which are the
+same cards; all else stays as it is. A stop at any moment leaves the whole book of version 1 or the
+whole one of version 2, so that the command may be called again. Take a copy first: no command leads
+back.
+
+The status is 0 where all is well, 1 for a fault, 2 for wrong usage, 3 where memory ran out or the
+file can't be used. A fault is one line on standard error:
+  acqd: 1 Memory
+  acqd: 2 Store                    the file can't be opened, read or written
+  acqd: 40 NotABook                the file holds no book
+  acqd: 41 OtherVersion VERSION    the file holds a book of this other version: with 2 nothing is
+                                   left to do
+
+Example:
+  acqd migrate --db book.db";
 
 const ABOUT_ONCE: &str =
     "Answers the frames on standard input with reply frames on standard output";
@@ -106,7 +126,8 @@ An event line is a record of six fields of CSV, with no header line; fields not 
                                        an issuer's answer to what was asked: `approved` and an
                                        authorization id, `declined` and a code, or `none`
   cutover,MOMENT,,,,                   the business day ends, and the next begins
-MOMENT counts seconds since 1970-01-01 00:00:00 UTC.
+LOW and HIGH are the first eight digits of card numbers. MOMENT counts seconds since 1970-01-01
+00:00:00 UTC.
 
 What comes of an event is one line:
   reply MESSAGE                        this goes to the terminal
@@ -227,6 +248,7 @@ fn own_books<'a>(alloc: Global) -> Result<Command<'a>, AllocError>
         .subcommand_required(true)
         .arg_required_else_help(false)
         .subcommand(init_command(alloc)?)?
+        .subcommand(migrate_command(alloc)?)?
         .subcommand(once_command(alloc)?)?
         .subcommand(listen_command(alloc)?)?
         .subcommand(replay_command(alloc)?)
@@ -251,6 +273,13 @@ fn init_command<'a>(alloc: Global) -> Result<Command<'a>, AllocError>
         "YYYY-MM-DD",
         "The first business day, 2000-01-01 to 2099-12-31",
     )
+}
+
+fn migrate_command<'a>(alloc: Global) -> Result<Command<'a>, AllocError>
+    ensures { IfOk result (λ made. app_of made ≡ migrate) }
+{
+    let command = command(alloc, "migrate", ABOUT_MIGRATE, MORE_OF_MIGRATE);
+    with_required(alloc, command, "db", "FILE", "The file of the book")
 }
 
 fn once_command<'a>(alloc: Global) -> Result<Command<'a>, AllocError>

@@ -103,6 +103,7 @@ fn run<B: Book + Drop, M: Machine<B> + Drop, C: Clock, S: Source, K: Sink, F: Si
 {
     match action {
         Action::Init(new) => init(machine, &new),
+        Action::Migrate(path) => migrate(machine, &path),
         Action::Once(asked) => once(alloc, keys, machine, &asked, clock, input, output),
         Action::Listen(asked) => listen(alloc, machine, &asked, clock, faults),
         Action::Replay(options) => match &options.book {
@@ -128,6 +129,14 @@ fn init<B: Book + Drop, M: Machine<B>>(machine: M, new: &NewBook) -> Result<(), 
     ensures { IfErr result IsOpening }
 {
     drop(machine.make_book(new.path.as_str(), new.limit, new.first_day)?);
+    Ok(())
+}
+
+/// Migrates the book in a file, which is given back at once.
+fn migrate<B: Book + Drop, M: Machine<B>>(machine: M, path: &String) -> Result<(), Fault>
+    ensures { IfErr result IsOpening }
+{
+    drop(machine.migrate_book(path.as_str())?);
     Ok(())
 }
 

@@ -5,6 +5,7 @@ use Rattle.sqlite.specs.State.{State, HasCleanDisk, Survives}
 use Rattle.sqlite_trees.specs.Tree.{Trees}
 use Rattle.acq_core.specs.declared.request.Request.{Request}
 use Rattle.acq_core.specs.declared.status.Status.{Status}
+use Rattle.acq_core.specs.declared.remains.Remains.{Remains}
 use Rattle.acq_core.specs.declared.posting.Posting.{Posting}
 use Rattle.acq_core.specs.declared.reconciliation.Reconciliation.{Reconciliation}
 use Rattle.acq_core.specs.declared.change.Change.TheVariants as change
@@ -99,9 +100,9 @@ HasRoomToPost number p t =
 
 -- the tables after a completion or a reversal, with the posting that it makes, if any
 abbrev pub with_follow :
-    Request → RequestKey → Status → Option Posting → Tables → Tables
-with_follow row original status posting t =
-    after t (change.Follow row original status posting)
+    Request → RequestKey → Remains → Option Posting → Tables → Tables
+with_follow row original remains posting t =
+    after t (change.Follow row original remains posting)
 
 -- the day has room for the row, and for a posting to the same merchant and day, which gets its next
 -- number

@@ -13,6 +13,7 @@ use Rattle.acq_core.specs.declared.merchant.Merchant.{Merchant}
 use Rattle.acq_core.specs.declared.terminal.Terminal.{Terminal}
 use Rattle.acq_core.specs.declared.request.Request.{Request}
 use Rattle.acq_core.specs.declared.status.Status.{Status}
+use Rattle.acq_core.specs.declared.remains.Remains.{Remains}
 use Rattle.acq_core.specs.declared.posting.Posting.{Posting}
 use Rattle.acq_core.specs.declared.reconciliation.Reconciliation.{Reconciliation}
 use Rattle.acq_core.specs.declared.change.Change.TheVariants as change
@@ -88,9 +89,9 @@ abbrev pub with_answer : RequestKey → Status → IsoMessage → Option ℕ →
 with_answer key status reply hold_end t =
     record t { requests = with_changed key (answered_row status reply hold_end) t.requests }
 
-abbrev pub with_status : RequestKey → Status → Tables → Tables
-with_status key status t =
-    record t { requests = with_changed key (followed_row status) t.requests }
+abbrev pub with_remains : RequestKey → Remains → Tables → Tables
+with_remains key remains t =
+    record t { requests = with_changed key (followed_row remains) t.requests }
 
 abbrev pub with_posting : ℕ → Posting → Tables → Tables
 with_posting number p t = record t { postings = t.postings ++ (number, p) ∷ [] }

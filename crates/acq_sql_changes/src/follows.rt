@@ -10,43 +10,43 @@ ghost use Rattle.acq_sql_changes.specs.Changed.{HasRoomFor, HasRoomToFollow, wit
 
 use crate::tallies::{totals_of_posting, used_by};
 use crate::writes::{add_posting, add_request, follow_request, raise};
-use acq_core::{Posting, Request, RequestKey, Status};
+use acq_core::{Posting, Remains, Request, RequestKey};
 use day_totals::Totals;
 use sqlite::{Alter, Connection, Error};
 
-/// Records a request, whose reply is spelled so, counts it against its day, and gives the request
-/// that it follows a status. Nothing is posted.
+/// Records a request, whose reply is spelled so, counts it against its day, and leaves what remains
+/// of the request that it follows. Nothing is posted.
 pub fn follow<'x, S: Alter>(
     conn: &mut Connection<S>,
     request: &'x Request,
     reply: &'x [u8],
     original: RequestKey,
-    status: Status,
+    remains: Remains,
 ) -> Result<(), Error>
     requires settled { conn.old.in_transaction ≡ false }
     requires whole { IsMessage request.now.reply }
     requires spelled { reply.now ≡ spelling request.now.reply }
     requires hold_end { IsShortEnd request.now.hold_end }
     ensures { ChangesWhole (state S.Store conn.old) (state S.Store conn.new) result
-        (HasRoomFor request.now) (with_follow request.now original status None) }
+        (HasRoomFor request.now) (with_follow request.now original remains None) }
 {
     let used = used_by(request);
     let none = Totals::zero();
     let mut tx = conn.transaction();
-    follow_request(&mut tx, original, status)?;
+    follow_request(&mut tx, original, remains)?;
     add_request(&mut tx, request, reply)?;
     raise(&mut tx, request.key.merchant, request.day, used, &none)?;
     tx.commit()
 }
 
-/// Records a request, whose reply is spelled so, counts it against its day, gives the request that
-/// it follows a status, and posts to the request's merchant and day.
+/// Records a request, whose reply is spelled so, counts it against its day, leaves what remains of
+/// the request that it follows, and posts to the request's merchant and day.
 pub fn follow_and_post<'x, S: Alter>(
     conn: &mut Connection<S>,
     request: &'x Request,
     reply: &'x [u8],
     original: RequestKey,
-    status: Status,
+    remains: Remains,
     number: u64,
     posting: &'x Posting,
 ) -> Result<(), Error>
@@ -57,12 +57,12 @@ pub fn follow_and_post<'x, S: Alter>(
     requires number { number < 2 ^ 63 }
     ensures { ChangesWhole (state S.Store conn.old) (state S.Store conn.new) result
         (HasRoomToFollow request.now number posting.now)
-        (with_follow request.now original status (Some posting.now)) }
+        (with_follow request.now original remains (Some posting.now)) }
 {
     let used = used_by(request);
     let posted = totals_of_posting(posting);
     let mut tx = conn.transaction();
-    follow_request(&mut tx, original, status)?;
+    follow_request(&mut tx, original, remains)?;
     add_request(&mut tx, request, reply)?;
     add_posting(&mut tx, number, posting)?;
     raise(&mut tx, request.key.merchant, request.day, used, &posted)?;

@@ -10,18 +10,17 @@ use Rattle.acq_message.specs.declared.service.Service.{Service}
 use Rattle.acq_message.specs.declared.service.Service.TheVariants.{Authorization, Completion}
 use Rattle.acq_message.specs.Elements.{same_key}
 use Rattle.acq_core.specs.declared.arrival.Arrival.{Arrival}
-use Rattle.acq_core.specs.declared.reply_state.ReplyState.{ReplyState}
-use Rattle.acq_core.specs.declared.reply_state.ReplyState.TheVariants.{Kept, Awaited, Late}
 use Rattle.acq_core.specs.declared.request.Request.{Request}
-use Rattle.acq_core.specs.Changes.{change_of, reversed_status}
+use Rattle.acq_core.specs.Changes.{change_of, amount_to_remain}
 use Rattle.acq_core.specs.Pasts.{HasPast}
 use Rattle.acq_core.specs.Tables.{Tables, new_tables, is_approved, known_in, with_changed}
-use Rattle.acq_core.specs.Tables.{after_any, step_tables}
+use Rattle.acq_core.specs.Tables.{after_any, step_tables, prior_of}
 use Rattle.acq_book.specs.Lookups.{is_authorization}
 use Rattle.acq_history.specs.Entries.{is_reversal}
 use Rattle.acq_history.proofs.Keys.{same_key_from, same_key_is}
 use Rattle.acq_history.proofs.Members.{In, In-push, In-mapped}
 use Rattle.acq_history.proofs.StepCases.{by_step}
+use Rattle.acq_history.proofs.WhatRemains.{hold_ended, original_ended}
 use Rattle.acq_history.specs.Keys.{are_distinct, HasUniqueKeys}
 use Rattle.acq_history.proofs.KeysStayUnique.{unique_after_step}
 use Rattle.acq_history.proofs.Runs.{kept}
@@ -94,11 +93,6 @@ reversal_not s h k = true≢false (sym k)
 completion_not : (s : Service) → s ≡ Completion → is_authorization s ≡ true → ⊥
 completion_not s is h = true≢false (sym h ∙ ap is_authorization is)
 
-reversed_not : (s : ReplyState) → is_approved (reversed_status s) ≡ true → ⊥
-reversed_not (Kept reply) h = true≢false (sym h)
-reversed_not (Awaited draft) h = true≢false (sym h)
-reversed_not Late h = true≢false (sym h)
-
 -- ---- steps
 
 abbrev HasBoth : Tables → Type 0
@@ -120,12 +114,14 @@ referred_after_step t a (unique, h) =
       completed = λ r merchant g hold c.
           with_row _ _
           (with_changes t.requests hold.key _ h
-          (λ y here is kind approved none. true≢false (sym approved)))
+          (λ y here is kind approved none.
+          true≢false (sym approved ∙ (hold_ended (prior_of hold)).approved)))
           (λ kind approved none. completion_not r.service c.service kind);
       reversed = λ r merchant g row c.
           with_row _ _
           (with_changes t.requests row.key _ h
-          (λ y here is kind approved none. reversed_not _ approved))
+          (λ y here is kind approved none. true≢false
+          (sym approved ∙ (original_ended (prior_of row) (amount_to_remain r)).approved)))
           (λ kind approved none. reversal_not r.service c.service kind);
       reconciled = λ r merchant g day c.
           with_row t.requests _ h (λ kind approved none. true≢false (sym approved));

@@ -74,6 +74,10 @@ impl<'a> Machine<ListBook> for MachineAtHand<'a> {
         self.open_book(path)
     }
 
+    fn migrate_book(self, path: &str) -> Result<ListBook, Fault> {
+        self.open_book(path)
+    }
+
     fn read_answers(&self, alloc: Global, _path: &str) -> Result<StandIn, Fault> {
         match &self.terms.answers {
             Some(text) => Ok(StandIn::read(alloc, &mut SliceSource::new(text.as_slice()))?),

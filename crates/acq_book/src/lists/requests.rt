@@ -22,7 +22,7 @@ use crate::lists::merchant_day::MerchantDay;
 use crate::lists::merchant_reference::MerchantReference;
 use crate::lists::put::put;
 use acq_core::{
-    AdmittedCount, MerchantId, Reference, Request, RequestKey, Service, Status, UsedCount,
+    AdmittedCount, MerchantId, Reference, Remains, Request, RequestKey, Service, Status, UsedCount,
 };
 use day_totals::Day;
 use indexmap::IndexMap;
@@ -179,12 +179,12 @@ impl Requests {
         answer_at(&mut self.rows, key, status, reply, hold_end);
     }
 
-    /// The request with this key was followed, and gets this status.
-    pub fn follow(&mut self, key: &RequestKey, status: Status)
-        ensures rows { self.new.rows ≡ with_changed key.now (followed_row status) self.old.rows }
+    /// The request with this key was followed, and this remains of it.
+    pub fn follow(&mut self, key: &RequestKey, remains: Remains)
+        ensures rows { self.new.rows ≡ with_changed key.now (followed_row remains) self.old.rows }
         ensures room { self.new.room ≡ self.old.room }
     {
-        follow_at(&mut self.rows, key, status);
+        follow_at(&mut self.rows, key, remains);
     }
 }
 
@@ -342,14 +342,14 @@ fn answer_at(
 fn follow_at(
     rows: &mut IndexMap<RequestKey, Request, RandomState>,
     key: &RequestKey,
-    status: Status,
+    remains: Remains,
 )
     ensures entries { rows.new.entries
-        ≡ changed_at (key_eq key.now) (followed_row status) rows.old.entries }
+        ≡ changed_at (key_eq key.now) (followed_row remains) rows.old.entries }
     ensures unique { IsUnique key_eq rows.old }
     ensures spare { spare rows.new ≡ spare rows.old }
 {
     if let Some(row) = rows.get_mut(key) {
-        row.status = status;
+        row.status = remains.status;
     }
 }

@@ -4,7 +4,7 @@ ghost use Rattle.std.specs.Prelude.{◌≡◌, true, Some, IfOk};
 ghost use Rattle.iso_codec.specs.Reading.{spelling};
 ghost use Rattle.acq_message.specs.Services.{is_recordable};
 ghost use Rattle.acq_message.specs.Reply.{coded_reply};
-ghost use Rattle.acq_core.specs.Changes.{completion_row, completion_posting};
+ghost use Rattle.acq_core.specs.Changes.{completion_row, completion_posting, remains_of_hold};
 ghost use Rattle.acq_core.specs.Decision.{completion, is_open_at};
 ghost use Rattle.acq_core.specs.Looking.{known_of};
 ghost use Rattle.acq_core.specs.Meaning.{meaning_of, is_feasible};
@@ -19,6 +19,7 @@ use crate::merchant::Merchant;
 use crate::output::Output;
 use crate::posted::{posting_today, reference_of};
 use crate::recording::accepted_row;
+use crate::remains::Remains;
 use crate::request::Request;
 use crate::status::Status;
 use acq_message::{
@@ -87,7 +88,7 @@ pub(crate) fn completed(
         ≡ Output.Reply merchant
         (spelling (coded_reply today request.now ResponseCode.Approved))) }
     ensures change { IfOk result (λ x. let p = prior_of hold.now in x.1
-        ≡ Some (Change.Follow (completion_row today request.now p) p.key Status.Completed
+        ≡ Some (Change.Follow (completion_row today request.now p) p.key (remains_of_hold p)
         (Some (completion_posting today request.now p)))) }
 {
     let message = request.as_request();
@@ -102,7 +103,9 @@ pub(crate) fn completed(
     let change = Change::Follow {
         request: row,
         original: hold.key,
-        status: Status::Completed,
+        remains: Remains {
+            status: Status::Completed,
+        },
         posting: Some(posting),
     };
     Ok((output, Some(change)))

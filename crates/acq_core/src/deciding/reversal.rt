@@ -8,7 +8,7 @@ ghost use Rattle.iso_codec.specs.Reading.{spelling};
 ghost use Rattle.acq_message.specs.Services.{is_recordable};
 ghost use Rattle.acq_message.specs.Reply.{referring_reply};
 ghost use Rattle.acq_core.specs.Changes.{reversal_row, reversal_posting, reversing_leg};
-ghost use Rattle.acq_core.specs.Changes.{reversed_status};
+ghost use Rattle.acq_core.specs.Changes.{amount_to_remain, remains_of, reversed_status};
 ghost use Rattle.acq_core.specs.Decision.{reversal_of, original_of, fits_acquirer};
 ghost use Rattle.acq_core.specs.Looking.{known_of};
 ghost use Rattle.acq_core.specs.Meaning.{meaning_of, is_feasible};
@@ -23,6 +23,7 @@ use crate::output::Output;
 use crate::posted::{posted_leg, posting_today, reference_of, reversal_leg};
 use crate::posting::Posting;
 use crate::recording::accepted_row;
+use crate::remains::Remains;
 use crate::request::Request;
 use crate::status::Status;
 use acq_message::{
@@ -111,7 +112,7 @@ pub(crate) fn reversed(
         (prior_of original.now).reference ResponseCode.Approved))) }
     ensures change { IfOk result (λ x. let p = prior_of original.now in x.1
         ≡ Some (Change.Follow (reversal_row today request.now p) p.key
-        (reversed_status p.reply_state) (reversal_posting today request.now p))) }
+        (remains_of p (amount_to_remain request.now)) (reversal_posting today request.now p))) }
 {
     let message = request.as_request();
     let reply = referring_reply(
@@ -129,7 +130,7 @@ pub(crate) fn reversed(
     let change = Change::Follow {
         request: row,
         original: original.key,
-        status: reversed_status(original.status),
+        remains: remains_of(original),
         posting,
     };
     Ok((output, Some(change)))
@@ -163,6 +164,15 @@ fn reversing_leg(leg: Option<Leg>) -> Leg
     match leg {
         Some(leg) => reversal_leg(leg),
         None => Leg::Credit,
+    }
+}
+
+/// What is left of an original that is reversed, with nothing of its amount.
+fn remains_of(original: &Request) -> Remains
+    ensures { result ≡ remains_of (prior_of original.now) 0 }
+{
+    Remains {
+        status: reversed_status(original.status),
     }
 }
 

@@ -24,6 +24,7 @@ use Rattle.acq_core.specs.declared.merchant.Merchant.{Merchant}
 use Rattle.acq_core.specs.declared.terminal.Terminal.{Terminal}
 use Rattle.acq_core.specs.declared.request.Request.{Request}
 use Rattle.acq_core.specs.declared.status.Status.{Status}
+use Rattle.acq_core.specs.declared.remains.Remains.{Remains}
 use Rattle.acq_core.specs.declared.posting.Posting.{Posting}
 use Rattle.acq_core.specs.declared.reconciliation.Reconciliation.{Reconciliation}
 use Rattle.acq_core.specs.Tables.{Opening}
@@ -43,6 +44,7 @@ use Rattle.acq_sql_changes.specs.Written as written
 use Rattle.acq_sql_changes.specs.Written.{WritesInside, CommitsNothing, Changes, Raises, BeginsBook}
 use Rattle.acq_sql_changes.specs.Widened.{WidensRanges, TurnsRanges, SetsVersion}
 use Rattle.acq_sql_changes.proofs.writes.ListWrites as list
+use Rattle.acq_sql_changes.proofs.writes.ListWrites.{follow_params}
 use Rattle.acq_sql_changes.proofs.writes.RangeWrites as range
 use Rattle.acq_sql_changes.proofs.writes.RaiseWrites.{it, running_raised}
 use Rattle.acq_sql_changes.proofs.writes.Moves.{widening, turning, setting, ranges_widened}
@@ -217,16 +219,16 @@ module _ (old new : State) (res : Result ℕ Error) (stop : CommitsNothing old n
       list.request_answered old.step_limit (mode_of old) old.now new.now
       w.text w.ran.tally t runs has w.ran.sound key status reply hold_end whole w.ran.changed)
 
-  pub follow_inside : (key : RequestKey) (status : Status)
-      → Executed text.follow_text (key_row key ++ number (status_number status) ∷ [])
-      → WritesInside old new res (Changes (written.with_status key status))
-  follow_inside key status =
-      writes text.follow_text (key_row key ++ number (status_number status) ∷ [])
-      (Changes (written.with_status key status))
+  pub follow_inside : (key : RequestKey) (remains : Remains)
+      → Executed text.follow_text (follow_params key remains)
+      → WritesInside old new res (Changes (written.with_remains key remains))
+  follow_inside key remains =
+      writes text.follow_text (follow_params key remains)
+      (Changes (written.with_remains key remains))
       (Update 4 (alone follow_query)) text_means.follow_means
       (λ ran t runs has. let w = ran has.schema in
       list.request_followed old.step_limit (mode_of old) old.now new.now
-      w.text w.ran.tally t runs has w.ran.sound key status w.ran.changed)
+      w.text w.ran.tally t runs has w.ran.sound key remains w.ran.changed)
 
   pub posting_inside : (n : ℕ) (p : Posting)
       → Executed text.add_posting_text (posting_row (n, p))

@@ -27,6 +27,7 @@ use Rattle.acq_core.specs.declared.merchant.Merchant.{Merchant}
 use Rattle.acq_core.specs.declared.terminal.Terminal.{Terminal}
 use Rattle.acq_core.specs.declared.request.Request.{Request}
 use Rattle.acq_core.specs.declared.status.Status.{Status}
+use Rattle.acq_core.specs.declared.remains.Remains.{Remains}
 use Rattle.acq_core.specs.declared.posting.Posting.{Posting}
 use Rattle.acq_core.specs.declared.reconciliation.Reconciliation.{Reconciliation}
 use Rattle.acq_core.specs.Tables.{Tables, Opening, new_tables, answered_row, followed_row}
@@ -42,7 +43,7 @@ use Rattle.acq_sql_rows.specs.Rows.{reconciliation_row, leg_number, bit_of}
 use Rattle.acq_sql_rows.specs.Queries.{new_row, key_is, set_day_query, answer_query, follow_query}
 use Rattle.acq_sql_rows.specs.Relation.{HoldsRows, AreRecorded}
 use Rattle.acq_sql_changes.specs.Written.{with_merchant, with_terminal, with_request, with_answer}
-use Rattle.acq_sql_changes.specs.Written.{with_status}
+use Rattle.acq_sql_changes.specs.Written.{with_remains}
 use Rattle.acq_sql_changes.specs.Written.{with_posting, with_reconciliation, on_day}
 use Rattle.acq_sql_changes.proofs.writes.TableTurns as at
 
@@ -149,6 +150,15 @@ laid_new_book : (limit day : ℕ) →
     cast_row at.the_book (Null ∷ book_row limit day) ≡ Null ∷ book_row limit day
 laid_new_book limit day =
     rw (cast_null, cast_int (pos version), cast_int (pos limit), cast_int (pos day))
+
+-- ---- what an UPDATE of a followed request is given
+
+-- what remains of it
+abbrev remains_row : Remains → Row
+remains_row remains = number (status_number remains.status) ∷ []
+
+abbrev pub follow_params : RequestKey → Remains → Row
+follow_params key remains = key_row key ++ remains_row remains
 
 -- INSERT of the book's row
 pub book_added : (limit : Option ℕ) (mode : Mode) (old new : Database) (text : List ℕ)
@@ -315,24 +325,24 @@ module _ (limit : Option ℕ) (mode : Mode) (old new : Database) (text : List �
         (recorded_changed (λ x. same_key x.key key) u (λ row is. whole) t.requests has.recorded)
         has.apart
 
-    pub request_followed : (status : Status)
-        → Does limit mode (key_row key ++ number (status_number status) ∷ []) old text None
+    pub request_followed : (remains : Remains)
+        → Does limit mode (follow_params key remains) old text None
         (Update 4 (alone follow_query)) (Ok (noted, new))
-        → HoldsRows new (with_status key status t) runs
-    request_followed status does =
-        let more = number (status_number status) ∷ [] in
-        let params = key_row key ++ more in
+        → HoldsRows new (with_remains key remains t) runs
+    request_followed remains does =
+        let more = remains_row remains in
+        let params = follow_params key remains in
         let w = updated_by book_schema 4 at.the_requests at.requests_placed
         (at.lone requests_tree) limit mode old new has.schema text
         params noted follow_query does in
-        let u = followed_row status in
+        let u = followed_row remains in
         let changed = numbered_updated request_row book_schema mode.keys old.trees new.trees
         at.the_requests t.requests
         has.requests key_is (drop 1 follow_query.project) params w.1.0 (w.1.1.answer Null)
         (λ x. same_key x.key key) u (λ id x here among. key_test more id x)
         (λ id x here among is. laid_number id (u x)) w.1.2 in
         at.turned old new t runs has w.0 sound requests_tree _
-        (at.others_of mode.keys old.trees new.trees _ w.1.2) changed (with_status key status t)
+        (at.others_of mode.keys old.trees new.trees _ w.1.2) changed (with_remains key remains t)
         runs refl has.rising
         (recorded_changed (λ x. same_key x.key key) u (λ row is. is) t.requests has.recorded)
         has.apart

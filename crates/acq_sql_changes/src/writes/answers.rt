@@ -3,11 +3,11 @@
 ghost use Rattle.std.specs.Prelude.{◌≡◌};
 ghost use Rattle.sqlite.specs.Held.{state};
 ghost use Rattle.acq_sql_changes.specs.Written.{WritesInside, Changes};
-ghost use Rattle.acq_sql_changes.specs.Written.{with_answer, with_status, IsShortEnd};
+ghost use Rattle.acq_sql_changes.specs.Written.{with_answer, with_remains, IsShortEnd};
 ghost use Rattle.iso_codec.specs.Message.{IsMessage};
 ghost use Rattle.iso_codec.specs.Reading.{spelling};
 
-use acq_core::{RequestKey, Status};
+use acq_core::{Remains, RequestKey, Status};
 use acq_sql_rows::{hold_end_value, status_value, texts};
 use iso_codec::Message;
 use sqlite::types::ValueRef;
@@ -49,15 +49,15 @@ pub fn answer_request<'x, S: Alter>(
     )
 }
 
-/// Gives the request with a key a status.
+/// Leaves of the request with a key what remains of it.
 pub fn follow_request<S: Alter>(
     tx: &mut Transaction<'_, S>,
     key: RequestKey,
-    status: Status,
+    remains: Remains,
 ) -> Result<usize, Error>
     ensures same_reference { tx.new.conn.ghost_name ≡ tx.old.conn.ghost_name }
     ensures writes { WritesInside (state S.Store tx.old.conn.now) (state S.Store tx.new.conn.now)
-        result (Changes (with_status key status)) }
+        result (Changes (with_remains key remains)) }
 {
     let merchant = key.merchant.to_bytes();
     let terminal = key.terminal.to_bytes();
@@ -72,7 +72,7 @@ pub fn follow_request<S: Alter>(
             ValueRef::Text(&kind),
             ValueRef::Text(&trace),
             ValueRef::Text(&stamp),
-            status_value(status),
+            status_value(remains.status),
         ],
     )
 }

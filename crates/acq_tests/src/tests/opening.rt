@@ -20,6 +20,11 @@ fn other_books_are_refused(rt: HostRuntime) -> Result<(), Fail> {
         Err(OpeningFault::OtherVersion(7))
     );
     conn.execute("UPDATE book SET version = 1", &[])?;
+    assert_eq!(rt;
+        check_book(&mut conn, rt.alloc()),
+        Err(OpeningFault::OtherVersion(1))
+    );
+    conn.execute("UPDATE book SET version = 2", &[])?;
     assert_eq!(rt; check_book(&mut conn, rt.alloc()), Ok(()));
     conn.execute("CREATE TABLE notes (note TEXT) STRICT", &[])?;
     assert_eq!(rt;

@@ -27,7 +27,7 @@ const OTHERS_SALE: ScriptEvent = ScriptEvent::Frame(
 );
 
 /// A file that passes so many calls on, and fails each one after.
-type StoppingFile = Fuse<Memory>;
+pub(super) type StoppingFile = Fuse<Memory>;
 
 /// A run over new files: what it left in them, and what the host said until it stopped.
 #[derive(Drop)]
@@ -48,7 +48,7 @@ struct Undisturbed {
 
 /// Which file stops.
 #[derive(Clone, Copy)]
-enum Stopping {
+pub(super) enum Stopping {
     Log,
     Database,
 }
@@ -63,35 +63,53 @@ enum Ended {
     Whole,
 }
 
-/// New files, of which one stops after so many calls.
-fn new_files(alloc: Global, stopping: Stopping, calls: u64) -> Files<StoppingFile> {
+/// Files of which one stops after so many calls.
+fn stopping_at(files: Files<Memory>, stopping: Stopping, calls: u64) -> Files<StoppingFile> {
     let (log_calls, database_calls) = match stopping {
         Stopping::Log => (calls, u64::MAX),
         Stopping::Database => (u64::MAX, calls),
     };
     Files {
-        log: Fuse::new(Memory::new(alloc), log_calls),
-        db: Fuse::new(Memory::new(alloc), database_calls),
+        log: Fuse::new(files.log, log_calls),
+        db: Fuse::new(files.db, database_calls),
     }
 }
 
-/// What was written to a file, in one that doesn't stop.
-fn copy_of(alloc: Global, file: &StoppingFile) -> Result<Memory, Fail> {
+/// New files, of which one stops after so many calls.
+fn new_files(alloc: Global, stopping: Stopping, calls: u64) -> Files<StoppingFile> {
+    let (log, db) = (Memory::new(alloc), Memory::new(alloc));
+    stopping_at(Files { log, db }, stopping, calls)
+}
+
+/// Copies of files, of which one stops after so many calls.
+pub(super) fn stopping_copies(
+    alloc: Global,
+    files: &Files<Memory>,
+    stopping: Stopping,
+    calls: u64,
+) -> Result<Files<StoppingFile>, Fail> {
+    let log = copy_of(alloc, files.log.bytes())?;
+    let db = copy_of(alloc, files.db.bytes())?;
+    Ok(stopping_at(Files { log, db }, stopping, calls))
+}
+
+/// A file of these bytes.
+fn copy_of(alloc: Global, bytes: &[u8]) -> Result<Memory, Fail> {
     let mut copy = Memory::new(alloc);
-    copy.write_at(0, file.inner().bytes())?;
+    copy.write_at(0, bytes)?;
     Ok(copy)
 }
 
 /// What was written to both files.
-fn copies_of(alloc: Global, files: &Files<StoppingFile>) -> Result<Files<Memory>, Fail> {
+pub(super) fn copies_of(alloc: Global, files: &Files<StoppingFile>) -> Result<Files<Memory>, Fail> {
     Ok(Files {
-        log: copy_of(alloc, &files.log)?,
-        db: copy_of(alloc, &files.db)?,
+        log: copy_of(alloc, files.log.inner().bytes())?,
+        db: copy_of(alloc, files.db.inner().bytes())?,
     })
 }
 
 /// Opens files with so short a log that both are written to, where no sync of them has failed.
-fn open<D: Disk + Drop>(alloc: Global, files: Files<D>) -> Option<Connection<FileStore<D>>>
+pub(super) fn open<D: Disk + Drop>(alloc: Global, files: Files<D>) -> Option<Connection<FileStore<D>>>
     ensures settled { IfSome result (λ connection. connection.in_transaction ≡ false) }
 {
     if !files.may_be_used() {
@@ -131,7 +149,7 @@ fn host_again<S: Alter + Drop>(alloc: Global, connection: Connection<S>) -> Opti
 }
 
 /// What a host says to events until it stops.
-fn said_by<B: Book + Drop>(host: &mut Host<B>, events: &[Event]) -> Vec<Output> {
+pub(super) fn said_by<B: Book + Drop>(host: &mut Host<B>, events: &[Event]) -> Vec<Output> {
     match host.run(events) {
         Ok(said) => said,
         Err(fault) => fault.outputs,
@@ -145,7 +163,7 @@ fn files_of<D: Disk + Drop>(host: Host<SqlBook<FileStore<D>>>) -> Files<D> {
 }
 
 /// Runs events over a new book in files, if it can be made there; and gives the files back.
-fn run_over<D: Disk + Drop>(
+pub(super) fn run_over<D: Disk + Drop>(
     alloc: Global,
     files: Files<D>,
     (limit, first_day): (Limit, Day),
@@ -162,7 +180,7 @@ fn run_over<D: Disk + Drop>(
 }
 
 /// Adds what was said to a text, a line each.
-fn add_lines(alloc: Global, said: &[Output], text: &mut String) -> Result<(), Fail> {
+pub(super) fn add_lines(alloc: Global, said: &[Output], text: &mut String) -> Result<(), Fail> {
     for output in said {
         text.push_str(text_of(alloc, output)?.as_str())?;
         text.push_str("\n")?;

@@ -2,8 +2,8 @@ use Rattle.std.proofs.Common.{◌≡◌, ◌∙◌, map, Some, [], codes, ap, sy
 use Rattle.std.proofs.lemmas.Result.{err_from_is_err_and}
 use Rattle.std.specs.Prelude.{Ok}
 use Rattle.clap.specs.Words.{App, HasKind, app_of, fault_of, found_of, is_simple_and_free, rows_of}
-use Rattle.acq_program.specs.Arguments.{AsksHolds, AsksInit, AsksListen, AsksOnce, AsksReplay}
-use Rattle.acq_program.specs.Arguments.{AsksReport, AsksShow}
+use Rattle.acq_program.specs.Arguments.{AsksHolds, AsksInit, AsksListen, AsksMigrate}
+use Rattle.acq_program.specs.Arguments.{AsksOnce, AsksReplay, AsksReport, AsksShow}
 use Rattle.acq_program.specs.declared.action.Action.TheVariants.{Show}
 use Rattle.acq_commands.specs.declared.input_form.InputForm.{InputForm}
 use Rattle.acq_commands.specs.declared.report_kind.ReportKind.TheVariants as kinds
@@ -131,10 +131,26 @@ returns-in-Some-listen-default g c =
     let it = c.in-Some-listen-default in
     let found = found_of it.options.now in
     reads_command (codes "listen") AsksListen
-    (λ command asked h. inr (inr (inr (inr (inr (inr (inr h))))))) words found
+    (λ command asked h. inr (inr (inr (inr (inr (inr (inr (inl h)))))))) words found
     (subst (λ (a : App). fault_of a words ≡ []) made
     (c.in_ok-matches.ensures.kinds (ap is_simple_and_free made ∙ is_simple_and_free-program)))
     (named c.in_ok-matches.matches (app_of c.in_ok-program.field-0) words (codes "listen")
     (rows_of found) made
     c.in_ok-matches.ensures.matches (ap Some (sym it.is-listen) ∙ it.ensures.name) it.ensures.rows)
     c.listen_of.result c.listen_of.ensures
+
+pub returns-in-Some-migrate-default : goal.returns-in-Some-migrate-default
+returns-in-Some-migrate-default g c =
+    let made = c.in_ok-program.ensures in
+    let words = map g.W.AsStr.text c.args.args.now in
+    let it = c.in-Some-migrate-default in
+    let found = found_of it.options.now in
+    reads_command (codes "migrate") AsksMigrate
+    (λ command asked h. inr (inr (inr (inr (inr (inr (inr (inr h)))))))) words found
+    (subst (λ (a : App). fault_of a words ≡ []) made
+    (c.in_ok-matches.ensures.kinds (ap is_simple_and_free made ∙ is_simple_and_free-program)))
+    (named c.in_ok-matches.matches (app_of c.in_ok-program.field-0) words (codes "migrate")
+    (rows_of found) made
+    c.in_ok-matches.ensures.matches (ap Some (sym it.is-migrate) ∙ it.ensures.name)
+    it.ensures.rows)
+    c.migrate_of.result c.migrate_of.ensures

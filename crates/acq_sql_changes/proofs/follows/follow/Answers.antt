@@ -1,7 +1,7 @@
 use Rattle.std.proofs.Common.{◌≡◌, None, refl, rules}
 use Rattle.acq_core.specs.Tables.{Tables, followed_row}
 use Rattle.acq_sql_rows.specs.Tallies.{request_tally}
-use Rattle.acq_sql_changes.specs.Written.{with_status, with_request}
+use Rattle.acq_sql_changes.specs.Written.{with_remains, with_request}
 use Rattle.acq_sql_changes.specs.Changed.{HasRoomFor, with_follow}
 use Rattle.acq_sql_changes.proofs.Commits.{began, wrote, makes_raised, commits}
 use Rattle.acq_sql_changes.proofs.ListTallies.{LeavesDay, changed_tally, comes_after}
@@ -14,16 +14,16 @@ returns g c =
     let same : c.commit.new.self.0 ≡ c.conn-2-1.given.0 = search rules in
     let r = c.args.request.now in
     let of = c.args.original in
-    let status = c.args.status in
-    let u = followed_row status in
+    let remains = c.args.remains in
+    let u = followed_row remains in
     let kept : LeavesDay u = λ row. (refl, refl, refl) in
-    let early : Tables → Tables = with_status of status in
+    let early : Tables → Tables = with_remains of remains in
     let begin = began g.S.Store c.args.conn.now _ c.transaction-tx.ensures.begun in
     let followed = wrote begin early c.in_ok-follow_request.ensures.writes in
     let added = wrote followed (with_request r) c.in_ok-add_request.ensures.writes in
     let whole = makes_raised added r.key.merchant r.day (request_tally r)
     (rw (c.used_by-used.ensures.value, c.zero-none.ensures.value) at c.in_ok-raise.ensures.writes)
-    (HasRoomFor r) (with_follow r of status None)
+    (HasRoomFor r) (with_follow r of remains None)
     (λ t _. comes_after t (early t) (with_request r (early t)) _ _ _ (changed_tally t of u kept)
     (tally_requested (early t) r))
     (λ t room short. request_short (early t) r (changed_short t of u kept short)

@@ -1,6 +1,6 @@
 use Rattle.std.proofs.Common.{◌≡◌, Some, refl, ap, rules}
 use Rattle.acq_core.specs.Tables.{Tables, followed_row}
-use Rattle.acq_sql_changes.specs.Written.{with_status, with_request, with_posting}
+use Rattle.acq_sql_changes.specs.Written.{with_remains, with_request, with_posting}
 use Rattle.acq_sql_changes.specs.Changed.{HasRoomToFollow, with_follow}
 use Rattle.acq_sql_changes.proofs.Commits.{began, wrote, makes_raised, commits, gives_up}
 use Rattle.acq_sql_changes.proofs.Commits.{within_still}
@@ -17,10 +17,10 @@ returns g c =
     let p = c.args.posting.now in
     let n = c.args.number in
     let of = c.args.original in
-    let status = c.args.status in
-    let u = followed_row status in
+    let remains = c.args.remains in
+    let u = followed_row remains in
     let kept : LeavesDay u = λ row. (refl, refl, refl) in
-    let early : Tables → Tables = with_status of status in
+    let early : Tables → Tables = with_remains of remains in
     let begin = began g.S.Store c.args.conn.now _ c.transaction-tx.ensures.begun in
     let followed = wrote begin early c.in_ok-follow_request.ensures.writes in
     let added = wrote followed (with_request r) c.in_ok-add_request.ensures.writes in
@@ -28,7 +28,7 @@ returns g c =
     let whole = makes_raised posted r.key.merchant r.day (request_and_posting_tally r p)
     (rw (c.used_by-used.ensures.value, c.totals_of_posting-posted.ensures)
     at c.in_ok-raise.ensures.writes)
-    (HasRoomToFollow r n p) (with_follow r of status (Some p))
+    (HasRoomToFollow r n p) (with_follow r of remains (Some p))
     (λ t room. comes_after t (early t) (with_posting n p (with_request r (early t))) _ _ _
     (changed_tally t of u kept)
     (tally_followed (early t) n r p room.2))

@@ -6,7 +6,7 @@ use Rattle.acq_book.proofs.list_book.ListBook.follow.Goals as goal
 
 pub push-requires-clause-new : goal.push-requires-clause-new
 push-requires-clause-new c =
-    let f = followed_row c.args.status in
+    let f = followed_row c.args.remains in
     let k = c.args.original.now in
     let rows = c.args.self.now.requests in
     let now : c.follow.new.self.rows ≡ with_changed k f rows =
@@ -20,4 +20,4 @@ push-requires-clause-new c =
     } in
     subst (λ l. IsNewRow l c.in_ok-request.request) (sym now)
     (subst (λ row. IsNewRow (with_changed k f rows) row) (sym c.in_ok-request.ensures)
-    (new_changed k f (edit_follow c.args.status) rows c.args.request.now new))
+    (new_changed k f (edit_follow c.args.remains) rows c.args.request.now new))

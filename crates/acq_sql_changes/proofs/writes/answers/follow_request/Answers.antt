@@ -4,7 +4,7 @@ use Rattle.acq_sql_changes.proofs.writes.answers.follow_request.Goals as goal
 pub returns-clause-writes : goal.returns-clause-writes
 returns-clause-writes g c =
     follow_inside _ _ c.execute.result c.execute.ensures.survives
-    c.args.key c.args.status
+    c.args.key c.args.remains
     (rw (
       c.to_bytes-merchant.ensures.value,
       c.to_bytes-terminal.ensures.value,

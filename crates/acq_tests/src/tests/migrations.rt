@@ -1,0 +1,180 @@
+//! A book of version 1, with ranges of six digits, is migrated: it goes on as one that always had
+//! eight, and a stop at any call leaves it whole, of version 1 or of version 2.
+
+ghost use Rattle.std.specs.Prelude.{◌≡◌, false};
+
+use super::output_text::text_of;
+use super::setup::{GREATEST_LIMIT, MAY_1, events_behind_setup};
+use super::stops::{
+    Stopping, StoppingFile, add_lines, copies_of, open, run_over, said_by, stopping_copies,
+};
+use super::two_days::{FIRST_DAY, SECOND_DAY};
+use acq_core::{Event, Limit, Output};
+use acq_host::Host;
+use acq_sql::{OpeningFault, SqlBook};
+use day_totals::Day;
+use sqlite::{Alter, Connection};
+use sqlite_disk::{Crash, Files, Memory};
+use sqlite_store::FileStore;
+use std::alloc::Global;
+use std::process::Abort;
+use std::test::Fail;
+
+/// How many events the book has taken when it is migrated: the setup, and a sale with its answer.
+const BEFORE: usize = 8;
+
+/// The events of two days, behind the setup.
+fn all_events(alloc: Global) -> Result<Vec<Event>, Fail> {
+    let mut events = events_behind_setup(alloc, &FIRST_DAY)?;
+    for script_event in SECOND_DAY.iter() {
+        events.push(script_event.event(alloc)?)?;
+    }
+    Ok(events)
+}
+
+/// What the host says to events over a new book, and the files that it leaves.
+fn run_new(alloc: Global, events: &[Event]) -> Result<(Files<Memory>, Vec<Output>), Fail> {
+    let limit = Limit::from_number(GREATEST_LIMIT).ok_or("a limit")?;
+    let day = Day::from_number(MAY_1).ok_or("a day")?;
+    let (log, db) = (Memory::new(alloc), Memory::new(alloc));
+    let ran = run_over(alloc, Files { log, db }, (limit, day), events);
+    Ok(ran.ok_or("a new book")?)
+}
+
+/// The files of a book that has taken events, as one of version 1: its ranges have the first six
+/// digits of theirs.
+fn old_book(alloc: Global, events: &[Event]) -> Result<Files<Memory>, Fail> {
+    let (files, _) = run_new(alloc, events)?;
+    let Some(mut connection) = open(alloc, files) else {
+        return Err(Fail::from("files that don't open"));
+    };
+    let narrowed = connection.execute("UPDATE ranges SET low = low / 100, high = high / 100", &[]);
+    let marked = connection.execute("UPDATE book SET version = 1", &[]);
+    let files = connection.into_store().close();
+    narrowed?;
+    marked?;
+    Ok(files)
+}
+
+/// A host over the book that a database holds, which is migrated before.
+fn migrated_host<S: Alter + Drop>(
+    alloc: Global,
+    connection: Connection<S>,
+) -> Option<Host<SqlBook<S>>>
+    requires settled { connection.in_transaction ≡ false }
+{
+    match SqlBook::migrate(alloc, connection) {
+        Ok(book) => Some(Host::new(alloc, book)),
+        Err(_) => None,
+    }
+}
+
+/// A host over what is left in files, if that is a whole book: of version 2, or of version 1, which
+/// is then migrated.
+fn host_over(
+    alloc: Global,
+    left: &Files<StoppingFile>,
+) -> Result<Option<Host<SqlBook<FileStore<Memory>>>>, Fail> {
+    let Some(connection) = open(alloc, copies_of(alloc, left)?) else {
+        return Ok(None);
+    };
+    match SqlBook::adopt(alloc, connection) {
+        Ok(book) => return Ok(Some(Host::new(alloc, book))),
+        Err(refusal) => {
+            if refusal.fault != OpeningFault::OtherVersion(1) {
+                return Ok(None);
+            }
+        }
+    }
+    match open(alloc, copies_of(alloc, left)?) {
+        Some(connection) => Ok(migrated_host(alloc, connection)),
+        None => Ok(None),
+    }
+}
+
+/// Whether a host over what is left in files says this to events.
+fn goes_on(
+    alloc: Global,
+    left: &Files<StoppingFile>,
+    events: &[Event],
+    wanted: &str,
+) -> Result<bool, Fail> {
+    let Some(mut host) = host_over(alloc, left)? else {
+        return Ok(false);
+    };
+    let said = said_by(&mut host, events);
+    drop(host);
+    let mut text = String::new(alloc);
+    add_lines(alloc, said.as_slice(), &mut text)?;
+    Ok(text.as_str() == wanted)
+}
+
+/// What is left of a book's files that stop at some call of its migration, and whether it was
+/// migrated; `None` where the files don't open.
+fn migrate_in(
+    alloc: Global,
+    files: Files<StoppingFile>,
+) -> Option<(Files<StoppingFile>, bool)> {
+    let Some(connection) = open(alloc, files) else {
+        return None;
+    };
+    match SqlBook::migrate(alloc, connection) {
+        Ok(book) => Some((book.release().into_store().close(), true)),
+        Err(refusal) => Some((refusal.connection.into_store().close(), false)),
+    }
+}
+
+/// Stops a file at each call of a migration in turn, until it needs no more of them. What was
+/// written, and what of it was synced, is each time a whole book that goes on.
+fn stop_in_turn(rt: &impl Abort, alloc: Global, stopping: Stopping) -> Result<(), Fail> {
+    let events = all_events(alloc)?;
+    let (before, later) = events.as_slice().split_at(BEFORE);
+    let (_, said) = run_new(alloc, events.as_slice())?;
+    let mut wanted = String::new(alloc);
+    add_lines(alloc, &said.as_slice()[BEFORE..], &mut wanted)?;
+    let old = old_book(alloc, before)?;
+    let mut stops: u64 = 0;
+    for calls in 0..200 {
+        let files = stopping_copies(alloc, &old, stopping, calls)?;
+        let Some((mut left, is_migrated)) = migrate_in(alloc, files) else {
+            continue;
+        };
+        assert!(rt; goes_on(alloc, &left, later, &wanted)?, "what was written, at {calls}");
+        left.log.crash();
+        left.db.crash();
+        assert!(rt; goes_on(alloc, &left, later, &wanted)?, "what was synced, at {calls}");
+        if is_migrated {
+            assert!(rt; stops >= 3, "{stops} stops");
+            return Ok(());
+        }
+        stops = stops.saturating_add(1);
+    }
+    Err(Fail::from("never migrated"))
+}
+
+#[test]
+fn a_migration_whose_log_stops(rt: HostRuntime) -> Result<(), Fail> {
+    stop_in_turn(&rt, rt.alloc(), Stopping::Log)
+}
+
+#[test]
+fn a_migration_whose_database_stops(rt: HostRuntime) -> Result<(), Fail> {
+    stop_in_turn(&rt, rt.alloc(), Stopping::Database)
+}
+
+/// A book is migrated once: the second time it is of version 2.
+#[test]
+fn a_book_is_migrated_once(rt: HostRuntime) -> Result<(), Fail> {
+    let files = old_book(rt.alloc(), &[])?;
+    let Some(connection) = open(rt.alloc(), files) else {
+        return Err(Fail::from("files that don't open"));
+    };
+    let Ok(book) = SqlBook::migrate(rt.alloc(), connection) else {
+        return Err(Fail::from("not migrated"));
+    };
+    let Err(refusal) = SqlBook::migrate(rt.alloc(), book.release()) else {
+        return Err(Fail::from("migrated twice"));
+    };
+    assert_eq!(rt; refusal.fault, OpeningFault::OtherVersion(2));
+    Ok(())
+}
