@@ -48,7 +48,7 @@ use Rattle.acq_history.proofs.PostingsOfChangedRows.{posted_unsold, leg_of, leg_
 use Rattle.acq_history.proofs.PostingsOfChangedRows.{reversal_leg_is, reversible, posted_leg_is}
 use Rattle.acq_history.proofs.PostingsOfChangedRows.{once_posted, none_posted, Grows-push}
 use Rattle.acq_history.proofs.PostingsOfChangedRows.{Grows-both, from_push, pushed, Grows-replaced}
-use Rattle.acq_history.proofs.PostingsOfChangedRows.{from_replaced}
+use Rattle.acq_history.proofs.PostingsOfChangedRows.{from_replaced, KeepsAmount}
 use Rattle.acq_history.proofs.Lookups.{some_is}
 use Rattle.acq_history.proofs.RowsWithChanges.{Edits, followed_kept, answered_kept}
 use Rattle.acq_history.proofs.StepCases.{by_step, IsRecording, IsCompletion, IsReversal}
@@ -154,7 +154,8 @@ record IsEdited (t : Tables) (row : Request) (changed : Request → Request) : T
   well_formed : IsWellFormed t.day t.merchants (edited t row changed)
   grows : ((n : ℕ) → posted row ≡ Some n → posted (changed row) ≡ Some n) →
       Grows t.requests (edited t row changed)
-  from : posted (changed row) ≡ posted row → FromBefore t.requests t.postings (edited t row changed)
+  from : posted (changed row) ≡ posted row → KeepsAmount row (changed row) →
+      FromBefore t.requests t.postings (edited t row changed)
 
 -- what changes could have been reversed
 edited_is : (t : Tables) (row : Request) (changed : Request → Request) → Edits changed →
@@ -166,7 +167,7 @@ edited_is t row changed edits i can_be s =
       replaced = r;
       well_formed = well_formed_changed row changed i edits can.not_completed s.well_formed;
       grows = λ same. Grows-replaced r (edits row) same can.not_reversed;
-      from = λ same. from_replaced s.match_rows i r (edits row) same;
+      from = λ same keeps. from_replaced s.match_rows i r (edits row) same keeps;
     }
 
 -- ---- a completion
@@ -271,7 +272,7 @@ sound_completed t r merchant hold g c s = record {
     from : FromBeforeOr t.postings (completion_posting t.day r (prior_of hold))
         (edited t hold (done hold) ++ completion_row t.day r (prior_of hold) ∷ [])
     from x k j f = elim (In-push x (edited t hold (done hold)) row j) [
-      | inl old ↦ inl (e.from same_posted x k old f)
+      | inl old ↦ inl (e.from same_posted (λ n under. refl) x k old f)
       | inr changed ↦
           let of : IsPostingOf posting row k =
           record {
@@ -339,7 +340,7 @@ sound_reversed t r merchant row g c s = record {
     from : FromBefore t.requests t.postings
         (edited t row (undone r row) ++ reversal_row t.day r (prior_of row) ∷ [])
     from = from_push (edited t row (undone r row)) after t.postings
-        (posted_reversing r.service after c.service) (e.from same_posted)
+        (posted_reversing r.service after c.service) (e.from same_posted (λ n under. refl))
 
     step : (o : Option Leg) →
         posted_leg (reply_state_of row.status row.reply) (leg_by row.key.service row) ≡ o →
@@ -431,7 +432,8 @@ module _ {a : Arrival} {moment : ℕ} {v : Verdict} (t : Tables) (row : Request)
       let e = answered_is st in
       record {
         well_formed = e.well_formed;
-        match_rows = unposted s.match_rows (e.grows (λ k f. same ∙ f)) (e.from same);
+        match_rows = unposted s.match_rows (e.grows (λ k f. same ∙ f))
+            (e.from same (λ n under. refl));
       }
 
   -- an approval of a sale or return

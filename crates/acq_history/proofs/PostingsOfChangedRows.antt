@@ -268,10 +268,10 @@ Grows-replaced {p = p} {q = q} r c same none = record {
     kept false n e = same n e
     kept true n e = clash (is_reversed p.status) (reversed_as p n e).0 none
 
--- a changed row has the same posting
+-- a changed row of the same amount has the same posting
 HasPosting-change : (ps : List (ℕ × Posting)) (p q : Request) (n : ℕ) → IsChange p q →
-    posted p ≡ Some n → HasPosting ps p n → HasPosting ps q n
-HasPosting-change ps p q n c under h = record {
+    q.amount ≡ p.amount → HasPosting ps p n → HasPosting ps q n
+HasPosting-change ps p q n c amount h = record {
   posting = h.posting;
   member = h.member;
   of =
@@ -279,20 +279,25 @@ HasPosting-change ps p q n c under h = record {
         merchant = h.of.merchant ∙ sym (ap (λ x. x.merchant) c.key);
         reference = h.of.reference;
         leg = h.of.leg ∙ sym c.leg;
-        amount = h.of.amount ∙ sym (c.amount n under);
+        amount = h.of.amount ∙ sym amount;
         card = h.of.card ∙ sym (ap or_empty c.card);
         day = h.of.day ∙ sym c.day;
       };
 }
 
+-- where a row has posted, the other has its amount
+abbrev pub KeepsAmount : Request → Request → Type 0
+KeepsAmount p q = (n : ℕ) → posted p ≡ Some n → q.amount ≡ p.amount
+
 -- nothing comes to be posted where a changed row has posted as before
 pub from_replaced : {rows later : List Request} {p q : Request} {ps : List (ℕ × Posting)} →
     PostingsMatchRows rows ps →
     In p rows → IsReplaced rows later p q → IsChange p q → posted q ≡ posted p →
-    FromBefore rows ps later
-from_replaced {p = p} {q = q} {ps = ps} b i r c same x n j e = elim (r.before x j) [
+    KeepsAmount p q → FromBefore rows ps later
+from_replaced {p = p} {q = q} {ps = ps} b i r c same keeps x n j e = elim (r.before x j) [
   | inl old ↦ b.there x n old.0 e
   | inr new ↦
       let under : posted p ≡ Some n = sym same ∙ (ap posted new ∙ e) in
-      subst (λ y. HasPosting ps y n) new (HasPosting-change ps p q n c under (b.there p n i under))
+      subst (λ y. HasPosting ps y n) new
+      (HasPosting-change ps p q n c (keeps n under) (b.there p n i under))
 ]

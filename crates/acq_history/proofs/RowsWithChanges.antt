@@ -1,5 +1,5 @@
 -- What a change of a request's row keeps, and rows in which the one with a key was changed.
-use Rattle.std.proofs.Common.{◌≡◌, ℕ, List, Option, Some, Bool, true, false, cond, refl, ap, subst}
+use Rattle.std.proofs.Common.{◌≡◌, ℕ, List, Option, Bool, true, false, cond, refl, ap, subst}
 use Rattle.std.proofs.Common.{◌∙◌}
 use Rattle.std.specs.Prelude.{All, map}
 use Rattle.std.proofs.lemmas.List.Elements.{All-map, All-weaker, All-contains}
@@ -14,7 +14,6 @@ use Rattle.std.specs.Str.{bytes_eq}
 use Rattle.acq_history.proofs.Lookups.{filter-map}
 use Rattle.acq_history.proofs.Members.{In, In-mapped, from_In}
 use Rattle.acq_history.proofs.Keys.{same_key_is, same_key_from}
-use Rattle.acq_history.proofs.PostingsOfRequests.{posted}
 
 -- ---- what a change keeps
 
@@ -30,8 +29,6 @@ pub record IsChange (p q : Request) : Type 0 where
   pub acquirer : q.acquirer ≡ p.acquirer
   pub hold_days : q.hold_days ≡ p.hold_days
   pub admitted : q.admitted ≡ p.admitted
-  -- of a row that has posted
-  pub amount : (n : ℕ) → posted p ≡ Some n → q.amount ≡ p.amount
 
 -- such a change of any row
 abbrev pub Edits : (Request → Request) → Type 0
@@ -49,7 +46,6 @@ followed_kept remains row = record {
   acquirer = refl;
   hold_days = refl;
   admitted = refl;
-  amount = λ n e. refl;
 }
 
 pub answered_kept : (status : Status) (reply : IsoMessage) (until : Option ℕ) →
@@ -65,7 +61,6 @@ answered_kept status reply until row = record {
   acquirer = refl;
   hold_days = refl;
   admitted = refl;
-  amount = λ n e. refl;
 }
 
 pub unchanged : (row : Request) → IsChange row row
@@ -80,7 +75,6 @@ unchanged row = record {
   acquirer = refl;
   hold_days = refl;
   admitted = refl;
-  amount = λ n e. refl;
 }
 
 -- ---- the row with a key

@@ -39,9 +39,9 @@ pub fn apply<S: Alter>(
         Change::Follow {
             request,
             original,
-            status,
+            remains,
             posting,
-        } => follow(conn, alloc, request, *original, *status, posting),
+        } => follow(conn, alloc, request, *original, *remains, posting),
         Change::Reconciled {
             request,
             reconciliation,

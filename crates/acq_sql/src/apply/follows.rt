@@ -7,31 +7,32 @@ ghost use Rattle.acq_sql.specs.Applied.{Applies};
 
 use crate::apply::numbers::number_of_posting;
 use crate::apply::request_columns::{check_hold_end, spelled};
-use acq_core::{Posting, Request, RequestKey, Status};
+use acq_core::{Posting, Remains, Request, RequestKey};
 use acq_sql_changes::follow_and_post;
 use sqlite::{Alter, Connection, Error};
 use std::alloc::Global;
 
-/// Records a request that follows the one with a key, and posts, if there is a posting.
+/// Records a request that follows the one with a key, of which this remains, and posts, if there is
+/// a posting.
 pub fn follow<'x, S: Alter>(
     conn: &mut Connection<S>,
     alloc: Global,
     request: &'x Request,
     original: RequestKey,
-    status: Status,
+    remains: Remains,
     posting: &'x Option<Posting>,
 ) -> Result<(), Error>
     requires settled { conn.old.in_transaction ≡ false }
     ensures { Applies (state S.Store conn.old) (state S.Store conn.new) result
-        (change.Follow request.now original status posting.now) }
+        (change.Follow request.now original remains posting.now) }
 {
     check_hold_end(request.hold_end)?;
     let reply = spelled(alloc, &request.reply)?;
     match posting {
         Some(posting) => {
             let number = number_of_posting(conn, posting)?;
-            follow_and_post(conn, request, &reply, original, status, number, posting)
+            follow_and_post(conn, request, &reply, original, remains, number, posting)
         }
-        None => acq_sql_changes::follow(conn, request, &reply, original, status),
+        None => acq_sql_changes::follow(conn, request, &reply, original, remains),
     }
 }
