@@ -194,7 +194,7 @@ pub record Reverses (ps : List (ℕ × Posting)) (p : Posting) : Type 0 where
   pub merchant : original.1.merchant ≡ p.merchant
   pub reference : original.1.reference ≡ p.reference
   pub leg : reversal_leg original.1.leg ≡ p.leg
-  pub amount : original.1.amount ≡ p.amount
+  pub amount : p.amount ≤ original.1.amount
   pub card : original.1.card ≡ p.card
   pub day : original.1.day ≤ p.day
 
