@@ -13,6 +13,7 @@ use Rattle.acq_core.specs.Tables as core
 use Rattle.acq_book.specs.Fits.{Fits}
 use Rattle.acq_book.specs.Promise.{MakesBy}
 use Rattle.acq_sql_rows.specs.ReadBack.{tables_in}
+use Rattle.acq_sql_rows.specs.Rows.{version}
 use Rattle.acq_sql_rows.proofs.TablesReadBack.{tables_of-holds}
 use Rattle.acq_sql_changes.specs.Changed.{IsAt, LeadsTo, LeavesTables}
 use Rattle.acq_sql.specs.Applied.{Applies, Suits}
@@ -46,7 +47,7 @@ module _ {S T : Type 0} (g : Ghosts S) (law : LeavesCommit g) (old new : Kept S)
 
   led : is_ok result ≡ true → HasCleanDisk after → is_open g old → IsAt after changed
   led is clean o =
-      let step : (r : Result T Error) → LeadsTo before after r (Suits change) after_change →
+      let step : (r : Result T Error) → LeadsTo version before after r (Suits change) after_change →
       is_ok r ≡ true → IsAt after changed =
       elim [
         | Ok x ↦ (λ did is. did clean (tables g old) o.at (suits o))
@@ -59,7 +60,7 @@ module _ {S T : Type 0} (g : Ghosts S) (law : LeavesCommit g) (old new : Kept S)
 
   left : is_ok result ≡ false → is_open g old → is_open g new → IsAt after (tables g old)
   left is o end =
-      let step : (r : Result T Error) → LeavesTables before after r → is_ok r ≡ false →
+      let step : (r : Result T Error) → LeavesTables version before after r → is_ok r ≡ false →
       IsAt after (tables g old) =
       elim [
         | Ok x ↦ (λ did is. absurd (true≢false is))

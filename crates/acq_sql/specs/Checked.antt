@@ -1,5 +1,5 @@
 -- What a check of a book says of its database.
-use Rattle.std.specs.Prelude.{◌≡◌, ◌≢◌, ◌⊎◌, ℕ, List, [], ◌∷◌, map, length, codes}
+use Rattle.std.specs.Prelude.{◌≡◌, ◌≢◌, ◌⊎◌, ℕ, List, [], ◌∷◌, map, length}
 use Rattle.std.specs.Prelude.{Option, Some, None, Result, Ok, Err}
 use Rattle.sqlite_value.specs.declared.value.Value.{Value}
 use Rattle.sqlite_value.specs.Order.{column}
@@ -9,7 +9,6 @@ use Rattle.sqlite.specs.Effect.{Database}
 use Rattle.row_lemmas.specs.Values.{number}
 use Rattle.row_lemmas.specs.Queries as query
 use Rattle.acq_sql_rows.specs.Schema.{book_schema}
-use Rattle.acq_sql_rows.specs.Rows.{version}
 use Rattle.acq_sql.specs.declared.opening.checking.TheConstants.{VERSION_OF_BOOK}
 use Rattle.acq_sql.specs.declared.opening.opening_fault.OpeningFault.{OpeningFault}
 use Rattle.acq_sql.specs.declared.opening.opening_fault.OpeningFault.TheVariants.{Memory, Store}
@@ -35,15 +34,15 @@ HasVersion trees (Some n) = versions_in trees ≡ number n ∷ []
 
 -- ---- the answer
 
--- what each answer says
-abbrev pub Judges : {T : Type 0} → Database → Result T OpeningFault → Type 0
-Judges db (Ok x) = (db.schema ≡ book_schema) × HasVersion db.trees (Some version)
-Judges db (Err NotABook) =
+-- what each answer says, where a book of this version is wanted
+abbrev pub Judges : {T : Type 0} → ℕ → Database → Result T OpeningFault → Type 0
+Judges wanted db (Ok x) = (db.schema ≡ book_schema) × HasVersion db.trees (Some wanted)
+Judges wanted db (Err NotABook) =
     (db.schema ≢ book_schema) ⊎ ((db.schema ≡ book_schema) × HasVersion db.trees None)
-Judges db (Err (OtherVersion n)) =
-    (db.schema ≡ book_schema) × HasVersion db.trees (Some n) × (n ≢ version)
-Judges db (Err Memory) = Unit {0}
-Judges db (Err Store) = Unit {0}
+Judges wanted db (Err (OtherVersion n)) =
+    (db.schema ≡ book_schema) × HasVersion db.trees (Some n) × (n ≢ wanted)
+Judges wanted db (Err Memory) = Unit {0}
+Judges wanted db (Err Store) = Unit {0}
 
 -- a failure of the memory or the store
 abbrev pub IsFailure : OpeningFault → Type 0

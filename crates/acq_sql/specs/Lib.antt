@@ -5,3 +5,4 @@ pub mod Faults
 pub mod Made
 pub mod Plain
 pub mod Checked
+pub mod Migrated

@@ -6,14 +6,18 @@ ghost use Rattle.sqlite.specs.Held.{state};
 ghost use Rattle.sqlite.specs.State.{HasCleanDisk, Survives};
 ghost use Rattle.acq_core.specs.Pasts.{HasPast};
 ghost use Rattle.acq_core.specs.Tables.{Tables, new_tables};
+ghost use Rattle.acq_core.specs.Widening.{widened_tables};
+ghost use Rattle.acq_sql_rows.specs.Rows.{version, version_of_six_digits};
 ghost use Rattle.acq_sql_rows.specs.Schema.{no_schema};
-ghost use Rattle.acq_sql_changes.specs.Changed.{HoldsAfter, IsAt};
+ghost use Rattle.acq_sql_changes.specs.Changed.{HoldsAfter, IsAt, IsAtOf};
+ghost use Rattle.acq_sql_reads.specs.Looked.{LooksOnly};
 ghost use Rattle.acq_sql.specs.Checked.{IsFailure, Judges};
 ghost use Rattle.acq_sql.specs.declared.opening.opening_fault.OpeningFault.TheVariants.{NotABook};
+ghost use Rattle.acq_sql.specs.Migrated.{IsOfSixDigits};
 ghost use Rattle.acq_sql.specs.Opened.{IsOpenAt};
 
 use crate::answers::counted;
-use crate::opening::{check_book, make_book};
+use crate::opening::{check_book, make_book, migrate_book};
 use crate::refusal::Refusal;
 use acq_book::{Book, BookFault, Visit};
 use acq_core::{
@@ -21,6 +25,8 @@ use acq_core::{
     Request, RequestKey, TerminalId, UsedCount,
 };
 use acq_history::every_opening;
+use acq_history::widening_laws::pasts_are_widened;
+use acq_sql_rows::tables::VERSION;
 use card_no::{Prefix, Range};
 use day_totals::{Day, Totals};
 use sqlite::{Alter, Connection};
@@ -96,16 +102,62 @@ impl<S: Alter> SqlBook<S> {
             → IsAt (state S.Store connection) t → IsFailure refusal.fault) }
         // It is taken only where it has the tables and the row of a book of this version.
         ensures taken { IfOk result (λ book. HasCleanDisk (state S.Store book.connection)
-            → Judges {T = Unit {0}} (state S.Store connection).now (Ok tt)) }
+            → Judges {T = Unit {0}} version (state S.Store connection).now (Ok tt)) }
         ensures told { IfErr result (λ refusal. HasCleanDisk (state S.Store refusal.connection)
-            → Judges {T = Unit {0}} (state S.Store connection).now (Err refusal.fault)) }
+            → Judges {T = Unit {0}} version (state S.Store connection).now (Err refusal.fault)) }
         // A stop leaves what it might before.
         ensures stop { IfOk result (λ book.
             Survives (state S.Store connection) (state S.Store book.connection) (λ _. ⊥)) }
         ensures refused_stop { IfErr result (λ refusal.
             Survives (state S.Store connection) (state S.Store refusal.connection) (λ _. ⊥)) }
     {
-        match check_book(&mut connection, alloc) {
+        match check_book(&mut connection, alloc, VERSION) {
+            Ok(()) => Ok(SqlBook {
+                alloc,
+                connection,
+                failures: 0,
+            }),
+            Err(fault) => Err(Refusal { fault, connection }),
+        }
+    }
+
+    /// Makes the book of version 1 that a database holds, whose ranges are of six digits, one of
+    /// version 2 with its ranges widened, of a connection outside a transaction.
+    pub fn migrate(alloc: Global, mut connection: Connection<S>) -> Result<SqlBook<S>, Refusal<S>>
+        requires settled { connection.in_transaction ≡ false }
+        ensures done { IfOk result (λ book. HasCleanDisk (state S.Store book.connection)
+            → (t : Tables) → IsOfSixDigits (state S.Store connection) t
+            → IsOpenAt (state S.Store book.connection) (widened_tables t)) }
+        ensures accepts { IfErr result (λ refusal.
+            HasCleanDisk (state S.Store refusal.connection) → (t : Tables)
+            → IsAtOf version_of_six_digits (state S.Store connection) t
+            → IsFailure refusal.fault) }
+        ensures undone { IfErr result (λ refusal.
+            HasCleanDisk (state S.Store refusal.connection)
+            → IsTrue (state S.Store refusal.connection).is_open → (t : Tables)
+            → IsAtOf version_of_six_digits (state S.Store connection) t
+            → IsAtOf version_of_six_digits (state S.Store refusal.connection) t) }
+        // A database that is no book of version 1 is only looked at.
+        ensures unchanged { IfErr result (λ refusal. ¬ IsFailure refusal.fault
+            → LooksOnly (state S.Store connection) (state S.Store refusal.connection) false) }
+        ensures taken { IfOk result (λ book. HasCleanDisk (state S.Store book.connection)
+            → Judges {T = Unit {0}} version_of_six_digits (state S.Store connection).now
+            (Ok tt)) }
+        ensures told { IfErr result (λ refusal. HasCleanDisk (state S.Store refusal.connection)
+            → Judges {T = Unit {0}} version_of_six_digits (state S.Store connection).now
+            (Err refusal.fault)) }
+        // A stop leaves what it might before, or the whole book of version 2.
+        ensures stop { IfOk result (λ book.
+            Survives (state S.Store connection) (state S.Store book.connection)
+            (λ trees. (t : Tables) → IsOfSixDigits (state S.Store connection) t
+            → HoldsAfter (widened_tables t) trees)) }
+        ensures refused_stop { IfErr result (λ refusal.
+            Survives (state S.Store connection) (state S.Store refusal.connection)
+            (λ trees. (t : Tables) → IsOfSixDigits (state S.Store connection) t
+            → HoldsAfter (widened_tables t) trees)) }
+    {
+        pasts_are_widened();
+        match migrate_book(&mut connection, alloc) {
             Ok(()) => Ok(SqlBook {
                 alloc,
                 connection,

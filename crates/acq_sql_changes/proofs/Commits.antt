@@ -16,10 +16,11 @@ use Rattle.sqlite.proofs.StateLemmas.{survives_then}
 use Rattle.sqlite.proofs.Callers.{survives_begin}
 use Rattle.acq_core.specs.Tables.{Tables}
 use Rattle.acq_sql_rows.specs.Tallies.{Tally, Running, Tallies, FitsTally, plus, tally_in, raised}
-use Rattle.acq_sql_rows.specs.Relation.{Holds, HoldsRows}
+use Rattle.acq_sql_rows.specs.Rows.{version}
+use Rattle.acq_sql_rows.specs.Relation.{HoldsOf, Holds, HoldsRows}
 use Rattle.acq_sql_changes.specs.Written.{WritesInside, Changes, Raises}
 use Rattle.acq_sql_changes.proofs.writes.RunningTotals.{is_key, tally_raised, number_itself}
-use Rattle.acq_sql_changes.specs.Changed.{IsAt, HoldsAfter, AnyTables, ChangesWhole}
+use Rattle.acq_sql_changes.specs.Changed.{IsAt, IsAtOf, HoldsAfter, AnyTables, ChangesWholeOf}
 use Rattle.acq_sql_changes.proofs.ListTallies.{LeavesTallies, ComesToMore, more_tallied}
 use Rattle.acq_sql_changes.proofs.Room.{HasShortDays}
 
@@ -32,6 +33,7 @@ was_clean a b up late = omega (arith, up, late)
 -- a transaction that began here is open, with nothing committed, and a stop leaves nothing of it
 pub record IsWithin (old now : State) : Type 0 where
   pub inside : HasCleanDisk now → IsTrue now.in_transaction
+  pub is_open : HasCleanDisk now → IsTrue old.is_open → IsTrue now.is_open
   pub kept : HasCleanDisk now → KeepsCommit old now
   pub stop : Survives old now (λ _. ⊥)
 
@@ -53,23 +55,31 @@ survives_itself s =
       crash = λ clean db h. inl h;
     }
 
-pub began : {S : Type 0} (g : store.Ghosts S) (old begin : Held S) →
-    begin ≡ record old { in_transaction = true }
-    → Wrote (state g old) (state g begin) (λ t. t)
-began g old begin is =
-    rw is (record {
-      within = record {
+module _ {S : Type 0} (g : store.Ghosts S) (old begin : Held S)
+    (is : begin ≡ record old { in_transaction = true }) where
+  pub begins : IsWithin (state g old) (state g begin)
+  begins =
+      rw is (record {
         inside = λ clean. refl;
+        is_open = λ clean h. h;
         kept = λ clean. record { was_open = λ h. h; committed = λ _. refl };
         stop = survives_begin g old (state g (record old { in_transaction = true })) (λ _. ⊥)
             (survives_itself (state g (record old { in_transaction = true })));
-      };
-      rows = λ clean t runs rows. rows;
-    })
+      })
+
+  pub same_rows : (state g begin).now ≡ (state g old).now
+  same_rows = rw is refl
+
+  pub began : Wrote (state g old) (state g begin) (λ t. t)
+  began =
+      record {
+        within = begins;
+        rows = λ clean t runs rows. subst (λ d. HoldsRows d t runs) (sym same_rows) rows;
+      }
 
 module _ (old mid new : State) (so_far : IsWithin old mid) {T : Type 0} (result : Result T Error)
     (Leads : Database → Database → Type 0) (write : WritesInside mid new result Leads) where
-  clean_before : HasCleanDisk new → HasCleanDisk mid
+  pub clean_before : HasCleanDisk new → HasCleanDisk mid
   clean_before clean = was_clean _ _ write.stop.clean clean
 
   kept_still : HasCleanDisk new → KeepsCommit old new
@@ -91,9 +101,11 @@ module _ {old mid new : State} {count : ℕ} {Leads : Database → Database → 
   -- one that succeeded leaves it open
   pub within_still : IsWithin old mid → WritesInside mid new (Ok count) Leads → IsWithin old new
   within_still so_far write =
+      let shows = λ (clean : HasCleanDisk new). write.inside clean
+      (so_far.inside (clean_before _ _ _ so_far _ _ write clean)) in
       record {
-        inside = λ clean. (write.inside clean
-            (so_far.inside (clean_before _ _ _ so_far _ _ write clean))).mode;
+        inside = λ clean. (shows clean).mode;
+        is_open = λ clean h. (shows clean).is_open;
         kept = kept_still _ _ _ so_far _ _ write;
         stop = stop_still _ _ _ so_far _ _ write;
       }
@@ -130,12 +142,16 @@ has_room t runs merchant day more tallied short =
 
 -- ---- the whole change
 
--- a transaction that began here has made the whole change of the tables of which this is so
-pub record Makes (old last : State) (fits : Tables → Type 0) (changed : Tables →
-    Tables) : Type 0 where
+-- a transaction that began here, over a book of that version, has made the whole change of the
+-- tables of which this is so
+pub record MakesOf (earlier : ℕ) (old last : State) (fits : Tables → Type 0)
+    (changed : Tables → Tables) : Type 0 where
   pub within : IsWithin old last
-  pub holds : HasCleanDisk last → (t : Tables) → Holds old.now t → fits t →
+  pub holds : HasCleanDisk last → (t : Tables) → HoldsOf earlier old.now t → fits t →
       Holds last.now (changed t)
+
+abbrev pub Makes : State → State → (Tables → Type 0) → (Tables → Tables) → Type 0
+Makes = MakesOf version
 
 -- where no day comes to anything else
 pub makes : {old last : State} {changed : Tables → Tables} → Wrote old last changed
@@ -218,22 +234,23 @@ left_holds db trees t h is =
     })
 
 -- what a transaction wrote is gone where it was rolled back
-at_undone : (old last end : State) (t : Tables) → IsTrue end.is_open
+at_undone : {earlier : ℕ} (old last end : State) (t : Tables) → IsTrue end.is_open
     → (HasCleanDisk last → KeepsCommit old last) → HasCleanDisk last → IsRolledBack last end
-    → IsAt old t → IsAt end t
-at_undone old last end t opened keeps clean back at =
+    → IsAtOf earlier old t → IsAtOf earlier end t
+at_undone {earlier} old last end t opened keeps clean back at =
     let gone = back.undone opened in
     let kept = (keeps clean).committed (back.was_open opened) in
     record {
       is_open = opened;
       settled = back.autocommit;
       same = gone.0 ∙ sym gone.1;
-      holds = subst (λ d. Holds d t) (sym (gone.0 ∙ kept ∙ sym at.same)) at.holds;
+      holds = subst (λ d. HoldsOf earlier d t) (sym (gone.0 ∙ kept ∙ sym at.same)) at.holds;
     }
 
 -- a transaction that its failed commit ended was rolled back
-at_failure : (old last end : State) (t : Tables) (e : Error) → IsTrue end.is_open
-    → IsWithin old last → HasCleanDisk last → FailsToCommit last end e → IsAt old t → IsAt end t
+at_failure : {earlier : ℕ} (old last end : State) (t : Tables) (e : Error) → IsTrue end.is_open
+    → IsWithin old last → HasCleanDisk last → FailsToCommit last end e
+    → IsAtOf earlier old t → IsAtOf earlier end t
 at_failure old last end t e opened within clean (inl fails) at =
     at_undone old last end t opened within.kept clean fails.3 at
 at_failure old last end t e opened within clean (inr late) at =
@@ -259,17 +276,18 @@ Dropped g last end =
       survives : Survives last (state g end) (λ _. ⊥);
     }
 
-module _ {S : Type 0} (g : store.Ghosts S) {old last : State} {end after : Held S}
+module _ {S : Type 0} (g : store.Ghosts S) {earlier : ℕ} {old last : State} {end after : Held S}
     {fits : Tables → Type 0} {changed : Tables → Tables} {T : Type 0} where
   -- a commit makes the whole change, or rolls it back
-  pub commits : Makes old last fits changed → end ≡ after → (result : Result T Error)
-      → Committed g last end result → ChangesWhole old (state g after) result fits changed
+  pub commits : MakesOf earlier old last fits changed → end ≡ after → (result : Result T Error)
+      → Committed g last end result
+      → ChangesWholeOf earlier old (state g after) result fits changed
   commits made same result commit =
       let end_state = state g end in
       let was = was_clean _ _ commit.survives.clean in
-      let P : Trees → Type 0 = λ trees. (t : Tables) → IsAt old t → fits t →
-      HoldsAfter (changed t) trees in
-      subst (λ x. ChangesWhole old (state g x) result fits changed) same (record {
+      let P : Trees → Type 0 = λ trees. (t : Tables) → IsAtOf earlier old t → fits t
+      → HoldsAfter (changed t) trees in
+      subst (λ x. ChangesWholeOf earlier old (state g x) result fits changed) same (record {
         settled = commit.ended;
         done = λ clean t at fit. IfOk-weaker result _ _
             (λ _ shown. at_commit last end_state (changed t) (made.holds (was clean) t at.holds fit)
@@ -289,15 +307,16 @@ module _ {S : Type 0} (g : store.Ghosts S) {old last : State} {end after : Held 
       {Leads : Database → Database → Type 0} → IsWithin old mid
       → WritesInside mid last written Leads → end ≡ after → Dropped g last end
       → (result : Result T Error) → IsErr result
-      → ChangesWhole old (state g after) result fits changed
+      → ChangesWholeOf earlier old (state g after) result fits changed
   gives_up so_far write same dropped (Ok x) is =
       absurd (cc)
   gives_up so_far write same dropped (Err e) is =
       let end_state = state g end in
       let was = was_clean _ _ dropped.survives.clean in
-      let P : Trees → Type 0 = λ trees. (t : Tables) → IsAt old t → fits t →
-      HoldsAfter (changed t) trees in
-      subst (λ x. ChangesWhole {T = T} old (state g x) (Err e) fits changed) same (record {
+      let P : Trees → Type 0 = λ trees. (t : Tables) → IsAtOf earlier old t → fits t
+      → HoldsAfter (changed t) trees in
+      subst (λ x. ChangesWholeOf earlier {T = T} old (state g x) (Err e) fits changed) same
+      (record {
         settled = dropped.ended;
         done = λ clean t at fit. tt;
         undone = λ clean opened t at. at_undone old last end_state t opened

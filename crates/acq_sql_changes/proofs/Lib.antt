@@ -1,3 +1,4 @@
 pub mod ListTallies
 pub mod Room
 pub mod Commits
+pub mod Widenings

@@ -1,6 +1,11 @@
 pub mod TableTurns
 pub mod ListWrites
 pub mod RangeWrites
+pub mod MovedTables
+pub mod RangeMoves
+pub mod VersionMoves
+pub mod Moves
+pub mod Refusals
 pub mod Inside
 pub mod Bound
 pub mod RunningTotals

@@ -16,42 +16,61 @@ use Rattle.acq_core.specs.Tables.{Tables, after, postings_before, reconciliation
 use Rattle.acq_book.specs.Lookups.{used_at}
 use Rattle.acq_book.specs.Fits.{HasRoom, IsPostedBy}
 use Rattle.acq_sql_rows.specs.Schema.{book_schema}
-use Rattle.acq_sql_rows.specs.Relation.{Holds}
+use Rattle.acq_sql_rows.specs.Rows.{version}
+use Rattle.acq_sql_rows.specs.Relation.{HoldsOf}
 
 -- the connection is open and stands between two transactions, and its database holds these tables
-pub record IsAt (s : State) (t : Tables) : Type 0 where
+-- in a book of this version
+pub record IsAtOf (version : ℕ) (s : State) (t : Tables) : Type 0 where
   pub is_open : IsTrue s.is_open
   pub settled : s.in_transaction ≡ false
   pub same : s.now ≡ s.committed
-  pub holds : Holds s.now t
+  pub holds : HoldsOf version s.now t
 
--- what a stop left holds these tables
+-- what a stop left holds these tables in a book of this version
+abbrev pub HoldsAfterOf : ℕ → Tables → Trees → Type 0
+HoldsAfterOf version t trees = HoldsOf version (record { schema = book_schema; trees = trees }) t
+
+-- the same of the version in force
+abbrev pub IsAt : State → Tables → Type 0
+IsAt = IsAtOf version
+
 abbrev pub HoldsAfter : Tables → Trees → Type 0
-HoldsAfter t trees = Holds (record { schema = book_schema; trees = trees }) t
+HoldsAfter = HoldsAfterOf version
 
--- of tables of which this is so, a change that succeeded leads to these
-abbrev pub LeadsTo : {T : Type 0} →
+-- of tables of which this is so, in a book of that version, a change that succeeded leads to these
+-- in one of the version in force
+abbrev pub LeadsTo : ℕ → {T : Type 0} →
     State → State → Result T Error → (Tables → Type 0) → (Tables → Tables) → Type 0
-LeadsTo old new result fits changed =
-    HasCleanDisk new → (t : Tables) → IsAt old t → fits t → OnOk result (IsAt new (changed t))
+LeadsTo earlier old new result fits changed =
+    HasCleanDisk new → (t : Tables) → IsAtOf earlier old t → fits t
+    → OnOk result (IsAt new (changed t))
 
--- a change that failed leaves the tables as they were
-abbrev pub LeavesTables : {T : Type 0} → State → State → Result T Error → Type 0
-LeavesTables old new result =
-    HasCleanDisk new → IsTrue new.is_open → (t : Tables) → IsAt old t → OnErr result (IsAt new t)
+-- a change that failed leaves the book as it was
+abbrev pub LeavesTables : ℕ → {T : Type 0} → State → State → Result T Error → Type 0
+LeavesTables earlier old new result =
+    HasCleanDisk new → IsTrue new.is_open → (t : Tables) → IsAtOf earlier old t
+    → OnErr result (IsAtOf earlier new t)
 
 -- of such tables, a stop leaves what it might before, or the tables with the whole change
-abbrev pub StopsWithin : State → State → (Tables → Type 0) → (Tables → Tables) → Type 0
-StopsWithin old new fits changed =
-    Survives old new (λ trees. (t : Tables) → IsAt old t → fits t → HoldsAfter (changed t) trees)
+abbrev pub StopsWithin : ℕ → State → State → (Tables → Type 0) → (Tables → Tables) → Type 0
+StopsWithin earlier old new fits changed =
+    Survives old new (λ trees. (t : Tables) → IsAtOf earlier old t → fits t
+    → HoldsAfter (changed t) trees)
 
--- A change in one transaction is made whole or not at all, of tables of which this is so.
-pub record ChangesWhole {T : Type 0} (old new : State) (result : Result T Error)
+-- A change in one transaction is made whole or not at all, of tables of which this is so, in a book
+-- of that version. The whole one leaves a book of the version in force.
+pub record ChangesWholeOf (earlier : ℕ) {T : Type 0} (old new : State) (result : Result T Error)
     (fits : Tables → Type 0) (changed : Tables → Tables) : Type 0 where
   pub settled : new.in_transaction ≡ false
-  pub done : LeadsTo old new result fits changed
-  pub undone : LeavesTables old new result
-  pub stop : StopsWithin old new fits changed
+  pub done : LeadsTo earlier old new result fits changed
+  pub undone : LeavesTables earlier old new result
+  pub stop : StopsWithin earlier old new fits changed
+
+-- the same of a book of the version in force
+abbrev pub ChangesWhole : {T : Type 0} →
+    State → State → Result T Error → (Tables → Type 0) → (Tables → Tables) → Type 0
+ChangesWhole = ChangesWholeOf version
 
 -- so of any tables
 abbrev pub AnyTables : Tables → Type 0

@@ -15,6 +15,7 @@ mod ranges;
 mod reconciliations;
 mod requests;
 mod tallies;
+mod widening;
 pub mod writes;
 
 pub use answers::answer;
@@ -26,3 +27,4 @@ pub use posted_answers::answer_and_post;
 pub use ranges::{add_range, drop_range};
 pub use reconciliations::reconcile;
 pub use requests::record_request;
+pub use widening::widen_book;

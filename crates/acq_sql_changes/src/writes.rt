@@ -11,6 +11,7 @@ mod postings;
 mod ranges;
 mod requests;
 mod running;
+mod widening;
 
 pub use answers::{answer_request, follow_request};
 pub use book_row::add_book;
@@ -20,3 +21,4 @@ pub use postings::add_posting;
 pub use ranges::{add_range, drop_range};
 pub use requests::add_request;
 pub use running::raise;
+pub use widening::{set_version, turn_ranges, widen_ranges};

@@ -16,33 +16,35 @@ use Rattle.sqlite.proofs.Callers.{IsPlain, never_commits, unchanged_then}
 use Rattle.row_lemmas.specs.Selects.{IsSelect}
 use Rattle.row_lemmas.proofs.BareQueries.{understood_bare, IsBareIfAny}
 use Rattle.acq_core.specs.Tables.{Tables}
-use Rattle.acq_sql_rows.specs.Relation.{Holds}
-use Rattle.acq_sql_changes.specs.Changed.{IsAt}
+use Rattle.acq_sql_rows.specs.Relation.{HoldsOf, Holds}
+use Rattle.acq_sql_changes.specs.Changed.{IsAtOf}
 use Rattle.acq_sql_reads.specs.Looked.{LooksOnly}
 
-pub at_unchanged : (old new : State) (t : Tables) → IsUnchanged old new → IsAt old t → IsAt new t
-at_unchanged old new t h at =
+pub at_unchanged : {number : ℕ} (old new : State) (t : Tables) → IsUnchanged old new
+    → IsAtOf number old t → IsAtOf number new t
+at_unchanged {number} old new t h at =
     record {
       is_open = h.0.is_open;
       settled = h.0.mode ∙ at.settled;
       same = h.0.now_is ∙ at.same ∙ sym h.0.committed_is;
-      holds = subst (λ d. Holds d t) (sym h.0.now_is) at.holds;
+      holds = subst (λ d. HoldsOf number d t) (sym h.0.now_is) at.holds;
     }
 
-pub at_undone : (old new : State) (t : Tables) → IsTrue new.is_open → IsRolledBack old new →
-    IsAt old t → IsAt new t
-at_undone old new t opened h at =
+pub at_undone : {number : ℕ} (old new : State) (t : Tables) → IsTrue new.is_open
+    → IsRolledBack old new → IsAtOf number old t → IsAtOf number new t
+at_undone {number} old new t opened h at =
     let back = h.undone opened in
     record {
       is_open = opened;
       settled = h.autocommit;
       same = back.0 ∙ sym back.1;
-      holds = subst (λ d. Holds d t) (sym (back.0 ∙ sym at.same)) at.holds;
+      holds = subst (λ d. HoldsOf number d t) (sym (back.0 ∙ sym at.same)) at.holds;
     }
 
 -- the tables stay as they were where the store is still open
-pub kept : (old new : State) (succeeded : Bool) → LooksOnly old new succeeded → HasCleanDisk new
-    → IsTrue new.is_open → (t : Tables) → IsAt old t → IsAt new t
+pub kept : {number : ℕ} (old new : State) (succeeded : Bool) → LooksOnly old new succeeded
+    → HasCleanDisk new → IsTrue new.is_open → (t : Tables)
+    → IsAtOf number old t → IsAtOf number new t
 kept old new succeeded looks clean opened t at =
     ⊎_elim (λ same. at_unchanged old new t same at) (λ undone. at_undone old new t opened undone at)
     (looks.undone clean opened)

@@ -1,5 +1,5 @@
 -- What the texts of the writes mean, computed.
-use Rattle.std.proofs.Common.{◌≡◌, List, ℕ, refl, [], ◌∷◌}
+use Rattle.std.proofs.Common.{◌≡◌, List, ℕ, refl, [], ◌∷◌, length}
 use Rattle.sqlite_schema.specs.declared.command.Command.{Command}
 use Rattle.sqlite_schema.specs.declared.command.Command.TheVariants.{Insert, InsertOr, Update}
 use Rattle.sqlite_schema.specs.declared.command.Command.TheVariants.{Delete}
@@ -9,16 +9,23 @@ use Rattle.sqlite_tied.specs.Compute.{everything}
 use Rattle.sqlite.specs.Listing.{understood}
 use Rattle.sqlite.proofs.Callers.{IsPlain, command_of}
 use Rattle.row_lemmas.specs.Queries.{alone}
+use Rattle.row_lemmas.proofs.StatementFailures.{tail_of, names_of}
 use Rattle.acq_sql_rows.specs.Schema.{book_schema}
 use Rattle.acq_sql_rows.specs.Schema as schema
 use Rattle.acq_sql_rows.specs.Texts as text
 use Rattle.acq_sql_rows.specs.Queries.{new_row, new_range, set_day_query, drop_range_query}
+use Rattle.acq_sql_rows.specs.Queries.{widen_ranges_query, turn_ranges_query, set_version_query}
 use Rattle.acq_sql_rows.specs.Queries.{answer_query, follow_query, raises}
 
 -- the text is one statement, with this command
 abbrev pub Means : List ℕ → Command → Type 0
 Means text command =
     (command_of (understood book_schema text) ≡ command) × IsPlain (understood book_schema text)
+
+-- the text is nothing else, and it has no parameter
+pub record IsAlone (text : List ℕ) : Type 0 where
+  pub whole : tail_of (understood book_schema text) ≡ length text
+  pub given : names_of (understood book_schema text) ≡ 0
 
 pub add_book_means : Means text.add_book_text (Insert 0 (Values (new_row 3) 4))
 unfolding understood everything book_schema schema.up_to_reconciliations schema.up_to_postings
@@ -55,6 +62,42 @@ unfolding understood everything book_schema schema.up_to_reconciliations schema.
     schema.up_to_requests schema.up_to_ranges schema.up_to_terminals schema.up_to_merchants
     schema.up_to_book
 drop_range_means = (refl, (refl, refl))
+
+pub widen_ranges_means : Means text.widen_ranges_text (Update 3 (alone widen_ranges_query))
+unfolding understood everything book_schema schema.up_to_reconciliations schema.up_to_postings
+    schema.up_to_requests schema.up_to_ranges schema.up_to_terminals schema.up_to_merchants
+    schema.up_to_book
+widen_ranges_means = (refl, (refl, refl))
+
+pub widen_ranges_alone : IsAlone text.widen_ranges_text
+unfolding understood everything book_schema schema.up_to_reconciliations schema.up_to_postings
+    schema.up_to_requests schema.up_to_ranges schema.up_to_terminals schema.up_to_merchants
+    schema.up_to_book
+widen_ranges_alone = record { whole = refl; given = refl }
+
+pub turn_ranges_means : Means text.turn_ranges_text (Update 3 (alone turn_ranges_query))
+unfolding understood everything book_schema schema.up_to_reconciliations schema.up_to_postings
+    schema.up_to_requests schema.up_to_ranges schema.up_to_terminals schema.up_to_merchants
+    schema.up_to_book
+turn_ranges_means = (refl, (refl, refl))
+
+pub turn_ranges_alone : IsAlone text.turn_ranges_text
+unfolding understood everything book_schema schema.up_to_reconciliations schema.up_to_postings
+    schema.up_to_requests schema.up_to_ranges schema.up_to_terminals schema.up_to_merchants
+    schema.up_to_book
+turn_ranges_alone = record { whole = refl; given = refl }
+
+pub set_version_means : Means text.set_version_text (Update 0 (alone set_version_query))
+unfolding understood everything book_schema schema.up_to_reconciliations schema.up_to_postings
+    schema.up_to_requests schema.up_to_ranges schema.up_to_terminals schema.up_to_merchants
+    schema.up_to_book
+set_version_means = (refl, (refl, refl))
+
+pub set_version_alone : IsAlone text.set_version_text
+unfolding understood everything book_schema schema.up_to_reconciliations schema.up_to_postings
+    schema.up_to_requests schema.up_to_ranges schema.up_to_terminals schema.up_to_merchants
+    schema.up_to_book
+set_version_alone = record { whole = refl; given = refl }
 
 pub add_request_means : Means text.add_request_text (Insert 4 (Values (new_row 18) 19))
 unfolding understood everything book_schema schema.up_to_reconciliations schema.up_to_postings

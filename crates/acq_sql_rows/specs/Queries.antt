@@ -1,13 +1,14 @@
 -- What the writes mean.
-use Rattle.std.specs.Prelude.{List, ℕ, [], ◌∷◌, map, Some}
+use Rattle.std.specs.Prelude.{List, ℕ, pos, negsuc, [], ◌∷◌, map, Some}
 use Rattle.std.specs.List.{range_with_len}
-use Rattle.sqlite_value.specs.declared.value.Value.TheVariants.{Null}
+use Rattle.sqlite_value.specs.declared.value.Value.TheVariants.{Null, Int}
 use Rattle.sqlite_sql.specs.declared.ops.BinaryOp.TheVariants.{Arith}
-use Rattle.sqlite_sql.specs.declared.ops.ArithOp.TheVariants.{Add}
+use Rattle.sqlite_sql.specs.declared.ops.ArithOp.TheVariants.{Add, Sub, Mul}
 use Rattle.sqlite_sql.specs.Term.{Term, lit, op2}
 use Rattle.sqlite_sql.specs.Query.{Query}
 use Rattle.sqlite_schema.specs.declared.command.Upsert.{Upsert}
 use Rattle.row_lemmas.specs.Queries.{plain_query, alone, column, param, is_param}
+use Rattle.acq_sql_rows.specs.Rows.{version}
 use Rattle.acq_sql_rows.specs.Schema.{book_tree, ranges_tree, requests_tree, running_tree}
 
 -- a row of so many parameters, with a rowid that is chosen for it
@@ -18,11 +19,20 @@ new_row width = lit Null ∷ map param (range_with_len 0 width)
 abbrev pub columns : ℕ → ℕ → List Term
 columns from len = map column (range_with_len from len)
 
+abbrev pub constant : ℕ → Term
+constant n = lit (Int (pos n))
+
 -- ---- the book's row
 
 abbrev pub set_day_query : Query
 set_day_query =
     plain_query book_tree [] (column 0 ∷ column 0 ∷ column 1 ∷ column 2 ∷ param 0 ∷ []) []
+
+abbrev pub version_columns : List Term
+version_columns = column 0 ∷ constant version ∷ column 2 ∷ column 3 ∷ []
+
+abbrev pub set_version_query : Query
+set_version_query = plain_query book_tree [] (column 0 ∷ version_columns) []
 
 -- ---- ranges: low is the rowid, and its column stands empty
 
@@ -34,6 +44,29 @@ ends_are = is_param 0 0 ∷ is_param 2 1 ∷ []
 
 abbrev pub drop_range_query : Query
 drop_range_query = plain_query ranges_tree ends_are (column 0 ∷ []) []
+
+-- -1 - x
+abbrev pub turned : Term → Term
+turned x = op2 (Arith Sub) (lit (Int (negsuc 0))) x
+
+-- x * 100
+abbrev pub hundredfold : Term → Term
+hundredfold x = op2 (Arith Mul) x (constant 100)
+
+-- what becomes of a range's columns
+abbrev pub widened_columns : List Term
+widened_columns =
+    turned (hundredfold (column 0)) ∷ lit Null
+    ∷ op2 (Arith Add) (hundredfold (column 2)) (constant 99) ∷ column 3 ∷ column 4 ∷ []
+
+abbrev pub widen_ranges_query : Query
+widen_ranges_query = plain_query ranges_tree [] (column 0 ∷ widened_columns) []
+
+abbrev pub turned_columns : List Term
+turned_columns = turned (column 0) ∷ lit Null ∷ column 2 ∷ column 3 ∷ column 4 ∷ []
+
+abbrev pub turn_ranges_query : Query
+turn_ranges_query = plain_query ranges_tree [] (column 0 ∷ turned_columns) []
 
 -- ---- requests
 

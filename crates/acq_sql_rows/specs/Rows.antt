@@ -1,6 +1,6 @@
 -- The row of each element of a list, in the order of its table's columns.
-use Rattle.std.specs.Prelude.{ℕ, Bool, true, false, [], ◌∷◌}
-use Rattle.sqlite_value.specs.declared.value.Value.TheVariants.{Null, Text}
+use Rattle.std.specs.Prelude.{ℕ, negsuc, Bool, true, false, List, [], ◌∷◌, map, reverse}
+use Rattle.sqlite_value.specs.declared.value.Value.TheVariants.{Null, Int, Text}
 use Rattle.sqlite_value.specs.Order.{Row}
 use Rattle.row_lemmas.specs.Values.{number, number_or_null, text_or_null}
 use Rattle.iso_codec.specs.Reading.{spelling}
@@ -16,7 +16,7 @@ use Rattle.acq_core.specs.declared.request.Request.{Request}
 use Rattle.acq_core.specs.declared.posting.Posting.{Posting}
 use Rattle.acq_core.specs.declared.reconciliation.Reconciliation.{Reconciliation}
 use Rattle.acq_core.specs.Statuses.{status_number}
-use Rattle.acq_sql_rows.specs.declared.tables.TheConstants.{VERSION}
+use Rattle.acq_sql_rows.specs.declared.tables.TheConstants.{VERSION, VERSION_OF_SIX_DIGITS}
 use Rattle.acq_sql_rows.specs.Tallies.{Tally, Running}
 
 -- ---- numbers of words
@@ -41,6 +41,10 @@ book_row_of version limit day = number version ∷ number limit ∷ number day �
 abbrev pub version : ℕ
 version = VERSION
 
+-- the version before it, whose ranges are of six digits
+abbrev pub version_of_six_digits : ℕ
+version_of_six_digits = VERSION_OF_SIX_DIGITS
+
 abbrev pub book_row : ℕ → ℕ → Row
 book_row = book_row_of version
 
@@ -53,6 +57,18 @@ terminal_row t = Text t.merchant ∷ Text t.id ∷ []
 -- low stands as the rowid, and its column empty
 abbrev pub range_row : Range → Row
 range_row r = number r.low ∷ Null ∷ number r.high ∷ Text r.issuer ∷ number r.hold_days ∷ []
+
+abbrev pub range_rows : List Range → List Row
+range_rows ranges = map range_row ranges
+
+-- while ranges are widened, -1 - low stands in place of low
+abbrev pub turned_row : Range → Row
+turned_row r =
+    Int (negsuc r.low) ∷ Null ∷ number r.high ∷ Text r.issuer ∷ number r.hold_days ∷ []
+
+-- so the last range comes first
+abbrev pub turned_rows : List Range → List Row
+turned_rows ranges = reverse (map turned_row ranges)
 
 -- merchant, terminal, kind, trace, stamp
 abbrev pub key_row : RequestKey → Row

@@ -1,5 +1,5 @@
 -- The tables of the file, and the texts that make them (`src/tables.rt`).
-use Rattle.std.specs.Prelude.{Bool, true, false, [], ◌∷◌, ◌++◌, List, ℕ, Option, Some, None, codes}
+use Rattle.std.specs.Prelude.{Bool, true, false, [], ◌∷◌, List, ℕ, Option, Some, None, codes}
 use Rattle.sqlite_value.specs.declared.keys.Collation.TheVariants.{Binary}
 use Rattle.sqlite_value.specs.declared.value.Value.TheVariants.{Null}
 use Rattle.sqlite_value.specs.Keys.{plain}

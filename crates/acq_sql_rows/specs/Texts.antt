@@ -1,8 +1,12 @@
 -- The texts of the writes (`src/texts.rt`).
 use Rattle.std.specs.Prelude.{List, ℕ}
-use Rattle.acq_sql_rows.specs.declared.texts.TheConstants.{ADD_BOOK, SET_DAY, ADD_MERCHANT, ADD_TERMINAL}
-use Rattle.acq_sql_rows.specs.declared.texts.TheConstants.{ADD_RANGE, DROP_RANGE, ADD_REQUEST, ANSWER}
-use Rattle.acq_sql_rows.specs.declared.texts.TheConstants.{FOLLOW, ADD_POSTING, ADD_RECONCILIATION, RAISE}
+use Rattle.acq_sql_rows.specs.declared.texts.TheConstants.{ADD_BOOK, SET_DAY, ADD_MERCHANT}
+use Rattle.acq_sql_rows.specs.declared.texts.TheConstants.{ADD_TERMINAL}
+use Rattle.acq_sql_rows.specs.declared.texts.TheConstants.{ADD_RANGE, DROP_RANGE, WIDEN_RANGES}
+use Rattle.acq_sql_rows.specs.declared.texts.TheConstants.{TURN_RANGES, SET_VERSION, ADD_REQUEST}
+use Rattle.acq_sql_rows.specs.declared.texts.TheConstants.{ANSWER}
+use Rattle.acq_sql_rows.specs.declared.texts.TheConstants.{FOLLOW, ADD_POSTING, ADD_RECONCILIATION}
+use Rattle.acq_sql_rows.specs.declared.texts.TheConstants.{RAISE}
 
 abbrev pub add_book_text : List ℕ
 add_book_text = ADD_BOOK.now
@@ -21,6 +25,15 @@ add_range_text = ADD_RANGE.now
 
 abbrev pub drop_range_text : List ℕ
 drop_range_text = DROP_RANGE.now
+
+abbrev pub widen_ranges_text : List ℕ
+widen_ranges_text = WIDEN_RANGES.now
+
+abbrev pub turn_ranges_text : List ℕ
+turn_ranges_text = TURN_RANGES.now
+
+abbrev pub set_version_text : List ℕ
+set_version_text = SET_VERSION.now
 
 abbrev pub add_request_text : List ℕ
 add_request_text = ADD_REQUEST.now

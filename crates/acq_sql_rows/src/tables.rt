@@ -1,7 +1,10 @@
 //! The texts that make the tables of a book. `specs/Schema.antt` says what each of them makes.
 
-/// The version of these tables.
-pub const VERSION: u32 = 1;
+/// The version in force, whose ranges are of eight digits.
+pub const VERSION: u32 = 2;
+
+/// The version before it, whose ranges are of six digits. Its tables have the same texts.
+pub const VERSION_OF_SIX_DIGITS: u32 = 1;
 
 /// The book: one row with its version, how many messages of a merchant a day admits, and the day.
 pub const BOOK: &str = "CREATE TABLE book (version INTEGER NOT NULL, max_a_day INTEGER NOT NULL, \

@@ -18,6 +18,16 @@ pub const ADD_RANGE: &str = "INSERT INTO ranges VALUES (?1, ?2, ?3, ?4)";
 /// A range with these ends is taken out.
 pub const DROP_RANGE: &str = "DELETE FROM ranges WHERE low = ?1 AND high = ?2";
 
+/// Ranges of six digits become those of eight, with -1 - low in place of each low: each is below 0
+/// then, and none was before, so no two rows have the same low on the way.
+pub const WIDEN_RANGES: &str = "UPDATE ranges SET low = -1 - low * 100, high = high * 100 + 99";
+
+/// Each low is put back.
+pub const TURN_RANGES: &str = "UPDATE ranges SET low = -1 - low";
+
+/// The book is one of the version in force.
+pub const SET_VERSION: &str = "UPDATE book SET version = 2";
+
 /// A request, its columns in order.
 pub const ADD_REQUEST: &str = "INSERT INTO requests VALUES (?1, ?2, ?3, ?4, ?5, ?6, ?7, ?8, ?9, \
     ?10, ?11, ?12, ?13, ?14, ?15, ?16, ?17, ?18)";

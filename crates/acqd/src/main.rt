@@ -14,7 +14,7 @@ use acq_program::{
     Machine, SystemClock, TerminalProgress, command, memory_fault, read_fault, utf8_fault,
 };
 use acq_sql::SqlBook;
-pub use open_book::{make_book, open_book};
+pub use open_book::{make_book, migrate_book, open_book};
 use sqlite::Alter;
 use sqlite_disk::{Start, Unknown};
 use std::env::{Env, FillError};

@@ -5,13 +5,16 @@ ghost use Rattle.sqlite_wal.specs.Files.{image_at};
 ghost use Rattle.sqlite.specs.Files.{IsOpened, file_state};
 ghost use Rattle.sqlite.specs.Start.{FindsIn};
 ghost use Rattle.sqlite.specs.State.{HasCleanDisk};
-ghost use Rattle.acq_core.specs.Pasts.{HasPast};
+ghost use Rattle.card_no.specs.Prefix.{six_digits};
+ghost use Rattle.acq_core.specs.Pasts.{HasPast, HasPastUnder};
 ghost use Rattle.acq_core.specs.Tables.{Tables, new_tables};
+ghost use Rattle.acq_core.specs.Widening.{widened_tables};
+ghost use Rattle.acq_sql_rows.specs.Rows.{version_of_six_digits};
 ghost use Rattle.acq_sql.specs.Opened.{IsOpenAt};
-ghost use Rattle.acqd.specs.BookFiles.{FilesHold};
+ghost use Rattle.acqd.specs.BookFiles.{FilesHold, FilesHoldOf};
 
 use acq_core::Limit;
-use acq_sql::opening::an_open_finds_the_book;
+use acq_sql::opening::{an_open_finds_a_book_of_any_version, an_open_finds_the_book};
 use acq_sql::{OpeningFault, Refusal, SqlBook};
 use day_totals::Day;
 use sqlite::Connection;
@@ -52,6 +55,25 @@ pub fn make_book<D: Start>(
 {
     let connection = connect(rt, path, start)?;
     match SqlBook::create(rt.alloc(), connection, limit, first_day) {
+        Ok(book) => Ok(book),
+        Err(refusal) => Err(fault_of(refusal)),
+    }
+}
+
+/// Migrates the book in the file at a path, and its log, of which `D` says what they hold before it.
+/// Where they hold a book whose ranges are of six digits, this is it, with its ranges widened.
+pub fn migrate_book<D: Start>(
+    rt: &HostRuntime,
+    path: &str,
+    start: D,
+) -> Result<SqlBook<FileStore<FileFrom<D>>>, OpeningFault>
+    ensures { IfOk result (λ book. HasCleanDisk (file_state book.connection) → (t : Tables)
+        → FilesHoldOf version_of_six_digits (image_at D.Start) t → HasPastUnder six_digits t
+        → IsOpenAt (file_state book.connection) (widened_tables t)) }
+{
+    let connection = connect(rt, path, start)?;
+    an_open_finds_a_book_of_any_version(&connection);
+    match SqlBook::migrate(rt.alloc(), connection) {
         Ok(book) => Ok(book),
         Err(refusal) => Err(fault_of(refusal)),
     }

@@ -4,7 +4,7 @@ ghost use Rattle.std.specs.Prelude.{◌≡◌};
 ghost use Rattle.acq_program.specs.BookFaults.{IsOpening};
 ghost use Rattle.acqd.specs.BookFiles.{of_opening};
 
-use crate::open_book::{make_book, open_book};
+use crate::open_book::{make_book, migrate_book, open_book};
 use acq_commands::Fault;
 use acq_core::Limit;
 use acq_link::ReadSource;
@@ -53,6 +53,13 @@ impl<'a, D: Start> Machine<SqlBook<FileStore<FileFrom<D>>>> for ThisMachine<'a, 
         first_day: Day,
     ) -> Result<SqlBook<FileStore<FileFrom<D>>>, Fault> {
         match make_book(self.rt, path, self.start, limit, first_day) {
+            Ok(book) => Ok(book),
+            Err(cause) => Err(fault_of_opening(cause)),
+        }
+    }
+
+    fn migrate_book(self, path: &str) -> Result<SqlBook<FileStore<FileFrom<D>>>, Fault> {
+        match migrate_book(self.rt, path, self.start) {
             Ok(book) => Ok(book),
             Err(cause) => Err(fault_of_opening(cause)),
         }

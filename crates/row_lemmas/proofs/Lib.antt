@@ -15,6 +15,7 @@ pub mod InsertsSucceed
 pub mod NewRows
 pub mod QueriesSucceed
 pub mod UpdatesSucceed
+pub mod MovesSucceed
 pub mod NewForms
 pub mod Upserts
 pub mod CreatedTables

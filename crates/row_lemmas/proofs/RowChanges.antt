@@ -1,9 +1,9 @@
 -- From what a statement does to the rows of a table to what it does to their list.
 use Rattle.std.proofs.Common.{◌≡◌, inl, inr, ℕ, ℤ, pos, Bool, true, not, cond, List, [], ◌∷◌, ◌++◌}
 use Rattle.std.proofs.Common.{map, filter, drop}
-use Rattle.std.proofs.Common.{refl, sym, ap, subst, ◌∙◌}
+use Rattle.std.proofs.Common.{refl, sym, ap, ap₂, subst, ◌∙◌}
 use Rattle.std.specs.List.Sorted.{IsPermutation}
-use Rattle.std.proofs.lemmas.List.Sorted.{IsPermutation-sym}
+use Rattle.std.proofs.lemmas.List.Sorted.{IsPermutation-sym, IsPermutation-map}
 use Rattle.sqlite_value.specs.declared.value.Value.TheVariants.{Null, Int}
 use Rattle.sqlite_value.specs.Order.{Row}
 use Rattle.sqlite_trees.specs.Tree.{Trees, rowid, put_row, IsTable}
@@ -125,43 +125,59 @@ module _ (schema : Schema) (keys : Keys) (db next : Trees) (table : Table)
         (map laid_out rows)
         (subst (λ l. are_fresh left l ≡ true) given applied.fresh) new_sound new_complete
 
-  -- UPDATE of every row, also of its rowid, where the new rowids rise
-  module _ (f : Row → Row) (every : (r : Row) → p r ≡ true)
-      (laid : (r : Row) → Has all r → cast_row table (shown_of project params r) ≡ f r)
-      (up : IsTable (map f all)) where
-    none_left : left ≡ []
+  -- a test that every row passes finds every row
+  module _ (every : (r : Row) → p r ≡ true) where
+    pub all_pass : filter p all ≡ all
+    all_pass = go all
+      where
+        go : (l : List Row) → filter p l ≡ l
+        go [] = refl
+        go (r ∷ l) = rw (every r) (ap (λ m. r ∷ m) (go l))
+
+    pub none_left : left ≡ []
     none_left = deleted all shaped p (ids_of rows) ids_sound ids_complete ∙ go all
       where
         go : (l : List Row) → filter (λ r. not (p r)) l ≡ []
         go [] = refl
         go (r ∷ l) = rw (every r) (go l)
 
-    to_moved : (z : Row) → Has (map laid_out rows) z → Has (map f all) z
-    to_moved z h =
-        let at = map_has laid_out rows z h in
-        let it = shows at.0 at.1 in
-        let is = sym (at.2 ∙ ap laid_out it.3 ∙ laid it.0 it.1) in
-        subst (Has (map f all)) is (has_map f all it.0 it.1)
+    -- UPDATE of every row, also of its rowid: the new rows are any of a mapping, in any order that
+    -- makes a table
+    module _ (f : Row → Row) (laid : (r : Row) → Has all r
+        → cast_row table (shown_of project params r) ≡ f r) where
+      -- what is put in is what the mapping makes, in some order
+      pub moved_are : IsPermutation (map f all) (map laid_out rows)
+      moved_are =
+          let shown = IsPermutation-map laid_out _ _ found in
+          let each : map laid_out (map show (filter p all)) ≡ map f all =
+          ap (λ l. map laid_out (map show l)) all_pass ∙ go all (λ r here. here) in
+          subst (λ l. IsPermutation l (map laid_out rows)) each shown
+        where
+          go : (l : List Row) → ((r : Row) → Has l r → Has all r) → map laid_out (map show l)
+              ≡ map f l
+          go [] in_all = refl
+          go (r ∷ l) in_all =
+              ap₂ (λ z m. z ∷ m) (laid r (in_all r (inl refl))) (go l (λ x h. in_all x (inr h)))
 
-    from_moved : (z : Row) → Has (map f all) z → Has (map laid_out rows) z
-    from_moved z h =
-        let it = map_has f all z h in
-        subst (Has (map laid_out rows)) (laid it.0 it.1 ∙ sym it.2)
-        (has_map laid_out rows (show it.0) (is_shown it.0 it.1 (every it.0)))
-
-    pub rows_moved : Updates → next table.tree ≡ map f all
-    rows_moved applied =
-        let news = map laid_out rows in
-        let given = numbered_given left news in
-        let fresh : are_fresh left news ≡ true =
-        subst (λ l. are_fresh left l ≡ true) given applied.fresh in
-        let alone : are_fresh [] news ≡ true = subst (λ l. are_fresh l news ≡ true) none_left fresh
-        in
-        applied.rows ∙ ap (put_all left) given ∙ ap (λ l. put_all l news) none_left
-        ∙ one_order Under never_both (put_all [] news) (map f all) (put_table news [] tt) up
-        (λ z h. elim (put_all_has news [] z h)
-        [ inl new ↦ to_moved z new | inr none ↦ absurd none ])
-        (λ z h. put_all_adds news [] z alone (from_moved z h))
+      pub rows_moved : (target : List Row) → IsTable target → IsPermutation (map f all) target
+          → Updates → next table.tree ≡ target
+      rows_moved target up same applied =
+          let news = map laid_out rows in
+          let given = numbered_given left news in
+          let fresh : are_fresh left news ≡ true =
+          subst (λ l. are_fresh left l ≡ true) given applied.fresh in
+          let alone : are_fresh [] news ≡ true =
+          subst (λ l. are_fresh l news ≡ true) none_left fresh in
+          applied.rows ∙ ap (put_all left) given ∙ ap (λ l. put_all l news) none_left
+          ∙ one_order Under never_both (put_all [] news) target (put_table news [] tt) up
+          (λ z h. elim (put_all_has news [] z h) [
+            | inl new ↦ has_permuted _ target z same
+                (has_permuted news _ z (IsPermutation-sym _ news moved_are) new)
+            | inr none ↦ absurd none
+          ])
+          (λ z h. put_all_adds news [] z alone
+          (has_permuted _ news z moved_are
+          (has_permuted target _ z (IsPermutation-sym _ target same) h)))
 
 -- UPDATE of numbered rows changes the elements that pass
 module _ {X : Type 0} (row_of : X → Row) (schema : Schema) (keys : Keys) (db next : Trees)

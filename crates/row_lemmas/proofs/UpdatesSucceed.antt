@@ -163,7 +163,7 @@ module _ (schema : Schema) (plain : IsPlainSchema schema) (at : ℕ) (t : Table)
     abbrev q : Query
     q = plain_query t.tree test (col 1 0 ∷ project) []
 
-    queried : (given : Row) → accepts_program schema [] q given ≡ true → (stop : Option Error)
+    pub queried : (given : Row) → accepts_program schema [] q given ≡ true → (stop : Option Error)
         → ¬ Queried None (record { schema = schema; trees = db }) (alone q) given (Err stop)
     queried given typed None h = h
     queried given typed (Some e) h =

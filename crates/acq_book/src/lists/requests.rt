@@ -195,11 +195,12 @@ fn is_pending_on(row: &Request, day: Day) -> bool
     matches!(row.status, Status::Pending) && row.day == day
 }
 
-/// Whether it is an approved authorization, which neither was completed nor reversed.
+/// Whether it is an approved authorization, which was neither completed nor undone.
 fn is_hold(row: &Request) -> bool
     ensures { result ≡ (is_authorization row.now.key.service && is_approved row.now.status) }
 {
-    matches!(row.key.service, Service::Authorization) && matches!(row.status, Status::Approved)
+    matches!(row.key.service, Service::Authorization)
+        && matches!(row.status, Status::Approved | Status::Lowered)
 }
 
 fn row_at(rows: &IndexMap<RequestKey, Request, RandomState>, place: usize) -> Option<&Request>
@@ -351,5 +352,6 @@ fn follow_at(
 {
     if let Some(row) = rows.get_mut(key) {
         row.status = remains.status;
+        row.amount = remains.amount;
     }
 }

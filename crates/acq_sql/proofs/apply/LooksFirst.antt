@@ -1,19 +1,20 @@
 -- What a change leaves, also after a look-up.
-use Rattle.std.proofs.Common.{true, refl, arith, Result}
+use Rattle.std.proofs.Common.{ℕ, true, refl, arith, Result}
 use Rattle.sqlite.specs.declared.error.Error.{Error}
 use Rattle.sqlite.specs.State.{State, HasCleanDisk}
 use Rattle.sqlite.proofs.StateLemmas.{survives_then, survives_weaker}
 use Rattle.acq_core.specs.Tables.{Tables}
-use Rattle.acq_sql_rows.specs.Relation.{Holds}
-use Rattle.acq_sql_changes.specs.Changed.{IsAt, ChangesWhole}
+use Rattle.acq_sql_rows.specs.Relation.{HoldsOf}
+use Rattle.acq_sql_changes.specs.Changed.{IsAtOf, ChangesWholeOf}
 use Rattle.acq_sql_reads.specs.Looked.{LooksOnly}
 use Rattle.acq_sql_reads.proofs.Leaves.{at_unchanged}
 
-module _ {T : Type 0} {result : Result T Error} {early late : Tables → Type 0}
+module _ {number : ℕ} {T : Type 0} {result : Result T Error} {early late : Tables → Type 0}
     {changed : Tables → Tables} where
   -- of fewer tables
   pub whole_for : {old new : State} → ((t : Tables) → early t → late t)
-      → ChangesWhole old new result late changed → ChangesWhole old new result early changed
+      → ChangesWholeOf number old new result late changed
+      → ChangesWholeOf number old new result early changed
   whole_for fits whole =
       record {
         settled = whole.settled;
@@ -24,8 +25,9 @@ module _ {T : Type 0} {result : Result T Error} {early late : Tables → Type 0}
 
   -- after a look-up
   pub whole_from : {old mid new : State} → LooksOnly old mid true
-      → (HasCleanDisk mid → (t : Tables) → Holds old.now t → early t → late t)
-      → ChangesWhole mid new result late changed → ChangesWhole old new result early changed
+      → (HasCleanDisk mid → (t : Tables) → HoldsOf number old.now t → early t → late t)
+      → ChangesWholeOf number mid new result late changed
+      → ChangesWholeOf number old new result early changed
   whole_from {old = old} {mid = mid} {new = new} looks leads whole =
       record {
         settled = whole.settled;
@@ -42,5 +44,5 @@ module _ {T : Type 0} {result : Result T Error} {early late : Tables → Type 0}
       clean_first clean = omega (arith, whole.stop.clean, clean)
 
       -- the look-up left the tables as they were
-      at_first : HasCleanDisk new → (t : Tables) → IsAt old t → IsAt mid t
+      at_first : HasCleanDisk new → (t : Tables) → IsAtOf number old t → IsAtOf number mid t
       at_first clean t at = at_unchanged old mid t (looks.same (clean_first clean) refl) at

@@ -1,5 +1,5 @@
 -- What a connection that was just opened holds.
-use Rattle.std.proofs.Common.{◌≡◌, sym, ap, subst}
+use Rattle.std.proofs.Common.{◌≡◌, ℕ, sym, ap, subst}
 use Rattle.sqlite_disk.specs.declared.Disk.{Ghosts}
 use Rattle.sqlite_wal.specs.Recovery.{Image}
 use Rattle.sqlite_trees.specs.Tree.{Trees}
@@ -12,13 +12,13 @@ use Rattle.sqlite.specs.State.{State, Opens, IsLive}
 use Rattle.row_lemmas.proofs.OpenedStores.{one_schema}
 use Rattle.acq_core.specs.Tables.{Tables}
 use Rattle.acq_sql_rows.specs.Schema.{book_schema}
-use Rattle.acq_sql_rows.specs.Relation.{Holds}
-use Rattle.acq_sql_changes.specs.Changed.{IsAt, HoldsAfter}
+use Rattle.acq_sql_rows.specs.Relation.{HoldsOf}
+use Rattle.acq_sql_changes.specs.Changed.{IsAtOf, HoldsAfterOf}
 
 -- the trees that the last commit left tell the schema, and the rows the tables
-pub opened_at : (s : State) (t : Tables) → Opens s → IsLive s → HoldsAfter t s.committed.trees →
-    IsAt s t
-opened_at s t opens live left =
+pub opened_at : {number : ℕ} (s : State) (t : Tables) → Opens s → IsLive s
+    → HoldsAfterOf number t s.committed.trees → IsAtOf number s t
+opened_at {number} s t opens live left =
     let same : s.now.trees ≡ s.committed.trees = ap (λ (d : Database). d.trees) opens.clean in
     let schema_is : s.now.schema ≡ book_schema =
     one_schema book_schema s.now (live opens.is_open).0 (rw same left.rows.sound) in
@@ -29,14 +29,14 @@ opened_at s t opens live left =
       is_open = opens.is_open;
       settled = opens.autocommit;
       same = opens.clean;
-      holds = subst (λ d. Holds d t) now_is left;
+      holds = subst (λ d. HoldsOf number d t) now_is left;
     }
 
 -- the same over files that hold such trees
-pub opened_over : {D : Type 0} {g : Ghosts D} (image : Image) (c : Held (FileStore D g))
-    (trees : Trees) (t : Tables)
-    → IsOpened c → FindsIn image (file_state c) → HoldsDatabase image trees → HoldsAfter t trees
-    → IsAt (file_state c) t
-opened_over image c trees t opened found holds left =
+pub opened_over : {number : ℕ} {D : Type 0} {g : Ghosts D} (image : Image)
+    (c : Held (FileStore D g)) (trees : Trees) (t : Tables)
+    → IsOpened c → FindsIn image (file_state c) → HoldsDatabase image trees
+    → HoldsAfterOf number t trees → IsAtOf number (file_state c) t
+opened_over {number} image c trees t opened found holds left =
     opened_at (file_state c) t opened.0 opened.1
-    (subst (HoldsAfter t) (sym (found.holds trees holds)) left)
+    (subst (HoldsAfterOf number t) (sym (found.holds trees holds)) left)

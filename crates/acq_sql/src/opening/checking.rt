@@ -8,28 +8,31 @@ ghost use Rattle.sqlite.specs.State.{HasCleanDisk};
 ghost use Rattle.sqlite.specs.Held.{state};
 ghost use Rattle.acq_core.specs.Tables.{Tables};
 ghost use Rattle.acq_sql_rows.specs.Schema.{no_schema, book_schema};
-ghost use Rattle.acq_sql_changes.specs.Changed.{IsAt};
+ghost use Rattle.acq_sql_changes.specs.Changed.{IsAtOf};
 ghost use Rattle.acq_sql_reads.specs.Looked.{LooksOnly};
 ghost use Rattle.acq_sql.specs.Checked.{Judges, IsFailure, HasVersion};
 
 use crate::opening::alike::Alike;
 use crate::opening::opening_fault::OpeningFault;
 use crate::opening::tables::{create_enrolments, create_records};
-use acq_sql_rows::tables::VERSION;
 use sqlite::{Alter, Connection, Error, Row};
 use sqlite_schema::schema::Schema;
 use std::alloc::Global;
 
 const VERSION_OF_BOOK: &str = "SELECT version FROM book";
 
-/// Whether the database is a book of this version: it has the book's tables and no other object,
-/// and the book's one row, whose version is this one. The allocator is for the tables that it
+/// Whether the database is a book of a version: it has the book's tables and no other object, and
+/// the book's one row, whose version is the wanted one. The allocator is for the tables that it
 /// compares them with.
-pub fn check_book<S: Alter>(conn: &mut Connection<S>, alloc: Global) -> Result<(), OpeningFault>
+pub fn check_book<S: Alter>(
+    conn: &mut Connection<S>,
+    alloc: Global,
+    wanted: u32,
+) -> Result<(), OpeningFault>
     ensures judged { HasCleanDisk (state S.Store conn.new)
-        → Judges (state S.Store conn.old).now result }
+        → Judges wanted (state S.Store conn.old).now result }
     ensures accepts { HasCleanDisk (state S.Store conn.new) → (t : Tables)
-        → IsAt (state S.Store conn.old) t → IfErr result IsFailure }
+        → IsAtOf wanted (state S.Store conn.old) t → IfErr result IsFailure }
     ensures looks { LooksOnly (state S.Store conn.old) (state S.Store conn.new) (is_ok result) }
     ensures unchanged { conn.old.schema ≢ book_schema → conn.new ≡ conn.old }
     ensures settled { conn.old.in_transaction ≡ false → conn.new.in_transaction ≡ false }
@@ -38,7 +41,7 @@ pub fn check_book<S: Alter>(conn: &mut Connection<S>, alloc: Global) -> Result<(
         return Err(OpeningFault::NotABook);
     }
     match version(conn)? {
-        Some(version) if version == u64::from(VERSION) => Ok(()),
+        Some(version) if version == u64::from(wanted) => Ok(()),
         Some(version) => Err(OpeningFault::OtherVersion(version)),
         None => Err(OpeningFault::NotABook),
     }

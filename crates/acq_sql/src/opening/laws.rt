@@ -1,9 +1,10 @@
 //! What an open finds of a book.
 
+ghost use Rattle.std.specs.Prelude.{ℕ};
 ghost use Rattle.sqlite.specs.Held.{state};
 ghost use Rattle.sqlite.specs.State.{Opens, IsLive};
 ghost use Rattle.acq_core.specs.Tables.{Tables};
-ghost use Rattle.acq_sql_changes.specs.Changed.{IsAt, HoldsAfter};
+ghost use Rattle.acq_sql_changes.specs.Changed.{IsAt, IsAtOf, HoldsAfter, HoldsAfterOf};
 
 use sqlite::{Alter, Connection};
 
@@ -11,4 +12,13 @@ use sqlite::{Alter, Connection};
 pub fn an_open_finds_the_book<S: Alter>(conn: &Connection<S>)
     ensures { (t : Tables) → Opens (state S.Store conn.now) → IsLive (state S.Store conn.now)
         → HoldsAfter t (state S.Store conn.now).committed.trees → IsAt (state S.Store conn.now) t }
+{}
+
+/// The same of a book of any version: where a migration was stopped before it was whole, the tables
+/// are those of the earlier version, and it can be called again.
+pub fn an_open_finds_a_book_of_any_version<S: Alter>(conn: &Connection<S>)
+    ensures { (version : ℕ) (t : Tables) → Opens (state S.Store conn.now)
+        → IsLive (state S.Store conn.now)
+        → HoldsAfterOf version t (state S.Store conn.now).committed.trees
+        → IsAtOf version (state S.Store conn.now) t }
 {}

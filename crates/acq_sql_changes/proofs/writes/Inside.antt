@@ -42,10 +42,13 @@ use Rattle.acq_sql_rows.proofs.TextLemmas as text_means
 use Rattle.acq_sql_rows.proofs.TextLemmas.{Means}
 use Rattle.acq_sql_changes.specs.Written as written
 use Rattle.acq_sql_changes.specs.Written.{WritesInside, CommitsNothing, Changes, Raises, BeginsBook}
+use Rattle.acq_sql_changes.specs.Widened.{WidensRanges, TurnsRanges, SetsVersion}
 use Rattle.acq_sql_changes.proofs.writes.ListWrites as list
 use Rattle.acq_sql_changes.proofs.writes.ListWrites.{follow_params}
 use Rattle.acq_sql_changes.proofs.writes.RangeWrites as range
 use Rattle.acq_sql_changes.proofs.writes.RaiseWrites.{it, running_raised}
+use Rattle.acq_sql_changes.proofs.writes.Moves.{widening, turning, setting, ranges_widened}
+use Rattle.acq_sql_changes.proofs.writes.Moves.{ranges_turned, version_set}
 
 -- ---- any write
 
@@ -162,6 +165,27 @@ module _ (old new : State) (res : Result ℕ Error) (stop : CommitsNothing old n
       (λ ran t runs has. let w = ran has.schema in
       range.range_dropped old.step_limit (mode_of old) old.now new.now
       w.text w.ran.tally t runs has w.ran.sound low high w.ran.changed)
+
+  pub widening_inside : Executed text.widen_ranges_text [] → WritesInside old new res WidensRanges
+  widening_inside =
+      writes text.widen_ranges_text [] WidensRanges widening text_means.widen_ranges_means
+      (λ ran number t runs six has. let w = ran has.schema in
+      ranges_widened (mode_of old) old.now w.text number t runs six has old.step_limit w.ran.tally
+      new.now w.ran.sound w.ran.changed)
+
+  pub turning_inside : Executed text.turn_ranges_text [] → WritesInside old new res TurnsRanges
+  turning_inside =
+      writes text.turn_ranges_text [] TurnsRanges turning text_means.turn_ranges_means
+      (λ ran number t runs eight has. let w = ran has.schema in
+      ranges_turned (mode_of old) old.now w.text number t runs eight has old.step_limit w.ran.tally
+      new.now w.ran.sound w.ran.changed)
+
+  pub setting_inside : Executed text.set_version_text [] → WritesInside old new res SetsVersion
+  setting_inside =
+      writes text.set_version_text [] SetsVersion setting text_means.set_version_means
+      (λ ran number t runs has. let w = ran has.schema in
+      version_set (mode_of old) old.now w.text number t runs has old.step_limit w.ran.tally
+      new.now w.ran.sound w.ran.changed)
 
   pub day_inside : (day : ℕ)
       → Executed text.set_day_text (number day ∷ [])

@@ -37,7 +37,7 @@ use Rattle.acq_sql_rows.specs.Schema.{postings_tree, reconciliations_tree}
 use Rattle.acq_sql_rows.specs.Schema as schema
 use Rattle.acq_sql_rows.specs.Tallies.{Running}
 use Rattle.acq_sql_rows.specs.Rows.{book_row, merchant_row, terminal_row, key_row, request_row}
-use Rattle.acq_sql_rows.specs.Rows.{posting_row}
+use Rattle.acq_sql_rows.specs.Rows.{version, posting_row}
 use Rattle.acq_core.specs.Statuses.{status_number}
 use Rattle.acq_sql_rows.specs.Rows.{reconciliation_row, leg_number, bit_of}
 use Rattle.acq_sql_rows.specs.Queries.{new_row, key_is, set_day_query, answer_query, follow_query}
@@ -144,11 +144,12 @@ laid_number id r =
 laid_book : (limit id day : ℕ)
     → cast_row at.the_book (Int (pos id) ∷ book_row limit day) ≡ Int (pos id) ∷ book_row limit day
 laid_book limit id day =
-    rw (cast_int (pos id), cast_int (pos 1), cast_int (pos limit), cast_int (pos day))
+    rw (cast_int (pos id), cast_int (pos version), cast_int (pos limit), cast_int (pos day))
 
 laid_new_book : (limit day : ℕ) →
     cast_row at.the_book (Null ∷ book_row limit day) ≡ Null ∷ book_row limit day
-laid_new_book limit day = rw (cast_null, cast_int (pos 1), cast_int (pos limit), cast_int (pos day))
+laid_new_book limit day =
+    rw (cast_null, cast_int (pos version), cast_int (pos limit), cast_int (pos day))
 
 -- ---- what an UPDATE of a followed request is given
 

@@ -1,6 +1,6 @@
 -- What the writes of ranges do: low is the rowid, so the rows stand in the order of the list.
 use Rattle.std.proofs.Common.{◌≡◌, ◌<◌, ◌==◌, ℕ, pos, Bool, true, false, not, cond, nat_lt, List}
-use Rattle.std.proofs.Common.{[], ◌∷◌, map, filter}
+use Rattle.std.proofs.Common.{[], ◌∷◌, filter}
 use Rattle.std.proofs.Common.{Option, None, Ok, Less, Greater, refl, sym, ap, subst, ◌∙◌, arith}
 use Rattle.std.specs.List.{AllByRecursion}
 use Rattle.std.specs.Ordering.{match_ordering, ordering_reverse}
@@ -36,7 +36,7 @@ use Rattle.acq_core.specs.Tables.{Tables}
 use Rattle.acq_sql_rows.specs.Schema.{book_schema}
 use Rattle.acq_sql_rows.specs.Schema.{ranges_tree}
 use Rattle.acq_sql_rows.specs.Tallies.{Running}
-use Rattle.acq_sql_rows.specs.Rows.{range_row}
+use Rattle.acq_sql_rows.specs.Rows.{range_row, range_rows}
 use Rattle.acq_sql_rows.specs.Queries.{new_range, ends_are, drop_range_query}
 use Rattle.acq_sql_rows.specs.Relation.{HoldsRows, AreRising}
 use Rattle.acq_sql_changes.specs.Written.{with_added_range, with_dropped_range}
@@ -51,9 +51,6 @@ not_lower a b h k = grind (arith, nat_tests, h, k)
 -- no range begins there
 abbrev pub IsFree : ℕ → List Range → Type 0
 IsFree low = AllByRecursion (λ (s : Range). (s.low == low) ≡ false)
-
-abbrev pub range_rows : List Range → List Row
-range_rows xs = map range_row xs
 
 free_of : (xs : List Range) (r : Range) → is_taken (range_rows xs) (range_row r) ≡ false →
     IsFree r.low xs

@@ -19,9 +19,9 @@ use Rattle.acq_sql_rows.specs.Schema.{ranges_tree, requests_tree, postings_tree}
 use Rattle.acq_sql_rows.specs.Schema.{reconciliations_tree, running_tree}
 use Rattle.acq_sql_rows.specs.Schema as schema
 use Rattle.acq_sql_rows.specs.Tallies.{Running, AreApart}
-use Rattle.acq_sql_rows.specs.Rows.{book_row, merchant_row, terminal_row, range_row, request_row}
-use Rattle.acq_sql_rows.specs.Rows.{posting_row, reconciliation_row, running_row}
-use Rattle.acq_sql_rows.specs.Relation.{HoldsRows, AreRising, AreRecorded}
+use Rattle.acq_sql_rows.specs.Rows.{version, book_row, book_row_of, merchant_row, terminal_row}
+use Rattle.acq_sql_rows.specs.Rows.{request_row, posting_row, reconciliation_row, running_row}
+use Rattle.acq_sql_rows.specs.Relation.{HoldsRows, HoldsRowsBut, AreRising, AreRecorded}
 use Rattle.acq_sql_changes.proofs.writes.RunningTotals.{number_same, number_itself}
 
 -- ---- the tables at their trees
@@ -99,13 +99,14 @@ lone tree keys taken news = refl
 
 -- ---- a write of one table
 
--- the tree of each table, with the rows that stand there
-abbrev pub rows_at : Tables → List Running → List (ℕ × List Row)
-rows_at t runs =
-    (book_tree, numbered_from 1 (book_row t.limit t.day ∷ []))
+-- the tree of each table, with the rows that stand there, in a book of this version whose ranges
+-- have these rows
+abbrev pub rows_at : ℕ → List Row → Tables → List Running → List (ℕ × List Row)
+rows_at version ranges t runs =
+    (book_tree, numbered_from 1 (book_row_of version t.limit t.day ∷ []))
     ∷ (merchants_tree, rows_of merchant_row t.merchants)
     ∷ (terminals_tree, rows_of terminal_row t.terminals)
-    ∷ (ranges_tree, map range_row t.ranges)
+    ∷ (ranges_tree, ranges)
     ∷ (requests_tree, rows_of request_row t.requests)
     ∷ (postings_tree, rows_of posting_row t.postings)
     ∷ (reconciliations_tree, rows_of reconciliation_row t.reconciliations)
@@ -154,14 +155,16 @@ others_stay db next tree rows now (place ∷ places) rest has = (
         rest.0 (λ same. true≢false (sym (ap (λ n. n == tree) same ∙ number_itself tree) ∙ is))
         ∙ has.0
 
-has_rows : (db : Database) (t : Tables) (runs : List Running) → HoldsRows db t runs
-    → HasRows db.trees (rows_at t runs)
-has_rows db t runs h = assumption
+has_rows : (number : ℕ) (ranges : List Row) (db : Database) (t : Tables) (runs : List Running)
+    → HoldsRowsBut number ranges db t runs → HasRows db.trees (rows_at number ranges t runs)
+has_rows number ranges db t runs h = assumption
 
-holds_rows : (db : Database) (t : Tables) (runs : List Running) → db.schema ≡ book_schema
-    → IsDatabase db → HasRows db.trees (rows_at t runs)
-    → AreRising t.ranges → AreRecorded t.requests → AreApart runs → HoldsRows db t runs
-holds_rows db t runs schema_is sound has rising recorded apart =
+holds_rows : (number : ℕ) (ranges : List Row) (db : Database) (t : Tables) (runs : List Running)
+    → db.schema ≡ book_schema
+    → IsDatabase db → HasRows db.trees (rows_at number ranges t runs)
+    → AreRising t.ranges → AreRecorded t.requests → AreApart runs
+    → HoldsRowsBut number ranges db t runs
+holds_rows number ranges db t runs schema_is sound has rising recorded apart =
     record {
       schema = schema_is;
       sound = subst (λ s. IsSound s db.trees) schema_is sound;
@@ -186,19 +189,23 @@ pub book_begun : (db next : Database) → IsBlank book_schema db → next.schema
 unfolding book_schema schema.up_to_reconciliations schema.up_to_postings schema.up_to_requests
     schema.up_to_ranges schema.up_to_terminals schema.up_to_merchants schema.up_to_book
 book_begun db next none schema_is sound rest opening now =
-    holds_rows next (new_tables opening) [] schema_is sound
+    holds_rows version [] next (new_tables opening) [] schema_is sound
     (others_stay db.trees next.trees book_tree _ now
-    (map (λ place. (place.0, [])) (rows_at (new_tables opening) [])) rest none.blank) tt tt tt
+    (map (λ place. (place.0, [])) (rows_at version [] (new_tables opening) [])) rest none.blank)
+    tt tt tt
 
 -- one table has other rows, and these are the tables with them
-pub turned : (db next : Database) (t : Tables) (runs : List Running) → HoldsRows db t runs
+pub turned : {earlier later : ℕ} {was ranges : List Row} (db next : Database) (t : Tables)
+    (runs : List Running) → HoldsRowsBut earlier was db t runs
     → next.schema ≡ book_schema → IsDatabase next
     → (tree : ℕ) (rows : List Row) → Others db.trees next.trees tree → next.trees tree ≡ rows
     → (after : Tables) (now_runs : List Running)
-    → map (turn tree rows) (rows_at t runs) ≡ rows_at after now_runs
+    → map (turn tree rows) (rows_at earlier was t runs) ≡ rows_at later ranges after now_runs
     → AreRising after.ranges → AreRecorded after.requests → AreApart now_runs
-    → HoldsRows next after now_runs
-turned db next t runs has schema_is sound tree rows rest now after now_runs same =
-    holds_rows next after now_runs schema_is sound
+    → HoldsRowsBut later ranges next after now_runs
+turned {earlier} {later} {was} {ranges} db next t runs has schema_is sound tree rows rest now after
+    now_runs same =
+    holds_rows later ranges next after now_runs schema_is sound
     (subst (HasRows next.trees) same
-    (others_stay db.trees next.trees tree rows now (rows_at t runs) rest (has_rows db t runs has)))
+    (others_stay db.trees next.trees tree rows now (rows_at earlier was t runs) rest
+    (has_rows earlier was db t runs has)))
