@@ -1,6 +1,7 @@
 -- Numbers stay within their bounds, whatever comes.
 use Rattle.std.proofs.Common.{◌∙◌, ◌≡◌, ℕ, ◌+◌, ◌*◌, ◌<◌, ◌≤◌, List, [], ◌∷◌, length}
-use Rattle.std.proofs.Common.{Option, Some, None, Bool, true, false, cond, refl, sym, ap, subst, arith, eqb, leb}
+use Rattle.std.proofs.Common.{Option, Some, None, Bool, true, false}
+use Rattle.std.proofs.Common.{cond, refl, sym, ap, subst, arith, eqb, leb}
 use Rattle.std.specs.Prelude.{All, IfSome, map, filter, find, option_map}
 use Rattle.std.specs.Str.{bytes_eq}
 use Rattle.std.proofs.lemmas.Bool.{and_parts, leb-true, le-leb}

@@ -40,12 +40,12 @@ use Rattle.acq_history.specs.History.{Found, aged, next_reference, is_admitted, 
 use Rattle.acq_history.specs.History.{reference_of, reference_by, leg_by, card_by, hold_days_of}
 use Rattle.acq_history.specs.History.{answer_to, is_completed, reversal_of, lowered_to, any_with}
 use Rattle.acq_history.specs.History.{reply_state_with, prior}
-use Rattle.acq_history.proofs.Lookups.{not_true, not_some, or_true, own_none, clash}
+use Rattle.acq_history.proofs.Lookups.{not_true, not_some, or_true, own_none}
 use Rattle.acq_history.proofs.RecordedInHistory.{key_in}
 use Rattle.acq_core.proofs.Statuses.{only_awaited}
 use Rattle.acq_history.proofs.Statuses.{open_row, IsApproved}
 use Rattle.acq_history.proofs.WhatRemains.{hold_ended, original_ended, left_by}
-use Rattle.acq_history.proofs.WhatRemains.{reversed_unapproved}
+use Rattle.acq_history.proofs.WhatRemains.{reversed_unapproved, lowered_was_approved}
 use Rattle.acq_history.proofs.RowsWithChanges.{followed_kept, answered_kept, IsChange}
 
 -- ---- what became of a recorded request
@@ -444,22 +444,6 @@ reply_state_of-reversed status.Approved reply o r draft reversible is =
     ap (λ p. reply_state_with p true draft) (sym (reply_state_with-kept o r draft reply (sym is)))
 reply_state_of-reversed s reply o r draft reversible is = absurd (cc)
 
--- what can be reversed in part was approved
-approved_in_part : (s : Status) (reply : IsoMessage) (remaining : ℕ) →
-    tables.is_reversible s ≡ true →
-    (is_awaited (tables.reply_state_of s reply) && nat_lt 0 remaining) ≡ false →
-    nat_lt 0 remaining ≡ true → s ≡ status.Approved
-approved_in_part status.Pending reply remaining reversible answered above =
-    clash (nat_lt 0 remaining) above answered
-approved_in_part status.Approved reply remaining reversible answered above = refl
-approved_in_part s reply remaining reversible answered above = absurd (cc)
-
--- what is lowered leaves something
-above_nothing : (k : Service) (remaining : ℕ) → is_lowered k remaining ≡ true →
-    nat_lt 0 remaining ≡ true
-above_nothing Authorization remaining e = e
-above_nothing k remaining e = absurd (cc)
-
 -- a request that can be reversed, and is
 module _ (a : Request) (f : Found) (fate : Fate) (remaining : ℕ) (is : prior_of a ≡ prior_by fate f)
     (reversible : (prior_by fate f).is_reversible ≡ true)
@@ -480,10 +464,11 @@ module _ (a : Request) (f : Found) (fate : Fate) (remaining : ℕ) (is : prior_o
       (and_parts taken some
       (and_parts (taken && some) (not (is_declined_by fate)) reversible).0).1
 
-  -- where something is to remain, it was approved
-  approved : nat_lt 0 remaining ≡ true → a.status ≡ status.Approved
+  -- where it is lowered, it was approved
+  approved : is_lowered f.request.service remaining ≡ true → a.status ≡ status.Approved
   approved =
-      approved_in_part a.status a.reply remaining (ap (λ x. x.is_reversible) is ∙ reversible)
+      lowered_was_approved a.status a.reply f.request.service remaining
+      (ap (λ x. x.is_reversible) is ∙ reversible)
       (ap (λ x. is_awaited x.reply_state && nat_lt 0 remaining) is ∙ answered)
 
   amount_left : (b : Bool) →
@@ -496,7 +481,7 @@ module _ (a : Request) (f : Found) (fate : Fate) (remaining : ℕ) (is : prior_o
       tables.reply_state_of (left b).status a.reply
       ≡ (prior_by (record fate { reversal = Some remaining }) f).reply_state
   state_left true e =
-      let was = approved (above_nothing f.request.service remaining e) in
+      let was = approved e in
       ap (λ o. reply_state_with o true (draft_reply f.entry.day f.request
       (next_reference f.before)))
       (sym (reply_state_with-kept _ (is_some fate.reversal) _ a.reply
@@ -508,28 +493,28 @@ module _ (a : Request) (f : Found) (fate : Fate) (remaining : ℕ) (is : prior_o
       (ap (λ x. x.is_reversible) is ∙ reversible) (ap (λ x. x.reply_state) is)
 
   -- a hold stays open where something remains
-  hold_left : (b : Bool) → nat_lt 0 remaining ≡ b →
+  hold_left : (b : Bool) → (b ≡ true → a.status ≡ status.Approved) →
       tables.hold_end_by Authorization a ≡ open_by Authorization (hold_days_of f) fate →
       tables.hold_end_by Authorization (followed_row (left b) a)
       ≡ (if fate.completed || is_none (cond b (Some remaining) None) then None
       else option_and_then (λ moment. option_map (end_of_hold moment) (hold_days_of f))
       (option_and_then (λ e. approval_in e.arrival) fate.answer))
-  hold_left true e was =
-      sym (ap (λ s. cond (tables.is_approved s) a.hold_end None) (approved e))
+  hold_left true approves was =
+      sym (ap (λ s. cond (tables.is_approved s) a.hold_end None) (approves refl))
       ∙ (was
       ∙ ap (λ o. open_by Authorization (hold_days_of f) (record fate { reversal = o })) first)
-  hold_left false e was =
+  hold_left false approves was =
       ap (λ b. cond b a.hold_end None) (reversed_unapproved p.reply_state)
       ∙ sym (ap (λ b. cond b None
       (option_and_then (λ moment. option_map (end_of_hold moment) (hold_days_of f))
       (option_and_then (λ e. approval_in e.arrival) fate.answer))) (or_true fate.completed))
 
-  end_left : (k : Service) →
+  end_left : (k : Service) → (is_lowered k remaining ≡ true → a.status ≡ status.Approved) →
       tables.hold_end_by k a ≡ open_by k (hold_days_of f) fate →
       tables.hold_end_by k (followed_row (left (is_lowered k remaining)) a)
       ≡ open_by k (hold_days_of f) (record fate { reversal = Some remaining })
-  end_left Authorization was = hold_left (nat_lt 0 remaining) refl was
-  end_left k was = refl
+  end_left Authorization approves was = hold_left (nat_lt 0 remaining) approves was
+  end_left k approves was = refl
 
   pub prior_of_reversed : prior_of (followed_row (remains_of p remaining) a)
       ≡ prior_by (record fate { reversal = Some remaining }) f
@@ -546,6 +531,6 @@ module _ (a : Request) (f : Found) (fate : Fate) (remaining : ℕ) (is : prior_o
             ∙ sym (ap (λ b. b && not (is_declined_by fate))
             (and-false ((is_admitted f || is_accepted f) && not fate.completed)));
         ends = (λ i. tables.hold_end_by (at i) (followed_row (left lowered) a))
-            ∙ end_left f.request.service
+            ∙ end_left f.request.service approved
             (sym (λ i. tables.hold_end_by (at i) a) ∙ ap (λ x. x.hold_end) is);
       })

@@ -140,8 +140,11 @@ pub record IsReversal (t : Tables) (r : RequestMessage) (row : Request) : Type 0
   pub member : In row t.requests
   pub own : row.key.merchant ≡ text_at r.message 42
   pub acquirer : fits_acquirer (original_acquirer r.message) row.acquirer ≡ true
-  pub allowed : CanBeReversed r (prior_of row)
   pub reversible : is_reversible row.status ≡ true
+  -- where a part is to remain, it waits for no answer
+  pub answered :
+      (is_awaited (reply_state_of row.status row.reply) && nat_lt 0 (remaining_in r.message))
+      ≡ false
   pub amount : amount_in r.message ≡ row.amount
   pub less : remaining_in r.message < row.amount
   pub room : HasRoom t r
@@ -382,8 +385,9 @@ module _ (t : Tables) (r : RequestMessage) (P : Decision → Type 0)
         member = found.0.member;
         own = found.1;
         acquirer = ap (λ x. fits_acquirer (original_acquirer r.message) x.acquirer) says ∙ fits;
-        allowed = subst (CanBeReversed r) (sym says) can;
         reversible = ap (λ x. x.is_reversible) says ∙ shows.reversible;
+        answered =
+            ap (λ x. is_awaited x.reply_state && nat_lt 0 remaining) says ∙ shows.answered;
         amount = shows.amount ∙ sym (ap (λ x. x.amount) says);
         less = subst (λ n. remaining < n) (sym (ap (λ x. x.amount) says)) shows.less;
         room = room merchant fresh none.1.1.0;

@@ -1,20 +1,23 @@
 -- Where a request stands that was completed or reversed, and what remains of its amount.
 use Rattle.std.proofs.Common.{◌≡◌, ℕ, ◌-◌, ◌<◌, ◌≤◌, Bool, true, false, Some, cond, refl, ap, arith}
 use Rattle.std.proofs.lemmas.Bool.{and_parts, and_from, leb-true, le-leb, ltb-true}
-use Rattle.std.specs.Prelude.{nat_le}
+use Rattle.std.specs.Prelude.{◌&&◌, nat_le, nat_lt}
 use Rattle.day_totals.specs.declared.leg.Leg.{Leg}
 use Rattle.acq_message.specs.Numbers.{is_amount, is_accepted_amount}
 use Rattle.acq_message.specs.declared.service.Service.{Service}
 use Rattle.acq_message.specs.declared.service.Service.TheVariants.{Authorization}
 use Rattle.acq_core.specs.declared.request.Request.{Request}
 use Rattle.acq_core.specs.declared.status.Status.{Status}
-use Rattle.acq_core.specs.declared.status.Status.TheVariants.{Pending, Lowered}
+use Rattle.acq_core.specs.declared.status.Status.TheVariants.{Pending, Approved, Lowered}
 use Rattle.acq_core.specs.declared.remains.Remains.{Remains}
 use Rattle.acq_core.specs.declared.reply_state.ReplyState.{ReplyState}
 use Rattle.acq_core.specs.declared.reply_state.ReplyState.TheVariants.{Kept}
 use Rattle.acq_core.specs.Known.{Prior}
 use Rattle.acq_core.specs.Changes.{remains_of, remains_of_hold, reversed_status, is_lowered}
-use Rattle.acq_core.specs.Tables.{is_pending, is_reversible, is_approved, leg_by}
+use Rattle.acq_core.specs.Tables.{is_pending, is_reversible, is_approved, leg_by, reply_state_of}
+use Rattle.acq_core.specs.Decision.{is_awaited}
+use Rattle.iso_codec.specs.Message.{IsoMessage}
+use Rattle.acq_history.proofs.Lookups.{clash}
 
 -- ---- where it stands
 
@@ -55,6 +58,26 @@ original_ended p remaining =
 pub reversed_unapproved : (s : ReplyState) → is_approved (reversed_status s) ≡ false
 reversed_unapproved (Kept reply) = refl
 reversed_unapproved other = refl
+
+-- what is lowered was approved: of what is pending no part may remain
+pub lowered_was_approved : (s : Status) (reply : IsoMessage) (service : Service) (remaining : ℕ) →
+    is_reversible s ≡ true →
+    (is_awaited (reply_state_of s reply) && nat_lt 0 remaining) ≡ false →
+    is_lowered service remaining ≡ true → s ≡ Approved
+lowered_was_approved Pending reply Authorization remaining reversible answered lowered =
+    clash (nat_lt 0 remaining) lowered answered
+lowered_was_approved Pending reply service remaining reversible answered lowered = absurd (cc)
+lowered_was_approved Approved reply service remaining reversible answered lowered = refl
+lowered_was_approved s reply service remaining reversible answered lowered = absurd (cc)
+
+-- what was reversed stays approved exactly where it is lowered
+pub original_approved : (p : Prior) (remaining : ℕ) →
+    is_approved (remains_of p remaining).status ≡ is_lowered p.key.service remaining
+original_approved p remaining =
+    elim (is_lowered p.key.service remaining) as (λ b. is_approved (left_by b p remaining).status ≡ b) [
+      | true ↦ refl
+      | false ↦ reversed_unapproved p.reply_state
+    ]
 
 -- ---- what remains of its amount
 
