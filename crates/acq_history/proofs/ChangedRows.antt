@@ -11,19 +11,19 @@ use Rattle.acq_message.specs.declared.request_key.RequestKey.{RequestKey}
 use Rattle.acq_core.specs.declared.request.Request.{Request}
 use Rattle.acq_message.specs.declared.verdict.Verdict.{Verdict}
 use Rattle.acq_message.specs.declared.response_code.ResponseCode.TheVariants as code
-use Rattle.acq_message.specs.Elements.{same_key, reference_in, original_key}
+use Rattle.acq_message.specs.Elements.{same_key, reference_in, original_key, remaining_in}
 use Rattle.acq_message.specs.declared.request_message.RequestMessage.{RequestMessage}
 use Rattle.acq_core.specs.declared.arrival.Arrival.TheVariants.{Requested, Answered}
 use Rattle.acq_core.specs.Known.{Prior}
 use Rattle.acq_core.specs.declared.reply_state.ReplyState.TheVariants.{Awaited}
 use Rattle.acq_core.specs.Outcome.{Replied, Outcome}
 use Rattle.acq_message.specs.Reply.{verdict_code}
-use Rattle.acq_core.specs.Changes.{answered_status, answered_hold_end, amount_to_remain}
+use Rattle.acq_core.specs.Changes.{answered_status, answered_hold_end}
 use Rattle.acq_core.specs.Changes.{remains_of, remains_of_hold}
 use Rattle.acq_core.specs.Tables.{prior_of, followed_row, answered_row}
 use Rattle.acq_message.specs.Numbers.{is_number}
 use Rattle.acq_history.specs.Entries.{Entry, request_of, is_completing, is_completion, is_reversal}
-use Rattle.acq_history.specs.Entries.{is_reversing, is_key, completes, reverses}
+use Rattle.acq_history.specs.Entries.{is_reversing, is_key, completes, reverses, remaining_by}
 use Rattle.acq_history.specs.History.{Found, aged, recorded, referred, reference_of, prior}
 use Rattle.acq_history.specs.History.{hold_days_of}
 use Rattle.acq_history.proofs.Lookups.{some_is, clash}
@@ -36,6 +36,8 @@ use Rattle.acq_history.proofs.RequestsAfterNewEntry.{fate_answered, fate_complet
 use Rattle.acq_history.proofs.RequestsAfterNewEntry.{prior_by}
 use Rattle.acq_history.proofs.RowsAgreeWithHistory.{FollowsEntry}
 use Rattle.acq_history.proofs.RowsWithChanges.{changing, Edits, followed_kept, answered_kept}
+use Rattle.acq_core.proofs.DecisionCases.{CanBeReversed}
+use Rattle.acq_history.proofs.StepCases.{AllowsReversal, can_be_reversed}
 use Rattle.acq_core.specs.declared.remains.Remains.{Remains}
 use Rattle.acq_core.specs.declared.arrival.Arrival.{Arrival}
 
@@ -152,19 +154,19 @@ pub reversal_follows : (h : List Entry) (key : RequestKey) (g : Found) (p : Prio
     recorded key h ≡ Some g → prior g ≡ p →
     (r : RequestMessage) (day : ℕ) (ranges : List Range) (reply : IsoMessage) →
     request_of (Requested r) ≡ Some r → is_reversal r.service ≡ true →
-    original_key r.message ≡ Some key → p.is_reversible ≡ true →
-    FollowsEntry (changing p.key (followed_row (remains_of p (amount_to_remain r))))
+    original_key r.message ≡ Some key → CanBeReversed r p →
+    FollowsEntry (changing p.key (followed_row (remains_of p (remaining_in r.message))))
     (entry_on day ranges (Requested r) (Replied code.Approved reply)) h
-reversal_follows h key g p found is r day ranges reply came fits asks reversible =
+reversal_follows h key g p found is r day ranges reply came fits asks can =
     subst (λ x. FollowsEntry (changing x.key (followed_row (remains_of x remaining))) e h)
     (sym (prior_is g) ∙ is)
     (edit_follows h e g (followed_row left) (followed_kept left) own
     (λ a same.
     prior_of_reversed a g (fate_of g) remaining (same ∙ prior_is g)
-    (ap (λ x. x.is_reversible) (sym (prior_is g) ∙ is) ∙ reversible)
+    allows.reversible allows.answered
     ∙ sym (prior_aged e g _
     (fate_reversed e g (λ k is. refl) (λ k is. completions k)
-    (by g ∙ (ap (same_key key) here ∙ same_key_itself key)))))
+    (by g ∙ (ap (same_key key) here ∙ same_key_itself key)) remaining (ap remaining_by came))))
     (λ f again other.
     prior_aged_same e f (λ k is. refl) (λ k is. completions k)
     (by f ∙ other_key f again other (same_key key (key_in f)) refl)))
@@ -173,10 +175,15 @@ reversal_follows h key g p found is r day ranges reply came fits asks reversible
     e = entry_on day ranges (Requested r) (Replied code.Approved reply)
 
     remaining : ℕ
-    remaining = amount_to_remain r
+    remaining = remaining_in r.message
 
     left : Remains
     left = remains_of (prior_by (fate_of g) g) remaining
+
+    allows : AllowsReversal r (prior_by (fate_of g) g)
+    allows =
+        can_be_reversed r (prior_by (fate_of g) g)
+        (subst (CanBeReversed r) (sym is ∙ prior_is g) can)
 
     here : key_in g ≡ key
     here = recorded_is key h g found

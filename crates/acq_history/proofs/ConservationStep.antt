@@ -19,13 +19,13 @@ use Rattle.acq_core.specs.declared.status.Status.TheVariants as status
 use Rattle.acq_core.specs.declared.posting.Posting.{Posting}
 use Rattle.acq_message.specs.declared.verdict.Verdict.{Verdict}
 use Rattle.acq_message.specs.declared.verdict.Verdict.TheVariants as verdict
-use Rattle.acq_message.specs.Elements.{transaction_in, key_of, or_empty, sale_leg}
+use Rattle.acq_message.specs.Elements.{transaction_in, key_of, or_empty, sale_leg, remaining_in}
 use Rattle.acq_message.specs.declared.request_message.RequestMessage.{RequestMessage}
 use Rattle.acq_core.specs.Changes.{change_of, admitted_leg, admitted_row, completion_row}
 use Rattle.acq_core.specs.Changes.{reversal_row, completion_posting, reversing_posting}
 use Rattle.acq_core.specs.Changes.{approval_posting, answer_posting, reversal_posting, reversal_leg}
 use Rattle.acq_core.specs.Changes.{posted_leg, answered_status, or_zero, remains_of}
-use Rattle.acq_core.specs.Changes.{remains_of_hold, amount_to_remain}
+use Rattle.acq_core.specs.Changes.{remains_of_hold}
 use Rattle.acq_core.specs.Tables.{Opening, Tables, new_tables, prior_of, reply_state_of}
 use Rattle.acq_core.specs.Tables.{is_reversible, leg_by, reference_by, known_in, with_changed}
 use Rattle.acq_core.specs.Tables.{with_next_posting, after_any, step_tables, tables_after}
@@ -33,7 +33,7 @@ use Rattle.acq_core.specs.Tables.{followed_row, answered_row}
 use Rattle.acq_history.specs.Entries.{is_reversal}
 use Rattle.acq_history.specs.Conservation.{is_reversal_leg, IsConserved}
 use Rattle.acq_history.proofs.Members.{In, In-first, In-last, In-push, from_In, to_In}
-use Rattle.acq_history.proofs.WhatRemains.{takes_all}
+use Rattle.acq_history.proofs.WhatRemains.{left_by, legged_not_lowered}
 use Rattle.acq_history.proofs.FoundRows.{IsNew}
 use Rattle.acq_history.proofs.PostingsOfRequests.{is_posted, is_reversed, posted_by, posted}
 use Rattle.acq_history.proofs.PostingsOfRequests.{IsPostingOf, HasPosted, PostingsMatchRows, Grows}
@@ -42,20 +42,21 @@ use Rattle.acq_history.proofs.RowsStayWellFormed.{IsWellFormed, IsFit, IsComplet
 use Rattle.acq_history.proofs.RowsStayWellFormed.{well_formed_later, well_formed_with_merchant}
 use Rattle.acq_history.proofs.RowsStayWellFormed.{well_formed_with_row, well_formed_changed}
 use Rattle.acq_history.proofs.RowsStayWellFormed.{replaced}
-use Rattle.acq_history.proofs.PostingsOfChangedRows.{IsLegOf, IsReversible, reversed_as}
+use Rattle.acq_history.proofs.PostingsOfChangedRows.{IsLegOf, IsStanding, reversed_as}
 use Rattle.acq_history.proofs.PostingsOfChangedRows.{posted_same, posted_none, posted_reversing}
 use Rattle.acq_history.proofs.PostingsOfChangedRows.{posted_unsold, leg_of, leg_by_admissible}
 use Rattle.acq_history.proofs.PostingsOfChangedRows.{reversal_leg_is, reversible, posted_leg_is}
 use Rattle.acq_history.proofs.PostingsOfChangedRows.{once_posted, none_posted, Grows-push}
 use Rattle.acq_history.proofs.PostingsOfChangedRows.{Grows-both, from_push, pushed, Grows-replaced}
-use Rattle.acq_history.proofs.PostingsOfChangedRows.{from_replaced, KeepsAmount}
+use Rattle.acq_history.proofs.PostingsOfChangedRows.{from_replaced, KeepsAmount, LeavesPosted}
+use Rattle.acq_history.proofs.PostingsOfChangedRows.{leaves_posted, approved_standing}
 use Rattle.acq_history.proofs.Lookups.{some_is}
 use Rattle.acq_history.proofs.RowsWithChanges.{Edits, followed_kept, answered_kept}
 use Rattle.acq_history.proofs.StepCases.{by_step, IsRecording, IsCompletion, IsReversal}
 use Rattle.acq_history.proofs.StepCases.{next_reference, IsAdmission, IsAnswering}
 use Rattle.acq_core.specs.declared.arrival.Arrival.{Arrival}
 use Rattle.acq_history.proofs.Runs.{kept}
-use Rattle.acq_history.proofs.Statuses.{open_row, is_some_open, IsApproved}
+use Rattle.acq_history.proofs.Statuses.{open_row, is_some_open}
 
 -- what holds of every book
 record AreInOrder (day : ℕ) (merchants : List Merchant) (rows : List Request)
@@ -157,11 +158,10 @@ record IsEdited (t : Tables) (row : Request) (changed : Request → Request) : T
   from : posted (changed row) ≡ posted row → KeepsAmount row (changed row) →
       FromBefore t.requests t.postings (edited t row changed)
 
--- what changes could have been reversed
+-- what changes was neither completed nor reversed
 edited_is : (t : Tables) (row : Request) (changed : Request → Request) → Edits changed →
-    In row t.requests → is_reversible row.status ≡ true → IsInOrder t → IsEdited t row changed
-edited_is t row changed edits i can_be s =
-    let can = reversible row.status row.reply can_be in
+    In row t.requests → IsStanding row.status → IsInOrder t → IsEdited t row changed
+edited_is t row changed edits i can s =
     let r = replaced t.requests row changed i edits s.well_formed in
     record {
       replaced = r;
@@ -248,14 +248,17 @@ sound_completed t r merchant hold g c s = record {
     posting : Posting
     posting = completion_posting t.day r (prior_of hold)
 
-    is : (hold.key.service ≡ Authorization) × IsApproved hold.status
-    is = open_row hold.key.service hold (is_some_open r.moment (prior_of hold).hold_end c.opens)
+    is : (hold.key.service ≡ Authorization) × IsStanding hold.status
+    is =
+        let found = open_row hold.key.service hold
+        (is_some_open r.moment (prior_of hold).hold_end c.opens) in
+        (found.0, approved_standing hold.status found.1.is)
 
     e : IsEdited t hold (done hold)
-    e = edited_is t hold (done hold) (followed_kept _) c.member is.1.reversible s
+    e = edited_is t hold (done hold) (followed_kept _) c.member is.1 s
 
     incomplete : hold.status ≡ status.Completed → ⊥
-    incomplete f = (reversible hold.status hold.reply is.1.reversible).not_completed f
+    incomplete = is.1.not_completed
 
     same_posted : posted (done hold hold) ≡ posted hold
     same_posted = unposted_by (done hold hold) is.0 ∙ sym (unposted_by hold is.0)
@@ -290,7 +293,7 @@ sound_completed t r merchant hold g c s = record {
 
 -- what becomes of a request that is reversed
 abbrev undone : RequestMessage → Request → Request → Request
-undone r row = followed_row (remains_of (prior_of row) (amount_to_remain r))
+undone r row = followed_row (remains_of (prior_of row) (remaining_in r.message))
 
 -- no reversal is a completion
 not_completion : (x : Service) → is_reversal x ≡ true → x ≡ Completion → ⊥
@@ -315,11 +318,16 @@ sound_reversed t r merchant row g c s = record {
     after : Request
     after = reversal_row t.day r (prior_of row)
 
-    can : IsReversible row.status row.reply
-    can = reversible row.status row.reply c.reversible
+    can : IsStanding row.status
+    can = reversible row.status c.reversible
 
     e : IsEdited t row (undone r row)
-    e = edited_is t row (undone r row) (followed_kept _) c.member c.reversible s
+    e = edited_is t row (undone r row) (followed_kept _) c.member can s
+
+    leaves : LeavesPosted row.key.service row (remains_of (prior_of row) (remaining_in r.message))
+    leaves =
+        leaves_posted row.key.service row (remaining_in r.message) c.reversible (prior_of row) refl
+        refl
 
     fresh : (a : Request) → In a (edited t row (undone r row)) →
         a.key ≡ key_of r.service r.message → ⊥
@@ -329,7 +337,7 @@ sound_reversed t r merchant row g c s = record {
     ]
 
     same_posted : posted (undone r row row) ≡ posted row
-    same_posted = posted_same row.key.service (undone r row row) row can.posts refl refl
+    same_posted = leaves.same
 
     grows : Grows t.requests
         (edited t row (undone r row) ++ reversal_row t.day r (prior_of row) ∷ [])
@@ -340,7 +348,7 @@ sound_reversed t r merchant row g c s = record {
     from : FromBefore t.requests t.postings
         (edited t row (undone r row) ++ reversal_row t.day r (prior_of row) ∷ [])
     from = from_push (edited t row (undone r row)) after t.postings
-        (posted_reversing r.service after c.service) (e.from same_posted (λ n under. refl))
+        (posted_reversing r.service after c.service) (e.from same_posted leaves.keeps)
 
     step : (o : Option Leg) →
         posted_leg (reply_state_of row.status row.reply) (leg_by row.key.service row) ≡ o →
@@ -376,7 +384,10 @@ sound_reversed t r merchant row g c s = record {
             member = In-first (undone r row row) (edited t row (undone r row)) _ e.replaced.changed;
             merchant = c.own;
             under =
-                ap (λ b. cond b (posted (undone r row row)) None) was.reversed
+                ap (λ b. cond b (posted (undone r row row)) None)
+                (ap (λ b. is_reversed (left_by b (prior_of row) (remaining_in r.message)).status)
+                (legged_not_lowered row.key.service row leg (remaining_in r.message) was.under)
+                ∙ was.reversed)
                 ∙ (same_posted ∙ (under ∙ ap (λ k. Some k) (sym number)));
           };
           reverses = λ yes. record {
@@ -385,7 +396,7 @@ sound_reversed t r merchant row g c s = record {
             merchant = original.of.merchant ∙ c.own;
             reference = original.of.reference ∙ sym number;
             leg = ap reversal_leg (original.of.leg ∙ sym of.same);
-            amount = original.of.amount ∙ sym (takes_all r row.amount);
+            amount = let stands = original.of.amount in omega arith;
             card = original.of.card;
             day = omega arith;
           };
@@ -423,7 +434,7 @@ module _ {a : Arrival} {moment : ℕ} {v : Verdict} (t : Tables) (row : Request)
   answered_is : (st : Status) → IsEdited t row (after_answer st)
   answered_is st =
       edited_is t row (after_answer st) (answered_kept st reply until) c.member
-      (ap is_reversible c.pending) s
+      (reversible row.status (ap is_reversible c.pending)) s
 
   -- one that posts nothing
   answered_unposted : (st : Status) → posted (after_answer st row) ≡ posted row →

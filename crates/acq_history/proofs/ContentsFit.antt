@@ -15,7 +15,7 @@ use Rattle.iso_codec.proofs.ElementPlaces.{fits_by, text_fits}
 use Rattle.acq_message.specs.declared.service.Service.{Service}
 use Rattle.acq_message.specs.declared.service.Service.TheVariants.{NetworkManagement}
 use Rattle.acq_message.specs.declared.request_message.RequestMessage.{RequestMessage}
-use Rattle.acq_message.specs.FirstCheck.{is_malformed, has_one_of, unverifiable}
+use Rattle.acq_message.specs.FirstCheck.{is_malformed, has_one_of, unverifiable, has_bad_remainder}
 use Rattle.acq_message.specs.Cards.{has_bad_track, has_two_cards}
 use Rattle.acq_message.specs.Names.{is_merchant, is_terminal, is_trace, is_transmission}
 use Rattle.acq_message.specs.Numbers.{is_amount}
@@ -76,8 +76,10 @@ needed_there s m passes =
     let missing = not (list_all (has m) (needed s)) in
     let no_card = not (has_one_of m (needed_card s)) in
     let unverified = list_any (has m) unverifiable in
+    let fifth = or_split (missing || no_card || unverified || has_bad_track m || has_two_cards m)
+    (has_bad_remainder s m) passes in
     let fourth = or_split (missing || no_card || unverified || has_bad_track m)
-    (has_two_cards m) passes in
+    (has_two_cards m) fifth.0 in
     let third = or_split (missing || no_card || unverified) (has_bad_track m) fourth.0 in
     let second = or_split (missing || no_card) unverified third.0 in
     let first = or_split missing no_card second.0 in

@@ -15,7 +15,7 @@ use Rattle.acq_message.specs.declared.verdict.Verdict.TheVariants as verdict
 use Rattle.acq_core.specs.Arrivals.{arrival_of}
 use Rattle.acq_core.specs.Known.{Prior}
 use Rattle.acq_core.specs.Changes.{change_of, answered_status, answer_posting}
-use Rattle.acq_core.specs.Changes.{amount_to_remain}
+use Rattle.acq_message.specs.Elements.{remaining_in}
 use Rattle.acq_core.specs.Changes.{approval_posting, reversal_posting, completion_posting}
 use Rattle.acq_core.specs.Tables.{Tables, is_pending, known_in, with_changed, with_next_posting}
 use Rattle.acq_core.specs.Tables.{after_any, step_tables, tables_after, prior_of}
@@ -141,7 +141,7 @@ stays day t a c =
               none =
                   NonePending-push day _ _
                   (NonePending-changed day row.key _ t.requests c.none
-                  (λ x s. not_pending _ (original_ended (prior_of row) (amount_to_remain r)) s))
+                  (λ x s. not_pending _ (original_ended (prior_of row) (remaining_in r.message)) s))
                   (λ s on. absurd (cc));
             };
         same =

@@ -15,7 +15,7 @@ use Rattle.acq_core.specs.Tables.{Tables, new_tables, known_in, with_changed, af
 use Rattle.acq_core.specs.Tables.{step_tables}
 use Rattle.acq_history.proofs.Lookups.{or_split, not_true, any-push, map-push}
 use Rattle.acq_history.proofs.Members.{In}
-use Rattle.acq_history.proofs.Keys.{same_key_is}
+use Rattle.acq_history.proofs.Keys.{same_key_is, same_key_from}
 use Rattle.acq_history.specs.Keys.{are_distinct, same_terminal, HasUniqueKeys, KeysStayUnique}
 use Rattle.acq_history.proofs.StepCases.{by_step}
 use Rattle.acq_history.proofs.RowsWithChanges.{Edits, changing_kept, followed_kept, answered_kept}
@@ -81,6 +81,36 @@ unique_with_row rows later row same new h =
     subst (λ ks. are_distinct same_key ks ≡ true)
     (sym (map-push (λ x. x.key) later (row ∷ []) ∙ ap (λ ks. ks ++ row.key ∷ []) same))
     (are_distinct-push same_key (map (λ x. x.key) rows) row.key h (none_same rows row.key new))
+
+-- of the keys of rows, none later is the same as the first
+later_differs : (x y : Request) (rows : List Request) → In y rows → x.key ≡ y.key →
+    list_any (same_key x.key) (map (λ row. row.key) rows) ≡ false → ⊥
+later_differs x y [] member same none = absurd member
+later_differs x y (row ∷ rows) (inl is) same none =
+    let apart = or_split (same_key x.key row.key) _ none in
+    let itself = same_key_from x.key row.key (same ∙ sym (ap (λ z. z.key) is)) in
+    absurd (let no : true ≡ false = sym itself ∙ apart.0 in cc)
+later_differs x y (row ∷ rows) (inr member) same none =
+    later_differs x y rows member same (or_split (same_key x.key row.key) _ none).1
+
+-- rows with one key are one row
+pub only_row : (rows : List Request) → AreUnique rows → (x y : Request) → In x rows → In y rows →
+    x.key ≡ y.key → x ≡ y
+only_row [] unique x y i j same = absurd i
+only_row (row ∷ rows) unique x y i j same =
+    let parts = and_parts (not (list_any (same_key row.key) (map (λ z. z.key) rows))) _ unique in
+    let none = not_true _ parts.0 in
+    step i j none (only_row rows parts.1 x y)
+  where
+    step : In x (row ∷ rows) → In y (row ∷ rows) →
+        list_any (same_key row.key) (map (λ z. z.key) rows) ≡ false →
+        (In x rows → In y rows → x.key ≡ y.key → x ≡ y) → x ≡ y
+    step (inl a) (inl b) none rest = sym a ∙ b
+    step (inl a) (inr b) none rest =
+        absurd (later_differs row y rows b (ap (λ z. z.key) a ∙ same) none)
+    step (inr a) (inl b) none rest =
+        absurd (later_differs row x rows a (ap (λ z. z.key) b ∙ sym same) none)
+    step (inr a) (inr b) none rest = rest a b same
 
 -- ---- steps
 

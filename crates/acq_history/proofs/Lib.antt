@@ -49,6 +49,7 @@ pub mod RowsStayWellFormed
 pub mod PostingsOfRequests
 pub mod PostingsOfChangedRows
 pub mod ConservationStep
+pub mod ReversedAmounts
 pub mod RangeListsWidened
 pub mod WidenedDecisions
 pub mod WidenedSteps

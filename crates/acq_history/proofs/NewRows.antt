@@ -51,7 +51,7 @@ prior_newest r e h =
     prior_is f ∙ (λ i. prior_by (record {
       answer = answer_to_none (reference_of f) i;
       completed = any_with_none (reference_of f) i;
-      reversed = false;
+      reversal = None;
     }) f)
 
 -- ---- what is neither admitted nor accepted

@@ -1,6 +1,7 @@
 -- Numbers stay within their bounds, whatever comes.
-use Rattle.std.proofs.Common.{◌∙◌, ◌≡◌, ℕ, ◌+◌, ◌*◌, ◌≤◌, List, [], ◌∷◌, length, Option, Some, None}
-use Rattle.std.proofs.Common.{Bool, true, false, cond, refl, sym, ap, subst, arith, eqb, leb}
+use Rattle.std.proofs.Common.{◌∙◌, ◌≡◌, ℕ, ◌+◌, ◌*◌, ◌<◌, ◌≤◌, List, [], ◌∷◌, length}
+use Rattle.std.proofs.Common.{Option, Some, None, Bool, true, false}
+use Rattle.std.proofs.Common.{cond, refl, sym, ap, subst, arith, eqb, leb}
 use Rattle.std.specs.Prelude.{All, IfSome, map, filter, find, option_map}
 use Rattle.std.specs.Str.{bytes_eq}
 use Rattle.std.proofs.lemmas.Bool.{and_parts, leb-true, le-leb}
@@ -13,12 +14,11 @@ use Rattle.day_totals.specs.Totals.{greatest_posting}
 use Rattle.day_totals.proofs.WithinLimits.{FitsDay-within}
 use Rattle.acq_message.specs.declared.service.Service.{Service}
 use Rattle.acq_message.specs.declared.service.Service.TheVariants.{Financial, Completion}
-use Rattle.acq_message.specs.declared.request_key.RequestKey.{RequestKey}
 use Rattle.acq_message.specs.declared.request_message.RequestMessage.{RequestMessage}
 use Rattle.acq_message.specs.declared.verdict.Verdict.{Verdict}
 use Rattle.acq_message.specs.declared.verdict.Verdict.TheVariants as verdict
 use Rattle.acq_message.specs.Numbers.{is_accepted_amount, is_reference}
-use Rattle.acq_message.specs.Elements.{text_at, amount_in}
+use Rattle.acq_message.specs.Elements.{text_at, amount_in, remaining_in}
 use Rattle.acq_core.specs.declared.arrival.Arrival.{Arrival}
 use Rattle.acq_core.specs.declared.merchant.Merchant.{Merchant}
 use Rattle.acq_core.specs.declared.posting.Posting.{Posting}
@@ -28,22 +28,25 @@ use Rattle.acq_core.specs.declared.reply_state.ReplyState.TheVariants.{Kept}
 use Rattle.acq_core.specs.Numbers.{is_first_reference, greatest_limit}
 use Rattle.acq_core.specs.Changes.{or_zero, change_of, approval_posting, answer_posting}
 use Rattle.acq_core.specs.Changes.{completion_posting, posted_leg, reversing_posting}
-use Rattle.acq_core.specs.Changes.{reversal_posting, answered_status, amount_to_remain}
+use Rattle.acq_core.specs.Changes.{reversal_posting, answered_status}
 use Rattle.acq_core.specs.Tables.{Opening, Tables, new_tables, count, is_pending, prior_of}
 use Rattle.acq_core.specs.Tables.{reply_state_of, reference_by, leg_by, requests_of, postings_of}
 use Rattle.acq_core.specs.Tables.{admitted_in, with_changed, with_next_posting, postings_before}
 use Rattle.acq_core.specs.Tables.{known_in, after_any, step_tables, tables_after}
 use Rattle.acq_history.specs.Entries.{is_reversal}
 use Rattle.acq_history.proofs.Lookups.{map_some}
-use Rattle.acq_history.proofs.Members.{In-find, from_In}
+use Rattle.acq_history.proofs.Members.{In, In-find, from_In}
 use Rattle.acq_core.specs.Events.{IsOpening}
 use Rattle.acq_history.specs.Bounds.{IsBoundedRow, IsBoundedPosting, IsWithinLimit}
 use Rattle.acq_history.specs.Bounds.{NumbersStayBounded}
 use Rattle.acq_history.proofs.StepCases.{next_reference, by_step}
 use Rattle.acq_history.proofs.Arrivals.{IsArrival, kept_by_events}
-use Rattle.acq_history.proofs.RowsWithChanges.{All-with_changed, All-member, followed_kept}
+use Rattle.acq_history.proofs.RowsWithChanges.{All-with_only_changed, All-member, followed_kept}
 use Rattle.acq_history.proofs.RowsWithChanges.{answered_kept, Edits}
-use Rattle.acq_history.proofs.WhatRemains.{hold_ended, original_ended, takes_all}
+use Rattle.acq_history.proofs.WhatRemains.{hold_ended, original_ended, remains_accepted}
+use Rattle.acq_history.proofs.WhatRemains.{taken_accepted}
+use Rattle.acq_history.specs.Keys.{HasUniqueKeys}
+use Rattle.acq_history.proofs.KeysStayUnique.{AreUnique, only_row, unique_after_step}
 use Rattle.acq_history.proofs.AdmittedCounts.{IsCounted, admitted_in-within}
 use Rattle.acq_history.proofs.CountsStayWithin.{AreCountsWithin, IsOfDay, within_uncounted}
 use Rattle.acq_history.proofs.CountsStayWithin.{within_counted, posted_on-ended, used_on-changed}
@@ -78,15 +81,16 @@ sound_later today later row le s = record {
 }
 
 -- rows with one changed, whose amount stays an accepted one
-sound_changed : (today : ℕ) (key : RequestKey) (changed : Request → Request) → Edits changed →
-    ((x : Request) → x.key ≡ key → is_accepted_amount x.amount ≡ true →
-    is_accepted_amount (changed x).amount ≡ true) →
-    (rows : List Request) → All (IsSoundRow today) rows →
-    All (IsSoundRow today) (with_changed key changed rows)
-sound_changed today key changed edits amounts rows =
-    All-with_changed (IsSoundRow today) key changed rows (λ x same s.
-    let c = edits x in
-    record {
+sound_changed : (today : ℕ) (row : Request) (changed : Request → Request) → Edits changed →
+    (is_accepted_amount row.amount ≡ true → is_accepted_amount (changed row).amount ≡ true) →
+    (rows : List Request) → AreUnique rows → In row rows → All (IsSoundRow today) rows →
+    All (IsSoundRow today) (with_changed row.key changed rows)
+sound_changed today row changed edits accepted rows unique member h =
+    let c = edits row in
+    let s : IsSoundRow today row = All-member (IsSoundRow today) rows row h member in
+    All-with_only_changed (IsSoundRow today) row changed rows
+    (λ x i same. only_row rows unique x row i member same)
+    (record {
       bounded = record {
         day = subst (λ d. d ≤ today) (sym c.day) s.bounded.day;
         reference = subst (λ o. IfSome o (λ n. is_reference n ≡ true)) (sym c.reference)
@@ -95,11 +99,12 @@ sound_changed today key changed edits amounts rows =
             s.bounded.follows;
       };
       counts = λ n e. c.admitted ∙ s.counts n (sym c.reference ∙ e);
-      amount = λ n e. amounts x same (s.amount n (sym c.reference ∙ e));
-      completion = λ k n e.
-          amounts x same (s.completion (sym (ap (λ z. z.service) c.key) ∙ k) n
+      amount = λ n e. accepted (s.amount n (sym c.reference ∙ e));
+      completion =
+          λ k n e. accepted (s.completion (sym (ap (λ z. z.service) c.key) ∙ k) n
           (sym c.follows ∙ e));
     })
+    h
 
 -- one without a reference, which follows nothing that posts
 sound_plain : (today : ℕ) (row : Request) → row.day ≡ today → row.reference ≡ None →
@@ -188,8 +193,9 @@ posted_leg-some other o leg e = absurd cc
 
 -- what a reversal posts, today
 reversal_made : (today day : ℕ) (r : RequestMessage) (row : Request) → IsSoundRow day row →
+    remaining_in r.message < row.amount →
     IfSome (reversal_posting today r (prior_of row)) (IsMade (text_at r.message 42) today)
-reversal_made today day r row sound =
+reversal_made today day r row sound less =
     step (posted_leg (reply_state_of row.status row.reply) (leg_by row.key.service row)) refl
   where
     step : (o : Option Leg) →
@@ -200,10 +206,10 @@ reversal_made today day r row sound =
     step (Some leg) e = record {
       of = record { merchant = refl; day = refl };
       amount =
-          ap is_accepted_amount (takes_all r row.amount)
-          ∙ leg_by-amount day row.key.service row leg sound refl
+          taken_accepted row.amount (remaining_in r.message) less
+          (leg_by-amount day row.key.service row leg sound refl
           (posted_leg-some (reply_state_of row.status row.reply) (leg_by row.key.service row) leg
-          e);
+          e));
       reference = or_zero-bounded (reference_by row.key.service row)
           (reference_by-bounded day row.key.service row sound.bounded);
     }
@@ -295,9 +301,9 @@ module _ (opening : Opening) (begins : IsOpening opening) where
       let few = admitted_within t h (text_at r.message 42) in
       le-leb (next_reference t r merchant) 999999999999 (omega arith)
 
-  step : (t : Tables) (a : Arrival) → IsArrival a → HasSoundNumbers opening t →
+  step : (t : Tables) (a : Arrival) → IsArrival a → HasUniqueKeys t → HasSoundNumbers opening t →
       HasSoundNumbers opening (step_tables t a)
-  step t a is h =
+  step t a is keys h =
       by_step t a (λ d. HasSoundNumbers opening (after_any t (change_of (known_in t a) d)))
       (record {
         reported = λ o not. h;
@@ -332,7 +338,8 @@ module _ (opening : Opening) (begins : IsOpening opening) where
             All-member (IsSoundRow t.day) t.requests hold h.rows c.member in
             let made = completion_made t.day t.day r hold sound c.amount in sound_with h
             (All-push (IsSoundRow t.day) _ _
-            (sound_changed t.day hold.key _ (followed_kept _) (λ x same a. a) t.requests h.rows)
+            (sound_changed t.day hold _ (followed_kept _) (λ accepted. accepted) t.requests
+            keys.requests c.member h.rows)
             (sound_plain t.day _ refl refl
             (reference_by-bounded t.day hold.key.service hold sound.bounded)
             (λ s n e. c.amount)))
@@ -354,10 +361,12 @@ module _ (opening : Opening) (begins : IsOpening opening) where
         reversed = λ r merchant g row c.
             let sound : IsSoundRow t.day row =
             All-member (IsSoundRow t.day) t.requests row h.rows c.member in
-            let ended = (original_ended (prior_of row) (amount_to_remain r)).pending in
-            let made = reversal_made t.day t.day r row sound in sound_with h
+            let ended = (original_ended (prior_of row) (remaining_in r.message)).pending in
+            let made = reversal_made t.day t.day r row sound c.less in sound_with h
             (All-push (IsSoundRow t.day) _ _
-            (sound_changed t.day row.key _ (followed_kept _) (λ x same a. a) t.requests h.rows)
+            (sound_changed t.day row _ (followed_kept _)
+            (remains_accepted (prior_of row) (remaining_in r.message) c.less) t.requests
+            keys.requests c.member h.rows)
             (sound_plain t.day _ refl refl
             (reference_by-bounded t.day row.key.service row sound.bounded)
             (λ s n e. absurd (let no : is_reversal r.service ≡ false = ap is_reversal s in
@@ -383,8 +392,8 @@ module _ (opening : Opening) (begins : IsOpening opening) where
             let sound : IsSoundRow t.day row =
             All-member (IsSoundRow t.day) t.requests row h.rows c.member in
             let made = answer_made t.day v row sound in sound_with h
-            (sound_changed t.day row.key _ (answered_kept _ _ _) (λ x same a. a) t.requests
-            h.rows)
+            (sound_changed t.day row _ (answered_kept _ _ _) (λ accepted. accepted) t.requests
+            keys.requests c.member h.rows)
             (postings_with t.day row.day row.key.merchant t.postings
             (answer_posting v (prior_of row))
             sound.bounded.day made h.postings)
@@ -486,15 +495,19 @@ pub numbers_stay_bounded : NumbersStayBounded
 numbers_stay_bounded opening es begins are =
     let t = tables_after (new_tables opening) es in
     let sound : HasSoundNumbers opening (tables_after (new_tables opening) es) =
-    kept_by_events (HasSoundNumbers opening) (step opening begins) (new_tables opening) es are
-    (record {
-      limit = refl;
-      day = begins.first_day;
-      firsts = All-nil HasFirst;
-      rows = All-nil (IsSoundRow opening.first_day);
-      postings = All-nil (IsBoundedPosting opening.first_day);
-      counts = record { used = λ m day. omega arith; posted = λ m day. omega arith };
-    }) in
+    (kept_by_events (λ u. HasUniqueKeys u × HasSoundNumbers opening u)
+    (λ u a is both. (unique_after_step u a both.0, step opening begins u a is both.0 both.1))
+    (new_tables opening) es are (
+      record { requests = refl; merchants = refl; terminals = refl },
+      record {
+        limit = refl;
+        day = begins.first_day;
+        firsts = All-nil HasFirst;
+        rows = All-nil (IsSoundRow opening.first_day);
+        postings = All-nil (IsBoundedPosting opening.first_day);
+        counts = record { used = λ m day. omega arith; posted = λ m day. omega arith };
+      },
+    )).1 in
     record {
       limit = sound.limit;
       day = sound.day;

@@ -20,7 +20,7 @@ use Rattle.acq_core.specs.declared.event.Event.TheVariants as event
 use Rattle.acq_message.specs.Services.{needed, needed_card, service_of}
 use Rattle.acq_message.specs.Elements.{has, or_empty, text_at, same_key}
 use Rattle.acq_message.specs.Cards.{has_bad_track, has_two_cards}
-use Rattle.acq_message.specs.FirstCheck.{has_one_of, unverifiable, is_malformed}
+use Rattle.acq_message.specs.FirstCheck.{has_one_of, unverifiable, is_malformed, has_bad_remainder}
 use Rattle.acq_core.specs.declared.arrival.Arrival.{Arrival}
 use Rattle.acq_message.specs.declared.request_message.RequestMessage.{RequestMessage}
 use Rattle.acq_core.specs.Arrivals.{arrival_of, arrival_of_reading, arrival_of_message}
@@ -231,8 +231,11 @@ passed_has s message passed =
     let all = not (list_all (has message) (needed s)) in
     let card = not (has_one_of message (needed_card s)) in
     let unknown = list_any (has message) unverifiable in
+    let fifth =
+    or_split (all || card || unknown || has_bad_track message || has_two_cards message)
+    (has_bad_remainder s message) passed in
     let fourth = or_split (all || card || unknown || has_bad_track message)
-    (has_two_cards message) passed in
+    (has_two_cards message) fifth.0 in
     let third = or_split (all || card || unknown) (has_bad_track message) fourth.0 in
     let second = or_split (all || card) unknown third.0 in
     not_false (list_all (has message) (needed s)) (or_split all card second.0).0

@@ -28,7 +28,8 @@ use Rattle.acq_core.specs.Decision.{Decision, Refuses, Admits, Completes, Revers
 use Rattle.acq_core.specs.Outcome.{Outcome, Replied, Asked, outcome_of, is_in_balance, balance_code}
 use Rattle.acq_core.specs.Outcome.{query_of}
 use Rattle.acq_message.specs.Reply.{coded_reply, referring_reply, totals_reply}
-use Rattle.acq_core.specs.Changes.{change_of, refused_row, reconciliation_row, amount_to_remain}
+use Rattle.acq_core.specs.Changes.{change_of, refused_row, reconciliation_row}
+use Rattle.acq_message.specs.Elements.{remaining_in}
 use Rattle.acq_core.specs.Changes.{remains_of, remains_of_hold}
 use Rattle.acq_core.specs.Changes.{completion_posting, reversal_posting}
 use Rattle.acq_core.specs.Tables.{Opening, Tables, postings_of, with_next_posting, after_any}
@@ -48,6 +49,7 @@ use Rattle.acq_history.proofs.RecordableRequests.{recordable_is, wants_by_key}
 use Rattle.acq_history.proofs.UnrecordedRequests.{IsRefusal, IsQuiet, accepts_not}
 use Rattle.acq_history.proofs.NewRows.{idle_line, admitted_line, completed_line, reversed_line}
 use Rattle.acq_history.proofs.RequestsAfterNewEntry.{line, shown}
+use Rattle.acq_core.proofs.DecisionCases.{CanBeReversed}
 use Rattle.acq_history.proofs.RowsAgreeWithHistory.{Rows, without_newest_edited}
 use Rattle.acq_history.proofs.RowsAgreeWithHistory.{without_newest_still, rows_still, rows_joined}
 use Rattle.acq_history.proofs.ChangedRows.{completion_follows, reversal_follows, entry_on}
@@ -386,9 +388,9 @@ module _ {opening : Opening} {m : List ℕ} {t : Tables} {h : List Entry}
   pub reversed_step : (r : RequestMessage) → merchant_named (Requested r) ≡ Some m → (p : Prior) →
       request_of (Requested r) ≡ Some r →
       (known_by opening h (Requested r)).recorded ≡ None → is_reversal r.service ≡ true →
-      (known_by opening h (Requested r)).original ≡ Some p → p.is_reversible ≡ true →
+      (known_by opening h (Requested r)).original ≡ Some p → CanBeReversed r p →
       Keeps (Requested r) (Reverses r p)
-  reversed_step r named p came new fits there reversible =
+  reversed_step r named p came new fits there can =
       let day = day_after opening.first_day h in
       let reply = referring_reply day r p.reference code.Approved in
       let o = Replied code.Approved reply in
@@ -403,7 +405,7 @@ module _ {opening : Opening} {m : List ℕ} {t : Tables} {h : List Entry}
       ap (λ rq. accepts is_acceptable rq o) came ∙ ap (λ b. b && true)
       (reversal_accepted r.service fits) in
       let admission : is_admission e h ≡ false = admits_not (request_of (Requested r)) e h refl in
-      let left = remains_of p (amount_to_remain r) in
+      let left = remains_of p (remaining_in r.message) in
       let posting : posting_of e h ≡ reversal_posting day r p =
       ap (λ b. cond b (posting_by r.service e h r) None) acceptance
       ∙ (reversal_by e h r r.service fits
@@ -427,7 +429,7 @@ module _ {opening : Opening} {m : List ℕ} {t : Tables} {h : List Entry}
             })
             (without_newest_edited p.key (followed_row left) (followed_kept left)
             (reversal_follows h key f p found.1 found.2 r day
-            (ranges_after h) reply came fits asked.1 reversible) g.rows);
+            (ranges_after h) reply came fits asked.1 can) g.rows);
         posted =
             postings_of_mine m t.postings (reversal_posting day r p)
             (subst (λ n. IsOf n (reversal_posting day r p)) (own_text r named)

@@ -144,9 +144,9 @@ module _ {opening : Opening} {m : List ℕ} {t : Tables} {h : List Entry}
         completed = λ merchant fresh service hold found opens.
             completes_by r.moment r.service r.message named hold fresh.new service found
             (is_some_open r.moment hold.hold_end opens);
-        reversed = λ merchant fresh service p found final.
+        reversed = λ merchant fresh service p found can.
             reversed_step g r named p (came fresh.recordable) fresh.new
-            (is_reversal_true r.service service) found final;
+            (is_reversal_true r.service service) found can;
         reconciled = λ merchant fresh service day resolved.
             reconciled_step g r named day (came fresh.recordable) fresh.new service;
       })

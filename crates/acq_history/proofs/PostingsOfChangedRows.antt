@@ -14,10 +14,15 @@ use Rattle.acq_core.specs.declared.request.Request.{Request}
 use Rattle.acq_core.specs.declared.merchant.Merchant.{Merchant}
 use Rattle.acq_core.specs.declared.status.Status.{Status}
 use Rattle.acq_core.specs.declared.status.Status.TheVariants.{Pending, Approved, Completed}
+use Rattle.acq_core.specs.declared.status.Status.TheVariants.{Lowered}
 use Rattle.acq_core.specs.declared.posting.Posting.{Posting}
 use Rattle.acq_message.specs.Elements.{or_empty}
-use Rattle.acq_core.specs.Changes.{reversal_leg, reversed_status, posted_leg}
-use Rattle.acq_core.specs.Tables.{reply_state_of, is_reversible, leg_by, reference_by}
+use Rattle.acq_core.specs.declared.remains.Remains.{Remains}
+use Rattle.acq_core.specs.Known.{Prior}
+use Rattle.acq_core.specs.Changes.{reversal_leg, reversed_status, posted_leg, is_lowered}
+use Rattle.acq_core.specs.Tables.{reply_state_of, is_reversible, is_approved, leg_by, reference_by}
+use Rattle.acq_core.specs.Tables.{followed_row}
+use Rattle.acq_history.proofs.WhatRemains.{left_by}
 use Rattle.acq_history.specs.Entries.{is_admissible, is_reversal}
 use Rattle.acq_history.specs.Conservation.{is_reversal_leg}
 use Rattle.acq_history.proofs.Members.{In, In-first, In-push}
@@ -137,18 +142,50 @@ reversal_leg_is other e = refl
 
 -- ---- status
 
--- what can be reversed was not, and a reversal keeps whether it posted
-pub record IsReversible (s : Status) (reply : IsoMessage) : Type 0 where
-  pub posts : is_posted (reversed_status (reply_state_of s reply)) ≡ is_posted s
+-- neither reversed nor completed
+pub record IsStanding (s : Status) : Type 0 where
   pub not_reversed : is_reversed s ≡ false
   pub not_completed : s ≡ Completed → ⊥
 
-pub reversible : (s : Status) (reply : IsoMessage) → is_reversible s ≡ true → IsReversible s reply
-reversible Pending reply e =
-    record { posts = refl; not_reversed = refl; not_completed = λ h. absurd (cc) }
-reversible Approved reply e =
-    record { posts = refl; not_reversed = refl; not_completed = λ h. absurd (cc) }
-reversible status reply e = absurd (cc)
+-- so is what can be reversed
+pub reversible : (s : Status) → is_reversible s ≡ true → IsStanding s
+reversible Pending e = record { not_reversed = refl; not_completed = λ h. absurd (cc) }
+reversible Approved e = record { not_reversed = refl; not_completed = λ h. absurd (cc) }
+reversible status e = absurd (cc)
+
+-- and an open hold, also one that was lowered
+pub approved_standing : (s : Status) → is_approved s ≡ true → IsStanding s
+approved_standing Approved e = record { not_reversed = refl; not_completed = λ h. absurd (cc) }
+approved_standing Lowered e = record { not_reversed = refl; not_completed = λ h. absurd (cc) }
+approved_standing status e = absurd (cc)
+
+-- a reversal keeps whether its original posted
+reversal_posts : (s : Status) (reply : IsoMessage) → is_reversible s ≡ true →
+    is_posted (reversed_status (reply_state_of s reply)) ≡ is_posted s
+reversal_posts Pending reply e = refl
+reversal_posts Approved reply e = refl
+reversal_posts status reply e = absurd (cc)
+
+-- what has posted is left by its reversal with its amount, and has posted as before
+pub record LeavesPosted (s : Service) (row : Request) (remains : Remains) : Type 0 where
+  pub same : posted_by s (followed_row remains row) ≡ posted_by s row
+  pub keeps : (n : ℕ) → posted_by s row ≡ Some n → remains.amount ≡ row.amount
+
+pub leaves_posted : (s : Service) (row : Request) (remaining : ℕ) →
+    is_reversible row.status ≡ true → (p : Prior) → p.amount ≡ row.amount →
+    p.reply_state ≡ reply_state_of row.status row.reply →
+    LeavesPosted s row (left_by (is_lowered s remaining) p remaining)
+leaves_posted Financial row remaining can p amount state =
+    record {
+      same =
+          ap (λ x. cond (is_posted (reversed_status x)) row.reference None) state
+          ∙ ap (λ b. cond b row.reference None) (reversal_posts row.status row.reply can);
+      keeps = λ n e. amount;
+    }
+leaves_posted Completion row remaining can p amount state =
+    record { same = refl; keeps = λ n e. amount }
+leaves_posted service row remaining can p amount state =
+    record { same = refl; keeps = λ n e. absurd (cc) }
 
 -- where the leg of what can be reversed was posted, it had posted, and its reversal will have
 pub record IsPostedLeg (s : Status) (reply : IsoMessage) (o : Option Leg) (leg : Leg) : Type 0 where

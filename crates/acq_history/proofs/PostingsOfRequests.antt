@@ -157,12 +157,12 @@ count-grows : {X : Type 0} (p : X → Bool) (xs : List X) (y : X) →
 count-grows p xs y = let e = count-push_sum p xs y in omega arith
 
 -- what a test for postings says
-record SaysPosting (m : List ℕ) (n : ℕ) (reversal : Bool) (x : ℕ × Posting) : Type 0 where
-  merchant : x.1.merchant ≡ m
-  reference : x.1.reference ≡ n
-  leg : is_reversal_leg x.1.leg ≡ reversal
+pub record SaysPosting (m : List ℕ) (n : ℕ) (reversal : Bool) (x : ℕ × Posting) : Type 0 where
+  pub merchant : x.1.merchant ≡ m
+  pub reference : x.1.reference ≡ n
+  pub leg : is_reversal_leg x.1.leg ≡ reversal
 
-says_posting : (m : List ℕ) (n : ℕ) (reversal : Bool) (x : ℕ × Posting) →
+pub says_posting : (m : List ℕ) (n : ℕ) (reversal : Bool) (x : ℕ × Posting) →
     is_posting m n reversal x ≡ true → SaysPosting m n reversal x
 says_posting m n reversal x h =
     let parts = and_parts (bytes_eq x.1.merchant m && (x.1.reference == n)) _ h in
@@ -194,7 +194,7 @@ pub record Reverses (ps : List (ℕ × Posting)) (p : Posting) : Type 0 where
   pub merchant : original.1.merchant ≡ p.merchant
   pub reference : original.1.reference ≡ p.reference
   pub leg : reversal_leg original.1.leg ≡ p.leg
-  pub amount : original.1.amount ≡ p.amount
+  pub amount : p.amount ≤ original.1.amount
   pub card : original.1.card ≡ p.card
   pub day : original.1.day ≤ p.day
 

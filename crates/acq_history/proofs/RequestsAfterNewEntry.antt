@@ -2,7 +2,7 @@
 use Rattle.std.proofs.Common.{◌≡◌, ℕ, List, ◌∷◌, Option, Some, None, Bool, true, false, cond, refl}
 use Rattle.std.proofs.Common.{sym, ap, ◌∙◌}
 use Rattle.std.specs.Prelude.{find, option_map, option_and_then, ◌&&◌, ◌||◌, not, is_some, is_none}
-use Rattle.std.specs.Prelude.{if◌then◌else◌}
+use Rattle.std.specs.Prelude.{if◌then◌else◌, unwrap_or, nat_lt}
 use Rattle.std.specs.Option.{option_or}
 use Rattle.std.proofs.lemmas.Bool.{and_parts}
 use Rattle.std.specs.List.{list_any}
@@ -25,7 +25,9 @@ use Rattle.acq_core.specs.declared.reply_state.ReplyState.TheVariants.{Kept, Awa
 use Rattle.acq_core.specs.Known.{Prior}
 use Rattle.acq_core.specs.Outcome.{Outcome}
 use Rattle.acq_core.specs.Changes.{end_of_hold, answered_status, answered_hold_end, reversed_status}
-use Rattle.acq_core.specs.Changes.{remains_of, remains_of_hold}
+use Rattle.acq_core.specs.Changes.{remains_of, remains_of_hold, is_lowered}
+use Rattle.acq_core.specs.Decision.{is_awaited}
+use Rattle.acq_core.specs.declared.remains.Remains.{Remains}
 use Rattle.acq_core.specs.Tables.{prior_of, followed_row, answered_row}
 use Rattle.acq_core.specs.Tables as tables
 use Rattle.acq_message.specs.Reply.{draft_reply}
@@ -33,39 +35,44 @@ use Rattle.acq_message.specs.Numbers.{is_number}
 use Rattle.acq_history.specs.Entries.{Entry, reply_in, accepts, is_acceptable, is_completion}
 use Rattle.acq_history.specs.Entries.{is_reversal, is_approved, is_acceptance, is_answer}
 use Rattle.acq_history.specs.Entries.{is_completing, is_reversing, completes, reverses, is_key}
-use Rattle.acq_history.specs.Entries.{approval_in, approval_by, request_of}
+use Rattle.acq_history.specs.Entries.{approval_in, approval_by, request_of, remaining_by}
 use Rattle.acq_history.specs.History.{Found, aged, next_reference, is_admitted, is_accepted}
 use Rattle.acq_history.specs.History.{reference_of, reference_by, leg_by, card_by, hold_days_of}
-use Rattle.acq_history.specs.History.{answer_to, is_completed, is_reversed, any_with}
+use Rattle.acq_history.specs.History.{answer_to, is_completed, reversal_of, lowered_to, any_with}
 use Rattle.acq_history.specs.History.{reply_state_with, prior}
-use Rattle.acq_history.proofs.Lookups.{not_true, or_true, own_none}
+use Rattle.acq_history.proofs.Lookups.{not_true, not_some, or_true, own_none}
 use Rattle.acq_history.proofs.RecordedInHistory.{key_in}
 use Rattle.acq_core.proofs.Statuses.{only_awaited}
 use Rattle.acq_history.proofs.Statuses.{open_row, IsApproved}
-use Rattle.acq_history.proofs.WhatRemains.{hold_ended, original_ended}
+use Rattle.acq_history.proofs.WhatRemains.{hold_ended, original_ended, left_by}
+use Rattle.acq_history.proofs.WhatRemains.{reversed_unapproved, lowered_was_approved}
 use Rattle.acq_history.proofs.RowsWithChanges.{followed_kept, answered_kept, IsChange}
 
 -- ---- what became of a recorded request
 
--- the answer to it, whether it was completed, and whether it was reversed
+-- the answer to it, whether it was completed, and what its reversal lets remain
 pub record Fate : Type 0 where
   pub answer : Option Entry
   pub completed : Bool
-  pub reversed : Bool
+  pub reversal : Option ℕ
 
 -- by the entries after it
 abbrev pub fate_of : Found → Fate
 fate_of f =
-    record { answer = answer_to f; completed = is_completed f; reversed = is_reversed f }
+    record { answer = answer_to f; completed = is_completed f; reversal = reversal_of f }
 
 -- of a request that nothing came after
 abbrev pub untouched : Fate
-untouched = record { answer = None; completed = false; reversed = false }
+untouched = record { answer = None; completed = false; reversal = None }
+
+-- it was reversed, and not lowered
+abbrev pub is_undone_by : Service → Option ℕ → Bool
+is_undone_by service reversal = is_some reversal && is_none (lowered_to service reversal)
 
 -- until when it is open
 abbrev pub open_by : Service → Option ℕ → Fate → Option ℕ
 open_by Authorization days fate =
-    if fate.completed || fate.reversed then None
+    if fate.completed || is_undone_by Authorization fate.reversal then None
     else option_and_then (λ moment. option_map (end_of_hold moment) days)
     (option_and_then (λ e. approval_in e.arrival) fate.answer)
 open_by service days fate = None
@@ -82,7 +89,8 @@ prior_by fate f =
       key = key_of f.request.service f.request.message;
       essence = essence_of f.request.service f.request.message;
       day = f.entry.day;
-      amount = amount_in f.request.message;
+      amount =
+          unwrap_or (lowered_to f.request.service fate.reversal) (amount_in f.request.message);
       leg = leg_by f.request.service f;
       card = card_by f.request.service f;
       acquirer = content_of f.request.message.elements 32;
@@ -92,11 +100,11 @@ prior_by fate f =
           reply_state_with
           (option_or (reply_in f.entry.outcome)
           (option_and_then (λ e. reply_in e.outcome) fate.answer))
-          fate.reversed
+          (is_some fate.reversal)
           (draft_reply f.entry.day f.request (next_reference f.before));
       is_reversible =
-          (is_admitted f || is_accepted f) && not fate.completed && not fate.reversed
-          && not (is_declined_by fate);
+          (is_admitted f || is_accepted f) && not fate.completed
+          && not (is_some fate.reversal) && not (is_declined_by fate);
       hold_end = open_by f.request.service (hold_days_of f) fate;
     }
 
@@ -159,6 +167,12 @@ completed_here e es o n is on =
     ap (λ p. any_with is_completing p (e ∷ es)) is ∙ ap (λ b. b || list_any (is_completing n) es) on
 
 module _ (e : Entry) (f : Found) where
+  -- its reversal, where the newest entry is one or isn't
+  abbrev reversal_after : Bool → Option ℕ
+  reversal_after b =
+      option_map (λ x. remaining_by (request_of x.arrival))
+      (cond b (Some e) (find (is_reversing (key_in f)) f.later))
+
   -- what the newest entry may do to what was found
   abbrev NoAnswer : Type 0
   NoAnswer = (n : ℕ) → reference_of f ≡ Some n → is_answer n e ≡ false
@@ -173,7 +187,7 @@ module _ (e : Entry) (f : Found) where
   fate_same answers completions reversal = λ i. record {
     answer = answer_more e f.later (reference_of f) answers i;
     completed = completed_more e f.later (reference_of f) completions i;
-    reversed = reversal i || is_reversed f;
+    reversal = reversal_after (reversal i);
   }
 
   -- where it answers it
@@ -183,7 +197,7 @@ module _ (e : Entry) (f : Found) where
   fate_answered n is answer completions reversal = λ i. record {
     answer = answer_here e f.later (reference_of f) n is answer i;
     completed = completed_more e f.later (reference_of f) completions i;
-    reversed = reversal i || is_reversed f;
+    reversal = reversal_after (reversal i);
   }
 
   -- where it completes it
@@ -193,16 +207,17 @@ module _ (e : Entry) (f : Found) where
   fate_completed n is answers completion reversal = λ i. record {
     answer = answer_more e f.later (reference_of f) answers i;
     completed = completed_here e f.later (reference_of f) n is completion i;
-    reversed = reversal i || is_reversed f;
+    reversal = reversal_after (reversal i);
   }
 
   -- where it reverses it
   pub fate_reversed : NoAnswer → NoCompletion → is_reversing (key_in f) e ≡ true →
-      fate_of (aged e f) ≡ record (fate_of f) { reversed = true }
-  fate_reversed answers completions reversal = λ i. record {
+      (remaining : ℕ) → remaining_by (request_of e.arrival) ≡ remaining →
+      fate_of (aged e f) ≡ record (fate_of f) { reversal = Some remaining }
+  fate_reversed answers completions reversal remaining leaves = λ i. record {
     answer = answer_more e f.later (reference_of f) answers i;
     completed = completed_more e f.later (reference_of f) completions i;
-    reversed = reversal i || is_reversed f;
+    reversal = (ap reversal_after reversal ∙ ap (λ n. Some n) leaves) i;
   }
 
   -- so it is known as before where the newest entry does nothing to it
@@ -290,7 +305,7 @@ reference_by_kept p q c s = c.reference
 
 -- what a row shows of what became of its request
 record ShowsFate (row : Request) (fate : Fate) (f : Found) : Type 0 where
-  amount : row.amount ≡ amount_in f.request.message
+  amount : row.amount ≡ (prior_by fate f).amount
   state : tables.reply_state_of row.status row.reply ≡ (prior_by fate f).reply_state
   reversible : tables.is_reversible row.status ≡ (prior_by fate f).is_reversible
   ends : tables.hold_end_by row.key.service row ≡ (prior_by fate f).hold_end
@@ -357,22 +372,22 @@ prior_of_answered a f fate draft moment v reply e is pending approval replied =
     let reversible : true ≡ (prior_by fate f).is_reversible =
     sym (ap tables.is_reversible waits) ∙ ap (λ x. x.is_reversible) is in
     let last =
-    and_parts (taken && not fate.completed && not fate.reversed) (not (is_declined_by fate))
-    (sym reversible) in
-    let third = and_parts (taken && not fate.completed) (not fate.reversed) last.0 in
+    and_parts (taken && not fate.completed && not (is_some fate.reversal))
+    (not (is_declined_by fate)) (sym reversible) in
+    let third = and_parts (taken && not fate.completed) (not (is_some fate.reversal)) last.0 in
     let second = and_parts taken (not fate.completed) third.0 in
     let completed = not_true fate.completed second.1 in
-    let reversed = not_true fate.reversed third.1 in
+    let reversed : fate.reversal ≡ None = not_some fate.reversal third.1 in
     let own : reply_in f.entry.outcome ≡ None =
     own_none (reply_in f.entry.outcome) _
-    (reply_state_with-awaited _ fate.reversed _ draft pending) in
+    (reply_state_with-awaited _ (is_some fate.reversal) _ draft pending) in
     let at : a.key.service ≡ f.request.service = ap (λ x. x.key.service) is in
     prior_of_changed a (answered_row (answered_status v) reply until a) f fate
     (record fate { answer = Some e }) (answered_kept (answered_status v) reply until a) is
     (record {
       amount = ap (λ x. x.amount) is;
       state = reply_state_of-answered v reply
-          ∙ (λ i. reply_state_with (option_or (sym own i) (sym replied i)) fate.reversed
+          ∙ (λ i. reply_state_with (option_or (sym own i) (sym replied i)) (is_some fate.reversal)
           (draft_reply f.entry.day f.request (next_reference f.before)));
       reversible = is_reversible_answered moment v
           ∙ (λ i. sym second.0 i && sym second.1 i && sym third.1 i
@@ -380,21 +395,17 @@ prior_of_answered a f fate draft moment v reply e is pending approval replied =
       ends = (λ i. tables.hold_end_by (at i) (answered_row (answered_status v) reply until a))
           ∙ (open_by_answered a f.request.service moment v reply (hold_days_of f) e approval
           ∙ (λ i. open_by f.request.service (hold_days_of f)
-          (record { answer = Some e; completed = sym completed i; reversed = sym reversed i })));
+          (record { answer = Some e; completed = sym completed i; reversal = sym reversed i })));
     })
 
 -- ---- a completion
 
--- what was completed or reversed, and is no longer approved, isn't open
-open_by_done : (row : Request) (k : Service) (days : Option ℕ) (fate : Fate) →
-    tables.is_approved row.status ≡ false → (fate.completed || fate.reversed) ≡ true →
-    tables.hold_end_by k row ≡ open_by k days fate
-open_by_done row Authorization days fate off on =
-    ap (λ b. cond b row.hold_end None) off
-    ∙ sym (ap (λ b.
-    cond b None (option_and_then (λ moment. option_map (end_of_hold moment) days)
-    (option_and_then (λ e. approval_in e.arrival) fate.answer))) on)
-open_by_done row s days fate off on = refl
+-- what was completed isn't open
+open_by_completed : (row : Request) (k : Service) (days : Option ℕ) (fate : Fate) →
+    tables.is_approved row.status ≡ false →
+    tables.hold_end_by k row ≡ open_by k days (record fate { completed = true })
+open_by_completed row Authorization days fate off = ap (λ b. cond b row.hold_end None) off
+open_by_completed row s days fate off = refl
 
 -- an open hold that is completed
 pub prior_of_completed : (a : Request) (f : Found) (fate : Fate) → prior_of a ≡ prior_by fate f →
@@ -410,14 +421,13 @@ prior_of_completed a f fate is ends =
     prior_of_changed a (followed_row left a) f fate
     (record fate { completed = true }) (followed_kept left a) is
     (record {
-      amount = ap (λ x. x.amount) is;
+      amount = refl;
       state = sym (was.kept a.reply) ∙ ap (λ x. x.reply_state) is;
       reversible = ended.reversible
-          ∙ sym (ap (λ b. b && not fate.reversed && not (is_declined_by fate))
+          ∙ sym (ap (λ b. b && not (is_some fate.reversal) && not (is_declined_by fate))
           (and-false (is_admitted f || is_accepted f)));
       ends = (λ i. tables.hold_end_by (at i) (followed_row left a))
-          ∙ open_by_done (followed_row left a) f.request.service (hold_days_of f)
-          (record fate { completed = true }) ended.approved refl;
+          ∙ open_by_completed (followed_row left a) f.request.service (hold_days_of f) fate refl;
     })
 
 -- ---- a reversal
@@ -435,28 +445,92 @@ reply_state_of-reversed status.Approved reply o r draft reversible is =
 reply_state_of-reversed s reply o r draft reversible is = absurd (cc)
 
 -- a request that can be reversed, and is
-pub prior_of_reversed : (a : Request) (f : Found) (fate : Fate) (remaining : ℕ) →
-    prior_of a ≡ prior_by fate f → (prior_by fate f).is_reversible ≡ true →
-    prior_of (followed_row (remains_of (prior_by fate f) remaining) a)
-    ≡ prior_by (record fate { reversed = true }) f
-prior_of_reversed a f fate remaining is reversible =
-    let left = remains_of (prior_by fate f) remaining in
-    let ended = original_ended (prior_by fate f) remaining in
-    let at : a.key.service ≡ f.request.service = ap (λ x. x.key.service) is in
-    prior_of_changed a (followed_row left a) f fate (record fate { reversed = true })
-    (followed_kept left a) is
-    (record {
-      amount = ap (λ x. x.amount) is;
-      state =
-          ap (λ x. tables.reply_state_of (reversed_status x) a.reply)
-          (sym (ap (λ x. x.reply_state) is))
-          ∙ reply_state_of-reversed a.status a.reply _ fate.reversed _
-          (ap (λ x. x.is_reversible) is ∙ reversible) (ap (λ x. x.reply_state) is);
-      reversible =
-          ended.reversible
-          ∙ sym (ap (λ b. b && not (is_declined_by fate))
-          (and-false ((is_admitted f || is_accepted f) && not fate.completed)));
-      ends = (λ i. tables.hold_end_by (at i) (followed_row left a))
-          ∙ open_by_done (followed_row left a) f.request.service (hold_days_of f)
-          (record fate { reversed = true }) ended.approved (or_true fate.completed);
-    })
+module _ (a : Request) (f : Found) (fate : Fate) (remaining : ℕ) (is : prior_of a ≡ prior_by fate f)
+    (reversible : (prior_by fate f).is_reversible ≡ true)
+    (answered : (is_awaited (prior_by fate f).reply_state && nat_lt 0 remaining) ≡ false) where
+  abbrev p : Prior
+  p = prior_by fate f
+
+  -- what remains of it, whether it is lowered or not
+  abbrev left : Bool → Remains
+  left lowered = left_by lowered p remaining
+
+  -- it had no reversal
+  first : fate.reversal ≡ None
+  first =
+      let taken = (is_admitted f || is_accepted f) && not fate.completed in
+      let some = not (is_some fate.reversal) in
+      not_some fate.reversal
+      (and_parts taken some
+      (and_parts (taken && some) (not (is_declined_by fate)) reversible).0).1
+
+  -- where it is lowered, it was approved
+  approved : is_lowered f.request.service remaining ≡ true → a.status ≡ status.Approved
+  approved =
+      lowered_was_approved a.status a.reply f.request.service remaining
+      (ap (λ x. x.is_reversible) is ∙ reversible)
+      (ap (λ x. is_awaited x.reply_state && nat_lt 0 remaining) is ∙ answered)
+
+  amount_left : (b : Bool) →
+      (left b).amount ≡ unwrap_or (cond b (Some remaining) None) (amount_in f.request.message)
+  amount_left true = refl
+  amount_left false =
+      ap (λ o. unwrap_or (lowered_to f.request.service o) (amount_in f.request.message)) first
+
+  state_left : (b : Bool) → is_lowered f.request.service remaining ≡ b →
+      tables.reply_state_of (left b).status a.reply
+      ≡ (prior_by (record fate { reversal = Some remaining }) f).reply_state
+  state_left true e =
+      let was = approved e in
+      ap (λ o. reply_state_with o true (draft_reply f.entry.day f.request
+      (next_reference f.before)))
+      (sym (reply_state_with-kept _ (is_some fate.reversal) _ a.reply
+      (sym (ap (λ x. x.reply_state) is) ∙ ap (λ s. tables.reply_state_of s a.reply) was)))
+  state_left false e =
+      ap (λ x. tables.reply_state_of (reversed_status x) a.reply)
+      (sym (ap (λ x. x.reply_state) is))
+      ∙ reply_state_of-reversed a.status a.reply _ (is_some fate.reversal) _
+      (ap (λ x. x.is_reversible) is ∙ reversible) (ap (λ x. x.reply_state) is)
+
+  -- a hold stays open where something remains
+  hold_left : (b : Bool) → (b ≡ true → a.status ≡ status.Approved) →
+      tables.hold_end_by Authorization a ≡ open_by Authorization (hold_days_of f) fate →
+      tables.hold_end_by Authorization (followed_row (left b) a)
+      ≡ (if fate.completed || is_none (cond b (Some remaining) None) then None
+      else option_and_then (λ moment. option_map (end_of_hold moment) (hold_days_of f))
+      (option_and_then (λ e. approval_in e.arrival) fate.answer))
+  hold_left true approves was =
+      sym (ap (λ s. cond (tables.is_approved s) a.hold_end None) (approves refl))
+      ∙ (was
+      ∙ ap (λ o. open_by Authorization (hold_days_of f) (record fate { reversal = o })) first)
+  hold_left false approves was =
+      ap (λ b. cond b a.hold_end None) (reversed_unapproved p.reply_state)
+      ∙ sym (ap (λ b. cond b None
+      (option_and_then (λ moment. option_map (end_of_hold moment) (hold_days_of f))
+      (option_and_then (λ e. approval_in e.arrival) fate.answer))) (or_true fate.completed))
+
+  end_left : (k : Service) → (is_lowered k remaining ≡ true → a.status ≡ status.Approved) →
+      tables.hold_end_by k a ≡ open_by k (hold_days_of f) fate →
+      tables.hold_end_by k (followed_row (left (is_lowered k remaining)) a)
+      ≡ open_by k (hold_days_of f) (record fate { reversal = Some remaining })
+  end_left Authorization approves was = hold_left (nat_lt 0 remaining) approves was
+  end_left k approves was = refl
+
+  pub prior_of_reversed : prior_of (followed_row (remains_of p remaining) a)
+      ≡ prior_by (record fate { reversal = Some remaining }) f
+  prior_of_reversed =
+      let lowered = is_lowered f.request.service remaining in
+      let at : a.key.service ≡ f.request.service = ap (λ x. x.key.service) is in
+      prior_of_changed a (followed_row (left lowered) a) f fate
+      (record fate { reversal = Some remaining }) (followed_kept (left lowered) a) is
+      (record {
+        amount = amount_left lowered;
+        state = state_left lowered refl;
+        reversible =
+            (original_ended p remaining).reversible
+            ∙ sym (ap (λ b. b && not (is_declined_by fate))
+            (and-false ((is_admitted f || is_accepted f) && not fate.completed)));
+        ends = (λ i. tables.hold_end_by (at i) (followed_row (left lowered) a))
+            ∙ end_left f.request.service approved
+            (sym (λ i. tables.hold_end_by (at i) a) ∙ ap (λ x. x.hold_end) is);
+      })

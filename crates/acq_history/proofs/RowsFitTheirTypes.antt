@@ -21,7 +21,7 @@ use Rattle.acq_message.specs.declared.verdict.Verdict.TheVariants as verdict
 use Rattle.acq_message.specs.Moments.{is_moment}
 use Rattle.acq_message.specs.Names.{is_merchant, is_terminal, is_trace}
 use Rattle.acq_message.specs.Numbers.{is_amount, is_accepted_amount}
-use Rattle.acq_message.specs.Elements.{or_empty, key_of, amount_in}
+use Rattle.acq_message.specs.Elements.{or_empty, key_of, amount_in, remaining_in}
 use Rattle.acq_core.specs.declared.event.Event.{Event}
 use Rattle.acq_core.specs.declared.arrival.Arrival.{Arrival}
 use Rattle.acq_core.specs.declared.posting.Posting.{Posting}
@@ -47,6 +47,7 @@ use Rattle.acq_history.specs.Rows.{FitsKey, FitsReconciliation, RowsFitTheirType
 use Rattle.acq_core.specs.Pasts.{IsBook}
 use Rattle.acq_history.proofs.Arrivals.{IsWhole, IsArrival, of_event}
 use Rattle.acq_history.proofs.RowsWithChanges.{All-with_changed, All-member}
+use Rattle.acq_history.proofs.WhatRemains.{remains_amount}
 use Rattle.acq_history.proofs.CountsOfRows.{one_if, count-filter_push}
 use Rattle.acq_history.proofs.ContentsFit.{key_of-fits, amount_in-fits}
 use Rattle.acq_history.proofs.RangesStayApart.{ranges_stay_apart}
@@ -212,13 +213,13 @@ record HasFittingColumns (t : Tables) : Type 0 where
 
 -- rows with one that a completion or a reversal followed
 fitting_followed : (key : RequestKey) (remains : Remains) (rows : List Request) →
-    All FitsColumns rows →
+    is_amount remains.amount ≡ true → All FitsColumns rows →
     All FitsColumns (with_changed key (followed_row remains) rows)
-fitting_followed key remains rows h =
+fitting_followed key remains rows amount h =
     All-with_changed FitsColumns key (followed_row remains) rows
     (λ x same c. record {
       key = c.key;
-      amount = c.amount;
+      amount = amount;
       hold_days = c.hold_days;
       hold_end = c.hold_end;
     }) h
@@ -263,14 +264,17 @@ module _ (opening : Opening) (t : Tables) (ranges : HasRangesApart t) (cards : H
             (and_parts (list_all is_valid_range t.ranges) (are_apart t.ranges) ranges).0 c.held)
             refl)) h.postings;
         completed = λ r merchant g hold c b. fitting_with h
-            (All-push FitsColumns _ _ (fitting_followed hold.key _ t.requests h.requests)
+            (All-push FitsColumns _ _ (fitting_followed hold.key _ t.requests
+            (All-member FitsColumns t.requests hold h.requests c.member).amount h.requests)
             (columns_of r (subst IsArrival g.came is) g.recordable _ refl refl tt refl))
             (postings_fit t.limit t.postings (Some (completion_posting t.day r (prior_of hold)))
             (today-names t.day r _ _ hold (key_of-fits r (subst IsArrival g.came is) g.recordable)
             (card_of-row hold c.member))
             (λ m on. (b.merchants m).posted on) h.postings);
         reversed = λ r merchant g row c b. fitting_with h
-            (All-push FitsColumns _ _ (fitting_followed row.key _ t.requests h.requests)
+            (All-push FitsColumns _ _ (fitting_followed row.key _ t.requests
+            (remains_amount (prior_of row) (remaining_in r.message) c.less
+            (All-member FitsColumns t.requests row h.requests c.member).amount) h.requests)
             (columns_of r (subst IsArrival g.came is) g.recordable _ refl refl tt refl))
             (postings_fit t.limit t.postings (reversal_posting t.day r (prior_of row))
             (reversal-names t.day r row (key_of-fits r (subst IsArrival g.came is) g.recordable)

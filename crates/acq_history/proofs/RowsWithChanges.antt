@@ -1,8 +1,9 @@
 -- What a change of a request's row keeps, and rows in which the one with a key was changed.
 use Rattle.std.proofs.Common.{◌≡◌, ℕ, List, Option, Bool, true, false, cond, refl, ap, subst}
-use Rattle.std.proofs.Common.{◌∙◌}
-use Rattle.std.specs.Prelude.{All, map}
+use Rattle.std.proofs.Common.{◌∙◌, sym}
+use Rattle.std.specs.Prelude.{All, Contains, map}
 use Rattle.std.proofs.lemmas.List.Elements.{All-map, All-weaker, All-contains}
+use Rattle.std.proofs.lemmas.List.Elements.{All-contains_itself}
 use Rattle.iso_codec.specs.Message.{IsoMessage}
 use Rattle.acq_message.specs.declared.request_key.RequestKey.{RequestKey}
 use Rattle.acq_message.specs.Elements.{same_key}
@@ -12,7 +13,7 @@ use Rattle.acq_core.specs.declared.remains.Remains.{Remains}
 use Rattle.acq_core.specs.Tables.{requests_of, with_changed, answered_row, followed_row}
 use Rattle.std.specs.Str.{bytes_eq}
 use Rattle.acq_history.proofs.Lookups.{filter-map}
-use Rattle.acq_history.proofs.Members.{In, In-mapped, from_In}
+use Rattle.acq_history.proofs.Members.{In, In-mapped, from_In, to_In}
 use Rattle.acq_history.proofs.Keys.{same_key_is, same_key_from}
 
 -- ---- what a change keeps
@@ -124,6 +125,22 @@ All-with_changed P key changed rows keeps h =
     one : (x : Request) → P x → (b : Bool) → same_key x.key key ≡ b → P (cond b (changed x) x)
     one x p true e = keeps x (same_key_is x.key key e) p
     one x p false e = p
+
+-- so it is where the changed row is the only one with its key
+pub All-with_only_changed : (P : Request → Type 0) (row : Request) (changed : Request → Request)
+    (rows : List Request) → ((x : Request) → In x rows → x.key ≡ row.key → x ≡ row) →
+    P (changed row) → All P rows → All P (with_changed row.key changed rows)
+All-with_only_changed P row changed rows only holds h =
+    All-map P (changing row.key changed) rows
+    (All-weaker (Contains rows) (λ x. P (changing row.key changed x))
+    (λ x there. one x there (same_key x.key row.key) refl) rows (All-contains_itself rows))
+  where
+    one : (x : Request) → Contains rows x → (b : Bool) → same_key x.key row.key ≡ b →
+        P (cond b (changed x) x)
+    one x there true e =
+        subst (λ y. P (changed y))
+        (sym (only x (to_In x rows there) (same_key_is x.key row.key e))) holds
+    one x there false e = All-contains P rows x h there
 
 -- what holds of all rows holds of one of them
 pub All-member : (P : Request → Type 0) (rows : List Request) (row : Request) → All P rows →

@@ -12,10 +12,11 @@ use Rattle.iso_codec.specs.Table.{format_of}
 use Rattle.iso_codec.specs.Message.{IsoMessage, IsMessage, IsKind, numbers, Ascends, is_element}
 use Rattle.iso_codec.specs.Message.{content_of, is_among}
 use Rattle.acq_message.specs.declared.service.Service.{Service}
-use Rattle.acq_message.specs.declared.service.Service.TheVariants.{Authorization}
+use Rattle.acq_message.specs.declared.service.Service.TheVariants.{Authorization, Reversal}
+use Rattle.acq_message.specs.declared.service.Service.TheVariants.{ReversalAdvice}
 use Rattle.acq_message.specs.Services.{digits_of}
 use Rattle.acq_message.specs.Cards.{card_of, track_in, track_of}
-use Rattle.acq_message.specs.Elements.{essential, element_if, essence_of}
+use Rattle.acq_message.specs.Elements.{essential, essential_of_any, element_if, essence_of}
 use Rattle.acq_core.specs.declared.arrival.Arrival.{Arrival}
 use Rattle.acq_core.specs.declared.request.Request.{Request}
 use Rattle.acq_core.specs.Changes.{change_of}
@@ -122,16 +123,17 @@ essence_kind service = record { size = refl; digits = refl }
 
 -- elements that all stand above 2
 above_two : (es : List (ℕ × List ℕ)) → Ascends 1 (numbers es) →
-    list_all (is_among essential) es ≡ true → Ascends 2 (numbers es)
+    list_all (is_among essential_of_any) es ≡ true → Ascends 2 (numbers es)
 above_two [] up all = tt
 above_two (e ∷ es) up all =
-    let parts = and_parts (is_among essential e) (list_all (is_among essential) es) all in
-    (ltb-true 2 e.0 (among_passes (λ n. ltb 2 n) essential e refl parts.0), up.1)
+    let parts = and_parts (is_among essential_of_any e) (list_all (is_among essential_of_any) es)
+    all in
+    (ltb-true 2 e.0 (among_passes (λ n. ltb 2 n) essential_of_any e refl parts.0), up.1)
 
 -- a card number in front of the essential elements
 module _ (es : List (ℕ × List ℕ)) (each : list_all is_element es ≡ true)
     (up : Ascends 1 (numbers es))
-    (among : list_all (is_among essential) es ≡ true) where
+    (among : list_all (is_among essential_of_any) es ≡ true) where
   essence_each : (o : Option (List ℕ)) → IsNumber o →
       list_all is_element (element_if 2 o ++ es) ≡ true
   essence_each None is = each
@@ -143,26 +145,39 @@ module _ (es : List (ℕ × List ℕ)) (each : list_all is_element es ≡ true)
   essence_ascends (Some text) = (omega arith, above_two es up among)
 
   essence_among : (o : Option (List ℕ)) →
-      list_all (is_among (2 ∷ essential)) (element_if 2 o ++ es) ≡ true
+      list_all (is_among (2 ∷ essential_of_any)) (element_if 2 o ++ es) ≡ true
   essence_among None =
-      all_weaker (is_among essential) (is_among (2 ∷ essential))
+      all_weaker (is_among essential_of_any) (is_among (2 ∷ essential_of_any))
       (λ e h. ap (λ b. eqb 2 e.0 || b) h ∙ or_true (eqb 2 e.0)) es among
   essence_among (Some text) =
-      all_weaker (is_among essential) (is_among (2 ∷ essential))
+      all_weaker (is_among essential_of_any) (is_among (2 ∷ essential_of_any))
       (λ e h. ap (λ b. eqb 2 e.0 || b) h ∙ or_true (eqb 2 e.0)) es among
+
+-- the elements of each service are among those of any
+essential_any : (service : Service) (e : ℕ × List ℕ) → is_among (essential service) e ≡ true →
+    is_among essential_of_any e ≡ true
+essential_any service e h =
+    among_passes (λ n. is_among essential_of_any (n, [])) (essential service) e (all service) h
+  where
+    all : (s : Service) → list_all (λ n. is_among essential_of_any (n, [])) (essential s) ≡ true
+    all Reversal = refl
+    all ReversalAdvice = refl
+    all other = refl
 
 essence_of-is : (service : Service) (m : IsoMessage) → IsMessage m →
     IsEssence (essence_of service m)
 essence_of-is service m whole =
-    let kept = filter (is_among essential) m.elements in
-    let each = kept_elements (is_among essential) m.elements whole.each in
-    let up = kept_ascends (is_among essential) 1 m.elements whole.ascends in
-    let among = filter_all (is_among essential) m.elements in
+    let kept = filter (is_among (essential service)) m.elements in
+    let each = kept_elements (is_among (essential service)) m.elements whole.each in
+    let up = kept_ascends (is_among (essential service)) 1 m.elements whole.ascends in
+    let among =
+    all_weaker (is_among (essential service)) (is_among essential_of_any) (essential_any service)
+    kept (filter_all (is_among (essential service)) m.elements) in
     let all = essence_among kept each up among (card_of m) in
     record {
       message = record {
         kind = digits_of service ++ codes "0";
-        elements = element_if 2 (card_of m) ++ filter (is_among essential) m.elements;
+        elements = element_if 2 (card_of m) ++ filter (is_among (essential service)) m.elements;
       };
       is_message = record {
         kind_fits = essence_kind service;
@@ -171,8 +186,8 @@ essence_of-is service m whole =
       };
       spelled = refl;
       elements = all;
-      lacks = lacks_by (2 ∷ essential)
-          (element_if 2 (card_of m) ++ filter (is_among essential) m.elements) refl all;
+      lacks = lacks_by (2 ∷ essential_of_any)
+          (element_if 2 (card_of m) ++ filter (is_among (essential service)) m.elements) refl all;
     }
 
 -- ---- rows

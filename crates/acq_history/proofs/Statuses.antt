@@ -3,21 +3,22 @@ use Rattle.std.proofs.Common.{◌≡◌, ℕ, Option, Some, None, Bool, true, fa
 use Rattle.std.specs.Prelude.{is_some}
 use Rattle.iso_codec.specs.Message.{IsoMessage}
 use Rattle.acq_core.specs.declared.status.Status.{Status}
-use Rattle.acq_core.specs.declared.status.Status.TheVariants.{Approved}
+use Rattle.acq_core.specs.declared.status.Status.TheVariants.{Approved, Lowered}
 use Rattle.acq_core.specs.declared.reply_state.ReplyState.TheVariants.{Kept}
 use Rattle.acq_core.specs.declared.request.Request.{Request}
 use Rattle.acq_core.specs.Decision.{is_open_at}
-use Rattle.acq_core.specs.Tables.{reply_state_of, is_reversible, is_approved, hold_end_by}
+use Rattle.acq_core.specs.Tables.{reply_state_of, is_approved, hold_end_by}
 use Rattle.acq_message.specs.declared.service.Service.{Service}
 use Rattle.acq_message.specs.declared.service.Service.TheVariants.{Authorization}
 
--- what is approved can be reversed, and its reply is kept
+-- what is approved keeps its reply
 pub record IsApproved (s : Status) : Type 0 where
-  pub reversible : is_reversible s ≡ true
+  pub is : is_approved s ≡ true
   pub kept : (reply : IsoMessage) → reply_state_of s reply ≡ Kept reply
 
 pub approved : (s : Status) → is_approved s ≡ true → IsApproved s
-approved Approved e = record { reversible = refl; kept = λ reply. refl }
+approved Approved e = record { is = refl; kept = λ reply. refl }
+approved Lowered e = record { is = refl; kept = λ reply. refl }
 approved s e = absurd (cc)
 
 -- a row that has an end is an approved hold

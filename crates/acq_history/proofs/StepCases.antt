@@ -23,7 +23,7 @@ use Rattle.acq_message.specs.declared.response_code.ResponseCode.TheVariants as 
 use Rattle.acq_message.specs.declared.request_message.RequestMessage.{RequestMessage}
 use Rattle.acq_message.specs.Numbers.{is_accepted_amount}
 use Rattle.acq_message.specs.Elements.{text_at, key_of, amount_in, or_empty, essence_of}
-use Rattle.acq_message.specs.Elements.{original_acquirer}
+use Rattle.acq_message.specs.Elements.{original_acquirer, remaining_in}
 use Rattle.acq_message.specs.Cards.{card_of, expiry_of}
 use Rattle.acq_core.specs.declared.merchant.Merchant.{Merchant}
 use Rattle.acq_core.specs.declared.terminal.Terminal.{Terminal}
@@ -44,6 +44,7 @@ use Rattle.acq_core.specs.Decision.{Enrols, AddsTerminal, first_of, is_full, is_
 use Rattle.acq_core.specs.Decision.{is_expired, is_open_at, open_hold, fits_acquirer, original_of}
 use Rattle.acq_core.specs.Decision.{admission_in, admission, completion_of, completion, reversal_of}
 use Rattle.acq_core.specs.Decision.{reconciliation_of, is_network_code, network_response}
+use Rattle.acq_core.specs.Decision.{is_awaited, is_final_for, leaves_a_part}
 use Rattle.acq_core.specs.Decision.{decision_by, repeat_of, decision_of_key, decision_of_merchant}
 use Rattle.acq_core.specs.Decision.{decision_of_request, decision_of_reply_state, decision_of_prior}
 use Rattle.acq_core.specs.Decision.{decision_of_answer, decision_of_new_range}
@@ -51,9 +52,9 @@ use Rattle.acq_core.specs.Decision.{decision_of_old_range, decision_of_enrolment
 use Rattle.acq_core.specs.Decision.{decision_of_terminal, decision}
 use Rattle.acq_core.specs.Tables.{Tables, prior_of, reply_state_of, is_reversible, requests_of}
 use Rattle.acq_core.specs.Tables.{recorded_in, referred_in, admitted_in, used_in, known_in}
-use Rattle.acq_core.proofs.DecisionCases.{IsFresh}
+use Rattle.acq_core.proofs.DecisionCases.{IsFresh, CanBeReversed}
 use Rattle.acq_history.specs.Entries.{is_admissible, is_reversal}
-use Rattle.acq_history.proofs.Lookups.{not_false, then_some}
+use Rattle.acq_history.proofs.Lookups.{not_false, or_split, then_some}
 use Rattle.acq_history.proofs.Members.{In, In-find}
 use Rattle.acq_history.proofs.RecordableRequests.{WantsByKey, wants_by_key, recordable_some}
 use Rattle.acq_history.proofs.FoundRows.{IsNew, row_of_key, row_of_reference, is_new}
@@ -113,6 +114,26 @@ pub record IsCompletion (t : Tables) (r : RequestMessage) (merchant : Merchant)
   pub within : amount_in r.message ≤ hold.amount
   pub room : HasRoom t r
 
+-- what is known of a request that can be reversed
+pub record AllowsReversal (r : RequestMessage) (p : Prior) : Type 0 where
+  pub reversible : p.is_reversible ≡ true
+  pub answered : (is_awaited p.reply_state && nat_lt 0 (remaining_in r.message)) ≡ false
+  pub amount : amount_in r.message ≡ p.amount
+  pub less : remaining_in r.message < p.amount
+
+pub can_be_reversed : (r : RequestMessage) (p : Prior) → CanBeReversed r p → AllowsReversal r p
+can_be_reversed r p can =
+    let remaining = remaining_in r.message in
+    let checks =
+    or_split (not p.is_reversible) (is_awaited p.reply_state && nat_lt 0 remaining) can.not_final in
+    let part = and_parts (amount_in r.message == p.amount) (nat_lt remaining p.amount) can.less in
+    record {
+      reversible = not_false p.is_reversible checks.0;
+      answered = checks.1;
+      amount = eqb_is (amount_in r.message) p.amount part.0;
+      less = ltb-true remaining p.amount part.1;
+    }
+
 -- a reversal of a request of its merchant's that can be reversed
 pub record IsReversal (t : Tables) (r : RequestMessage) (row : Request) : Type 0 where
   pub service : is_reversal r.service ≡ true
@@ -120,7 +141,12 @@ pub record IsReversal (t : Tables) (r : RequestMessage) (row : Request) : Type 0
   pub own : row.key.merchant ≡ text_at r.message 42
   pub acquirer : fits_acquirer (original_acquirer r.message) row.acquirer ≡ true
   pub reversible : is_reversible row.status ≡ true
+  -- where a part is to remain, it waits for no answer
+  pub answered :
+      (is_awaited (reply_state_of row.status row.reply) && nat_lt 0 (remaining_in r.message))
+      ≡ false
   pub amount : amount_in r.message ≡ row.amount
+  pub less : remaining_in r.message < row.amount
   pub room : HasRoom t r
 
 -- a reconciliation of a day
@@ -339,24 +365,31 @@ module _ (t : Tables) (r : RequestMessage) (P : Decision → Type 0)
       (p : Prior) → k.original ≡ Some p →
       fits_acquirer (original_acquirer r.message) p.acquirer ≡ true → P (reversal_of k r (Some p))
   by_found merchant fresh service p is fits =
-      by_checks P r ((not p.is_reversible, code.NoActionTaken)
-      ∷ (not (amount_in r.message == p.amount), code.InvalidAmount)
+      let remaining = remaining_in r.message in
+      by_checks P r ((is_final_for remaining p, code.NoActionTaken)
+      ∷ (not (leaves_a_part (amount_in r.message) remaining p), code.InvalidAmount)
       ∷ (is_full k, code.LimitExceeded) ∷ [])
       (Reverses r p) (refused merchant fresh) refl
       (λ none.
       let found = row_of_key t m (wanted_for t.day r.service r.message).original p is in
       let says = found.0.says in
+      let can : CanBeReversed r p =
+      record {
+        not_final = none.0;
+        less = not_false (leaves_a_part (amount_in r.message) remaining p) none.1.0;
+      } in
+      let shows = can_be_reversed r p can in
       subst (λ x. P (Reverses r x)) says
       (cases.reversed r merchant (recording merchant fresh) found.0.row (record {
         service = service;
         member = found.0.member;
         own = found.1;
         acquirer = ap (λ x. fits_acquirer (original_acquirer r.message) x.acquirer) says ∙ fits;
-        reversible = ap (λ x. x.is_reversible) says ∙ not_false p.is_reversible none.0;
-        amount =
-            eqb_is (amount_in r.message) p.amount
-            (not_false (amount_in r.message == p.amount) none.1.0)
-            ∙ sym (ap (λ x. x.amount) says);
+        reversible = ap (λ x. x.is_reversible) says ∙ shows.reversible;
+        answered =
+            ap (λ x. is_awaited x.reply_state && nat_lt 0 remaining) says ∙ shows.answered;
+        amount = shows.amount ∙ sym (ap (λ x. x.amount) says);
+        less = subst (λ n. remaining < n) (sym (ap (λ x. x.amount) says)) shows.less;
         room = room merchant fresh none.1.1.0;
       })))
 

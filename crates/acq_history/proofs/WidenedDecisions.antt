@@ -1,7 +1,7 @@
 -- What is decided over widened ranges is what is decided over the ranges, widened.
 use Rattle.std.proofs.Common.{◌≡◌, ℕ, ◌+◌, ◌*◌, List, [], ◌∷◌, Option, Some, None, Bool, true, false}
 use Rattle.std.proofs.Common.{option_map, refl, ap, ◌∙◌}
-use Rattle.std.specs.Prelude.{not, nat_lt, ◌==◌, if◌then◌else◌}
+use Rattle.std.specs.Prelude.{not, nat_lt, if◌then◌else◌}
 use Rattle.std.specs.Str.{bytes_eq}
 use Rattle.card_no.specs.declared.range.Range.{Range}
 use Rattle.card_no.specs.CardNumbers.{is_valid_card}
@@ -17,6 +17,7 @@ use Rattle.acq_message.specs.declared.response_code.ResponseCode.TheVariants as 
 use Rattle.acq_message.specs.declared.request_message.RequestMessage.{RequestMessage}
 use Rattle.acq_message.specs.Numbers.{is_accepted_amount}
 use Rattle.acq_message.specs.Elements.{amount_in, or_empty, essence_of, original_acquirer}
+use Rattle.acq_message.specs.Elements.{remaining_in}
 use Rattle.acq_message.specs.Cards.{card_of, expiry_of}
 use Rattle.iso_codec.specs.Message.{content_of}
 use Rattle.acq_core.specs.declared.merchant.Merchant.{Merchant}
@@ -29,10 +30,11 @@ use Rattle.acq_core.specs.Decision.{Reverses, Reconciles, Answers, CutsOver, Add
 use Rattle.acq_core.specs.Decision.{Enrols, AddsTerminal, first_of, is_full, is_expired, is_open_at}
 use Rattle.acq_core.specs.Decision.{is_other_transaction, open_hold, fits_acquirer, original_of}
 use Rattle.acq_core.specs.Decision.{admission_in, admission, completion_of, completion, reversal_of}
-use Rattle.acq_core.specs.Decision.{reconciliation_of, decision_by, repeat_of, decision_of_repeat}
+use Rattle.acq_core.specs.Decision.{reconciliation_of, decision_by, repeat_of}
 use Rattle.acq_core.specs.Decision.{decision_of_key, decision_of_merchant, decision_of_request}
 use Rattle.acq_core.specs.Decision.{decision_of_reply_state, decision_of_prior, decision_of_answer}
 use Rattle.acq_core.specs.Decision.{decision_of_enrolment, decision_of_terminal}
+use Rattle.acq_core.specs.Decision.{is_final_for, leaves_a_part}
 use Rattle.acq_core.specs.Outcome.{outcome_of}
 use Rattle.acq_core.specs.Changes.{change_of}
 use Rattle.acq_core.specs.Tables.{Tables, after_any}
@@ -120,8 +122,8 @@ module _ (k : Known) (r : RequestMessage) where
   reversed None = refl
   reversed (Some p) =
       let refusals : List (Bool × ResponseCode) =
-      (not p.is_reversible, code.NoActionTaken)
-      ∷ (not (amount_in r.message == p.amount), code.InvalidAmount)
+      (is_final_for (remaining_in r.message) p, code.NoActionTaken)
+      ∷ (not (leaves_a_part (amount_in r.message) (remaining_in r.message) p), code.InvalidAmount)
       ∷ (is_full k, code.LimitExceeded)
       ∷ [] in
       elim (fits_acquirer (original_acquirer r.message) p.acquirer)

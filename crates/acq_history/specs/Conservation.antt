@@ -1,6 +1,6 @@
 -- Nothing is posted twice, and nothing is reversed twice.
 use Rattle.std.specs.Prelude.{◌≡◌, ℕ, ◌<◌, ◌≤◌, ◌==◌, Bool, true, false, not, ◌&&◌, ◌⊎◌, List}
-use Rattle.std.specs.Prelude.{if◌then◌else◌, Contains}
+use Rattle.std.specs.Prelude.{if◌then◌else◌, Contains, filter, sum_by}
 use Rattle.std.specs.Str.{bytes_eq}
 use Rattle.day_totals.specs.declared.leg.Leg.{Leg}
 use Rattle.day_totals.specs.declared.leg.Leg.TheVariants.{Credit, CreditReversal, Debit}
@@ -49,3 +49,16 @@ pub record IsConserved (rows : List (ℕ × Posting)) : Type 0 where
 -- Nothing is posted twice and nothing reversed twice, whatever comes.
 abbrev pub Conserves : Type 0
 Conserves = (opening : Opening) (es : List Event) → IsConserved (book_after opening es).postings
+
+-- what a merchant's postings under a reference amount to: those of originals, or those of reversals
+abbrev pub amount_posted : List ℕ → ℕ → Bool → List (ℕ × Posting) → ℕ
+amount_posted m reference reversal rows =
+    sum_by (λ row. row.1.amount) (filter (is_posting m reference reversal) rows)
+
+-- For each merchant and reference the reversals never amount to more than the originals, whatever
+-- comes.
+abbrev pub NeverExceeds : Type 0
+NeverExceeds =
+    (opening : Opening) (es : List Event) (m : List ℕ) (reference : ℕ) →
+    let rows = (book_after opening es).postings in
+    amount_posted m reference true rows ≤ amount_posted m reference false rows

@@ -4,7 +4,7 @@ ghost use Rattle.std.specs.Prelude.{List, ℕ};
 ghost use Rattle.acq_history.specs.Balance.{BalancesExactly};
 ghost use Rattle.acq_history.specs.KeptRepeats.{RepeatsAreKept};
 ghost use Rattle.acq_history.specs.DaySums.{SumsAreTotals};
-ghost use Rattle.acq_history.specs.Conservation.{Conserves};
+ghost use Rattle.acq_history.specs.Conservation.{Conserves, NeverExceeds};
 ghost use Rattle.acq_history.specs.Finality.{IsFinal};
 
 /// Every reconciliation whose day resolves is in balance exactly where what it claims are the
@@ -26,9 +26,15 @@ pub fn sums_are_totals()
 
 /// Nothing is posted twice and nothing reversed twice, whatever comes: of each merchant and
 /// reference there is at most one posting of an original and at most one of a reversal, and where a
-/// reversal stands, so does its original, earlier and of the same amount and card.
+/// reversal stands, so does its original, earlier, of the same card and of no smaller amount.
 pub fn postings_are_conserved()
     ensures { Conserves }
+{}
+
+/// No more is reversed than was posted, whatever comes: of each merchant and reference the amounts
+/// of reversals never sum up to more than those of originals.
+pub fn reversals_never_exceed()
+    ensures { NeverExceeds }
 {}
 
 /// Once a day is past and none of its requests is pending, its postings stay as they are.
