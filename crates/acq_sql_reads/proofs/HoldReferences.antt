@@ -8,10 +8,10 @@ use Rattle.sqlite_rules.specs.Lists.{Has}
 use Rattle.acq_message.specs.declared.request_key.RequestKey.{RequestKey}
 use Rattle.acq_message.specs.declared.service.Service.{Service}
 use Rattle.acq_message.specs.declared.service.Service.TheVariants.{Authorization, Completion}
-use Rattle.acq_message.specs.Elements.{same_key}
+use Rattle.acq_message.specs.Elements.{same_key, remaining_in}
 use Rattle.acq_core.specs.declared.arrival.Arrival.{Arrival}
 use Rattle.acq_core.specs.declared.request.Request.{Request}
-use Rattle.acq_core.specs.Changes.{change_of, amount_to_remain}
+use Rattle.acq_core.specs.Changes.{change_of}
 use Rattle.acq_core.specs.Pasts.{HasPast}
 use Rattle.acq_core.specs.Tables.{Tables, new_tables, is_approved, known_in, with_changed}
 use Rattle.acq_core.specs.Tables.{after_any, step_tables, prior_of}
@@ -20,7 +20,7 @@ use Rattle.acq_history.specs.Entries.{is_reversal}
 use Rattle.acq_history.proofs.Keys.{same_key_from, same_key_is}
 use Rattle.acq_history.proofs.Members.{In, In-push, In-mapped}
 use Rattle.acq_history.proofs.StepCases.{by_step}
-use Rattle.acq_history.proofs.WhatRemains.{hold_ended, original_ended}
+use Rattle.acq_history.proofs.WhatRemains.{original_approved, lowered_was_approved}
 use Rattle.acq_history.specs.Keys.{are_distinct, HasUniqueKeys}
 use Rattle.acq_history.proofs.KeysStayUnique.{unique_after_step}
 use Rattle.acq_history.proofs.Runs.{kept}
@@ -114,14 +114,19 @@ referred_after_step t a (unique, h) =
       completed = λ r merchant g hold c.
           with_row _ _
           (with_changes t.requests hold.key _ h
-          (λ y here is kind approved none.
-          true≢false (sym approved ∙ (hold_ended (prior_of hold)).approved)))
+          (λ y here is kind approved none. true≢false (sym approved)))
           (λ kind approved none. completion_not r.service c.service kind);
       reversed = λ r merchant g row c.
           with_row _ _
           (with_changes t.requests row.key _ h
-          (λ y here is kind approved none. true≢false
-          (sym approved ∙ (original_ended (prior_of row) (amount_to_remain r)).approved)))
+          (λ y here is kind approved none.
+          let remaining = remaining_in r.message in
+          let lowered = sym (original_approved (prior_of row) remaining) ∙ approved in
+          let was = lowered_was_approved row.status row.reply row.key.service remaining
+          c.reversible c.answered lowered in
+          let same = one_request t.requests y row unique.requests here c.member is in
+          h y here kind (ap (λ (x : Request). is_approved x.status) same ∙ ap is_approved was)
+          none))
           (λ kind approved none. reversal_not r.service c.service kind);
       reconciled = λ r merchant g day c.
           with_row t.requests _ h (λ kind approved none. true≢false (sym approved));
