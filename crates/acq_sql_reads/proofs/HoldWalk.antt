@@ -1,5 +1,5 @@
 -- What the walk over a merchant's holds answers.
-use Rattle.std.proofs.Common.{◌≡◌, ◌&&◌, ◌==◌, ◌≤◌, Bool, true, false, true≢false, inl, inr, ℕ, pos}
+use Rattle.std.proofs.Common.{◌≡◌, ◌&&◌, ◌||◌, ◌==◌, ◌≤◌, Bool, true, false, true≢false, inl, inr, ℕ, pos}
 use Rattle.std.proofs.Common.{Ordering, Less}
 use Rattle.std.proofs.Common.{Equal}
 use Rattle.std.proofs.Common.{cond, codes, Option, None, Some, List, [], ◌∷◌, map, filter, length}
@@ -19,7 +19,7 @@ use Rattle.sqlite_rules.specs.Lists.{Has}
 use Rattle.sqlite_rules.proofs.ListLemmas.{all_has, has_filtered}
 use Rattle.sqlite.specs.State.{State, Shown}
 use Rattle.row_lemmas.specs.Values.{number, number_or_null}
-use Rattle.row_lemmas.proofs.ColumnTests.{text_test, number_test, and_true}
+use Rattle.row_lemmas.proofs.ColumnTests.{text_test, either_number_test, and_true}
 use Rattle.row_lemmas.proofs.ListReads.{shows_ordered}
 use Rattle.row_lemmas.proofs.QueryRows.{picked}
 use Rattle.acq_message.specs.declared.service.Service.{Service}
@@ -115,8 +115,8 @@ kind_is ReversalAdvice = refl
 kind_is Reconciliation = refl
 kind_is NetworkManagement = refl
 
-status_is : (s : Status) → (status_number s == 3) ≡ is_approved s
-status_is = alike (λ s. status_number s == 3) is_approved refl
+status_is : (s : Status) → ((status_number s == 3) || (status_number s == 8)) ≡ is_approved s
+status_is = alike (λ s. (status_number s == 3) || (status_number s == 8)) is_approved refl
 
 fewer : {X : Type 0} (p q : X → Bool) → ((x : X) → p x ≡ true → q x ≡ true) → (xs : List X)
     → length (filter p xs) ≤ length (filter q xs)
@@ -160,7 +160,7 @@ module _ (m : List ℕ) where
       rw (
         text_test x.key.merchant m,
         text_test (digits_of x.key.service) (codes "010"),
-        number_test (status_number x.status) 3,
+        either_number_test (status_number x.status) 3 8,
         and_true,
         kind_is x.key.service,
         status_is x.status,

@@ -1,11 +1,12 @@
 -- What the walks mean: which columns of which rows they show, and in which order.
-use Rattle.std.specs.Prelude.{List, [], ◌∷◌, pos, codes}
+use Rattle.std.specs.Prelude.{ℕ, List, [], ◌∷◌, codes}
 use Rattle.sqlite_value.specs.declared.keys.Collation.TheVariants.{Binary}
-use Rattle.sqlite_value.specs.declared.value.Value.TheVariants.{Int, Text}
-use Rattle.sqlite_sql.specs.declared.ops.BinaryOp.TheVariants.{Compare}
+use Rattle.sqlite_value.specs.declared.value.Value.TheVariants.{Text}
+use Rattle.sqlite_sql.specs.declared.ops.BinaryOp.TheVariants.{Compare, Or}
 use Rattle.sqlite_sql.specs.declared.ops.CompareOp.TheVariants.{Eq}
 use Rattle.sqlite_sql.specs.Term.{Term, lit, op2}
 use Rattle.sqlite_sql.specs.Query.{Query}
+use Rattle.row_lemmas.specs.Values.{number}
 use Rattle.row_lemmas.specs.Queries.{plain_query, column, is_param, rising}
 use Rattle.acq_sql_rows.specs.Queries.{columns}
 
@@ -17,11 +18,15 @@ postings_query =
 abbrev pub merchants_query : Query
 merchants_query = plain_query 1 [] (columns 1 3) ((column 1, rising) ∷ [])
 
--- an approved authorization
+-- a status is this one
+abbrev pub has_status : ℕ → Term
+has_status status = op2 (Compare Eq Binary) (column 8) (lit (number status))
+
+-- an approved authorization, which may have been lowered
 abbrev pub is_hold : List Term
 is_hold =
     op2 (Compare Eq Binary) (column 3) (lit (Text (codes "010")))
-    ∷ op2 (Compare Eq Binary) (column 8) (lit (Int (pos 3))) ∷ []
+    ∷ op2 Or (has_status 3) (has_status 8) ∷ []
 
 abbrev pub holds_query : Query
 holds_query =

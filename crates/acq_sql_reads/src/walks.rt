@@ -25,7 +25,8 @@ const MERCHANTS: &str = "SELECT merchant, currency, first FROM merchants ORDER B
 
 const HOLDS: &str = "SELECT merchant, terminal, kind, trace, stamp, essence, day, status, \
     admitted, reference, follows, amount, leg, card, acquirer, hold_days, until, reply \
-    FROM requests WHERE merchant = ?1 AND kind = '010' AND status = 3 ORDER BY reference";
+    FROM requests WHERE merchant = ?1 AND kind = '010' \
+    AND (status = 3 OR status = 8) ORDER BY reference";
 
 /// Hands over the postings of a day, each with its number, in order of merchant and number.
 pub fn walk_postings<S: Alter, V: Visit<(u64, Posting)>>(

@@ -85,7 +85,7 @@ abbrev pub follow_query : Query
 follow_query =
     plain_query requests_tree key_is
     (column 0 ∷ column 0 ∷ column 1 ∷ column 2 ∷ column 3 ∷ column 4 ∷ column 5 ∷ column 6
-    ∷ column 7 ∷ param 5 ∷ column 9 ∷ column 10 ∷ column 11 ∷ column 12 ∷ column 13 ∷ column 14
+    ∷ column 7 ∷ param 5 ∷ column 9 ∷ column 10 ∷ column 11 ∷ param 6 ∷ column 13 ∷ column 14
     ∷ column 15 ∷ column 16 ∷ column 17 ∷ column 18 ∷ []) []
 
 -- ---- running totals

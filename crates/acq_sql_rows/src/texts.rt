@@ -37,8 +37,8 @@ pub const ANSWER: &str = "UPDATE requests SET status = ?6, until = ?7, reply = ?
     WHERE merchant = ?1 AND terminal = ?2 AND kind = ?3 AND trace = ?4 AND stamp = ?5";
 
 /// What a completion or a reversal makes of the request with a key.
-pub const FOLLOW: &str = "UPDATE requests SET status = ?6 WHERE merchant = ?1 AND terminal = ?2 \
-    AND kind = ?3 AND trace = ?4 AND stamp = ?5";
+pub const FOLLOW: &str = "UPDATE requests SET status = ?6, amount = ?7 \
+    WHERE merchant = ?1 AND terminal = ?2 AND kind = ?3 AND trace = ?4 AND stamp = ?5";
 
 /// A posting, with its number.
 pub const ADD_POSTING: &str = "INSERT INTO postings VALUES (?1, ?2, ?3, ?4, ?5, ?6, ?7, ?8, ?9)";

@@ -155,7 +155,7 @@ laid_new_book limit day =
 
 -- what remains of it
 abbrev remains_row : Remains → Row
-remains_row remains = number (status_number remains.status) ∷ []
+remains_row remains = number (status_number remains.status) ∷ number remains.amount ∷ []
 
 abbrev pub follow_params : RequestKey → Remains → Row
 follow_params key remains = key_row key ++ remains_row remains

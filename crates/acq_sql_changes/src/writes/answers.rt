@@ -8,7 +8,7 @@ ghost use Rattle.iso_codec.specs.Message.{IsMessage};
 ghost use Rattle.iso_codec.specs.Reading.{spelling};
 
 use acq_core::{Remains, RequestKey, Status};
-use acq_sql_rows::{hold_end_value, status_value, texts};
+use acq_sql_rows::{amount_value, hold_end_value, status_value, texts};
 use iso_codec::Message;
 use sqlite::types::ValueRef;
 use sqlite::{Alter, Error, Transaction};
@@ -73,6 +73,7 @@ pub fn follow_request<S: Alter>(
             ValueRef::Text(&trace),
             ValueRef::Text(&stamp),
             status_value(remains.status),
+            amount_value(remains.amount),
         ],
     )
 }

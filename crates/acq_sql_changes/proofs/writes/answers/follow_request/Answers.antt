@@ -12,4 +12,5 @@ returns-clause-writes g c =
       c.to_bytes-trace.ensures.value,
       c.to_bytes-stamp.ensures.value,
       c.status_value.ensures,
+      c.amount_value.ensures,
     ) at c.execute.ensures.runs)
