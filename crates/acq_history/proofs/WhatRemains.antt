@@ -73,11 +73,11 @@ lowered_was_approved s reply service remaining reversible answered lowered = abs
 -- what was reversed stays approved exactly where it is lowered
 pub original_approved : (p : Prior) (remaining : ℕ) →
     is_approved (remains_of p remaining).status ≡ is_lowered p.key.service remaining
-original_approved p remaining =
-    elim (is_lowered p.key.service remaining) as (λ b. is_approved (left_by b p remaining).status ≡ b) [
-      | true ↦ refl
-      | false ↦ reversed_unapproved p.reply_state
-    ]
+original_approved p remaining = step (is_lowered p.key.service remaining)
+  where
+    step : (b : Bool) → is_approved (left_by b p remaining).status ≡ b
+    step true = refl
+    step false = reversed_unapproved p.reply_state
 
 -- ---- what remains of its amount
 
