@@ -477,7 +477,7 @@ static void read_events(void) {
 
 static void make_book(void) {
     char row[100];
-    snprintf(row, sizeof row, "INSERT INTO book VALUES (1, %d, %d)", LIMIT, FIRST_DAY);
+    snprintf(row, sizeof row, "INSERT INTO book VALUES (2, %d, %d)", LIMIT, FIRST_DAY);
     if (sqlite3_exec(db, "BEGIN", NULL, NULL, NULL) || sqlite3_exec(db, schema, NULL, NULL, NULL)
         || sqlite3_exec(db, row, NULL, NULL, NULL) || sqlite3_exec(db, "COMMIT", NULL, NULL, NULL))
         fail("a new book");
