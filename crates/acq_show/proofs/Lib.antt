@@ -1,4 +1,5 @@
 pub mod PutLines
+pub mod PutAmounts
 pub mod ElementsInTurn
 pub mod HiddenContents
 pub mod OnLiterals

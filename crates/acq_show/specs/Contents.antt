@@ -1,5 +1,6 @@
 -- What is shown of an element's content (own profile).
-use Rattle.std.specs.Prelude.{ℕ, ◌==◌, nat_le, ◌||◌, List, ◌++◌, length, map, replicate, codes}
+use Rattle.std.specs.Prelude.{ℕ, ◌==◌, nat_le, ◌||◌, List, ◌++◌, length, take, drop, map, replicate}
+use Rattle.std.specs.Prelude.{codes}
 use Rattle.std.specs.Prelude.{Option, Some, None, if◌then◌else◌}
 use Rattle.std.specs.Fmt.{decimal}
 use Rattle.iso_codec.specs.Content.{is_printable}
@@ -30,11 +31,30 @@ length_shown size = codes "(length " ++ decimal size ++ codes ", not shown)"
 abbrev pub byte_shown : ℕ → ℕ
 byte_shown b = if is_printable b then b else 46
 
+abbrev pub printable : List ℕ → List ℕ
+printable content = map byte_shown content
+
+-- a part of a content, behind its name
+abbrev pub part_shown : List ℕ → List ℕ → List ℕ
+part_shown name part = name ++ printable part
+
+-- replacement amounts: the amount and that of the settlement, of twelve bytes, then the fees of
+-- both, of nine
+abbrev pub amounts_shown : List ℕ → List ℕ
+amounts_shown content =
+    if length content == 42
+    then part_shown (codes "amount ") (take 12 content)
+    ++ part_shown (codes ", settlement amount ") (take 12 (drop 12 content))
+    ++ part_shown (codes ", fee ") (take 9 (drop 12 (drop 12 content)))
+    ++ part_shown (codes ", settlement fee ") (drop 9 (drop 12 (drop 12 content)))
+    else printable content
+
 -- what is shown of element n with this content: 2 is the card number, 35 track 2, 45 track 1, 52
--- the PIN block, 55 chip data
+-- the PIN block, 55 chip data, 95 the replacement amounts
 abbrev pub content_shown : ℕ → List ℕ → List ℕ
 content_shown n content =
     if n == 2 then number_shown content
     else if n == 35 then track_shown content
     else if n == 45 || n == 52 || n == 55 then length_shown (length content)
-    else map byte_shown content
+    else if n == 95 then amounts_shown content
+    else printable content

@@ -1,9 +1,10 @@
 //! What is shown of an element's content: no whole card number, and nothing else by which a card
 //! can be used.
 
-ghost use Rattle.std.specs.Prelude.{◌≡◌, ◌++◌, OnOk, replicate, map};
+ghost use Rattle.std.specs.Prelude.{◌≡◌, ◌++◌, OnOk, replicate};
 ghost use Rattle.acq_show.specs.Contents.{content_shown, number_shown, track_shown};
-ghost use Rattle.acq_show.specs.Contents.{length_shown, byte_shown};
+ghost use Rattle.acq_show.specs.Contents.{length_shown, byte_shown, printable, part_shown};
+ghost use Rattle.acq_show.specs.Contents.{amounts_shown};
 
 use card_no::split_track2;
 use itoa::Buffer;
@@ -12,6 +13,9 @@ use std::alloc::AllocError;
 /// How many digits a card number has at least where its mask is shown. A shorter one's mask would
 /// leave little of it out.
 const LEAST_MASKED: usize = 13;
+
+/// How many bytes the replacement amounts have.
+const AMOUNTS_LEN: usize = 42;
 
 /// Puts what is shown of an element's content behind other bytes.
 pub(crate) fn put_content(text: &mut Vec<u8>, number: u8, content: &[u8]) -> Result<(), AllocError>
@@ -25,6 +29,8 @@ pub(crate) fn put_content(text: &mut Vec<u8>, number: u8, content: &[u8]) -> Res
         35 => put_track(text, content),
         // track 1, the PIN block, chip data
         45 | 52 | 55 => put_length(text, content.len()),
+        // the replacement amounts
+        95 => put_amounts(text, content),
         _ => put_printable(text, content),
     }
 }
@@ -64,10 +70,33 @@ fn put_length(text: &mut Vec<u8>, len: usize) -> Result<(), AllocError>
     text.extend_from_slice(b", not shown)")
 }
 
+/// Puts the replacement amounts, each behind its name.
+fn put_amounts(text: &mut Vec<u8>, content: &[u8]) -> Result<(), AllocError>
+    ensures { OnOk result (text.new.items ≡ text.old.items ++ amounts_shown content.now) }
+{
+    if content.len() != AMOUNTS_LEN {
+        return put_printable(text, content);
+    }
+    let (amount, after) = content.split_at(12);
+    let (settlement_amount, after) = after.split_at(12);
+    let (fee, settlement_fee) = after.split_at(9);
+    put_part(text, b"amount ", amount)?;
+    put_part(text, b", settlement amount ", settlement_amount)?;
+    put_part(text, b", fee ", fee)?;
+    put_part(text, b", settlement fee ", settlement_fee)
+}
+
+/// Puts a part of a content behind its name.
+fn put_part(text: &mut Vec<u8>, name: &[u8], part: &[u8]) -> Result<(), AllocError>
+    ensures { OnOk result (text.new.items ≡ text.old.items ++ part_shown name.now part.now) }
+{
+    text.extend_from_slice(name)?;
+    put_printable(text, part)
+}
+
 /// Puts bytes, and a `.` for each that can't be printed.
 fn put_printable(text: &mut Vec<u8>, content: &[u8]) -> Result<(), AllocError>
-    ensures { OnOk result (text.new.items
-        ≡ text.old.items ++ map byte_shown content.now) }
+    ensures { OnOk result (text.new.items ≡ text.old.items ++ printable content.now) }
 {
     for b in content {
         text.push(byte_shown(*b))?;

@@ -36,6 +36,10 @@ pub fn worked_contents()
     ensures block { content_shown 52 (codes "0123456789ABCDEF")
         ≡ codes "(length 16, not shown)" }
     ensures bytes { content_shown 48 (codes "a\nb~") ≡ codes "a.b~" }
+    ensures amounts { content_shown 95
+        (codes "000000003000" ++ codes "000000000000" ++ codes "C00000000" ++ codes "C00000000")
+        ≡ codes "amount 000000003000, settlement amount 000000000000, "
+        ++ codes "fee C00000000, settlement fee C00000000" }
 {}
 
 /// What is shown of an echo test, and of texts that are no messages.

@@ -12,4 +12,5 @@ returns c = record {
   no_number = refl;
   block = refl;
   bytes = refl;
+  amounts = refl;
 }
