@@ -111,10 +111,7 @@ fn goes_on(
 
 /// What is left of a book's files that stop at some call of its migration, and whether it was
 /// migrated; `None` where the files don't open.
-fn migrate_in(
-    alloc: Global,
-    files: Files<StoppingFile>,
-) -> Option<(Files<StoppingFile>, bool)> {
+fn migrate_in(alloc: Global, files: Files<StoppingFile>) -> Option<(Files<StoppingFile>, bool)> {
     let Some(connection) = open(alloc, files) else {
         return None;
     };
@@ -139,10 +136,16 @@ fn stop_in_turn(rt: &impl Abort, alloc: Global, stopping: Stopping) -> Result<()
         let Some((mut left, is_migrated)) = migrate_in(alloc, files) else {
             continue;
         };
-        assert!(rt; goes_on(alloc, &left, later, &wanted)?, "what was written, at {calls}");
+        assert!(rt;
+            goes_on(alloc, &left, later, &wanted)?,
+            "what was written, at {calls}"
+        );
         left.log.crash();
         left.db.crash();
-        assert!(rt; goes_on(alloc, &left, later, &wanted)?, "what was synced, at {calls}");
+        assert!(rt;
+            goes_on(alloc, &left, later, &wanted)?,
+            "what was synced, at {calls}"
+        );
         if is_migrated {
             assert!(rt; stops >= 3, "{stops} stops");
             return Ok(());

@@ -109,7 +109,10 @@ pub(super) fn copies_of(alloc: Global, files: &Files<StoppingFile>) -> Result<Fi
 }
 
 /// Opens files with so short a log that both are written to, where no sync of them has failed.
-pub(super) fn open<D: Disk + Drop>(alloc: Global, files: Files<D>) -> Option<Connection<FileStore<D>>>
+pub(super) fn open<D: Disk + Drop>(
+    alloc: Global,
+    files: Files<D>,
+) -> Option<Connection<FileStore<D>>>
     ensures settled { IfSome result (λ connection. connection.in_transaction ≡ false) }
 {
     if !files.may_be_used() {
