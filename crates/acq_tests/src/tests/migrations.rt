@@ -6,7 +6,8 @@ ghost use Rattle.std.specs.Prelude.{◌≡◌, false};
 use super::output_text::text_of;
 use super::setup::{GREATEST_LIMIT, MAY_1, events_behind_setup};
 use super::stops::{
-    Stopping, StoppingFile, add_lines, copies_of, open, run_over, said_by, stopping_copies,
+    Stopping, StoppingFile, add_lines, copies_of, open, open_with_log, run_over, said_by,
+    stopping_copies,
 };
 use super::two_days::{FIRST_DAY, SECOND_DAY};
 use acq_core::{Event, Limit, Output};
@@ -110,9 +111,9 @@ fn goes_on(
 }
 
 /// What is left of a book's files that stop at some call of its migration, and whether it was
-/// migrated; `None` where the files don't open.
+/// migrated; `None` where the files don't open. The log is so short that both files are written to.
 fn migrate_in(alloc: Global, files: Files<StoppingFile>) -> Option<(Files<StoppingFile>, bool)> {
-    let Some(connection) = open(alloc, files) else {
+    let Some(connection) = open_with_log(alloc, files, 1) else {
         return None;
     };
     match SqlBook::migrate(alloc, connection) {
@@ -125,10 +126,12 @@ fn migrate_in(alloc: Global, files: Files<StoppingFile>) -> Option<(Files<Stoppi
 /// written, and what of it was synced, is each time a whole book that goes on.
 fn stop_in_turn(rt: &impl Abort, alloc: Global, stopping: Stopping) -> Result<(), Fail> {
     let events = all_events(alloc)?;
-    let (before, later) = events.as_slice().split_at(BEFORE);
+    let before = events.get(..BEFORE).ok_or("the events before")?;
+    let later = events.get(BEFORE..).ok_or("the events to come")?;
     let (_, said) = run_new(alloc, events.as_slice())?;
     let mut wanted = String::new(alloc);
-    add_lines(alloc, &said.as_slice()[BEFORE..], &mut wanted)?;
+    let said_later = said.get(BEFORE..).ok_or("what is said to them")?;
+    add_lines(alloc, said_later, &mut wanted)?;
     let old = old_book(alloc, before)?;
     let mut stops: u64 = 0;
     for calls in 0..200 {

@@ -7,6 +7,9 @@ use day_totals::Day;
 use sqlite::Connection;
 use std::test::Fail;
 
+/// The version of the books that are made.
+const VERSION: u32 = 2;
+
 /// A book of another version, one without its row, and one with a table more are refused.
 #[test]
 fn other_books_are_refused(rt: HostRuntime) -> Result<(), Fail> {
@@ -16,26 +19,26 @@ fn other_books_are_refused(rt: HostRuntime) -> Result<(), Fail> {
     make_book(&mut conn, limit, day)?;
     conn.execute("UPDATE book SET version = 7", &[])?;
     assert_eq!(rt;
-        check_book(&mut conn, rt.alloc()),
+        check_book(&mut conn, rt.alloc(), VERSION),
         Err(OpeningFault::OtherVersion(7))
     );
     conn.execute("UPDATE book SET version = 1", &[])?;
     assert_eq!(rt;
-        check_book(&mut conn, rt.alloc()),
+        check_book(&mut conn, rt.alloc(), VERSION),
         Err(OpeningFault::OtherVersion(1))
     );
     conn.execute("UPDATE book SET version = 2", &[])?;
-    assert_eq!(rt; check_book(&mut conn, rt.alloc()), Ok(()));
+    assert_eq!(rt; check_book(&mut conn, rt.alloc(), VERSION), Ok(()));
     conn.execute("CREATE TABLE notes (note TEXT) STRICT", &[])?;
     assert_eq!(rt;
-        check_book(&mut conn, rt.alloc()),
+        check_book(&mut conn, rt.alloc(), VERSION),
         Err(OpeningFault::NotABook)
     );
     conn.execute("DROP TABLE notes", &[])?;
-    assert_eq!(rt; check_book(&mut conn, rt.alloc()), Ok(()));
+    assert_eq!(rt; check_book(&mut conn, rt.alloc(), VERSION), Ok(()));
     conn.execute("DELETE FROM book", &[])?;
     assert_eq!(rt;
-        check_book(&mut conn, rt.alloc()),
+        check_book(&mut conn, rt.alloc(), VERSION),
         Err(OpeningFault::NotABook)
     );
     Ok(())

@@ -115,11 +115,23 @@ pub(super) fn open<D: Disk + Drop>(
 ) -> Option<Connection<FileStore<D>>>
     ensures settled { IfSome result (λ connection. connection.in_transaction ≡ false) }
 {
+    open_with_log(alloc, files, 12)
+}
+
+/// Opens files, where no sync of them has failed; a log of so many frames is copied into the
+/// database.
+pub(super) fn open_with_log<D: Disk + Drop>(
+    alloc: Global,
+    files: Files<D>,
+    frames: usize,
+) -> Option<Connection<FileStore<D>>>
+    ensures settled { IfSome result (λ connection. connection.in_transaction ≡ false) }
+{
     if !files.may_be_used() {
         return None;
     }
     let mut options = Options::new(1);
-    options.checkpoint_frames = 12;
+    options.checkpoint_frames = frames;
     match Connection::open_files(alloc, files, options) {
         Ok(connection) => Some(connection),
         Err(_) => None,
