@@ -1,9 +1,6 @@
 //! A book of version 1, with ranges of six digits, is migrated: it goes on as one that always had
 //! eight, and a stop at any call leaves it whole, of version 1 or of version 2.
 
-ghost use Rattle.std.specs.Prelude.{◌≡◌, false};
-
-use super::output_text::text_of;
 use super::setup::{GREATEST_LIMIT, MAY_1, events_behind_setup};
 use super::stops::{
     Stopping, StoppingFile, add_lines, copies_of, open, open_with_log, run_over, said_by,
@@ -12,11 +9,10 @@ use super::stops::{
 use super::two_days::{FIRST_DAY, SECOND_DAY};
 use acq_core::{Event, Limit, Output};
 use acq_host::Host;
-use acq_sql::{OpeningFault, SqlBook};
+use acq_sql::{OpeningFault, Refusal, SqlBook};
 use day_totals::Day;
-use sqlite::{Alter, Connection};
-use sqlite_disk::{Crash, Files, Memory};
-use sqlite_store::FileStore;
+use sqlite::Alter;
+use sqlite_disk::{Crash, Disk, Files, Memory};
 use std::alloc::Global;
 use std::process::Abort;
 use std::test::Fail;
@@ -57,54 +53,54 @@ fn old_book(alloc: Global, events: &[Event]) -> Result<Files<Memory>, Fail> {
     Ok(files)
 }
 
-/// A host over the book that a database holds, which is migrated before.
-fn migrated_host<S: Alter + Drop>(
+/// What a host over a book that was taken says to events, or why none was.
+fn said_over<S: Alter + Drop>(
     alloc: Global,
-    connection: Connection<S>,
-) -> Option<Host<SqlBook<S>>>
-    requires settled { connection.in_transaction ≡ false }
-{
-    match SqlBook::migrate(alloc, connection) {
-        Ok(book) => Some(Host::new(alloc, book)),
-        Err(_) => None,
-    }
-}
-
-/// A host over what is left in files, if that is a whole book: of version 2, or of version 1, which
-/// is then migrated.
-fn host_over(
-    alloc: Global,
-    left: &Files<StoppingFile>,
-) -> Result<Option<Host<SqlBook<FileStore<Memory>>>>, Fail> {
-    let Some(connection) = open(alloc, copies_of(alloc, left)?) else {
-        return Ok(None);
-    };
-    match SqlBook::adopt(alloc, connection) {
-        Ok(book) => return Ok(Some(Host::new(alloc, book))),
-        Err(refusal) => {
-            if refusal.fault != OpeningFault::OtherVersion(1) {
-                return Ok(None);
-            }
+    taken: Result<SqlBook<S>, Refusal<S>>,
+    events: &[Event],
+) -> Result<Vec<Output>, OpeningFault> {
+    match taken {
+        Ok(book) => {
+            let mut host = Host::new(alloc, book);
+            let said = said_by(&mut host, events);
+            drop(host);
+            Ok(said)
         }
-    }
-    match open(alloc, copies_of(alloc, left)?) {
-        Some(connection) => Ok(migrated_host(alloc, connection)),
-        None => Ok(None),
+        Err(refusal) => Err(refusal.fault),
     }
 }
 
-/// Whether a host over what is left in files says this to events.
+/// The same of a host over the book in files, which is migrated before where it is an old one.
+fn said_in<D: Disk + Drop>(
+    alloc: Global,
+    files: Files<D>,
+    is_old: bool,
+    events: &[Event],
+) -> Result<Vec<Output>, OpeningFault> {
+    let Some(connection) = open(alloc, files) else {
+        return Err(OpeningFault::Store);
+    };
+    if is_old {
+        return said_over(alloc, SqlBook::migrate(alloc, connection), events);
+    }
+    said_over(alloc, SqlBook::adopt(alloc, connection), events)
+}
+
+/// Whether what is left in files is a whole book, of version 2 or of version 1, which is then
+/// migrated, and a host over it says this to events.
 fn goes_on(
     alloc: Global,
     left: &Files<StoppingFile>,
     events: &[Event],
     wanted: &str,
 ) -> Result<bool, Fail> {
-    let Some(mut host) = host_over(alloc, left)? else {
+    let mut said = said_in(alloc, copies_of(alloc, left)?, false, events);
+    if let Err(OpeningFault::OtherVersion(1)) = said {
+        said = said_in(alloc, copies_of(alloc, left)?, true, events);
+    }
+    let Ok(said) = said else {
         return Ok(false);
     };
-    let said = said_by(&mut host, events);
-    drop(host);
     let mut text = String::new(alloc);
     add_lines(alloc, said.as_slice(), &mut text)?;
     Ok(text.as_str() == wanted)
