@@ -132,10 +132,10 @@ requested t r =
     same_step t (Requested r) (Requested r) refl (of_request t m r.service r.message)
     (request_widened (known_in_under six_digits t (Requested r)) r r.service)
 
-of_message : (t : Tables) (moment : ℕ) (m : IsoMessage) (o : Option Service) →
+message_widened : (t : Tables) (moment : ℕ) (m : IsoMessage) (o : Option Service) →
     let a = arrival_of_message moment m o in IsWidened t a a
-of_message t moment m None = same_step t (Unserved m) (Unserved m) refl refl refl
-of_message t moment m (Some service) =
+message_widened t moment m None = same_step t (Unserved m) (Unserved m) refl refl refl
+message_widened t moment m (Some service) =
     let r : RequestMessage = record { moment = moment; service = service; message = m } in
     elim (is_malformed service m)
     as (λ b. let a = if b then Malformed r else Requested r in IsWidened t a a) [
@@ -143,15 +143,15 @@ of_message t moment m (Some service) =
       | false ↦ requested t r
     ]
 
-of_reading : (t : Tables) (moment : ℕ) (read : Result IsoMessage DecodeFault) →
+reading_widened : (t : Tables) (moment : ℕ) (read : Result IsoMessage DecodeFault) →
     let a = arrival_of_reading moment read in IsWidened t a a
-of_reading t moment (Err fault) =
+reading_widened t moment (Err fault) =
     same_step t (Undecoded fault) (Undecoded fault) refl refl refl
-of_reading t moment (Ok m) = of_message t moment m (service_of m.kind)
+reading_widened t moment (Ok m) = message_widened t moment m (service_of m.kind)
 
 pub frame_widened : (t : Tables) (moment : ℕ) (text : List ℕ) →
     let a = arrival_of (event.Frame moment text) in IsWidened t a a
-frame_widened t moment text = of_reading t moment (reading_of text)
+frame_widened t moment text = reading_widened t moment (reading_of text)
 
 pub answered_widened : (t : Tables) (moment : ℕ) (merchant : List ℕ) (reference : ℕ)
     (verdict : Verdict) →
