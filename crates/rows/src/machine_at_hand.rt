@@ -78,6 +78,10 @@ impl<'a> Machine<ListBook> for MachineAtHand<'a> {
         self.open_book(path)
     }
 
+    fn close_book(book: ListBook) {
+        drop(book);
+    }
+
     fn read_answers(&self, alloc: Global, _path: &str) -> Result<StandIn, Fault> {
         match &self.terms.answers {
             Some(text) => Ok(StandIn::read(alloc, &mut SliceSource::new(text.as_slice()))?),
