@@ -103,3 +103,7 @@ holds_at t m =
     in_order (λ a b. is_reference_before a.reference b.reference)
     (filter (λ row. is_authorization row.key.service && is_approved row.status)
     (requests_of m t.requests))
+
+-- the pending requests of all merchants and days, in the order in which they came
+abbrev pub waiting_at : Tables → List Request
+waiting_at t = filter (λ row. is_pending row.status) t.requests

@@ -7,7 +7,7 @@ ghost use Rattle.acq_book.specs.Fits.{Fits};
 ghost use Rattle.acq_book.specs.Lookups.{merchant_at, has_terminal_at, range_at, overlapping_at};
 ghost use Rattle.acq_book.specs.Lookups.{request_at, referred_at, admitted_at, used_at, totals_at};
 ghost use Rattle.acq_book.specs.Lookups.{pending_at, last_reconciliation_at};
-ghost use Rattle.acq_book.specs.Lookups.{postings_at, merchants_at, holds_at};
+ghost use Rattle.acq_book.specs.Lookups.{postings_at, merchants_at, holds_at, waiting_at};
 ghost use Rattle.acq_book.specs.Promise.{HasRisen, IfStore, LooksBy, MakesBy};
 ghost use Rattle.acq_book.specs.Visits.{SawAll, SawSome};
 
@@ -185,6 +185,17 @@ pub trait Book {
             (SawAll V.sees (holds_at (tables self.old) merchant) visitor.old visitor.new) }
         ensures begun { is_honest self.new → is_open self.old → OnErr result
             (SawSome V.sees (holds_at (tables self.old) merchant) visitor.old visitor.new) }
+        ensures looks { LooksBy tables is_honest is_open may_leave failures
+            self.old self.new (is_ok result) }
+        ensures store { IfStore result (HasRisen (failures self.old) (failures self.new)) };
+
+    /// Hands over the requests of all merchants and days that wait for their issuer's answer, in
+    /// the order in which they came.
+    fn walk_pending<V: Visit<Request>>(&mut self, visitor: &mut V) -> Result<(), BookFault>
+        ensures seen { is_honest self.new → is_open self.old → OnOk result
+            (SawAll V.sees (waiting_at (tables self.old)) visitor.old visitor.new) }
+        ensures begun { is_honest self.new → is_open self.old → OnErr result
+            (SawSome V.sees (waiting_at (tables self.old)) visitor.old visitor.new) }
         ensures looks { LooksBy tables is_honest is_open may_leave failures
             self.old self.new (is_ok result) }
         ensures store { IfStore result (HasRisen (failures self.old) (failures self.new)) };

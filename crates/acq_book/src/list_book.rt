@@ -292,6 +292,12 @@ impl Book for ListBook {
         Ok(())
     }
 
+    fn walk_pending<V: Visit<Request>>(&mut self, visitor: &mut V) -> Result<(), BookFault> {
+        let rows = self.requests.waiting(self.alloc)?;
+        show(&rows, visitor);
+        Ok(())
+    }
+
     fn apply(&mut self, change: &Change) -> Result<(), BookFault> {
         match change {
             Change::AddMerchant(merchant) => self.add_merchant(*merchant)?,

@@ -5,6 +5,7 @@ pub mod January
 pub mod Refused
 pub mod Naming
 pub mod Settling
+pub mod LinesReadBack
 pub mod ReadBack
 pub mod SumsInOrder
 pub mod Cleared

@@ -1,8 +1,6 @@
 //! Open holds.
 
-ghost use Rattle.std.specs.Prelude.{◌≡◌, ◌+◌, IfOk, unwrap_or};
-ghost use Rattle.day_totals.specs.Digits.{zero_padded};
-ghost use Rattle.acq_message.specs.Elements.{or_empty};
+ghost use Rattle.std.specs.Prelude.{◌≡◌, ◌+◌, IfOk};
 ghost use Rattle.acq_book.specs.Calls.{Looks};
 ghost use Rattle.acq_book.specs.Promise.{HasRisen};
 ghost use Rattle.acq_reports.specs.Faults.{IfStoreFailed, failed_writes, is_settled};
@@ -13,14 +11,13 @@ ghost use Rattle.acq_reports.specs.Writing.{Reports, Writes};
 
 use crate::hold_ends::end_text;
 use crate::masks::masked;
-use crate::records::record_text;
+use crate::records::{content_bytes, record_text, reference_text};
 use crate::refusals::check_merchant;
 use crate::report::Report;
 use crate::report_fault::ReportFault;
 use acq_book::{Book, Visit};
-use acq_core::{ElementContent, MerchantId, Moment, Reference, Request};
+use acq_core::{MerchantId, Moment, Request};
 use acq_link::Sink;
-use day_totals::write_digits;
 use itoa::Buffer;
 use std::alloc::{AllocError, Global};
 
@@ -128,26 +125,4 @@ fn hold_text(alloc: Global, row: &Request) -> Result<Vec<u8>, AllocError>
         &end,
     ];
     record_text(alloc, &fields)
-}
-
-/// Twelve digits, of 0 where there is no reference.
-fn reference_text(reference: Option<Reference>) -> [u8; 12]
-    ensures { result ≡ zero_padded 12 (unwrap_or reference 0) }
-{
-    let mut text = [b'0'; 12];
-    match reference {
-        Some(reference) => write_digits(reference.number(), &mut text),
-        None => write_digits(0, &mut text),
-    }
-    text
-}
-
-/// The bytes of an element, none where it isn't there.
-fn content_bytes(content: &Option<ElementContent>) -> &[u8]
-    ensures { result.now ≡ or_empty content.now }
-{
-    match content {
-        Some(content) => content.as_bytes(),
-        None => b"",
-    }
 }

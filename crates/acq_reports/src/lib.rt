@@ -4,6 +4,8 @@
 //! [`clearing`] and [`open_holds`] write a line for each row that the book hands over, and keep
 //! none of them; [`settlement`] keeps the merchants' names alone. The texts are defined over the
 //! tables in `specs/ClearingFile.antt`, `specs/SettlementReport.antt` and `specs/OpenHolds.antt`.
+//! What writes another text of a book's rows holds a [`Report`], which tells how far it went out,
+//! and makes its lines by [`record_text`].
 #![tactic(auto)]
 
 mod clearing_file;
@@ -21,5 +23,7 @@ mod stop;
 
 pub use clearing_file::clearing;
 pub use holds::open_holds;
+pub use records::{content_bytes, record_text, reference_text};
+pub use report::Report;
 pub use report_fault::ReportFault;
 pub use settlement_report::settlement;

@@ -9,9 +9,10 @@ use acq_book::BookFault;
 use acq_link::{Sink, write_out};
 use std::alloc::{AllocError, Global};
 
-/// A report in writing: where it goes, how much of it went out, and why it stopped, if it did.
+/// A report in writing: where it goes, how much of it went out, and why it stopped, if it did. What
+/// walks a book may hold one, and write a text for each row.
 #[derive(Drop)]
-pub(crate) struct Report<'a, K> {
+pub struct Report<'a, K> {
     alloc: Global,
     writer: &'a mut K,
     /// How many bytes went out.

@@ -130,6 +130,17 @@ impl Requests {
             .collect(alloc)
     }
 
+    /// The pending requests of all merchants and days, in the order in which they came.
+    pub fn waiting(&self, alloc: Global) -> Result<Vec<&Request>, AllocError>
+        ensures { IfOk result (λ rows. map deref rows.items
+            ≡ filter (λ row. is_pending row.status) self.now.rows) }
+    {
+        self.rows
+            .values()
+            .filter(|row| is_waiting(row))
+            .collect(alloc)
+    }
+
     /// Makes room for one more.
     pub fn reserve(&mut self) -> Result<(), AllocError>
         ensures rows { self.new.rows ≡ self.old.rows }
@@ -188,11 +199,18 @@ impl Requests {
     }
 }
 
+/// Whether a request waits for its issuer's answer.
+fn is_waiting(row: &Request) -> bool
+    ensures { result ≡ is_pending row.now.status }
+{
+    matches!(row.status, Status::Pending)
+}
+
 /// Whether a request of this day is pending.
 fn is_pending_on(row: &Request, day: Day) -> bool
     ensures { result ≡ (is_pending row.now.status && (row.now.day == day)) }
 {
-    matches!(row.status, Status::Pending) && row.day == day
+    is_waiting(row) && row.day == day
 }
 
 /// Whether it is an approved authorization, which was neither completed nor undone.
