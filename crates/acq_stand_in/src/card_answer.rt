@@ -15,12 +15,12 @@ pub struct CardAnswer {
 }
 
 impl CardAnswer {
-    /// Whether it is for this card.
-    pub(crate) fn is_for(&self, card: &CardNumber) -> bool
+    /// Whether it is for the card of these digits.
+    pub(crate) fn is_for(&self, card: &[u8]) -> bool
         ensures { result ≡ is_for card.now self.now }
     {
         match &self.card {
-            Some(own) => own.digits() == card.digits(),
+            Some(own) => own.digits() == card,
             None => false,
         }
     }

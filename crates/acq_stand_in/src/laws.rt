@@ -1,8 +1,10 @@
 //! Worked rows of the definitions.
 
-ghost use Rattle.std.specs.Prelude.{◌≡◌, [], ◌∷◌, ◌++◌, None, Ok, Err, codes};
+ghost use Rattle.std.specs.Prelude.{◌≡◌, [], ◌∷◌, ◌++◌, Some, None, Ok, Err, codes};
 ghost use Rattle.acq_stand_in.specs.Answers.{answers_of_text, verdict_for};
+ghost use Rattle.acq_stand_in.specs.Pending.{pending_text};
 ghost use Rattle.acq_stand_in.specs.Worked.{approving, declining, silent, of_no_card};
+ghost use Rattle.acq_stand_in.specs.Worked.{worked_tables};
 
 /// Files, computed.
 pub fn worked_files()
@@ -31,4 +33,16 @@ pub fn worked_verdicts()
         ≡ declining.verdict }
     ensures other { verdict_for (of_no_card ∷ declining ∷ []) (codes "4111111111111111")
         ≡ silent.verdict }
+{}
+
+/// Answers to what waits, computed: by a file's answers, and by none.
+pub fn worked_pending()
+    ensures all { pending_text (approving ∷ declining ∷ []) 1714608000 None worked_tables
+        ≡ codes "answer,1714608000,MERCHANT0000001,000000000012,approved,A1B2C3\n"
+        ++ codes "answer,1714608000,\"SHOES, BAGS&CO \",000000000007,declined,51\n" }
+    ensures one_day { pending_text (declining ∷ []) 946684800 (Some 8887) worked_tables
+        ≡ codes "answer,946684800,MERCHANT0000001,000000000012,none,\n" }
+    ensures no_file { pending_text [] 1714608000 (Some 8888) worked_tables
+        ≡ codes "answer,1714608000,\"SHOES, BAGS&CO \",000000000007,none,\n" }
+    ensures other_day { pending_text [] 1714608000 (Some 8886) worked_tables ≡ [] }
 {}

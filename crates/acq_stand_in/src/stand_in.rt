@@ -1,7 +1,7 @@
 //! The stand-in itself.
 
 ghost use Rattle.std.specs.Prelude.{◌≡◌, ◌+◌, ◌++◌, ℕ, List, Ok, Err, IsErrOf, MatchResult, OnOk};
-ghost use Rattle.std.specs.Prelude.{find};
+ghost use Rattle.std.specs.Prelude.{[], find};
 ghost use Rattle.std.specs.Option.{option_copied};
 ghost use Rattle.acq_link.specs.Moves.{TakesAll};
 ghost use Rattle.acq_out.specs.RecordFaults.{failed_reads};
@@ -58,8 +58,24 @@ impl StandIn {
         Ok(StandIn { answers })
     }
 
+    /// A stand-in that answers nothing, as by an empty file.
+    pub fn silent(alloc: Global) -> StandIn
+        ensures { result ≡ [] }
+    {
+        StandIn {
+            answers: Vec::new(alloc),
+        }
+    }
+
     /// The verdict for a card. It goes over the answers, and takes no memory.
     pub fn verdict_for(&self, card: &CardNumber) -> Verdict
+        ensures { result ≡ verdict_for self.now card.now }
+    {
+        self.verdict_on(card.digits())
+    }
+
+    /// The verdict for the card of these digits.
+    pub(crate) fn verdict_on(&self, card: &[u8]) -> Verdict
         ensures { result ≡ verdict_for self.now card.now }
     {
         match self.first_for(card) {
@@ -69,7 +85,7 @@ impl StandIn {
     }
 
     /// The first answer for a card, if there is one.
-    fn first_for(&self, card: &CardNumber) -> Option<&CardAnswer>
+    fn first_for(&self, card: &[u8]) -> Option<&CardAnswer>
         ensures { option_copied result ≡ find (is_for card.now) self.now }
     {
         self.answers.iter().find(|answer| answer.is_for(card))
