@@ -1,1 +1,3 @@
 pub mod LinesOfDay
+pub mod ValuesOfRecords
+pub mod AnswersReadBack

@@ -1,15 +1,19 @@
 -- Answers to the requests that wait for their issuer's (own profile): CSV with no header line, an
 -- event line for each of them, in the order in which they came.
-use Rattle.std.specs.Prelude.{ℕ, ◌==◌, Bool, true, List, [], ◌∷◌, filter, flat_map, codes}
-use Rattle.std.specs.Prelude.{Option, Some, None, unwrap_or, if◌then◌else◌}
+use Rattle.std.specs.Prelude.{◌≡◌, ℕ, ◌==◌, Bool, true, List, [], ◌∷◌, filter, flat_map, map, All}
+use Rattle.std.specs.Prelude.{codes, Option, Some, None, unwrap_or, Ok, if◌then◌else◌}
 use Rattle.std.specs.Fmt.{decimal}
 use Rattle.day_totals.specs.Digits.{zero_padded}
 use Rattle.acq_message.specs.Elements.{or_empty}
 use Rattle.acq_message.specs.declared.verdict.Verdict.{Verdict}
 use Rattle.acq_message.specs.declared.verdict.Verdict.TheVariants.{Approved, Declined, NoAnswer}
+use Rattle.acq_core.specs.declared.event.Event.{Event}
+use Rattle.acq_core.specs.declared.event.Event.TheVariants as event
 use Rattle.acq_core.specs.declared.request.Request.{Request}
+use Rattle.acq_core.specs.Events.{IsVerdict}
 use Rattle.acq_core.specs.Tables.{Tables}
 use Rattle.acq_book.specs.Lookups.{waiting_at}
+use Rattle.acq_out.specs.EventLines.{events_of_text}
 use Rattle.acq_reports.specs.Marks.{csv_line}
 use Rattle.acq_stand_in.specs.Answers.{verdict_for}
 use Rattle.acq_stand_in.specs.declared.card_answer.CardAnswer.{CardAnswer}
@@ -50,3 +54,21 @@ waiting_on day t = filter (is_of_day day) (waiting_at t)
 -- The answers to them, by what a file of answers says of their cards.
 abbrev pub pending_text : List CardAnswer → ℕ → Option ℕ → Tables → List ℕ
 pending_text answers moment day t = flat_map (answer_line answers moment) (waiting_on day t)
+
+-- ---- what is read of it
+
+-- a request's answer, as an event
+abbrev pub answer_event : List CardAnswer → ℕ → Request → Event
+answer_event answers moment row =
+    event.Answer moment row.key.merchant (unwrap_or row.reference 0) (verdict_on answers row)
+
+-- the verdicts are such as an issuer may give
+abbrev pub AreVerdicts : List CardAnswer → Type 0
+AreVerdicts answers = All (λ answer. IsVerdict answer.verdict) answers
+
+-- The text is one of event lines, which answer the requests of that day that wait, one after the
+-- other.
+abbrev pub ReadsAsAnswers : List CardAnswer → ℕ → Option ℕ → Tables → Type 0
+ReadsAsAnswers answers moment day t =
+    events_of_text (pending_text answers moment day t)
+    ≡ Ok (map (answer_event answers moment) (waiting_on day t))

@@ -1,10 +1,23 @@
-//! Worked rows of the definitions.
+//! Answers read back as events, and worked rows of the definitions.
 
-ghost use Rattle.std.specs.Prelude.{◌≡◌, [], ◌∷◌, ◌++◌, Some, None, Ok, Err, codes};
+ghost use Rattle.std.specs.Prelude.{◌≡◌, ℕ, true, List, [], ◌∷◌, ◌++◌, Option, Some, None};
+ghost use Rattle.std.specs.Prelude.{Ok, Err, codes};
+ghost use Rattle.acq_core.specs.Pasts.{HasPast};
+ghost use Rattle.acq_core.specs.Tables.{Tables};
+ghost use Rattle.acq_message.specs.Moments.{is_moment};
 ghost use Rattle.acq_stand_in.specs.Answers.{answers_of_text, verdict_for};
-ghost use Rattle.acq_stand_in.specs.Pending.{pending_text};
+ghost use Rattle.acq_stand_in.specs.Pending.{AreVerdicts, ReadsAsAnswers, pending_text};
+ghost use Rattle.acq_stand_in.specs.declared.card_answer.CardAnswer.{CardAnswer};
 ghost use Rattle.acq_stand_in.specs.Worked.{approving, declining, silent, of_no_card};
 ghost use Rattle.acq_stand_in.specs.Worked.{worked_tables};
+
+/// What is written of a book's waiting requests reads back as event lines: an answer to each, in
+/// order, at the moment, for its merchant and its reference, with the verdict on its card.
+pub fn answers_read_back()
+    ensures { (answers : List CardAnswer) (moment : ℕ) (day : Option ℕ) (t : Tables)
+        → is_moment moment ≡ true → AreVerdicts answers → HasPast t
+        → ReadsAsAnswers answers moment day t }
+{}
 
 /// Files, computed.
 pub fn worked_files()
