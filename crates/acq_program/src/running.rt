@@ -142,9 +142,7 @@ fn migrate<B: Book + Drop, M: Machine<B>>(machine: M, path: &String) -> Result<(
 
 /// Gives back a book that a command changed. One that the command ended well with is closed; after
 /// a fault it is left as a stop would leave it.
-fn give_back<B: Book + Drop, M: Machine<B>>(
-    changed: (B, Result<(), Fault>),
-) -> Result<(), Fault>
+fn give_back<B: Book + Drop, M: Machine<B>>(changed: (B, Result<(), Fault>)) -> Result<(), Fault>
     ensures { result ≡ changed.1 }
 {
     let (book, ended) = changed;
@@ -306,7 +304,7 @@ fn listen_over<B: Book + Drop, M: Machine<B> + Drop, C: Clock, I: Issuer + Drop,
     if asked.together > 1 {
         return gather_over(alloc, machine, asked, clock, issuers, faults);
     }
-    let connections = machine.listen_at(asked.port, asked.idle);
+    let connections = machine.listen_at(asked.port, asked.patience);
     let book = machine.open_book(asked.path.as_str())?;
     let mut issuer = issuers?;
     let mut connections = connections?;
@@ -330,7 +328,7 @@ fn gather_over<B: Book + Drop, M: Machine<B> + Drop, C: Clock, I: Issuer + Drop,
     issuers: Result<I, Fault>,
     faults: &mut F,
 ) -> Result<(), Fault> {
-    let gathering = machine.gather_at(alloc, asked.port, asked.idle, asked.together);
+    let gathering = machine.gather_at(alloc, asked.port, asked.patience, asked.together);
     let book = machine.open_book(asked.path.as_str())?;
     let mut issuer = issuers?;
     let mut gathering = gathering?;
