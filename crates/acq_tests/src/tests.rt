@@ -14,6 +14,8 @@ mod long_runs;
 mod migrations;
 mod opening;
 mod output_text;
+mod patience;
+mod prompt_lines;
 mod range_files;
 mod read_back;
 mod readers;

@@ -4,7 +4,7 @@
 use super::connections::{APPROVED, NOT_ANSWERED, SALE};
 use super::hosts::new_host;
 use acq_book::Book;
-use acq_commands::listen_on;
+use acq_commands::{Patience, listen_on};
 use acq_core::{Moment, Verdict};
 use acq_front::{
     Clock, Connections, FixedClock, FrontFault, Issuer, NoIssuer, SliceIssuer, serve_ends,
@@ -19,8 +19,12 @@ use std::io::{ErrorKind, Read, Write};
 use std::net::{Ipv4Addr, Shutdown, TcpListener, TcpStream};
 use std::test::Fail;
 
-/// For how many seconds a connection may be silent.
-const IDLE: u64 = 5;
+/// How many seconds a connection may take.
+const PATIENCE: Patience = Patience {
+    idle: 5,
+    frame_within: 5,
+    idle_when_full: 5,
+};
 
 /// The moment at which all frames come.
 fn morning() -> Result<Moment, Fail> {
@@ -35,7 +39,7 @@ fn one_connection(rt: HostRuntime) -> Result<(), Fail> {
     let mut terminal = TcpStream::connect(&rt, listener.local_addr()?)?;
     terminal.write_all(SALE.as_bytes())?;
     terminal.shutdown(Shutdown::Write)?;
-    let mut connections = TcpConnections::new(listener, IDLE);
+    let mut connections = TcpConnections::new(listener, &rt, PATIENCE);
     let mut clock = FixedClock::new(morning()?);
     let mut faults = MemorySink::new(alloc);
     let (book, ended) = listen_on(

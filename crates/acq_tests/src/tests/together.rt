@@ -1,7 +1,7 @@
 //! Sixty-four connections over TCP, in one process: they connect and send; then they are served at
 //! once; then they read their replies.
 
-use acq_commands::Gathering;
+use acq_commands::{Gathering, Patience};
 use acq_core::{Limit, Moment};
 use acq_front::{FixedClock, NoIssuer};
 use acq_host::Host;
@@ -15,6 +15,13 @@ use std::test::Fail;
 
 /// How many connections there are.
 const TOGETHER: usize = 64;
+
+/// How many seconds each may take.
+const PATIENCE: Patience = Patience {
+    idle: 1,
+    frame_within: 0,
+    idle_when_full: 0,
+};
 
 /// The one that sends nothing, and doesn't end its side, and the one that ends inside a frame.
 const SILENT: usize = 7;
@@ -54,7 +61,7 @@ fn talk(place: usize) -> usize {
 #[test]
 fn each_gets_its_own(rt: HostRuntime) -> Result<(), Fail> {
     let alloc = rt.alloc();
-    let mut gathering = TcpGathering::listen(&rt, &rt, alloc, 0, 1, TOGETHER)?;
+    let mut gathering = TcpGathering::listen(&rt, &rt, alloc, 0, PATIENCE, TOGETHER)?;
     let mut terminals = Vec::new(alloc);
     for place in 0..TOGETHER {
         let mut terminal = TcpStream::connect(&rt, gathering.local_addr()?)?;
