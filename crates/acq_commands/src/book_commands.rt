@@ -20,8 +20,8 @@ use acq_link::{Sink, Source};
 use acq_reports::open_holds;
 use std::alloc::Global;
 
-/// Replays an input over a book, which is given back at the end, and writes a line of what comes of
-/// each event, or where reports are asked for, these.
+/// Replays an input over a book, and gives it back with how that ended: writes a line of what comes
+/// of each event, or where reports are asked for, these.
 pub fn replay_on<B: Book + Drop, S: Source, K: Sink, P: Progress>(
     alloc: Global,
     book: B,
@@ -29,25 +29,23 @@ pub fn replay_on<B: Book + Drop, S: Source, K: Sink, P: Progress>(
     input: &mut S,
     output: &mut K,
     progress: &mut P,
-) -> Result<(), Fault>
+) -> (B, Result<(), Fault>)
     requires past { B.is_open book → HasPast (B.tables book) }
     // Unless memory ran out or a read failed, the whole input was read.
-    ensures whole { AfterReading result
+    ensures whole { AfterReading result.1
         (TakesAll (S.remaining input.old) (S.received input.old) (S.received input.new)) }
 {
     let mut host = Host::new(alloc, book);
     if reports.is_empty() {
         let ended = replay(alloc, &mut host, input, output, progress);
         progress.end();
-        drop(host);
-        return ended;
+        return (host.into_book(), ended);
     }
     let taken = take_events(alloc, &mut host, input, progress);
     progress.end();
     let mut book = host.into_book();
     let ended = report_if_taken(alloc, taken, &mut book, reports, output);
-    drop(book);
-    ended
+    (book, ended)
 }
 
 /// Writes a report on a book, which is given back.

@@ -18,7 +18,7 @@ use std::fmt::Write;
 
 /// Serves so many connections over a book, one after the other. A connection's fault is a line of
 /// `faults`, and the next one is served; want of memory and a fault of the store end it. The book
-/// is given back at the end.
+/// is given back with how it ended.
 pub fn listen_on<B: Book + Drop, N: Connections, C: Clock, I: Issuer, F: Sink>(
     alloc: Global,
     book: B,
@@ -27,22 +27,21 @@ pub fn listen_on<B: Book + Drop, N: Connections, C: Clock, I: Issuer, F: Sink>(
     clock: &mut C,
     issuer: &mut I,
     faults: &mut F,
-) -> Result<(), Fault>
+) -> (B, Result<(), Fault>)
     requires past { B.is_open book → HasPast (B.tables book) }
     // How they were served, over the book that is left.
-    ensures served { (left : B) × (B.is_honest left → B.is_open book
+    ensures served { B.is_honest result.0 → B.is_open book
         → ServesConnections (C.may_give clock.old) (I.may_say issuer.old) (B.tables book)
-        (B.is_open left) (B.tables left) count result) }
+        (B.is_open result.0) (B.tables result.0) count result.1 }
 {
     let mut host = Host::new(alloc, book);
     let ended = serve_all(alloc, &mut host, connections, count, clock, issuer, faults);
-    drop(host);
-    ended
+    (host.into_book(), ended)
 }
 
 /// Serves so many connections over a book, many at once. A connection's fault is a line of
 /// `faults`, and the others go on; want of memory and a fault of the store end it. The book is
-/// given back at the end.
+/// given back with how it ended.
 pub fn listen_together_on<B: Book + Drop, N: Gathering, C: Clock, I: Issuer, F: Sink>(
     alloc: Global,
     book: B,
@@ -51,16 +50,15 @@ pub fn listen_together_on<B: Book + Drop, N: Gathering, C: Clock, I: Issuer, F: 
     clock: &mut C,
     issuer: &mut I,
     faults: &mut F,
-) -> Result<(), Fault>
+) -> (B, Result<(), Fault>)
     requires past { B.is_open book → HasPast (B.tables book) }
     // The book that is left has what it had, and what the host took.
-    ensures reached { (left : B) × (B.is_honest left → B.is_open book
-        → ReachedUnlessRefused (B.tables book) (B.tables left) result) }
+    ensures reached { B.is_honest result.0 → B.is_open book
+        → ReachedUnlessRefused (B.tables book) (B.tables result.0) result.1 }
 {
     let mut host = Host::new(alloc, book);
     let ended = gathering.serve_all(alloc, &mut host, count, clock, issuer, faults);
-    drop(host);
-    ended
+    (host.into_book(), ended)
 }
 
 /// Serves so many connections over a host.

@@ -15,9 +15,9 @@ use acq_link::{Sink, Source};
 use std::alloc::Global;
 use std::hash::RandomState;
 
-/// Serves the input as one connection over a book, which is given back at the end: each message is
-/// taken as soon as its frame is whole, the issuer is asked in between, and its reply is out before
-/// more is read.
+/// Serves the input as one connection over a book, and gives it back with how that ended: each
+/// message is taken as soon as its frame is whole, the issuer is asked in between, and its reply is
+/// out before more is read.
 pub fn once_on<B: Book + Drop, C: Clock, I: Issuer, S: Source, K: Sink>(
     alloc: Global,
     book: B,
@@ -25,25 +25,27 @@ pub fn once_on<B: Book + Drop, C: Clock, I: Issuer, S: Source, K: Sink>(
     issuer: &mut I,
     input: &mut S,
     output: &mut K,
-) -> Result<(), Fault>
+) -> (B, Result<(), Fault>)
     requires past { B.is_open book → HasPast (B.tables book) }
     // How what came was served, over the book that is left.
-    ensures served { (left : B) × (B.is_honest left → B.is_open book
+    ensures served { B.is_honest result.0 → B.is_open book
         → ServesOnce (C.may_give clock.old) (I.may_say issuer.old) (B.tables book)
-        (B.is_open left) (B.tables left)
+        (B.is_open result.0) (B.tables result.0)
         (record { before = S.received input.old; after = S.received input.new })
-        (record { before = K.sent output.old; after = K.sent output.new }) result) }
+        (record { before = K.sent output.old; after = K.sent output.new }) result.1 }
     // Where all is well, the whole input was read.
-    ensures whole { OnOk result
+    ensures whole { OnOk result.1
         (TakesAll (S.remaining input.old) (S.received input.old) (S.received input.new)) }
     // A fault of reading or writing comes only where a read or a write failed.
-    ensures reads { S.failures input.new ≡ S.failures input.old + failed_reads result }
-    ensures writes { K.failures output.new ≡ K.failures output.old + failed_writes result }
+    ensures reads { S.failures input.new ≡ S.failures input.old + failed_reads result.1 }
+    ensures writes { K.failures output.new ≡ K.failures output.old + failed_writes result.1 }
 {
     let mut host = Host::new(alloc, book);
-    let served = serve(alloc, &mut host, input, output, clock, issuer);
-    drop(host);
-    Ok(served?)
+    let ended = match serve(alloc, &mut host, input, output, clock, issuer) {
+        Ok(()) => Ok(()),
+        Err(fault) => Err(Fault::from(fault)),
+    };
+    (host.into_book(), ended)
 }
 
 /// Serves the input as one connection over a new book in memory, where nobody is enrolled. The
@@ -65,5 +67,7 @@ pub fn once_in_memory<C: Clock, I: Issuer, S: Source, K: Sink>(
     ensures writes { K.failures output.new ≡ K.failures output.old + failed_writes result }
 {
     let host = Host::in_memory(alloc, keys, greatest_limit(), first_day_of_all());
-    once_on(alloc, host.into_book(), clock, issuer, input, output)
+    let (book, ended) = once_on(alloc, host.into_book(), clock, issuer, input, output);
+    drop(book);
+    ended
 }

@@ -23,7 +23,7 @@ pub trait Machine<B: Book + Drop>: Sized {
     /// Connections that come in at a port and are served at once.
     type Gathering: Gathering + Drop;
 
-    /// Opens the book in the file at a path.
+    /// Opens the book in the file at a path. Where there is none, nothing is made.
     fn open_book(self, path: &str) -> Result<B, Fault>
         ensures fault { IfErr result IsOpening }
         // Events alone have changed it.
@@ -36,6 +36,10 @@ pub trait Machine<B: Book + Drop>: Sized {
     /// Migrates the book in the file at a path, where it is of the version before.
     fn migrate_book(self, path: &str) -> Result<B, Fault>
         ensures { IfErr result IsOpening };
+
+    /// Gives back a book in a file that was changed, with nothing left of it in the file's log, so
+    /// that the file alone is the book. Where that can't be done the log keeps what it has.
+    fn close_book(book: B);
 
     /// Reads the file of issuers' answers at a path.
     fn read_answers(&self, alloc: Global, path: &str) -> Result<StandIn, Fault>

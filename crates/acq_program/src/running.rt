@@ -130,7 +130,7 @@ fn run<B: Book + Drop, M: Machine<B> + Drop, C: Clock, S: Source, K: Sink, F: Si
 fn init<B: Book + Drop, M: Machine<B>>(machine: M, new: &NewBook) -> Result<(), Fault>
     ensures { IfErr result IsOpening }
 {
-    drop(machine.make_book(new.path.as_str(), new.limit, new.first_day)?);
+    M::close_book(machine.make_book(new.path.as_str(), new.limit, new.first_day)?);
     Ok(())
 }
 
@@ -138,8 +138,23 @@ fn init<B: Book + Drop, M: Machine<B>>(machine: M, new: &NewBook) -> Result<(), 
 fn migrate<B: Book + Drop, M: Machine<B>>(machine: M, path: &String) -> Result<(), Fault>
     ensures { IfErr result IsOpening }
 {
-    drop(machine.migrate_book(path.as_str())?);
+    M::close_book(machine.migrate_book(path.as_str())?);
     Ok(())
+}
+
+/// Gives back a book that a command changed. One that the command ended well with is closed; after
+/// a fault it is left as a stop would leave it.
+fn give_back<B: Book + Drop, M: Machine<B>>(
+    changed: (B, Result<(), Fault>),
+) -> Result<(), Fault>
+    ensures { result ≡ changed.1 }
+{
+    let (book, ended) = changed;
+    match ended {
+        Ok(()) => M::close_book(book),
+        Err(_) => drop(book),
+    }
+    ended
 }
 
 /// Answers the frames of the input, and asks the issuers' file, or without one nobody.
@@ -235,7 +250,7 @@ fn once_over<B: Book + Drop, M: Machine<B> + Drop, C: Clock, I: Issuer + Drop, S
         Some(path) => {
             let book = machine.open_book(path.as_str())?;
             let mut issuer = issuers?;
-            once_on(alloc, book, clock, &mut issuer, input, output)
+            give_back::<B, M>(once_on(alloc, book, clock, &mut issuer, input, output))
         }
         None => {
             let mut issuer = issuers?;
@@ -297,7 +312,7 @@ fn listen_over<B: Book + Drop, M: Machine<B> + Drop, C: Clock, I: Issuer + Drop,
     let book = machine.open_book(asked.path.as_str())?;
     let mut issuer = issuers?;
     let mut connections = connections?;
-    listen_on(
+    give_back::<B, M>(listen_on(
         alloc,
         book,
         &mut connections,
@@ -305,7 +320,7 @@ fn listen_over<B: Book + Drop, M: Machine<B> + Drop, C: Clock, I: Issuer + Drop,
         clock,
         &mut issuer,
         faults,
-    )
+    ))
 }
 
 /// Answers the frames of connections over the book in a file, many at once.
@@ -321,7 +336,7 @@ fn gather_over<B: Book + Drop, M: Machine<B> + Drop, C: Clock, I: Issuer + Drop,
     let book = machine.open_book(asked.path.as_str())?;
     let mut issuer = issuers?;
     let mut gathering = gathering?;
-    listen_together_on(
+    give_back::<B, M>(listen_together_on(
         alloc,
         book,
         &mut gathering,
@@ -329,7 +344,7 @@ fn gather_over<B: Book + Drop, M: Machine<B> + Drop, C: Clock, I: Issuer + Drop,
         clock,
         &mut issuer,
         faults,
-    )
+    ))
 }
 
 /// Replays an input over the book in a file.
@@ -346,14 +361,14 @@ fn replay_in_file<B: Book + Drop, M: Machine<B> + Drop, S: Source, K: Sink, P: P
         (S.remaining input.old) (S.received input.old) (S.received input.new) result }
 {
     let book = machine.open_book(path.as_str())?;
-    replay_on(
+    give_back::<B, M>(replay_on(
         alloc,
         book,
         options.reports.as_slice(),
         input,
         output,
         progress,
-    )
+    ))
 }
 
 /// Writes what clap says of the arguments, help and the version to `output`, and returns the

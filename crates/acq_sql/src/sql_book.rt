@@ -320,6 +320,12 @@ impl<S: Alter> Book for SqlBook<S> {
         counted(&mut self.failures, walked)
     }
 
+    fn walk_pending<V: Visit<Request>>(&mut self, visitor: &mut V) -> Result<(), BookFault> {
+        self.settled();
+        let walked = acq_sql_reads::walk_pending(&mut self.connection, self.alloc, visitor);
+        counted(&mut self.failures, walked)
+    }
+
     fn apply(&mut self, change: &Change) -> Result<(), BookFault> {
         let made = crate::apply::apply(&mut self.connection, self.alloc, change);
         counted(&mut self.failures, made)

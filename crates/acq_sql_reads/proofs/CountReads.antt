@@ -26,7 +26,7 @@ use Rattle.acq_sql_reads.specs.Queries as query
 use Rattle.acq_sql_reads.proofs.TextLemmas as asks
 
 -- the number of a pending request's status
-pending_is : (s : Status) → (status_number s == 1) ≡ is_pending s
+pub pending_is : (s : Status) → (status_number s == 1) ≡ is_pending s
 pending_is = alike (λ s. status_number s == 1) is_pending refl
 
 pub counted : {X : Type 0} (p : X → Bool) (xs : List X) → length (filter p xs) ≡ tables.count p xs

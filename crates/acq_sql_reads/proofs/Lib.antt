@@ -18,3 +18,5 @@ pub mod MerchantWalk
 pub mod PostingWalk
 pub mod HoldReferences
 pub mod HoldWalk
+pub mod RowidOrder
+pub mod PendingWalk

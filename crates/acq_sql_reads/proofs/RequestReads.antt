@@ -1,5 +1,5 @@
 -- What the look-ups of requests answer.
-use Rattle.std.proofs.Common.{◌≡◌, ◌&&◌, ℕ, pos, Bool, inl, inr, true, false, true≢false, cond}
+use Rattle.std.proofs.Common.{◌≡◌, ◌&&◌, ℕ, pos, Bool, inl, inr, true, false, cond}
 use Rattle.std.proofs.Common.{List, [], ◌∷◌}
 use Rattle.std.proofs.Common.{filter, find, length, ◌≤◌, option_map, Option, None, Some, refl, sym}
 use Rattle.std.proofs.Common.{ap, subst, ◌∙◌, arith}
@@ -46,7 +46,7 @@ use Rattle.acq_sql_rows.specs.Rows.{request_row, key_row}
 use Rattle.acq_sql_rows.specs.Queries.{key_is}
 use Rattle.acq_sql_rows.specs.Tallies.{Running}
 use Rattle.acq_sql_rows.specs.Relation.{HoldsRows, AreRecorded}
-use Rattle.acq_sql_changes.proofs.writes.RunningTotals.{bytes_same, number_same}
+use Rattle.acq_sql_changes.proofs.writes.RunningTotals.{bytes_same}
 use Rattle.acq_sql_changes.proofs.writes.TableTurns as at
 use Rattle.acq_sql_reads.specs.Recorded.{ShowsRequest}
 use Rattle.acq_sql_reads.specs.Texts as text

@@ -36,3 +36,15 @@ unfolding understood everything book_schema schema.up_to_reconciliations schema.
     schema.up_to_requests schema.up_to_ranges schema.up_to_terminals schema.up_to_merchants
     schema.up_to_book
 holds_asks = record { is = refl; plain = (refl, refl); unlisted = refl; begins = refl }
+
+pub waiting_asks : Asks text.waiting_text query.waiting_query
+    (codes "merchant" ∷ codes "terminal" ∷ codes "kind" ∷ codes "trace" ∷ codes "stamp"
+    ∷ codes "essence"
+    ∷ codes "day" ∷ codes "status" ∷ codes "admitted" ∷ codes "reference" ∷ codes "follows"
+    ∷ codes "amount"
+    ∷ codes "leg" ∷ codes "card" ∷ codes "acquirer" ∷ codes "hold_days" ∷ codes "until"
+    ∷ codes "reply" ∷ [])
+unfolding understood everything book_schema schema.up_to_reconciliations schema.up_to_postings
+    schema.up_to_requests schema.up_to_ranges schema.up_to_terminals schema.up_to_merchants
+    schema.up_to_book
+waiting_asks = record { is = refl; plain = (refl, refl); unlisted = refl; begins = refl }

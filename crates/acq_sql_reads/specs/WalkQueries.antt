@@ -31,3 +31,7 @@ is_hold =
 abbrev pub holds_query : Query
 holds_query =
     plain_query 6 (is_param 1 0 ∷ is_hold) (columns 1 18) ((column 10, rising) ∷ [])
+
+-- column 0 is the rowid, which rises as rows come
+abbrev pub waiting_query : Query
+waiting_query = plain_query 6 (has_status 1 ∷ []) (columns 1 18) ((column 0, rising) ∷ [])

@@ -1,6 +1,6 @@
 -- The texts of the walks.
 use Rattle.std.specs.Prelude.{List, ℕ}
-use Rattle.acq_sql_reads.specs.declared.walks.TheConstants.{POSTINGS, MERCHANTS, HOLDS}
+use Rattle.acq_sql_reads.specs.declared.walks.TheConstants.{POSTINGS, MERCHANTS, HOLDS, WAITING}
 
 abbrev pub postings_text : List ℕ
 postings_text = POSTINGS.now
@@ -11,3 +11,7 @@ merchants_text = MERCHANTS.now
 -- an approved authorization: its kind is 010, and its status 3
 abbrev pub holds_text : List ℕ
 holds_text = HOLDS.now
+
+-- a pending request: its status is 1
+abbrev pub waiting_text : List ℕ
+waiting_text = WAITING.now

@@ -8,10 +8,12 @@ ghost use Rattle.acq_sql_rows.specs.Rows.{posting_row};
 use crate::columns::{amount_at, day_at, leg_at, merchant_at, read, reference_at, text_at};
 use acq_core::Posting;
 use acq_message::{ElementContent, TerminalId, Trace};
+use card_no::CardNumber;
 use sqlite::{Error, ErrorCode, Row};
 use std::alloc::Global;
 
-/// The posting of a row with the nine columns, and its number.
+/// The posting of a row with the nine columns, and its number. A card that is no valid card number
+/// is none that a host wrote, and would be cleared.
 pub(crate) fn read_posting(alloc: Global, row: &Row) -> Result<(u64, Posting), Error>
     ensures { IfOk result (λ p. length row.now ≡ 9 → row.now ≡ posting_row p) }
 {
@@ -23,6 +25,7 @@ pub(crate) fn read_posting(alloc: Global, row: &Row) -> Result<(u64, Posting), E
     let reference = reference_at(row, 5)?;
     let terminal = read(TerminalId::read(text_at(row, 7)?))?;
     let trace = read(Trace::read(text_at(row, 8)?))?;
+    read(CardNumber::read(text_at(row, 6)?))?;
     let card = content_at(alloc, row, 6)?;
     Ok((
         number,

@@ -1,9 +1,9 @@
-//! Walks over postings, merchants and holds.
+//! Walks over postings, merchants, holds and the requests that wait for an answer.
 
 ghost use Rattle.std.specs.Prelude.{is_ok};
 ghost use Rattle.sqlite.specs.Held.{state};
 ghost use Rattle.acq_core.specs.Pasts.{HasPast};
-ghost use Rattle.acq_book.specs.Lookups.{holds_at, merchants_at, postings_at};
+ghost use Rattle.acq_book.specs.Lookups.{holds_at, merchants_at, postings_at, waiting_at};
 ghost use Rattle.acq_sql_reads.specs.Looked.{LooksOnly};
 ghost use Rattle.acq_sql_reads.specs.Walked.{WalksAll, WalksSome, WalksAllWhere, WalksSomeWhere};
 
@@ -27,6 +27,10 @@ const HOLDS: &str = "SELECT merchant, terminal, kind, trace, stamp, essence, day
     admitted, reference, follows, amount, leg, card, acquirer, hold_days, until, reply \
     FROM requests WHERE merchant = ?1 AND kind = '010' \
     AND (status = 3 OR status = 8) ORDER BY reference";
+
+const WAITING: &str = "SELECT merchant, terminal, kind, trace, stamp, essence, day, status, \
+    admitted, reference, follows, amount, leg, card, acquirer, hold_days, until, reply \
+    FROM requests WHERE status = 1 ORDER BY rowid";
 
 /// Hands over the postings of a day, each with its number, in order of merchant and number.
 pub fn walk_postings<S: Alter, V: Visit<(u64, Posting)>>(
@@ -86,4 +90,20 @@ pub fn walk_holds<S: Alter, V: Visit<Request>>(
         &RequestRows { alloc },
         visitor,
     )
+}
+
+/// Hands over the requests of all merchants and days that wait for their issuer's answer, in the
+/// order in which they came.
+pub fn walk_pending<S: Alter, V: Visit<Request>>(
+    conn: &mut Connection<S>,
+    alloc: Global,
+    visitor: &mut V,
+) -> Result<(), Error>
+    ensures seen { WalksAll (state S.Store conn.old) (state S.Store conn.new) result
+        V.sees waiting_at visitor.old visitor.new }
+    ensures begun { WalksSome (state S.Store conn.old) (state S.Store conn.new) result
+        V.sees waiting_at visitor.old visitor.new }
+    ensures looks { LooksOnly (state S.Store conn.old) (state S.Store conn.new) (is_ok result) }
+{
+    show_rows(conn, WAITING, &[], &RequestRows { alloc }, visitor)
 }

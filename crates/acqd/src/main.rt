@@ -4,6 +4,7 @@
 
 ghost use Rattle.std.specs.Prelude.{◌≤◌};
 
+mod book_files;
 mod open_book;
 mod this_machine;
 

@@ -13,6 +13,7 @@ ghost use Rattle.acq_sql_rows.specs.Rows.{version_of_six_digits};
 ghost use Rattle.acq_sql.specs.Opened.{IsOpenAt};
 ghost use Rattle.acqd.specs.BookFiles.{FilesHold, FilesHoldOf};
 
+use crate::book_files::{find_book, make_room};
 use acq_core::Limit;
 use acq_sql::opening::{an_open_finds_a_book_of_any_version, an_open_finds_the_book};
 use acq_sql::{OpeningFault, Refusal, SqlBook};
@@ -23,7 +24,8 @@ use sqlite_std_file::FileFrom;
 use sqlite_store::FileStore;
 
 /// Opens the book in the file at a path and its log, of which `D` says what they hold before it.
-/// Where they hold a book, this is it, at the tables that the last whole change led to.
+/// Where they hold a book, this is it, at the tables that the last whole change led to. Where the
+/// file is away or empty nothing is made, and the log is left as it is.
 pub fn open_book<D: Start>(
     rt: &HostRuntime,
     path: &str,
@@ -32,6 +34,7 @@ pub fn open_book<D: Start>(
     ensures { IfOk result (λ book. HasCleanDisk (file_state book.connection) → (t : Tables)
         → FilesHold (image_at D.Start) t → HasPast t → IsOpenAt (file_state book.connection) t) }
 {
+    find_book(rt, path)?;
     let connection = connect(rt, path, start)?;
     an_open_finds_the_book(&connection);
     match SqlBook::adopt(rt.alloc(), connection) {
@@ -40,8 +43,9 @@ pub fn open_book<D: Start>(
     }
 }
 
-/// Makes a new book in the file at a path. A file that holds a book, or another database that isn't
-/// empty, is left as it is.
+/// Makes a new book in the file at a path, which its owner alone may read. A file that holds a book,
+/// or anything else that isn't empty, is left as it is, and so is a log that stands there without
+/// its book.
 pub fn make_book<D: Start>(
     rt: &HostRuntime,
     path: &str,
@@ -53,6 +57,7 @@ pub fn make_book<D: Start>(
         → IsOpenAt (file_state book.connection)
         (new_tables (record { limit = limit; first_day = first_day }))) }
 {
+    make_room(rt, path)?;
     let connection = connect(rt, path, start)?;
     match SqlBook::create(rt.alloc(), connection, limit, first_day) {
         Ok(book) => Ok(book),
@@ -71,6 +76,7 @@ pub fn migrate_book<D: Start>(
         → FilesHoldOf version_of_six_digits (image_at D.Start) t → HasPastUnder six_digits t
         → IsOpenAt (file_state book.connection) (widened_tables t)) }
 {
+    find_book(rt, path)?;
     let connection = connect(rt, path, start)?;
     an_open_finds_a_book_of_any_version(&connection);
     match SqlBook::migrate(rt.alloc(), connection) {

@@ -65,6 +65,11 @@ impl<'a, D: Start> Machine<SqlBook<FileStore<FileFrom<D>>>> for ThisMachine<'a, 
         }
     }
 
+    fn close_book(book: SqlBook<FileStore<FileFrom<D>>>) {
+        // What a failed close leaves in the log is still there for the next open.
+        let _ = book.release().close();
+    }
+
     fn read_answers(&self, alloc: Global, path: &str) -> Result<StandIn, Fault> {
         let Ok(file) = File::open(self.rt, path) else {
             return Err(Fault::Read);

@@ -35,9 +35,8 @@ impl<'a> MachineAtHand<'a> {
     ) -> Result<MachineAtHand<'a>, RowFault> {
         let host = match &terms.book {
             Ok(events) => {
-                let mut host = Host::in_memory(alloc, keys, limit, first_day);
-                take_all(alloc, &mut host, events.as_slice())?;
-                Ok(host)
+                let host = Host::in_memory(alloc, keys, limit, first_day);
+                Ok(host_after(alloc, host, events.as_slice())?)
             }
             Err(refusal) => Err(*refusal),
         };
@@ -45,15 +44,15 @@ impl<'a> MachineAtHand<'a> {
     }
 }
 
-/// Has a host take event lines.
-fn take_all<B: Book + Drop>(
+/// The host after event lines.
+fn host_after<B: Book + Drop>(
     alloc: Global,
-    host: &mut Host<B>,
+    mut host: Host<B>,
     events: &[u8],
-) -> Result<(), RowFault> {
+) -> Result<Host<B>, RowFault> {
     let (mut source, mut said) = (SliceSource::new(events), MemorySink::new(alloc));
-    match replay(alloc, host, &mut source, &mut said, &mut NoProgress) {
-        Ok(()) => Ok(()),
+    match replay(alloc, &mut host, &mut source, &mut said, &mut NoProgress) {
+        Ok(()) => Ok(host),
         Err(_) => Err(RowFault::Book),
     }
 }
@@ -76,6 +75,10 @@ impl<'a> Machine<ListBook> for MachineAtHand<'a> {
 
     fn migrate_book(self, path: &str) -> Result<ListBook, Fault> {
         self.open_book(path)
+    }
+
+    fn close_book(book: ListBook) {
+        drop(book);
     }
 
     fn read_answers(&self, alloc: Global, _path: &str) -> Result<StandIn, Fault> {

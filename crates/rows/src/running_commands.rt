@@ -69,12 +69,13 @@ fn ran(
     else {
         return Err(RowFault::Book);
     };
-    let machine = MachineAtHand::new(alloc, RandomState::new(rt)?, limit, first_day, &run.machine)?;
+    let (books_keys, keys) = (RandomState::new(rt)?, RandomState::new(rt)?);
     let mut source = source_of(run);
     let mut faults = MemorySink::new(alloc);
+    let machine = MachineAtHand::new(alloc, books_keys, limit, first_day, &run.machine)?;
     let status = command(
         alloc,
-        RandomState::new(rt)?,
+        keys,
         run.args.as_slice(),
         machine,
         &mut SliceClock::new(&[]),

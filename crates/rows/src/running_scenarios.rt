@@ -1,6 +1,8 @@
 //! Scenarios over each book: in memory; in SQL; in SQL and taken again before each event; and where
 //! a scenario says so, among another merchant's events.
 
+ghost use Rattle.std.specs.Prelude.{◌≡◌, IfOk, false};
+
 use crate::events_of_another::lot_of_another;
 use crate::findings::Findings;
 use crate::report_asked::ReportAsked;
@@ -16,7 +18,7 @@ use acq_link::MemorySink;
 use acq_out::write_output;
 use acq_reports::ReportFault;
 use acq_sql::SqlBook;
-use sqlite::{Connection, MemStore};
+use sqlite::{Alter, Connection, MemStore};
 use std::alloc::Global;
 use std::fmt::Write;
 use std::hash::RandomState;
@@ -34,91 +36,72 @@ pub fn run_scenarios(
         return Err(RowFault::Empty);
     }
     for scenario in file.scenarios.as_slice() {
-        run_in_memory(
-            alloc,
-            RandomState::new(rt)?,
-            &file.setup,
-            scenario,
-            findings,
-        )?;
-        run_in_sql(alloc, &file.setup, scenario, findings)?;
-        run_in_sql_again(alloc, &file.setup, scenario, findings)?;
+        let setup = file.setup.steps.as_slice();
+        run_over_books(rt, alloc, setup, scenario, findings)?;
         if let Some(sales) = scenario.others {
-            let keys = RandomState::new(rt)?;
-            run_among(alloc, keys, &file.setup, scenario, sales, findings)?;
+            run_among(rt, alloc, setup, scenario, sales, findings)?;
         }
     }
     Ok(())
 }
 
-fn run_in_memory(
+/// Runs a scenario over each book.
+fn run_over_books(
+    rt: &impl RandomSource,
     alloc: Global,
-    keys: RandomState,
-    setup: &Scenario,
+    setup: &[Step],
     scenario: &Scenario,
     findings: &mut Findings,
 ) -> Result<(), RowFault> {
-    let mut host = host_in_memory(alloc, keys, scenario);
     findings.set_book(", in memory");
-    take_steps(alloc, &mut host, setup.steps.as_slice(), findings)?;
-    take_steps(alloc, &mut host, scenario.steps.as_slice(), findings)?;
-    ask(alloc, host, scenario.reports.as_slice(), findings)
-}
-
-fn run_in_sql(
-    alloc: Global,
-    setup: &Scenario,
-    scenario: &Scenario,
-    findings: &mut Findings,
-) -> Result<(), RowFault> {
-    let mut host = host_in_sql(alloc, scenario)?;
-    findings.set_book(", in SQL");
-    take_steps(alloc, &mut host, setup.steps.as_slice(), findings)?;
-    take_steps(alloc, &mut host, scenario.steps.as_slice(), findings)?;
-    ask(alloc, host, scenario.reports.as_slice(), findings)
-}
-
-fn run_in_sql_again(
-    alloc: Global,
-    setup: &Scenario,
-    scenario: &Scenario,
-    findings: &mut Findings,
-) -> Result<(), RowFault> {
-    let mut host = host_in_sql(alloc, scenario)?;
-    findings.set_book(", in SQL, taken again before each event");
-    take_steps(alloc, &mut host, setup.steps.as_slice(), findings)?;
-    for step in scenario.steps.as_slice() {
-        host = taken_again(alloc, host)?;
-        take_step(alloc, &mut host, step, findings)?;
-    }
-    ask(
+    let keys = RandomState::new(rt)?;
+    run_on(
         alloc,
-        taken_again(alloc, host)?,
-        scenario.reports.as_slice(),
+        host_in_memory(alloc, keys, scenario),
+        setup,
+        scenario,
         findings,
-    )
+    )?;
+    findings.set_book(", in SQL");
+    run_on(
+        alloc,
+        host_in_sql(alloc, new_database(alloc)?, scenario)?,
+        setup,
+        scenario,
+        findings,
+    )?;
+    findings.set_book(", in SQL, taken again before each event");
+    run_again_on(alloc, new_database(alloc)?, setup, scenario, findings)
 }
 
 /// Runs a scenario among another merchant's events, over a book in memory and over one in SQL.
 fn run_among(
+    rt: &impl RandomSource,
     alloc: Global,
-    keys: RandomState,
-    setup: &Scenario,
+    setup: &[Step],
     scenario: &Scenario,
     sales: u64,
     findings: &mut Findings,
 ) -> Result<(), RowFault> {
-    let mut host = host_in_memory(alloc, keys, scenario);
     findings.set_book(", in memory, among another merchant's events");
-    take_steps(alloc, &mut host, setup.steps.as_slice(), findings)?;
-    take_among(alloc, &mut host, scenario.steps.as_slice(), sales, findings)?;
-    drop(host);
-    let mut host = host_in_sql(alloc, scenario)?;
+    let keys = RandomState::new(rt)?;
+    run_among_on(
+        alloc,
+        host_in_memory(alloc, keys, scenario),
+        setup,
+        scenario.steps.as_slice(),
+        sales,
+        findings,
+    )?;
     findings.set_book(", in SQL, among another merchant's events");
-    take_steps(alloc, &mut host, setup.steps.as_slice(), findings)?;
-    take_among(alloc, &mut host, scenario.steps.as_slice(), sales, findings)?;
-    drop(host);
-    Ok(())
+    run_among_on(
+        alloc,
+        host_in_sql(alloc, new_database(alloc)?, scenario)?,
+        setup,
+        scenario.steps.as_slice(),
+        sales,
+        findings,
+    )
 }
 
 /// A host over a new book in memory.
@@ -126,11 +109,25 @@ fn host_in_memory(alloc: Global, keys: RandomState, scenario: &Scenario) -> Host
     Host::in_memory(alloc, keys, scenario.limit, scenario.first_day)
 }
 
-/// A host over a new book in SQL, which is kept in memory.
-fn host_in_sql(alloc: Global, scenario: &Scenario) -> Result<Host<SqlBook<MemStore>>, RowFault> {
-    let Ok(connection) = Connection::open_in_memory(alloc) else {
-        return Err(RowFault::Book);
-    };
+/// An empty database, which is kept in memory. What is done with it is said of any store, as a proof
+/// over this one alone takes minutes.
+fn new_database(alloc: Global) -> Result<Connection<MemStore>, RowFault>
+    ensures settled { IfOk result (λ connection. connection.in_transaction ≡ false) }
+{
+    match Connection::open_in_memory(alloc) {
+        Ok(connection) => Ok(connection),
+        Err(_) => Err(RowFault::Book),
+    }
+}
+
+/// A host over a new book in a database.
+fn host_in_sql<S: Alter + Drop>(
+    alloc: Global,
+    connection: Connection<S>,
+    scenario: &Scenario,
+) -> Result<Host<SqlBook<S>>, RowFault>
+    requires settled { connection.in_transaction ≡ false }
+{
     match SqlBook::create(alloc, connection, scenario.limit, scenario.first_day) {
         Ok(book) => Ok(Host::new(alloc, book)),
         Err(_) => Err(RowFault::Book),
@@ -138,14 +135,60 @@ fn host_in_sql(alloc: Global, scenario: &Scenario) -> Result<Host<SqlBook<MemSto
 }
 
 /// A host over the same database, which is handed back and taken again.
-fn taken_again(
+fn taken_again<S: Alter + Drop>(
     alloc: Global,
-    host: Host<SqlBook<MemStore>>,
-) -> Result<Host<SqlBook<MemStore>>, RowFault> {
+    host: Host<SqlBook<S>>,
+) -> Result<Host<SqlBook<S>>, RowFault> {
     match SqlBook::adopt(alloc, host.into_book().release()) {
         Ok(book) => Ok(Host::new(alloc, book)),
         Err(_) => Err(RowFault::Book),
     }
+}
+
+/// Runs a scenario over a host, which is given back.
+fn run_on<B: Book + Drop>(
+    alloc: Global,
+    mut host: Host<B>,
+    setup: &[Step],
+    scenario: &Scenario,
+    findings: &mut Findings,
+) -> Result<(), RowFault> {
+    take_steps(alloc, &mut host, setup, findings)?;
+    take_steps(alloc, &mut host, scenario.steps.as_slice(), findings)?;
+    ask(alloc, host, scenario.reports.as_slice(), findings)
+}
+
+/// Runs a scenario over a book in SQL that is handed back and taken again before each event.
+fn run_again_on<S: Alter + Drop>(
+    alloc: Global,
+    connection: Connection<S>,
+    setup: &[Step],
+    scenario: &Scenario,
+    findings: &mut Findings,
+) -> Result<(), RowFault>
+    requires settled { connection.in_transaction ≡ false }
+{
+    let mut host = host_in_sql(alloc, connection, scenario)?;
+    take_steps(alloc, &mut host, setup, findings)?;
+    for step in scenario.steps.as_slice() {
+        host = taken_again(alloc, host)?;
+        take_step(alloc, &mut host, step, findings)?;
+    }
+    let host = taken_again(alloc, host)?;
+    ask(alloc, host, scenario.reports.as_slice(), findings)
+}
+
+/// Runs steps over a host among another merchant's events, and gives it back.
+fn run_among_on<B: Book + Drop>(
+    alloc: Global,
+    mut host: Host<B>,
+    setup: &[Step],
+    steps: &[Step],
+    sales: u64,
+    findings: &mut Findings,
+) -> Result<(), RowFault> {
+    take_steps(alloc, &mut host, setup, findings)?;
+    take_among(alloc, &mut host, steps, sales, findings)
 }
 
 /// Takes steps, and compares what the host says to each.

@@ -38,7 +38,7 @@ fn one_connection(rt: HostRuntime) -> Result<(), Fail> {
     let mut connections = TcpConnections::new(listener, IDLE);
     let mut clock = FixedClock::new(morning()?);
     let mut faults = MemorySink::new(alloc);
-    listen_on(
+    let (book, ended) = listen_on(
         alloc,
         new_host(&rt, alloc)?.into_book(),
         &mut connections,
@@ -46,7 +46,9 @@ fn one_connection(rt: HostRuntime) -> Result<(), Fail> {
         &mut clock,
         &mut NoIssuer,
         &mut faults,
-    )?;
+    );
+    drop(book);
+    ended?;
     let mut reply = Vec::new(alloc);
     terminal.read_to_end(&mut reply)?;
     assert_eq!(rt; reply.as_slice(), NOT_ANSWERED.as_bytes());
@@ -140,7 +142,7 @@ fn a_repeat_after_a_cut_reply(rt: HostRuntime) -> Result<(), Fail> {
     let approved = [Verdict::approved(b"A1B2C3").ok_or("an id")?];
     let mut clock = FixedClock::new(morning()?);
     let mut faults = MemorySink::new(alloc);
-    listen_on(
+    let (book, ended) = listen_on(
         alloc,
         new_host(&rt, alloc)?.into_book(),
         &mut connections,
@@ -148,7 +150,9 @@ fn a_repeat_after_a_cut_reply(rt: HostRuntime) -> Result<(), Fail> {
         &mut clock,
         &mut SliceIssuer::new(&approved),
         &mut faults,
-    )?;
+    );
+    drop(book);
+    ended?;
     assert_eq!(rt; faults.as_bytes(), b"acqd: 54 Write 10\n".as_slice());
     assert_eq!(rt; taken.into_inner().as_slice(), want.as_slice());
     Ok(())

@@ -38,10 +38,14 @@ fn run_new(alloc: Global, events: &[Event]) -> Result<(Files<Memory>, Vec<Output
     Ok(ran.ok_or("a new book")?)
 }
 
-/// The files of a book that has taken events, as one of version 1: its ranges have the first six
-/// digits of theirs.
+/// The files of a book that has taken events, as one of version 1.
 fn old_book(alloc: Global, events: &[Event]) -> Result<Files<Memory>, Fail> {
     let (files, _) = run_new(alloc, events)?;
+    made_old(alloc, files)
+}
+
+/// The files of a book as one of version 1: its ranges have the first six digits of theirs.
+fn made_old<D: Disk + Drop>(alloc: Global, files: Files<D>) -> Result<Files<D>, Fail> {
     let Some(mut connection) = open(alloc, files) else {
         return Err(Fail::from("files that don't open"));
     };
@@ -108,7 +112,7 @@ fn goes_on(
 
 /// What is left of a book's files that stop at some call of its migration, and whether it was
 /// migrated; `None` where the files don't open. The log is so short that both files are written to.
-fn migrate_in(alloc: Global, files: Files<StoppingFile>) -> Option<(Files<StoppingFile>, bool)> {
+fn migrate_in<D: Disk + Drop>(alloc: Global, files: Files<D>) -> Option<(Files<D>, bool)> {
     let Some(connection) = open_with_log(alloc, files, 1) else {
         return None;
     };
@@ -116,6 +120,19 @@ fn migrate_in(alloc: Global, files: Files<StoppingFile>) -> Option<(Files<Stoppi
         Ok(book) => Some((book.release().into_store().close(), true)),
         Err(refusal) => Some((refusal.connection.into_store().close(), false)),
     }
+}
+
+/// Whether what was written to files, and then what of it was synced, is a whole book that goes on.
+fn goes_on_from_both(
+    alloc: Global,
+    mut left: Files<StoppingFile>,
+    events: &[Event],
+    wanted: &str,
+) -> Result<(bool, bool), Fail> {
+    let written = goes_on(alloc, &left, events, wanted)?;
+    left.log.crash();
+    left.db.crash();
+    Ok((written, goes_on(alloc, &left, events, wanted)?))
 }
 
 /// Stops a file at each call of a migration in turn, until it needs no more of them. What was
@@ -132,19 +149,12 @@ fn stop_in_turn(rt: &impl Abort, alloc: Global, stopping: Stopping) -> Result<()
     let mut stops: u64 = 0;
     for calls in 0..200 {
         let files = stopping_copies(alloc, &old, stopping, calls)?;
-        let Some((mut left, is_migrated)) = migrate_in(alloc, files) else {
+        let Some((left, is_migrated)) = migrate_in(alloc, files) else {
             continue;
         };
-        assert!(rt;
-            goes_on(alloc, &left, later, &wanted)?,
-            "what was written, at {calls}"
-        );
-        left.log.crash();
-        left.db.crash();
-        assert!(rt;
-            goes_on(alloc, &left, later, &wanted)?,
-            "what was synced, at {calls}"
-        );
+        let (written, synced) = goes_on_from_both(alloc, left, later, &wanted)?;
+        assert!(rt; written, "what was written, at {calls}");
+        assert!(rt; synced, "what was synced, at {calls}");
         if is_migrated {
             assert!(rt; stops >= 3, "{stops} stops");
             return Ok(());
@@ -164,19 +174,25 @@ fn a_migration_whose_database_stops(rt: HostRuntime) -> Result<(), Fail> {
     stop_in_turn(&rt, rt.alloc(), Stopping::Database)
 }
 
+/// Migrates the book in files, and returns why it isn't migrated again.
+fn refused_again<D: Disk + Drop>(alloc: Global, files: Files<D>) -> Result<OpeningFault, Fail> {
+    let Some(connection) = open(alloc, files) else {
+        return Err(Fail::from("files that don't open"));
+    };
+    let Ok(book) = SqlBook::migrate(alloc, connection) else {
+        return Err(Fail::from("not migrated"));
+    };
+    let Err(refusal) = SqlBook::migrate(alloc, book.release()) else {
+        return Err(Fail::from("migrated twice"));
+    };
+    Ok(refusal.fault)
+}
+
 /// A book is migrated once: the second time it is of version 2.
 #[test]
 fn a_book_is_migrated_once(rt: HostRuntime) -> Result<(), Fail> {
     let files = old_book(rt.alloc(), &[])?;
-    let Some(connection) = open(rt.alloc(), files) else {
-        return Err(Fail::from("files that don't open"));
-    };
-    let Ok(book) = SqlBook::migrate(rt.alloc(), connection) else {
-        return Err(Fail::from("not migrated"));
-    };
-    let Err(refusal) = SqlBook::migrate(rt.alloc(), book.release()) else {
-        return Err(Fail::from("migrated twice"));
-    };
-    assert_eq!(rt; refusal.fault, OpeningFault::OtherVersion(2));
+    let again = refused_again(rt.alloc(), files)?;
+    assert_eq!(rt; again, OpeningFault::OtherVersion(2));
     Ok(())
 }

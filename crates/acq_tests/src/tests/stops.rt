@@ -275,8 +275,21 @@ fn goes_on(
     Ok(!is_replied && ends_alike(alloc, stopped, output, later, undisturbed)?)
 }
 
-/// Runs events over new files, and where it stops goes on over what was written, and over what is
-/// left of it when the machine stops too, which is what was synced.
+/// Whether a host over what a stopped run wrote goes on as the undisturbed one, and then one over
+/// what is left of it when the machine stops too, which is what was synced.
+fn goes_on_from_both(
+    alloc: Global,
+    mut stopped: Run,
+    events: &[Event],
+    undisturbed: &Undisturbed,
+) -> Result<(bool, bool), Fail> {
+    let written = goes_on(alloc, &stopped, events, undisturbed)?;
+    stopped.files.log.crash();
+    stopped.files.db.crash();
+    Ok((written, goes_on(alloc, &stopped, events, undisturbed)?))
+}
+
+/// Runs events over new files, and where it stops goes on from what is left.
 fn run_and_go_on(
     rt: &impl Abort,
     alloc: Global,
@@ -288,20 +301,14 @@ fn run_and_go_on(
     let Some((files, said)) = run_over(alloc, files, opening, events) else {
         return Ok(Ended::NoBook);
     };
-    let (at, mut ran) = (said.len(), Run { files, said });
+    let at = said.len();
     if at == events.len() {
         return Ok(Ended::Whole);
     }
-    assert!(rt;
-        goes_on(alloc, &ran, events, undisturbed)?,
-        "what was written, at {at}"
-    );
-    ran.files.log.crash();
-    ran.files.db.crash();
-    assert!(rt;
-        goes_on(alloc, &ran, events, undisturbed)?,
-        "what was synced, at {at}"
-    );
+    let stopped = Run { files, said };
+    let (written, synced) = goes_on_from_both(alloc, stopped, events, undisturbed)?;
+    assert!(rt; written, "what was written, at {at}");
+    assert!(rt; synced, "what was synced, at {at}");
     Ok(Ended::WentOn)
 }
 

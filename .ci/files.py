@@ -1,0 +1,142 @@
+"""The two files of a book, around the built program: who may read them, when the database alone is
+the book, and that a log whose database is away for a while is left as it is.
+
+    python3 .ci/files.py PROGRAM
+"""
+
+import os
+import shutil
+import stat
+import subprocess
+import sys
+import tempfile
+
+PROGRAM = os.path.abspath(sys.argv[1])
+
+DAY = ["--day", "2024-05-01"]
+
+SETUP = b"""addrange,40000000,49999999,12345,7,
+enrol,MERCHANT0000001,978,1,,
+terminal,MERCHANT0000001,TERM0001,,,
+"""
+
+# Each command that opens a book, and what it is given.
+COMMANDS = [
+    ["init", "--limit", "999999", *DAY],
+    ["migrate"],
+    ["replay"],
+    ["once"],
+    ["listen", "--port", "8583", "--count", "1"],
+    ["clearing", *DAY],
+    ["report", *DAY],
+    ["holds", "--merchant", "MERCHANT0000001", "--at", "1714555800"],
+]
+
+# Those that only read.
+READING = COMMANDS[5:]
+
+
+def acqd(words, text=b"", **how):
+    """Runs a command over book.db, and returns its status, its output and its fault lines."""
+    words = [PROGRAM, words[0], "--db", "book.db", *words[1:]]
+    how.setdefault("stdout", subprocess.PIPE)
+    ran = subprocess.run(words, input=text, stderr=subprocess.PIPE, timeout=60, **how)
+    return ran.returncode, ran.stdout, ran.stderr.decode()
+
+
+def mode(path):
+    return stat.S_IMODE(os.stat(path).st_mode)
+
+
+def content(path):
+    with open(path, "rb") as it:
+        return it.read()
+
+
+def wanted(what, came, expected):
+    if came != expected:
+        sys.exit(f"files: {what}: expected {expected!r}, came {came!r}")
+
+
+def new_book():
+    for name in os.listdir("."):
+        os.remove(name)
+    wanted("a new book", acqd(COMMANDS[0]), (0, b"", ""))
+
+
+def owners_alone():
+    """A new book and its log are their owner's alone; a log gets the mode that its book was given."""
+    new_book()
+    wanted("the mode of a new book", mode("book.db"), 0o600)
+    wanted("the mode of its log", mode("book.db-wal"), 0o600)
+    os.chmod("book.db", 0o640)
+    wanted("the setup", acqd(["replay"], SETUP)[0], 0)
+    wanted("the mode of the log of a book for a group", mode("book.db-wal"), 0o640)
+    os.chmod("book.db", 0o600)
+    wanted("a report", acqd(["report", *DAY])[2], "acqd: 60 DayNotOver\n")
+    wanted("the mode of a log that was open to a group", mode("book.db-wal"), 0o600)
+
+
+def one_file():
+    """A run that ended well leaves the whole book in the database; commands that read change nothing."""
+    new_book()
+    wanted("the setup", acqd(["replay"], SETUP)[1], b"done\n" * 3)
+    before = content("book.db"), content("book.db-wal")
+    for words in READING:
+        acqd(words)
+    wanted("the files after reading", (content("book.db"), content("book.db-wal")), before)
+    os.remove("book.db-wal")
+    again = acqd(["replay"], SETUP)
+    wanted("the database alone", again[1], b"refused 21 40000000 49999999\nrefused 36\ndone\n")
+
+
+def log_alone():
+    """A log whose database is away or empty is left as it is, and goes on to be a part of the book."""
+    new_book()
+    with open("/dev/full", "wb") as full:
+        wanted("a full output", acqd(["replay"], SETUP, stdout=full)[2], "acqd: 54 Write 0\n")
+    log = content("book.db-wal")
+    if not log:
+        sys.exit("files: the log of a run that was cut off is empty")
+    os.rename("book.db", "away")
+    for is_empty in (False, True):
+        if is_empty:
+            open("book.db", "wb").close()
+        for words in COMMANDS:
+            what = f"{words[0]}, the book being {'empty' if is_empty else 'away'}"
+            wanted(what, acqd(words), (1, b"", "acqd: 40 NotABook\n"))
+            wanted(f"{what}: the log", content("book.db-wal"), log)
+            wanted(f"{what}: the book", os.path.exists("book.db"), is_empty)
+    os.rename("away", "book.db")
+    again = acqd(["replay"], SETUP)
+    wanted("the event that was taken", again[1].split(b"\n")[0], b"refused 21 40000000 49999999")
+
+
+def nothing_made():
+    """Where there is no book, only `init` makes one, and it leaves what isn't empty."""
+    new_book()
+    os.remove("book.db")
+    os.remove("book.db-wal")
+    for words in COMMANDS[1:]:
+        wanted(f"{words[0]} without a book", acqd(words), (1, b"", "acqd: 40 NotABook\n"))
+        wanted(f"{words[0]}: what was made", os.listdir("."), [])
+    with open("book.db", "wb") as it:
+        it.write(b"x")
+    wanted("init over a byte", acqd(COMMANDS[0]), (1, b"", "acqd: 40 NotABook\n"))
+    wanted("the byte", content("book.db"), b"x")
+
+
+def main():
+    os.umask(0o022)
+    folder = tempfile.mkdtemp()
+    os.chdir(folder)
+    try:
+        for check in (owners_alone, one_file, log_alone, nothing_made):
+            check()
+    finally:
+        os.chdir("/")
+        shutil.rmtree(folder)
+    print("files: modes, one file after a run, a log alone, nothing made")
+
+
+main()

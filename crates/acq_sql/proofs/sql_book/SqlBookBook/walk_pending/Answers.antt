@@ -1,0 +1,15 @@
+use Rattle.acq_sql.specs.Opened.{tables}
+use Rattle.acq_sql.proofs.BookLooks.{held_by, relay_ok, relay_err}
+use Rattle.acq_sql.proofs.sql_book.SqlBookBook.walk_pending.Goals as goal
+
+pub returns-clause-seen : goal.returns-clause-seen
+returns-clause-seen g c clean o =
+    relay_ok _ c.walk_pending-walked.result c.counted.result c.counted.ensures.succeeds
+    (c.walk_pending-walked.ensures.seen clean (tables g.S.Store c.args.self.now)
+    (held_by g.S.Store _ _ c.self.view_is o))
+
+pub returns-clause-begun : goal.returns-clause-begun
+returns-clause-begun g c clean o =
+    relay_err _ c.walk_pending-walked.result c.counted.result c.counted.ensures.succeeds
+    (c.walk_pending-walked.ensures.begun clean (tables g.S.Store c.args.self.now)
+    (held_by g.S.Store _ _ c.self.view_is o))

@@ -1,0 +1,99 @@
+-- What ORDER BY rowid gives of numbered rows: those that pass, in the order of their list.
+use Rattle.std.proofs.Common.{◌≡◌, ◌==◌, ◌<◌, ◌≤◌, ℕ, suc, pos, Bool, true, false, cond, List, []}
+use Rattle.std.proofs.Common.{◌∷◌, map, filter, length, nat_lt, refl, ap, ◌∙◌, arith}
+use Rattle.std.specs.List.{AllByRecursion}
+use Rattle.std.proofs.lemmas.Bool.Decides.{nat_tests}
+use Rattle.sqlite_value.specs.declared.value.Value.TheVariants.{Int}
+use Rattle.sqlite_value.specs.Order.{Row}
+use Rattle.sqlite_trees.specs.Tree.{IsAscending}
+use Rattle.sqlite_trees.proofs.ListLemmas.{ascending-filter}
+use Rattle.row_lemmas.specs.Numbered.{numbered_from}
+use Rattle.acq_book.specs.Order.{put_in_order, in_order}
+
+is_other : (m n : ℕ) → m < n → (n == m) ≡ false
+is_other m n low = grind (arith, nat_tests)
+
+not_before : (m n : ℕ) → m < n → nat_lt n m ≡ false
+not_before m n low = grind (arith, nat_tests)
+
+module _ {X : Type 0} where
+  -- the elements, each with the rowid of its row
+  abbrev pub placed_from : ℕ → List X → List (ℕ × X)
+  placed_from n [] = []
+  placed_from n (x ∷ xs) = (n, x) ∷ placed_from (suc n) xs
+
+  abbrev pub placed_row : (X → Row) → ℕ × X → Row
+  placed_row row_of p = Int (pos p.0) ∷ row_of p.1
+
+  pub rows_placed : (row_of : X → Row) (n : ℕ) (xs : List X)
+      → numbered_from n (map row_of xs) ≡ map (placed_row row_of) (placed_from n xs)
+  rows_placed row_of n [] = refl
+  rows_placed row_of n (x ∷ xs) =
+      ap (λ l. (Int (pos n) ∷ row_of x) ∷ l) (rows_placed row_of (suc n) xs)
+
+  -- what is shown of those that pass has nothing of the rowids
+  pub passing_placed : {A : Type 0} (g : X → A) (q : X → Bool) (n : ℕ) (xs : List X)
+      → map (λ p. g p.1) (filter (λ p. q p.1) (placed_from n xs)) ≡ map g (filter q xs)
+  passing_placed g q n [] = refl
+  passing_placed g q n (x ∷ xs) =
+      let later = passing_placed g q (suc n) xs in
+      let those = filter (λ (p : ℕ × X). q p.1) (placed_from (suc n) xs) in
+      elim (q x)
+      as (λ b. map (λ (p : ℕ × X). g p.1) (cond b ((n, x) ∷ those) those)
+      ≡ map g (cond b (x ∷ filter q xs) (filter q xs)))
+      [ true ↦ ap (λ l. g x ∷ l) later | false ↦ later ]
+
+  -- ---- the rowids rise
+
+  abbrev pub Precedes : ℕ × X → ℕ × X → Type 0
+  Precedes a b = a.0 < b.0
+
+  abbrev pub precedes : ℕ × X → ℕ × X → Bool
+  precedes a b = nat_lt a.0 b.0
+
+  all_after : (m n : ℕ) (xs : List X) → m < n → AllByRecursion (λ (p : ℕ × X). m < p.0)
+      (placed_from n xs)
+  all_after m n [] low = tt
+  all_after m n (x ∷ xs) low = (low, all_after m (suc n) xs (omega arith))
+
+  placed_rise : (n : ℕ) (xs : List X) → IsAscending Precedes (placed_from n xs)
+  placed_rise n [] = tt
+  placed_rise n (x ∷ xs) = (all_after n (suc n) xs (omega arith), placed_rise (suc n) xs)
+
+  pub passing_rise : (q : X → Bool) (n : ℕ) (xs : List X)
+      → IsAscending Precedes (filter (λ p. q p.1) (placed_from n xs))
+  passing_rise q n xs =
+      ascending-filter Precedes (λ p. q p.1) (placed_from n xs) (placed_rise n xs)
+
+  -- ---- so none comes twice
+
+  none_again : (n : ℕ) (ps : List (ℕ × X)) → AllByRecursion (λ (p : ℕ × X). n < p.0) ps
+      → filter (λ (p : ℕ × X). p.0 == n) ps ≡ []
+  none_again n [] above = refl
+  none_again n (p ∷ ps) above = rw (is_other n p.0 above.0) (none_again n ps above.1)
+
+  pub once_placed : (n : ℕ) (ps : List (ℕ × X)) → IsAscending Precedes ps
+      → length (filter (λ (p : ℕ × X). p.0 == n) ps) ≤ 1
+  once_placed n [] up = omega arith
+  once_placed n (p ∷ ps) up = go (p.0 == n) refl (once_placed n ps up.1)
+    where
+      those : List (ℕ × X)
+      those = filter (λ (r : ℕ × X). r.0 == n) ps
+
+      go : (b : Bool) → (p.0 == n) ≡ b → length those ≤ 1 → length (cond b (p ∷ those) those) ≤ 1
+      go true is rest =
+          let same : p.0 ≡ n = grind (arith, nat_tests, is) in
+          rw (none_again n ps (rw same at up.0)) (omega arith)
+      go false is rest = rest
+
+  -- ---- and what rises is in order
+
+  first_put : (p : ℕ × X) (ps : List (ℕ × X)) → AllByRecursion (Precedes p) ps
+      → put_in_order precedes p ps ≡ p ∷ ps
+  first_put p [] above = refl
+  first_put p (r ∷ ps) above = rw (not_before p.0 r.0 above.0) refl
+
+  pub rising_in_order : (ps : List (ℕ × X)) → IsAscending Precedes ps → in_order precedes ps ≡ ps
+  rising_in_order [] up = refl
+  rising_in_order (p ∷ ps) up =
+      ap (put_in_order precedes p) (rising_in_order ps up.1) ∙ first_put p ps up.0

@@ -1,0 +1,23 @@
+use Rattle.sqlite.specs.Held.{state}
+use Rattle.indexmap.proofs.MapLemmas.{OnOk-map}
+use Rattle.acq_sql_reads.proofs.WalkTextLemmas.{waiting_asks}
+use Rattle.acq_sql_reads.proofs.Walking.{on_err_weaker, saw_first, saw_enough}
+use Rattle.acq_sql_reads.proofs.PendingWalk.{waiting_list}
+use Rattle.acq_sql_reads.proofs.walks.walk_pending.Goals as goal
+
+pub returns-clause-seen : goal.returns-clause-seen
+returns-clause-seen g c clean t holds =
+    let list = waiting_list (state g.S.Store c.args.conn.now) t holds in
+    OnOk-map c.show_rows.result _ _
+    (saw_enough list g.V.Visit.sees c.args.visitor.now c.show_rows.new.visitor)
+    (c.show_rows.ensures.seen clean list.ask.begins)
+
+pub returns-clause-begun : goal.returns-clause-begun
+returns-clause-begun g c clean t holds =
+    let list = waiting_list (state g.S.Store c.args.conn.now) t holds in
+    on_err_weaker c.show_rows.result
+    (saw_first list g.V.Visit.sees c.args.visitor.now c.show_rows.new.visitor)
+    (c.show_rows.ensures.begun clean list.ask.begins)
+
+pub returns-clause-looks : goal.returns-clause-looks
+returns-clause-looks g c = c.show_rows.ensures.looks waiting_asks.begins

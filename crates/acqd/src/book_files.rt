@@ -1,0 +1,91 @@
+//! The files of a book as they stand before it is opened: the book and, beside it, its log.
+
+use acq_sql::OpeningFault;
+use std::fs::{self, OpenOptions, Permissions};
+use std::io::{self, ErrorKind, IsTerminal};
+use std::os::unix::fs::{OpenOptionsExt, PermissionsExt};
+
+/// The permissions of a new book: card numbers stand in it, so it is its owner's alone.
+const OWNERS_ALONE: u32 = 0o600;
+
+/// The permissions of others than the owner.
+const OF_OTHERS: u32 = 0o077;
+
+/// The bits of a mode that are permissions.
+const PERMISSIONS: u32 = 0o777;
+
+/// The least that a database takes: its first page.
+const LEAST_PAGE: u64 = 512;
+
+/// Looks whether there may be a book in the file at a path, and makes nothing. Where the file is
+/// away, or empty, there is none, and the log that may stand beside it is left as it is: the file
+/// may come back, and the log is a part of it. Then the log gets the permissions of the file.
+pub(crate) fn find_book(rt: &HostRuntime, path: &str) -> Result<(), OpeningFault> {
+    if size_of(rt, path) == Some(0) {
+        return Err(OpeningFault::NotABook);
+    }
+    let log = log_of(rt, path)?;
+    if let Ok(mode) = mode_of(rt, path) {
+        guard_log(rt, log.as_str(), mode);
+        tell_of_others(rt, path, mode);
+    }
+    Ok(())
+}
+
+/// Makes an empty file for a new book, which its owner alone may read, where there is none. Where a
+/// log stands there without its book, or what is no database, that is left as it is.
+pub(crate) fn make_room(rt: &HostRuntime, path: &str) -> Result<(), OpeningFault> {
+    let log = log_of(rt, path)?;
+    match size_of(rt, path) {
+        Some(0) if size_of(rt, log.as_str()) != Some(0) => Err(OpeningFault::NotABook),
+        Some(0) => {
+            // Where it can't be made, the open says so.
+            let _ = OpenOptions::new()
+                .write(true)
+                .create_new(true)
+                .mode(OWNERS_ALONE)
+                .open(rt, path);
+            Ok(())
+        }
+        Some(size) if size < LEAST_PAGE => Err(OpeningFault::NotABook),
+        _ => Ok(()),
+    }
+}
+
+/// The size of the file at a path, 0 where there is none, where the system tells it.
+fn size_of(rt: &HostRuntime, path: &str) -> Option<u64> {
+    match fs::metadata(rt, path) {
+        Ok(found) => Some(found.len()),
+        Err(fault) if fault.kind() == ErrorKind::NotFound => Some(0),
+        Err(_) => None,
+    }
+}
+
+/// The path of the log, which lies beside the book where a link leads.
+fn log_of(rt: &HostRuntime, path: &str) -> Result<String, OpeningFault> {
+    match fs::canonicalize(rt, path) {
+        Ok(real) => Ok(format!(in rt.alloc(); "{}-wal", real.as_str())?),
+        Err(_) => Ok(format!(in rt.alloc(); "{path}-wal")?),
+    }
+}
+
+/// Gives the log the permissions of its book, where this process may.
+fn guard_log(rt: &HostRuntime, log: &str, mode: u32) {
+    if mode_of(rt, log).is_ok_and(|own| own != mode) {
+        let _ = fs::set_permissions(rt, log, Permissions::from_mode(mode));
+    }
+}
+
+/// Tells a person, and no script, that others may read a book.
+fn tell_of_others(rt: &HostRuntime, path: &str, mode: u32) {
+    if mode & OF_OTHERS != 0 && rt.stderr().is_terminal() {
+        let _ = eprintln!(rt;
+            "acqd: note: others may use {path} (mode {mode:o}), where card numbers stand"
+        );
+    }
+}
+
+/// The permissions of the file at a path.
+fn mode_of(rt: &HostRuntime, path: &str) -> io::Result<u32> {
+    Ok(fs::metadata(rt, path)?.permissions().mode() & PERMISSIONS)
+}
