@@ -144,9 +144,7 @@ fn migrate<B: Book + Drop, M: Machine<B>>(machine: M, path: &String) -> Result<(
 
 /// Gives back a book that a command changed. One that the command ended well with is closed; after
 /// a fault it is left as a stop would leave it.
-fn give_back<B: Book + Drop, M: Machine<B>>(
-    changed: (B, Result<(), Fault>),
-) -> Result<(), Fault>
+fn give_back<B: Book + Drop, M: Machine<B>>(changed: (B, Result<(), Fault>)) -> Result<(), Fault>
     ensures { result ≡ changed.1 }
 {
     let (book, ended) = changed;
