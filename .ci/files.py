@@ -1,11 +1,13 @@
 """The two files of a book, around the built program: who may read them, when the database alone is
-the book, and that a log whose database is away for a while is left as it is.
+the book, that a log whose database is away for a while is left as it is, and that reports tell where
+rows are gone or changed.
 
     python3 .ci/files.py PROGRAM
 """
 
 import os
 import shutil
+import sqlite3
 import stat
 import subprocess
 import sys
@@ -19,6 +21,25 @@ SETUP = b"""addrange,40000000,49999999,12345,7,
 enrol,MERCHANT0000001,978,1,,
 terminal,MERCHANT0000001,TERM0001,,,
 """
+
+# A sale of 10.00, its approval, and the end of the day.
+SALE = (
+    "0200|7220000000C08000|16|4111111111111111|000000|000000001000|0501093000|000001|TERM0001"
+    "|MERCHANT0000001|978"
+).replace("|", "")
+DAYS_WORK = (
+    SETUP + f"frame,1714555800,{SALE.encode().hex()},,,\n".encode()
+    + b"answer,1714555800,MERCHANT0000001,1,approved,A1B2C3\ncutover,1714555800,,,,\n"
+)
+
+# What another program may do to the rows of that day, and which of clearing and report tell it.
+CHANGES = [
+    ("DELETE FROM running", {"clearing", "report"}),
+    ("DELETE FROM postings", {"clearing", "report"}),
+    ("UPDATE postings SET amount = 999", {"clearing", "report"}),
+    ("UPDATE running SET debits = 2", {"clearing", "report"}),
+    ("UPDATE postings SET card = '411!111111111111'", {"clearing", "report"}),
+]
 
 # Each command that opens a book, and what it is given.
 COMMANDS = [
@@ -126,17 +147,31 @@ def nothing_made():
     wanted("the byte", content("book.db"), b"x")
 
 
+def rows_changed():
+    """Rows of postings or of running totals that are gone or changed are told, and nothing is written."""
+    for text, telling in CHANGES:
+        new_book()
+        wanted("the day's work", acqd(["replay"], DAYS_WORK)[0], 0)
+        book = sqlite3.connect("book.db")
+        book.execute(text)
+        book.commit()
+        book.close()
+        for words in (["clearing", *DAY], ["report", *DAY]):
+            if words[0] in telling:
+                wanted(f"{words[0]} after {text}", acqd(words), (3, b"", "acqd: 2 Store\n"))
+
+
 def main():
     os.umask(0o022)
     folder = tempfile.mkdtemp()
     os.chdir(folder)
     try:
-        for check in (owners_alone, one_file, log_alone, nothing_made):
+        for check in (owners_alone, one_file, log_alone, nothing_made, rows_changed):
             check()
     finally:
         os.chdir("/")
         shutil.rmtree(folder)
-    print("files: modes, one file after a run, a log alone, nothing made")
+    print("files: modes, one file after a run, a log alone, nothing made, rows that were changed")
 
 
 main()

@@ -1,5 +1,6 @@
 //! What is asked of connections that are served.
 
+use crate::patience::Patience;
 use acq_core::Moment;
 
 /// Connections that are served over a book.
@@ -13,9 +14,8 @@ pub struct ListenOptions {
     pub count: u64,
     /// How many of them are served at once.
     pub together: usize,
-    /// For how many seconds a connection may be silent before it is closed; 0 for as long as it
-    /// likes.
-    pub idle: u64,
+    /// How long a connection may take.
+    pub patience: Patience,
     /// The path of the file that says what issuers answer; without one no issuer can be reached.
     pub issuers: Option<String>,
     /// The moment at which all frames come; without one it is the clock's.

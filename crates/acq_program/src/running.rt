@@ -10,6 +10,7 @@ ghost use Rattle.acq_program.specs.Runs.{Does, IsQuiet, IsUntouched, MayCome, Re
 ghost use Rattle.acq_program.specs.Runs.{ServesAsked, ServesIn, Tells};
 
 use crate::machine::Machine;
+use crate::pending::answer_pending;
 use crate::{Action, UsageFault, action_of};
 use acq_book::Book;
 use acq_commands::{
@@ -120,6 +121,7 @@ fn run<B: Book + Drop, M: Machine<B> + Drop, C: Clock, S: Source, K: Sink, F: Si
             let book = machine.open_book(options.path.as_str())?;
             holds_of(alloc, book, &options, output)
         }
+        Action::Pending(asked) => answer_pending(alloc, machine, &asked, clock, output),
         Action::Show(form) => show(alloc, form, input, output),
     }
 }
@@ -142,9 +144,7 @@ fn migrate<B: Book + Drop, M: Machine<B>>(machine: M, path: &String) -> Result<(
 
 /// Gives back a book that a command changed. One that the command ended well with is closed; after
 /// a fault it is left as a stop would leave it.
-fn give_back<B: Book + Drop, M: Machine<B>>(
-    changed: (B, Result<(), Fault>),
-) -> Result<(), Fault>
+fn give_back<B: Book + Drop, M: Machine<B>>(changed: (B, Result<(), Fault>)) -> Result<(), Fault>
     ensures { result ≡ changed.1 }
 {
     let (book, ended) = changed;

@@ -3,29 +3,43 @@
 ghost use Rattle.acq_commands.specs.Listening.{Reached};
 ghost use Rattle.acq_tcp.specs.Rounds.{UnlessRefused};
 
+use crate::parting::{PIECE, Parting};
+use crate::time_limits::{TimeLimits, left_of, shorter};
+use crate::timed_stream::TimedStream;
 use acq_book::Book;
-use acq_front::{Clock, Exchange, FrontFault, Issuer, Line, Round};
+use acq_front::{Clock, Exchange, FrontFault, Issuer, Round, StreamLine};
 use acq_host::Host;
+use mio::net::TcpStream;
 use std::alloc::Global;
+use std::io::ErrorKind;
+use std::time;
 use std::time::{Duration, Instant};
 
 /// A connection among others.
 #[derive(Drop)]
-pub(crate) struct OpenConnection<L> {
-    exchange: Exchange<L>,
+pub(crate) struct OpenConnection<'a, T> {
+    exchange: Exchange<StreamLine<TimedStream<'a, T>>>,
     /// Whether a round may find something to do.
     is_ready: bool,
     /// When something last happened.
     last_moved: Option<Instant>,
+    /// It is parted with: its fault was told.
+    parting: Option<Parting>,
 }
 
-impl<L: Line> OpenConnection<L> {
+impl<'a, T: time::Clock> OpenConnection<'a, T> {
     /// A connection that came at this time, where the time is known.
-    pub(crate) fn new(line: L, now: Option<Instant>) -> OpenConnection<L> {
+    pub(crate) fn new(
+        stream: TcpStream,
+        time: &'a T,
+        now: Option<Instant>,
+    ) -> OpenConnection<'a, T> {
+        let line = StreamLine::new(TimedStream::new(stream, time));
         OpenConnection {
             exchange: Exchange::new(line),
             is_ready: true,
             last_moved: now,
+            parting: None,
         }
     }
 
@@ -39,12 +53,39 @@ impl<L: Line> OpenConnection<L> {
         self.is_ready = true;
     }
 
-    /// For how long it may still be silent.
-    pub(crate) fn time_left(&self, now: Option<Instant>, idle: Duration) -> Duration {
-        match (self.last_moved, now) {
-            (Some(last), Some(now)) => idle.saturating_sub(now.duration_since(last)),
-            _ => idle,
+    /// For how long it may stay as it is; `None` is for ever.
+    pub(crate) fn time_left(&self, now: Option<Instant>, limits: TimeLimits) -> Option<Duration> {
+        match &self.parting {
+            Some(parting) => Some(parting.time_left(now)),
+            None => shorter(
+                limits.idle.map(|idle| left_of(idle, self.last_moved, now)),
+                limits.frame.and_then(|frame| self.frame_left(now, frame)),
+            ),
         }
+    }
+
+    /// How much of this time is left for the frame that it waits for, if it waits for one.
+    fn frame_left(&self, now: Option<Instant>, frame: Duration) -> Option<Duration> {
+        let began = self.stream().frame_began()?;
+        match self.timed_out() {
+            FrontFault::Read => Some(left_of(frame, Some(began), now)),
+            _ => None,
+        }
+    }
+
+    /// Since when it has been silent, where that is known. One that has something to do, or leaves
+    /// anyway, isn't.
+    pub(crate) fn silent_since(&self) -> Option<Instant> {
+        if self.is_ready || self.is_parting() {
+            None
+        } else {
+            self.last_moved
+        }
+    }
+
+    /// What it is to have waited too long.
+    pub(crate) fn timed_out(&self) -> FrontFault {
+        self.exchange.timed_out()
     }
 
     /// Gives it a round, if it is ready, and returns how it ended, if it did. One that waited too
@@ -56,7 +97,7 @@ impl<L: Line> OpenConnection<L> {
         clock: &mut C,
         issuer: &mut I,
         now: Option<Instant>,
-        idle: Option<Duration>,
+        limits: TimeLimits,
     ) -> Option<Result<(), FrontFault>>
         ensures reached { B.is_honest host.new → B.is_open host.old
             → UnlessRefused result (Reached (B.tables host.old) (B.tables host.new)) }
@@ -65,8 +106,7 @@ impl<L: Line> OpenConnection<L> {
         ensures was_honest { B.is_honest host.new → B.is_honest host.old }
     {
         if !self.is_ready {
-            let is_late = idle.is_some_and(|idle| self.time_left(now, idle).is_zero());
-            return is_late.then(|| Err(self.exchange.timed_out()));
+            return self.end_late(now, limits);
         }
         match self.exchange.round(alloc, host, clock, issuer) {
             Ok(Round::GoesOn) => {
@@ -75,10 +115,51 @@ impl<L: Line> OpenConnection<L> {
             }
             Ok(Round::Waits) => {
                 self.is_ready = false;
-                None
+                self.end_late(now, limits)
             }
             Ok(Round::Ended) => Some(Ok(())),
             Err(fault) => Some(Err(fault)),
         }
+    }
+
+    /// How it ended, if it waited too long.
+    fn end_late(&self, now: Option<Instant>, limits: TimeLimits) -> Option<Result<(), FrontFault>> {
+        let is_late = self
+            .time_left(now, limits)
+            .is_some_and(|left| left.is_zero());
+        is_late.then(|| Err(self.timed_out()))
+    }
+
+    /// Begins to part with it, and returns whether it is still there.
+    pub(crate) fn part(&mut self, now: Option<Instant>) -> bool {
+        self.parting = Some(Parting::new(now));
+        self.is_ready = true;
+        self.stream().end_sending().is_ok()
+    }
+
+    /// Whether it is parted with.
+    pub(crate) fn is_parting(&self) -> bool {
+        self.parting.is_some()
+    }
+
+    /// Reads away what came, where it is parted with, and returns whether it is over.
+    pub(crate) fn read_away(&mut self, now: Option<Instant>) -> bool {
+        let Some(mut parting) = self.parting else {
+            return false;
+        };
+        if self.is_ready {
+            let mut thrown_away = [0; PIECE];
+            match self.stream().read_away(&mut thrown_away) {
+                Ok(n) if n > 0 => parting.took(n),
+                Err(fault) if fault.kind() == ErrorKind::WouldBlock => self.is_ready = false,
+                Ok(_) | Err(_) => return true,
+            }
+            self.parting = Some(parting);
+        }
+        parting.time_left(now).is_zero()
+    }
+
+    fn stream(&self) -> &TimedStream<'a, T> {
+        self.exchange.line().stream()
     }
 }

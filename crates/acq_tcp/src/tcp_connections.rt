@@ -1,40 +1,77 @@
 //! Connections over TCP.
 
+use crate::parting::{PIECE, Parting, ends_in_bad_frame};
+use crate::patient_stream::{PatientReader, PatientWriter};
+use crate::time_limits::TimeLimits;
 use acq_book::Book;
+use acq_commands::Patience;
 use acq_front::{Clock, Connections, FrontFault, Issuer, serve_ends};
 use acq_host::Host;
 use acq_link::{ReadSource, WriteSink};
 use std::alloc::Global;
-use std::io;
-use std::net::{TcpListener, TcpStream};
-use std::time::Duration;
+use std::io::{ErrorKind, Read};
+use std::net::{Shutdown, TcpListener, TcpStream};
+use std::time::{Duration, Instant};
+use std::{io, thread, time};
+
+/// For how many milliseconds it pauses behind a connection that can't be had.
+pub(crate) const PAUSE: u64 = 100;
 
 /// The connections that come to a listener.
 #[derive(Drop)]
-pub struct TcpConnections {
+pub struct TcpConnections<'a, T> {
     listener: TcpListener,
-    idle: Option<Duration>,
+    time: &'a T,
+    limits: TimeLimits,
 }
 
-impl TcpConnections {
-    /// The connections of this listener. One that is silent for so many seconds, or takes nothing
-    /// of a reply for so long, is closed; for 0 none is.
-    pub fn new(listener: TcpListener, idle: u64) -> TcpConnections {
-        let idle = (idle > 0).then(|| Duration::from_secs(idle));
-        TcpConnections { listener, idle }
+impl<'a, T: time::Clock> TcpConnections<'a, T> {
+    /// The connections of this listener. One that takes longer than this patience lasts is closed.
+    pub fn new(listener: TcpListener, time: &'a T, patience: Patience) -> TcpConnections<'a, T> {
+        TcpConnections {
+            listener,
+            time,
+            limits: TimeLimits::new(patience),
+        }
     }
 
     /// Waits for the next one.
     fn next_stream(&self) -> io::Result<TcpStream> {
         let (stream, _) = self.listener.accept()?;
-        stream.set_read_timeout(self.idle)?;
-        stream.set_write_timeout(self.idle)?;
+        stream.set_read_timeout(self.limits.idle)?;
+        stream.set_write_timeout(self.limits.idle)?;
         stream.set_nodelay(true)?;
         Ok(stream)
     }
+
+    /// Ends the sending side of a connection, and reads on for a while what still comes.
+    fn part_with(&self, stream: &TcpStream) {
+        if stream.shutdown(Shutdown::Write).is_err() {
+            return;
+        }
+        let mut parting = Parting::new(self.now());
+        let mut thrown_away = [0; PIECE];
+        for _ in 0..u64::MAX {
+            let left = parting.time_left(self.now());
+            if left.is_zero() || stream.set_read_timeout(Some(left)).is_err() {
+                break;
+            }
+            let mut reader = stream;
+            match reader.read(&mut thrown_away) {
+                Ok(n) if n > 0 => parting.took(n),
+                Err(fault) if fault.kind() == ErrorKind::Interrupted => {}
+                Ok(_) | Err(_) => break,
+            }
+        }
+    }
+
+    /// The time, where the system tells it.
+    fn now(&self) -> Option<Instant> {
+        Instant::now(self.time).ok()
+    }
 }
 
-impl Connections for TcpConnections {
+impl<T: time::Clock> Connections for TcpConnections<'_, T> {
     fn serve_next<B: Book + Drop, C: Clock, I: Issuer>(
         &mut self,
         alloc: Global,
@@ -43,9 +80,18 @@ impl Connections for TcpConnections {
         issuer: &mut I,
     ) -> Result<(), FrontFault> {
         let stream = self.next_stream().ok();
-        let ends = stream
-            .as_ref()
-            .map(|stream| (ReadSource::new(stream), WriteSink::new(stream)));
-        serve_ends(alloc, host, ends, clock, issuer)
+        let ends = stream.as_ref().map(|stream| {
+            (
+                ReadSource::new(PatientReader::new(stream, self.time, self.limits)),
+                WriteSink::new(PatientWriter::new(stream)),
+            )
+        });
+        let ended = serve_ends(alloc, host, ends, clock, issuer);
+        match &stream {
+            Some(stream) if ends_in_bad_frame(&ended) => self.part_with(stream),
+            Some(_) => {}
+            None => thread::sleep(self.time, Duration::from_millis(PAUSE)),
+        }
+        ended
     }
 }

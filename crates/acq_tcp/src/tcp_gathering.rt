@@ -5,9 +5,12 @@ ghost use Rattle.acq_commands.specs.Faults.{IsOfGathering};
 ghost use Rattle.acq_commands.specs.Listening.{ReachedUnlessRefused};
 
 use crate::open_connection::OpenConnection;
+use crate::parting::ends_in_bad_frame;
+use crate::tcp_connections::PAUSE;
+use crate::time_limits::{TimeLimits, left_of, shorter};
 use acq_book::Book;
-use acq_commands::{Fault, Gathering, end_connection};
-use acq_front::{Clock, FrontFault, Issuer, Line, StreamLine};
+use acq_commands::{Fault, Gathering, Patience, end_connection};
+use acq_front::{Clock, FrontFault, Issuer};
 use acq_host::Host;
 use acq_link::Sink;
 use mio::net::{TcpListener, TcpStream};
@@ -26,21 +29,25 @@ pub struct TcpGathering<'a, T> {
     poll: Poll,
     events: Events,
     time: &'a T,
-    idle: Option<Duration>,
-    places: Vec<Option<OpenConnection<StreamLine<TcpStream>>>>,
-    /// Whether connections may be waiting for a place.
+    limits: TimeLimits,
+    places: Vec<Option<OpenConnection<'a, T>>>,
+    /// Whether connections may be there that weren't taken yet.
     may_come: bool,
+    /// When one last couldn't be had.
+    refused: Option<Instant>,
+    /// One that came when all places were taken.
+    waiting: Option<TcpStream>,
 }
 
 impl<'a, T: time::Clock> TcpGathering<'a, T> {
-    /// Listens at a port of this machine, for so many connections at once. One that is silent for
-    /// so many seconds, or takes nothing of a reply for so long, is closed; for 0 none is.
+    /// Listens at a port of this machine, for so many connections at once. One that takes longer
+    /// than this patience lasts is closed.
     pub fn listen<N: Net>(
         net: &N,
         time: &'a T,
         alloc: Global,
         port: u16,
-        idle: u64,
+        patience: Patience,
         together: usize,
     ) -> Result<TcpGathering<'a, T>, Fault>
         ensures { IfErr result IsOfGathering }
@@ -60,9 +67,11 @@ impl<'a, T: time::Clock> TcpGathering<'a, T> {
             poll,
             events,
             time,
-            idle: (idle > 0).then(|| Duration::from_secs(idle)),
+            limits: TimeLimits::new(patience),
             places,
             may_come: true,
+            refused: None,
+            waiting: None,
         })
     }
 
@@ -77,50 +86,91 @@ impl<'a, T: time::Clock> TcpGathering<'a, T> {
     }
 
     /// Takes in connections that came, so many at most, while there are places, and returns how
-    /// many. One that can't be had counts too, and is told.
+    /// many. One that can't be had counts too, and is told. Where all places are taken the next one
+    /// waits, and doesn't count yet.
     fn admit<F: Sink>(&mut self, at_most: u64, faults: &mut F) -> u64
         ensures { result ≤ at_most }
     {
         let now = self.now();
         let mut admitted = 0;
         for place in 0..self.places.len() {
-            if admitted == at_most || !self.may_come {
-                break;
+            if admitted == at_most {
+                return admitted;
             }
-            if self.places[place].is_none() {
-                match self.accept(place) {
-                    Ok(stream) => {
-                        let connection = OpenConnection::new(StreamLine::new(stream), now);
-                        self.places[place] = Some(connection);
-                        admitted += 1;
-                    }
-                    Err(fault) if fault.kind() == ErrorKind::WouldBlock => self.may_come = false,
+            if let Some(None) = self.places.get(place) {
+                match self.fill(place, now) {
+                    Ok(true) => admitted += 1,
+                    Ok(false) => return admitted,
                     Err(_) => {
                         let _ = end_connection(Err(FrontFault::Read), faults);
-                        admitted += 1;
-                        break;
+                        return admitted + 1;
                     }
+                }
+            }
+        }
+        if admitted < at_most && self.waiting.is_none() {
+            match self.accept(now) {
+                Ok(next) => self.waiting = next,
+                Err(_) => {
+                    let _ = end_connection(Err(FrontFault::Read), faults);
+                    return admitted + 1;
                 }
             }
         }
         admitted
     }
 
-    /// The next connection that came, for this place.
-    fn accept(&self, place: usize) -> io::Result<TcpStream> {
-        let (mut stream, _) = self.listener.accept()?;
+    /// Gives a place to the connection that waits, or to the next one that came, and returns
+    /// whether there is one.
+    fn fill(&mut self, place: usize, now: Option<Instant>) -> io::Result<bool> {
+        let next = match self.waiting.take() {
+            Some(stream) => Some(stream),
+            None => self.accept(now)?,
+        };
+        let Some(mut stream) = next else {
+            return Ok(false);
+        };
         stream.set_nodelay(true)?;
         self.poll.registry().register(
             &mut stream,
             Token(place),
             Interest::READABLE | Interest::WRITABLE,
         )?;
-        Ok(stream)
+        if let Some(empty) = self.places.get_mut(place) {
+            *empty = Some(OpenConnection::new(stream, self.time, now));
+        }
+        Ok(true)
     }
 
-    /// Waits until a connection has something to do, or comes, or has been silent too long.
-    fn wait(&mut self) -> io::Result<()> {
-        let longest = self.longest_wait();
+    /// The next connection that came, if one did. Behind one that couldn't be had it pauses.
+    fn accept(&mut self, now: Option<Instant>) -> io::Result<Option<TcpStream>> {
+        if !self.may_come || self.pause_left(now).is_some_and(|left| !left.is_zero()) {
+            return Ok(None);
+        }
+        self.refused = None;
+        match self.listener.accept() {
+            Ok((stream, _)) => Ok(Some(stream)),
+            Err(fault) if fault.kind() == ErrorKind::WouldBlock => {
+                self.may_come = false;
+                Ok(None)
+            }
+            Err(fault) => {
+                self.refused = now;
+                Err(fault)
+            }
+        }
+    }
+
+    /// How much is left of the pause behind a connection that couldn't be had.
+    fn pause_left(&self, now: Option<Instant>) -> Option<Duration> {
+        let since = self.refused?;
+        Some(left_of(Duration::from_millis(PAUSE), Some(since), now))
+    }
+
+    /// Waits until a connection has something to do, or has taken too long, or one comes, where more
+    /// are taken.
+    fn wait(&mut self, takes_more: bool) -> io::Result<()> {
+        let longest = self.longest_wait(takes_more && self.waiting.is_none());
         self.poll.poll(&mut self.events, longest)?;
         for event in self.events.iter() {
             let Token(place) = event.token();
@@ -134,22 +184,65 @@ impl<'a, T: time::Clock> TcpGathering<'a, T> {
     }
 
     /// How long it may wait: not at all where a connection is ready, else until the first one has
-    /// been silent too long.
-    fn longest_wait(&self) -> Option<Duration> {
+    /// taken too long, or, where more are taken, one may be had again.
+    fn longest_wait(&self, takes_more: bool) -> Option<Duration> {
         let now = self.now();
         let mut longest = None;
+        if takes_more && self.may_come {
+            longest = self.pause_left(now);
+        }
         for place in self.places.iter() {
             if let Some(connection) = place {
                 if connection.is_ready() {
                     return Some(Duration::ZERO);
                 }
-                if let Some(idle) = self.idle {
-                    let left = connection.time_left(now, idle);
-                    longest = Some(longest.map_or(left, |other: Duration| other.min(left)));
-                }
+                longest = shorter(longest, connection.time_left(now, self.limits));
+                longest = shorter(longest, self.room_left(connection.silent_since(), now));
             }
         }
         longest
+    }
+
+    /// Where a connection waits for a place, how much is left to one that has been silent since
+    /// then, until it has to make room.
+    fn room_left(&self, since: Option<Instant>, now: Option<Instant>) -> Option<Duration> {
+        match (&self.waiting, self.limits.idle_when_full, since) {
+            (Some(_), Some(idle), Some(_)) => Some(left_of(idle, since, now)),
+            _ => None,
+        }
+    }
+
+    /// Where a connection waits for a place, ends the one that has been silent the longest, if that
+    /// is too long.
+    fn make_room<F: Sink>(&mut self, faults: &mut F) {
+        let Some(place) = self.longest_silent() else {
+            return;
+        };
+        if let Some(taken) = self.places.get_mut(place) {
+            if let Some(connection) = taken.take() {
+                let _ = end_connection(Err(connection.timed_out()), faults);
+            }
+        }
+    }
+
+    /// The place of the connection that has been silent the longest, if it has to make room.
+    fn longest_silent(&self) -> Option<usize> {
+        let mut longest = None;
+        let mut since = None;
+        for place in 0..self.places.len() {
+            let Some(connection) = &self.places[place] else {
+                return None;
+            };
+            let silent_since = connection.silent_since();
+            if is_before(silent_since, since) {
+                longest = Some(place);
+                since = silent_since;
+            }
+        }
+        match self.room_left(since, self.now()) {
+            Some(left) if left.is_zero() => longest,
+            _ => None,
+        }
     }
 
     /// Gives each connection that is ready a round.
@@ -167,10 +260,10 @@ impl<'a, T: time::Clock> TcpGathering<'a, T> {
             → OnOk result (B.is_open host.new) }
         ensures was_honest { B.is_honest host.new → B.is_honest host.old }
     {
-        let (now, idle) = (self.now(), self.idle);
+        let (now, limits) = (self.now(), self.limits);
         for place in 0..self.places.len() {
             let place = &mut self.places[place];
-            give_round(place, alloc, host, clock, issuer, now, idle, faults)?;
+            give_round(place, alloc, host, clock, issuer, now, limits, faults)?;
         }
         Ok(())
     }
@@ -181,15 +274,25 @@ impl<'a, T: time::Clock> TcpGathering<'a, T> {
     }
 }
 
-/// Gives the connection in a place a round, and frees the place at its end.
-fn give_round<L: Line + Drop, B: Book + Drop, C: Clock, I: Issuer, F: Sink>(
-    place: &mut Option<OpenConnection<L>>,
+/// Whether one time is known, and before another one, or that isn't known.
+fn is_before(one: Option<Instant>, other: Option<Instant>) -> bool {
+    match (one, other) {
+        (Some(one), Some(other)) => one < other,
+        (one, None) => one.is_some(),
+        (None, Some(_)) => false,
+    }
+}
+
+/// Gives the connection in a place a round, and frees the place at its end, or behind a bad frame
+/// once it is parted with.
+fn give_round<'a, T: time::Clock, B: Book + Drop, C: Clock, I: Issuer, F: Sink>(
+    place: &mut Option<OpenConnection<'a, T>>,
     alloc: Global,
     host: &mut Host<B>,
     clock: &mut C,
     issuer: &mut I,
     now: Option<Instant>,
-    idle: Option<Duration>,
+    limits: TimeLimits,
     faults: &mut F,
 ) -> Result<(), Fault>
     ensures reached { B.is_honest host.new → B.is_open host.old
@@ -201,10 +304,18 @@ fn give_round<L: Line + Drop, B: Book + Drop, C: Clock, I: Issuer, F: Sink>(
     let Some(connection) = place else {
         return Ok(());
     };
-    match connection.give_round(alloc, host, clock, issuer, now, idle) {
+    if connection.is_parting() {
+        if connection.read_away(now) {
+            *place = None;
+        }
+        return Ok(());
+    }
+    match connection.give_round(alloc, host, clock, issuer, now, limits) {
         None => Ok(()),
         Some(ended) => {
-            *place = None;
+            if !ends_in_bad_frame(&ended) || !connection.part(now) {
+                *place = None;
+            }
             end_connection(ended, faults)
         }
     }
@@ -226,10 +337,11 @@ impl<T: time::Clock> Gathering for TcpGathering<'_, T> {
             if left == 0 && self.is_empty() {
                 break;
             }
-            if self.wait().is_err() {
+            if self.wait(left > 0).is_err() {
                 return Err(Fault::Read);
             }
             self.give_rounds(alloc, host, clock, issuer, faults)?;
+            self.make_room(faults);
         }
         Ok(())
     }

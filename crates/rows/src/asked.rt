@@ -4,6 +4,7 @@ use acq_book::Book;
 use acq_core::{MerchantId, Moment};
 use acq_link::Sink;
 use acq_reports::{ReportFault, clearing, open_holds, settlement};
+use acq_stand_in::{StandIn, answers_to_pending};
 use day_totals::Day;
 use std::alloc::Global;
 
@@ -16,10 +17,13 @@ pub enum Asked {
     Settlement(Day),
     /// The holds of a merchant that are open at a moment.
     Holds(MerchantId, Moment),
+    /// Answers of no issuer to the requests of a day that wait, or of all days, at a moment.
+    Pending(Moment, Option<Day>),
 }
 
 impl Asked {
-    /// What these words ask for: `clearing DAY`, `report DAY` or `holds MOMENT MERCHANT`.
+    /// What these words ask for: `clearing DAY`, `report DAY`, `holds MOMENT MERCHANT`, `pending
+    /// MOMENT` or `pending MOMENT DAY`.
     pub fn read(word: &str, rest: &str) -> Option<Asked> {
         match word {
             "clearing" => Some(Asked::Clearing(Day::read(rest)?)),
@@ -30,6 +34,14 @@ impl Asked {
                     MerchantId::read(merchant.as_bytes())?,
                     Moment::from_seconds(moment.parse().ok()?)?,
                 ))
+            }
+            "pending" => {
+                let (moment, day) = match rest.split_once(' ') {
+                    Some((moment, day)) => (moment, Some(Day::read(day)?)),
+                    None => (rest, None),
+                };
+                let moment = Moment::from_seconds(moment.parse().ok()?)?;
+                Some(Asked::Pending(moment, day))
             }
             _ => None,
         }
@@ -46,6 +58,9 @@ impl Asked {
             Asked::Clearing(day) => clearing(alloc, book, day, text),
             Asked::Settlement(day) => settlement(alloc, book, day, text),
             Asked::Holds(merchant, moment) => open_holds(alloc, book, merchant, moment, text),
+            Asked::Pending(moment, day) => {
+                answers_to_pending(alloc, book, &StandIn::silent(alloc), day, moment, text)
+            }
         }
     }
 }

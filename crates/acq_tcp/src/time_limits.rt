@@ -1,0 +1,48 @@
+//! How long connections may take.
+
+use acq_commands::Patience;
+use std::time::{Duration, Instant};
+
+/// How long connections may take; `None` is for ever.
+#[derive(Clone, Copy, Drop)]
+pub(crate) struct TimeLimits {
+    /// How long one may send nothing, or take nothing of a reply.
+    pub(crate) idle: Option<Duration>,
+    /// How long a frame may take, from its first byte to its last.
+    pub(crate) frame: Option<Duration>,
+    /// How long one may send or take nothing while another one waits for its place.
+    pub(crate) idle_when_full: Option<Duration>,
+}
+
+impl TimeLimits {
+    /// The limits that this patience sets.
+    pub(crate) fn new(patience: Patience) -> TimeLimits {
+        TimeLimits {
+            idle: limit_of(patience.idle),
+            frame: limit_of(patience.frame_within),
+            idle_when_full: limit_of(patience.idle_when_full),
+        }
+    }
+}
+
+/// So many seconds; for 0 no limit.
+fn limit_of(seconds: u64) -> Option<Duration> {
+    (seconds > 0).then(|| Duration::from_secs(seconds))
+}
+
+/// How much of a limit is left of what began then. Where a time isn't known all of it is.
+pub(crate) fn left_of(limit: Duration, began: Option<Instant>, now: Option<Instant>) -> Duration {
+    match (began, now) {
+        (Some(began), Some(now)) => limit.saturating_sub(now.duration_since(began)),
+        _ => limit,
+    }
+}
+
+/// The shorter of two times, of which none is for ever.
+pub(crate) fn shorter(one: Option<Duration>, other: Option<Duration>) -> Option<Duration> {
+    match (one, other) {
+        (Some(one), Some(other)) => Some(one.min(other)),
+        (one, None) => one,
+        (None, other) => other,
+    }
+}
