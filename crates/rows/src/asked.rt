@@ -17,8 +17,10 @@ pub enum Asked {
     Settlement(Day),
     /// The holds of a merchant that are open at a moment.
     Holds(MerchantId, Moment),
-    /// Answers of no issuer to the requests of a day that wait, or of all days, at a moment.
-    Pending(Moment, Option<Day>),
+    /// The answers to all requests that wait, at a moment, where no issuer answers.
+    Pending(Moment),
+    /// Those to the requests of a day.
+    PendingOn(Moment, Day),
 }
 
 impl Asked {
@@ -35,14 +37,13 @@ impl Asked {
                     Moment::from_seconds(moment.parse().ok()?)?,
                 ))
             }
-            "pending" => {
-                let (moment, day) = match rest.split_once(' ') {
-                    Some((moment, day)) => (moment, Some(Day::read(day)?)),
-                    None => (rest, None),
-                };
-                let moment = Moment::from_seconds(moment.parse().ok()?)?;
-                Some(Asked::Pending(moment, day))
-            }
+            "pending" => match rest.split_once(' ') {
+                Some((moment, day)) => Some(Asked::PendingOn(
+                    Moment::from_seconds(moment.parse().ok()?)?,
+                    Day::read(day)?,
+                )),
+                None => Some(Asked::Pending(Moment::from_seconds(rest.parse().ok()?)?)),
+            },
             _ => None,
         }
     }
@@ -58,8 +59,12 @@ impl Asked {
             Asked::Clearing(day) => clearing(alloc, book, day, text),
             Asked::Settlement(day) => settlement(alloc, book, day, text),
             Asked::Holds(merchant, moment) => open_holds(alloc, book, merchant, moment, text),
-            Asked::Pending(moment, day) => {
-                answers_to_pending(alloc, book, &StandIn::silent(alloc), day, moment, text)
+            Asked::Pending(moment) => {
+                answers_to_pending(alloc, book, &StandIn::silent(alloc), None, moment, text)
+            }
+            Asked::PendingOn(moment, day) => {
+                let silent = StandIn::silent(alloc);
+                answers_to_pending(alloc, book, &silent, Some(day), moment, text)
             }
         }
     }
