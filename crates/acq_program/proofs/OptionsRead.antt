@@ -29,6 +29,8 @@ found_texts-rows f =
       first_value-rows f (codes "port"),
       first_value-rows f (codes "count"),
       first_value-rows f (codes "idle"),
+      first_value-rows f (codes "frame-within"),
+      first_value-rows f (codes "idle-when-full"),
       first_value-rows f (codes "together"),
       values_found-rows f (codes "clearing"),
       values_found-rows f (codes "report"),

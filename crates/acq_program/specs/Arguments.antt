@@ -25,6 +25,7 @@ use Rattle.acq_program.specs.declared.action.Action.TheVariants.{Pending}
 use Rattle.acq_commands.specs.declared.day_report.DayReport.{DayReport}
 use Rattle.acq_commands.specs.declared.input_form.InputForm.{InputForm}
 use Rattle.acq_commands.specs.declared.input_form.InputForm.TheVariants as form
+use Rattle.acq_commands.specs.declared.patience.Patience.{Patience}
 use Rattle.acq_program.specs.declared.option_name.OptionName.{OptionName}
 use Rattle.acq_program.specs.declared.option_name.OptionName.TheVariants as option
 use Rattle.acq_commands.specs.declared.report_kind.ReportKind.{ReportKind}
@@ -42,6 +43,8 @@ name_of_option option.At = codes "--at"
 name_of_option option.Port = codes "--port"
 name_of_option option.Count = codes "--count"
 name_of_option option.Idle = codes "--idle"
+name_of_option option.FrameWithin = codes "--frame-within"
+name_of_option option.IdleWhenFull = codes "--idle-when-full"
 name_of_option option.Together = codes "--together"
 name_of_option (option.Report kinds.Clearing) = codes "--clearing"
 name_of_option (option.Report kinds.Settlement) = codes "--report"
@@ -60,6 +63,8 @@ pub record OptionTexts : Type 0 where
   pub port : Option Text
   pub count : Option Text
   pub idle : Option Text
+  pub frame_within : Option Text
+  pub idle_when_full : Option Text
   pub together : Option Text
 
 -- all values of an option
@@ -81,6 +86,8 @@ option_texts rows = record {
   port = first_of (codes "port") rows;
   count = first_of (codes "count") rows;
   idle = first_of (codes "idle") rows;
+  frame_within = first_of (codes "frame-within") rows;
+  idle_when_full = first_of (codes "idle-when-full") rows;
   together = first_of (codes "together") rows;
 }
 
@@ -103,6 +110,8 @@ found_texts found = record {
   port = first_value found (codes "port");
   count = first_value found (codes "count");
   idle = first_value found (codes "idle");
+  frame_within = first_value found (codes "frame-within");
+  idle_when_full = first_value found (codes "idle-when-full");
   together = first_value found (codes "together");
 }
 
@@ -141,9 +150,9 @@ count_of_text text = number_of_text 6 1 999999 text
 abbrev pub seconds_of_text : Text → Option ℕ
 seconds_of_text text = number_of_text 6 0 999999 text
 
--- how many connections are served at once, 2 to 1,024
+-- how many connections are served at once, 1 to 1,024
 abbrev pub together_of_text : Text → Option ℕ
-together_of_text text = number_of_text 4 2 1024 text
+together_of_text text = number_of_text 4 1 1024 text
 
 -- the path of a book's file
 abbrev pub FileIs : OptionTexts → Result (String Global) OptionName → Type 0
@@ -205,13 +214,22 @@ count_if_there (Some text) = ok_or (count_of_text text) option.Count
 abbrev pub CountIs : OptionTexts → Result ℕ OptionName → Type 0
 CountIs texts read = read ≡ count_if_there texts.count
 
--- so many seconds of silence: without the option 60
-abbrev pub idle_if_there : Option Text → Result ℕ OptionName
-idle_if_there None = Ok 60
-idle_if_there (Some text) = ok_or (seconds_of_text text) option.Idle
+-- so many seconds: without the option the usual ones
+abbrev pub seconds_if_there : ℕ → OptionName → Option Text → Result ℕ OptionName
+seconds_if_there usual name None = Ok usual
+seconds_if_there usual name (Some text) = ok_or (seconds_of_text text) name
 
+-- so many seconds of silence: without the option 60
 abbrev pub IdleIs : OptionTexts → Result ℕ OptionName → Type 0
-IdleIs texts read = read ≡ idle_if_there texts.idle
+IdleIs texts read = read ≡ seconds_if_there 60 option.Idle texts.idle
+
+-- so many seconds from a frame's first byte to its last: without the option 30
+abbrev pub FrameWithinIs : OptionTexts → Result ℕ OptionName → Type 0
+FrameWithinIs texts read = read ≡ seconds_if_there 30 option.FrameWithin texts.frame_within
+
+-- so many seconds of silence while others wait for a place: without the option 10
+abbrev pub IdleWhenFullIs : OptionTexts → Result ℕ OptionName → Type 0
+IdleWhenFullIs texts read = read ≡ seconds_if_there 10 option.IdleWhenFull texts.idle_when_full
 
 -- so many connections at once: without the option 1
 abbrev pub together_if_there : Option Text → Result ℕ OptionName
@@ -289,25 +307,45 @@ IsOnce book issuers moment other = ⊥
 abbrev pub AsksOnce : OptionTexts → Result Action OptionName → Type 0
 AsksOnce texts = Then (MomentIfThere texts) (IsOnce texts.db texts.issuers)
 
+-- a connection may be idle so long, its frames may take so long, and it may be idle so long while
+-- others wait
+abbrev pub IsPatience : ℕ → ℕ → ℕ → Result Patience OptionName → Type 0
+IsPatience idle frame_within idle_when_full read =
+    read ≡ Ok (record {
+      idle = idle;
+      frame_within = frame_within;
+      idle_when_full = idle_when_full;
+    })
+
+abbrev pub PatienceWith : OptionTexts → ℕ → ℕ → Result Patience OptionName → Type 0
+PatienceWith texts idle frame_within = Then (IdleWhenFullIs texts) (IsPatience idle frame_within)
+
+abbrev pub PatienceFor : OptionTexts → ℕ → Result Patience OptionName → Type 0
+PatienceFor texts idle = Then (FrameWithinIs texts) (PatienceWith texts idle)
+
+-- how long a connection may take: in silence first, then with a frame, then while others wait
+abbrev pub PatienceIs : OptionTexts → Result Patience OptionName → Type 0
+PatienceIs texts = Then (IdleIs texts) (PatienceFor texts)
+
 -- so many connections on this port over this book, with this file of issuers' answers, at this
--- moment, each closed after so many seconds of silence, so many of them at once
-abbrev pub IsListen : String Global → ℕ → ℕ → Option Text → Option ℕ → ℕ → ℕ →
+-- moment, with so much patience for each, so many of them at once
+abbrev pub IsListen : String Global → ℕ → ℕ → Option Text → Option ℕ → Patience → ℕ →
     Result Action OptionName → Type 0
-IsListen path port count issuers moment idle together (Ok (Listen asked)) =
+IsListen path port count issuers moment patience together (Ok (Listen asked)) =
     (asked.path ≡ path) × (asked.port ≡ port) × (asked.count ≡ count)
     × (option_map string_bytes asked.issuers ≡ issuers) × (asked.moment ≡ moment)
-    × (asked.idle ≡ idle) × (asked.together ≡ together)
-IsListen path port count issuers moment idle together other = ⊥
+    × (asked.patience ≡ patience) × (asked.together ≡ together)
+IsListen path port count issuers moment patience together other = ⊥
 
-abbrev pub ListenBeside : OptionTexts → String Global → ℕ → ℕ → Option ℕ → ℕ →
+abbrev pub ListenBeside : OptionTexts → String Global → ℕ → ℕ → Option ℕ → Patience →
     Result Action OptionName → Type 0
-ListenBeside texts path port count moment idle =
-    Then (TogetherIs texts) (IsListen path port count texts.issuers moment idle)
+ListenBeside texts path port count moment patience =
+    Then (TogetherIs texts) (IsListen path port count texts.issuers moment patience)
 
 abbrev pub ListenAt
     : OptionTexts → String Global → ℕ → ℕ → Option ℕ → Result Action OptionName → Type 0
 ListenAt texts path port count moment =
-    Then (IdleIs texts) (ListenBeside texts path port count moment)
+    Then (PatienceIs texts) (ListenBeside texts path port count moment)
 
 abbrev pub ListenFor
     : OptionTexts → String Global → ℕ → ℕ → Result Action OptionName → Type 0
@@ -319,8 +357,8 @@ ListenOn texts path port = Then (CountIs texts) (ListenFor texts path port)
 abbrev pub ListenIn : OptionTexts → String Global → Result Action OptionName → Type 0
 ListenIn texts path = Then (PortIs texts) (ListenOn texts path)
 
--- what `listen` is asked for: the file first, then the port, how many connections, the moment, the
--- seconds of silence and how many at once
+-- what `listen` is asked for: the file first, then the port, how many connections, the moment, how
+-- long each may take and how many at once
 abbrev pub AsksListen : OptionTexts → Result Action OptionName → Type 0
 AsksListen texts = Then (FileIs texts) (ListenIn texts)
 

@@ -44,12 +44,17 @@ listen_at_port =
     with_rule (with_rule (with_rule (new_app (codes "listen"))
     (required (codes "db"))) (required (codes "port"))) (option (codes "count"))
 
--- `listen --db FILE --port P [--count N] [--issuers FILE] [--at MOMENT] [--idle SECONDS]
--- [--together M]`
+-- with `[--issuers FILE] [--at MOMENT] [--idle SECONDS]` behind them
+abbrev pub listen_at_moment : App
+listen_at_moment =
+    with_rule (with_rule (with_rule listen_at_port
+    (option (codes "issuers"))) (option (codes "at"))) (option (codes "idle"))
+
+-- and `[--frame-within SECONDS] [--idle-when-full SECONDS] [--together M]`
 abbrev pub listen : App
 listen =
-    with_rule (with_rule (with_rule (with_rule listen_at_port
-    (option (codes "issuers"))) (option (codes "at"))) (option (codes "idle")))
+    with_rule (with_rule (with_rule listen_at_moment
+    (option (codes "frame-within"))) (option (codes "idle-when-full")))
     (option (codes "together"))
 
 -- `replay [--db FILE] [--limit N] [--day DAY] [--clearing DAY].. [--report DAY]..`

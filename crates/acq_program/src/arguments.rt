@@ -6,9 +6,11 @@ ghost use Rattle.acq_program.specs.Arguments.{AsksHolds, AsksInit, AsksListen};
 ghost use Rattle.acq_program.specs.Arguments.{AsksMigrate, AsksOnce};
 ghost use Rattle.acq_program.specs.Arguments.{AsksPending, DayIfThere};
 ghost use Rattle.acq_program.specs.Arguments.{AsksReplay, AsksReport, CountIs, DayIs, FileIs};
-ghost use Rattle.acq_program.specs.Arguments.{IdleIs, IsNoMemory, LimitIs, MerchantIs};
-ghost use Rattle.acq_program.specs.Arguments.{MomentIfThere, MomentIs, PortIs, Reads, TogetherIs};
-ghost use Rattle.acq_program.specs.Arguments.{ReadsArguments, form_of_flag, found_texts};
+ghost use Rattle.acq_program.specs.Arguments.{FrameWithinIs, IdleIs, IdleWhenFullIs};
+ghost use Rattle.acq_program.specs.Arguments.{IsNoMemory, LimitIs, MerchantIs};
+ghost use Rattle.acq_program.specs.Arguments.{MomentIfThere, MomentIs, PatienceIs, PortIs, Reads};
+ghost use Rattle.acq_program.specs.Arguments.{ReadsArguments, TogetherIs, form_of_flag};
+ghost use Rattle.acq_program.specs.Arguments.{found_texts};
 
 use crate::action::Action;
 use crate::option_name::OptionName;
@@ -18,7 +20,7 @@ use crate::program::program;
 use crate::usage_fault::UsageFault;
 use crate::wanted_reports::add_reports;
 use acq_commands::{
-    BookReport, DayReport, HoldsOptions, InputForm, ListenOptions, NewBook, OnceOptions,
+    BookReport, DayReport, HoldsOptions, InputForm, ListenOptions, NewBook, OnceOptions, Patience,
     ReplayOptions, ReportKind, first_day_of_all, greatest_limit,
 };
 use acq_core::{Limit, MerchantId, Moment};
@@ -30,6 +32,12 @@ use std::convert::AsStr;
 
 /// For how many seconds a connection may be silent, where nothing else is asked for.
 const USUAL_IDLE: u64 = 60;
+
+/// How many seconds a frame may take, where nothing else is asked for.
+const USUAL_FRAME_WITHIN: u64 = 30;
+
+/// For how many seconds one may be silent while others wait, where nothing else is asked for.
+const USUAL_IDLE_WHEN_FULL: u64 = 10;
 
 /// What the arguments ask for, the program's own name first, or what is wrong with them. A call for
 /// help or for the version is an error, too, as clap has it.
@@ -96,7 +104,7 @@ fn listen_of(alloc: Global, options: &ArgMatches) -> Result<Action, UsageFault>
     let port = port_option(options)?;
     let count = count_option(options)?;
     let moment = moment_if_there(options)?;
-    let idle = idle_option(options)?;
+    let patience = patience_of(options)?;
     let together = together_option(options)?;
     let issuers = issuers_option(alloc, options)?;
     Ok(Action::Listen(ListenOptions {
@@ -104,7 +112,7 @@ fn listen_of(alloc: Global, options: &ArgMatches) -> Result<Action, UsageFault>
         port,
         count,
         together,
-        idle,
+        patience,
         issuers,
         moment,
     }))
@@ -296,6 +304,20 @@ fn count_option(options: &ArgMatches) -> Result<u64, UsageFault>
     }
 }
 
+/// How long a connection may take.
+fn patience_of(options: &ArgMatches) -> Result<Patience, UsageFault>
+    ensures { Reads (PatienceIs (found_texts (found_of options.now))) result }
+{
+    let idle = idle_option(options)?;
+    let frame_within = frame_within_option(options)?;
+    let idle_when_full = idle_when_full_option(options)?;
+    Ok(Patience {
+        idle,
+        frame_within,
+        idle_when_full,
+    })
+}
+
 /// How many seconds of silence are asked for: without the option 60.
 fn idle_option(options: &ArgMatches) -> Result<u64, UsageFault>
     ensures { Reads (IdleIs (found_texts (found_of options.now))) result }
@@ -303,6 +325,26 @@ fn idle_option(options: &ArgMatches) -> Result<u64, UsageFault>
     match options.get_str("idle") {
         Some(text) => seconds_of(text).ok_or(UsageFault::BadValue(OptionName::Idle)),
         None => Ok(USUAL_IDLE),
+    }
+}
+
+/// How many seconds a frame may take: without the option 30.
+fn frame_within_option(options: &ArgMatches) -> Result<u64, UsageFault>
+    ensures { Reads (FrameWithinIs (found_texts (found_of options.now))) result }
+{
+    match options.get_str("frame-within") {
+        Some(text) => seconds_of(text).ok_or(UsageFault::BadValue(OptionName::FrameWithin)),
+        None => Ok(USUAL_FRAME_WITHIN),
+    }
+}
+
+/// How many seconds of silence are asked for while others wait: without the option 10.
+fn idle_when_full_option(options: &ArgMatches) -> Result<u64, UsageFault>
+    ensures { Reads (IdleWhenFullIs (found_texts (found_of options.now))) result }
+{
+    match options.get_str("idle-when-full") {
+        Some(text) => seconds_of(text).ok_or(UsageFault::BadValue(OptionName::IdleWhenFull)),
+        None => Ok(USUAL_IDLE_WHEN_FULL),
     }
 }
 

@@ -1,7 +1,7 @@
 //! What a command finds on its machine.
 
 use acq_book::Book;
-use acq_commands::{Fault, Gathering};
+use acq_commands::{Fault, Gathering, Patience};
 use acq_core::Limit;
 use acq_front::Connections;
 use acq_stand_in::StandIn;
@@ -45,9 +45,9 @@ pub trait Machine<B: Book + Drop>: Sized {
     fn read_answers(&self, alloc: Global, path: &str) -> Result<StandIn, Fault>
         ensures { IfErr result IsOfAnswers };
 
-    /// Listens at a port. A connection that is silent for so many seconds is closed as a failed
-    /// read, and for 0 none is.
-    fn listen_at(&self, port: u16, idle: u64) -> Result<Self::Connections, Fault>
+    /// Listens at a port. A connection that takes longer than this patience lasts is closed as a
+    /// failed read, or a failed write.
+    fn listen_at(&self, port: u16, patience: Patience) -> Result<Self::Connections, Fault>
         ensures { IfErr result (λ fault. fault ≡ Read) };
 
     /// Listens at a port, as `listen_at` does, for so many connections at once.
@@ -55,7 +55,7 @@ pub trait Machine<B: Book + Drop>: Sized {
         &self,
         alloc: Global,
         port: u16,
-        idle: u64,
+        patience: Patience,
         together: usize,
     ) -> Result<Self::Gathering, Fault>
         ensures { IfErr result IsOfGathering };

@@ -22,6 +22,10 @@ pub enum OptionName {
     Count,
     /// For how many seconds a connection may be silent.
     Idle,
+    /// How many seconds a frame may take.
+    FrameWithin,
+    /// For how many seconds a connection may be silent while others wait for a place.
+    IdleWhenFull,
     /// How many connections are served at once.
     Together,
     /// A day of which a report is asked for.
@@ -44,6 +48,8 @@ impl fmt::Display for OptionName {
             OptionName::Port => write!(f, "--port"),
             OptionName::Count => write!(f, "--count"),
             OptionName::Idle => write!(f, "--idle"),
+            OptionName::FrameWithin => write!(f, "--frame-within"),
+            OptionName::IdleWhenFull => write!(f, "--idle-when-full"),
             OptionName::Together => write!(f, "--together"),
             OptionName::Report(ReportKind::Clearing) => write!(f, "--clearing"),
             OptionName::Report(ReportKind::Settlement) => write!(f, "--report"),

@@ -26,9 +26,6 @@ const GREATEST_COUNT: u64 = 999_999;
 /// The most digits of how many connections are served at once.
 const MOST_TOGETHER_DIGITS: usize = 4;
 
-/// The fewest connections that are served at once.
-const LEAST_TOGETHER: u64 = 2;
-
 /// The most connections that are served at once.
 const GREATEST_TOGETHER: u64 = 1_024;
 
@@ -65,16 +62,11 @@ pub(crate) fn seconds_of(text: &str) -> Option<u64>
     number_of(text, MOST_COUNT_DIGITS, 0, GREATEST_COUNT)
 }
 
-/// How many connections a text has served at once: one to four digits, 2 to 1,024 (own profile).
+/// How many connections a text has served at once: one to four digits, 1 to 1,024 (own profile).
 pub(crate) fn together_of(text: &str) -> Option<usize>
     ensures { result ≡ together_of_text text.now }
 {
-    let number = number_of(
-        text,
-        MOST_TOGETHER_DIGITS,
-        LEAST_TOGETHER,
-        GREATEST_TOGETHER,
-    )?;
+    let number = number_of(text, MOST_TOGETHER_DIGITS, 1, GREATEST_TOGETHER)?;
     Some(number as usize)
 }
 

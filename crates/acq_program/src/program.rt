@@ -3,7 +3,8 @@
 ghost use Rattle.std.specs.Prelude.{◌≡◌, false, IfOk};
 ghost use Rattle.clap.specs.Words.{app_of, new_app, rule_of, with_rule};
 ghost use Rattle.clap.specs.declared.builder.action.ArgAction.TheVariants.{Append};
-ghost use Rattle.acq_program.specs.Program.{holds, init, listen, listen_at_port, making};
+ghost use Rattle.acq_program.specs.Program.{holds, init, listen, listen_at_moment};
+ghost use Rattle.acq_program.specs.Program.{listen_at_port, making};
 ghost use Rattle.acq_program.specs.Program.{migrate, on_a_day, once, option};
 ghost use Rattle.acq_program.specs.Program.{pending};
 ghost use Rattle.acq_program.specs.Program.{option_with_value, program, replay, required, show};
@@ -96,10 +97,14 @@ that none waits for another one's bytes. What they change is in the file before 
 stop at any moment leaves all events so far, and may leave a request without its issuer's answer,
 which `acqd pending` then writes.
 
-A connection that is silent for SECONDS, or takes nothing of a reply for so long, is closed as one
-whose read or write failed. A connection's fault is one line on standard error, and the next one is
-served; 1 and 2 end the program. The status is 0 where all connections were served, 1 for another
-fault, 2 for wrong usage, 3 where memory ran out or the file failed:
+A connection that is silent for the SECONDS of --idle, or takes nothing of a reply for so long, is
+closed as one whose read or write failed. So is one whose frame takes longer than --frame-within,
+from its first byte to its last; and while all M places are taken and another connection waits, the
+one that is silent the longest, once that is longer than --idle-when-full. A connection's fault is
+one line on standard error, and the next one is served. A line that can't go out at once is dropped,
+and the next one that goes out says how many were. 1 and 2 end the program. The status is 0 where all
+connections were served, 1 for another fault, 2 for wrong usage, 3 where memory ran out or the file
+failed:
   acqd: 1 Memory
   acqd: 2 Store                    the file can't be opened, read or written
   acqd: 23 BadLine RECORD          this record of the issuers' file is out of its form
@@ -108,7 +113,8 @@ fault, 2 for wrong usage, 3 where memory ran out or the file failed:
   acqd: 50 BadLength               a frame's length is 0 or above 4,096
   acqd: 51 Ended                   a connection ends inside a frame
   acqd: 52 Undecodable FAULT ELEMENT   a frame spells no message
-  acqd: 53 Read                    a read failed, or the port or a connection can't be had
+  acqd: 53 Read                    a read failed, or the port or a connection can't be had, or a
+                                   connection was silent, or a frame took, too long
   acqd: 54 Write BYTES             a write failed after so many bytes of a reply's frame
 
 Example:
@@ -329,22 +335,43 @@ fn once_command<'a>(alloc: Global) -> Result<Command<'a>, AllocError>
 fn listen_command<'a>(alloc: Global) -> Result<Command<'a>, AllocError>
     ensures { IfOk result (λ made. app_of made ≡ listen) }
 {
-    let command = listen_at_port(alloc)?;
-    let command = with_option(alloc, command, "issuers", "FILE", ISSUERS)?;
-    let command = with_option(alloc, command, "at", "MOMENT", COMING_AT)?;
+    let command = listen_at_moment(alloc)?;
     let command = with_option(
         alloc,
         command,
-        "idle",
+        "frame-within",
         "SECONDS",
-        "How long a connection may be silent, 0 to 999999, 0 for ever [default: 60]",
+        "How long a frame may take, first byte to last, 0 to 999999, 0 for ever [default: 30]",
+    )?;
+    let command = with_option(
+        alloc,
+        command,
+        "idle-when-full",
+        "SECONDS",
+        "How long one may be silent while others wait for a place, as --idle [default: 10]",
     )?;
     with_option(
         alloc,
         command,
         "together",
         "M",
-        "How many connections are served at once, 2 to 1024 [default: 1]",
+        "How many connections are served at once, 1 to 1024 [default: 1]",
+    )
+}
+
+/// `listen` with its file, its port, how many connections come, and what is said of each.
+fn listen_at_moment<'a>(alloc: Global) -> Result<Command<'a>, AllocError>
+    ensures { IfOk result (λ made. app_of made ≡ listen_at_moment) }
+{
+    let command = listen_at_port(alloc)?;
+    let command = with_option(alloc, command, "issuers", "FILE", ISSUERS)?;
+    let command = with_option(alloc, command, "at", "MOMENT", COMING_AT)?;
+    with_option(
+        alloc,
+        command,
+        "idle",
+        "SECONDS",
+        "How long a connection may be silent, 0 to 999999, 0 for ever [default: 60]",
     )
 }
 

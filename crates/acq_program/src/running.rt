@@ -306,7 +306,7 @@ fn listen_over<B: Book + Drop, M: Machine<B> + Drop, C: Clock, I: Issuer + Drop,
     if asked.together > 1 {
         return gather_over(alloc, machine, asked, clock, issuers, faults);
     }
-    let connections = machine.listen_at(asked.port, asked.idle);
+    let connections = machine.listen_at(asked.port, asked.patience);
     let book = machine.open_book(asked.path.as_str())?;
     let mut issuer = issuers?;
     let mut connections = connections?;
@@ -330,7 +330,7 @@ fn gather_over<B: Book + Drop, M: Machine<B> + Drop, C: Clock, I: Issuer + Drop,
     issuers: Result<I, Fault>,
     faults: &mut F,
 ) -> Result<(), Fault> {
-    let gathering = machine.gather_at(alloc, asked.port, asked.idle, asked.together);
+    let gathering = machine.gather_at(alloc, asked.port, asked.patience, asked.together);
     let book = machine.open_book(asked.path.as_str())?;
     let mut issuer = issuers?;
     let mut gathering = gathering?;

@@ -7,7 +7,7 @@ use crate::no_progress::NoProgress;
 use crate::refusal::Refusal;
 use crate::row_fault::RowFault;
 use acq_book::{Book, ListBook};
-use acq_commands::{Fault, replay};
+use acq_commands::{Fault, Patience, replay};
 use acq_core::Limit;
 use acq_host::Host;
 use acq_link::{MemorySink, SliceSource};
@@ -88,7 +88,7 @@ impl<'a> Machine<ListBook> for MachineAtHand<'a> {
         }
     }
 
-    fn listen_at(&self, _port: u16, _idle: u64) -> Result<ConnectionsAtHand<'a>, Fault> {
+    fn listen_at(&self, _port: u16, _patience: Patience) -> Result<ConnectionsAtHand<'a>, Fault> {
         match &self.terms.connections {
             Some(sent) => Ok(ConnectionsAtHand {
                 sent: sent.as_slice(),
@@ -101,7 +101,7 @@ impl<'a> Machine<ListBook> for MachineAtHand<'a> {
         &self,
         _alloc: Global,
         _port: u16,
-        _idle: u64,
+        _patience: Patience,
         _together: usize,
     ) -> Result<NoGathering, Fault> {
         match &self.terms.connections {

@@ -5,9 +5,10 @@ use Rattle.clap.specs.Words.{found_of}
 use Rattle.acq_program.specs.declared.action.Action.{Action}
 use Rattle.acq_program.specs.declared.action.Action.TheVariants.{Listen}
 use Rattle.acq_program.specs.declared.usage_fault.UsageFault.{UsageFault}
-use Rattle.acq_program.specs.Arguments.{AsksListen, CountIs, FileIs, IdleIs, IsListen, ListenAt}
+use Rattle.acq_program.specs.Arguments.{AsksListen, CountIs, FileIs, IsListen, ListenAt}
 use Rattle.acq_program.specs.Arguments.{ListenBeside, ListenFor, ListenIn, ListenOn}
-use Rattle.acq_program.specs.Arguments.{MomentIfThere, PortIs, TogetherIs, found_texts}
+use Rattle.acq_program.specs.Arguments.{MomentIfThere, PatienceIs, PortIs, TogetherIs}
+use Rattle.acq_program.specs.Arguments.{found_texts}
 use Rattle.acq_program.proofs.OptionsRead.{first_fails, no_memory, then_rest}
 use Rattle.acq_program.proofs.arguments.listen_of.Goals as goal
 
@@ -58,25 +59,25 @@ returns-in_err-moment c =
     (ListenAt texts c.in_ok-path.path c.in_ok-port.port c.in_ok-count.count)
     c.in_err-moment.field-0.0 c.in_err-moment.ensures))))
 
-pub returns-in_err-idle : goal.returns-in_err-idle
-returns-in_err-idle c =
+pub returns-in_err-patience : goal.returns-in_err-patience
+returns-in_err-patience c =
     let texts = found_texts (found_of c.args.options.now) in
-    let p = err_from_is_err_and c.from_residual-in_err-idle.result
-    c.from_residual-in_err-idle.ensures.1 in
+    let p = err_from_is_err_and c.from_residual-in_err-patience.result
+    c.from_residual-in_err-patience.ensures.1 in
     rw (p.1, p.2)
     (then_rest (FileIs texts) (ListenIn texts) c.in_ok-path.path
-    (Err c.in_err-idle.field-0.0) c.in_ok-path.ensures
+    (Err c.in_err-patience.field-0.0) c.in_ok-path.ensures
     (then_rest (PortIs texts) (ListenOn texts c.in_ok-path.path) c.in_ok-port.port
-    (Err c.in_err-idle.field-0.0) c.in_ok-port.ensures
+    (Err c.in_err-patience.field-0.0) c.in_ok-port.ensures
     (then_rest (CountIs texts) (ListenFor texts c.in_ok-path.path c.in_ok-port.port)
-    c.in_ok-count.count (Err c.in_err-idle.field-0.0) c.in_ok-count.ensures
+    c.in_ok-count.count (Err c.in_err-patience.field-0.0) c.in_ok-count.ensures
     (then_rest (MomentIfThere texts)
     (ListenAt texts c.in_ok-path.path c.in_ok-port.port c.in_ok-count.count)
-    c.in_ok-moment.moment (Err c.in_err-idle.field-0.0) c.in_ok-moment.ensures
-    (first_fails (IdleIs texts)
+    c.in_ok-moment.moment (Err c.in_err-patience.field-0.0) c.in_ok-moment.ensures
+    (first_fails (PatienceIs texts)
     (ListenBeside texts c.in_ok-path.path c.in_ok-port.port c.in_ok-count.count
     c.in_ok-moment.moment)
-    c.in_err-idle.field-0.0 c.in_err-idle.ensures)))))
+    c.in_err-patience.field-0.0 c.in_err-patience.ensures)))))
 
 pub returns-in_err-together : goal.returns-in_err-together
 returns-in_err-together c =
@@ -93,13 +94,13 @@ returns-in_err-together c =
     (then_rest (MomentIfThere texts)
     (ListenAt texts c.in_ok-path.path c.in_ok-port.port c.in_ok-count.count)
     c.in_ok-moment.moment (Err c.in_err-together.field-0.0) c.in_ok-moment.ensures
-    (then_rest (IdleIs texts)
+    (then_rest (PatienceIs texts)
     (ListenBeside texts c.in_ok-path.path c.in_ok-port.port c.in_ok-count.count
-    c.in_ok-moment.moment) c.in_ok-idle.idle
-    (Err c.in_err-together.field-0.0) c.in_ok-idle.ensures
+    c.in_ok-moment.moment) c.in_ok-patience.patience
+    (Err c.in_err-together.field-0.0) c.in_ok-patience.ensures
     (first_fails (TogetherIs texts)
     (IsListen c.in_ok-path.path c.in_ok-port.port c.in_ok-count.count texts.issuers
-    c.in_ok-moment.moment c.in_ok-idle.idle)
+    c.in_ok-moment.moment c.in_ok-patience.patience)
     c.in_err-together.field-0.0 c.in_err-together.ensures))))))
 
 pub returns-in_err-issuers : goal.returns-in_err-issuers
@@ -118,7 +119,7 @@ returns c =
       port = c.in_ok-port.port;
       count = c.in_ok-count.count;
       together = c.in_ok-together.together;
-      idle = c.in_ok-idle.idle;
+      patience = c.in_ok-patience.patience;
       issuers = c.in_ok-issuers.issuers;
       moment = c.in_ok-moment.moment;
     })) in
@@ -130,12 +131,12 @@ returns c =
     (then_rest (MomentIfThere texts)
     (ListenAt texts c.in_ok-path.path c.in_ok-port.port c.in_ok-count.count)
     c.in_ok-moment.moment read c.in_ok-moment.ensures
-    (then_rest (IdleIs texts)
+    (then_rest (PatienceIs texts)
     (ListenBeside texts c.in_ok-path.path c.in_ok-port.port c.in_ok-count.count
     c.in_ok-moment.moment)
-    c.in_ok-idle.idle read c.in_ok-idle.ensures
+    c.in_ok-patience.patience read c.in_ok-patience.ensures
     (then_rest (TogetherIs texts)
     (IsListen c.in_ok-path.path c.in_ok-port.port c.in_ok-count.count texts.issuers
-    c.in_ok-moment.moment c.in_ok-idle.idle)
+    c.in_ok-moment.moment c.in_ok-patience.patience)
     c.in_ok-together.together read c.in_ok-together.ensures
     (refl, refl, refl, c.in_ok-issuers.ensures.given, refl, refl, refl))))))
