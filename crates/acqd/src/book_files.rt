@@ -63,10 +63,11 @@ fn size_of(rt: &HostRuntime, path: &str) -> Option<u64> {
 
 /// The path of the log, which lies beside the book where a link leads.
 fn log_of(rt: &HostRuntime, path: &str) -> Result<String, OpeningFault> {
-    match fs::canonicalize(rt, path) {
-        Ok(real) => Ok(format!(in rt.alloc(); "{}-wal", real.as_str())?),
-        Err(_) => Ok(format!(in rt.alloc(); "{path}-wal")?),
-    }
+    let log = match fs::canonicalize(rt, path) {
+        Ok(real) => format!(in rt.alloc(); "{}-wal", real.as_str()),
+        Err(_) => format!(in rt.alloc(); "{path}-wal"),
+    };
+    log.map_err(|_| OpeningFault::Memory)
 }
 
 /// Gives the log the permissions of its book, where this process may.

@@ -6,18 +6,24 @@ ghost use Rattle.std.specs.Prelude.{◌≤◌};
 
 mod book_files;
 mod open_book;
+mod standard_descriptors;
+mod standard_error;
 mod this_machine;
 
 use acq_book::Book;
 use acq_commands::Progress;
 use acq_link::{ReadSource, Sink, Source, WriteSink};
 use acq_program::{
-    Machine, SystemClock, TerminalProgress, command, memory_fault, read_fault, utf8_fault,
+    Machine, PromptLines, SystemClock, TerminalProgress, command, memory_fault, read_fault,
+    utf8_fault,
 };
 use acq_sql::SqlBook;
 pub use open_book::{make_book, migrate_book, open_book};
 use sqlite::Alter;
 use sqlite_disk::{Start, Unknown};
+use standard_descriptors::take_closed;
+use standard_error::StandardError;
+use std::cell::Cell;
 use std::env::{Env, FillError};
 use std::hash::RandomState;
 use std::io::IsTerminal;
@@ -26,6 +32,9 @@ use std::{env, io, str};
 pub use this_machine::ThisMachine;
 
 fn main(rt: HostRuntime) -> ExitCode {
+    if take_closed(&rt).is_err() {
+        return ExitCode::from(read_fault(&mut WriteSink::new(rt.stderr())));
+    }
     ExitCode::from(run(&rt, Unknown))
 }
 
@@ -34,12 +43,15 @@ fn main(rt: HostRuntime) -> ExitCode {
 fn run<D: Start>(rt: &HostRuntime, start: D) -> u8 {
     let terminal = rt.stderr();
     let terminal = terminal.is_terminal().then_some(terminal);
+    let listens = Cell::new(false);
+    let faults = PromptLines::new(rt.alloc(), StandardError::new(rt), &listens);
     run_over_files(
         rt,
         start,
+        &listens,
         &mut ReadSource::new(rt.stdin()),
         &mut WriteSink::new(rt.stdout()),
-        &mut WriteSink::new(rt.stderr()),
+        &mut WriteSink::new(faults),
         &mut TerminalProgress::new(rt, terminal),
     )
 }
@@ -49,6 +61,7 @@ fn run<D: Start>(rt: &HostRuntime, start: D) -> u8 {
 fn run_over_files<D: Start, S: Source, K: Sink, F: Sink, P: Progress>(
     rt: &HostRuntime,
     start: D,
+    listens: &Cell<bool>,
     input: &mut S,
     output: &mut K,
     faults: &mut F,
@@ -56,7 +69,7 @@ fn run_over_files<D: Start, S: Source, K: Sink, F: Sink, P: Progress>(
 ) -> u8
     ensures { result ≤ 3 }
 {
-    let machine = ThisMachine::new(rt, start);
+    let machine = ThisMachine::new(rt, start, listens);
     run_over_store(rt, machine, input, output, faults, progress)
 }
 

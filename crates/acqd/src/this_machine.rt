@@ -5,7 +5,7 @@ ghost use Rattle.acq_program.specs.BookFaults.{IsOpening};
 ghost use Rattle.acqd.specs.BookFiles.{of_opening};
 
 use crate::open_book::{make_book, migrate_book, open_book};
-use acq_commands::Fault;
+use acq_commands::{Fault, Patience};
 use acq_core::Limit;
 use acq_link::ReadSource;
 use acq_program::Machine;
@@ -17,6 +17,7 @@ use sqlite_disk::Start;
 use sqlite_std_file::FileFrom;
 use sqlite_store::FileStore;
 use std::alloc::Global;
+use std::cell::Cell;
 use std::fs::File;
 use std::net::{Ipv4Addr, TcpListener};
 
@@ -25,17 +26,19 @@ use std::net::{Ipv4Addr, TcpListener};
 pub struct ThisMachine<'a, D: Start> {
     rt: &'a HostRuntime,
     start: D,
+    /// Whether it listens, so that nothing may wait.
+    listens: &'a Cell<bool>,
 }
 
 impl<'a, D: Start> ThisMachine<'a, D> {
-    /// The machine of this runtime.
-    pub fn new(rt: &'a HostRuntime, start: D) -> ThisMachine<'a, D> {
-        ThisMachine { rt, start }
+    /// The machine of this runtime, which says there when it begins to listen.
+    pub fn new(rt: &'a HostRuntime, start: D, listens: &'a Cell<bool>) -> ThisMachine<'a, D> {
+        ThisMachine { rt, start, listens }
     }
 }
 
 impl<'a, D: Start> Machine<SqlBook<FileStore<FileFrom<D>>>> for ThisMachine<'a, D> {
-    type Connections = TcpConnections;
+    type Connections = TcpConnections<'a, HostRuntime>;
 
     type Gathering = TcpGathering<'a, HostRuntime>;
 
@@ -77,9 +80,14 @@ impl<'a, D: Start> Machine<SqlBook<FileStore<FileFrom<D>>>> for ThisMachine<'a, 
         Ok(StandIn::read(alloc, &mut ReadSource::new(file))?)
     }
 
-    fn listen_at(&self, port: u16, idle: u64) -> Result<TcpConnections, Fault> {
+    fn listen_at(
+        &self,
+        port: u16,
+        patience: Patience,
+    ) -> Result<TcpConnections<'a, HostRuntime>, Fault> {
+        self.listens.set(true);
         match TcpListener::bind(self.rt, (Ipv4Addr::LOCALHOST, port)) {
-            Ok(listener) => Ok(TcpConnections::new(listener, idle)),
+            Ok(listener) => Ok(TcpConnections::new(listener, self.rt, patience)),
             Err(_) => Err(Fault::Read),
         }
     }
@@ -88,10 +96,11 @@ impl<'a, D: Start> Machine<SqlBook<FileStore<FileFrom<D>>>> for ThisMachine<'a, 
         &self,
         alloc: Global,
         port: u16,
-        idle: u64,
+        patience: Patience,
         together: usize,
     ) -> Result<TcpGathering<'a, HostRuntime>, Fault> {
-        TcpGathering::listen(self.rt, self.rt, alloc, port, idle, together)
+        self.listens.set(true);
+        TcpGathering::listen(self.rt, self.rt, alloc, port, patience, together)
     }
 }
 
