@@ -2,8 +2,7 @@
 
 ghost use Rattle.std.specs.Prelude.{◌≡◌, ◌+◌, Err, IfErr, OnOk, Result};
 ghost use Rattle.acq_book.specs.Calls.{Looks};
-ghost use Rattle.acq_book.specs.Promise.{HasRisen};
-ghost use Rattle.acq_reports.specs.Faults.{IfStoreFailed, failed_writes, is_settled};
+ghost use Rattle.acq_reports.specs.Faults.{IfStoreFailed, StoreFailed, failed_writes, is_settled};
 ghost use Rattle.acq_reports.specs.Refusals.{day_refusal};
 ghost use Rattle.acq_reports.specs.Writing.{Reports};
 ghost use Rattle.acq_reports.specs.declared.report_fault.ReportFault as report_fault;
@@ -31,7 +30,7 @@ pub fn write_reports<B: Book, K: Sink>(
     ensures writes { B.is_honest book.new → B.is_open book.old
         → K.failures output.new ≡ K.failures output.old + failed_writes result }
     ensures looks { Looks B.Book book.old book.new (is_settled result) }
-    ensures store { IfStoreFailed result (HasRisen (B.failures book.old) (B.failures book.new)) }
+    ensures store { IfStoreFailed result (StoreFailed B.Book book.old book.new) }
 {
     for report in reports.iter() {
         write_report(alloc, book, *report, output)?;
@@ -52,7 +51,7 @@ fn write_report<B: Book, K: Sink>(
     ensures writes { B.is_honest book.new → B.is_open book.old
         → K.failures output.new ≡ K.failures output.old + failed_writes result }
     ensures looks { Looks B.Book book.old book.new (is_settled result) }
-    ensures store { IfStoreFailed result (HasRisen (B.failures book.old) (B.failures book.new)) }
+    ensures store { IfStoreFailed result (StoreFailed B.Book book.old book.new) }
 {
     match report.kind {
         ReportKind::Clearing => clearing(alloc, book, report.day, output),

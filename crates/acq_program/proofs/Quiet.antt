@@ -5,6 +5,7 @@ use Rattle.acq_program.specs.Arguments.{AsksFor}
 use Rattle.acq_program.specs.declared.action.Action.{Action}
 use Rattle.acq_program.specs.declared.action.Action.TheVariants.{Init, Migrate, Once, Listen}
 use Rattle.acq_program.specs.declared.action.Action.TheVariants.{Replay, Report, Holds, Show}
+use Rattle.acq_program.specs.declared.action.Action.TheVariants.{Pending}
 use Rattle.acq_commands.specs.Faults.{status_after, status_of}
 use Rattle.acq_commands.specs.declared.fault.Fault.{Fault}
 use Rattle.acq_commands.specs.declared.fault.Fault.TheVariants as fault
@@ -49,6 +50,8 @@ still_quiet words (Replay options) ended told mid after asks same quiet well =
 still_quiet words (Report options) ended told mid after asks same quiet well =
     inl (where_well ended (after ≡ mid) quiet well ∙ same)
 still_quiet words (Holds options) ended told mid after asks same quiet well =
+    inl (where_well ended (after ≡ mid) quiet well ∙ same)
+still_quiet words (Pending asked) ended told mid after asks same quiet well =
     inl (where_well ended (after ≡ mid) quiet well ∙ same)
 still_quiet words (Show form) ended told mid after asks same quiet well =
     inl (where_well ended (after ≡ mid) quiet well ∙ same)

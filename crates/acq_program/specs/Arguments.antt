@@ -21,6 +21,7 @@ use Rattle.acq_program.specs.Program.{program}
 use Rattle.acq_program.specs.declared.action.Action.{Action}
 use Rattle.acq_program.specs.declared.action.Action.TheVariants.{Init, Migrate, Once, Listen}
 use Rattle.acq_program.specs.declared.action.Action.TheVariants.{Replay, Report, Holds, Show}
+use Rattle.acq_program.specs.declared.action.Action.TheVariants.{Pending}
 use Rattle.acq_commands.specs.declared.day_report.DayReport.{DayReport}
 use Rattle.acq_commands.specs.declared.input_form.InputForm.{InputForm}
 use Rattle.acq_commands.specs.declared.input_form.InputForm.TheVariants as form
@@ -176,6 +177,12 @@ GivesNoDay (Some text) = IsNoDateText text
 abbrev pub DayIs : OptionTexts → Result ℕ OptionName → Type 0
 DayIs texts (Ok day) = GivesDay texts.day day
 DayIs texts (Err name) = (name ≡ option.Day) × GivesNoDay texts.day
+
+-- such a day, where the option is there
+abbrev pub DayIfThere : OptionTexts → Result (Option ℕ) OptionName → Type 0
+DayIfThere texts (Ok None) = texts.day ≡ None
+DayIfThere texts (Ok (Some day)) = texts.day ≡ Some (date_text_of day)
+DayIfThere texts (Err name) = (name ≡ option.Day) × GivesNoDay texts.day
 
 -- a merchant, as event lines have it
 abbrev pub MerchantIs : OptionTexts → Result (List ℕ) OptionName → Type 0
@@ -412,6 +419,26 @@ HoldsIn texts path = Then (MerchantIs texts) (HoldsOf texts path)
 abbrev pub AsksHolds : OptionTexts → Result Action OptionName → Type 0
 AsksHolds texts = Then (FileIs texts) (HoldsIn texts)
 
+-- answers to what is pending in this book on this day, by this file of issuers' answers, at this
+-- moment
+abbrev pub IsPending
+    : String Global → Option ℕ → Option Text → Option ℕ → Result Action OptionName → Type 0
+IsPending path day issuers moment (Ok (Pending asked)) =
+    (asked.path ≡ path) × (asked.day ≡ day)
+    × (option_map string_bytes asked.issuers ≡ issuers) × (asked.moment ≡ moment)
+IsPending path day issuers moment other = ⊥
+
+abbrev pub PendingOn
+    : OptionTexts → String Global → Option ℕ → Result Action OptionName → Type 0
+PendingOn texts path day = Then (MomentIfThere texts) (IsPending path day texts.issuers)
+
+abbrev pub PendingIn : OptionTexts → String Global → Result Action OptionName → Type 0
+PendingIn texts path = Then (DayIfThere texts) (PendingOn texts path)
+
+-- what `pending` is asked for: the file first, then the day, then the moment
+abbrev pub AsksPending : OptionTexts → Result Action OptionName → Type 0
+AsksPending texts = Then (FileIs texts) (PendingIn texts)
+
 abbrev pub AsksShow : OptionTexts → Result Action OptionName → Type 0
 AsksShow texts read = read ≡ Ok (Show (form_of_flag texts.hex))
 
@@ -436,6 +463,7 @@ Asks (Some command) asked =
     ⊎ Names (codes "show") AsksShow command asked
     ⊎ Names (codes "listen") AsksListen command asked
     ⊎ Names (codes "migrate") AsksMigrate command asked
+    ⊎ Names (codes "pending") AsksPending command asked
 
 -- nothing is wrong with the words by clap's rules, and they ask for this
 abbrev pub AsksFor : List Text → Result Action OptionName → Type 0

@@ -1,4 +1,6 @@
--- Why a book is not opened.
+-- Why a book is not opened, and why what is pending in it is not answered.
+use Rattle.std.specs.Prelude.{◌⊎◌}
+use Rattle.acq_commands.specs.Faults.{IsOfAnswers, IsReporting}
 use Rattle.acq_commands.specs.declared.fault.Fault.{Fault}
 use Rattle.acq_commands.specs.declared.fault.Fault.TheVariants.{Memory, Store, NotABook}
 use Rattle.acq_commands.specs.declared.fault.Fault.TheVariants.{OtherVersion}
@@ -10,3 +12,8 @@ IsOpening Store = Unit {0}
 IsOpening NotABook = Unit {0}
 IsOpening (OtherVersion version) = Unit {0}
 IsOpening other = ⊥
+
+-- why what is pending was not answered: the book was not opened, the file of issuers' answers gave
+-- none, or the answers were not written whole
+abbrev pub IsOfPending : Fault → Type 0
+IsOfPending fault = IsOpening fault ⊎ IsOfAnswers fault ⊎ IsReporting fault

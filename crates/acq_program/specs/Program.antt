@@ -75,6 +75,13 @@ holds =
     with_rule (with_rule (with_rule (new_app (codes "holds"))
     (required (codes "db"))) (required (codes "merchant"))) (required (codes "at"))
 
+-- `pending --db FILE [--day DAY] [--issuers FILE] [--at MOMENT]`
+abbrev pub pending : App
+pending =
+    with_rule (with_rule (with_rule (with_rule (new_app (codes "pending"))
+    (required (codes "db"))) (option (codes "day"))) (option (codes "issuers")))
+    (option (codes "at"))
+
 -- `show [--hex]`
 abbrev pub show : App
 show = with_rule (new_app (codes "show")) (flag (codes "hex"))
@@ -95,5 +102,6 @@ making =
 -- the program and its commands
 abbrev pub program : App
 program =
-    with_subcommand (with_subcommand (with_subcommand (with_subcommand making
-    (on_a_day (codes "clearing")).top) (on_a_day (codes "report")).top) holds.top) show.top
+    with_subcommand (with_subcommand (with_subcommand (with_subcommand (with_subcommand making
+    (on_a_day (codes "clearing")).top) (on_a_day (codes "report")).top) holds.top) pending.top)
+    show.top

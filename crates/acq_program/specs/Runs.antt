@@ -5,6 +5,7 @@ use Rattle.acq_link.specs.Moves.{TakesAll}
 use Rattle.acq_program.specs.declared.action.Action.{Action}
 use Rattle.acq_program.specs.declared.action.Action.TheVariants.{Init, Migrate, Once, Listen}
 use Rattle.acq_program.specs.declared.action.Action.TheVariants.{Replay, Report, Holds, Show}
+use Rattle.acq_program.specs.declared.action.Action.TheVariants.{Pending}
 use Rattle.acq_program.specs.declared.option_name.OptionName.{OptionName}
 use Rattle.acq_program.specs.Arguments.{AsksFor}
 use Rattle.acq_front.specs.Talk.{Saying, says_nothing}
@@ -70,6 +71,7 @@ Does (Replay options) remaining received sent ended =
     × ReadsWhole remaining received.before received.after ended
 Does (Report options) remaining received sent ended = received.after ≡ received.before
 Does (Holds options) remaining received sent ended = received.after ≡ received.before
+Does (Pending asked) remaining received sent ended = received.after ≡ received.before
 Does (Show form) remaining received sent ended =
     RunsShow form received sent ended
     × ReadsWhole remaining received.before received.after ended

@@ -1,5 +1,6 @@
 //! What the program is asked to do.
 
+use crate::pending_options::PendingOptions;
 use acq_commands::{
     BookReport, HoldsOptions, InputForm, ListenOptions, NewBook, OnceOptions, ReplayOptions,
 };
@@ -21,6 +22,8 @@ pub enum Action {
     Report(BookReport),
     /// Write the open holds of a merchant.
     Holds(HoldsOptions),
+    /// Write answers to the requests that are pending.
+    Pending(PendingOptions),
     /// Show the messages of the input, which stand there in this form, to a person.
     Show(InputForm),
 }

@@ -4,6 +4,7 @@ ghost use Rattle.std.specs.Prelude.{◌≡◌, IfErr, IfOk, codes, map, option_m
 ghost use Rattle.clap.specs.Words.{first_value, found_of};
 ghost use Rattle.acq_program.specs.Arguments.{AsksHolds, AsksInit, AsksListen};
 ghost use Rattle.acq_program.specs.Arguments.{AsksMigrate, AsksOnce};
+ghost use Rattle.acq_program.specs.Arguments.{AsksPending, DayIfThere};
 ghost use Rattle.acq_program.specs.Arguments.{AsksReplay, AsksReport, CountIs, DayIs, FileIs};
 ghost use Rattle.acq_program.specs.Arguments.{FrameWithinIs, IdleIs, IdleWhenFullIs};
 ghost use Rattle.acq_program.specs.Arguments.{IsNoMemory, LimitIs, MerchantIs};
@@ -14,6 +15,7 @@ ghost use Rattle.acq_program.specs.Arguments.{found_texts};
 use crate::action::Action;
 use crate::option_name::OptionName;
 use crate::options::{count_of, limit_of, port_of, seconds_of, together_of};
+use crate::pending_options::PendingOptions;
 use crate::program::program;
 use crate::usage_fault::UsageFault;
 use crate::wanted_reports::add_reports;
@@ -52,6 +54,7 @@ pub fn action_of<W: AsStr>(alloc: Global, args: &[W]) -> Result<Action, UsageFau
         Some(("clearing", options)) => report_of(alloc, ReportKind::Clearing, options),
         Some(("report", options)) => report_of(alloc, ReportKind::Settlement, options),
         Some(("holds", options)) => holds_of(alloc, options),
+        Some(("pending", options)) => pending_of(alloc, options),
         Some(("show", options)) => Ok(Action::Show(form_of(options))),
         _ => Err(Error::from(AllocError).into()),
     }
@@ -165,6 +168,22 @@ fn holds_of(alloc: Global, options: &ArgMatches) -> Result<Action, UsageFault>
     }))
 }
 
+/// What `pending` is asked for.
+fn pending_of(alloc: Global, options: &ArgMatches) -> Result<Action, UsageFault>
+    ensures { Reads (AsksPending (found_texts (found_of options.now))) result }
+{
+    let path = file_option(alloc, options)?;
+    let day = day_if_there(options)?;
+    let moment = moment_if_there(options)?;
+    let issuers = issuers_option(alloc, options)?;
+    Ok(Action::Pending(PendingOptions {
+        path,
+        day,
+        issuers,
+        moment,
+    }))
+}
+
 /// The path of the book's file.
 fn file_option(alloc: Global, options: &ArgMatches) -> Result<String, UsageFault>
     ensures { Reads (FileIs (found_texts (found_of options.now))) result }
@@ -216,6 +235,19 @@ fn day_option(options: &ArgMatches) -> Result<Day, UsageFault>
     match options.get_str("day") {
         Some(text) => Day::read(text).ok_or(UsageFault::BadValue(OptionName::Day)),
         None => Ok(first_day_of_all()),
+    }
+}
+
+/// The day that is asked for, where the option is there.
+fn day_if_there(options: &ArgMatches) -> Result<Option<Day>, UsageFault>
+    ensures { Reads (DayIfThere (found_texts (found_of options.now))) result }
+{
+    let Some(text) = options.get_str("day") else {
+        return Ok(None);
+    };
+    match Day::read(text) {
+        Some(day) => Ok(Some(day)),
+        None => Err(UsageFault::BadValue(OptionName::Day)),
     }
 }
 

@@ -6,6 +6,7 @@ ghost use Rattle.clap.specs.declared.builder.action.ArgAction.TheVariants.{Appen
 ghost use Rattle.acq_program.specs.Program.{holds, init, listen, listen_at_moment};
 ghost use Rattle.acq_program.specs.Program.{listen_at_port, making};
 ghost use Rattle.acq_program.specs.Program.{migrate, on_a_day, once, option};
+ghost use Rattle.acq_program.specs.Program.{pending};
 ghost use Rattle.acq_program.specs.Program.{option_with_value, program, replay, required, show};
 
 use clap::{Arg, ArgAction, Command};
@@ -93,7 +94,8 @@ Connections are taken on 127.0.0.1 at this port, so that a proxy on the same mac
 front. The frames of each are answered as `once` answers those on standard input; then the next one
 is served. With --together M, up to M connections are served at once, one message of each in turn, so
 that none waits for another one's bytes. What they change is in the file before the reply goes out; a
-stop at any moment leaves all events so far.
+stop at any moment leaves all events so far, and may leave a request without its issuer's answer,
+which `acqd pending` then writes.
 
 A connection that is silent for the SECONDS of --idle, or takes nothing of a reply for so long, is
 closed as one whose read or write failed. So is one whose frame takes longer than --frame-within,
@@ -183,7 +185,8 @@ file failed. A fault is one line on standard error, and what was written before 
   acqd: 41 OtherVersion VERSION    the file holds a book of this other version
   acqd: 54 Write BYTES             a write failed after so many bytes of the text
   acqd: 60 DayNotOver              the business day isn't over
-  acqd: 61 StillPending REQUESTS   so many requests of that day have no answer yet";
+  acqd: 61 StillPending REQUESTS   so many requests of that day have no answer yet; `acqd pending`
+                                   writes answers";
 
 const ABOUT_HOLDS: &str = "Writes the open holds of a merchant at a moment";
 
@@ -203,6 +206,35 @@ file failed. A fault is one line on standard error, and what was written before 
 
 Example:
   acqd holds --db book.db --merchant MERCHANT0000001 --at 1714555800";
+
+const ABOUT_PENDING: &str = "Writes answers to the requests that wait for their issuer's";
+
+const MORE_OF_PENDING: &str = "\
+A request whose issuer was asked waits until the answer comes as an event. A stop of `listen` in
+between leaves it so: its repeats get nothing, and its day can't be cleared. For each such request,
+of all days or of one, a line goes to standard output that `acqd replay` takes as it stands, in the
+order in which the requests came:
+  answer,MOMENT,MERCHANT,REFERENCE,VERDICT,TEXT
+Nothing in the book is changed until these lines are replayed. Put them into a file, and no pipe: one
+program has a book at a time.
+
+With --issuers the verdict is what this file says of the request's card, as for `once`. Without it,
+and for a card that isn't there, it is `none`: the reply is then code 91, and nothing is posted.
+MOMENT counts seconds since 1970-01-01 00:00:00 UTC.
+
+The status is 0 where all is well, 1 for a fault, 2 for wrong usage, 3 where memory ran out or the
+file failed. A fault is one line on standard error, and what was written before it stands:
+  acqd: 1 Memory
+  acqd: 2 Store                    the file can't be opened or read
+  acqd: 23 BadLine RECORD          this record of the issuers' file is out of its form
+  acqd: 40 NotABook                the file holds no book
+  acqd: 41 OtherVersion VERSION    the file holds a book of this other version
+  acqd: 53 Read                    the issuers' file can't be read
+  acqd: 54 Write BYTES             a write failed after so many bytes of the text
+
+Example:
+  acqd pending --db book.db > answers.csv
+  acqd replay --db book.db < answers.csv";
 
 const ABOUT_SHOW: &str = "Shows the messages on standard input to a person";
 
@@ -229,6 +261,8 @@ const FILE_OR_MEMORY: &str = "The file of the book [default: a new book in memor
 
 const ISSUERS: &str = "The file of issuers' answers [default: no issuer can be reached]";
 
+const ANSWERING: &str = "The file of issuers' answers [default: `none` for each]";
+
 const COMING_AT: &str =
     "The moment at which all frames come, 946684800 to 4102444799 [default: the clock's]";
 
@@ -241,6 +275,7 @@ pub(crate) fn program<'a>(alloc: Global) -> Result<Command<'a>, AllocError>
         .subcommand(clearing)?
         .subcommand(report)?
         .subcommand(holds_command(alloc)?)?
+        .subcommand(pending_command(alloc)?)?
         .subcommand(show_command(alloc)?)
 }
 
@@ -416,6 +451,28 @@ fn holds_command<'a>(alloc: Global) -> Result<Command<'a>, AllocError>
         "at",
         "MOMENT",
         "The moment, 946684800 to 4102444799",
+    )
+}
+
+fn pending_command<'a>(alloc: Global) -> Result<Command<'a>, AllocError>
+    ensures { IfOk result (λ made. app_of made ≡ pending) }
+{
+    let command = command(alloc, "pending", ABOUT_PENDING, MORE_OF_PENDING);
+    let command = with_required(alloc, command, "db", "FILE", "The file of the book")?;
+    let command = with_option(
+        alloc,
+        command,
+        "day",
+        "YYYY-MM-DD",
+        "The business day of the requests [default: all days]",
+    )?;
+    let command = with_option(alloc, command, "issuers", "FILE", ANSWERING)?;
+    with_option(
+        alloc,
+        command,
+        "at",
+        "MOMENT",
+        "The moment of the answers, 946684800 to 4102444799 [default: the clock's]",
     )
 }
 

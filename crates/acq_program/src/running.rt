@@ -10,6 +10,7 @@ ghost use Rattle.acq_program.specs.Runs.{Does, IsQuiet, IsUntouched, MayCome, Re
 ghost use Rattle.acq_program.specs.Runs.{ServesAsked, ServesIn, Tells};
 
 use crate::machine::Machine;
+use crate::pending::answer_pending;
 use crate::{Action, UsageFault, action_of};
 use acq_book::Book;
 use acq_commands::{
@@ -120,6 +121,7 @@ fn run<B: Book + Drop, M: Machine<B> + Drop, C: Clock, S: Source, K: Sink, F: Si
             let book = machine.open_book(options.path.as_str())?;
             holds_of(alloc, book, &options, output)
         }
+        Action::Pending(asked) => answer_pending(alloc, machine, &asked, clock, output),
         Action::Show(form) => show(alloc, form, input, output),
     }
 }

@@ -9,3 +9,4 @@ pub mod LinesReadBack
 pub mod ReadBack
 pub mod SumsInOrder
 pub mod Cleared
+pub mod Adding

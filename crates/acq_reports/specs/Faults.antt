@@ -1,7 +1,9 @@
 -- The faults' numbers and texts, what a fault of the book is, and how many writes failed.
-use Rattle.std.specs.Prelude.{ℕ, List, ◌++◌, [], Bool, true, false, codes, Result, Ok, Err}
+use Rattle.std.specs.Prelude.{◌⊎◌, ℕ, List, ◌++◌, [], Bool, true, false, codes, Result, Ok, Err}
 use Rattle.std.specs.Fmt.{decimal}
+use Rattle.acq_book.specs.declared.book.Book.{Ghosts}
 use Rattle.acq_book.specs.declared.book_fault.BookFault as book
+use Rattle.acq_book.specs.Promise.{HasRisen}
 use Rattle.acq_reports.specs.declared.report_fault.ReportFault.{ReportFault}
 use Rattle.acq_reports.specs.declared.report_fault.ReportFault.TheVariants.{Memory, Store}
 use Rattle.acq_reports.specs.declared.report_fault.ReportFault.TheVariants.{NoSuchMerchant, Write}
@@ -43,10 +45,16 @@ abbrev pub of_book : book.BookFault → ReportFault
 of_book book.TheVariants.Memory = Memory
 of_book book.TheVariants.Store = Store
 
--- a fault of the store is reported only where a call of it failed
+-- a fault of the store is reported only so
 abbrev pub IfStoreFailed : {T : Type 0} → Result T ReportFault → Type 0 → Type 0
 IfStoreFailed (Err Store) failed = failed
 IfStoreFailed _ failed = Unit {0}
+
+-- a call of the store failed, or the book doesn't add up, which no book does that is honest and was
+-- open
+abbrev pub StoreFailed : {S : Type 0} → Ghosts S → S → S → Type 0
+StoreFailed book old new =
+    HasRisen (book.failures old) (book.failures new) ⊎ ¬ (book.is_honest new × book.is_open old)
 
 -- how many writes failed
 abbrev pub writes_failed : ReportFault → ℕ

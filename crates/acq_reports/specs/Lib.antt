@@ -7,4 +7,5 @@ pub mod OpenHolds
 pub mod Refusals
 pub mod Writing
 pub mod Naming
+pub mod DaySums
 pub mod Worked

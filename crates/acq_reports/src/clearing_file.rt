@@ -4,15 +4,17 @@ ghost use Rattle.std.specs.Prelude.{◌≡◌, ◌+◌, ◌∷◌, [], IfOk};
 ghost use Rattle.acq_book.specs.Calls.{Looks};
 ghost use Rattle.acq_book.specs.Promise.{HasRisen};
 ghost use Rattle.acq_reports.specs.ClearingFile.{clearing_text, posting_line};
-ghost use Rattle.acq_reports.specs.Faults.{IfStoreFailed, failed_writes, is_settled};
+ghost use Rattle.acq_reports.specs.Faults.{IfStoreFailed, StoreFailed, failed_writes, is_settled};
 ghost use Rattle.acq_reports.specs.Marks.{csv_line, leg_name};
 ghost use Rattle.acq_reports.specs.Refusals.{day_refusal};
 ghost use Rattle.acq_reports.specs.Writing.{Reports, Writes};
 
+use crate::names::merchant_names;
 use crate::records::record_text;
 use crate::refusals::check_day;
 use crate::report::Report;
 use crate::report_fault::ReportFault;
+use crate::sums::check_sums;
 use acq_book::{Book, Visit};
 use acq_core::Posting;
 use acq_link::Sink;
@@ -28,8 +30,12 @@ const HEADER: &[u8] = b"day,merchant,number,leg,amount,reference,card,terminal,t
 /// numbers. Days are written YYYY-MM-DD, amounts in minor units. Card numbers stand whole, since
 /// the networks clear by them: where the file goes is the caller's to guard.
 ///
-/// It fails with `DayNotOver` or `StillPending` before anything is written. `Write` tells how many
-/// bytes of the text went out; with `Memory` and `Store` a beginning of it may have.
+/// It fails with `DayNotOver` or `StillPending` before anything is written, and so with `Store`
+/// where a merchant's postings don't add up to its totals: then the store isn't honest. `Write`
+/// tells how many bytes of the text went out; with `Memory` and `Store` a beginning of it may have.
+///
+/// The merchants' names are held in memory, and of those that have postings the sums.
+#[tactic(auto, using(crate::proofs::Chains::looks_more, crate::proofs::Chains::failed_later))]
 pub fn clearing<B: Book, K: Sink>(
     alloc: Global,
     book: &mut B,
@@ -42,9 +48,11 @@ pub fn clearing<B: Book, K: Sink>(
     ensures writes { B.is_honest book.new → B.is_open book.old
         → K.failures writer.new ≡ K.failures writer.old + failed_writes result }
     ensures looks { Looks B.Book book.old book.new (is_settled result) }
-    ensures store { IfStoreFailed result (HasRisen (B.failures book.old) (B.failures book.new)) }
+    ensures store { IfStoreFailed result (StoreFailed B.Book book.old book.new) }
 {
     check_day(book, day)?;
+    let names = merchant_names(alloc, book)?;
+    check_sums(alloc, book, day, names.as_slice())?;
     write_postings(alloc, book, day, writer)
 }
 

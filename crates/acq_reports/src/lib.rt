@@ -2,7 +2,8 @@
 //! merchant's open holds.
 //!
 //! [`clearing`] and [`open_holds`] write a line for each row that the book hands over, and keep
-//! none of them; [`settlement`] keeps the merchants' names alone. The texts are defined over the
+//! none of them. [`clearing`] and [`settlement`] compare the day's postings with its totals first,
+//! and keep the merchants' names and sums meanwhile. The texts are defined over the
 //! tables in `specs/ClearingFile.antt`, `specs/SettlementReport.antt` and `specs/OpenHolds.antt`.
 //! What writes another text of a book's rows holds a [`Report`], which tells how far it went out,
 //! and makes its lines by [`record_text`].
@@ -12,7 +13,9 @@ mod clearing_file;
 mod hold_ends;
 mod holds;
 pub mod laws;
+mod leg_sum;
 mod masks;
+mod merchant_sums;
 mod names;
 mod records;
 mod refusals;
@@ -20,6 +23,7 @@ mod report;
 mod report_fault;
 mod settlement_report;
 mod stop;
+mod sums;
 
 pub use clearing_file::clearing;
 pub use holds::open_holds;

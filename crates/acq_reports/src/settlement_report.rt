@@ -6,7 +6,7 @@ ghost use Rattle.std.specs.Fmt.{decimal};
 ghost use Rattle.std.specs.List.{flat_map};
 ghost use Rattle.acq_book.specs.Calls.{Looks};
 ghost use Rattle.acq_book.specs.Promise.{HasRisen, IfStore};
-ghost use Rattle.acq_reports.specs.Faults.{IfStoreFailed, failed_writes, is_settled};
+ghost use Rattle.acq_reports.specs.Faults.{IfStoreFailed, StoreFailed, failed_writes, is_settled};
 ghost use Rattle.acq_reports.specs.Marks.{dotted};
 ghost use Rattle.acq_reports.specs.Refusals.{day_refusal};
 ghost use Rattle.acq_reports.specs.SettlementReport.{settlement_text, report_on, merchant_line};
@@ -20,6 +20,7 @@ use crate::names::merchant_names;
 use crate::refusals::check_day;
 use crate::report::Report;
 use crate::report_fault::ReportFault;
+use crate::sums::check_sums;
 use acq_book::{Book, BookFault};
 use acq_core::{MerchantId, Reconciliation};
 use acq_link::Sink;
@@ -35,11 +36,12 @@ const LINE: usize = 144;
 /// bytes, and a last line with the number of merchants. Amounts are in minor units.
 ///
 /// The merchants' names are held in memory meanwhile, fifteen bytes for each, since a book is lent
-/// to its walk; no posting is.
+/// to its walk, and of those that have postings the sums; no posting is.
 ///
-/// It fails with `DayNotOver` or `StillPending` before anything is written. `Write` tells how many
-/// bytes of the text went out; with `Memory` and `Store` a beginning of it may have.
-#[tactic(auto, using(crate::proofs::Chains::looks_more))]
+/// It fails with `DayNotOver` or `StillPending` before anything is written, and so with `Store`
+/// where a merchant's postings don't add up to its totals: then the store isn't honest. `Write`
+/// tells how many bytes of the text went out; with `Memory` and `Store` a beginning of it may have.
+#[tactic(auto, using(crate::proofs::Chains::looks_more, crate::proofs::Chains::failed_later))]
 pub fn settlement<B: Book, K: Sink>(
     alloc: Global,
     book: &mut B,
@@ -52,10 +54,11 @@ pub fn settlement<B: Book, K: Sink>(
     ensures writes { B.is_honest book.new → B.is_open book.old
         → K.failures writer.new ≡ K.failures writer.old + failed_writes result }
     ensures looks { Looks B.Book book.old book.new (is_settled result) }
-    ensures store { IfStoreFailed result (HasRisen (B.failures book.old) (B.failures book.new)) }
+    ensures store { IfStoreFailed result (StoreFailed B.Book book.old book.new) }
 {
     check_day(book, day)?;
     let names = merchant_names(alloc, book)?;
+    check_sums(alloc, book, day, names.as_slice())?;
     write_report(alloc, book, day, names.as_slice(), writer)
 }
 

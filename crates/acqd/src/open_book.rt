@@ -3,25 +3,29 @@
 ghost use Rattle.std.specs.Prelude.{◌≡◌, IfOk, false};
 ghost use Rattle.sqlite_wal.specs.Files.{image_at};
 ghost use Rattle.sqlite.specs.Files.{IsOpened, file_state};
+ghost use Rattle.sqlite.specs.Held.{state};
 ghost use Rattle.sqlite.specs.Start.{FindsIn};
-ghost use Rattle.sqlite.specs.State.{HasCleanDisk};
+ghost use Rattle.sqlite.specs.State.{HasCleanDisk, Survives};
 ghost use Rattle.card_no.specs.Prefix.{six_digits};
 ghost use Rattle.acq_core.specs.Pasts.{HasPast, HasPastUnder};
 ghost use Rattle.acq_core.specs.Tables.{Tables, new_tables};
 ghost use Rattle.acq_core.specs.Widening.{widened_tables};
 ghost use Rattle.acq_sql_rows.specs.Rows.{version_of_six_digits};
+ghost use Rattle.acq_sql_changes.specs.Changed.{HoldsAfter, IsAt};
+ghost use Rattle.acq_sql.specs.Migrated.{IsOfSixDigits};
 ghost use Rattle.acq_sql.specs.Opened.{IsOpenAt};
 ghost use Rattle.acqd.specs.BookFiles.{FilesHold, FilesHoldOf};
 
 use crate::book_files::{find_book, make_room};
 use acq_core::Limit;
 use acq_sql::opening::{an_open_finds_a_book_of_any_version, an_open_finds_the_book};
-use acq_sql::{OpeningFault, Refusal, SqlBook};
+use acq_sql::{OpeningFault, SqlBook};
 use day_totals::Day;
-use sqlite::Connection;
+use sqlite::{Alter, Connection};
 use sqlite_disk::Start;
 use sqlite_std_file::FileFrom;
 use sqlite_store::FileStore;
+use std::alloc::Global;
 
 /// Opens the book in the file at a path and its log, of which `D` says what they hold before it.
 /// Where they hold a book, this is it, at the tables that the last whole change led to. Where the
@@ -37,9 +41,9 @@ pub fn open_book<D: Start>(
     find_book(rt, path)?;
     let connection = connect(rt, path, start)?;
     an_open_finds_the_book(&connection);
-    match SqlBook::adopt(rt.alloc(), connection) {
+    match adopted(rt.alloc(), connection) {
         Ok(book) => Ok(book),
-        Err(refusal) => Err(fault_of(refusal)),
+        Err(fault) => Err(fault),
     }
 }
 
@@ -59,9 +63,9 @@ pub fn make_book<D: Start>(
 {
     make_room(rt, path)?;
     let connection = connect(rt, path, start)?;
-    match SqlBook::create(rt.alloc(), connection, limit, first_day) {
+    match created(rt.alloc(), connection, limit, first_day) {
         Ok(book) => Ok(book),
-        Err(refusal) => Err(fault_of(refusal)),
+        Err(fault) => Err(fault),
     }
 }
 
@@ -79,19 +83,68 @@ pub fn migrate_book<D: Start>(
     find_book(rt, path)?;
     let connection = connect(rt, path, start)?;
     an_open_finds_a_book_of_any_version(&connection);
-    match SqlBook::migrate(rt.alloc(), connection) {
+    match migrated(rt.alloc(), connection) {
         Ok(book) => Ok(book),
-        Err(refusal) => Err(fault_of(refusal)),
+        Err(fault) => Err(fault),
     }
 }
 
-/// Why a database was refused; its files are closed.
-fn fault_of<D: Start>(refusal: Refusal<FileStore<FileFrom<D>>>) -> OpeningFault
-    ensures { result ≡ refusal.fault }
+// What follows is said of any store: a proof over that of this machine alone takes minutes.
+
+/// The book that a database holds. One that is refused is closed.
+fn adopted<S: Alter + Drop>(
+    alloc: Global,
+    connection: Connection<S>,
+) -> Result<SqlBook<S>, OpeningFault>
+    requires settled { connection.in_transaction ≡ false }
+    ensures same { IfOk result (λ book. HasCleanDisk (state S.Store book.connection)
+        → (t : Tables) → IsAt (state S.Store connection) t → HasPast t
+        → IsOpenAt (state S.Store book.connection) t) }
+    ensures stop { IfOk result (λ book.
+        Survives (state S.Store connection) (state S.Store book.connection) (λ _. ⊥)) }
 {
-    let Refusal { fault, connection } = refusal;
-    drop(connection);
-    fault
+    match SqlBook::adopt(alloc, connection) {
+        Ok(book) => Ok(book),
+        Err(refusal) => Err(refusal.fault),
+    }
+}
+
+/// A new book in a database. One that is refused is closed.
+fn created<S: Alter + Drop>(
+    alloc: Global,
+    connection: Connection<S>,
+    limit: Limit,
+    first_day: Day,
+) -> Result<SqlBook<S>, OpeningFault>
+    requires settled { connection.in_transaction ≡ false }
+    ensures { IfOk result (λ book. HasCleanDisk (state S.Store book.connection)
+        → IsOpenAt (state S.Store book.connection)
+        (new_tables (record { limit = limit; first_day = first_day }))) }
+{
+    match SqlBook::create(alloc, connection, limit, first_day) {
+        Ok(book) => Ok(book),
+        Err(refusal) => Err(refusal.fault),
+    }
+}
+
+/// The book of version 1 that a database holds, migrated. One that is refused is closed.
+fn migrated<S: Alter + Drop>(
+    alloc: Global,
+    connection: Connection<S>,
+) -> Result<SqlBook<S>, OpeningFault>
+    requires settled { connection.in_transaction ≡ false }
+    ensures done { IfOk result (λ book. HasCleanDisk (state S.Store book.connection)
+        → (t : Tables) → IsOfSixDigits (state S.Store connection) t
+        → IsOpenAt (state S.Store book.connection) (widened_tables t)) }
+    ensures stop { IfOk result (λ book.
+        Survives (state S.Store connection) (state S.Store book.connection)
+        (λ trees. (t : Tables) → IsOfSixDigits (state S.Store connection) t
+        → HoldsAfter (widened_tables t) trees)) }
+{
+    match SqlBook::migrate(alloc, connection) {
+        Ok(book) => Ok(book),
+        Err(refusal) => Err(refusal.fault),
+    }
 }
 
 /// Opens the files at a path.

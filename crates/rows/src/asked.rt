@@ -4,6 +4,7 @@ use acq_book::Book;
 use acq_core::{MerchantId, Moment};
 use acq_link::Sink;
 use acq_reports::{ReportFault, clearing, open_holds, settlement};
+use acq_stand_in::{StandIn, answers_to_pending};
 use day_totals::Day;
 use std::alloc::Global;
 
@@ -16,10 +17,15 @@ pub enum Asked {
     Settlement(Day),
     /// The holds of a merchant that are open at a moment.
     Holds(MerchantId, Moment),
+    /// The answers to all requests that wait, at a moment, where no issuer answers.
+    Pending(Moment),
+    /// Those to the requests of a day.
+    PendingOn(Moment, Day),
 }
 
 impl Asked {
-    /// What these words ask for: `clearing DAY`, `report DAY` or `holds MOMENT MERCHANT`.
+    /// What these words ask for: `clearing DAY`, `report DAY`, `holds MOMENT MERCHANT`, `pending
+    /// MOMENT` or `pending MOMENT DAY`.
     pub fn read(word: &str, rest: &str) -> Option<Asked> {
         match word {
             "clearing" => Some(Asked::Clearing(Day::read(rest)?)),
@@ -31,6 +37,13 @@ impl Asked {
                     Moment::from_seconds(moment.parse().ok()?)?,
                 ))
             }
+            "pending" => match rest.split_once(' ') {
+                Some((moment, day)) => Some(Asked::PendingOn(
+                    Moment::from_seconds(moment.parse().ok()?)?,
+                    Day::read(day)?,
+                )),
+                None => Some(Asked::Pending(Moment::from_seconds(rest.parse().ok()?)?)),
+            },
             _ => None,
         }
     }
@@ -46,6 +59,13 @@ impl Asked {
             Asked::Clearing(day) => clearing(alloc, book, day, text),
             Asked::Settlement(day) => settlement(alloc, book, day, text),
             Asked::Holds(merchant, moment) => open_holds(alloc, book, merchant, moment, text),
+            Asked::Pending(moment) => {
+                answers_to_pending(alloc, book, &StandIn::silent(alloc), None, moment, text)
+            }
+            Asked::PendingOn(moment, day) => {
+                let silent = StandIn::silent(alloc);
+                answers_to_pending(alloc, book, &silent, Some(day), moment, text)
+            }
         }
     }
 }

@@ -1,9 +1,10 @@
-use Rattle.std.proofs.Common.{◌≡◌, ◌∙◌, map, Some, [], codes, ap, sym, subst, inl, inr, refl}
+use Rattle.std.proofs.Common.{◌≡◌, ◌∙◌, map, Some, [], codes, ap, sym, subst, inl, inr}
 use Rattle.std.proofs.lemmas.Result.{err_from_is_err_and}
 use Rattle.std.specs.Prelude.{Ok}
 use Rattle.clap.specs.Words.{App, HasKind, app_of, fault_of, found_of, is_simple_and_free, rows_of}
 use Rattle.acq_program.specs.Arguments.{AsksHolds, AsksInit, AsksListen, AsksMigrate}
 use Rattle.acq_program.specs.Arguments.{AsksOnce, AsksReplay, AsksReport, AsksShow}
+use Rattle.acq_program.specs.Arguments.{AsksPending}
 use Rattle.acq_program.specs.declared.action.Action.TheVariants.{Show}
 use Rattle.acq_commands.specs.declared.input_form.InputForm.{InputForm}
 use Rattle.acq_commands.specs.declared.report_kind.ReportKind.TheVariants as kinds
@@ -146,7 +147,7 @@ returns-in-Some-migrate-default g c =
     let it = c.in-Some-migrate-default in
     let found = found_of it.options.now in
     reads_command (codes "migrate") AsksMigrate
-    (λ command asked h. inr (inr (inr (inr (inr (inr (inr (inr h)))))))) words found
+    (λ command asked h. inr (inr (inr (inr (inr (inr (inr (inr (inl h))))))))) words found
     (subst (λ (a : App). fault_of a words ≡ []) made
     (c.in_ok-matches.ensures.kinds (ap is_simple_and_free made ∙ is_simple_and_free-program)))
     (named c.in_ok-matches.matches (app_of c.in_ok-program.field-0) words (codes "migrate")
@@ -154,3 +155,19 @@ returns-in-Some-migrate-default g c =
     c.in_ok-matches.ensures.matches (ap Some (sym it.is-migrate) ∙ it.ensures.name)
     it.ensures.rows)
     c.migrate_of.result c.migrate_of.ensures
+
+pub returns-in-Some-pending-default : goal.returns-in-Some-pending-default
+returns-in-Some-pending-default g c =
+    let made = c.in_ok-program.ensures in
+    let words = map g.W.AsStr.text c.args.args.now in
+    let it = c.in-Some-pending-default in
+    let found = found_of it.options.now in
+    reads_command (codes "pending") AsksPending
+    (λ command asked h. inr (inr (inr (inr (inr (inr (inr (inr (inr h))))))))) words found
+    (subst (λ (a : App). fault_of a words ≡ []) made
+    (c.in_ok-matches.ensures.kinds (ap is_simple_and_free made ∙ is_simple_and_free-program)))
+    (named c.in_ok-matches.matches (app_of c.in_ok-program.field-0) words (codes "pending")
+    (rows_of found) made
+    c.in_ok-matches.ensures.matches (ap Some (sym it.is-pending) ∙ it.ensures.name)
+    it.ensures.rows)
+    c.pending_of.result c.pending_of.ensures

@@ -1,0 +1,7 @@
+-- the book is as it was
+use Rattle.std.proofs.Common.{true}
+use Rattle.acq_book.specs.Calls.{Looks}
+use Rattle.acq_reports.proofs.sums.check_totals.Given as goal
+
+abbrev pub invariant-loop-name : goal.invariant-loop-name
+invariant-loop-name g l = Looks g.B.Book l.fn.book l.book true
