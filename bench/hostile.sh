@@ -45,21 +45,23 @@ def hostile(chance):
 
 
 def attack(port, count, seed):
-    """Sends so many frames, each on one of several connections, and reads nothing but what is there."""
+    """Sends so many frames whole, each on one of several connections, and reads nothing but what is there."""
     chance, ends = random.Random(seed), [None] * PLACES
-    for _ in range(count):
+    while count:
         place = chance.randrange(PLACES)
         try:
             if ends[place] is None:
                 ends[place] = socket.create_connection(("127.0.0.1", port), timeout=5)
                 ends[place].setblocking(False)
-            ends[place].send(hostile(chance))
+            it = hostile(chance)
+            if ends[place].send(it) == len(it):
+                count -= 1
             if chance.randrange(4) == 0:
                 while ends[place].recv(65536):
                     pass
                 raise OSError
         except BlockingIOError:
-            pass
+            time.sleep(0.0002)
         except OSError:
             if ends[place]:
                 ends[place].close()
