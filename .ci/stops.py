@@ -1,6 +1,6 @@
 #!/usr/bin/env python3
-"""stops.py PROGRAM [STOPS]: `listen --together 8` under load, stopped at random moments, 6 times or so
-often, by SIGTERM and SIGKILL in turn.
+"""stops.py PROGRAM [STOPS]: `listen --together 8` under load, stopped at random moments, 6 times or as
+often as STOPS says, by SIGKILL and SIGTERM in turn.
 
 After each stop `pending` lists the requests whose issuer's answer the stop cut off, and `replay` takes
 these lines. At the end every frame that was ever sent is sent again: each gets a reply, the one that it
