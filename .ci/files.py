@@ -1,11 +1,12 @@
 """The two files of a book, around the built program: who may read them, when the database alone is
-the book, that a log whose database is away for a while is left as it is, and that reports tell where
-rows are gone or changed.
+the book, that a close for which there is no room is told, that a log whose database is away for a
+while is left as it is, and that reports tell where rows are gone or changed.
 
     python3 .ci/files.py PROGRAM
 """
 
 import os
+import resource
 import shutil
 import sqlite3
 import stat
@@ -111,6 +112,30 @@ def one_file():
     wanted("the database alone", again[1], b"refused 21 40000000 49999999\nrefused 36\ndone\n")
 
 
+def sales(first, count):
+    """So many sales, from this trace on, as event lines."""
+    text = SALE[:66] + "%06d" + SALE[72:]
+    frames = (text % trace for trace in range(first, first + count))
+    return "".join(f"frame,1714555800,{it.encode().hex()},,,\n" for it in frames).encode()
+
+
+def no_room():
+    """Where the log can't be copied into the database, that is told, and the book has all events."""
+    new_book()
+    wanted("many sales", acqd(["replay"], SETUP + sales(1, 2000))[0], 0)
+    size = os.path.getsize("book.db")
+    limit = lambda: resource.setrlimit(resource.RLIMIT_FSIZE, (size, resource.RLIM_INFINITY))
+    # A write behind the limit fails, since Python ignores the signal.
+    more = sales(2001, 60)
+    ended = acqd(["replay"], more, preexec_fn=limit, restore_signals=False)
+    wanted("a close with no room", (ended[0], ended[2]), (3, "acqd: 2 Store\n"))
+    wanted("lines of what was taken", ended[1].count(b"ask "), 60)
+    again = acqd(["replay"], more)
+    wanted("the same sales again", (again[0], again[1]), (0, b"refused 32\n" * 60))
+    if os.path.getsize("book.db") <= size:
+        sys.exit("files: the database did not grow, so nothing was tried")
+
+
 def log_alone():
     """A log whose database is away or empty is left as it is, and goes on to be a part of the book."""
     new_book()
@@ -166,12 +191,13 @@ def main():
     folder = tempfile.mkdtemp()
     os.chdir(folder)
     try:
-        for check in (owners_alone, one_file, log_alone, nothing_made, rows_changed):
+        checks = (owners_alone, one_file, no_room, log_alone, nothing_made, rows_changed)
+        for check in checks:
             check()
     finally:
         os.chdir("/")
         shutil.rmtree(folder)
-    print("files: modes, one file after a run, a log alone, nothing made, rows that were changed")
+    print("files: modes, one file after a run, no room, a log alone, nothing made, rows changed")
 
 
 main()

@@ -1,3 +1,4 @@
+pub mod ClockMoments
 pub mod DayReports
 pub mod Faults
 pub mod Listening

@@ -1,5 +1,7 @@
 //! The commands of the host over any book: event lines in, output lines or reports out; frames in,
-//! reply frames out, of one connection or of many; messages shown to a person.
+//! reply frames out, of one connection or of many; messages shown to a person. What they are given
+//! beside their streams: the moments of a machine's clock, how far a long run is, and fault lines
+//! that hold up nobody.
 #![tactic(auto)]
 
 mod book_commands;
@@ -17,12 +19,15 @@ mod once;
 mod once_options;
 mod patience;
 mod progress;
+mod prompt_lines;
 mod replay_options;
 mod replaying;
 mod replaying_in_memory;
 mod report_kind;
 mod showing;
+mod system_clock;
 mod taking_events;
+mod terminal_progress;
 mod text_sink;
 mod widest_opening;
 
@@ -41,11 +46,14 @@ pub use once::{once_in_memory, once_on};
 pub use once_options::OnceOptions;
 pub use patience::Patience;
 pub use progress::Progress;
+pub use prompt_lines::{Outlet, PromptLines};
 pub use replay_options::ReplayOptions;
 pub use replaying::replay;
 pub use replaying_in_memory::replay_in_memory;
 pub use report_kind::ReportKind;
 pub use showing::show;
+pub use system_clock::{SystemClock, moment_near};
 pub use taking_events::take_events;
+pub use terminal_progress::TerminalProgress;
 pub use text_sink::TextSink;
 pub use widest_opening::{first_day_of_all, greatest_limit};

@@ -1,3 +1,4 @@
+pub mod Closing
 pub mod Quiet
 pub mod AskedCommands
 pub mod OptionsRead

@@ -13,6 +13,12 @@ IsOpening NotABook = Unit {0}
 IsOpening (OtherVersion version) = Unit {0}
 IsOpening other = ⊥
 
+-- why a book was not closed: memory, or its store
+abbrev pub IsClosing : Fault → Type 0
+IsClosing Memory = Unit {0}
+IsClosing Store = Unit {0}
+IsClosing other = ⊥
+
 -- why what is pending was not answered: the book was not opened, the file of issuers' answers gave
 -- none, or the answers were not written whole
 abbrev pub IsOfPending : Fault → Type 0

@@ -1,5 +1,4 @@
 pub mod BookFaults
-pub mod Moments
 pub mod Runs
 pub mod Arguments
 pub mod Program

@@ -15,7 +15,7 @@ pub trait Machine<B: Book + Drop>: Sized {
     ghost use Rattle.acq_core.specs.Pasts.{HasPast};
     ghost use Rattle.acq_commands.specs.declared.fault.Fault.TheVariants.{Read};
     ghost use Rattle.acq_commands.specs.Faults.{IsOfAnswers, IsOfGathering};
-    ghost use Rattle.acq_program.specs.BookFaults.{IsOpening};
+    ghost use Rattle.acq_program.specs.BookFaults.{IsClosing, IsOpening};
 
     /// The connections that come in at a port.
     type Connections: Connections + Drop;
@@ -38,8 +38,10 @@ pub trait Machine<B: Book + Drop>: Sized {
         ensures { IfErr result IsOpening };
 
     /// Gives back a book in a file that was changed, with nothing left of it in the file's log, so
-    /// that the file alone is the book. Where that can't be done the log keeps what it has.
-    fn close_book(book: B);
+    /// that the file alone is the book. Where that can't be done the file and its log together are
+    /// the book, as a stop would leave them.
+    fn close_book(book: B) -> Result<(), Fault>
+        ensures { IfErr result IsClosing };
 
     /// Reads the file of issuers' answers at a path.
     fn read_answers(&self, alloc: Global, path: &str) -> Result<StandIn, Fault>

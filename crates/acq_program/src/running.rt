@@ -4,7 +4,7 @@ ghost use Rattle.std.specs.Prelude.{◌≡◌, ◌≤◌, [], map, IfErr, MatchR
 ghost use Rattle.clap.specs.Words.{fault_of, kind_of};
 ghost use Rattle.clap.specs.declared.error.kind.ErrorKind.TheVariants.{OutOfMemory};
 ghost use Rattle.acq_program.specs.Program.{program};
-ghost use Rattle.acq_program.specs.BookFaults.{IsOpening};
+ghost use Rattle.acq_program.specs.BookFaults.{IsClosing, IsOpening};
 ghost use Rattle.acq_commands.specs.Faults.{status_after};
 ghost use Rattle.acq_program.specs.Runs.{Does, IsQuiet, IsUntouched, MayCome, ReadsWhole, Runs};
 ghost use Rattle.acq_program.specs.Runs.{ServesAsked, ServesIn, Tells};
@@ -127,32 +127,21 @@ fn run<B: Book + Drop, M: Machine<B> + Drop, C: Clock, S: Source, K: Sink, F: Si
 }
 
 /// Makes a new book, which is given back at once.
+#[tactic(auto, using(crate::proofs::Closing::closing_is_opening))]
 fn init<B: Book + Drop, M: Machine<B>>(machine: M, new: &NewBook) -> Result<(), Fault>
     ensures { IfErr result IsOpening }
 {
-    M::close_book(machine.make_book(new.path.as_str(), new.limit, new.first_day)?);
-    Ok(())
+    let book = machine.make_book(new.path.as_str(), new.limit, new.first_day)?;
+    M::close_book(book)
 }
 
 /// Migrates the book in a file, which is given back at once.
+#[tactic(auto, using(crate::proofs::Closing::closing_is_opening))]
 fn migrate<B: Book + Drop, M: Machine<B>>(machine: M, path: &String) -> Result<(), Fault>
     ensures { IfErr result IsOpening }
 {
-    M::close_book(machine.migrate_book(path.as_str())?);
-    Ok(())
-}
-
-/// Gives back a book that a command changed. One that the command ended well with is closed; after
-/// a fault it is left as a stop would leave it.
-fn give_back<B: Book + Drop, M: Machine<B>>(changed: (B, Result<(), Fault>)) -> Result<(), Fault>
-    ensures { result ≡ changed.1 }
-{
-    let (book, ended) = changed;
-    match ended {
-        Ok(()) => M::close_book(book),
-        Err(_) => drop(book),
-    }
-    ended
+    let book = machine.migrate_book(path.as_str())?;
+    M::close_book(book)
 }
 
 /// Answers the frames of the input, and asks the issuers' file, or without one nobody.
@@ -248,7 +237,9 @@ fn once_over<B: Book + Drop, M: Machine<B> + Drop, C: Clock, I: Issuer + Drop, S
         Some(path) => {
             let book = machine.open_book(path.as_str())?;
             let mut issuer = issuers?;
-            give_back::<B, M>(once_on(alloc, book, clock, &mut issuer, input, output))
+            let (book, ended) = once_on(alloc, book, clock, &mut issuer, input, output);
+            ended?;
+            M::close_book(book)
         }
         None => {
             let mut issuer = issuers?;
@@ -310,7 +301,7 @@ fn listen_over<B: Book + Drop, M: Machine<B> + Drop, C: Clock, I: Issuer + Drop,
     let book = machine.open_book(asked.path.as_str())?;
     let mut issuer = issuers?;
     let mut connections = connections?;
-    give_back::<B, M>(listen_on(
+    let (book, ended) = listen_on(
         alloc,
         book,
         &mut connections,
@@ -318,7 +309,9 @@ fn listen_over<B: Book + Drop, M: Machine<B> + Drop, C: Clock, I: Issuer + Drop,
         clock,
         &mut issuer,
         faults,
-    ))
+    );
+    ended?;
+    M::close_book(book)
 }
 
 /// Answers the frames of connections over the book in a file, many at once.
@@ -334,7 +327,7 @@ fn gather_over<B: Book + Drop, M: Machine<B> + Drop, C: Clock, I: Issuer + Drop,
     let book = machine.open_book(asked.path.as_str())?;
     let mut issuer = issuers?;
     let mut gathering = gathering?;
-    give_back::<B, M>(listen_together_on(
+    let (book, ended) = listen_together_on(
         alloc,
         book,
         &mut gathering,
@@ -342,7 +335,9 @@ fn gather_over<B: Book + Drop, M: Machine<B> + Drop, C: Clock, I: Issuer + Drop,
         clock,
         &mut issuer,
         faults,
-    ))
+    );
+    ended?;
+    M::close_book(book)
 }
 
 /// Replays an input over the book in a file.
@@ -359,14 +354,10 @@ fn replay_in_file<B: Book + Drop, M: Machine<B> + Drop, S: Source, K: Sink, P: P
         (S.remaining input.old) (S.received input.old) (S.received input.new) result }
 {
     let book = machine.open_book(path.as_str())?;
-    give_back::<B, M>(replay_on(
-        alloc,
-        book,
-        options.reports.as_slice(),
-        input,
-        output,
-        progress,
-    ))
+    let reports = options.reports.as_slice();
+    let (book, ended) = replay_on(alloc, book, reports, input, output, progress);
+    ended?;
+    M::close_book(book)
 }
 
 /// Writes what clap says of the arguments, help and the version to `output`, and returns the

@@ -1,5 +1,5 @@
-//! Tests, a file a subject; `hosts`, `output_text`, `script_event`, `setup`, `two_days` and `wording`
-//! have what several of them use.
+//! Tests, a file a subject; `hosts`, `script_event`, `setup`, `two_days` and `wording` have what
+//! several of them use.
 
 mod calendar;
 mod clocks;
@@ -11,16 +11,12 @@ mod issuers_files;
 mod lines;
 mod listens;
 mod long_runs;
-mod migrations;
-mod opening;
-mod output_text;
 mod prompt_lines;
 mod range_files;
 mod read_back;
 mod readers;
 mod script_event;
 mod setup;
-mod stops;
 mod talks;
 mod two_days;
 mod widened_ranges;

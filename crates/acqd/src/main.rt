@@ -11,12 +11,9 @@ mod standard_error;
 mod this_machine;
 
 use acq_book::Book;
-use acq_commands::Progress;
+use acq_commands::{Progress, PromptLines, SystemClock, TerminalProgress};
 use acq_link::{ReadSource, Sink, Source, WriteSink};
-use acq_program::{
-    Machine, PromptLines, SystemClock, TerminalProgress, command, memory_fault, read_fault,
-    utf8_fault,
-};
+use acq_program::{Machine, command, memory_fault, read_fault, utf8_fault};
 use acq_sql::SqlBook;
 pub use open_book::{make_book, migrate_book, open_book};
 use sqlite::Alter;

@@ -1,6 +1,6 @@
 //! Standard error.
 
-use acq_program::Outlet;
+use acq_commands::Outlet;
 use libc::net::{POLLOUT, poll};
 use libc::types::pollfd;
 use std::io;

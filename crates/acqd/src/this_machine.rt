@@ -68,9 +68,11 @@ impl<'a, D: Start> Machine<SqlBook<FileStore<FileFrom<D>>>> for ThisMachine<'a, 
         }
     }
 
-    fn close_book(book: SqlBook<FileStore<FileFrom<D>>>) {
-        // What a failed close leaves in the log is still there for the next open.
-        let _ = book.release().close();
+    fn close_book(book: SqlBook<FileStore<FileFrom<D>>>) -> Result<(), Fault> {
+        match book.release().close() {
+            Ok(()) => Ok(()),
+            Err(error) => Err(fault_of_opening(OpeningFault::from(error))),
+        }
     }
 
     fn read_answers(&self, alloc: Global, path: &str) -> Result<StandIn, Fault> {

@@ -31,6 +31,19 @@ impl Findings {
         self.text.as_str()
     }
 
+    /// Takes what another run found, which is of the same book.
+    pub fn take_from(&mut self, other: &Findings) -> Result<(), RowFault> {
+        Ok(self.text.push_str(other.text.as_str())?)
+    }
+
+    /// Nothing differs so far, of the same book.
+    pub fn of_same_book(&self, alloc: Global) -> Findings {
+        Findings {
+            book: self.book,
+            text: String::new(alloc),
+        }
+    }
+
     /// From here on the rows run over this book.
     pub fn set_book(&mut self, book: &'static str) {
         self.book = book;

@@ -77,8 +77,9 @@ impl<'a> Machine<ListBook> for MachineAtHand<'a> {
         self.open_book(path)
     }
 
-    fn close_book(book: ListBook) {
+    fn close_book(book: ListBook) -> Result<(), Fault> {
         drop(book);
+        Ok(())
     }
 
     fn read_answers(&self, alloc: Global, _path: &str) -> Result<StandIn, Fault> {

@@ -7,6 +7,7 @@
 #![tactic(auto)]
 
 mod asked;
+mod book_openings;
 mod command_file;
 mod command_run;
 mod connections_at_hand;
@@ -23,10 +24,13 @@ mod refusal;
 mod report_asked;
 mod row_fault;
 mod running_commands;
+mod running_migrations;
 mod running_scenarios;
+mod running_stops;
 mod scenario;
 mod scenario_file;
 mod step;
+mod stopping_files;
 mod table_file;
 mod tables;
 

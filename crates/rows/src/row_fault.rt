@@ -19,6 +19,12 @@ pub enum RowFault {
     OtherKind,
     /// The file has no row.
     Empty,
+    /// Files that stop did so at this number of calls alone.
+    FewStops(u64),
+    /// Files that stop never suffice for the whole scenario.
+    NeverWhole,
+    /// A book was migrated twice.
+    MigratedTwice,
 }
 
 impl fmt::Display for RowFault {
@@ -30,6 +36,9 @@ impl fmt::Display for RowFault {
             RowFault::Malformed(line) => write!(f, "line {line} is no row"),
             RowFault::OtherKind => write!(f, "not scenarios, commands or a table"),
             RowFault::Empty => write!(f, "no row"),
+            RowFault::FewStops(stops) => write!(f, "files stopped at {stops} calls alone"),
+            RowFault::NeverWhole => write!(f, "files that stop never sufficed"),
+            RowFault::MigratedTwice => write!(f, "a book was migrated twice"),
         }
     }
 }

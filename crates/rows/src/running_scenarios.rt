@@ -1,5 +1,6 @@
 //! Scenarios over each book: in memory; in SQL; in SQL and taken again before each event; and where
-//! a scenario says so, among another merchant's events.
+//! a scenario says so, among another merchant's events, over files that stop, or with a book that is
+//! migrated.
 
 ghost use Rattle.std.specs.Prelude.{◌≡◌, IfOk, false};
 
@@ -7,6 +8,8 @@ use crate::events_of_another::lot_of_another;
 use crate::findings::Findings;
 use crate::report_asked::ReportAsked;
 use crate::row_fault::RowFault;
+use crate::running_migrations::run_migrated;
+use crate::running_stops::run_stopping;
 use crate::scenario::Scenario;
 use crate::scenario_file::ScenarioFile;
 use crate::step::Step;
@@ -38,6 +41,7 @@ pub fn run_scenarios(
     for scenario in file.scenarios.as_slice() {
         let setup = file.setup.steps.as_slice();
         run_over_books(rt, alloc, setup, scenario, findings)?;
+        run_over_files(alloc, setup, scenario, findings)?;
         if let Some(sales) = scenario.others {
             run_among(rt, alloc, setup, scenario, sales, findings)?;
         }
@@ -72,6 +76,23 @@ fn run_over_books(
     )?;
     findings.set_book(", in SQL, taken again before each event");
     run_again_on(alloc, new_database(alloc)?, setup, scenario, findings)
+}
+
+/// Runs a scenario whose book is migrated, or over files that stop, where it says so.
+fn run_over_files(
+    alloc: Global,
+    setup: &[Step],
+    scenario: &Scenario,
+    findings: &mut Findings,
+) -> Result<(), RowFault> {
+    match (scenario.migrated, scenario.stops) {
+        (Some(before), stops) => {
+            let least = stops.unwrap_or(0);
+            run_migrated(alloc, setup, scenario, before, least, findings)
+        }
+        (None, Some(least)) => run_stopping(alloc, setup, scenario, least, findings),
+        (None, None) => Ok(()),
+    }
 }
 
 /// Runs a scenario among another merchant's events, over a book in memory and over one in SQL.
@@ -121,7 +142,7 @@ fn new_database(alloc: Global) -> Result<Connection<MemStore>, RowFault>
 }
 
 /// A host over a new book in a database.
-fn host_in_sql<S: Alter + Drop>(
+pub(crate) fn host_in_sql<S: Alter + Drop>(
     alloc: Global,
     connection: Connection<S>,
     scenario: &Scenario,
@@ -192,7 +213,7 @@ fn run_among_on<B: Book + Drop>(
 }
 
 /// Takes steps, and compares what the host says to each.
-fn take_steps<B: Book + Drop>(
+pub(crate) fn take_steps<B: Book + Drop>(
     alloc: Global,
     host: &mut Host<B>,
     steps: &[Step],
@@ -234,7 +255,7 @@ fn take_step<B: Book + Drop>(
 }
 
 /// Asks the host's book for texts, and gives it back.
-fn ask<B: Book + Drop>(
+pub(crate) fn ask<B: Book + Drop>(
     alloc: Global,
     host: Host<B>,
     reports: &[ReportAsked],

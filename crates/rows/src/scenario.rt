@@ -16,6 +16,11 @@ pub struct Scenario {
     /// Where it also runs among another merchant's events, how many sales of that merchant stand
     /// before each step.
     pub others: Option<u64>,
+    /// Where it also runs over files that stop at each of their calls in turn, how many calls these
+    /// are at least.
+    pub stops: Option<u64>,
+    /// Where its book is one of version 1 until it is migrated, how many steps stand before that.
+    pub migrated: Option<usize>,
     pub steps: Vec<Step>,
     pub reports: Vec<ReportAsked>,
 }
@@ -27,6 +32,8 @@ impl Scenario {
             limit,
             first_day,
             others: None,
+            stops: None,
+            migrated: None,
             steps: Vec::new(alloc),
             reports: Vec::new(alloc),
         }

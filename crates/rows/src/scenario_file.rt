@@ -1,11 +1,11 @@
 //! Files of scenarios.
 //!
-//! A line is `scenario NAME`, `limit COUNT`, `day DAY`, `at MOMENT`, `others COUNT`, an event, or
-//! what is asked of the book at the end: `clearing DAY`, `report DAY`, `holds MOMENT MERCHANT`,
-//! `pending MOMENT` or `pending MOMENT DAY`. An event is a line of `acqd replay`, or `frame PARTS`
-//! for a message that comes at the moment at hand. What the host says, or what the text is, stands
-//! behind four spaces on the lines below; `?` where it isn't compared. What stands before the first
-//! scenario is the setup of each.
+//! A line is `scenario NAME`, `limit COUNT`, `day DAY`, `at MOMENT`, `others COUNT`, `stops COUNT`,
+//! `migrated`, an event, or what is asked of the book at the end: `clearing DAY`, `report DAY`,
+//! `holds MOMENT MERCHANT`, `pending MOMENT` or `pending MOMENT DAY`. An event is a line of `acqd
+//! replay`, or `frame PARTS` for a message that comes at the moment at hand. What the host says, or
+//! what the text is, stands behind four spaces on the lines below; `?` where it isn't compared. What
+//! stands before the first scenario is the setup of each.
 
 use crate::asked::Asked;
 use crate::escapes::{put_bytes, put_hex};
@@ -88,7 +88,7 @@ impl Reader {
         self.last = Last::Nothing;
         match word {
             "scenario" => self.begin(),
-            "limit" | "day" | "others" => self
+            "limit" | "day" | "others" | "stops" | "migrated" => self
                 .take_term(word, rest)
                 .ok_or(RowFault::Malformed(line)),
             "at" => self.take_moment(rest),
@@ -123,13 +123,15 @@ impl Reader {
         Ok(())
     }
 
-    /// Takes what a book is opened with, or how many events of another merchant there are.
+    /// Takes what a book is opened with, or over which further books the scenario runs.
     fn take_term(&mut self, word: &str, rest: &str) -> Option<()> {
         let scenario = self.current();
         match word {
             "limit" => scenario.limit = Limit::from_number(rest.parse().ok()?)?,
             "day" => scenario.first_day = Day::read(rest)?,
-            _ => scenario.others = Some(rest.parse().ok()?),
+            "others" => scenario.others = Some(rest.parse().ok()?),
+            "stops" => scenario.stops = Some(rest.parse().ok()?),
+            _ => scenario.migrated = Some(scenario.steps.len()),
         }
         Some(())
     }

@@ -2,11 +2,13 @@
 //!
 //! `card`, `track2`, `class` and `hex` read bytes; `ranges` a file of ranges; `find`, `add` and
 //! `remove` a prefix or a range, on the ranges 40000000 to 49999999 and 50000000 to 59999999;
-//! `issuers` a file of issuers' answers, of which the card 4111111111111111 is asked; `day` a date,
+//! `issuers` a file of issuers' answers, of which the card 4111111111111111 is asked; `opening`
+//! statements of SQL, and what a new book is told as behind them; `day` a date,
 //! and `resolve` a month and day and the day that it is today; `element` an element's number and a
 //! content; `type` a message's type; `totals` four counts and four amounts, of credits, their
 //! reversals, debits and theirs; and the names of numbers and texts say whether one is taken.
 
+use crate::book_openings::put_opening;
 use crate::escapes::put_shown;
 use crate::row_fault::RowFault;
 use acq_commands::Fault;
@@ -43,6 +45,7 @@ pub fn put_answer(
         "day" => put_day(text, answer)?,
         "resolve" => return put_resolved(text, answer),
         "element" => return put_element(alloc, text, answer),
+        "opening" => put_opening(alloc, text, answer)?,
         "type" => return put_reply_type(bytes, answer),
         "totals" => return put_totals(alloc, text, answer),
         _ => match is_taken(kind, text, bytes) {

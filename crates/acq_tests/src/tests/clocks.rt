@@ -1,7 +1,7 @@
 //! Moments by the clock of a machine.
 
+use acq_commands::{SystemClock, moment_near};
 use acq_front::Clock;
-use acq_program::{SystemClock, moment_near};
 use std::io::ErrorKind;
 use std::test::Fail;
 use std::time::Duration;

@@ -1,63 +1,22 @@
-//! Connections through `listen_on`: one over TCP, in one process; and three of which the first
-//! can't be written to its end.
+//! Connections through `listen_on`, of which the first can't be written to its end.
 
-use super::connections::{APPROVED, NOT_ANSWERED, SALE};
+use super::connections::{APPROVED, SALE};
 use super::hosts::new_host;
 use acq_book::Book;
-use acq_commands::{Patience, listen_on};
+use acq_commands::listen_on;
 use acq_core::{Moment, Verdict};
-use acq_front::{
-    Clock, Connections, FixedClock, FrontFault, Issuer, NoIssuer, SliceIssuer, serve_ends,
-};
+use acq_front::{Clock, Connections, FixedClock, FrontFault, Issuer, SliceIssuer, serve_ends};
 use acq_host::Host;
 use acq_link::{MemorySink, SliceSource, WriteSink};
-use acq_tcp::TcpConnections;
 use std::alloc::Global;
 use std::cell::RefCell;
 use std::io;
-use std::io::{ErrorKind, Read, Write};
-use std::net::{Ipv4Addr, Shutdown, TcpListener, TcpStream};
+use std::io::{ErrorKind, Write};
 use std::test::Fail;
-
-/// How many seconds a connection may take.
-const PATIENCE: Patience = Patience {
-    idle: 5,
-    frame_within: 5,
-    idle_when_full: 5,
-};
 
 /// The moment at which all frames come.
 fn morning() -> Result<Moment, Fail> {
     Ok(Moment::from_seconds(1_714_555_800).ok_or("a moment")?)
-}
-
-/// It connects, sends, and ends its sending side; then it is served; then it reads the reply.
-#[test]
-fn one_connection(rt: HostRuntime) -> Result<(), Fail> {
-    let alloc = rt.alloc();
-    let listener = TcpListener::bind(&rt, (Ipv4Addr::LOCALHOST, 0))?;
-    let mut terminal = TcpStream::connect(&rt, listener.local_addr()?)?;
-    terminal.write_all(SALE.as_bytes())?;
-    terminal.shutdown(Shutdown::Write)?;
-    let mut connections = TcpConnections::new(listener, &rt, PATIENCE);
-    let mut clock = FixedClock::new(morning()?);
-    let mut faults = MemorySink::new(alloc);
-    let (book, ended) = listen_on(
-        alloc,
-        new_host(&rt, alloc)?.into_book(),
-        &mut connections,
-        1,
-        &mut clock,
-        &mut NoIssuer,
-        &mut faults,
-    );
-    drop(book);
-    ended?;
-    let mut reply = Vec::new(alloc);
-    terminal.read_to_end(&mut reply)?;
-    assert_eq!(rt; reply.as_slice(), NOT_ANSWERED.as_bytes());
-    assert_eq!(rt; faults.as_bytes(), b"".as_slice());
-    Ok(())
 }
 
 /// The sale as its terminal repeats it.

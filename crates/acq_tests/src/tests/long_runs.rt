@@ -1,7 +1,6 @@
 //! How far a long run is, on a terminal.
 
-use acq_commands::Progress;
-use acq_program::TerminalProgress;
+use acq_commands::{Progress, TerminalProgress};
 use std::cell::Cell;
 use std::io;
 use std::test::Fail;

@@ -1,6 +1,6 @@
 //! Fault lines to a writer that takes none for a while.
 
-use acq_program::{Outlet, PromptLines};
+use acq_commands::{Outlet, PromptLines};
 use std::cell::{Cell, RefCell};
 use std::io;
 use std::io::{ErrorKind, Write};

@@ -1,7 +1,7 @@
 //! The clock of this machine.
 
 ghost use Rattle.std.specs.Prelude.{◌≡◌};
-ghost use Rattle.acq_program.specs.Moments.{nearest_moment};
+ghost use Rattle.acq_commands.specs.ClockMoments.{nearest_moment};
 
 use acq_core::Moment;
 use acq_front::Clock;

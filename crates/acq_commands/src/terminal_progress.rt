@@ -1,6 +1,6 @@
 //! How far a run is, on a terminal.
 
-use acq_commands::Progress;
+use crate::progress::Progress;
 use std::io::Write;
 use std::time::{Clock, Duration, Instant};
 
