@@ -7,8 +7,9 @@ ghost use Rattle.acq_history.specs.DaySums.{SumsAreTotals};
 ghost use Rattle.acq_history.specs.Conservation.{Conserves, NeverExceeds};
 ghost use Rattle.acq_history.specs.Finality.{IsFinal};
 
-/// Every reconciliation whose day resolves is in balance exactly where what it claims are the
-/// totals over its merchant's own postings of that day, and its reply says so.
+/// Every reconciliation by a merchant's own terminal, under a new key, whose day resolves gets the
+/// totals over its merchant's own postings of that day, and its reply says that it is in balance
+/// exactly where these are what it claims.
 pub fn reconciliations_balance_exactly()
     ensures { (m : List ℕ) → BalancesExactly m }
 {}
