@@ -1,6 +1,6 @@
 -- A reconciliation is balanced by the totals of its day.
 use Rattle.std.proofs.Common.{◌≡◌, ℕ, List, [], ◌∷◌, ◌++◌, Option, Some, None, Bool, true, false}
-use Rattle.std.proofs.Common.{cond, ◌↔◌, refl, sym, ap, ◌∙◌, rules, arith}
+use Rattle.std.proofs.Common.{cond, ◌↔◌, refl, sym, ap, ◌∙◌, rules}
 use Rattle.std.specs.Prelude.{map, not, ◌==◌, nat_le, option_map, codes}
 use Rattle.std.specs.List.{list_all}
 use Rattle.std.specs.Str.{bytes_eq}
@@ -14,7 +14,7 @@ use Rattle.acq_message.specs.declared.request_message.RequestMessage.{RequestMes
 use Rattle.acq_message.specs.declared.response_code.ResponseCode.TheVariants as code
 use Rattle.acq_core.specs.declared.arrival.Arrival.TheVariants.{Requested}
 use Rattle.acq_core.specs.Known.{Known, known_for, totals_if, wanted_for}
-use Rattle.acq_core.specs.Decision.{Decision, Reconciles, Replies, decision_of_request}
+use Rattle.acq_core.specs.Decision.{Reconciles, Replies, decision_of_request}
 use Rattle.acq_core.specs.Decision.{decision_of_merchant, decision_of_key, decision_by}
 use Rattle.acq_core.specs.Decision.{reconciliation_of, decision}
 use Rattle.acq_core.specs.Outcome.{outcome_of, Replied, balance_code}

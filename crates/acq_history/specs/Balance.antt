@@ -1,5 +1,5 @@
 -- When a reconciliation is in balance, and what its reply says of it.
-use Rattle.std.specs.Prelude.{◌≡◌, ◌↔◌, ℕ, Bool, true, List, Option, Some, None, is_some, codes}
+use Rattle.std.specs.Prelude.{◌≡◌, ◌↔◌, ℕ, Bool, true, List, Some, None, is_some, codes}
 use Rattle.iso_codec.specs.Message.{IsoMessage, content_of}
 use Rattle.day_totals.specs.Totals.{DayTotals, Agrees}
 use Rattle.acq_core.specs.declared.event.Event.{Event}
