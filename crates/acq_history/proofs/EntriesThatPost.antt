@@ -1,7 +1,7 @@
 -- What each event of a merchant's posts: exactly one row, or nothing.
-use Rattle.std.proofs.Common.{◌≡◌, ℕ, List, ◌∷◌, Option, Some, None, Bool, true, false, cond, ◌⊎◌}
+use Rattle.std.proofs.Common.{◌≡◌, ℕ, List, [], ◌∷◌, ◌++◌, Option, Some, None, Bool, true, false, cond, ◌⊎◌}
 use Rattle.std.proofs.Common.{inl, inr, refl, sym, ap, ◌∙◌, subst}
-use Rattle.std.specs.Prelude.{option_map, option_and_then, is_some, ◌&&◌, take}
+use Rattle.std.specs.Prelude.{option_map, option_and_then, is_some, ◌&&◌, ◌||◌, take}
 use Rattle.std.specs.Str.{bytes_eq}
 use Rattle.iso_codec.specs.Message.{IsoMessage}
 use Rattle.acq_message.specs.declared.service.Service.{Service}
@@ -19,24 +19,28 @@ use Rattle.acq_message.specs.Services.{digits_of}
 use Rattle.acq_core.specs.declared.event.Event.{Event}
 use Rattle.acq_core.specs.declared.posting.Posting.{Posting}
 use Rattle.acq_core.specs.declared.arrival.Arrival.{Arrival}
-use Rattle.acq_core.specs.declared.arrival.Arrival.TheVariants.{Requested, Answered}
+use Rattle.acq_core.specs.declared.arrival.Arrival.TheVariants.{Requested, Answered, CutOver}
+use Rattle.acq_core.specs.declared.arrival.Arrival.TheVariants.{RangeAdded, RangeDropped}
+use Rattle.acq_core.specs.Arrivals.{arrival_of, is_shared}
 use Rattle.acq_core.specs.Changes.{or_zero, answer_posting, reversal_posting}
 use Rattle.acq_core.specs.Changes as changes
 use Rattle.acq_core.specs.Decision.{decision_of_answer, decision_of_prior, decision_of_reply_state}
 use Rattle.acq_core.specs.Outcome.{Outcome, Replied, Reported, outcome, outcome_of}
-use Rattle.acq_core.specs.Tables.{Opening, with_next_posting}
+use Rattle.acq_core.specs.Tables.{Opening, with_next_posting, postings_of}
 use Rattle.acq_core.proofs.DecisionCases.{by_answer}
 use Rattle.acq_history.specs.Entries.{Entry, reply_in, is_approved, is_completion}
 use Rattle.acq_history.specs.Entries.{is_reversal, is_acceptable, is_admissible, accepts, request_of, recordable}
 use Rattle.acq_history.specs.History.{referred, recorded, prior, enrolled, day_after}
 use Rattle.acq_history.specs.History.{ranges_after, is_admitted, posting_of, posting_by, postings}
-use Rattle.acq_history.specs.PartyHistory.{known_by, entry_for, history_of}
+use Rattle.acq_history.specs.PartyHistory.{is_of, own, known_by, entry_for, history_after}
+use Rattle.acq_history.specs.PartyHistory.{history_of, book_after}
 use Rattle.acq_history.specs.PostedRows.{PostsRow, PostsNothing, ApprovesSale, sale_posting}
 use Rattle.acq_history.specs.PostedRows.{IsAccepted, completion_posting}
 use Rattle.acq_history.specs.PostedRows.{ReversesPosted, reversing_posting, posted_about}
 use Rattle.acq_history.specs.PostedRows.{ApprovalsPost, CompletionsPost, ReversalsPost}
-use Rattle.acq_history.specs.PostedRows.{NothingElsePosts}
-use Rattle.acq_history.proofs.Lookups.{clash, some_is, map_some, is_some_there}
+use Rattle.acq_history.specs.PostedRows.{NothingElsePosts, TablesPost}
+use Rattle.acq_history.proofs.Lookups.{clash, some_is, map_some, is_some_there, filter-push_in}
+use Rattle.acq_history.proofs.Lookups.{filter-push_out}
 use Rattle.acq_history.proofs.RecordedInHistory.{enrolled_where, referred_is, recorded_is}
 use Rattle.acq_history.proofs.RecordedInHistory.{reference_if}
 use Rattle.acq_history.proofs.RecordableRequests.{recordable_is, is_reversal_true}
@@ -45,7 +49,7 @@ use Rattle.acq_history.proofs.NewRows.{admissible_is, own_reference, own_card}
 use Rattle.acq_history.proofs.ChangedRows.{entry_on}
 use Rattle.acq_history.proofs.StepCases.{can_be_reversed}
 use Rattle.acq_history.proofs.OwnRequests.{reversal_by, reversal_accepted}
-use Rattle.acq_history.proofs.MerchantsRuns.{from_new}
+use Rattle.acq_history.proofs.MerchantsRuns.{from_new, posts_alone}
 use Rattle.acq_history.proofs.EntriesThatAccept.{AcceptsBy, accepts_by, HasHold, has_hold}
 use Rattle.acq_history.proofs.EntriesThatAccept.{HasOriginal, has_original, is_awaited}
 use Rattle.acq_history.proofs.EntriesThatAccept.{is_unanswered}
@@ -395,3 +399,56 @@ module _ (m : List ℕ) (opening : Opening) (es : List Event) where
 
 pub nothing_else_posts : (m : List ℕ) → NothingElsePosts m
 nothing_else_posts m opening es a = does m opening es a
+
+-- ---- in the tables
+
+history_after-push : (opening : Opening) (h : List Entry) (es : List Event) (e : Event) →
+    history_after opening h (es ++ e ∷ [])
+    ≡ entry_for opening (history_after opening h es) (arrival_of e) ∷ history_after opening h es
+history_after-push opening h [] e = refl
+history_after-push opening h (x ∷ es) e =
+    history_after-push opening (entry_for opening h (arrival_of x) ∷ h) es e
+
+-- what all share posts nothing
+shared_posts_nothing : (opening : Opening) (h : List Entry) (a : Arrival) → is_shared a ≡ true →
+    PostsNothing opening h a
+shared_posts_nothing opening h CutOver shared = refl
+shared_posts_nothing opening h (RangeAdded range) shared = refl
+shared_posts_nothing opening h (RangeDropped low high) shared = refl
+shared_posts_nothing opening h other shared = absurd (cc)
+
+pub tables_post : (m : List ℕ) → TablesPost m
+tables_post m opening es e =
+    posts_alone m opening (es ++ e ∷ []) ∙ step (is_of (Some m) a) (is_shared a) refl refl
+  where
+    a : Arrival
+    a = arrival_of e
+
+    h : List Entry
+    h = history_of opening (Some m) es
+
+    is_own : Event → Bool
+    is_own x = is_of (Some m) (arrival_of x) || is_shared (arrival_of x)
+
+    grown : is_own e ≡ true →
+        postings (history_of opening (Some m) (es ++ e ∷ []))
+        ≡ postings (entry_for opening h a ∷ h)
+    grown mine =
+        ap (λ xs. postings (history_after opening [] xs)) (filter-push_in is_own es e mine)
+        ∙ ap postings (history_after-push opening [] (own (Some m) es) e)
+
+    still : is_own e ≡ false →
+        postings (history_of opening (Some m) (es ++ e ∷ [])) ≡ postings h
+    still other =
+        ap (λ xs. postings (history_after opening [] xs)) (filter-push_out is_own es e other)
+
+    before : postings h ≡ postings_of m (book_after opening es).postings
+    before = sym (posts_alone m opening es)
+
+    step : (b c : Bool) → is_of (Some m) a ≡ b → is_shared a ≡ c →
+        postings (history_of opening (Some m) (es ++ e ∷ []))
+        ≡ cond b (postings (entry_for opening h a ∷ h)) (postings_of m (book_after opening es).postings)
+    step true c mine shared = grown (ap (λ b. b || is_shared a) mine)
+    step false true mine shared =
+        grown (λ i. mine i || shared i) ∙ (shared_posts_nothing opening h a shared ∙ before)
+    step false false mine shared = still (λ i. mine i || shared i) ∙ before

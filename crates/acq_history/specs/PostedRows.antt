@@ -19,11 +19,12 @@ use Rattle.acq_core.specs.declared.arrival.Arrival.{Arrival}
 use Rattle.acq_core.specs.declared.arrival.Arrival.TheVariants.{Requested, Answered}
 use Rattle.acq_core.specs.Changes.{reversal_leg}
 use Rattle.acq_core.specs.Outcome.{Replied, outcome}
-use Rattle.acq_core.specs.Tables.{Opening, postings_before}
+use Rattle.acq_core.specs.Arrivals.{arrival_of}
+use Rattle.acq_core.specs.Tables.{Opening, postings_before, postings_of}
 use Rattle.acq_history.specs.Entries.{Entry, is_completion, is_reversal, is_key}
 use Rattle.acq_history.specs.History.{Found, referred, answer_to, is_reversed, posting_of, postings}
 use Rattle.acq_history.specs.History.{day_after}
-use Rattle.acq_history.specs.PartyHistory.{known_by, entry_for, history_of}
+use Rattle.acq_history.specs.PartyHistory.{is_of, known_by, entry_for, history_of, book_after}
 
 -- ---- one row more, or none
 
@@ -179,3 +180,13 @@ module _ (m : List ℕ) where
       let h = history_of opening (Some m) es in
       PostsNothing opening h a
       ⊎ (ApprovesSale h a ⊎ (IsAccepted opening h a is_completion ⊎ ReversesPosted opening h a))
+
+  -- so it is in the tables: an event of the merchant's adds to its rows of postings what its entry
+  -- posts, and any other event nothing
+  abbrev pub TablesPost : Type 0
+  TablesPost =
+      (opening : Opening) (es : List Event) (e : Event) →
+      let h = history_of opening (Some m) es in
+      postings_of m (book_after opening (es ++ e ∷ [])).postings
+      ≡ (if is_of (Some m) (arrival_of e) then postings (entry_for opening h (arrival_of e) ∷ h)
+      else postings_of m (book_after opening es).postings)

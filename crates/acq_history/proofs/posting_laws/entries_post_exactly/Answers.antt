@@ -1,5 +1,5 @@
 use Rattle.acq_history.proofs.EntriesThatPost.{approvals_post, completions_post, reversals_post}
-use Rattle.acq_history.proofs.EntriesThatPost.{nothing_else_posts}
+use Rattle.acq_history.proofs.EntriesThatPost.{nothing_else_posts, tables_post}
 use Rattle.acq_history.proofs.posting_laws.entries_post_exactly.Goals as goal
 
 pub returns : goal.returns
@@ -9,4 +9,5 @@ returns c =
       completions = completions_post;
       reversals = reversals_post;
       others = nothing_else_posts;
+      tables = tables_post;
     }
