@@ -46,7 +46,7 @@ abbrev pub entry_on : ℕ → List Range → Arrival → Outcome → Entry
 entry_on day ranges a o = record { arrival = a; day = day; ranges = ranges; outcome = o }
 
 -- what is found under a reference is what stands under its key
-same_found : (h : List Entry) (f g : Found) → IsFoundAgain h f → recorded (key_in g) h ≡ Some g →
+pub same_found : (h : List Entry) (f g : Found) → IsFoundAgain h f → recorded (key_in g) h ≡ Some g →
     key_in f ≡ key_in g → f ≡ g
 same_found h f g again own keys = some_is f g (sym again.own ∙ (ap (λ k. recorded k h) keys ∙ own))
 
@@ -80,7 +80,7 @@ edit_follows h e g changed edits own here others a f again same =
         λ i. ((ap (λ x. x.0) same ∙ sym (others f again other)) i, (same i).1)
 
 -- another request has another reference
-other_number : (h : List Entry) (n : ℕ) (g : Found) → referred n h ≡ Some g → (f : Found) →
+pub other_number : (h : List Entry) (n : ℕ) (g : Found) → referred n h ≡ Some g → (f : Found) →
     IsFoundAgain h f → (f ≡ g → ⊥) → (k : ℕ) → reference_of f ≡ Some k → eqb n k ≡ false
 other_number h n g found f again other k numbered = step (eqb n k) refl
   where

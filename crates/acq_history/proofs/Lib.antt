@@ -39,6 +39,9 @@ pub mod OwnStep
 pub mod OtherPartysStep
 pub mod WholeRuns
 pub mod MerchantsRuns
+pub mod EntriesThatAccept
+pub mod PostedEarlier
+pub mod EntriesThatPost
 pub mod NobodysRuns
 pub mod IsolatedParties
 pub mod RepeatsTakenOut

@@ -42,6 +42,10 @@ pub not_some : {X : Type 0} (o : Option X) → not (is_some o) ≡ true → o �
 not_some None e = refl
 not_some (Some x) e = absurd (cc)
 
+pub is_some_there : {X : Type 0} (o : Option X) → is_some o ≡ true → (x : X) × (o ≡ Some x)
+is_some_there None e = absurd (cc)
+is_some_there (Some x) e = (x, refl)
+
 pub none_some : {X P : Type 0} (x : X) → None ≡ Some x → P
 none_some x e = absurd (cc)
 

@@ -136,12 +136,12 @@ idle_line r e h given reply s replied admitted accepted state reversible closed 
     λ i. ((whole ∙ sym (prior_newest r e h)) i, sym (idle_reference f admitted accepted) i)
 
 -- what is admitted shows its own reference and its own card
-own_reference : (g : Found) (n : ℕ) (s : Service) → is_admissible s ≡ true →
+pub own_reference : (g : Found) (n : ℕ) (s : Service) → is_admissible s ≡ true →
     reference_of g ≡ Some n → reference_by s g ≡ Some n
 own_reference g n Completion fits is = absurd (cc)
 own_reference g n service fits is = is
 
-own_card : (g : Found) (s : Service) → is_admissible s ≡ true →
+pub own_card : (g : Found) (s : Service) → is_admissible s ≡ true →
     card_by s g ≡ card_of g.request.message
 own_card g Completion fits = absurd (cc)
 own_card g service fits = refl

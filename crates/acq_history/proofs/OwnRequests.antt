@@ -76,14 +76,14 @@ wanted_original today moment ReversalAdvice message fits = refl
 wanted_original today moment service message fits = absurd (cc)
 
 -- a reversal may be accepted
-reversal_accepted : (s : Service) → is_reversal s ≡ true → is_acceptable s ≡ true
+pub reversal_accepted : (s : Service) → is_reversal s ≡ true → is_acceptable s ≡ true
 reversal_accepted Reversal fits = refl
 reversal_accepted ReversalAdvice fits = refl
 reversal_accepted Completion fits = refl
 reversal_accepted service fits = absurd (cc)
 
 -- either reversal posts alike
-reversal_by : (e : Entry) (h : List Entry) (r : RequestMessage) (s : Service) →
+pub reversal_by : (e : Entry) (h : List Entry) (r : RequestMessage) (s : Service) →
     is_reversal s ≡ true →
     posting_by s e h r
     ≡ option_and_then (λ f. reversal_posting e.day r (prior f))

@@ -230,6 +230,15 @@ below n [] f genuine is = absurd (cc)
 below n (e ∷ h) f genuine is =
     below_more n e h _ (request_of e.arrival) f genuine.0 (λ g eg. below n h g genuine.1 eg) is
 
+-- so its merchant is enrolled
+pub enrolled_where : (n : ℕ) (h : List Entry) (f : Found) → AdmitsOnlyEnrolled h →
+    referred n h ≡ Some f → is_some (enrolled h) ≡ true
+enrolled_where n h f genuine is = step (enrolled h) (below n h f genuine is)
+  where
+    step : (o : Option Merchant) → IsBelow n o (admitted h) → is_some o ≡ true
+    step None lt = absurd lt
+    step (Some merchant) lt = refl
+
 -- the next reference is new
 fresh_in : (o : Option Merchant) (a : ℕ) → is_some o ≡ true → IsBelow (first_reference o + a) o a →
     ⊥

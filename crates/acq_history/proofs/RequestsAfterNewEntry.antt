@@ -138,7 +138,7 @@ prior_aged e f fate is =
 -- ---- by one more entry
 
 -- an entry that doesn't answer it leaves its answer
-answer_more : (e : Entry) (es : List Entry) (o : Option ℕ) →
+pub answer_more : (e : Entry) (es : List Entry) (o : Option ℕ) →
     ((n : ℕ) → o ≡ Some n → is_answer n e ≡ false) →
     option_and_then (λ n. find (is_answer n) (e ∷ es)) o ≡ option_and_then
     (λ n. find (is_answer n) es) o
@@ -153,7 +153,7 @@ completed_more e es None off = refl
 completed_more e es (Some n) off = ap (λ b. b || list_any (is_completing n) es) (off n refl)
 
 -- an entry that answers it is its answer, as the newest
-answer_here : (e : Entry) (es : List Entry) (o : Option ℕ) (n : ℕ) → o ≡ Some n →
+pub answer_here : (e : Entry) (es : List Entry) (o : Option ℕ) (n : ℕ) → o ≡ Some n →
     is_answer n e ≡ true →
     option_and_then (λ n. find (is_answer n) (e ∷ es)) o ≡ Some e
 answer_here e es o n is on =

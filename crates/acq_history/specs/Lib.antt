@@ -18,4 +18,5 @@ pub mod Balance
 pub mod KeptRepeats
 pub mod Conservation
 pub mod Finality
+pub mod PostedRows
 pub mod Widening

@@ -6,9 +6,12 @@ ghost use Rattle.acq_history.specs.KeptRepeats.{RepeatsAreKept};
 ghost use Rattle.acq_history.specs.DaySums.{SumsAreTotals};
 ghost use Rattle.acq_history.specs.Conservation.{Conserves, NeverExceeds};
 ghost use Rattle.acq_history.specs.Finality.{IsFinal};
+ghost use Rattle.acq_history.specs.PostedRows.{ApprovalsPost, CompletionsPost, ReversalsPost};
+ghost use Rattle.acq_history.specs.PostedRows.{NothingElsePosts, TablesPost};
 
-/// Every reconciliation whose day resolves is in balance exactly where what it claims are the
-/// totals over its merchant's own postings of that day, and its reply says so.
+/// Every reconciliation by a merchant's own terminal, under a new key, whose day resolves gets the
+/// totals over its merchant's own postings of that day, and its reply says that it is in balance
+/// exactly where these are what it claims.
 pub fn reconciliations_balance_exactly()
     ensures { (m : List ℕ) → BalancesExactly m }
 {}
@@ -40,4 +43,15 @@ pub fn reversals_never_exceed()
 /// Once a day is past and none of its requests is pending, its postings stay as they are.
 pub fn closed_days_are_final()
     ensures { IsFinal }
+{}
+
+/// What each event of a merchant's posts: an approved sale or return, an accepted completion and an
+/// accepted reversal of what an earlier entry has posted exactly one row each, and nothing else
+/// posts. So it is with its rows in the tables.
+pub fn entries_post_exactly()
+    ensures approvals { (m : List ℕ) → ApprovalsPost m }
+    ensures completions { (m : List ℕ) → CompletionsPost m }
+    ensures reversals { (m : List ℕ) → ReversalsPost m }
+    ensures others { (m : List ℕ) → NothingElsePosts m }
+    ensures tables { (m : List ℕ) → TablesPost m }
 {}

@@ -56,10 +56,14 @@ module _ (opening : Opening) (past : List Event) where
       (Requested r)))))
 
   gets_balance : (further : List Event) → AreBalanced opening past further (outputs book further)
-  gets_balance further before later e m r day split came named reconciles = record {
-    balanced = balanced opening day (history_of opening (Some m) (past ++ before)) r reconciles;
-    is_said = said_alone further before later e m r split came named;
-  }
+  gets_balance further before later e m r day split came named is =
+      let balance = balanced opening (history_of opening (Some m) (past ++ before)) r day is in
+      record {
+        balanced = balance;
+        is_said =
+            said_alone further before later e m r split came named
+            ∙ ap (λ o. Some (output_of (Some m) o)) balance.replied;
+      }
 
   ran_alone : (further : List Event) →
       RanAlone opening past further (outputs book further) (tables_after book further)
