@@ -16,32 +16,39 @@ IfStore (Err Memory) failed = Unit {0}
 IfStore (Err Store) failed = failed
 
 -- A look-up or a walk leaves the tables as they are, and adds nothing to what a stop may leave.
--- Where it succeeded, the book stays open.
+-- Where it succeeded, the book stays open; else only a fault of the store itself shuts it.
 pub record LooksBy {S : Type 0} (tables : S → Tables) (is_honest is_open : S → Type 0)
-    (may_leave : S → Tables → Type 0) (failures : S → ℕ) (old new : S)
-    (succeeded : Bool) : Type 0 where
+    (may_leave : S → Tables → Type 0) (leaves_books : S → Type 0) (failures store_faults : S → ℕ)
+    (old new : S) (succeeded : Bool) : Type 0 where
   pub was_honest : is_honest new → is_honest old
   pub was_open : is_open new → is_open old
   pub stays_open : succeeded ≡ true → is_honest new → is_open old → is_open new
+  pub shuts : is_honest new → is_open old →
+      is_open new ⊎ HasRisen (store_faults old) (store_faults new)
   pub same : is_open new → tables new ≡ tables old
   pub leaves : is_honest new → (t : Tables) → may_leave new t → may_leave old t
+  pub books : is_honest new → leaves_books old → leaves_books new
   pub rise : failures old ≤ failures new
+  pub counts : store_faults old ≤ store_faults new
 
 -- A change leads to these tables, or is not made. At any moment a stop leaves what it might before,
--- or the tables with the whole change; after a change that was made only these, where before it
--- only the tables themselves might be left. A book that is open was so before, or its tables are
--- such as events lead to.
+-- or the tables with the whole change, and each of them a book that stores them; after a change that
+-- was made only these. A book that is open was so before, or its tables are such as events lead to.
+-- Only a fault of the store itself shuts it.
 pub record MakesBy {S : Type 0} (tables : S → Tables) (is_honest is_open : S → Type 0)
-    (may_leave : S → Tables → Type 0) (failures : S → ℕ) (old new : S)
-    (succeeded : Bool) (changed : Tables) : Type 0 where
+    (may_leave : S → Tables → Type 0) (leaves_books : S → Type 0) (failures store_faults : S → ℕ)
+    (old new : S) (succeeded : Bool) (changed : Tables) : Type 0 where
   pub was_honest : is_honest new → is_honest old
   pub was_open : is_open new → is_open old ⊎ HasPast (tables new)
   pub stays_open : succeeded ≡ true → is_honest new → is_open old → is_open new
+  pub shuts : is_honest new → is_open old →
+      is_open new ⊎ HasRisen (store_faults old) (store_faults new)
   pub made : succeeded ≡ true → is_open old → is_open new → tables new ≡ changed
   pub unmade : succeeded ≡ false → is_open old → is_open new → tables new ≡ tables old
   pub leaves : is_open old → is_honest new → (t : Tables) → may_leave new t →
       may_leave old t ⊎ (t ≡ changed)
   pub settled : succeeded ≡ true → is_open old → is_honest new →
-      ((t : Tables) → may_leave old t → t ≡ tables old) →
       (t : Tables) → may_leave new t → t ≡ changed
+  pub books : is_open old → is_honest new → leaves_books new
   pub rise : failures old ≤ failures new
+  pub counts : store_faults old ≤ store_faults new

@@ -38,61 +38,67 @@ pub trait Book {
     /// The tables that a stop may leave.
     ghost may_leave: { Self → Tables → Type 0 };
 
+    /// Whatever a stop may leave stores the tables that it reads as, as a book does that is opened.
+    ghost leaves_books: { Self → Type 0 };
+
     /// How many calls of the store have failed.
     ghost failures: { Self → ℕ };
+
+    /// How many faults the store itself has met, as it counts them.
+    ghost store_faults: { Self → ℕ };
 
     /// How many messages of a merchant a day admits.
     fn limit(&mut self) -> Result<Limit, BookFault>
         ensures value { is_open self.new → IfOk result (λ n. n ≡ (tables self.old).limit) }
-        ensures looks { LooksBy tables is_honest is_open may_leave failures
-            self.old self.new (is_ok result) }
+        ensures looks { LooksBy tables is_honest is_open may_leave leaves_books
+            failures store_faults self.old self.new (is_ok result) }
         ensures store { IfStore result (HasRisen (failures self.old) (failures self.new)) };
 
     /// The business day.
     fn day(&mut self) -> Result<Day, BookFault>
         ensures value { is_open self.new → IfOk result (λ day. day ≡ (tables self.old).day) }
-        ensures looks { LooksBy tables is_honest is_open may_leave failures
-            self.old self.new (is_ok result) }
+        ensures looks { LooksBy tables is_honest is_open may_leave leaves_books
+            failures store_faults self.old self.new (is_ok result) }
         ensures store { IfStore result (HasRisen (failures self.old) (failures self.new)) };
 
     /// The merchant with this name.
     fn merchant(&mut self, id: MerchantId) -> Result<Option<Merchant>, BookFault>
         ensures value { is_open self.new → IfOk result
             (λ row. row ≡ merchant_at (tables self.old) id) }
-        ensures looks { LooksBy tables is_honest is_open may_leave failures
-            self.old self.new (is_ok result) }
+        ensures looks { LooksBy tables is_honest is_open may_leave leaves_books
+            failures store_faults self.old self.new (is_ok result) }
         ensures store { IfStore result (HasRisen (failures self.old) (failures self.new)) };
 
     /// Whether the merchant has this terminal.
     fn has_terminal(&mut self, merchant: MerchantId, id: TerminalId) -> Result<bool, BookFault>
         ensures value { is_open self.new → IfOk result
             (λ has. has ≡ has_terminal_at (tables self.old) merchant id) }
-        ensures looks { LooksBy tables is_honest is_open may_leave failures
-            self.old self.new (is_ok result) }
+        ensures looks { LooksBy tables is_honest is_open may_leave leaves_books
+            failures store_faults self.old self.new (is_ok result) }
         ensures store { IfStore result (HasRisen (failures self.old) (failures self.new)) };
 
     /// The range that holds a prefix.
     fn range(&mut self, prefix: Prefix) -> Result<Option<Range>, BookFault>
         ensures value { is_open self.new → IfOk result
             (λ range. range ≡ range_at (tables self.old) prefix) }
-        ensures looks { LooksBy tables is_honest is_open may_leave failures
-            self.old self.new (is_ok result) }
+        ensures looks { LooksBy tables is_honest is_open may_leave leaves_books
+            failures store_faults self.old self.new (is_ok result) }
         ensures store { IfStore result (HasRisen (failures self.old) (failures self.new)) };
 
     /// Of the ranges that overlap these ends, the one of least low.
     fn overlapping(&mut self, low: u32, high: u32) -> Result<Option<Range>, BookFault>
         ensures value { is_open self.new → IfOk result
             (λ range. range ≡ overlapping_at (tables self.old) low high) }
-        ensures looks { LooksBy tables is_honest is_open may_leave failures
-            self.old self.new (is_ok result) }
+        ensures looks { LooksBy tables is_honest is_open may_leave leaves_books
+            failures store_faults self.old self.new (is_ok result) }
         ensures store { IfStore result (HasRisen (failures self.old) (failures self.new)) };
 
     /// The request with this key.
     fn request(&mut self, key: RequestKey) -> Result<Option<Request>, BookFault>
         ensures value { is_open self.new → IfOk result
             (λ row. row ≡ request_at (tables self.old) key) }
-        ensures looks { LooksBy tables is_honest is_open may_leave failures
-            self.old self.new (is_ok result) }
+        ensures looks { LooksBy tables is_honest is_open may_leave leaves_books
+            failures store_faults self.old self.new (is_ok result) }
         ensures store { IfStore result (HasRisen (failures self.old) (failures self.new)) };
 
     /// The merchant's request with this reference.
@@ -103,39 +109,39 @@ pub trait Book {
     ) -> Result<Option<Request>, BookFault>
         ensures value { is_open self.new → IfOk result
             (λ row. row ≡ referred_at (tables self.old) merchant reference) }
-        ensures looks { LooksBy tables is_honest is_open may_leave failures
-            self.old self.new (is_ok result) }
+        ensures looks { LooksBy tables is_honest is_open may_leave leaves_books
+            failures store_faults self.old self.new (is_ok result) }
         ensures store { IfStore result (HasRisen (failures self.old) (failures self.new)) };
 
     /// How many of the merchant's requests were admitted: so many references it has given.
     fn admitted(&mut self, merchant: MerchantId) -> Result<AdmittedCount, BookFault>
         ensures value { is_open self.new → IfOk result
             (λ n. n ≡ admitted_at (tables self.old) merchant) }
-        ensures looks { LooksBy tables is_honest is_open may_leave failures
-            self.old self.new (is_ok result) }
+        ensures looks { LooksBy tables is_honest is_open may_leave leaves_books
+            failures store_faults self.old self.new (is_ok result) }
         ensures store { IfStore result (HasRisen (failures self.old) (failures self.new)) };
 
     /// How many of the merchant's messages count against the limit of a day.
     fn used(&mut self, merchant: MerchantId, day: Day) -> Result<UsedCount, BookFault>
         ensures value { is_open self.new → IfOk result
             (λ n. n ≡ used_at (tables self.old) merchant day) }
-        ensures looks { LooksBy tables is_honest is_open may_leave failures
-            self.old self.new (is_ok result) }
+        ensures looks { LooksBy tables is_honest is_open may_leave leaves_books
+            failures store_faults self.old self.new (is_ok result) }
         ensures store { IfStore result (HasRisen (failures self.old) (failures self.new)) };
 
     /// The merchant's totals of a day.
     fn totals(&mut self, merchant: MerchantId, day: Day) -> Result<Totals, BookFault>
         ensures value { is_open self.new → IfOk result
             (λ totals. totals ≡ totals_at (tables self.old) merchant day) }
-        ensures looks { LooksBy tables is_honest is_open may_leave failures
-            self.old self.new (is_ok result) }
+        ensures looks { LooksBy tables is_honest is_open may_leave leaves_books
+            failures store_faults self.old self.new (is_ok result) }
         ensures store { IfStore result (HasRisen (failures self.old) (failures self.new)) };
 
     /// How many requests of a day are pending, of all merchants.
     fn pending(&mut self, day: Day) -> Result<u64, BookFault>
         ensures value { is_open self.new → IfOk result (λ n. n ≡ pending_at (tables self.old) day) }
-        ensures looks { LooksBy tables is_honest is_open may_leave failures
-            self.old self.new (is_ok result) }
+        ensures looks { LooksBy tables is_honest is_open may_leave leaves_books
+            failures store_faults self.old self.new (is_ok result) }
         ensures store { IfStore result (HasRisen (failures self.old) (failures self.new)) };
 
     /// The merchant's last reconciliation of a day.
@@ -146,8 +152,8 @@ pub trait Book {
     ) -> Result<Option<Reconciliation>, BookFault>
         ensures value { is_open self.new → IfOk result
             (λ row. row ≡ last_reconciliation_at (tables self.old) merchant day) }
-        ensures looks { LooksBy tables is_honest is_open may_leave failures
-            self.old self.new (is_ok result) }
+        ensures looks { LooksBy tables is_honest is_open may_leave leaves_books
+            failures store_faults self.old self.new (is_ok result) }
         ensures store { IfStore result (HasRisen (failures self.old) (failures self.new)) };
 
     /// Hands over the postings of a day, each with its number, in order of merchant and number.
@@ -160,8 +166,8 @@ pub trait Book {
             (SawAll V.sees (postings_at (tables self.old) day) visitor.old visitor.new) }
         ensures begun { is_honest self.new → is_open self.old → OnErr result
             (SawSome V.sees (postings_at (tables self.old) day) visitor.old visitor.new) }
-        ensures looks { LooksBy tables is_honest is_open may_leave failures
-            self.old self.new (is_ok result) }
+        ensures looks { LooksBy tables is_honest is_open may_leave leaves_books
+            failures store_faults self.old self.new (is_ok result) }
         ensures store { IfStore result (HasRisen (failures self.old) (failures self.new)) };
 
     /// Hands over the merchants, in order of their names.
@@ -170,8 +176,8 @@ pub trait Book {
             (SawAll V.sees (merchants_at (tables self.old)) visitor.old visitor.new) }
         ensures begun { is_honest self.new → is_open self.old → OnErr result
             (SawSome V.sees (merchants_at (tables self.old)) visitor.old visitor.new) }
-        ensures looks { LooksBy tables is_honest is_open may_leave failures
-            self.old self.new (is_ok result) }
+        ensures looks { LooksBy tables is_honest is_open may_leave leaves_books
+            failures store_faults self.old self.new (is_ok result) }
         ensures store { IfStore result (HasRisen (failures self.old) (failures self.new)) };
 
     /// Hands over a merchant's approved holds, which are neither completed nor reversed, in order
@@ -185,8 +191,8 @@ pub trait Book {
             (SawAll V.sees (holds_at (tables self.old) merchant) visitor.old visitor.new) }
         ensures begun { is_honest self.new → is_open self.old → OnErr result
             (SawSome V.sees (holds_at (tables self.old) merchant) visitor.old visitor.new) }
-        ensures looks { LooksBy tables is_honest is_open may_leave failures
-            self.old self.new (is_ok result) }
+        ensures looks { LooksBy tables is_honest is_open may_leave leaves_books
+            failures store_faults self.old self.new (is_ok result) }
         ensures store { IfStore result (HasRisen (failures self.old) (failures self.new)) };
 
     /// Hands over the requests of all merchants and days that wait for their issuer's answer, in
@@ -196,8 +202,8 @@ pub trait Book {
             (SawAll V.sees (waiting_at (tables self.old)) visitor.old visitor.new) }
         ensures begun { is_honest self.new → is_open self.old → OnErr result
             (SawSome V.sees (waiting_at (tables self.old)) visitor.old visitor.new) }
-        ensures looks { LooksBy tables is_honest is_open may_leave failures
-            self.old self.new (is_ok result) }
+        ensures looks { LooksBy tables is_honest is_open may_leave leaves_books
+            failures store_faults self.old self.new (is_ok result) }
         ensures store { IfStore result (HasRisen (failures self.old) (failures self.new)) };
 
     /// Makes all of a change, or none of it. The change fits: its keys are new, and there is room
@@ -205,10 +211,17 @@ pub trait Book {
     fn apply(&mut self, change: &Change) -> Result<(), BookFault>
         requires fits { is_open self.old → Fits (tables self.old) change.now }
         requires past { is_open self.old → HasPast (after (tables self.old) change.now) }
-        ensures makes { MakesBy tables is_honest is_open may_leave failures
-            self.old self.new (is_ok result) (after (tables self.old) change.now) }
+        ensures makes { MakesBy tables is_honest is_open may_leave leaves_books
+            failures store_faults self.old self.new (is_ok result) (after (tables self.old) change.now) }
         ensures store { IfStore result (HasRisen (failures self.old) (failures self.new)) };
 
     /// The store of an open book is honest.
     ghost honest: { (book : Self) → is_open book → is_honest book };
+
+    /// Of an open book a stop leaves its tables and nothing else,
+    ghost settled: { (book : Self) → is_open book → (t : Tables) → may_leave book t
+        → t ≡ tables book };
+
+    /// and a book that stores them.
+    ghost stored: { (book : Self) → is_open book → leaves_books book };
 }

@@ -198,12 +198,19 @@ impl Book for ListBook {
 
     ghost is_open = { λ t. Unit {0} };
 
-    // Nothing outlives a book in memory.
-    ghost may_leave = { λ t left. ⊥ };
+    ghost may_leave = { λ t left. left ≡ t };
+
+    ghost leaves_books = { λ t. Unit {0} };
 
     ghost failures = { λ t. 0 };
 
+    ghost store_faults = { λ t. 0 };
+
     ghost honest = { λ t is. is };
+
+    ghost settled = { λ t is left same. same };
+
+    ghost stored = { λ t is. is };
 
     fn limit(&mut self) -> Result<Limit, BookFault> {
         Ok(self.limit)
