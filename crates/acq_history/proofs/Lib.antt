@@ -42,6 +42,8 @@ pub mod MerchantsRuns
 pub mod EntriesThatAccept
 pub mod PostedEarlier
 pub mod EntriesThatPost
+pub mod ReconciliationsAlone
+pub mod LookUpsSuffice
 pub mod NobodysRuns
 pub mod IsolatedParties
 pub mod RepeatsTakenOut

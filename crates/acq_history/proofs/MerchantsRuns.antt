@@ -44,7 +44,7 @@ own_step {opening} {m} {t} {h} g a mine =
     step (names (merchant_named a) m) refl mine
 
 -- each event does to the agreement what a whole run asks of it
-keeps_agreement : (opening : Opening) (m : List ℕ) →
+pub keeps_agreement : (opening : Opening) (m : List ℕ) →
     KeepsAgreement opening (Some m) (Agrees opening m)
 keeps_agreement opening m = record {
   own_event = λ t h e g mine. own_step g (arrival_of e)

@@ -125,7 +125,7 @@ row_out : (m : List ℕ) (row : Request) → bytes_eq row.key.merchant m ≡ fal
 row_out m row other rows = filter-push_out (λ a. bytes_eq a.key.merchant m) rows row other
 
 -- a merchant is named, and is another
-named_other : (m : List ℕ) (o : Option (List ℕ)) → is_some o ≡ true → names o m ≡ false →
+pub named_other : (m : List ℕ) (o : Option (List ℕ)) → is_some o ≡ true → names o m ≡ false →
     bytes_eq (or_empty o) m ≡ false
 named_other m None there other = absurd (cc)
 named_other m (Some n) there other = other

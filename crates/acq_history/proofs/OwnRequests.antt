@@ -106,7 +106,7 @@ is_some_map f None = refl
 is_some_map f (Some x) = refl
 
 -- a reconciliation is past the merchant check, in balance or not
-balance_past : (b : Bool) →
+pub balance_past : (b : Bool) →
     not (is_code code.FormatError (balance_code b) || is_code code.InvalidMerchant (balance_code b))
     ≡ true
 balance_past true = refl

@@ -2,6 +2,7 @@ pub mod Entries
 pub mod History
 pub mod PartyHistory
 pub mod HistoryLaws
+pub mod LookUps
 pub mod Ranges
 pub mod Keys
 pub mod References
@@ -11,6 +12,7 @@ pub mod Bounds
 pub mod Rows
 pub mod Books
 pub mod Isolation
+pub mod Reconciliations
 pub mod Splitting
 pub mod QuietRepeats
 pub mod DaySums

@@ -13,6 +13,8 @@ use Rattle.acq_core.specs.Tables.{outputs, step_output}
 use Rattle.acq_core.specs.Tables.{tables_after}
 use Rattle.acq_history.specs.PartyHistory.{known_by, history_of, book_after}
 use Rattle.acq_history.specs.Isolation.{open_at}
+use Rattle.acq_history.specs.Reconciliations.{reconciliations_of}
+use Rattle.acq_history.proofs.ReconciliationsAlone.{reconciles_alone}
 use Rattle.acq_history.proofs.IsolatedParties.{isolated}
 use Rattle.acq_history.proofs.MerchantsRuns.{from_new, posts_alone, holds_alone}
 use Rattle.acq_history.proofs.TablesAgreeWithHistory.{known_in_mine}
@@ -77,6 +79,9 @@ module _ (opening : Opening) (past : List Event) where
         holds = λ m moment.
             ap (λ t. open_at moment (map prior_of (requests_of m t.requests))) then
             ∙ holds_alone m opening moment (past ++ further);
+        reconciled = λ m.
+            ap (λ t. reconciliations_of m t.reconciliations) then
+            ∙ reconciles_alone m opening (past ++ further);
         balanced = gets_balance further;
       }
 

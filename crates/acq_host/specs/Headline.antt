@@ -12,6 +12,7 @@ use Rattle.acq_history.specs.History.{prior, postings}
 use Rattle.acq_history.specs.PartyHistory.{Party, own, history_of, book_after}
 use Rattle.acq_history.specs.PartyHistory.{outputs_at, outputs_alone}
 use Rattle.acq_history.specs.Isolation.{all_recorded, open_at}
+use Rattle.acq_history.specs.Reconciliations.{reconciliations_of, reconciliations}
 use Rattle.acq_history.specs.Balance.{IsReconciliation, IsBalanced, balance_reply}
 use Rattle.acq_history.specs.Conservation.{IsConserved}
 use Rattle.acq_history.specs.DaySums.{postings_on}
@@ -40,8 +41,8 @@ AreBalanced opening past further said =
     GetsBalance opening m (past ++ before) r day said (length before)
 
 -- After a past, further events gave these outputs and led to these tables. Each merchant, and
--- nobody, got what its own events alone give; so it is with a merchant's postings and its open
--- holds; and each reconciliation got its balance.
+-- nobody, got what its own events alone give; so it is with a merchant's postings, its open holds
+-- and its reconciliations; and each reconciliation got its balance.
 pub record RanAlone (opening : Opening) (past further : List Event) (said : List Output)
     (t : Tables) : Type 0 where
   pub outputs : (party : Party) →
@@ -52,6 +53,9 @@ pub record RanAlone (opening : Opening) (past further : List Event) (said : List
   pub holds : (m : List ℕ) (moment : ℕ) →
       open_at moment (map prior_of (requests_of m t.requests))
       ≡ open_at moment (map prior (all_recorded (history_of opening (Some m) (past ++ further))))
+  pub reconciled : (m : List ℕ) →
+      reconciliations_of m t.reconciliations
+      ≡ reconciliations (history_of opening (Some m) (past ++ further))
   pub balanced : AreBalanced opening past further said
 
 -- so it is whatever past led to the tables from which the run began

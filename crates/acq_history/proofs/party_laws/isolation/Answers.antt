@@ -1,4 +1,5 @@
 use Rattle.acq_history.proofs.MerchantsRuns.{posts_alone, holds_alone}
+use Rattle.acq_history.proofs.ReconciliationsAlone.{reconciles_alone}
 use Rattle.acq_history.proofs.IsolatedParties.{isolated, two_runs}
 use Rattle.acq_history.proofs.party_laws.isolation.Goals as goal
 
@@ -9,4 +10,5 @@ returns c =
       two_runs = two_runs;
       posted = posts_alone;
       holds = holds_alone;
+      reconciled = reconciles_alone;
     }
