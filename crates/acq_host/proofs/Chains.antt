@@ -1,24 +1,38 @@
 -- Look-ups, one after another, and a change after them.
 use Rattle.std.proofs.Common.{◌≡◌, ◌≤◌, ℕ, Bool, true, Err, inl, inr, ⊎_elim, ◌∙◌, refl, sym, arith}
 use Rattle.acq_core.specs.Tables.{Tables}
+use Rattle.acq_book.specs.Calls.{Looks}
 use Rattle.acq_book.specs.Promise.{HasRisen, IfStore, LooksBy, MakesBy}
+use Rattle.acq_book.specs.declared.book.Book.{Ghosts}
 use Rattle.acq_book.specs.declared.book_fault.BookFault.{BookFault}
 use Rattle.acq_book.specs.declared.book_fault.BookFault.TheVariants.{Memory, Store}
-pub use Rattle.acq_book.proofs.Chains.{looks_more}
+pub use Rattle.acq_book.proofs.Chains.{looks_more, risen_after}
+
+-- the same in one word
+pub looks_then : {S : Type 0} (book : Ghosts S) {a b c : S} {succeeded : Bool} →
+    Looks book a b true → Looks book b c succeeded → Looks book a c succeeded
+looks_then book {a} {b} {c} {succeeded} =
+    looks_more book.tables book.is_honest book.is_open book.may_leave book.leaves_books
+    book.failures book.store_faults a b c succeeded
 
 -- look-ups that succeeded, and a change then
 pub makes_after : {S : Type 0} (tables : S → Tables) (is_honest is_open : S → Type 0)
-    (may_leave : S → Tables → Type 0) (failures : S → ℕ) (honest : (s : S) → is_open s →
-    is_honest s) (a b c : S)
+    (may_leave : S → Tables → Type 0) (leaves_books : S → Type 0) (failures store_faults : S → ℕ)
+    (honest : (s : S) → is_open s → is_honest s) (a b c : S)
     (succeeded : Bool) (made changed : Tables) → (is_open b → made ≡ changed) →
-    LooksBy tables is_honest is_open may_leave failures a b true →
-    MakesBy tables is_honest is_open may_leave failures b c succeeded made →
-    MakesBy tables is_honest is_open may_leave failures a c succeeded changed
-makes_after tables is_honest is_open may_leave failures honest a b c succeeded made changed same
-    first second = record {
+    LooksBy tables is_honest is_open may_leave leaves_books failures store_faults a b true →
+    MakesBy tables is_honest is_open may_leave leaves_books failures store_faults b c succeeded
+    made →
+    MakesBy tables is_honest is_open may_leave leaves_books failures store_faults a c succeeded
+    changed
+makes_after tables is_honest is_open may_leave leaves_books failures store_faults honest a b c
+    succeeded made changed same first second = record {
       was_honest = λ h. first.was_honest (second.was_honest h);
       was_open = λ end. ⊎_elim (λ between. inl (first.was_open between)) inr (second.was_open end);
       stays_open = λ s h o. second.stays_open s h (first.stays_open refl (second.was_honest h) o);
+      shuts = λ h o.
+          ⊎_elim inl (λ risen. inr (risen_after first.counts second.counts risen))
+          (second.shuts h (first.stays_open refl (second.was_honest h) o));
       made = λ s o end.
           let between = first.stays_open refl (second.was_honest (honest c end)) o in
           second.made s between end ∙ same between;
@@ -29,12 +43,12 @@ makes_after tables is_honest is_open may_leave failures honest a b c succeeded m
           let between = first.stays_open refl (second.was_honest h) o in
           ⊎_elim (λ was. inl (first.leaves (second.was_honest h) t was)) (λ is. inr (is ∙ same between))
           (second.leaves between h t l);
-      settled = λ s o h only t l.
+      settled = λ s o h t l.
           let between = first.stays_open refl (second.was_honest h) o in
-          second.settled s between h
-          (λ u was. only u (first.leaves (second.was_honest h) u was) ∙ sym (first.same between)) t l
-          ∙ same between;
+          second.settled s between h t l ∙ same between;
+      books = λ o h. second.books (first.stays_open refl (second.was_honest h) o) h;
       rise = omega arith;
+      counts = omega arith;
     }
 
 -- a fault of the store after look-ups that succeeded is one of all of them

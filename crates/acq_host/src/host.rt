@@ -85,6 +85,9 @@ impl<B: Book + Drop> Host<B> {
         ensures tables { Makes B.Book self.old self.new (is_ok result)
             (step_tables (B.tables self.old) (arrival_of event.now)) }
         ensures past { B.is_open self.new → HasPast (B.tables self.new) }
+        // Events lead to what a stop leaves, too.
+        ensures left { B.is_honest self.new → B.is_open self.old
+            → (t : Tables) → B.may_leave self.new t → HasPast t }
         ensures store { IfStore result (HasRisen (B.failures self.old) (B.failures self.new)) }
     {
         every_event(event);
@@ -117,16 +120,21 @@ impl<B: Book + Drop> Host<B> {
         // What clearing gave of a day it gives again, and a clearing file sums up to the totals.
         ensures clearing { B.is_open self.old → B.is_open self.new
             → KeptItsClearing (B.tables self.old) (B.tables self.new) }
-        // A stop leaves all events so far.
+        // A stop leaves all events so far, each time in a book that stores them, and events lead to
+        // what it leaves.
         ensures stop { B.is_honest self.new → B.is_open self.old
-            → ((t : Tables) → B.may_leave self.old t → t ≡ B.tables self.old)
             → (t : Tables) → B.may_leave self.new t → OnOk result
             (t ≡ tables_after (B.tables self.old) events.now) }
         ensures fault_stop { B.is_honest self.new → B.is_open self.old
-            → ((t : Tables) → B.may_leave self.old t → t ≡ B.tables self.old)
             → (t : Tables) → B.may_leave self.new t → IfErr result (λ fault.
             (t ≡ after_first fault.at (B.tables self.old) events.now)
             ⊎ (t ≡ after_first (fault.at + 1) (B.tables self.old) events.now)) }
+        ensures books { B.is_honest self.new → B.is_open self.old → B.leaves_books self.new }
+        ensures left { B.is_honest self.new → B.is_open self.old
+            → (t : Tables) → B.may_leave self.new t → HasPast t }
+        // Only a fault of the store itself shuts the book.
+        ensures shuts { B.is_honest self.new → B.is_open self.old → B.is_open self.new
+            ⊎ HasRisen (B.store_faults self.old) (B.store_faults self.new) }
         ensures store { IfErr result (λ fault. IfStore {T = Unit {0}} (Err fault.fault)
             (HasRisen (B.failures self.old) (B.failures self.new))) }
     {
@@ -151,6 +159,8 @@ impl<B: Book + Drop> Host<B> {
         ensures tables { Makes B.Book self.old self.new (is_ok result)
             (step_tables (B.tables self.old) (arrival_of event.now)) }
         ensures past { B.is_open self.new → OnOk result (HasPast (B.tables self.new)) }
+        ensures left { B.is_honest self.new → B.is_open self.old → HasPast (B.tables self.old)
+            → (t : Tables) → B.may_leave self.new t → HasPast t }
         ensures store { IfStore result (HasRisen (B.failures self.old) (B.failures self.new)) }
     {
         // Once the event is taken nothing may fail, so the place of its output is taken first.

@@ -1,6 +1,7 @@
 -- A look-up over a connection is one of its book.
-use Rattle.std.proofs.Common.{true≢false, Result, Ok, Err, IfOk, OnOk, OnErr, is_ok, ◌≡◌, ◌≤◌}
+use Rattle.std.proofs.Common.{ℕ, true≢false, Result, Ok, Err, IfOk, OnOk, OnErr, is_ok, ◌≡◌, ◌≤◌}
 use Rattle.std.proofs.Common.{Bool, true, false, IsTrue, ⊎_elim, sym, ap, subst, ◌∙◌, arith}
+use Rattle.sqlite_disk.specs.Disk.{MoreFaults}
 use Rattle.sqlite_trees.specs.declared.store.Store.{Ghosts}
 use Rattle.sqlite.specs.Effect.{Database}
 use Rattle.sqlite.specs.declared.error.Error.{Error}
@@ -13,14 +14,15 @@ use Rattle.std.proofs.lemmas.Bool.{and_parts}
 use Rattle.card_no.specs.Ranges.{are_apart, is_valid_range}
 use Rattle.acq_history.proofs.BooksAreSound.{books_are_sound}
 use Rattle.acq_book.specs.declared.book_fault.BookFault.{BookFault}
-use Rattle.acq_book.specs.Promise.{LooksBy}
+use Rattle.acq_book.specs.Promise.{HasRisen, LooksBy}
 use Rattle.acq_sql_rows.specs.Relation.{Holds}
 use Rattle.acq_sql_rows.specs.ReadBack.{tables_of}
 use Rattle.acq_sql_changes.specs.Changed.{IsAt}
 use Rattle.acq_sql_reads.specs.Looked.{LooksOnly}
-use Rattle.acq_sql_reads.proofs.Leaves.{at_unchanged}
+use Rattle.acq_sql_reads.proofs.Leaves.{at_unchanged, kept}
 use Rattle.acq_sql.specs.Kept.{Kept}
 use Rattle.acq_sql.specs.Opened.{tables, is_honest, is_open, may_leave}
+use Rattle.acq_sql.specs.Opened.{leaves_books, store_faults}
 
 -- ---- what a book answers of what its database answered
 
@@ -48,6 +50,10 @@ relay_err P (Err e) (Err f) same is = is
 pub apart_of : (t : Tables) → HasPast t → are_apart t.ranges ≡ true
 apart_of t (opening, book) =
     (and_parts (list_all is_valid_range t.ranges) _ (books_are_sound opening t book).ranges).1
+
+-- the disk's count rose
+pub risen_by : {old new : ℕ} → MoreFaults old new → HasRisen old new
+risen_by more = grind (arith, more)
 
 -- ---- look-ups
 
@@ -85,37 +91,50 @@ module _ {S : Type 0} (g : Ghosts S) (old new : Kept S) (succeeded : Bool)
   opened_before : is_open g new → is_open g old
   opened_before o =
       let was = was_open o.clean o.at.is_open in
-      let kept = now_kept o.clean o.at.is_open in
+      let same = now_kept o.clean o.at.is_open in
       record {
         clean = was_honest o.clean;
         at = record {
           is_open = was;
           settled = out;
           same = settled was;
-          holds = subst (λ (d : Database). Holds d (tables_of d)) kept o.at.holds;
+          holds = subst (λ (d : Database). Holds d (tables_of d)) same o.at.holds;
         };
-        past = subst (λ (d : Database). HasPast (tables_of d)) kept o.past;
+        past = subst (λ (d : Database). HasPast (tables_of d)) same o.past;
       }
 
   stays_open : succeeded ≡ true → HasCleanDisk after → is_open g old → is_open g new
   stays_open is clean o =
       let same = looks.same clean is in
-      let kept = sym same.0.now_is in
+      let back = sym same.0.now_is in
       record {
         clean = clean;
         at = at_unchanged before after (tables g new) same
-            (subst (λ (d : Database). IsAt before (tables_of d)) kept o.at);
-        past = subst (λ (d : Database). HasPast (tables_of d)) kept o.past;
+            (subst (λ (d : Database). IsAt before (tables_of d)) back o.at);
+        past = subst (λ (d : Database). HasPast (tables_of d)) back o.past;
+      }
+
+  stays : HasCleanDisk after → is_open g old → IsTrue after.is_open → is_open g new
+  stays clean o opened =
+      let same = sym (now_kept clean opened) in
+      record {
+        clean = clean;
+        at =
+            subst (λ (d : Database). IsAt after (tables_of d)) same
+            (kept before after succeeded looks clean opened (tables g old) o.at);
+        past = subst (λ (d : Database). HasPast (tables_of d)) same o.past;
       }
 
   -- what a look-up over the connection leaves, a look-up of the book leaves
   pub looks_at : old.failures ≤ new.failures
-      → LooksBy (tables g) (is_honest g) (is_open g) (may_leave g) (λ (b : Kept S). b.failures) old
-      new succeeded
+      → LooksBy (tables g) (is_honest g) (is_open g) (may_leave g) (leaves_books g)
+      (λ (b : Kept S). b.failures) (store_faults g) old new succeeded
   looks_at rise = record {
     was_honest = was_honest;
     was_open = opened_before;
     stays_open = stays_open;
+    shuts = λ clean o. ⊎_elim (λ opened. inl (stays clean o opened))
+        (λ more. inr (risen_by more)) (looks.stop.closes clean o.at.is_open);
     same = λ o. ap tables_of (now_kept o.clean o.at.is_open);
     leaves = λ clean t left. (
       left.0,
@@ -123,7 +142,11 @@ module _ {S : Type 0} (g : Ghosts S) (old new : Kept S) (succeeded : Bool)
           (looks.stop.crash clean left.0 left.1),
       left.2,
     );
+    books = λ clean was trees left. was trees
+        (⊎_elim (λ (before : _). before) (λ none. absurd none)
+        (looks.stop.crash clean trees left));
     rise = rise;
+    counts = looks.stop.counts;
   }
 
   -- an answer over the tables that the database holds is one over the book's

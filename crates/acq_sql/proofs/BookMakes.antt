@@ -1,9 +1,7 @@
 -- A change over a connection is one of its book.
-use Rattle.std.proofs.Common.{◌≡◌, inl, inr, ◌≤◌, true, false, true≢false, IsTrue, ⊎_elim, sym, ap}
-use Rattle.std.proofs.Common.{subst, ◌∙◌, arith, Result, Ok, Err, is_ok}
-use Rattle.sqlite_trees.specs.Tree.{Trees}
+use Rattle.std.proofs.Common.{◌≡◌, inl, inr, ◌≤◌, Bool, true, false, true≢false, IsTrue, ⊎_elim}
+use Rattle.std.proofs.Common.{refl, sym, subst, ◌∙◌, arith, Result, Ok, Err, is_ok}
 use Rattle.sqlite_trees.specs.declared.store.Store.{Ghosts}
-use Rattle.sqlite.specs.Effect.{Database}
 use Rattle.sqlite.specs.declared.error.Error.{Error}
 use Rattle.sqlite.specs.State.{State, HasCleanDisk}
 use Rattle.sqlite.specs.Held.{state}
@@ -12,18 +10,15 @@ use Rattle.acq_core.specs.Pasts.{HasPast}
 use Rattle.acq_core.specs.Tables as core
 use Rattle.acq_book.specs.Fits.{Fits}
 use Rattle.acq_book.specs.Promise.{MakesBy}
-use Rattle.acq_sql_rows.specs.ReadBack.{tables_in}
 use Rattle.acq_sql_rows.specs.Rows.{version}
 use Rattle.acq_sql_rows.proofs.TablesReadBack.{tables_of-holds}
 use Rattle.acq_sql_changes.specs.Changed.{IsAt, LeadsTo, LeavesTables}
 use Rattle.acq_sql.specs.Applied.{Applies, Suits}
 use Rattle.acq_sql.specs.Kept.{Kept}
 use Rattle.acq_sql.specs.Opened.{tables, is_honest, is_open, may_leave}
-
--- while a store is open, a stop leaves its last commit
-abbrev pub LeavesCommit : {S : Type 0} → Ghosts S → Type 0
-LeavesCommit {S} g =
-    (s : S) (db : Trees) → IsTrue (g.view s).is_open → g.recovers s db → db ≡ (g.view s).committed
+use Rattle.acq_sql.specs.Opened.{leaves_books, store_faults}
+use Rattle.acq_sql.specs.Laws.{LeavesCommit, settled_at, stored_at, stores_what_it_reads}
+use Rattle.acq_sql.proofs.BookLooks.{risen_by}
 
 module _ {S T : Type 0} (g : Ghosts S) (law : LeavesCommit g) (old new : Kept S) (change : Change)
     (result : Result T Error)
@@ -58,41 +53,54 @@ module _ {S T : Type 0} (g : Ghosts S) (law : LeavesCommit g) (old new : Kept S)
   tables_led : is_ok result ≡ true → HasCleanDisk after → is_open g old → tables g new ≡ changed
   tables_led is clean o = tables_of-holds after.now changed (led is clean o).holds
 
-  left : is_ok result ≡ false → is_open g old → is_open g new → IsAt after (tables g old)
-  left is o end =
+  left : is_ok result ≡ false → HasCleanDisk after → IsTrue after.is_open → is_open g old
+      → IsAt after (tables g old)
+  left is clean opened o =
       let step : (r : Result T Error) → LeavesTables version before after r → is_ok r ≡ false →
       IsAt after (tables g old) =
       elim [
         | Ok x ↦ (λ did is. absurd (true≢false is))
-        | Err e ↦ (λ did is. did end.clean end.at.is_open (tables g old) o.at)
+        | Err e ↦ (λ did is. did clean opened (tables g old) o.at)
       ] in
       step result applies.undone is
 
+  -- a connection at tables that events lead to is an open book
+  opens : (t : core.Tables) → HasCleanDisk after → IsAt after t → HasPast t → is_open g new
+  opens t clean at past =
+      let same = sym (tables_of-holds after.now t at.holds) in
+      record { clean = clean; at = subst (IsAt after) same at; past = subst HasPast same past }
+
+  stays : HasCleanDisk after → is_open g old → IsTrue after.is_open → is_open g new
+  stays clean o opened =
+      let by : (b : Bool) → is_ok result ≡ b → is_open g new =
+      elim [
+        | true ↦ (λ is. opens changed clean (led is clean o) (past o))
+        | false ↦ (λ is. opens (tables g old) clean (left is clean opened o) o.past)
+      ] in
+      by (is_ok result) refl
+
   pub makes_at : old.failures ≤ new.failures
-      → MakesBy (tables g) (is_honest g) (is_open g) (may_leave g) (λ (b : Kept S). b.failures) old
-      new (is_ok result)
-      changed
+      → MakesBy (tables g) (is_honest g) (is_open g) (may_leave g) (leaves_books g)
+      (λ (b : Kept S). b.failures) (store_faults g) old new (is_ok result) changed
   makes_at rise = record {
     was_honest = λ clean. let up = applies.stop.clean in omega (arith, up, clean);
     was_open = λ end. inr end.past;
-    stays_open = λ is clean o.
-        let same = sym (tables_led is clean o) in
-        record {
-          clean = clean;
-          at = subst (IsAt after) same (led is clean o);
-          past =
-              subst HasPast same (past o);
-        };
+    stays_open = λ is clean o. opens changed clean (led is clean o) (past o);
+    shuts = λ clean o. ⊎_elim (λ opened. inl (stays clean o opened))
+        (λ more. inr (risen_by more)) (applies.stop.closes clean o.at.is_open);
     made = λ is o end. tables_led is end.clean o;
-    unmade = λ is o end. tables_of-holds after.now (tables g old) (left is o end).holds;
+    unmade = λ is o end. tables_of-holds after.now (tables g old)
+        (left is end.clean end.at.is_open o).holds;
     leaves = λ o clean t way. ⊎_elim
         (λ (was : before.may_leave way.0). inl (way.0, was, way.2))
         (λ whole. inr (way.2 ∙ tables_of-holds _ changed (whole (tables g old) o.at (suits o))))
         (applies.stop.crash clean way.0 way.1);
-    settled = λ is o clean only t way.
-        let at = led is clean o in
-        let kept = law new.connection.store way.0 at.is_open way.1 in
-        way.2 ∙ (ap tables_in (kept ∙ sym (ap (λ (d : Database). d.trees) at.same))
-        ∙ tables_led is clean o);
+    settled = λ is o clean t way.
+        settled_at g law new (opens changed clean (led is clean o) (past o)) t way
+        ∙ tables_led is clean o;
+    books = λ o clean trees way. ⊎_elim (λ was. stored_at g law old o trees was)
+        (λ whole. stores_what_it_reads changed trees (whole (tables g old) o.at (suits o)))
+        (applies.stop.crash clean trees way);
     rise = rise;
+    counts = applies.stop.counts;
   }

@@ -1,5 +1,7 @@
 pub mod Kept
 pub mod Opened
+pub mod Laws
+pub mod Files
 pub mod Applied
 pub mod Faults
 pub mod Made

@@ -1,5 +1,5 @@
 -- What a book in SQL says of its connection.
-use Rattle.std.specs.Prelude.{◌≡◌}
+use Rattle.std.specs.Prelude.{◌≡◌, ℕ}
 use Rattle.sqlite_trees.specs.Tree.{Trees}
 use Rattle.sqlite_trees.specs.declared.store.Store.{Ghosts}
 use Rattle.sqlite.specs.State.{State, HasCleanDisk}
@@ -8,7 +8,7 @@ use Rattle.acq_core.specs.Pasts.{HasPast}
 use Rattle.acq_core.specs.Tables.{Tables}
 use Rattle.acq_sql_rows.specs.Schema.{book_schema}
 use Rattle.acq_sql_rows.specs.ReadBack.{tables_of}
-use Rattle.acq_sql_changes.specs.Changed.{IsAt}
+use Rattle.acq_sql_changes.specs.Changed.{IsAt, HoldsAfter}
 use Rattle.acq_sql.specs.Kept.{Kept}
 
 -- the tables that trees of a book stand for
@@ -38,3 +38,14 @@ module _ {S : Type 0} (g : Ghosts S) where
   abbrev pub may_leave : Kept S → Tables → Type 0
   may_leave book t =
       (trees : Trees) × (state g book.connection).may_leave trees × (t ≡ tables_left trees)
+
+  -- whatever a stop may leave stores the tables that it reads as, with rows, keys, running totals,
+  -- version and schema
+  abbrev pub leaves_books : Kept S → Type 0
+  leaves_books book =
+      (trees : Trees) → (state g book.connection).may_leave trees
+      → HoldsAfter (tables_left trees) trees
+
+  -- how many times the disk has failed or refused
+  abbrev pub store_faults : Kept S → ℕ
+  store_faults book = (state g book.connection).faults

@@ -4,6 +4,7 @@ ghost use Rattle.std.specs.Prelude.{◌≡◌, ◌≢◌, ◌↔◌, Err, IfErr,
 ghost use Rattle.std.specs.Prelude.{option_map};
 ghost use Rattle.sqlite.specs.Held.{state};
 ghost use Rattle.sqlite.specs.State.{HasCleanDisk, Survives};
+ghost use Rattle.row_lemmas.specs.Ready.{LeavesOnly};
 ghost use Rattle.acq_core.specs.Pasts.{HasPast};
 ghost use Rattle.acq_core.specs.Tables.{Tables, new_tables};
 ghost use Rattle.acq_core.specs.Widening.{widened_tables};
@@ -76,6 +77,11 @@ impl<S: Alter> SqlBook<S> {
         ensures stop { IfOk result (λ book.
             Survives (state S.Store connection) (state S.Store book.connection)
             (HoldsAfter (new_tables (record { limit = limit; first_day = first_day })))) }
+        // After it a stop leaves the whole new book and nothing else.
+        ensures left { IfOk result (λ book. HasCleanDisk (state S.Store book.connection)
+            → LeavesOnly
+            (HoldsAfter (new_tables (record { limit = limit; first_day = first_day })))
+            (state S.Store book.connection)) }
         ensures refused_stop { IfErr result (λ refusal.
             Survives (state S.Store connection) (state S.Store refusal.connection)
             (HoldsAfter (new_tables (record { limit = limit; first_day = first_day })))) }
@@ -187,6 +193,7 @@ impl<S: Alter> SqlBook<S> {
 
 impl<S: Alter> Book for SqlBook<S> {
     ghost use Rattle.acq_sql.specs.Opened as opened;
+    ghost use Rattle.acq_sql.specs.Laws.{settled_at, stored_at};
 
     ghost tables = { opened.tables S.Store };
 
@@ -196,9 +203,17 @@ impl<S: Alter> Book for SqlBook<S> {
 
     ghost may_leave = { opened.may_leave S.Store };
 
+    ghost leaves_books = { opened.leaves_books S.Store };
+
     ghost failures = { λ book. book.failures };
 
+    ghost store_faults = { opened.store_faults S.Store };
+
     ghost honest = { λ book is. is.clean };
+
+    ghost settled = { settled_at S.Store S.Store.settled };
+
+    ghost stored = { stored_at S.Store S.Store.settled };
 
     fn limit(&mut self) -> Result<Limit, BookFault> {
         self.settled();

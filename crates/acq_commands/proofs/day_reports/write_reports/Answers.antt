@@ -17,7 +17,7 @@ loop-report-preserved g c =
     let reports = c.args.reports.now in
     let r = c.report-item.result in (
       looks_more g.B.Book.tables g.B.Book.is_honest g.B.Book.is_open g.B.Book.may_leave
-          g.B.Book.failures
+          g.B.Book.leaves_books g.B.Book.failures g.B.Book.store_faults
           c.args.book.now loop.book c.write_report.new.book true loop.invariant.0 looks,
       (λ honest opened.
           let before = looks.was_honest honest in

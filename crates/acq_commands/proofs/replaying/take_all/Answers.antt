@@ -21,8 +21,7 @@ loop-event-preserved g c =
     let sent = g.K.Sink.sent c.args.output.now in (
       (
         so.0 ++ o ∷ [],
-        took_next g.B.Book.tables g.B.Book.is_honest g.B.Book.is_open g.B.Book.may_leave
-            g.B.Book.failures
+        took_next g.B.Book
             c.args.host.now c.loop-event.host c.take_next.new.host c.args.events.now
             c.loop-event.event-index e
             so.0 (so.0 ++ o ∷ []) (omega arith) c.event-item.is so.1 made (λ _ _. refl),

@@ -9,8 +9,7 @@ use Rattle.acq_commands.proofs.replaying.take_all.Given as goal
 abbrev pub invariant-loop-event : goal.invariant-loop-event
 invariant-loop-event g l =
     ((said : List Output)
-    × HasTaken g.B.Book.tables g.B.Book.is_honest g.B.Book.is_open g.B.Book.may_leave
-    g.B.Book.failures
+    × HasTaken g.B.Book
     l.fn.host l.host (take l.event-index l.events) said
     × (g.B.Book.is_honest l.host → g.B.Book.is_open l.fn.host
     → g.K.Sink.sent l.output ≡ g.K.Sink.sent l.fn.output ++ flat_map line_of said))

@@ -10,8 +10,7 @@ loop-event-preserved g c =
     let e = c.event-item.result in
     let now = so.0 ++ step_output (g.B.Book.tables c.loop-event.host) (arrival_of e) ∷ [] in (
       now,
-      took_next g.B.Book.tables g.B.Book.is_honest g.B.Book.is_open g.B.Book.may_leave
-          g.B.Book.failures
+      took_next g.B.Book
           c.args.host.now c.loop-event.host c.take.new.self c.args.events.now
           c.loop-event.event-index e so.0 now
           (omega arith) c.event-item.is so.1 c.in_ok-take.ensures.tables (λ _ _. refl),

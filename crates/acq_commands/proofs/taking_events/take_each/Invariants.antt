@@ -7,6 +7,5 @@ use Rattle.acq_commands.proofs.taking_events.take_each.Given as goal
 abbrev pub invariant-loop-event : goal.invariant-loop-event
 invariant-loop-event g l =
     (said : List Output)
-    × HasTaken g.B.Book.tables g.B.Book.is_honest g.B.Book.is_open g.B.Book.may_leave
-    g.B.Book.failures
+    × HasTaken g.B.Book
     l.fn.host l.host (take l.event-index l.events) said

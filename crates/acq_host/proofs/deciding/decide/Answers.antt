@@ -1,5 +1,5 @@
 -- what is decided over what was looked up is what the tables decide
-use Rattle.std.proofs.Common.{◌≡◌, ◌∙◌, Option, sym, ap, arith}
+use Rattle.std.proofs.Common.{◌≡◌, ◌∙◌, Option, is_ok, sym, ap, subst, arith}
 use Rattle.std.proofs.lemmas.Result.{err_from_is_err_and}
 use Rattle.acq_core.specs.declared.change.Change.{Change}
 use Rattle.acq_core.specs.declared.output.Output.{Output}
@@ -8,7 +8,8 @@ use Rattle.acq_core.specs.Changes.{change_for}
 use Rattle.acq_core.specs.Looking.{known_of}
 use Rattle.acq_core.specs.Outcome.{outcome, output_of}
 use Rattle.acq_core.specs.Tables.{known_in, step_output}
-use Rattle.acq_host.proofs.Chains.{store_after}
+use Rattle.acq_book.specs.Calls.{Looks}
+use Rattle.acq_host.proofs.Chains.{looks_then, store_after}
 use Rattle.acq_host.proofs.deciding.decide.Goals as goal
 
 pub returns-clause-output : goal.returns-clause-output
@@ -58,3 +59,12 @@ returns-in_err-look_up-clause-store g c =
     c.in_err-look_up.field-0.0 (omega (arith, c.day.ensures.looks.rise, c.limit.ensures.looks.rise))
     c.look_up.ensures.looks.rise
     c.in_err-look_up.ensures.store)
+
+pub returns-in_err-look_up-clause-looks : goal.returns-in_err-look_up-clause-looks
+returns-in_err-look_up-clause-looks g c =
+    let p =
+    err_from_is_err_and c.from_residual-in_err-look_up.result
+    c.from_residual-in_err-look_up.ensures.1 in
+    subst (λ ok. Looks g.B.Book c.args.book.now c.look_up.new.book ok) (sym (ap is_ok p.1))
+    (looks_then g.B.Book c.in_ok-today.ensures.looks
+    (looks_then g.B.Book c.in_ok-limit.ensures.looks c.in_err-look_up.ensures.looks))

@@ -43,7 +43,7 @@ loop-name-preserved g c =
     let loop = c.loop-name in
     let looks = c.in-Ok-true.ensures.looks in (
       looks_more g.B.Book.tables g.B.Book.is_honest g.B.Book.is_open g.B.Book.may_leave
-          g.B.Book.failures
+          g.B.Book.leaves_books g.B.Book.failures g.B.Book.store_faults
           c.args.book.now loop.book c.write_merchant.new.book true loop.invariant.0 looks,
       (λ honest opened.
           let before = looks.was_honest honest in

@@ -6,17 +6,14 @@ use Rattle.acq_core.specs.Pasts.{HasPast}
 use Rattle.acq_host.proofs.PartiesAlone.{is_alone, keeps_postings}
 use Rattle.acq_host.proofs.Closed.{keeps_clearing}
 use Rattle.acq_host.proofs.Runs.{HasTaken, took_none, took_next, may_stop_at}
+use Rattle.acq_host.proofs.Runs.{leaves_books_at, shut_at}
 use Rattle.acq_host.proofs.host.Host.run.Goals as goal
 
 pub loop-at-init : goal.loop-at-init
 loop-at-init g c = record {
   took =
-      subst (HasTaken g.B.Book.tables g.B.Book.is_honest g.B.Book.is_open g.B.Book.may_leave
-      g.B.Book.failures
-      c.args.self.now c.args.self.now []) (sym c.new-said.ensures.items)
-      (took_none g.B.Book.tables g.B.Book.is_honest g.B.Book.is_open g.B.Book.may_leave
-      g.B.Book.failures
-      c.args.self.now);
+      subst (HasTaken g.B.Book c.args.self.now c.args.self.now []) (sym c.new-said.ensures.items)
+      (took_none g.B.Book c.args.self.now);
   past = subst (λ b. g.B.Book.is_open b → HasPast (g.B.Book.tables b)) c.self.view_is
       c.self.invariant;
 }
@@ -24,9 +21,7 @@ loop-at-init g c = record {
 pub loop-at-preserved : goal.loop-at-preserved
 loop-at-preserved g c = record {
   took =
-      took_next g.B.Book.tables g.B.Book.is_honest g.B.Book.is_open g.B.Book.may_leave
-      g.B.Book.failures
-      c.args.self.now c.loop-at.self c.take_next.new.self c.args.events.now c.loop-at.at
+      took_next g.B.Book c.args.self.now c.loop-at.self c.take_next.new.self c.args.events.now c.loop-at.at
       c.index-events-at.result
       c.loop-at.said.items c.take_next.new.said.items (omega arith) c.index-events-at.is
       c.loop-at.invariant.took
@@ -57,13 +52,33 @@ returns-in-Err-clause-postings g c = λ o end.
     (makes.unmade refl (first.stays_open before o) end ∙ first.leads before o)
 
 pub returns-in-Err-clause-fault_stop : goal.returns-in-Err-clause-fault_stop
-returns-in-Err-clause-fault_stop g c =
-    may_stop_at g.B.Book.tables g.B.Book.is_honest g.B.Book.is_open g.B.Book.may_leave
-    g.B.Book.failures
-    c.args.self.now c.loop-at.self c.take_next.new.self c.args.events.now c.loop-at.at
-    c.index-events-at.result
-    c.loop-at.said.items (omega arith) c.index-events-at.is c.loop-at.invariant.took
-    c.in-Err.ensures.tables
+returns-in-Err-clause-fault_stop g c = λ h o.
+    may_stop_at g.B.Book c.args.self.now c.loop-at.self c.take_next.new.self c.args.events.now
+    c.loop-at.at c.index-events-at.result c.loop-at.said.items c.loop-at.invariant.took
+    c.in-Err.ensures.tables h o (omega arith) c.index-events-at.is g.met.B.Book.settled
+
+pub returns-in-Err-clause-books : goal.returns-in-Err-clause-books
+returns-in-Err-clause-books g c = λ h o.
+    leaves_books_at g.B.Book c.args.self.now c.loop-at.self c.take_next.new.self c.args.events.now
+    c.loop-at.at c.index-events-at.result c.loop-at.said.items c.loop-at.invariant.took
+    c.in-Err.ensures.tables h o
+
+pub returns-in-Err-clause-shuts : goal.returns-in-Err-clause-shuts
+returns-in-Err-clause-shuts g c = λ h o.
+    shut_at g.B.Book c.args.self.now c.loop-at.self c.take_next.new.self c.args.events.now
+    c.loop-at.at c.index-events-at.result c.loop-at.said.items c.loop-at.invariant.took
+    c.in-Err.ensures.tables h o
+
+pub returns-clause-books : goal.returns-clause-books
+returns-clause-books g c = λ h o.
+    g.met.B.Book.stored c.loop-at.self (c.loop-at.invariant.took.stays_open h o)
+
+pub returns-clause-stop : goal.returns-clause-stop
+returns-clause-stop g c = λ h o t l.
+    let first = c.loop-at.invariant.took in
+    let whole = take_all c.loop-at.at c.args.events.now c.loop-at-test.false in
+    g.met.B.Book.settled c.loop-at.self (first.stays_open h o) t l
+    ∙ (first.leads h o ∙ ap (tables_after (g.B.Book.tables c.args.self.now)) whole)
 
 pub returns-clause-alone : goal.returns-clause-alone
 returns-clause-alone g c = λ h o.
@@ -109,3 +124,15 @@ returns-clause-clearing g c = λ o end.
     o)
     (c.loop-at.invariant.past end)
     (first.leads (g.met.B.Book.honest c.loop-at.self end) o ∙ ap (tables_after t) whole)
+
+pub returns-in-Err-clause-left : goal.returns-in-Err-clause-left
+returns-in-Err-clause-left g c = λ h o.
+    let was = c.in-Err.ensures.tables.was_honest h in
+    let between = c.loop-at.invariant.took.stays_open was o in
+    c.in-Err.ensures.left h between (c.loop-at.invariant.past between)
+
+pub returns-clause-left : goal.returns-clause-left
+returns-clause-left g c = λ h o t l.
+    let opened = c.loop-at.invariant.took.stays_open h o in
+    subst HasPast (sym (g.met.B.Book.settled c.loop-at.self opened t l))
+    (c.loop-at.invariant.past opened)

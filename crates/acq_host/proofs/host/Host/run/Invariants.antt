@@ -6,9 +6,6 @@ use Rattle.acq_host.proofs.host.Host.run.Given as goal
 
 abbrev pub invariant-loop-at : goal.invariant-loop-at
 invariant-loop-at g l = record {
-  took :
-      HasTaken g.B.Book.tables g.B.Book.is_honest g.B.Book.is_open g.B.Book.may_leave
-      g.B.Book.failures l.fn.self l.self
-      (take l.at l.events) l.said.items;
+  took : HasTaken g.B.Book l.fn.self l.self (take l.at l.events) l.said.items;
   past : g.B.Book.is_open l.self → HasPast (g.B.Book.tables l.self);
 }

@@ -9,6 +9,7 @@ use Rattle.acq_core.specs.Pasts.{IsBook, HasPast}
 use Rattle.acq_history.proofs.BooksAreSound.{books_are_sound}
 use Rattle.acq_history.proofs.BooksGoOn.{books_go_on}
 use Rattle.acq_host.proofs.Chains.{makes_after}
+use Rattle.acq_host.proofs.Runs.{past_of_left}
 use Rattle.acq_host.proofs.ChangesFit.{changes_fit}
 use Rattle.acq_host.proofs.host.Host.take.Goals as goal
 
@@ -42,7 +43,7 @@ returns-in_err-apply-clause-tables g c =
     c.apply.new.book false (step_tables (g.B.Book.tables b) (arrival_of c.args.event.now)))
     c.self.view_is
     (makes_after g.B.Book.tables g.B.Book.is_honest g.B.Book.is_open g.B.Book.may_leave
-    g.B.Book.failures
+    g.B.Book.leaves_books g.B.Book.failures g.B.Book.store_faults
     g.met.B.Book.honest c.self.inside.book c.decide.new.book c.apply.new.book _ _ _
     (λ o i. after_any (looks.same o i) (c.in_ok-output.ensures.change o i)) looks
     c.in_err-apply.ensures.makes))
@@ -93,7 +94,30 @@ returns-clause-tables g c =
     c.apply.new.book true (step_tables (g.B.Book.tables b) (arrival_of c.args.event.now)))
     c.self.view_is
     (makes_after g.B.Book.tables g.B.Book.is_honest g.B.Book.is_open g.B.Book.may_leave
-    g.B.Book.failures
+    g.B.Book.leaves_books g.B.Book.failures g.B.Book.store_faults
     g.met.B.Book.honest c.self.inside.book c.decide.new.book c.apply.new.book _ _ _
     (λ o i. after_any (looks.same o i) (c.in_ok-output.ensures.change o i)) looks
     c.in_ok-apply.ensures.makes)
+
+pub returns-clause-left : goal.returns-clause-left
+returns-clause-left g c = λ h o.
+    past_of_left g.B.Book c.args.self.now c.apply.new.book true c.args.event.now
+    g.met.B.Book.settled c.every_event.ensures (returns-clause-tables g c)
+    (subst (λ b. g.B.Book.is_open b → HasPast (g.B.Book.tables b)) c.self.view_is c.self.invariant
+    o)
+    h o
+
+pub returns-in_err-apply-clause-left : goal.returns-in_err-apply-clause-left
+returns-in_err-apply-clause-left g c = λ h o.
+    past_of_left g.B.Book c.args.self.now c.apply.new.book _ c.args.event.now
+    g.met.B.Book.settled c.every_event.ensures (returns-in_err-apply-clause-tables g c)
+    (subst (λ b. g.B.Book.is_open b → HasPast (g.B.Book.tables b)) c.self.view_is c.self.invariant
+    o)
+    h o
+
+pub returns-in_err-output-clause-left : goal.returns-in_err-output-clause-left
+returns-in_err-output-clause-left g c = λ h o t l.
+    let was_open = subst g.B.Book.is_open (sym c.self.view_is) o in
+    let was = c.in_err-output.ensures.looks.leaves h t l in
+    subst HasPast (sym (g.met.B.Book.settled c.self.inside.book was_open t was))
+    (c.self.invariant was_open)

@@ -5,6 +5,7 @@ use Rattle.acq_book.specs.Fits.{Fits}
 use Rattle.acq_book.specs.Promise.{MakesBy}
 use Rattle.acq_sql.specs.Kept.{Kept}
 use Rattle.acq_sql.specs.Opened.{tables, is_honest, is_open, may_leave}
+use Rattle.acq_sql.specs.Opened.{leaves_books, store_faults}
 use Rattle.acq_sql.proofs.BookMakes.{makes_at}
 use Rattle.acq_sql.proofs.sql_book.SqlBookBook.apply.Goals as goal
 
@@ -16,13 +17,13 @@ returns-clause-makes g c =
     record { connection = c.apply-made.new.conn; failures = c.counted.new.failures } in
     let change = c.args.change.now in
     subst (λ (k : Kept _). MakesBy (tables g.S.Store) (is_honest g.S.Store) (is_open g.S.Store)
-    (may_leave g.S.Store)
-    (λ (book : Kept _). book.failures) k now (is_ok c.counted.result)
+    (may_leave g.S.Store) (leaves_books g.S.Store)
+    (λ (book : Kept _). book.failures) (store_faults g.S.Store) k now (is_ok c.counted.result)
     (after (tables g.S.Store k) change))
     c.self.view_is
     (subst (λ b. MakesBy (tables g.S.Store) (is_honest g.S.Store) (is_open g.S.Store)
-    (may_leave g.S.Store)
-    (λ (book : Kept _). book.failures) old now b (after (tables g.S.Store old) change))
+    (may_leave g.S.Store) (leaves_books g.S.Store)
+    (λ (book : Kept _). book.failures) (store_faults g.S.Store) old now b (after (tables g.S.Store old) change))
     (sym c.counted.ensures.succeeds)
     (makes_at g.S.Store g.met.S.Store.settled old now change c.apply-made.result
     c.apply-made.ensures

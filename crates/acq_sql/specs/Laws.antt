@@ -1,0 +1,48 @@
+-- What a stop leaves of an open book.
+use Rattle.std.proofs.Common.{◌≡◌, IsTrue, sym, ap, subst, ◌∙◌}
+use Rattle.sqlite_trees.specs.Tree.{Trees}
+use Rattle.sqlite_trees.specs.declared.store.Store.{Ghosts}
+use Rattle.sqlite.specs.Effect.{Database}
+use Rattle.sqlite.specs.Held.{Held, state}
+use Rattle.row_lemmas.specs.Ready.{LeavesOnly}
+use Rattle.acq_core.specs.Tables.{Tables}
+use Rattle.acq_sql_rows.specs.Relation.{Holds}
+use Rattle.acq_sql_rows.specs.Schema.{book_schema}
+use Rattle.acq_sql_rows.proofs.TablesReadBack.{tables_of-holds}
+use Rattle.acq_sql_changes.specs.Changed.{IsAt, HoldsAfter}
+use Rattle.acq_sql.specs.Kept.{Kept}
+use Rattle.acq_sql.specs.Opened.{tables, tables_left, is_open, may_leave, leaves_books}
+
+-- while a store is open, a stop leaves its last commit
+abbrev pub LeavesCommit : {S : Type 0} → Ghosts S → Type 0
+LeavesCommit {S} g =
+    (s : S) (db : Trees) → IsTrue (g.view s).is_open → g.recovers s db → db ≡ (g.view s).committed
+
+-- trees that store tables read as these
+pub stores_what_it_reads : (t : Tables) (trees : Trees) → HoldsAfter t trees
+    → HoldsAfter (tables_left trees) trees
+stores_what_it_reads t trees holds =
+    subst (λ u. HoldsAfter u trees)
+    (sym (tables_of-holds (record { schema = book_schema; trees = trees }) t holds)) holds
+
+module _ {S : Type 0} (g : Ghosts S) (law : LeavesCommit g) where
+  -- of a connection at these tables it stores them and no others
+  pub left_at : (c : Held S) (t : Tables) → IsAt (state g c) t
+      → LeavesOnly (HoldsAfter t) (state g c)
+  left_at c t at trees left =
+      let same : trees ≡ (state g c).now.trees =
+      law c.store trees at.is_open left ∙ sym (ap (λ (d : Database). d.trees) at.same) in
+      let now_is : ◌≡◌ {A = Database} (state g c).now
+      (record { schema = book_schema; trees = trees }) =
+      λ i. record { schema = at.holds.rows.schema i; trees = sym same i } in
+      subst (λ d. Holds d t) now_is at.holds
+
+  module _ (book : Kept S) (opened : is_open g book) where
+    pub settled_at : (t : Tables) → may_leave g book t → t ≡ tables g book
+    settled_at t way =
+        way.2 ∙ tables_of-holds (record { schema = book_schema; trees = way.0 }) (tables g book)
+        (left_at book.connection (tables g book) opened.at way.0 way.1)
+
+    pub stored_at : leaves_books g book
+    stored_at trees left = stores_what_it_reads (tables g book) trees
+        (left_at book.connection (tables g book) opened.at trees left)
