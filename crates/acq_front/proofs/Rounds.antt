@@ -1,7 +1,8 @@
 -- How one round goes.
 use Rattle.std.proofs.Common.{◌≡◌, ℕ, true, List, [], ◌∷◌, ◌++◌, take, drop, Ok, Err, inl, inr}
 use Rattle.std.proofs.Common.{refl, sym, subst, ◌∙◌, ◌==◌, Bool, false, length, true≢false}
-use Rattle.std.proofs.Common.{append-nil, arith}
+use Rattle.std.proofs.Common.{append-nil, append_assoc, ap, ◌+◌, arith}
+use Rattle.std.proofs.Math.Seq.{take-add}
 use Rattle.std.proofs.lemmas.Bool.Decides.{nat_tests}
 use Rattle.std.specs.Prelude.{Result}
 use Rattle.std.specs.List.{All}
@@ -12,11 +13,12 @@ use Rattle.acq_core.specs.Tables.{Tables}
 use Rattle.acq_front.specs.Talk.{Saying, replies}
 use Rattle.acq_front.specs.Turns as front
 use Rattle.acq_front.specs.declared.front_fault.FrontFault as fault
-use Rattle.acq_front.specs.Exchanges.{EndsWith, FollowsLog, Goes, Passed, UnlessCut}
+use Rattle.acq_front.specs.Exchanges.{EndsInFirst, EndsWith, FollowsLog, Goes, IfWrite, Passed}
+use Rattle.acq_front.specs.Exchanges.{tells_end}
 use Rattle.acq_front.specs.Log.{Entry}
-use Rattle.acq_front.specs.Ends.{Steps, StopsAt, UnlessRefused}
+use Rattle.acq_front.specs.Ends.{Steps, StopsAt}
+use Rattle.acq_front.specs.Faults.{UnlessRefused, failed_reads, failed_writes}
 use Rattle.acq_front.specs.declared.round.Round.{Round}
-use Rattle.acq_front.specs.declared.round.Round.TheVariants.{GoesOn}
 use Rattle.acq_front.specs.declared.turn.Turn.TheVariants.{Took}
 use Rattle.acq_front.proofs.Following.{follows_fed, follows_written, follows_took}
 
@@ -31,16 +33,6 @@ unless_refused (Err (fault.TheVariants.Undecodable u)) h = h
 unless_refused (Err fault.TheVariants.Read) h = h
 unless_refused (Err (fault.TheVariants.Write n)) h = h
 
-unless_cut : (r : Result Round fault.FrontFault) {p : Type 0} → p → UnlessCut r p
-unless_cut (Ok x) h = h
-unless_cut (Err fault.TheVariants.Memory) h = h
-unless_cut (Err fault.TheVariants.Store) h = h
-unless_cut (Err fault.TheVariants.BadLength) h = h
-unless_cut (Err fault.TheVariants.Ended) h = h
-unless_cut (Err (fault.TheVariants.Undecodable u)) h = h
-unless_cut (Err fault.TheVariants.Read) h = h
-unless_cut (Err (fault.TheVariants.Write n)) h = tt
-
 -- where a turn stopped the connection, so does the round
 pub stops_ends : (held unsent : List ℕ) (f : fault.FrontFault) → StopsAt held unsent (Err f) →
     EndsWith held unsent (Err f)
@@ -50,7 +42,34 @@ stops_ends held unsent fault.TheVariants.BadLength h = h
 stops_ends held unsent fault.TheVariants.Ended h = absurd h
 stops_ends held unsent (fault.TheVariants.Undecodable u) h = tt
 stops_ends held unsent fault.TheVariants.Read h = tt
-stops_ends held unsent (fault.TheVariants.Write n) h = tt
+stops_ends held unsent (fault.TheVariants.Write n) h = absurd h
+
+-- where a turn stopped the connection, no read or write of its line failed, and its input didn't
+-- end
+pub stops_apart : (held unsent : List ℕ) (f : fault.FrontFault) → StopsAt held unsent (Err f) →
+    (failed_reads {X = Round} (Err f) ≡ 0) × (failed_writes {X = Round} (Err f) ≡ 0)
+    × (tells_end (Err f) ≡ false) × ((p : ℕ → Type 0) → IfWrite {X = Round} (Err f) p)
+stops_apart held unsent fault.TheVariants.Memory h = (refl, refl, refl, (λ p. tt))
+stops_apart held unsent fault.TheVariants.Store h = (refl, refl, refl, (λ p. tt))
+stops_apart held unsent fault.TheVariants.BadLength h = (refl, refl, refl, (λ p. tt))
+stops_apart held unsent fault.TheVariants.Ended h = absurd h
+stops_apart held unsent (fault.TheVariants.Undecodable u) h = (refl, refl, refl, (λ p. tt))
+stops_apart held unsent fault.TheVariants.Read h = absurd h
+stops_apart held unsent (fault.TheVariants.Write n) h = absurd h
+
+-- of the frame in hand nothing was written yet
+pub first_none : (went hand : List ℕ) (gone : ℕ) → gone ≡ 0 → EndsInFirst went hand gone
+first_none went hand gone none = (went, rw none (sym (append-nil went)))
+
+-- some more of it was written
+pub first_more : (went later hand held : List ℕ) (gone n now : ℕ) → held ≡ hand → now ≡ gone + n →
+    later ≡ went ++ take n (drop gone hand) → EndsInFirst went hand gone →
+    EndsInFirst later held now
+first_more went later hand held gone n now same more is first = (
+  first.0,
+  rw (same, more, is, first.1) (append_assoc first.0 (take gone hand) (take n (drop gone hand))
+  ∙ ap (λ (l : List ℕ). first.0 ++ l) (sym (take-add gone n hand))),
+)
 
 -- nothing is left, where that was seen
 pub none_left : (seen left : List ℕ) (b : Bool) → b ≡ (length seen == 0) → b ≡ true → seen ≡ left →
@@ -66,48 +85,44 @@ parts came held went unsent = record { came = came; held = held; went = went; un
 
 module _ (may_give : ℕ → Type 0) (may_say : Saying) (old new : Tables) where
   -- the host took nothing
-  goes_quietly : (before after : Passed) (ended : Result Round fault.FrontFault) → new ≡ old →
+  goes_quietly : (before after : Passed) → new ≡ old →
       ((k : ℕ) (t : Tables) (log : List Entry) → FollowsLog k t log before →
       FollowsLog k t log after) →
-      Goes may_give may_say old new before after ended
-  goes_quietly before after ended is on = record {
+      Goes may_give may_say old new before after
+  goes_quietly before after is on = record {
     events = [];
     took = inl refl;
     tables = is;
     follows = λ k t log at f.
-        unless_cut ended
-        (subst (λ (l : List Entry). FollowsLog k t l after) (sym (append-nil log))
-        (on k t log f));
+        subst (λ (l : List Entry). FollowsLog k t l after) (sym (append-nil log)) (on k t log f);
   }
 
   -- bytes of a reply were written
-  pub writes_on : (came held went unsent : List ℕ) (n : ℕ) (ended : Result Round fault.FrontFault) →
-      new ≡ old →
+  pub writes_on : (came held went unsent : List ℕ) (n : ℕ) → new ≡ old →
       Goes may_give may_say old new (parts came held went unsent)
-      (parts came held (went ++ take n unsent) (drop n unsent)) ended
-  writes_on came held went unsent n ended is =
+      (parts came held (went ++ take n unsent) (drop n unsent))
+  writes_on came held went unsent n is =
       goes_quietly (parts came held went unsent)
-      (parts came held (went ++ take n unsent) (drop n unsent)) ended is
+      (parts came held (went ++ take n unsent) (drop n unsent)) is
       (λ k t log f. follows_written k t log came went held unsent n f)
 
   -- a piece came
-  pub reads_on : (came held went unsent piece : List ℕ) (ended : Result Round fault.FrontFault) →
-      new ≡ old →
+  pub reads_on : (came held went unsent piece : List ℕ) → new ≡ old →
       Goes may_give may_say old new (parts came held went unsent)
-      (parts (came ++ piece) (held ++ piece) went unsent) ended
-  reads_on came held went unsent piece ended is =
+      (parts (came ++ piece) (held ++ piece) went unsent)
+  reads_on came held went unsent piece is =
       goes_quietly (parts came held went unsent) (parts (came ++ piece) (held ++ piece) went unsent)
-      ended is
+      is
       (λ k t log f. follows_fed k t log came went held unsent piece f)
 
   -- a message was taken and answered
   answers : (came held left went unsent message moments : List ℕ) (verdicts : List Verdict)
-      (ended : Result Round fault.FrontFault) → All may_give moments →
+      → All may_give moments →
       BeginsWithFrame held message left →
       front.Answered may_say old new
       (record { message = message; moments = moments; verdicts = verdicts }) unsent →
-      Goes may_give may_say old new (parts came held went []) (parts came left went unsent) ended
-  answers came held left went unsent message moments verdicts ended given begins a = record {
+      Goes may_give may_say old new (parts came held went []) (parts came left went unsent)
+  answers came held left went unsent message moments verdicts given begins a = record {
     events = a.events;
     took = inr (record {
       message = message;
@@ -118,47 +133,33 @@ module _ (may_give : ℕ → Type 0) (may_say : Saying) (old new : Tables) where
     });
     tables = a.took.tables;
     follows = λ k t log at f.
-        unless_cut ended
-        (follows_took k t log came went held left unsent message moments verdicts a.events f
+        follows_took k t log came went held left unsent message moments verdicts a.events f
         begins
         (subst (λ (b : Tables). front.Makes b message moments verdicts a.events) at a.took.makes)
-        (subst (λ (b : Tables). Frames unsent (replies b a.events)) at a.written));
+        (subst (λ (b : Tables). Frames unsent (replies b a.events)) at a.written);
   }
 
   module _ (stays_open : Type 0) (came held left went unsent : List ℕ) where
     -- a turn took a message
     pub takes_on : Steps may_give may_say old stays_open new held left unsent (Ok Took) →
         Goes may_give may_say old new (parts came held went []) (parts came left went unsent)
-        (Ok GoesOn)
     takes_on s = answers came held left went unsent s.message s.moments s.verdicts
-        (Ok GoesOn) s.given s.begins s.turns.0
+        s.given s.begins s.turns.0
 
     -- a turn stopped the connection
-    pub stops : (f : fault.FrontFault) →
+    pub stops : (f : fault.FrontFault) → StopsAt left unsent (Err f) →
         Steps may_give may_say old stays_open new held left unsent (Err f) →
         UnlessRefused {X = Round} (Err f)
-        (Goes may_give may_say old new (parts came held went []) (parts came left went unsent)
-        (Err f))
-    stops fault.TheVariants.Memory s = tt
-    stops fault.TheVariants.Store s = tt
-    stops fault.TheVariants.BadLength s =
+        (Goes may_give may_say old new (parts came held went []) (parts came left went unsent))
+    stops fault.TheVariants.Memory at s = tt
+    stops fault.TheVariants.Store at s = tt
+    stops fault.TheVariants.BadLength at s =
         rw (s.0.same, s.0.none)
         (goes_quietly (parts came held went []) (parts came held went [])
-        (Err fault.TheVariants.BadLength) s.0.tables (λ k t log f. f))
-    stops fault.TheVariants.Ended s = absurd s.turns
-    stops (fault.TheVariants.Undecodable u) s =
+        s.0.tables (λ k t log f. f))
+    stops fault.TheVariants.Ended at s = absurd at
+    stops (fault.TheVariants.Undecodable u) at s =
         answers came held left went unsent s.message s.moments s.verdicts
-        (Err (fault.TheVariants.Undecodable u)) s.given s.begins s.turns.0
-    stops fault.TheVariants.Read s = absurd s.turns
-    stops (fault.TheVariants.Write n) s = record {
-      events = s.turns.events;
-      took = inr (record {
-        message = s.message;
-        moments = s.moments;
-        given = s.given;
-        verdicts = s.verdicts;
-        took = s.turns.took;
-      });
-      tables = s.turns.took.tables;
-      follows = λ k t log at f. tt;
-    }
+        s.given s.begins s.turns.0
+    stops fault.TheVariants.Read at s = absurd at
+    stops (fault.TheVariants.Write n) at s = absurd at

@@ -4,7 +4,7 @@ use Rattle.std.proofs.Common.{refl, sym, ap, ◌∙◌, append-nil, arith, inr}
 use Rattle.std.proofs.lemmas.Bool.{and_from, le-leb, lt-ltb}
 use Rattle.std.proofs.lemmas.Bool.Decides.{nat_tests}
 use Rattle.std.specs.Prelude.{length}
-use Rattle.acq_link.specs.Frames.{frame, fits_frame}
+use Rattle.acq_link.specs.Frames.{frame, Frames, fits_frame}
 use Rattle.acq_message.specs.declared.verdict.Verdict.{Verdict}
 use Rattle.iso_codec.specs.declared.decode_fault.DecodeFault.{DecodeFault}
 use Rattle.acq_core.specs.declared.event.Event.{Event}
@@ -20,7 +20,8 @@ use Rattle.acq_front.specs.declared.front_fault.FrontFault as fault
 use Rattle.acq_front.specs.Faults.{of_book, IfStore}
 use Rattle.acq_front.specs.Talk.{Saying, reply_in, replies}
 use Rattle.acq_front.specs.Turns.{is_read, Incoming, TookMessage, TookAllButAnswer, Answered}
-use Rattle.acq_front.specs.Turns.{Refused, Turns, ReplyFits, Sends, SendsReply}
+use Rattle.acq_front.specs.Turns.{Refused, Said, Takes, Turns, ReplyFits, Sends, SendsReply}
+use Rattle.acq_front.specs.Outgoing.{frame_said}
 use Rattle.acq_front.proofs.Reading.{undecodable_is, reads}
 use Rattle.acq_front.proofs.MessagesTaken.{AsksNothing, makes_asking, replies_one, replies_two}
 use Rattle.acq_front.proofs.MessagesTaken.{frames_none, frames_one, said_one, took_alone}
@@ -41,9 +42,9 @@ pub long_unfit : (text : List ℕ) → 4096 < length text → fits_frame text �
 long_unfit text long fit = grind (arith, nat_tests)
 
 -- what the store's fault says, said otherwise
-pub if_store : (r : Result (Unit {0}) fault.FrontFault) (P Q : Type 0) → (P → Q) → IfStore r P →
-    IfStore r Q
-if_store (Ok u) P Q f p = tt
+pub if_store : {X : Type 0} (r : Result X fault.FrontFault) (P Q : Type 0) → (P → Q) →
+    IfStore r P → IfStore r Q
+if_store (Ok x) P Q f p = tt
 if_store (Err fault.TheVariants.Memory) P Q f p = tt
 if_store (Err fault.TheVariants.Store) P Q f p = f p
 if_store (Err fault.TheVariants.BadLength) P Q f p = tt
@@ -52,13 +53,36 @@ if_store (Err (fault.TheVariants.Undecodable x)) P Q f p = tt
 if_store (Err fault.TheVariants.Read) P Q f p = tt
 if_store (Err (fault.TheVariants.Write n)) P Q f p = tt
 
+-- the same of a fault that is handed on
+pub store_on : (X Y : Type 0) (f : fault.FrontFault) (P Q : Type 0) → (P → Q) →
+    IfStore {X = X} (Err f) P → IfStore {X = Y} (Err f) Q
+store_on X Y fault.TheVariants.Memory P Q f p = tt
+store_on X Y fault.TheVariants.Store P Q f p = f p
+store_on X Y fault.TheVariants.BadLength P Q f p = tt
+store_on X Y fault.TheVariants.Ended P Q f p = tt
+store_on X Y (fault.TheVariants.Undecodable x) P Q f p = tt
+store_on X Y fault.TheVariants.Read P Q f p = tt
+store_on X Y (fault.TheVariants.Write n) P Q f p = tt
+
 -- the book refused
 pub book_stops : (may_say : Saying) (e : book.BookFault) (old : Tables) (stays_open : Type 0)
-    (new : Tables) (m : Incoming) (out : List ℕ) →
-    Refused may_say old stays_open new m out →
-    Turns may_say old stays_open new m out (Err (of_book e))
-book_stops may_say book.TheVariants.Memory old stays_open new m out refused = refused
-book_stops may_say book.TheVariants.Store old stays_open new m out refused = refused
+    (new : Tables) (m : Incoming) →
+    Refused may_say old stays_open new m [] →
+    Takes may_say old stays_open new m (Err (of_book e))
+book_stops may_say book.TheVariants.Memory old stays_open new m refused = refused
+book_stops may_say book.TheVariants.Store old stays_open new m refused = refused
+
+-- where a message was not taken, or didn't read, nothing goes out
+pub take_stops : (may_say : Saying) (old : Tables) (stays_open : Type 0) (new : Tables)
+    (m : Incoming) (f : fault.FrontFault) → Takes may_say old stays_open new m (Err f) →
+    Turns may_say old stays_open new m [] (Err f)
+take_stops may_say old stays_open new m fault.TheVariants.Memory h = h
+take_stops may_say old stays_open new m fault.TheVariants.Store h = h
+take_stops may_say old stays_open new m fault.TheVariants.BadLength h = absurd h
+take_stops may_say old stays_open new m fault.TheVariants.Ended h = absurd h
+take_stops may_say old stays_open new m (fault.TheVariants.Undecodable u) h = h
+take_stops may_say old stays_open new m fault.TheVariants.Read h = absurd h
+take_stops may_say old stays_open new m (fault.TheVariants.Write n) h = absurd h
 
 module _ (may_say : Saying) (old : Tables) (stays_open : Type 0) (new : Tables)
     (m : Incoming) (events : List Event) (reads : is_read m.message ≡ true)
@@ -120,6 +144,30 @@ module _ (may_say : Saying) (old : Tables) (stays_open : Type 0) (new : Tables)
   said_sent o before now (Ok u) are fits sent = nothing_sent before now are sent
   said_sent o before now (Err f) are fits sent = absurd sent
 
+-- what the host said last was sent, if it is a reply
+pub was_sent : (may_say : Saying) (old : Tables) (stays_open : Type 0) (new : Tables)
+    (m : Incoming) (o : Output) (before now : List ℕ) (r : Result (Unit {0}) fault.FrontFault) →
+    Said may_say old new m o → SendsReply o before now r →
+    (out : List ℕ) × (now ≡ before ++ out) × Turns may_say old stays_open new m out r
+was_sent may_say old stays_open new m o before now r s sent =
+    said_sent may_say old stays_open new m s.events s.reads s.took o before now r s.replied s.fits
+    sent
+
+-- what the host said last is held as a frame, if it is a reply
+pub was_held : (may_say : Saying) (old : Tables) (stays_open : Type 0) (new : Tables)
+    (m : Incoming) (o : Output) → Said may_say old new m o →
+    Turns may_say old stays_open new m (frame_said o) (Ok tt)
+was_held may_say old stays_open new m o s = (
+  record { events = s.events; took = s.took; written = frames_held o s.replied s.fits },
+  s.reads,
+)
+  where
+    frames_held : (o : Output) → replies old s.events ≡ reply_in o → ReplyFits o →
+        Frames (frame_said o) (replies old s.events)
+    frames_held (Reply party text) are fits = frames_one text (replies old s.events) are
+        (fits party text refl)
+    frames_held o are fits = frames_none are
+
 -- ---- by what the host said
 
 module _ (may_say : Saying) (t : Tables) (moment : ℕ) (text message : List ℕ)
@@ -132,34 +180,34 @@ module _ (may_say : Saying) (t : Tables) (moment : ℕ) (text message : List ℕ
   pub unread : (stays_open : Type 0) (new : Tables) (f : DecodeFault) →
       step_output t (arrival_of (Frame moment text)) ≡ Undecodable f →
       new ≡ step_tables t (arrival_of (Frame moment text)) →
-      Turns may_say t stays_open new (alone message) []
-      (Err (fault.TheVariants.Undecodable f))
+      Takes may_say t stays_open new (alone message) (Err (fault.TheVariants.Undecodable f))
   unread stays_open new f is tables =
       let answered : Answered may_say t new (alone text) [] = record {
         events = Frame moment text ∷ [];
         took = took_alone may_say t new moment text (Undecodable f) is (λ query e. cc) tables;
         written = frames_none (replies_one t (Frame moment text) (Undecodable f) is);
       } in
-      let turned : Turns may_say t stays_open new (alone text) []
+      let turned : Takes may_say t stays_open new (alone text)
       (Err (fault.TheVariants.Undecodable f)) =
       (answered, undecodable_is t moment text f is) in
-      subst (λ (x : List ℕ). Turns may_say t stays_open new (alone x) []
+      subst (λ (x : List ℕ). Takes may_say t stays_open new (alone x)
       (Err (fault.TheVariants.Undecodable f))) same turned
 
-  -- nobody is asked, and the reply, if there is one, is sent
-  pub plain_sent : (stays_open : Type 0) (new : Tables) (o : Output) (before now : List ℕ)
-      (r : Result (Unit {0}) fault.FrontFault) →
+  -- nobody is asked
+  pub plain_said : (new : Tables) (o : Output) →
       step_output t (arrival_of (Frame moment text)) ≡ o →
       new ≡ step_tables t (arrival_of (Frame moment text)) →
       AsksNothing o → ((f : DecodeFault) → o ≡ Undecodable f → ⊥) → ReplyFits o →
-      SendsReply o before now r →
-      (out : List ℕ) × (now ≡ before ++ out) × Turns may_say t stays_open new (alone message) out r
-  plain_sent stays_open new o before now r is tables nothing read fits sent =
-      subst (λ (x : List ℕ). (out : List ℕ) × (now ≡ before ++ out)
-      × Turns may_say t stays_open new (alone x) out r) same
-      (said_sent may_say t stays_open new (alone text) (Frame moment text ∷ [])
-      (reads t moment text o is read) (took_alone may_say t new moment text o is nothing tables)
-      o before now r (replies_one t (Frame moment text) o is) fits sent)
+      Said may_say t new (alone message) o
+  plain_said new o is tables nothing read fits =
+      let said : Said may_say t new (alone text) o = record {
+        events = Frame moment text ∷ [];
+        took = took_alone may_say t new moment text o is nothing tables;
+        reads = reads t moment text o is read;
+        replied = replies_one t (Frame moment text) o is;
+        fits = fits;
+      } in
+      subst (λ (x : List ℕ). Said may_say t new (alone x) o) same said
 
   module _ (next : ℕ) (query : Query) (verdict : Verdict)
       (is : step_output t (arrival_of (Frame moment text)) ≡ Ask query)
@@ -190,21 +238,19 @@ module _ (may_say : Saying) (t : Tables) (moment : ℕ) (text message : List ℕ
         (refl, inr most) in
         subst (λ (x : List ℕ). Refused may_say t stays_open new (asking x) []) same refused
 
-    -- its answer was taken, and the reply, if there is one, is sent
-    pub answer_sent : (stays_open : Type 0) (new : Tables) (o : Output) (before now : List ℕ)
-        (r : Result (Unit {0}) fault.FrontFault) →
+    -- its answer was taken
+    pub answer_said : (new : Tables) (o : Output) →
         o ≡ step_output mid (arrival_of answer) → new ≡ step_tables mid (arrival_of answer) →
-        ReplyFits o → SendsReply o before now r →
-        (out : List ℕ) × (now ≡ before ++ out)
-        × Turns may_say t stays_open new (asking message) out r
-    answer_sent stays_open new o before now r out tables fits sent =
+        ReplyFits o → Said may_say t new (asking message) o
+    answer_said new o out tables fits =
         let said_last : step_output (step_tables t (arrival_of (Frame moment text)))
         (arrival_of answer) ≡ o =
         ap (λ (x : Tables). step_output x (arrival_of answer)) (sym between) ∙ sym out in
-        subst (λ (x : List ℕ). (out : List ℕ) × (now ≡ before ++ out)
-        × Turns may_say t stays_open new (asking x) out r) same
-        (said_sent may_say t stays_open new (asking text)
-        (Frame moment text ∷ answer ∷ [])
-        (reads t moment text (Ask query) is (λ f e. cc))
-        (took_answer may_say t mid new moment next text query verdict is between tables said)
-        o before now r (replies_two t (Frame moment text) answer query o is said_last) fits sent)
+        let both : Said may_say t new (asking text) o = record {
+          events = Frame moment text ∷ answer ∷ [];
+          took = took_answer may_say t mid new moment next text query verdict is between tables said;
+          reads = reads t moment text (Ask query) is (λ f e. cc);
+          replied = replies_two t (Frame moment text) answer query o is said_last;
+          fits = fits;
+        } in
+        subst (λ (x : List ℕ). Said may_say t new (asking x) o) same both

@@ -8,7 +8,7 @@ use Rattle.acq_core.specs.Tables.{Tables}
 use Rattle.acq_front.specs.Talk.{Saying}
 use Rattle.acq_front.specs.Turns as front
 use Rattle.acq_front.specs.declared.front_fault.FrontFault as fault
-use Rattle.acq_front.specs.Outgoing.{bytes_of}
+use Rattle.acq_front.specs.Outgoing.{bytes_of, frame_of, gone_from}
 use Rattle.acq_front.specs.declared.conversation.Conversation.{Conversation}
 use Rattle.acq_front.specs.declared.turn.Turn.{Turn}
 use Rattle.acq_front.specs.declared.turn.Turn.TheVariants.{Waits, Took}
@@ -20,6 +20,13 @@ held_of c = c.input
 -- what of a reply is still to be written
 abbrev pub unsent_of : Conversation → List ℕ
 unsent_of c = bytes_of c.output
+
+-- the frame of the reply in hand, and how many bytes of it were written
+abbrev pub hand_of : Conversation → List ℕ
+hand_of c = frame_of c.output
+
+abbrev pub gone_of : Conversation → ℕ
+gone_of c = gone_from c.output
 
 -- nothing was taken
 pub record TookNothing (old new : Tables) (held left unsent : List ℕ) : Type 0 where
@@ -53,18 +60,12 @@ module _ (may_give : ℕ → Type 0) (may_say : Saying) (old : Tables) (stays_op
   Steps held left unsent (Err f) = TakesNext held left unsent (Err f)
 
 -- Where no message could be taken, what stands in front: nothing or a frame that is begun, and then
--- nothing is to be written; or a bad length. Whether the input ended, and whether it could be read,
--- is
--- not known here.
+-- nothing is to be written; or a bad length. Whether the input ended, whether it could be read and
+-- whether a reply can be written is not known here.
 abbrev pub StopsAt : List ℕ → List ℕ → Result Turn fault.FrontFault → Type 0
 StopsAt held unsent (Ok Waits) = MayBecomeFrame held × (unsent ≡ [])
 StopsAt held unsent (Err fault.TheVariants.BadLength) = has_bad_length held ≡ true
 StopsAt held unsent (Err fault.TheVariants.Ended) = ⊥
 StopsAt held unsent (Err fault.TheVariants.Read) = ⊥
+StopsAt held unsent (Err (fault.TheVariants.Write n)) = ⊥
 StopsAt held unsent other = Unit {0}
-
--- this holds where neither memory nor the store stopped it
-abbrev pub UnlessRefused : {X : Type 0} → Result X fault.FrontFault → Type 0 → Type 0
-UnlessRefused (Err fault.TheVariants.Memory) p = Unit {0}
-UnlessRefused (Err fault.TheVariants.Store) p = Unit {0}
-UnlessRefused other p = p

@@ -1,5 +1,6 @@
 -- One connection to a host that has many, a round at a time.
-use Rattle.std.specs.Prelude.{◌≡◌, ◌⊎◌, ℕ, true, List, [], ◌++◌, map, Result, Ok, Err}
+use Rattle.std.specs.Prelude.{◌≡◌, ◌⊎◌, ℕ, Bool, true, false, List, [], ◌∷◌, ◌++◌, map}
+use Rattle.std.specs.Prelude.{take, Result, Ok, Err}
 use Rattle.std.specs.List.{All}
 use Rattle.acq_link.specs.Frames.{has_bad_length, is_partial}
 use Rattle.acq_message.specs.declared.verdict.Verdict.{Verdict}
@@ -33,6 +34,13 @@ module _ {L : Type 0} where
   abbrev pub unsent_of : Exchange L → List ℕ
   unsent_of e = turns.unsent_of e.conversation
 
+  -- the frame of the reply in hand, and how many bytes of it were written
+  abbrev pub hand_of : Exchange L → List ℕ
+  hand_of e = turns.hand_of e.conversation
+
+  abbrev pub gone_of : Exchange L → ℕ
+  gone_of e = turns.gone_of e.conversation
+
   -- what passed over it, by what its line received and sent
   abbrev pub passed : (L → List ℕ) → (L → List ℕ) → Exchange L → Passed
   passed received sent e = record {
@@ -46,10 +54,26 @@ module _ {L : Type 0} where
 abbrev pub FollowsLog : ℕ → Tables → List Entry → Passed → Type 0
 FollowsLog k t log p = Follows k t log p.came p.went p.held p.unsent
 
--- this holds where no reply was cut short
-abbrev pub UnlessCut : Result Round fault.FrontFault → Type 0 → Type 0
-UnlessCut (Err (fault.TheVariants.Write n)) p = Unit {0}
-UnlessCut other p = p
+-- whether a round tells that the input ended
+abbrev pub tells_end : Result Round fault.FrontFault → Bool
+tells_end (Ok Ended) = true
+tells_end (Err fault.TheVariants.Ended) = true
+tells_end other = false
+
+-- of a failed write, this holds of how many bytes of the reply in hand were written
+abbrev pub IfWrite : {X : Type 0} → Result X fault.FrontFault → (ℕ → Type 0) → Type 0
+IfWrite (Err (fault.TheVariants.Write n)) p = p n
+IfWrite other p = Unit {0}
+
+-- what it is to have waited too long: a failed write where something is still to be written, of
+-- which so many bytes were, and else a failed read
+abbrev pub late_fault : (unsent : List ℕ) (gone : ℕ) → fault.FrontFault
+late_fault [] gone = fault.TheVariants.Read
+late_fault (x ∷ xs) gone = fault.TheVariants.Write gone
+
+-- what went out ends in the first bytes of the frame in hand, so many
+abbrev pub EndsInFirst : (went hand : List ℕ) (gone : ℕ) → Type 0
+EndsInFirst went hand gone = (earlier : List ℕ) × (went ≡ earlier ++ take gone hand)
 
 -- this holds where the round waits
 abbrev pub IfWaits : Result Round fault.FrontFault → Type 0 → Type 0
@@ -75,10 +99,10 @@ module _ (may_give : ℕ → Type 0) (may_say : Saying) (old new : Tables) where
 
   -- A round: the host took nothing, or the events of one message; and behind any log, by whichever
   -- connections its events came, the connection goes on to follow it.
-  pub record Goes (before after : Passed) (ended : Result Round fault.FrontFault) : Type 0 where
+  pub record Goes (before after : Passed) : Type 0 where
     pub events : List Event
     pub took : (events ≡ []) ⊎ TookOne events
     pub tables : new ≡ tables_after old events
     pub follows : (k : ℕ) (t : Tables) (log : List Entry) → old ≡ after_log t log →
         FollowsLog k t log before →
-        UnlessCut ended (FollowsLog k t (log ++ map (by k) events) after)
+        FollowsLog k t (log ++ map (by k) events) after

@@ -51,22 +51,22 @@ of_stream deframe.TheVariants.Memory = Memory
 of_stream deframe.TheVariants.BadLength = BadLength
 
 -- how many reads failed
-abbrev pub failed_reads : Result (Unit {0}) FrontFault → ℕ
+abbrev pub failed_reads : {X : Type 0} → Result X FrontFault → ℕ
 failed_reads (Err Read) = 1
 failed_reads other = 0
 
 -- how many writes failed
-abbrev pub failed_writes : Result (Unit {0}) FrontFault → ℕ
+abbrev pub failed_writes : {X : Type 0} → Result X FrontFault → ℕ
 failed_writes (Err (Write n)) = 1
 failed_writes other = 0
 
 -- this holds where the store's fault is told
-abbrev pub IfStore : Result (Unit {0}) FrontFault → Type 0 → Type 0
+abbrev pub IfStore : {X : Type 0} → Result X FrontFault → Type 0 → Type 0
 IfStore (Err Store) p = p
 IfStore other p = Unit {0}
 
 -- this holds where neither memory nor the store stopped it
-abbrev pub UnlessRefused : Result (Unit {0}) FrontFault → Type 0 → Type 0
+abbrev pub UnlessRefused : {X : Type 0} → Result X FrontFault → Type 0 → Type 0
 UnlessRefused (Err Memory) p = Unit {0}
 UnlessRefused (Err Store) p = Unit {0}
 UnlessRefused other p = p

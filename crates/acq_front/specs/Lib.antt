@@ -7,5 +7,6 @@ pub mod Serving
 pub mod Exchanges
 pub mod Lines
 pub mod Log
+pub mod Passing
 pub mod Outgoing
 pub mod Ends

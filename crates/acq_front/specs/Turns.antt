@@ -10,7 +10,7 @@ use Rattle.acq_core.specs.declared.output.Output.{Output}
 use Rattle.acq_core.specs.declared.output.Output.TheVariants.{Reply}
 use Rattle.acq_core.specs.Tables.{Tables, tables_after}
 use Rattle.acq_front.specs.declared.front_fault.FrontFault as fault
-use Rattle.acq_front.specs.Talk.{Taking, taking, replies, queries, Saying, AreSaid}
+use Rattle.acq_front.specs.Talk.{Taking, taking, replies, reply_in, queries, Saying, AreSaid}
 
 -- whether a message reads
 abbrev pub is_read : List ℕ → Bool
@@ -83,6 +83,30 @@ pub record CutShort (may_say : Saying) (old new : Tables) (m : Incoming) (out : 
   pub short : n < length (frame reply)
   pub written : out ≡ take n (frame reply)
 
+-- a reply, if there is one, fits a frame
+abbrev pub ReplyFits : Output → Type 0
+ReplyFits output = (party : _) (text : List ℕ) → output ≡ Reply party text → fits_frame text ≡ true
+
+-- the host took the events that a message makes, and said this last
+pub record Said (may_say : Saying) (old new : Tables) (m : Incoming) (said : Output) : Type 0 where
+  pub events : List Event
+  pub took : TookMessage may_say old new m events
+  pub reads : is_read m.message ≡ true
+  pub replied : replies old events ≡ reply_in said
+  pub fits : ReplyFits said
+
+-- how one message was taken, with nothing written yet
+abbrev pub Takes : Saying → Tables → Type 0 → Tables → Incoming → Result Output fault.FrontFault →
+    Type 0
+Takes may_say old stays_open new m (Ok said) = Said may_say old new m said
+Takes may_say old stays_open new m (Err fault.TheVariants.Memory) =
+    Refused may_say old stays_open new m []
+Takes may_say old stays_open new m (Err fault.TheVariants.Store) =
+    Refused may_say old stays_open new m []
+Takes may_say old stays_open new m (Err (fault.TheVariants.Undecodable f)) =
+    Answered may_say old new m [] × (reading_of m.message ≡ Err f)
+Takes may_say old stays_open new m (Err other) = ⊥
+
 -- how one message was taken and answered
 abbrev pub Turns : Saying → Tables → Type 0 → Tables → Incoming → List ℕ →
     Result (Unit {0}) fault.FrontFault → Type 0
@@ -98,10 +122,6 @@ Turns may_say old stays_open new m out (Err (fault.TheVariants.Write n)) =
     CutShort may_say old new m out n
 Turns may_say old stays_open new m out (Err other) = ⊥
 
--- a reply, if there is one, fits a frame
-abbrev pub ReplyFits : Output → Type 0
-ReplyFits output = (party : _) (text : List ℕ) → output ≡ Reply party text → fits_frame text ≡ true
-
 -- a text's frame went out, or its first n bytes
 abbrev pub Sends : List ℕ → List ℕ → List ℕ → Result (Unit {0}) fault.FrontFault → Type 0
 Sends text old new (Ok u) = new ≡ old ++ frame text
@@ -114,6 +134,14 @@ abbrev pub SendsReply : Output → List ℕ → List ℕ → Result (Unit {0}) f
 SendsReply (Reply party text) old new result = Sends text old new result
 SendsReply other old new (Ok u) = new ≡ old
 SendsReply other old new (Err f) = ⊥
+
+-- it is no fault of the input, nor of a write
+abbrev pub OfTaking : {X : Type 0} → Result X fault.FrontFault → Type 0
+OfTaking (Ok x) = Unit {0}
+OfTaking (Err fault.TheVariants.Memory) = Unit {0}
+OfTaking (Err fault.TheVariants.Store) = Unit {0}
+OfTaking (Err (fault.TheVariants.Undecodable f)) = Unit {0}
+OfTaking (Err other) = ⊥
 
 -- it is no fault of the input
 abbrev pub OfMessage : Result (Unit {0}) fault.FrontFault → Type 0

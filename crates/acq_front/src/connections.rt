@@ -1,9 +1,13 @@
 //! Connections that come one after the other.
 
-ghost use Rattle.std.specs.Prelude.{ℕ};
+ghost use Rattle.std.specs.Prelude.{◌≡◌, ◌⊎◌, ◌+◌, ◌++◌, ℕ, List};
 ghost use Rattle.std.specs.List.{All};
-ghost use Rattle.acq_front.specs.Faults.{UnlessRefused};
+ghost use Rattle.acq_book.specs.Promise.{HasRisen};
+ghost use Rattle.acq_front.specs.Coming.{GivesAll};
+ghost use Rattle.acq_front.specs.Faults.{IfStore, UnlessRefused, failed_reads, failed_writes};
+ghost use Rattle.acq_front.specs.Passing.{FailsOver, PassesOver};
 ghost use Rattle.acq_front.specs.Serving.{Connection, Serves};
+ghost use Rattle.acq_front.specs.Talk.{first_moment};
 
 use crate::clock::Clock;
 use crate::front_fault::FrontFault;
@@ -17,6 +21,18 @@ use std::alloc::Global;
 
 /// Connections that come one after the other.
 pub trait Connections {
+    // What came over them so far, one behind the other.
+    ghost received: { Self → List ℕ };
+
+    // What went out over them so far, one behind the other.
+    ghost sent: { Self → List ℕ };
+
+    // How many reads failed so far. A connection that couldn't be had is one.
+    ghost read_failures: { Self → ℕ };
+
+    // How many writes failed so far.
+    ghost write_failures: { Self → ℕ };
+
     /// Waits for the next connection, and serves it to its end. One that can't be had is a failed
     /// read.
     fn serve_next<B: Book + Drop, C: Clock, I: Issuer>(
@@ -27,7 +43,11 @@ pub trait Connections {
         issuer: &mut I,
     ) -> Result<(), FrontFault>
         ensures served { B.is_honest host.new → B.is_open host.old → (c : Connection)
+            × (received self.new ≡ received self.old ++ c.input)
+            × (sent self.new ≡ sent self.old ++ c.output)
+            × GivesAll first_moment (C.coming clock.old) (C.coming clock.new) c.moments
             × All (C.may_give clock.old) c.moments
+            × GivesAll Verdict.NoAnswer (I.coming issuer.old) (I.coming issuer.new) c.verdicts
             × Serves (I.may_say issuer.old) (B.tables host.old) (B.is_open host.new)
             (B.tables host.new) c result }
         ensures was_honest { B.is_honest host.new → B.is_honest host.old }
@@ -36,7 +56,13 @@ pub trait Connections {
         ensures given_later { (m : ℕ) → C.may_give clock.new m → C.may_give clock.old m }
         // The book stays open, save where memory or the store refused a call.
         ensures stays_open { B.is_honest host.new → B.is_open host.old
-            → UnlessRefused result (B.is_open host.new) };
+            → UnlessRefused result (B.is_open host.new) }
+        // A fault of reading or writing comes only where a read or a write failed.
+        ensures reads { read_failures self.new ≡ read_failures self.old + failed_reads result }
+        ensures writes { write_failures self.new ≡ write_failures self.old + failed_writes result }
+        // The store's fault comes only where a call of it failed, or gave what no host wrote.
+        ensures store { IfStore result (HasRisen (B.failures host.old) (B.failures host.new)
+            ⊎ (B.is_honest host.new → B.is_open host.old → ⊥)) };
 }
 
 /// Serves the connection that has these two ends to its end. Without them none was had, which is a
@@ -44,12 +70,15 @@ pub trait Connections {
 pub fn serve_ends<B: Book + Drop, S: Source + Drop, K: Sink + Drop, C: Clock, I: Issuer>(
     alloc: Global,
     host: &mut Host<B>,
-    ends: Option<(S, K)>,
+    ends: &mut Option<(S, K)>,
     clock: &mut C,
     issuer: &mut I,
 ) -> Result<(), FrontFault>
     ensures served { B.is_honest host.new → B.is_open host.old → (c : Connection)
+        × PassesOver S.received K.sent ends.old ends.new c
+        × GivesAll first_moment (C.coming clock.old) (C.coming clock.new) c.moments
         × All (C.may_give clock.old) c.moments
+        × GivesAll Verdict.NoAnswer (I.coming issuer.old) (I.coming issuer.new) c.verdicts
         × Serves (I.may_say issuer.old) (B.tables host.old) (B.is_open host.new)
         (B.tables host.new) c result }
     ensures was_honest { B.is_honest host.new → B.is_honest host.old }
@@ -58,11 +87,13 @@ pub fn serve_ends<B: Book + Drop, S: Source + Drop, K: Sink + Drop, C: Clock, I:
     ensures given_later { (m : ℕ) → C.may_give clock.new m → C.may_give clock.old m }
     ensures stays_open { B.is_honest host.new → B.is_open host.old
         → UnlessRefused result (B.is_open host.new) }
+    // A fault of reading or writing comes only where a read or a write of theirs failed.
+    ensures fails { FailsOver S.failures K.failures ends.old ends.new result }
+    ensures store { IfStore result (HasRisen (B.failures host.old) (B.failures host.new)
+        ⊎ (B.is_honest host.new → B.is_open host.old → ⊥)) }
 {
     match ends {
-        Some((mut source, mut sink)) => {
-            serve(alloc, host, &mut source, &mut sink, clock, issuer)
-        }
+        Some((source, sink)) => serve(alloc, host, source, sink, clock, issuer),
         None => Err(FrontFault::Read),
     }
 }

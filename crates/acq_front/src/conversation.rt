@@ -1,14 +1,16 @@
 //! One end of a connection, without its reads and writes.
 
-ghost use Rattle.std.specs.Prelude.{◌≡◌, ◌==◌, ◌+◌, ◌≤◌, ◌<◌, ◌++◌, ℕ, [], length, drop};
+ghost use Rattle.std.specs.Prelude.{◌≡◌, ◌==◌, ◌⊎◌, ◌+◌, ◌≤◌, ◌<◌, ◌++◌, ℕ, [], length, drop};
 ghost use Rattle.acq_link.specs.Deframing.{longest_frame};
 ghost use Rattle.acq_link.specs.FramesAt.{MayBecomeFrame};
-ghost use Rattle.acq_front.specs.Ends.{held_of, unsent_of, Steps, StopsAt};
-ghost use Rattle.acq_front.specs.Ends.{UnlessRefused};
+ghost use Rattle.acq_book.specs.Promise.{HasRisen};
+ghost use Rattle.acq_front.specs.Ends.{held_of, unsent_of, hand_of, gone_of, Steps, StopsAt};
+ghost use Rattle.acq_front.specs.Faults.{IfStore, UnlessRefused};
 
 use crate::outgoing::Outgoing;
+use crate::serving::take_message;
 use crate::turn::Turn;
-use crate::{Clock, FrontFault, Issuer, answer_message};
+use crate::{Clock, FrontFault, Issuer};
 use acq_book::Book;
 use acq_core::{Query, Verdict};
 use acq_host::Host;
@@ -28,6 +30,7 @@ impl Conversation {
     pub fn new() -> Conversation
         ensures held { held_of result ≡ [] }
         ensures unsent { unsent_of result ≡ [] }
+        ensures gone { gone_of result ≡ 0 }
     {
         Conversation {
             input: Deframer::new(),
@@ -47,7 +50,8 @@ impl Conversation {
     pub fn feed(&mut self, piece: &[u8])
         requires { length (held_of self.old) + length piece.now ≤ longest_frame }
         ensures held { held_of self.new ≡ held_of self.old ++ piece.now }
-        ensures unsent { unsent_of self.new ≡ unsent_of self.old }
+        ensures hand { hand_of self.new ≡ hand_of self.old }
+        ensures gone { gone_of self.new ≡ gone_of self.old }
     {
         self.input.feed(piece);
     }
@@ -67,7 +71,9 @@ impl Conversation {
     }
 
     /// How many bytes of the reply were written.
-    pub fn gone(&self) -> usize {
+    pub fn gone(&self) -> usize
+        ensures { result ≡ gone_of self.now }
+    {
         self.output.gone()
     }
 
@@ -76,6 +82,8 @@ impl Conversation {
         requires { n ≤ length (unsent_of self.old) }
         ensures held { held_of self.new ≡ held_of self.old }
         ensures unsent { unsent_of self.new ≡ drop n (unsent_of self.old) }
+        ensures hand { hand_of self.new ≡ hand_of self.old }
+        ensures gone { gone_of self.new ≡ gone_of self.old + n }
     {
         self.output.advance(n);
     }
@@ -96,18 +104,24 @@ impl Conversation {
             (unsent_of self.new) result }
         // Where no message could be taken, what stands in front.
         ensures stops { StopsAt (held_of self.new) (unsent_of self.new) result }
+        // Nothing of its reply was written yet.
+        ensures gone { gone_of self.new ≡ 0 }
         ensures was_honest { B.is_honest host.new → B.is_honest host.old }
         ensures stays_open { B.is_honest host.new → B.is_open host.old
             → UnlessRefused result (B.is_open host.new) }
         ensures said_later { (q : Query) (v : Verdict) → I.may_say issuer.new q v
             → I.may_say issuer.old q v }
         ensures given_later { (m : ℕ) → C.may_give clock.new m → C.may_give clock.old m }
+        // The store's fault comes only where a call of it failed, or gave what no host wrote.
+        ensures store { IfStore result (HasRisen (B.failures host.old) (B.failures host.new)
+            ⊎ (B.is_honest host.new → B.is_open host.old → ⊥)) }
     {
         self.output.clear();
         let Some(message) = self.input.take_message(alloc)? else {
             return Ok(Turn::Waits);
         };
-        answer_message(message, host, &mut self.output, clock, issuer)?;
+        let said = take_message(message, host, clock, issuer)?;
+        self.output.hold(&said)?;
         Ok(Turn::Took)
     }
 }

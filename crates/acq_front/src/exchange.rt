@@ -1,10 +1,13 @@
 //! Connections whose lines don't wait.
 
-ghost use Rattle.std.specs.Prelude.{◌≡◌, ◌≤◌, ◌++◌, ℕ, List, [], length, take, drop};
+ghost use Rattle.std.specs.Prelude.{◌≡◌, ◌⊎◌, ◌≤◌, ◌+◌, ◌++◌, ℕ, List, [], false, length, take};
+ghost use Rattle.std.specs.Prelude.{drop};
 ghost use Rattle.acq_link.specs.FramesAt.{MayBecomeFrame};
-ghost use Rattle.acq_front.specs.Exchanges.{line_of, held_of, unsent_of, passed};
-ghost use Rattle.acq_front.specs.Exchanges.{EndsWith, Goes, IfWaits};
-ghost use Rattle.acq_front.specs.Ends.{UnlessRefused};
+ghost use Rattle.acq_book.specs.Promise.{HasRisen};
+ghost use Rattle.acq_front.specs.Exchanges.{line_of, held_of, unsent_of, hand_of, gone_of, passed};
+ghost use Rattle.acq_front.specs.Exchanges.{EndsInFirst, EndsWith, Goes, IfWaits, IfWrite};
+ghost use Rattle.acq_front.specs.Exchanges.{late_fault, tells_end};
+ghost use Rattle.acq_front.specs.Faults.{IfStore, UnlessRefused, failed_reads, failed_writes};
 
 use crate::conversation::Conversation;
 use crate::line::Line;
@@ -33,6 +36,7 @@ impl<L: Line> Exchange<L> {
         ensures line { line_of result ≡ line }
         ensures held { held_of result ≡ [] }
         ensures unsent { unsent_of result ≡ [] }
+        ensures gone { gone_of result ≡ 0 }
     {
         Exchange {
             line,
@@ -59,8 +63,24 @@ impl<L: Line> Exchange<L> {
         ensures goes { B.is_honest host.new → B.is_open host.old → UnlessRefused result
             (Goes (C.may_give clock.old) (I.may_say issuer.old) (B.tables host.old)
             (B.tables host.new) (passed L.received L.sent self.old)
-            (passed L.received L.sent self.new) result) }
+            (passed L.received L.sent self.new)) }
         ensures ends { EndsWith (held_of self.new) (unsent_of self.new) result }
+        // The end is told exactly where the line ended, and a fault of reading or writing where a
+        // read or a write failed.
+        ensures line_ends { L.has_ended (line_of self.old) ≡ false
+            → L.has_ended (line_of self.new) ≡ tells_end result }
+        ensures reads { L.read_failures (line_of self.new)
+            ≡ L.read_failures (line_of self.old) + failed_reads result }
+        ensures writes { L.write_failures (line_of self.new)
+            ≡ L.write_failures (line_of self.old) + failed_writes result }
+        // How many bytes of the reply in hand were written, and that a failed write tells it.
+        ensures in_hand { EndsInFirst (L.sent (line_of self.old)) (hand_of self.old)
+            (gone_of self.old)
+            → EndsInFirst (L.sent (line_of self.new)) (hand_of self.new) (gone_of self.new) }
+        ensures told { IfWrite result (λ n. n ≡ gone_of self.new) }
+        // The store's fault comes only where a call of it failed, or gave what no host wrote.
+        ensures store { IfStore result (HasRisen (B.failures host.old) (B.failures host.new)
+            ⊎ (B.is_honest host.new → B.is_open host.old → ⊥)) }
         // A round that waits did nothing.
         ensures idle { B.is_honest host.new → B.is_open host.old → IfWaits result
             ((B.tables host.new ≡ B.tables host.old)
@@ -83,7 +103,9 @@ impl<L: Line> Exchange<L> {
 
     /// What it is to have waited too long: a failed write where a reply is to be written, and else
     /// a failed read.
-    pub fn timed_out(&self) -> FrontFault {
+    pub fn timed_out(&self) -> FrontFault
+        ensures { result ≡ late_fault (unsent_of self.now) (gone_of self.now) }
+    {
         if self.conversation.unsent().is_empty() {
             FrontFault::Read
         } else {
@@ -99,16 +121,27 @@ impl<L: Line> Exchange<L> {
             × (L.sent (line_of self.new) ≡ L.sent (line_of self.old)
             ++ take n (unsent_of self.old)) }
         ensures ends { EndsWith (held_of self.new) (unsent_of self.new) result }
+        ensures line_ends { L.has_ended (line_of self.new) ≡ L.has_ended (line_of self.old) }
+        ensures no_end { tells_end result ≡ false }
+        ensures reads { L.read_failures (line_of self.new)
+            ≡ L.read_failures (line_of self.old) + failed_reads result }
+        ensures writes { L.write_failures (line_of self.new)
+            ≡ L.write_failures (line_of self.old) + failed_writes result }
+        ensures in_hand { EndsInFirst (L.sent (line_of self.old)) (hand_of self.old)
+            (gone_of self.old)
+            → EndsInFirst (L.sent (line_of self.new)) (hand_of self.new) (gone_of self.new) }
+        ensures told { IfWrite result (λ n. n ≡ gone_of self.new) }
+        ensures store { IfStore result ⊥ }
         ensures idle { IfWaits result
             (passed L.received L.sent self.new ≡ passed L.received L.sent self.old) }
     {
         match self.line.write(self.conversation.unsent()) {
             Ok(None) => Ok(Round::Waits),
-            Ok(Some(n)) if n > 0 => {
+            Ok(Some(n)) => {
                 self.conversation.advance(n);
                 Ok(Round::GoesOn)
             }
-            Ok(Some(_)) | Err(_) => Err(FrontFault::Write(self.conversation.gone() as u64)),
+            Err(_) => Err(FrontFault::Write(self.conversation.gone() as u64)),
         }
     }
 
@@ -121,6 +154,16 @@ impl<L: Line> Exchange<L> {
         ensures unsent { unsent_of self.new ≡ unsent_of self.old }
         ensures sent { L.sent (line_of self.new) ≡ L.sent (line_of self.old) }
         ensures ends { EndsWith (held_of self.new) (unsent_of self.new) result }
+        ensures line_ends { L.has_ended (line_of self.old) ≡ false
+            → L.has_ended (line_of self.new) ≡ tells_end result }
+        ensures reads { L.read_failures (line_of self.new)
+            ≡ L.read_failures (line_of self.old) + failed_reads result }
+        ensures writes { L.write_failures (line_of self.new)
+            ≡ L.write_failures (line_of self.old) + failed_writes result }
+        ensures hand { hand_of self.new ≡ hand_of self.old }
+        ensures gone { gone_of self.new ≡ gone_of self.old }
+        ensures told { IfWrite result (λ n. ⊥) }
+        ensures store { IfStore result ⊥ }
         ensures idle { IfWaits result
             (passed L.received L.sent self.new ≡ passed L.received L.sent self.old) }
     {

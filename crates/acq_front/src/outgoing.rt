@@ -1,34 +1,36 @@
 //! Bytes of one frame that are still to be written.
 
-ghost use Rattle.std.specs.Prelude.{◌≡◌, ◌+◌, ◌≤◌, [], length, drop};
+ghost use Rattle.std.specs.Prelude.{◌≡◌, ◌+◌, ◌≤◌, ⊤, [], length, drop, Ok};
 ghost use Rattle.acq_link.specs.Deframing.{longest_frame};
+ghost use Rattle.acq_front.specs.Faults.{IfStore};
+ghost use Rattle.acq_front.specs.Turns.{OfTaking, ReplyFits};
 
 use crate::frame_buffer::FrameBuffer;
-use acq_link::{Call, Failed, Sink, Transcript};
+use crate::front_fault::FrontFault;
+use crate::serving::{LONGEST, length_of};
+use acq_core::Output;
 
-/// Bytes of one frame that are still to be written. It is the sink that a reply is written to, and
-/// takes no more once some of its bytes were written on.
+/// Bytes of one frame that are still to be written.
 #[derive(Drop)]
 pub(crate) struct Outgoing {
     frame: FrameBuffer,
     /// How many bytes of it were written on.
     gone: usize,
-    transcript: Transcript,
     ghost within: { gone ≤ length frame },
     ghost fits: { length frame ≤ longest_frame },
 }
 
 impl Outgoing {
-    ghost use Rattle.acq_front.specs.Outgoing.{bytes_of, failures_of};
+    ghost use Rattle.acq_front.specs.Outgoing.{bytes_of, frame_of, frame_said, gone_from};
 
     /// No byte.
     pub(crate) fn new() -> Outgoing
-        ensures { bytes_of result ≡ [] }
+        ensures frame { frame_of result ≡ [] }
+        ensures gone { gone_from result ≡ 0 }
     {
         Outgoing {
             frame: FrameBuffer::new(),
             gone: 0,
-            transcript: Transcript::new(),
         }
     }
 
@@ -39,48 +41,50 @@ impl Outgoing {
     }
 
     /// How many bytes were written on.
-    pub(crate) fn gone(&self) -> usize {
+    pub(crate) fn gone(&self) -> usize
+        ensures { result ≡ gone_from self.now }
+    {
         self.gone
     }
 
     /// So many bytes were written on.
     pub(crate) fn advance(&mut self, n: usize)
         requires { n ≤ length (bytes_of self.old) }
-        ensures { bytes_of self.new ≡ drop n (bytes_of self.old) }
+        ensures bytes { bytes_of self.new ≡ drop n (bytes_of self.old) }
+        ensures frame { frame_of self.new ≡ frame_of self.old }
+        ensures gone { gone_from self.new ≡ gone_from self.old + n }
     {
         self.gone += n;
     }
 
     /// Holds no byte any more.
     pub(crate) fn clear(&mut self)
-        ensures { bytes_of self.new ≡ [] }
+        ensures frame { frame_of self.new ≡ [] }
+        ensures gone { gone_from self.new ≡ 0 }
     {
         self.gone = 0;
         self.frame.clear();
     }
 
-    fn fail(&mut self)
-        ensures bytes { bytes_of self.new ≡ bytes_of self.old }
-        ensures failures { failures_of self.new ≡ failures_of self.old + 1 }
+    /// Holds what the host said, if it is a reply, as a frame. A reply that fits no frame can only
+    /// come of rows that no host wrote.
+    pub(crate) fn hold(&mut self, said: &Output) -> Result<(), FrontFault>
+        requires { frame_of self.old ≡ [] }
+        ensures gone { gone_from self.new ≡ gone_from self.old }
+        ensures holds { ReplyFits said.now → frame_of self.new ≡ frame_said said.now }
+        ensures well { ReplyFits said.now → result ≡ Ok tt }
+        ensures fault { OfTaking result }
+        ensures store { IfStore result (ReplyFits said.now → ⊥) }
     {
-        self.transcript = self.transcript.after(&Call::Failed);
-    }
-}
-
-impl Sink for Outgoing {
-    ghost use Rattle.acq_front.specs.Outgoing.{bytes_of, failures_of};
-
-    ghost sent = { bytes_of };
-
-    ghost failures = { failures_of };
-
-    fn write(&mut self, bytes: &[u8]) -> Result<usize, Failed> {
-        let n = bytes.len().min(self.frame.room());
-        if self.gone > 0 || n == 0 && !bytes.is_empty() {
-            self.fail();
-            return Err(Failed);
+        let Output::Reply(_, reply) = said else {
+            return Ok(());
+        };
+        let text = reply.as_bytes();
+        if text.is_empty() || text.len() > LONGEST {
+            return Err(FrontFault::Store);
         }
-        self.frame.push(&bytes[..n]);
-        Ok(n)
+        self.frame.push(&length_of(text));
+        self.frame.push(text);
+        Ok(())
     }
 }

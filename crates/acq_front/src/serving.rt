@@ -9,7 +9,8 @@ ghost use Rattle.acq_front.specs.Coming.{GivesAll};
 ghost use Rattle.acq_front.specs.Talk.{first_moment};
 ghost use Rattle.acq_front.specs.Faults.{AtEnd, IfStore, UnlessRefused, failed_reads};
 ghost use Rattle.acq_front.specs.Faults.{failed_writes};
-ghost use Rattle.acq_front.specs.Turns.{OfMessage, ReplyFits, Sends, SendsReply, Turns};
+ghost use Rattle.acq_front.specs.Turns.{OfMessage, OfTaking, ReplyFits, Sends, SendsReply};
+ghost use Rattle.acq_front.specs.Turns.{Takes, Turns};
 ghost use Rattle.acq_front.specs.Serving.{Connection, Serves};
 
 use crate::clock::Clock;
@@ -25,7 +26,7 @@ use std::alloc::Global;
 const HEADER: usize = 2;
 
 /// The most bytes of a message.
-const LONGEST: usize = 4096;
+pub(crate) const LONGEST: usize = 4096;
 
 /// The most bytes of a frame.
 const LONGEST_FRAME: usize = HEADER + LONGEST;
@@ -119,6 +120,36 @@ pub fn answer_message<B: Book + Drop, K: Sink, C: Clock, I: Issuer>(
     ensures store { IfStore result (HasRisen (B.failures host.old) (B.failures host.new)
         ⊎ (B.is_honest host.new → B.is_open host.old → ⊥)) }
 {
+    let said = take_message(message, host, clock, issuer)?;
+    send_reply(&said, sink)
+}
+
+/// Takes one message, and the issuer's answer where it is asked, and returns what the host said
+/// last.
+pub(crate) fn take_message<B: Book + Drop, C: Clock, I: Issuer>(
+    message: Vec<u8>,
+    host: &mut Host<B>,
+    clock: &mut C,
+    issuer: &mut I,
+) -> Result<Output, FrontFault>
+    ensures takes { B.is_honest host.new → B.is_open host.old → (moments : List ℕ)
+        × (verdicts : List Verdict)
+        × GivesAll first_moment (C.coming clock.old) (C.coming clock.new) moments
+        × All (C.may_give clock.old) moments
+        × GivesAll Verdict.NoAnswer (I.coming issuer.old) (I.coming issuer.new) verdicts
+        × Takes (I.may_say issuer.old) (B.tables host.old) (B.is_open host.new)
+        (B.tables host.new)
+        (record { message = message.items; moments = moments; verdicts = verdicts }) result }
+    ensures was_honest { B.is_honest host.new → B.is_honest host.old }
+    ensures stays_open { B.is_honest host.new → B.is_open host.old
+        → UnlessRefused result (B.is_open host.new) }
+    ensures later { (q : Query) (v : Verdict) → I.may_say issuer.new q v
+        → I.may_say issuer.old q v }
+    ensures moments_later { (m : ℕ) → C.may_give clock.new m → C.may_give clock.old m }
+    ensures fault { OfTaking result }
+    ensures rise { B.failures host.old ≤ B.failures host.new }
+    ensures store { IfStore result (HasRisen (B.failures host.old) (B.failures host.new)) }
+{
     let came = Event::Frame(clock.now(), MessageText::from_vec(message));
     let said = host.take(&came)?;
     match &said {
@@ -127,9 +158,9 @@ pub fn answer_message<B: Book + Drop, K: Sink, C: Clock, I: Issuer>(
             let verdict = issuer.answer(query);
             let answer = Event::Answer(clock.now(), query.merchant, query.reference, verdict);
             let said = host.take(&answer)?;
-            send_reply(&said, sink)
+            Ok(said)
         }
-        _ => send_reply(&said, sink),
+        _ => Ok(said),
     }
 }
 
@@ -205,7 +236,7 @@ fn send_in<K: Sink>(frame: &mut [u8], text: &[u8], sink: &mut K) -> Result<(), F
 }
 
 /// A text's length, high byte first.
-fn length_of(text: &[u8]) -> [u8; HEADER]
+pub(crate) fn length_of(text: &[u8]) -> [u8; HEADER]
     requires { fits_frame text.now ≡ true }
     ensures { result ≡ length_bytes (length text.now) }
 {

@@ -1,4 +1,4 @@
-use Rattle.std.proofs.Common.{rules, ◌≡◌, [], Ok, refl, subst}
+use Rattle.std.proofs.Common.{rules, ◌≡◌, ◌∙◌, [], Ok, refl, subst}
 use Rattle.std.proofs.lemmas.Result.{err_from_is_err_and}
 use Rattle.std.specs.Prelude.{Result}
 use Rattle.acq_front.specs.declared.front_fault.FrontFault as fault
@@ -6,8 +6,8 @@ use Rattle.acq_front.specs.Ends as turns
 use Rattle.acq_front.specs.Ends.{Steps}
 use Rattle.acq_front.specs.declared.turn.Turn.{Turn}
 use Rattle.acq_front.specs.declared.turn.Turn.TheVariants.{Took, Waits}
-use Rattle.acq_front.specs.Exchanges.{held_of, unsent_of}
-use Rattle.acq_front.proofs.Rounds.{none_left, reads_on, stops, stops_ends, takes_on}
+use Rattle.acq_front.specs.Exchanges.{held_of, unsent_of, hand_of, gone_of}
+use Rattle.acq_front.proofs.Rounds.{first_none, none_left, reads_on, stops, stops_ends, takes_on}
 use Rattle.acq_front.proofs.Rounds.{unless_refused, writes_on}
 use Rattle.acq_front.proofs.exchange.Exchange.round.Goals as goal
 
@@ -21,7 +21,7 @@ returns-then-not-is_empty-clause-goes g c = λ h o.
     unless_refused c.send.result
     (rw (c.send.ensures.received, c.send.ensures.held, sent.1, sent.2)
     (writes_on give say tables tables (g.L.Line.received it.line) (held_of it)
-    (g.L.Line.sent it.line) (unsent_of it) sent.0 c.send.result refl))
+    (g.L.Line.sent it.line) (unsent_of it) sent.0 refl))
 
 pub returns-in_err-turn-clause-goes : goal.returns-in_err-turn-clause-goes
 returns-in_err-turn-clause-goes g c = λ h o.
@@ -36,7 +36,7 @@ returns-in_err-turn-clause-goes g c = λ h o.
     (stops give say (g.B.Book.tables c.args.host.now) (g.B.Book.tables c.turn.new.host)
     (g.B.Book.is_open c.turn.new.host)
     (g.L.Line.received it.line) (held_of it) (turns.held_of c.turn.new.self) (g.L.Line.sent it.line)
-    (turns.unsent_of c.turn.new.self) f
+    (turns.unsent_of c.turn.new.self) f c.in_err-turn.ensures.stops
     (c.in_err-turn.ensures.steps h o))
 
 pub returns-in_err-turn-clause-ends : goal.returns-in_err-turn-clause-ends
@@ -91,4 +91,19 @@ returns-in-Waits-clause-goes g c = λ h o.
     )
     (reads_on give say (g.B.Book.tables c.args.host.now) (g.B.Book.tables c.turn.new.host)
     (g.L.Line.received it.line) (held_of it)
-    (g.L.Line.sent it.line) [] came.0 c.receive.result turned.0.tables))
+    (g.L.Line.sent it.line) [] came.0 turned.0.tables))
+
+pub returns-in_err-turn-clause-in_hand : goal.returns-in_err-turn-clause-in_hand
+returns-in_err-turn-clause-in_hand g c = λ first.
+    first_none (g.L.Line.sent c.args.self.now.line) (turns.hand_of c.turn.new.self)
+    (turns.gone_of c.turn.new.self) c.turn.ensures.gone
+
+pub returns-in-Took-clause-in_hand : goal.returns-in-Took-clause-in_hand
+returns-in-Took-clause-in_hand g c = λ first.
+    first_none (g.L.Line.sent c.args.self.now.line) (turns.hand_of c.turn.new.self)
+    (turns.gone_of c.turn.new.self) c.turn.ensures.gone
+
+pub returns-in-Waits-clause-in_hand : goal.returns-in-Waits-clause-in_hand
+returns-in-Waits-clause-in_hand g c = λ first.
+    first_none (g.L.Line.sent c.receive.new.self.line) (hand_of c.receive.new.self)
+    (gone_of c.receive.new.self) (c.receive.ensures.gone ∙ c.turn.ensures.gone)

@@ -1,0 +1,110 @@
+use Rattle.std.proofs.Common.{[], ◌∷◌, refl, sym, ◌∙◌, inl}
+use Rattle.std.proofs.lemmas.Result.{err_from_is_err_and}
+use Rattle.std.proofs.lemmas.List.Elements.{All-nil, All-cons}
+use Rattle.acq_front.proofs.GivenInOrder.{gives_none, gives_one, gives_append, two_moments}
+use Rattle.acq_front.proofs.Turned.{reply_fits, book_stops, unread, plain_said}
+use Rattle.acq_front.proofs.Turned.{answer_refused, answer_said}
+use Rattle.acq_front.proofs.serving.take_message.Goals as goal
+
+pub returns-in_err-said-clause-takes : goal.returns-in_err-said-clause-takes
+returns-in_err-said-clause-takes g c = λ h o.
+    let p = err_from_is_err_and c.from_residual.result c.from_residual.ensures.1 in
+    let may_say = g.I.Issuer.may_say c.args.issuer.now in (
+      c.now.result ∷ [],
+      [],
+      gives_one _ _ _ _ c.now.ensures.coming,
+      All-cons (g.C.Clock.may_give c.args.clock.now) c.now.result [] c.now.ensures.given
+          (All-nil _),
+      gives_none _ _,
+      rw (p.1, p.2)
+          (book_stops may_say c.in_err-said.field-0.0 _ _ _ _
+          (refl, inl ((λ still. c.in_err-said.ensures.tables.unmade refl o still), refl))),
+    )
+
+pub returns-in-Undecodable-clause-takes : goal.returns-in-Undecodable-clause-takes
+returns-in-Undecodable-clause-takes g c = λ h o.
+    let makes = c.in_ok-said.ensures.tables in (
+      c.now.result ∷ [],
+      [],
+      gives_one _ _ _ _ c.now.ensures.coming,
+      All-cons (g.C.Clock.may_give c.args.clock.now) c.now.result [] c.now.ensures.given
+          (All-nil _),
+      gives_none _ _,
+      unread (g.I.Issuer.may_say c.args.issuer.now) (g.B.Book.tables c.args.host.now) c.now.result
+          c.from_vec.result c.args.message.items
+          c.from_vec.ensures (g.B.Book.is_open c.take.new.self) _ _
+          (sym (c.in_ok-said.ensures.output h o) ∙ c.in-Undecodable.is)
+          (makes.made refl o (makes.stays_open refl h o)),
+    )
+
+pub returns-in_err-said-in-Ask-clause-takes : goal.returns-in_err-said-in-Ask-clause-takes
+returns-in_err-said-in-Ask-clause-takes g c = λ h o.
+    let p = err_from_is_err_and c.from_residual-in_err-said-in-Ask.result
+    c.from_residual-in_err-said-in-Ask.ensures.1 in
+    let may_say = g.I.Issuer.may_say c.args.issuer.now in
+    let first = c.in_ok-said.ensures.tables in
+    let second = c.in_err-said-in-Ask.ensures.tables in
+    let between = first.stays_open refl (second.was_honest h) o in (
+      c.now.result ∷ c.now-in-Ask.result ∷ [],
+      c.answer-verdict.result ∷ [],
+      gives_append _ _ _ _ _ _ (gives_one _ _ _ _ c.now.ensures.coming)
+          (gives_one _ _ _ _ c.now-in-Ask.ensures.coming),
+      two_moments (g.C.Clock.may_give c.args.clock.now) c.now.result c.now-in-Ask.result
+          c.now.ensures.given
+          (c.now.ensures.later c.now-in-Ask.result c.now-in-Ask.ensures.given),
+      gives_one _ _ _ _ c.answer-verdict.ensures.coming,
+      rw (p.1, p.2) (book_stops may_say c.in_err-said-in-Ask.field-0.0 _ _ _ _
+          (answer_refused may_say (g.B.Book.tables c.args.host.now) c.now.result c.from_vec.result
+          c.args.message.items
+          c.from_vec.ensures c.now-in-Ask.result c.in-Ask.query c.answer-verdict.result
+          (sym (c.in_ok-said.ensures.output (second.was_honest h) o) ∙ c.in-Ask.is)
+          (g.B.Book.tables c.take.new.self)
+          (first.made refl o between) c.answer-verdict.ensures.said
+          (g.B.Book.is_open c.take-in-Ask.new.self) (g.B.Book.tables c.take-in-Ask.new.self)
+          (λ still. second.unmade refl between still))),
+    )
+
+pub returns-in-Ask-clause-takes : goal.returns-in-Ask-clause-takes
+returns-in-Ask-clause-takes g c = λ h o.
+    let may_say = g.I.Issuer.may_say c.args.issuer.now in
+    let first = c.in_ok-said.ensures.tables in
+    let second = c.in_ok-said-in-Ask.ensures.tables in
+    let between = first.stays_open refl (second.was_honest h) o in
+    let end = second.stays_open refl h between in (
+      c.now.result ∷ c.now-in-Ask.result ∷ [],
+      c.answer-verdict.result ∷ [],
+      gives_append _ _ _ _ _ _ (gives_one _ _ _ _ c.now.ensures.coming)
+          (gives_one _ _ _ _ c.now-in-Ask.ensures.coming),
+      two_moments (g.C.Clock.may_give c.args.clock.now) c.now.result c.now-in-Ask.result
+          c.now.ensures.given
+          (c.now.ensures.later c.now-in-Ask.result c.now-in-Ask.ensures.given),
+      gives_one _ _ _ _ c.answer-verdict.ensures.coming,
+      answer_said may_say (g.B.Book.tables c.args.host.now) c.now.result c.from_vec.result
+          c.args.message.items
+          c.from_vec.ensures c.now-in-Ask.result c.in-Ask.query c.answer-verdict.result
+          (sym (c.in_ok-said.ensures.output (second.was_honest h) o) ∙ c.in-Ask.is)
+          (g.B.Book.tables c.take.new.self) (first.made refl o between)
+          c.answer-verdict.ensures.said
+          (g.B.Book.tables c.take-in-Ask.new.self)
+          c.in_ok-said-in-Ask.said (c.in_ok-said-in-Ask.ensures.output h between)
+          (second.made refl between end)
+          (reply_fits c.in_ok-said-in-Ask.said (c.in_ok-said-in-Ask.ensures.reply h between)),
+    )
+
+pub returns-clause-takes : goal.returns-clause-takes
+returns-clause-takes g c = λ h o.
+    let makes = c.in_ok-said.ensures.tables in (
+      c.now.result ∷ [],
+      [],
+      gives_one _ _ _ _ c.now.ensures.coming,
+      All-cons (g.C.Clock.may_give c.args.clock.now) c.now.result [] c.now.ensures.given
+          (All-nil _),
+      gives_none _ _,
+      plain_said (g.I.Issuer.may_say c.args.issuer.now) (g.B.Book.tables c.args.host.now)
+          c.now.result c.from_vec.result
+          c.args.message.items c.from_vec.ensures (g.B.Book.tables c.take.new.self)
+          c.in_ok-said.said (sym (c.in_ok-said.ensures.output h o))
+          (makes.made refl o (makes.stays_open refl h o)) c.in_default.not-Ask
+          c.in_default.not-Undecodable
+          (reply_fits c.in_ok-said.said (c.in_ok-said.ensures.reply h o)),
+    )
