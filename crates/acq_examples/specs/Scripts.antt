@@ -1,7 +1,6 @@
 -- Events of the worked rows, and what a row says of them.
-use Rattle.std.specs.Prelude.{◌≡◌, ℕ, List, [], ◌∷◌, ◌++◌, map, filter, Option, Some, None}
+use Rattle.std.specs.Prelude.{◌≡◌, ℕ, List, [], ◌∷◌, ◌++◌, map, Option, Some, None}
 use Rattle.std.specs.Prelude.{option_map, if◌then◌else◌, codes}
-use Rattle.std.specs.Str.{bytes_eq}
 use Prim.Native.String.{String}
 use Rattle.day_totals.specs.declared.leg.Leg.{Leg}
 use Rattle.day_totals.specs.declared.leg.Leg.TheVariants.{Credit, Debit}
@@ -28,6 +27,7 @@ use Rattle.acq_history.specs.History.{postings, day_after, prior, recorded, refe
 use Rattle.acq_history.specs.History.{next_reference}
 use Rattle.acq_history.specs.PartyHistory.{Party, own, history_of, book_after, outputs_alone}
 use Rattle.acq_history.specs.PartyHistory.{outputs_at}
+use Rattle.acq_history.specs.Reconciliations.{reconciliations_of, reconciliations}
 use Rattle.acq_examples.specs.Messages.{merchant_a, merchant_b, terminal}
 
 -- ---- days and moments
@@ -222,11 +222,13 @@ pub record Records (limit : ℕ) (m : List ℕ) (es : List Event)
   pub by_history :
       map (λ row. Some (prior_of row)) rows ≡ recorded_by (history_alone limit m es) rows
 
--- After them, these are a merchant's reconciliations, with their numbers.
+-- After them, these are a merchant's reconciliations, with their numbers: by the tables, and by its
+-- own history.
 pub record Reconciles (limit : ℕ) (m : List ℕ) (es : List Event)
     (rows : List (ℕ × Reconciliation)) : Type 0 where
   pub by_tables :
-      rows ≡ filter (λ row. bytes_eq row.1.merchant m) (tables_of limit es).reconciliations
+      rows ≡ reconciliations_of m (tables_of limit es).reconciliations
+  pub by_history : rows ≡ reconciliations (history_alone limit m es)
 
 -- the references of a history's admitted requests, the first first
 abbrev pub references : List Entry → List ℕ

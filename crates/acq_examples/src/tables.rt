@@ -1,5 +1,5 @@
 //! Whole rows of the tables: the requests with all their columns, the numbers of reconciliations,
-//! and the holds that are open. What a request's row says, its merchant's own history says too.
+//! and the holds that are open. What these rows say, their merchant's own history says too.
 
 ghost use Rattle.std.specs.Prelude.{◌++◌, ◌∷◌, [], codes, Some, None, true, false};
 ghost use Rattle.acq_core.specs.declared.event.Event.TheVariants.{Frame};

@@ -1,5 +1,6 @@
 -- What was accepted had a hold or an original in its history, and what was answered was pending.
-use Rattle.std.proofs.Common.{◌≡◌, ℕ, List, [], ◌∷◌, Option, Some, None, Bool, true, false, ◌⊎◌, inl}
+use Rattle.std.proofs.Common.{◌≡◌, ℕ, List, [], ◌∷◌, Option, Some, None, Bool, true, false, ◌⊎◌}
+use Rattle.std.proofs.Common.{inl}
 use Rattle.std.proofs.Common.{inr, refl, sym, ap, ◌∙◌, subst}
 use Rattle.std.specs.Prelude.{find, option_map, option_and_then, is_some, is_none, ◌&&◌}
 use Rattle.std.specs.Option.{option_or}
@@ -114,7 +115,8 @@ module _ (opening : Opening) (h : List Entry) (r : RequestMessage) where
 
   pub has_hold : CompletesBy known r → HasHold h r
   has_hold by =
-      let wanted = wanted_reference (day_after opening.first_day h) r.service r.message by.service in
+      let wanted = wanted_reference (day_after opening.first_day h) r.service r.message by.service
+      in
       let asked = then_some (λ n. option_map prior (referred n h)) (reference_in r.message) by.hold
       (sym (ap (option_and_then (λ n. option_map prior (referred n h))) wanted) ∙ by.found) in
       let there = map_some prior (referred asked.0 h) by.hold asked.2 in
@@ -140,7 +142,8 @@ module _ (opening : Opening) (h : List Entry) (r : RequestMessage) where
       accepts is_acceptable (request_of (Requested r))
       (outcome_of known (decision_of_request r.service known r)) ≡ false
   recorded_unaccepted f there =
-      let known_key : (r.service ≡ NetworkManagement → ⊥) → known.recorded ≡ Some (prior f) = λ other.
+      let known_key : (r.service ≡ NetworkManagement → ⊥) → known.recorded ≡ Some (prior f) =
+      λ other.
       ap (option_and_then (λ key. option_map prior (recorded key h)))
       (wants_by_key (day_after opening.first_day h) r.service r r r.message
       (recordable_some r.service r other)).key
@@ -156,10 +159,13 @@ module _ (opening : Opening) (h : List Entry) (r : RequestMessage) where
         duplicate = λ p is. (quiet_duplicate known r p is).accepted;
         repeated = λ p is. (quiet_repeated known r p is p.reply_state).accepted;
         refused = λ merchant fresh given is. absurd (twice fresh.recordable fresh.new);
-        admitted = λ merchant fresh service range in_range. absurd (twice fresh.recordable fresh.new);
-        completed = λ merchant fresh service hold found opens. absurd (twice fresh.recordable fresh.new);
+        admitted = λ merchant fresh service range in_range.
+            absurd (twice fresh.recordable fresh.new);
+        completed = λ merchant fresh service hold found opens.
+            absurd (twice fresh.recordable fresh.new);
         reversed = λ merchant fresh service p found can. absurd (twice fresh.recordable fresh.new);
-        reconciled = λ merchant fresh service day resolved. absurd (twice fresh.recordable fresh.new);
+        reconciled = λ merchant fresh service day resolved.
+            absurd (twice fresh.recordable fresh.new);
       })
 
 -- ---- what is found

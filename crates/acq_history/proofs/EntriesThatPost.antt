@@ -1,5 +1,6 @@
 -- What each event of a merchant's posts: exactly one row, or nothing.
-use Rattle.std.proofs.Common.{◌≡◌, ℕ, List, [], ◌∷◌, ◌++◌, Option, Some, None, Bool, true, false, cond, ◌⊎◌}
+use Rattle.std.proofs.Common.{◌≡◌, ℕ, List, [], ◌∷◌, ◌++◌, Option, Some, None, Bool, true, false}
+use Rattle.std.proofs.Common.{cond, ◌⊎◌}
 use Rattle.std.proofs.Common.{inl, inr, refl, sym, ap, ◌∙◌, subst}
 use Rattle.std.specs.Prelude.{option_map, option_and_then, is_some, ◌&&◌, ◌||◌, take}
 use Rattle.std.specs.Str.{bytes_eq}
@@ -14,7 +15,8 @@ use Rattle.acq_message.specs.declared.response_code.ResponseCode.TheVariants as 
 use Rattle.acq_message.specs.declared.verdict.Verdict.{Verdict}
 use Rattle.acq_message.specs.declared.verdict.Verdict.TheVariants as verdict
 use Rattle.acq_message.specs.Reply.{answered_reply, verdict_code}
-use Rattle.acq_message.specs.Elements.{text_at, or_empty, original_key, original_key_with, original_service}
+use Rattle.acq_message.specs.Elements.{text_at, or_empty, original_key, original_key_with}
+use Rattle.acq_message.specs.Elements.{original_service}
 use Rattle.acq_message.specs.Services.{digits_of}
 use Rattle.acq_core.specs.declared.event.Event.{Event}
 use Rattle.acq_core.specs.declared.posting.Posting.{Posting}
@@ -29,7 +31,8 @@ use Rattle.acq_core.specs.Outcome.{Outcome, Replied, Reported, outcome, outcome_
 use Rattle.acq_core.specs.Tables.{Opening, with_next_posting, postings_of}
 use Rattle.acq_core.proofs.DecisionCases.{by_answer}
 use Rattle.acq_history.specs.Entries.{Entry, reply_in, is_approved, is_completion}
-use Rattle.acq_history.specs.Entries.{is_reversal, is_acceptable, is_admissible, accepts, request_of, recordable}
+use Rattle.acq_history.specs.Entries.{is_reversal, is_acceptable, is_admissible, accepts}
+use Rattle.acq_history.specs.Entries.{request_of, recordable}
 use Rattle.acq_history.specs.History.{referred, recorded, prior, enrolled, day_after}
 use Rattle.acq_history.specs.History.{ranges_after, is_admitted, posting_of, posting_by, postings}
 use Rattle.acq_history.specs.PartyHistory.{is_of, own, known_by, entry_for, history_after}
@@ -39,7 +42,7 @@ use Rattle.acq_history.specs.PostedRows.{IsAccepted, completion_posting}
 use Rattle.acq_history.specs.PostedRows.{ReversesPosted, reversing_posting, posted_about}
 use Rattle.acq_history.specs.PostedRows.{ApprovalsPost, CompletionsPost, ReversalsPost}
 use Rattle.acq_history.specs.PostedRows.{NothingElsePosts, TablesPost}
-use Rattle.acq_history.proofs.Lookups.{clash, some_is, map_some, is_some_there, filter-push_in}
+use Rattle.acq_history.proofs.Lookups.{clash, none_some, some_is, map_some, is_some_there, filter-push_in}
 use Rattle.acq_history.proofs.Lookups.{filter-push_out}
 use Rattle.acq_history.proofs.RecordedInHistory.{enrolled_where, referred_is, recorded_is}
 use Rattle.acq_history.proofs.RecordedInHistory.{reference_if}
@@ -90,7 +93,8 @@ approved_is other e = absurd (cc)
 named_original : (m : IsoMessage) (key : RequestKey) → original_key m ≡ Some key →
     is_original key.service ≡ true
 named_original m key named =
-    let service = map_some (original_key_with m) (original_service (take 3 (text_at m 90))) key named in
+    let service =
+    map_some (original_key_with m) (original_service (take 3 (text_at m 90))) key named in
     ap (λ k. is_original k.service) (sym service.2)
     ∙ step (take 3 (text_at m 90)) service.0 service.1
   where
@@ -106,7 +110,7 @@ named_original m key named =
         by true b c s e = ap is_original (sym (some_is Authorization s e))
         by false true c s e = ap is_original (sym (some_is Financial s e))
         by false false true s e = ap is_original (sym (some_is Completion s e))
-        by false false false s e = absurd (let no : ◌≡◌ {A = Option Service} None (Some s) = e in cc)
+        by false false false s e = none_some s e
 
 -- ---- what an entry posts
 
@@ -124,7 +128,8 @@ module _ (opening : Opening) (h : List Entry) where
   given r = outcome (known_by opening h (Requested r)) (Requested r)
 
   -- what isn't accepted posts nothing
-  unaccepted : (r : RequestMessage) → accepts is_acceptable (request_of (Requested r)) (given r) ≡ false →
+  unaccepted : (r : RequestMessage) →
+      accepts is_acceptable (request_of (Requested r)) (given r) ≡ false →
       PostsNothing opening h (Requested r)
   unaccepted r off =
       posts_nothing (Requested r)
@@ -447,7 +452,8 @@ tables_post m opening es e =
 
     step : (b c : Bool) → is_of (Some m) a ≡ b → is_shared a ≡ c →
         postings (history_of opening (Some m) (es ++ e ∷ []))
-        ≡ cond b (postings (entry_for opening h a ∷ h)) (postings_of m (book_after opening es).postings)
+        ≡ cond b (postings (entry_for opening h a ∷ h))
+        (postings_of m (book_after opening es).postings)
     step true c mine shared = grown (ap (λ b. b || is_shared a) mine)
     step false true mine shared =
         grown (λ i. mine i || shared i) ∙ (shared_posts_nothing opening h a shared ∙ before)

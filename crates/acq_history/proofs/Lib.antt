@@ -42,6 +42,7 @@ pub mod MerchantsRuns
 pub mod EntriesThatAccept
 pub mod PostedEarlier
 pub mod EntriesThatPost
+pub mod AcceptedRequests
 pub mod ReconciliationsAlone
 pub mod LookUpsSuffice
 pub mod NobodysRuns

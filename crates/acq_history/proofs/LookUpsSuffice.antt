@@ -71,7 +71,8 @@ module _ (k : Known) (original referred : Option Prior) (range : Option Range)
       (o : Option Merchant) → decision_of_merchant k r o ≡ decision_of_merchant more r o
   fresh_same r same None = refl
   fresh_same r same (Some merchant) =
-      ap (λ d. cond k.has_terminal (decision_of_key r k.recorded d) (Replies r code.InvalidMerchant))
+      ap (λ d. cond k.has_terminal (decision_of_key r k.recorded d)
+      (Replies r code.InvalidMerchant))
       (same merchant)
 
   -- totals matter only to a reconciliation
@@ -180,7 +181,8 @@ module _ (facts : Facts) (moment : ℕ) (m : IsoMessage) where
 
   alike : (s : Service) → Alike s
   alike Authorization =
-      unreconciled_alike (looked Authorization) given hold in_range totals _ _ (decided Authorization)
+      unreconciled_alike (looked Authorization) given hold in_range totals _ _
+      (decided Authorization)
       (unreconciled Authorization (λ is. absurd (cc)))
   alike Financial =
       unreconciled_alike (looked Financial) given hold in_range totals _ _ (decided Financial)
@@ -192,7 +194,8 @@ module _ (facts : Facts) (moment : ℕ) (m : IsoMessage) where
       unreconciled_alike (looked Reversal) given hold in_range totals _ _ (decided Reversal)
       (unreconciled Reversal (λ is. absurd (cc)))
   alike ReversalAdvice =
-      unreconciled_alike (looked ReversalAdvice) given hold in_range totals _ _ (decided ReversalAdvice)
+      unreconciled_alike (looked ReversalAdvice) given hold in_range totals _ _
+      (decided ReversalAdvice)
       (unreconciled ReversalAdvice (λ is. absurd (cc)))
   alike Reconciliation = (
     same_outcome (looked Reconciliation) given hold in_range _

@@ -1,5 +1,6 @@
 -- What an earlier entry has posted about a request is what the request's own entries say of it.
-use Rattle.std.proofs.Common.{◌≡◌, ℕ, ◌-◌, List, [], ◌∷◌, Option, Some, None, Bool, true, false, cond}
+use Rattle.std.proofs.Common.{◌≡◌, ℕ, ◌-◌, List, [], ◌∷◌, Option, Some, None, Bool, true, false}
+use Rattle.std.proofs.Common.{cond}
 use Rattle.std.proofs.Common.{inl, inr, refl, sym, ap, ◌∙◌, subst}
 use Rattle.std.specs.Prelude.{find, option_map, option_and_then, unwrap_or, is_some, is_none, ◌&&◌}
 use Rattle.std.specs.Prelude.{◌||◌, not, ◌==◌}
@@ -41,7 +42,8 @@ use Rattle.acq_history.specs.Entries.{Entry, reply_in, is_approved, is_past_merc
 use Rattle.acq_history.specs.Entries.{is_asked, accepts, is_acceptable, is_admissible, is_key}
 use Rattle.acq_history.specs.Entries.{request_of, approval_by, approval_in}
 use Rattle.acq_history.specs.History.{Found, newest, aged, recorded, recording, referred, prior}
-use Rattle.acq_history.specs.History.{reference_of, approval_of, answer_to, is_accepted, is_admitted}
+use Rattle.acq_history.specs.History.{reference_of, approval_of, answer_to, is_accepted}
+use Rattle.acq_history.specs.History.{is_admitted}
 use Rattle.acq_history.specs.History.{posting_by, posting_of, amount_of, lowered_to, reversal_of}
 use Rattle.acq_history.specs.History.{leg_by, reference_by, card_by, day_after, ranges_after}
 use Rattle.acq_history.specs.History.{reply_state_of, reply_state_with, is_reversible, is_declined}
@@ -52,7 +54,8 @@ use Rattle.acq_history.specs.PostedRows.{posted_about}
 use Rattle.acq_history.proofs.Lookups.{clash, some_is, none_some, map_none, map_some, own_none}
 use Rattle.acq_history.proofs.Lookups.{not_true, is_some_there}
 use Rattle.acq_history.proofs.Keys.{same_key_is, same_key_itself, eqb_itself}
-use Rattle.acq_history.proofs.RecordedInHistory.{AdmitsOnlyEnrolled, key_in, referred_is, recorded_is}
+use Rattle.acq_history.proofs.RecordedInHistory.{AdmitsOnlyEnrolled, key_in, referred_is}
+use Rattle.acq_history.proofs.RecordedInHistory.{recorded_is}
 use Rattle.acq_history.proofs.RecordedInHistory.{reference_if}
 use Rattle.acq_history.proofs.RecordableRequests.{recordable_is}
 use Rattle.acq_history.proofs.UnrecordedRequests.{accepts_not}
@@ -164,7 +167,8 @@ module _ (f : Found) (n : ℕ) (numbered : reference_of f ≡ Some n) (moment da
           own_posting Financial (aged answer f)
           ≡ option_map (λ (m : ℕ). sale_posting n f) (approval_by moment v')
       says v' same =
-          ap (λ (a : Option Entry). option_map (λ (m : ℕ). sale_posting (or_zero (reference_of f)) f)
+          ap (λ (a : Option Entry).
+          option_map (λ (m : ℕ). sale_posting (or_zero (reference_of f)) f)
           (option_and_then (λ (x : Entry). approval_in x.arrival) a)) here
           ∙ (λ i. option_map (λ (m : ℕ). sale_posting (or_zero (numbered i)) f)
           (approval_by moment (same i)))
@@ -326,7 +330,8 @@ module _ (opening : Opening) (h : List Entry) (key : RequestKey) where
           posting_about key e h ≡ own_posting f.request.service f
       step None came there = none_some f there
       step (Some q) came there =
-          let both = some_if (same_key (key_of q.service q.message) key && is_past_merchant e.outcome)
+          let both =
+          some_if (same_key (key_of q.service q.message) key && is_past_merchant e.outcome)
           (newest q e h) f there in
           let own = recordable_is r.service r q came in
           let same = ap (λ x. same_key (key_of x.service x.message) key) own
@@ -361,7 +366,8 @@ module _ (opening : Opening) (h : List Entry) (key : RequestKey) where
           recording key e h rq ≡ Some f → HasHold f.before f.request
       step None came there = none_some f there
       step (Some q) came there =
-          let both = some_if (same_key (key_of q.service q.message) key && is_past_merchant e.outcome)
+          let both =
+          some_if (same_key (key_of q.service q.message) key && is_past_merchant e.outcome)
           (newest q e h) f there in
           let same : newest r e h ≡ f = ap (λ x. newest x e h) (recordable_is r.service r q came)
           ∙ both.1 in

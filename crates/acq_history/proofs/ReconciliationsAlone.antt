@@ -1,5 +1,6 @@
 -- A merchant's rows of reconciliations are the reconciliations of its own history.
-use Rattle.std.proofs.Common.{◌≡◌, ℕ, ◌+◌, List, [], ◌∷◌, ◌++◌, Option, Some, None, Bool, true, false}
+use Rattle.std.proofs.Common.{◌≡◌, ℕ, ◌+◌, List, [], ◌∷◌, ◌++◌, Option, Some, None, Bool, true}
+use Rattle.std.proofs.Common.{false}
 use Rattle.std.proofs.Common.{cond, refl, sym, ap, ◌∙◌, subst}
 use Rattle.std.specs.Prelude.{option_map, is_none, ◌&&◌, ◌==◌}
 use Rattle.std.specs.Prelude.{if◌then◌else◌, nat_lt}
@@ -54,7 +55,8 @@ use Rattle.acq_history.proofs.RecordableRequests.{recordable_some}
 use Rattle.acq_history.proofs.ChangedRows.{entry_on}
 use Rattle.acq_history.proofs.StepCases.{by_step}
 use Rattle.acq_history.proofs.OwnRequests.{balance_past}
-use Rattle.acq_history.proofs.TablesAgreeWithHistory.{Agrees, known_in_mine, known_in_shared, names_is}
+use Rattle.acq_history.proofs.TablesAgreeWithHistory.{Agrees, known_in_mine, known_in_shared}
+use Rattle.acq_history.proofs.TablesAgreeWithHistory.{names_is}
 use Rattle.acq_history.proofs.OtherPartysStep.{IsNaming, named_other, naming_of}
 use Rattle.acq_history.proofs.WholeRuns.{KeepsAgreement, whole_run}
 use Rattle.acq_history.proofs.MerchantsRuns.{keeps_agreement, new_agrees}
@@ -319,7 +321,8 @@ other_kept : (m : List ℕ) (t : Tables) (a : Arrival) → IsNaming a →
     names (merchant_named a) m ≡ false →
     reconciliations_of m (step_tables t a).reconciliations ≡ reconciliations_of m t.reconciliations
 other_kept m t a naming other =
-    by_step t a (λ d. reconciliations_of m (after_any t (change_of (known_in t a) d)).reconciliations
+    by_step t a (λ d.
+    reconciliations_of m (after_any t (change_of (known_in t a) d)).reconciliations
     ≡ reconciliations_of m t.reconciliations)
     (record {
       reported = λ o not. refl;

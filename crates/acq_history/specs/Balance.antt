@@ -27,8 +27,8 @@ pub record IsReconciliation (opening : Opening) (h : List Entry) (r : RequestMes
   pub resolves :
       reconciled_day (day_after opening.first_day h) (content_of r.message.elements 15) ≡ Some day
 
--- A reply says exactly whether the claims are the totals: elements 66 and 39 are 1 and 00 where they
--- are, and 2 and 95 where they aren't.
+-- A reply says exactly whether the claims are the totals: elements 66 and 39 are 1 and 00 where
+-- they are, and 2 and 95 where they aren't.
 pub record SaysBalance (reply : IsoMessage) (agrees : Type 0) : Type 0 where
   pub in_balance : (content_of reply.elements 66 ≡ Some (codes "1")) ↔ agrees
   pub out_of_balance : (content_of reply.elements 66 ≡ Some (codes "2")) ↔ ¬ agrees
@@ -40,9 +40,9 @@ abbrev pub balance_reply : ℕ → RequestMessage → Bool → DayTotals → Iso
 balance_reply day r in_balance totals =
     totals_reply day r (balance_code in_balance) in_balance totals
 
--- What a reconciliation of a day gets on a history: its reply has the totals of the postings of that
--- day, and says that it is in balance exactly where the claimed counts and sums are these totals,
--- and the claimed net is theirs as a number.
+-- What a reconciliation of a day gets on a history: its reply has the totals of the postings of
+-- that day, and says that it is in balance exactly where the claimed counts and sums are these
+-- totals, and the claimed net is theirs as a number.
 pub record IsBalanced (opening : Opening) (h : List Entry) (r : RequestMessage)
     (day : ℕ) : Type 0 where
   pub in_balance : Bool

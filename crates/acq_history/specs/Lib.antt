@@ -21,4 +21,5 @@ pub mod KeptRepeats
 pub mod Conservation
 pub mod Finality
 pub mod PostedRows
+pub mod Acceptance
 pub mod Widening

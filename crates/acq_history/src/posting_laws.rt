@@ -1,6 +1,8 @@
-//! Laws of the books: balance, repeats, sums, conservation and finality.
+//! Laws of the books: balance, repeats, sums, conservation and finality, what is accepted and what
+//! that posts.
 
 ghost use Rattle.std.specs.Prelude.{List, ℕ};
+ghost use Rattle.acq_history.specs.Acceptance.{Admits, AcceptsCompletions, AcceptsReversals};
 ghost use Rattle.acq_history.specs.Balance.{BalancesExactly};
 ghost use Rattle.acq_history.specs.KeptRepeats.{RepeatsAreKept};
 ghost use Rattle.acq_history.specs.DaySums.{SumsAreTotals};
@@ -43,6 +45,14 @@ pub fn reversals_never_exceed()
 /// Once a day is past and none of its requests is pending, its postings stay as they are.
 pub fn closed_days_are_final()
     ensures { IsFinal }
+{}
+
+/// A request that passes every check, each said in the words of its merchant's history, is admitted
+/// or accepted.
+pub fn requests_are_accepted()
+    ensures admitted { (m : List ℕ) → Admits m }
+    ensures completions { (m : List ℕ) → AcceptsCompletions m }
+    ensures reversals { (m : List ℕ) → AcceptsReversals m }
 {}
 
 /// What each event of a merchant's posts: an approved sale or return, an accepted completion and an
