@@ -1,5 +1,5 @@
 -- A look-up over a connection is one of its book.
-use Rattle.std.proofs.Common.{ℕ, true≢false, Result, Ok, Err, IfOk, OnOk, OnErr, is_ok, ◌≡◌, ◌≤◌}
+use Rattle.std.proofs.Common.{ℕ, inl, inr, true≢false, Result, Ok, Err, IfOk, OnOk, OnErr, is_ok, ◌≡◌, ◌≤◌}
 use Rattle.std.proofs.Common.{Bool, true, false, IsTrue, ⊎_elim, sym, ap, subst, ◌∙◌, arith}
 use Rattle.sqlite_disk.specs.Disk.{MoreFaults}
 use Rattle.sqlite_trees.specs.declared.store.Store.{Ghosts}

@@ -211,9 +211,25 @@ impl<S: Alter> Book for SqlBook<S> {
 
     ghost honest = { λ book is. is.clean };
 
-    ghost settled = { settled_at S.Store S.Store.settled };
+    ghost settled = { settled_at (record {
+      view = S.Store.view;
+      faults = S.Store.faults;
+      recovers = S.Store.recovers;
+      is_shielded = S.Store.is_shielded;
+      is_step = S.Store.is_step;
+      blamed = S.Store.blamed;
+      names = S.Store.names;
+    }) S.Store.settled };
 
-    ghost stored = { stored_at S.Store S.Store.settled };
+    ghost stored = { stored_at (record {
+      view = S.Store.view;
+      faults = S.Store.faults;
+      recovers = S.Store.recovers;
+      is_shielded = S.Store.is_shielded;
+      is_step = S.Store.is_step;
+      blamed = S.Store.blamed;
+      names = S.Store.names;
+    }) S.Store.settled };
 
     fn limit(&mut self) -> Result<Limit, BookFault> {
         self.settled();

@@ -72,7 +72,10 @@ fn open_files<D: Start>(
     match connect(rt, path, start) {
         Ok(connection) => {
             an_open_finds_the_book(&connection);
-            adopted(rt.alloc(), connection)
+            match adopted(rt.alloc(), connection) {
+                Ok(book) => Ok(Some(book)),
+                Err(cause) => Err(cause),
+            }
         }
         Err(fault) => Err(closed(fault)),
     }
@@ -139,14 +142,13 @@ pub fn migrate_book<D: Start>(
 fn adopted<S: Alter + Drop>(
     alloc: Global,
     connection: Connection<S>,
-) -> Result<Option<SqlBook<S>>, NotOpened<S>>
+) -> Result<SqlBook<S>, NotOpened<S>>
     requires settled { connection.in_transaction ≡ false }
-    ensures same { IfOk result (λ found. IfSome found (λ book.
-        HasCleanDisk (state S.Store book.connection) → (t : Tables)
-        → IsAt (state S.Store connection) t → HasPast t
-        → IsOpenAt (state S.Store book.connection) t)) }
-    ensures stop { IfOk result (λ found. IfSome found (λ book.
-        Survives (state S.Store connection) (state S.Store book.connection) (λ _. ⊥))) }
+    ensures same { IfOk result (λ book. HasCleanDisk (state S.Store book.connection)
+        → (t : Tables) → IsAt (state S.Store connection) t → HasPast t
+        → IsOpenAt (state S.Store book.connection) t) }
+    ensures stop { IfOk result (λ book.
+        Survives (state S.Store connection) (state S.Store book.connection) (λ _. ⊥)) }
     ensures refused { IfErr result (λ cause. IfSome cause.connection (λ left.
         HasCleanDisk (state S.Store left) → (t : Tables)
         → IsAt (state S.Store connection) t → IsFailure cause.fault)) }
@@ -155,7 +157,7 @@ fn adopted<S: Alter + Drop>(
     ensures handed_back { IfErr result (λ cause. IsSome cause.connection) }
 {
     match SqlBook::adopt(alloc, connection) {
-        Ok(book) => Ok(Some(book)),
+        Ok(book) => Ok(book),
         Err(refusal) => Err(NotOpened {
             fault: refusal.fault,
             connection: Some(refusal.connection),

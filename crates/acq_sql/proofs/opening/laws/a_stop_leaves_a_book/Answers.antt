@@ -18,9 +18,9 @@ pub returns-clause-left : goal.returns-clause-left
 returns-clause-left g c clean books left may =
     let store = c.into_store.result in
     let sure = c.into_store.ensures in
-    ∥∥₁_map (λ found.
+    ∥∥₁_map (opens_again store (sure.numbered clean) (sure.sound clean) left may)
+    (λ found.
     let db = found.0 in
     let was = subst (λ (h : Held _). recovers h.store db) c.release.ensures.connection
     (sure.quiet.outcomes db found.1) in
     (tables_left db, (db, was, refl), (db, found.2, books db was)))
-    (opens_again store (sure.numbered clean) (sure.sound clean) left may)
