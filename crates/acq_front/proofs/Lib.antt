@@ -9,4 +9,5 @@ pub mod Turned
 pub mod ServedWeaker
 pub mod Following
 pub mod Rounds
+pub mod FramesCame
 pub mod Turning

@@ -68,7 +68,7 @@ pub first_more : (went later hand held : List ℕ) (gone n now : ℕ) → held �
 first_more went later hand held gone n now same more is first = (
   first.0,
   rw (same, more, is, first.1) (append_assoc first.0 (take gone hand) (take n (drop gone hand))
-  ∙ ap (λ (l : List ℕ). first.0 ++ l) (sym (take-add gone n hand))),
+      ∙ ap (λ (l : List ℕ). first.0 ++ l) (sym (take-add gone n hand))),
 )
 
 -- nothing is left, where that was seen

@@ -1,5 +1,5 @@
 -- What the bytes of one frame that are still to be written show.
-use Rattle.std.specs.Prelude.{ℕ, List, [], drop, Result, Ok, Err, ◌≡◌}
+use Rattle.std.specs.Prelude.{ℕ, List, [], drop}
 use Rattle.acq_link.specs.Frames.{frame}
 use Rattle.acq_core.specs.declared.output.Output.{Output}
 use Rattle.acq_core.specs.declared.output.Output.TheVariants.{Reply}

@@ -25,6 +25,12 @@ module _ {S K : Type 0} where
   FailsOver reads writes None None result = result ≡ Err Read
   FailsOver reads writes old new result = ⊥
 
+  -- this holds of what came over its ends before and after
+  abbrev pub CameOver : (S → List ℕ) → (List ℕ → List ℕ → Type 0) → (old new : Option (S × K)) →
+      Type 0
+  CameOver received p (Some old) (Some new) = p (received old.0) (received new.0)
+  CameOver received p old new = ⊥
+
 module _ {E : Type 0} where
   abbrev pub end_of : LaterEnd E → E
   end_of l = l.end

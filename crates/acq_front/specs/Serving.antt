@@ -2,7 +2,8 @@
 use Rattle.std.specs.Prelude.{◌≡◌, ◌<◌, ℕ, true, false, List, [], ◌∷◌, ◌++◌, ◌⊎◌, length, take}
 use Rattle.std.specs.Prelude.{Result, Ok, Err}
 use Rattle.std.specs.List.{list_all}
-use Rattle.acq_link.specs.Frames.{frame, framed, Frames, FramesThen, has_frame, has_bad_length}
+use Rattle.acq_link.specs.Frames.{fits_frame, frame, framed, Frames, FramesThen, has_frame}
+use Rattle.acq_link.specs.Frames.{has_bad_length}
 use Rattle.acq_link.specs.Frames.{is_partial}
 use Rattle.iso_codec.specs.Reading.{reading_of}
 use Rattle.iso_codec.specs.declared.decode_fault.DecodeFault.{DecodeFault}
@@ -27,6 +28,16 @@ pub record Connection : Type 0 where
 -- the events of the messages
 abbrev pub events_of : Tables → Connection → List Event
 events_of t c = talk t c.messages c.moments c.verdicts
+
+-- some message's whole frame stands in these bytes
+abbrev pub HoldsFrame : List ℕ → Type 0
+HoldsFrame bytes =
+    (before message after : List ℕ) × (fits_frame message ≡ true)
+    × (bytes ≡ before ++ (frame message ++ after))
+
+-- one came since
+abbrev pub FrameCame : (old new : List ℕ) → Type 0
+FrameCame old new = (came : List ℕ) × (new ≡ old ++ came) × HoldsFrame came
 
 -- all of these messages read
 abbrev pub AllRead : List (List ℕ) → Type 0

@@ -6,6 +6,7 @@ ghost use Rattle.acq_link.specs.FramesAt.{MayBecomeFrame};
 ghost use Rattle.acq_book.specs.Promise.{HasRisen};
 ghost use Rattle.acq_front.specs.Ends.{held_of, unsent_of, hand_of, gone_of, Steps, StopsAt};
 ghost use Rattle.acq_front.specs.Faults.{IfStore, UnlessRefused};
+ghost use Rattle.acq_front.specs.Serving.{HoldsFrame};
 
 use crate::outgoing::Outgoing;
 use crate::serving::take_message;
@@ -112,9 +113,11 @@ impl Conversation {
         ensures said_later { (q : Query) (v : Verdict) → I.may_say issuer.new q v
             → I.may_say issuer.old q v }
         ensures given_later { (m : ℕ) → C.may_give clock.new m → C.may_give clock.old m }
-        // The store's fault comes only where a call of it failed, or gave what no host wrote.
+        // The store's fault comes only where a call of it failed, or gave for a message that came
+        // what no host wrote.
         ensures store { IfStore result (HasRisen (B.failures host.old) (B.failures host.new)
-            ⊎ (B.is_honest host.new → B.is_open host.old → ⊥)) }
+            ⊎ (HoldsFrame (held_of self.old)
+            × (B.is_honest host.new → B.is_open host.old → ⊥))) }
     {
         self.output.clear();
         let Some(message) = self.input.take_message(alloc)? else {

@@ -8,6 +8,7 @@ ghost use Rattle.acq_front.specs.Exchanges.{line_of, held_of, unsent_of, hand_of
 ghost use Rattle.acq_front.specs.Exchanges.{EndsInFirst, EndsWith, Goes, IfWaits, IfWrite};
 ghost use Rattle.acq_front.specs.Exchanges.{late_fault, tells_end};
 ghost use Rattle.acq_front.specs.Faults.{IfStore, UnlessRefused, failed_reads, failed_writes};
+ghost use Rattle.acq_front.specs.Serving.{HoldsFrame};
 
 use crate::conversation::Conversation;
 use crate::line::Line;
@@ -78,9 +79,11 @@ impl<L: Line> Exchange<L> {
             (gone_of self.old)
             → EndsInFirst (L.sent (line_of self.new)) (hand_of self.new) (gone_of self.new) }
         ensures told { IfWrite result (λ n. n ≡ gone_of self.new) }
-        // The store's fault comes only where a call of it failed, or gave what no host wrote.
+        // The store's fault comes only where a call of it failed, or gave for a message that came
+        // what no host wrote.
         ensures store { IfStore result (HasRisen (B.failures host.old) (B.failures host.new)
-            ⊎ (B.is_honest host.new → B.is_open host.old → ⊥)) }
+            ⊎ (HoldsFrame (held_of self.old)
+            × (B.is_honest host.new → B.is_open host.old → ⊥))) }
         // A round that waits did nothing.
         ensures idle { B.is_honest host.new → B.is_open host.old → IfWaits result
             ((B.tables host.new ≡ B.tables host.old)

@@ -11,7 +11,7 @@ ghost use Rattle.acq_front.specs.Faults.{AtEnd, IfStore, UnlessRefused, failed_r
 ghost use Rattle.acq_front.specs.Faults.{failed_writes};
 ghost use Rattle.acq_front.specs.Turns.{OfMessage, OfTaking, ReplyFits, Sends, SendsReply};
 ghost use Rattle.acq_front.specs.Turns.{Takes, Turns};
-ghost use Rattle.acq_front.specs.Serving.{Connection, Serves};
+ghost use Rattle.acq_front.specs.Serving.{Connection, FrameCame, Serves};
 
 use crate::clock::Clock;
 use crate::front_fault::FrontFault;
@@ -67,9 +67,11 @@ pub fn serve<B: Book + Drop, S: Source, K: Sink, C: Clock, I: Issuer>(
     // A fault of reading or writing comes only where a read or a write failed.
     ensures reads { S.failures source.new ≡ S.failures source.old + failed_reads result }
     ensures writes { K.failures sink.new ≡ K.failures sink.old + failed_writes result }
-    // The store's fault comes only where a call of it failed, or gave what no host wrote.
+    // The store's fault comes only where a call of it failed, or gave for a message that came what
+    // no host wrote.
     ensures store { IfStore result (HasRisen (B.failures host.old) (B.failures host.new)
-        ⊎ (B.is_honest host.new → B.is_open host.old → ⊥)) }
+        ⊎ (FrameCame (S.received source.old) (S.received source.new)
+        × (B.is_honest host.new → B.is_open host.old → ⊥))) }
 {
     let mut input = Deframer::new();
     let mut piece = [0; LONGEST_FRAME];

@@ -1,4 +1,4 @@
-use Rattle.std.proofs.Common.{[], Ok, Err, ◌≡◌, ◌++◌, List, ℕ, take, refl, sym, ap, ◌∙◌, append-nil}
+use Rattle.std.proofs.Common.{[], inl, inr, Ok, Err, ◌≡◌, ◌++◌, List, ℕ, take, refl, sym, ap, ◌∙◌, append-nil}
 use Rattle.std.proofs.Common.{arith}
 use Rattle.std.proofs.lemmas.Result.{err_from_is_err_and}
 use Rattle.std.proofs.lemmas.List.{take-append-le}
@@ -9,6 +9,9 @@ use Rattle.std.proofs.lemmas.List.Elements.{All-nil}
 use Rattle.acq_front.proofs.GivenInOrder.{gives_none, gives_append, gives_along, may_append}
 use Rattle.acq_front.proofs.StreamRead.{consumes_none, consumes_append, received_more}
 use Rattle.acq_front.proofs.StreamRead.{received_none, empty_of, not_empty_of}
+use Rattle.acq_front.proofs.FramesCame.{none_came, piece_came, frame_taken, frame_came}
+use Rattle.acq_front.proofs.FramesCame.{risen_earlier}
+use Rattle.acq_front.proofs.Turned.{store_on}
 use Rattle.acq_front.proofs.Served.{nothing_yet, going_none, going_held, with_piece, going_read}
 use Rattle.acq_front.proofs.Served.{with_message, going_more, stream_stops, read_stops, ends_well}
 use Rattle.acq_front.proofs.Served.{ends_inside, stopped, turns_weaker}
@@ -35,6 +38,7 @@ loop-message-init g c =
       (λ q v said. said),
       (λ m given. given),
       omega arith,
+      ([], none_came (g.S.Source.received c.args.source.now) _ c.new-input.ensures),
     )
 
 pub returns-in_err-message-clause-served : goal.returns-in_err-message-clause-served
@@ -83,6 +87,23 @@ returns-in_err-answer_message-clause-served g c = λ h o.
       rw (p.1, p.2) x.2,
     )
 
+pub returns-in_err-answer_message-clause-store : goal.returns-in_err-answer_message-clause-store
+returns-in_err-answer_message-clause-store g c =
+    let p = err_from_is_err_and c.from_residual-in_err-answer_message.result
+    c.from_residual-in_err-answer_message.ensures.1 in
+    let e = c.in_err-answer_message.ensures in
+    let began = rw c.in-Some.is at c.in_ok-message.ensures.some in
+    rw (p.1, p.2) (store_on (Unit {0}) (Unit {0}) c.in_err-answer_message.field-0.0 _ _
+    (λ why. elim why [
+      | inl risen ↦ inl (risen_earlier _ _ _ c.loop-message.invariant.7 e.rise risen)
+      | inr shut ↦ inr (
+        frame_came (g.S.Source.received c.args.source.now) _ c.loop-message.input
+            c.in-Some.message.items c.take_message.new.self began c.loop-message.invariant.8,
+        (λ h o. shut h (c.loop-message.invariant.0 (e.was_honest h) o).7),
+      )
+    ])
+    e.store)
+
 pub loop-message-preserved-in-Some : goal.loop-message-preserved-in-Some
 loop-message-preserved-in-Some g c =
     let before = c.in_ok-answer_message.ensures.was_honest in
@@ -118,6 +139,9 @@ loop-message-preserved-in-Some g c =
       (λ m given. c.loop-message.invariant.6 m
           (c.in_ok-answer_message.ensures.moments_later m given)),
       omega (arith, c.in_ok-answer_message.ensures.rise, c.loop-message.invariant.7),
+      frame_taken (g.S.Source.received c.args.source.now) _ c.loop-message.input
+          c.in-Some.message.items c.take_message.new.self
+          (rw c.in-Some.is at c.in_ok-message.ensures.some) c.loop-message.invariant.8,
     )
 
 pub returns-in_err-n-clause-served : goal.returns-in_err-n-clause-served
@@ -175,15 +199,15 @@ pub loop-message-preserved : goal.loop-message-preserved
 loop-message-preserved g c =
     let read = c.loop-message.invariant.2 in
     let may_say = g.I.Issuer.may_say c.args.issuer.now in
-    let piece = take c.in_ok-n.n c.read.new.buffer in (
+    let piece = take c.in_ok-n.n c.read.new.buffer in
+    let begun = rw c.in_default.is at c.in_ok-message.ensures.none in
+    let fed : c.feed.new.self ≡ c.loop-message.input ++ piece =
+    c.feed.ensures
+    ∙ ap (λ (l : List ℕ). c.take_message.new.self ++ l)
+    (take-append-le _ c.read.new.buffer _ c.in_ok-n.ensures.bound.0)
+    ∙ ap (λ (l : List ℕ). l ++ piece) begun.0 in (
       (λ h o.
-          let i = c.loop-message.invariant.0 h o in
-          let begun = rw c.in_default.is at c.in_ok-message.ensures.none in
-          let fed : c.feed.new.self ≡ c.loop-message.input ++ piece =
-          c.feed.ensures
-          ∙ ap (λ (l : List ℕ). c.take_message.new.self ++ l)
-          (take-append-le _ c.read.new.buffer _ c.in_ok-n.ensures.bound.0)
-          ∙ ap (λ (l : List ℕ). l ++ piece) begun.0 in (
+          let i = c.loop-message.invariant.0 h o in (
             with_piece i.0 piece,
             received_more _ _ _ _ piece i.1 c.in_ok-n.ensures.received,
             i.2,
@@ -204,4 +228,6 @@ loop-message-preserved g c =
       c.loop-message.invariant.5,
       c.loop-message.invariant.6,
       c.loop-message.invariant.7,
+      piece_came (g.S.Source.received c.args.source.now) _ _ c.loop-message.input
+          c.feed.new.self piece fed c.in_ok-n.ensures.received c.loop-message.invariant.8,
     )

@@ -31,6 +31,8 @@ invariant-loop-message g l = (g.B.Book.is_honest l.host → g.B.Book.is_open l.f
     g.I.Issuer.may_say l.fn.issuer q v)
     × ((m : ℕ) → g.C.Clock.may_give l.clock m → g.C.Clock.may_give l.fn.clock m)
     × (g.B.Book.failures l.fn.host ≤ g.B.Book.failures l.host)
+    × ((taken : List ℕ)
+    × (g.S.Source.received l.source ≡ g.S.Source.received l.fn.source ++ (taken ++ l.input)))
 
 abbrev pub decreases-loop-message : goal.decreases-loop-message
 decreases-loop-message g l = 4099 * g.S.Source.reads_left l.source + length l.input

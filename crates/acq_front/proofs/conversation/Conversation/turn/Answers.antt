@@ -1,4 +1,7 @@
-use Rattle.acq_front.proofs.Turned.{was_held}
+use Rattle.std.proofs.Common.{[], inr}
+use Rattle.std.proofs.lemmas.Result.{err_from_is_err_and}
+use Rattle.acq_front.specs.declared.turn.Turn.{Turn}
+use Rattle.acq_front.proofs.Turned.{store_on, was_held}
 use Rattle.acq_front.proofs.conversation.Conversation.turn.Goals as goal
 
 pub returns-clause-steps : goal.returns-clause-steps
@@ -16,3 +19,15 @@ returns-clause-steps g c = λ h o.
           (g.B.Book.is_open c.take_message-2.new.host) (g.B.Book.tables c.take_message-2.new.host) _
           c.in_ok-said.said t.5);
     }
+
+pub returns-in_err-hold-clause-store : goal.returns-in_err-hold-clause-store
+returns-in_err-hold-clause-store g c =
+    let p = err_from_is_err_and c.from_residual-in_err-hold.result
+    c.from_residual-in_err-hold.ensures.1 in
+    let begins = rw c.in-Some.is at c.in_ok-message.ensures.some in
+    rw (p.1, p.2) (store_on (Unit {0}) Turn c.in_err-hold.field-0.0 _ _
+    (λ unfit. inr (
+      ([], c.in-Some.message.items, c.take_message.new.self, begins.fits, begins.whole),
+      (λ h o. unfit (c.in_ok-said.ensures.takes h o).5.fits),
+    ))
+    c.in_err-hold.ensures.store)

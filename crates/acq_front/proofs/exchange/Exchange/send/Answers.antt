@@ -1,5 +1,5 @@
 use Rattle.std.proofs.Common.{List, ℕ, take, ◌++◌, ◌∙◌, ap}
-use Rattle.acq_front.specs.Exchanges.{hand_of, gone_of, line_of}
+use Rattle.acq_front.specs.Exchanges.{hand_of, gone_of}
 use Rattle.acq_front.specs.Ends as turns
 use Rattle.acq_front.proofs.Rounds.{first_more}
 use Rattle.acq_front.proofs.exchange.Exchange.send.Goals as goal
