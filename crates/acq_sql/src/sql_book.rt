@@ -211,6 +211,7 @@ impl<S: Alter> Book for SqlBook<S> {
 
     ghost honest = { λ book is. is.clean };
 
+    // In a law the store is known by its members alone.
     ghost settled = { settled_at (record {
       view = S.Store.view;
       faults = S.Store.faults;
