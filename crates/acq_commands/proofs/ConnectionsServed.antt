@@ -1,12 +1,13 @@
 -- Connections served one after the other, and one more.
-use Rattle.std.proofs.Common.{◌≡◌, ℕ, List, [], ◌∷◌, ◌++◌, refl, subst}
+use Rattle.std.proofs.Common.{◌≡◌, ℕ, List, [], ◌∷◌, ◌++◌, refl, subst, ap, ◌∙◌, sym}
 use Rattle.std.proofs.lemmas.List.Elements.{All-weaker}
 use Rattle.acq_message.specs.declared.verdict.Verdict.{Verdict}
 use Rattle.acq_core.specs.declared.query.Query.{Query}
 use Rattle.acq_core.specs.Tables.{Tables}
 use Rattle.acq_front.proofs.ServedWeaker.{serves_weaker}
 use Rattle.acq_front.specs.Talk.{Saying}
-use Rattle.acq_commands.specs.Listening.{Served, ServesOne, ServesEach}
+use Rattle.acq_commands.specs.Listening.{Served, ServesOne, ServesEach, Traffic, traffic_after}
+use Rattle.acq_commands.specs.Listening.{with_served}
 
 pub one_more : (may_give : ℕ → Type 0) (may_say : Saying) (old mid new : Tables) (all : List Served)
     (s : Served) →
@@ -27,3 +28,15 @@ weaker_one later may_give f said may_say g stays still h old new s one = (
   All-weaker later may_give f s.connection.moments one.0,
   serves_weaker said may_say g stays still h old new s.connection s.ended one.1,
 )
+
+traffic-more : (t : Traffic) (all : List Served) (s : Served) →
+    traffic_after t (all ++ s ∷ []) ≡ with_served (traffic_after t all) s
+traffic-more t [] s = refl
+traffic-more t (first ∷ later) s = traffic-more (with_served t first) later s
+
+-- what passed over one more
+pub passes_more : (old mid new : Traffic) (all : List Served) (s : Served) →
+    mid ≡ traffic_after old all → new ≡ with_served mid s →
+    new ≡ traffic_after old (all ++ s ∷ [])
+passes_more old mid new all s so is =
+    is ∙ ap (λ (t : Traffic). with_served t s) so ∙ sym (traffic-more old all s)

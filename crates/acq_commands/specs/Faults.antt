@@ -64,6 +64,10 @@ values_of other = []
 abbrev pub text_of : Fault → List ℕ
 text_of fault = decimal (number_of fault) ++ codes " " ++ name_of fault ++ values_of fault
 
+-- the line that tells a fault
+abbrev pub fault_line : Fault → List ℕ
+fault_line fault = codes "acqd: " ++ text_of fault ++ codes "\n"
+
 -- 3 where memory ran out or the store failed, else 1
 abbrev pub status_of : Fault → ℕ
 status_of Memory = 3

@@ -1,11 +1,13 @@
 -- Connections that are served one after the other.
-use Rattle.std.specs.Prelude.{◌≡◌, ℕ, List, [], ◌∷◌, length, Result, Ok, Err}
+use Rattle.std.specs.Prelude.{◌≡◌, ◌+◌, ℕ, List, [], ◌∷◌, ◌++◌, length, Result, Ok, Err}
 use Rattle.std.specs.List.{All}
 use Rattle.acq_core.specs.declared.event.Event.{Event}
 use Rattle.acq_core.specs.Tables.{Tables, tables_after}
+use Rattle.acq_front.specs.Faults.{failed_reads, failed_writes}
 use Rattle.acq_front.specs.Serving.{Connection, Serves}
 use Rattle.acq_front.specs.Talk.{Saying}
 use Rattle.acq_front.specs.declared.front_fault.FrontFault as front
+use Rattle.acq_commands.specs.Faults.{fault_line, of_front}
 use Rattle.acq_commands.specs.declared.fault.Fault.{Fault}
 use Rattle.acq_commands.specs.declared.fault.Fault.TheVariants.{Memory, Store}
 
@@ -20,6 +22,44 @@ going_on (Err front.TheVariants.Memory) = Err Memory
 going_on (Err front.TheVariants.Store) = Err Store
 going_on other = Ok tt
 
+-- what is told of a connection's end: a fault that doesn't end the program, by its line
+abbrev pub told_line : Result (Unit {0}) front.FrontFault → List ℕ
+told_line (Ok u) = []
+told_line (Err front.TheVariants.Memory) = []
+told_line (Err front.TheVariants.Store) = []
+told_line (Err fault) = fault_line (of_front fault)
+
+-- What passed over connections so far: all that came and all that went out, and how many reads and
+-- writes failed.
+pub record Traffic : Type 0 where
+  pub received : List ℕ
+  pub sent : List ℕ
+  pub reads : ℕ
+  pub writes : ℕ
+
+-- so of connections, by what they received and sent and what failed
+abbrev pub traffic : {N : Type 0} → (N → List ℕ) → (N → List ℕ) → (N → ℕ) → (N → ℕ) → N → Traffic
+traffic received sent reads writes n = record {
+  received = received n;
+  sent = sent n;
+  reads = reads n;
+  writes = writes n;
+}
+
+-- with what passed over one more
+abbrev pub with_served : Traffic → Served → Traffic
+with_served t s = record {
+  received = t.received ++ s.connection.input;
+  sent = t.sent ++ s.connection.output;
+  reads = t.reads + failed_reads s.ended;
+  writes = t.writes + failed_writes s.ended;
+}
+
+-- with what passed over these, in order
+abbrev pub traffic_after : Traffic → List Served → Traffic
+traffic_after t [] = t
+traffic_after t (s ∷ later) = traffic_after (with_served t s) later
+
 module _ (may_give : ℕ → Type 0) (may_say : Saying) where
   -- one connection was served over the book at the old tables, at moments that may be given
   abbrev pub ServesOne : Tables → Type 0 → Tables → Served → Type 0
@@ -33,12 +73,16 @@ module _ (may_give : ℕ → Type 0) (may_say : Saying) where
       (mid : Tables) × ServesOne old (Unit {0}) mid s × ServesEach mid new later
 
   -- So many were served; or the last of them ended the program.
-  abbrev pub ServesConnections : Tables → Type 0 → Tables → ℕ → Result (Unit {0}) Fault → Type 0
-  ServesConnections old stays_open new count (Ok u) =
+  -- What passed over them is all that passed.
+  abbrev pub ServesConnections : Tables → Type 0 → Tables → (passed passes : Traffic) → ℕ →
+      Result (Unit {0}) Fault → Type 0
+  ServesConnections old stays_open new passed passes count (Ok u) =
       (all : List Served) × (length all ≡ count) × ServesEach old new all
-  ServesConnections old stays_open new count (Err fault) =
+      × (passes ≡ traffic_after passed all)
+  ServesConnections old stays_open new passed passes count (Err fault) =
       (before : List Served) × (last : Served) × (mid : Tables) × ServesEach old mid before
       × ServesOne mid stays_open new last × (going_on last.ended ≡ Err fault)
+      × (passes ≡ with_served (traffic_after passed before) last)
 
 -- these tables are those after some events
 abbrev pub Reached : Tables → Tables → Type 0

@@ -86,7 +86,7 @@ impl Fault {
         }
     }
 
-    fn name(&self) -> &'static str
+    pub(crate) fn name(&self) -> &'static str
         ensures { result.now ≡ name_of self.now }
     {
         match self {

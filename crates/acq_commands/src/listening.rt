@@ -1,20 +1,20 @@
 //! Connections served, one after the other or at once.
 
-ghost use Rattle.std.specs.Prelude.{◌≡◌, ℕ, OnOk};
+ghost use Rattle.std.specs.Prelude.{◌≡◌, ◌++◌, ℕ, OnOk};
 ghost use Rattle.acq_core.specs.Pasts.{HasPast};
 ghost use Rattle.acq_commands.specs.Listening.{ReachedUnlessRefused, Served, ServesConnections};
-ghost use Rattle.acq_commands.specs.Listening.{ServesOne, going_on};
+ghost use Rattle.acq_commands.specs.Listening.{ServesOne, going_on, told_line, traffic};
+ghost use Rattle.acq_commands.specs.Listening.{with_served};
 
 use crate::fault::Fault;
+use crate::fault_line::write_fault_line;
 use crate::gathering::Gathering;
-use crate::text_sink::TextSink;
 use acq_book::Book;
 use acq_core::{Query, Verdict};
 use acq_front::{Clock, Connections, FrontFault, Issuer};
 use acq_host::Host;
 use acq_link::Sink;
 use std::alloc::Global;
-use std::fmt::Write;
 
 /// Serves so many connections over a book, one after the other. A connection's fault is a line of
 /// `faults`, and the next one is served; want of memory and a fault of the store end it. The book
@@ -32,7 +32,10 @@ pub fn listen_on<B: Book + Drop, N: Connections, C: Clock, I: Issuer, F: Sink>(
     // How they were served, over the book that is left.
     ensures served { B.is_honest result.0 → B.is_open book
         → ServesConnections (C.may_give clock.old) (I.may_say issuer.old) (B.tables book)
-        (B.is_open result.0) (B.tables result.0) count result.1 }
+        (B.is_open result.0) (B.tables result.0)
+        (traffic N.received N.sent N.read_failures N.write_failures connections.old)
+        (traffic N.received N.sent N.read_failures N.write_failures connections.new)
+        count result.1 }
 {
     let mut host = Host::new(alloc, book);
     let ended = serve_all(alloc, &mut host, connections, count, clock, issuer, faults);
@@ -73,7 +76,10 @@ fn serve_all<B: Book + Drop, N: Connections, C: Clock, I: Issuer, F: Sink>(
 ) -> Result<(), Fault>
     ensures served { B.is_honest host.new → B.is_open host.old
         → ServesConnections (C.may_give clock.old) (I.may_say issuer.old) (B.tables host.old)
-        (B.is_open host.new) (B.tables host.new) count result }
+        (B.is_open host.new) (B.tables host.new)
+        (traffic N.received N.sent N.read_failures N.write_failures connections.old)
+        (traffic N.received N.sent N.read_failures N.write_failures connections.new)
+        count result }
 {
     for _ in 0..count {
         serve_one(alloc, host, connections, clock, issuer, faults)?;
@@ -93,6 +99,9 @@ fn serve_one<B: Book + Drop, N: Connections, C: Clock, I: Issuer, F: Sink>(
     ensures served { B.is_honest host.new → B.is_open host.old → (s : Served)
         × ServesOne (C.may_give clock.old) (I.may_say issuer.old) (B.tables host.old)
         (B.is_open host.new) (B.tables host.new) s
+        × (traffic N.received N.sent N.read_failures N.write_failures connections.new
+        ≡ with_served (traffic N.received N.sent N.read_failures N.write_failures connections.old)
+        s)
         × (result ≡ going_on s.ended) }
     ensures was_honest { B.is_honest host.new → B.is_honest host.old }
     ensures stays_open { B.is_honest host.new → B.is_open host.old
@@ -108,7 +117,9 @@ fn serve_one<B: Book + Drop, N: Connections, C: Clock, I: Issuer, F: Sink>(
 /// Ends a connection: want of memory and the store's fault end the program too, and any other fault
 /// is a line of `faults`.
 pub fn end_connection<F: Sink>(ended: Result<(), FrontFault>, faults: &mut F) -> Result<(), Fault>
-    ensures { result ≡ going_on ended }
+    ensures which { result ≡ going_on ended }
+    ensures told { F.failures faults.new ≡ F.failures faults.old
+        → F.sent faults.new ≡ F.sent faults.old ++ told_line ended }
 {
     tell(&ended, faults);
     going_on(ended)
@@ -126,12 +137,15 @@ fn going_on(ended: Result<(), FrontFault>) -> Result<(), Fault>
     }
 }
 
-/// Tells a fault that doesn't end the program.
-fn tell<F: Sink>(ended: &Result<(), FrontFault>, faults: &mut F) {
+/// Tells a fault that doesn't end the program: its line goes out, unless a write fails.
+fn tell<F: Sink>(ended: &Result<(), FrontFault>, faults: &mut F)
+    ensures { F.failures faults.new ≡ F.failures faults.old
+        → F.sent faults.new ≡ F.sent faults.old ++ told_line ended.now }
+{
     match ended {
         Ok(()) | Err(FrontFault::Memory | FrontFault::Store) => {}
         Err(fault) => {
-            let _ = writeln!(TextSink::new(faults), "acqd: {fault}");
+            let _ = write_fault_line(&Fault::from(*fault), faults);
         }
     }
 }

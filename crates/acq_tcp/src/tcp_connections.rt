@@ -5,9 +5,9 @@ use crate::patient_stream::{PatientReader, PatientWriter};
 use crate::time_limits::TimeLimits;
 use acq_book::Book;
 use acq_commands::Patience;
-use acq_front::{Clock, Connections, FrontFault, Issuer, serve_ends};
+use acq_front::{Clock, Connections, FrontFault, Issuer, LaterEnd, serve_ends};
 use acq_host::Host;
-use acq_link::{ReadSource, WriteSink};
+use acq_link::{Call, ReadSource, Transcript, WriteSink};
 use std::alloc::Global;
 use std::io::{ErrorKind, Read};
 use std::net::{Shutdown, TcpListener, TcpStream};
@@ -23,6 +23,8 @@ pub struct TcpConnections<'a, T> {
     listener: TcpListener,
     time: &'a T,
     limits: TimeLimits,
+    received: Transcript,
+    sent: Transcript,
 }
 
 impl<'a, T: time::Clock> TcpConnections<'a, T> {
@@ -32,6 +34,8 @@ impl<'a, T: time::Clock> TcpConnections<'a, T> {
             listener,
             time,
             limits: TimeLimits::new(patience),
+            received: Transcript::new(),
+            sent: Transcript::new(),
         }
     }
 
@@ -72,6 +76,17 @@ impl<'a, T: time::Clock> TcpConnections<'a, T> {
 }
 
 impl<T: time::Clock> Connections for TcpConnections<'_, T> {
+    ghost use Rattle.acq_tcp.specs.Passing.{received_of, sent_of};
+    ghost use Rattle.acq_tcp.specs.Passing.{read_failures_of, write_failures_of};
+
+    ghost received = { received_of };
+
+    ghost sent = { sent_of };
+
+    ghost read_failures = { read_failures_of };
+
+    ghost write_failures = { write_failures_of };
+
     fn serve_next<B: Book + Drop, C: Clock, I: Issuer>(
         &mut self,
         alloc: Global,
@@ -80,13 +95,23 @@ impl<T: time::Clock> Connections for TcpConnections<'_, T> {
         issuer: &mut I,
     ) -> Result<(), FrontFault> {
         let stream = self.next_stream().ok();
-        let ends = stream.as_ref().map(|stream| {
-            (
-                ReadSource::new(PatientReader::new(stream, self.time, self.limits)),
-                WriteSink::new(PatientWriter::new(stream)),
-            )
-        });
-        let ended = serve_ends(alloc, host, ends, clock, issuer);
+        let mut ends = None;
+        if let Some(stream) = &stream {
+            let reader = PatientReader::new(stream, self.time, self.limits);
+            let writer = PatientWriter::new(stream);
+            ends = Some((
+                LaterEnd::new(ReadSource::new(reader), &self.received),
+                LaterEnd::new(WriteSink::new(writer), &self.sent),
+            ));
+        }
+        let ended = serve_ends(alloc, host, &mut ends, clock, issuer);
+        match ends {
+            Some((source, sink)) => {
+                self.received = source.into_transcript();
+                self.sent = sink.into_transcript();
+            }
+            None => self.received = self.received.after(&Call::Failed),
+        }
         match &stream {
             Some(stream) if ends_in_bad_frame(&ended) => self.part_with(stream),
             Some(_) => {}

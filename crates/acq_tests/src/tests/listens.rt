@@ -5,9 +5,11 @@ use super::hosts::new_host;
 use acq_book::Book;
 use acq_commands::listen_on;
 use acq_core::{Moment, Verdict};
-use acq_front::{Clock, Connections, FixedClock, FrontFault, Issuer, SliceIssuer, serve_ends};
+use acq_front::{
+    Clock, Connections, FixedClock, FrontFault, Issuer, LaterEnd, SliceIssuer, serve_ends,
+};
 use acq_host::Host;
-use acq_link::{MemorySink, SliceSource, WriteSink};
+use acq_link::{Call, MemorySink, SliceSource, Transcript, WriteSink};
 use std::alloc::Global;
 use std::cell::RefCell;
 use std::io;
@@ -52,9 +54,19 @@ impl Write for Narrow<'_> {
 struct Three<'a> {
     place: u8,
     taken: &'a RefCell<Vec<u8>>,
+    received: Transcript,
+    sent: Transcript,
 }
 
 impl Connections for Three<'_> {
+    ghost received = { λ c. c.received.bytes };
+
+    ghost sent = { λ c. c.sent.bytes };
+
+    ghost read_failures = { λ c. c.received.failures };
+
+    ghost write_failures = { λ c. c.sent.failures };
+
     fn serve_next<B: Book + Drop, C: Clock, I: Issuer>(
         &mut self,
         alloc: Global,
@@ -72,8 +84,19 @@ impl Connections for Three<'_> {
             taken: self.taken,
             room,
         };
-        let ends = Some((SliceSource::new(frame), WriteSink::new(writer)));
-        serve_ends(alloc, host, ends, clock, issuer)
+        let mut ends = Some((
+            LaterEnd::new(SliceSource::new(frame), &self.received),
+            LaterEnd::new(WriteSink::new(writer), &self.sent),
+        ));
+        let ended = serve_ends(alloc, host, &mut ends, clock, issuer);
+        match ends {
+            Some((source, sink)) => {
+                self.received = source.into_transcript();
+                self.sent = sink.into_transcript();
+            }
+            None => self.received = self.received.after(&Call::Failed),
+        }
+        ended
     }
 }
 
@@ -101,6 +124,8 @@ fn a_repeat_after_a_cut_reply(rt: HostRuntime) -> Result<(), Fail> {
     let mut connections = Three {
         place: 0,
         taken: &taken,
+        received: Transcript::new(),
+        sent: Transcript::new(),
     };
     let approved = [Verdict::approved(b"A1B2C3").ok_or("an id")?];
     let mut clock = FixedClock::new(morning()?);

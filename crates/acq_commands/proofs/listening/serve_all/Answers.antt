@@ -1,12 +1,13 @@
-use Rattle.std.proofs.Common.{[], ◌++◌, ◌∷◌, refl, sym, ◌∙◌, arith}
+use Rattle.std.proofs.Common.{[], ◌++◌, ◌∷◌, refl, sym, ap, ◌∙◌, arith}
 use Rattle.std.proofs.lemmas.Result.{err_from_is_err_and}
 use Rattle.std.proofs.lemmas.List.{length_push}
-use Rattle.acq_commands.proofs.ConnectionsServed.{weaker_one, one_more}
+use Rattle.acq_commands.specs.Listening.{Traffic, with_served}
+use Rattle.acq_commands.proofs.ConnectionsServed.{weaker_one, one_more, passes_more}
 use Rattle.acq_commands.proofs.listening.serve_all.Goals as goal
 
 pub loop-init : goal.loop-init
 loop-init g c = (
-  (λ h o. ([], refl, refl, o)),
+  (λ h o. ([], refl, refl, refl, o)),
   (λ h. h),
   (λ q v said. said),
   (λ m given. given),
@@ -23,14 +24,15 @@ loop-preserved g c =
     let new = g.B.Book.tables c.serve_one.new.host in (
       (λ h o.
           let so = inv.0 (one.was_honest h) o in
-          let s = one.served h so.3 in
-          let still = one.stays_open h so.3 in (
+          let s = one.served h so.4 in
+          let still = one.stays_open h so.4 in (
             so.0 ++ s.0 ∷ [],
             (let size = length_push so.0 s.0 in omega (arith, size, so.1)),
             one_more give say old mid new so.0 s.0 so.2
                 (weaker_one (g.C.Clock.may_give c.loop.clock) give inv.3
                 (g.I.Issuer.may_say c.loop.issuer) say inv.2
                 (g.B.Book.is_open c.serve_one.new.host) (Unit {0}) (λ u. still) mid new s.0 s.1),
+            passes_more _ _ _ so.0 s.0 so.3 s.2,
             still,
           )),
       (λ h. inv.1 (one.was_honest h)),
@@ -50,7 +52,7 @@ returns-in_err-serve_one g c = record {
       let new = g.B.Book.tables c.serve_one.new.host in
       let still = g.B.Book.is_open c.serve_one.new.host in
       let so = inv.0 (one.was_honest h) o in
-      let s = one.served h so.3 in
+      let s = one.served h so.4 in
       rw (p.1, p.2) (
         so.0,
         s.0,
@@ -58,7 +60,8 @@ returns-in_err-serve_one g c = record {
         so.2,
         weaker_one (g.C.Clock.may_give c.loop.clock) give inv.3 (g.I.Issuer.may_say c.loop.issuer)
             say inv.2 still still (λ u. u) mid new s.0 s.1,
-        sym s.2,
+        sym s.3,
+        s.2 ∙ ap (λ (t : Traffic). with_served t s.0) so.3,
       );
 }
 
@@ -66,5 +69,5 @@ pub returns : goal.returns
 returns g c = record {
   served = λ h o.
       let so = c.loop.invariant.0 h o in
-      (so.0, (let size = so.1 in omega (arith, size)), so.2);
+      (so.0, (let size = so.1 in omega (arith, size)), so.2, so.3);
 }

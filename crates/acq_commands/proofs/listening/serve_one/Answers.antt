@@ -3,8 +3,10 @@ use Rattle.acq_commands.proofs.listening.serve_one.Goals as goal
 
 pub returns-clause-served : goal.returns-clause-served
 returns-clause-served g c = λ h o.
-    let s = c.serve_next-ended.ensures.served h o in (
+    let one = c.serve_next-ended.ensures in
+    let s = one.served h o in (
       record { connection = s.0; ended = c.serve_next-ended.result },
-      (s.1, s.2),
-      c.end_connection.ensures,
+      (s.4, s.6),
+      rw (s.1, s.2, one.reads, one.writes) refl,
+      c.end_connection.ensures.which,
     )
