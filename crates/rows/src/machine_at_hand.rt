@@ -91,9 +91,7 @@ impl<'a> Machine<ListBook> for MachineAtHand<'a> {
 
     fn listen_at(&self, _port: u16, _patience: Patience) -> Result<ConnectionsAtHand<'a>, Fault> {
         match &self.terms.connections {
-            Some(sent) => Ok(ConnectionsAtHand {
-                sent: sent.as_slice(),
-            }),
+            Some(sent) => Ok(ConnectionsAtHand::new(sent.as_slice())),
             None => Err(Fault::Read),
         }
     }
