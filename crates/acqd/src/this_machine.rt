@@ -1,7 +1,7 @@
 //! The machine that the program runs on.
 
 ghost use Rattle.std.specs.Prelude.{◌≡◌};
-ghost use Rattle.acq_program.specs.BookFaults.{IsOpening};
+ghost use Rattle.acq_program.specs.BookFaults.{IsClosing, IsOpening};
 ghost use Rattle.acqd.specs.BookFiles.{of_opening};
 
 use crate::open_book::{make_book, migrate_book, open_book};
@@ -13,6 +13,7 @@ use acq_sql::{OpeningFault, SqlBook};
 use acq_stand_in::StandIn;
 use acq_tcp::{TcpConnections, TcpGathering};
 use day_totals::Day;
+use sqlite::{Error, ErrorCode};
 use sqlite_disk::Start;
 use sqlite_std_file::FileFrom;
 use sqlite_store::FileStore;
@@ -72,7 +73,7 @@ impl<'a, D: Start> Machine<SqlBook<FileStore<FileFrom<D>>>> for ThisMachine<'a, 
     fn close_book(book: SqlBook<FileStore<FileFrom<D>>>) -> Result<(), Fault> {
         match book.release().close() {
             Ok(()) => Ok(()),
-            Err(error) => Err(fault_of_opening(OpeningFault::from(error))),
+            Err(error) => Err(fault_of_closing(&error)),
         }
     }
 
@@ -117,5 +118,15 @@ fn fault_of_opening(cause: OpeningFault) -> Fault
         OpeningFault::Store => Fault::Store,
         OpeningFault::NotABook => Fault::NotABook,
         OpeningFault::OtherVersion(version) => Fault::OtherVersion(version),
+    }
+}
+
+/// Why a book was not closed, as the command tells it.
+fn fault_of_closing(error: &Error) -> Fault
+    ensures { IsClosing result }
+{
+    match error {
+        Error::SqliteFailure(ErrorCode::OutOfMemory) => Fault::Memory,
+        _ => Fault::Store,
     }
 }
