@@ -1,14 +1,24 @@
--- Books in files, and what a run leaves of one.
-use Rattle.std.specs.Prelude.{◌≡◌, ◌⊎◌, ◌+◌, List, Result, Ok, Err}
-use Rattle.acq_core.specs.declared.event.Event.{Event}
-use Rattle.acq_core.specs.Tables.{Tables, tables_after}
-use Rattle.acq_host.specs.declared.run_fault.RunFault.{RunFault}
-use Rattle.acq_host.specs.Runs.{after_first}
+-- Books in files.
+use Rattle.std.specs.Prelude.{◌≡◌, ℕ}
+use Rattle.sqlite_trees.specs.Tree.{Trees}
+use Rattle.sqlite_wal.specs.Recovery.{Image}
+use Rattle.sqlite.specs.Files.{HoldsDatabase}
+use Rattle.acq_core.specs.Tables.{Tables}
+use Rattle.acq_sql_rows.specs.Rows.{version}
+use Rattle.acq_sql_changes.specs.Changed.{HoldsAfterOf}
 use Rattle.acq_sql.specs.declared.opening.opening_fault.OpeningFault.{OpeningFault}
 use Rattle.acq_sql.specs.declared.opening.opening_fault.OpeningFault.TheVariants as opening
 use Rattle.acq_commands.specs.declared.fault.Fault.{Fault}
 use Rattle.acq_commands.specs.declared.fault.Fault.TheVariants.{Memory, Store, NotABook}
 use Rattle.acq_commands.specs.declared.fault.Fault.TheVariants.{OtherVersion}
+
+-- The database file and its log hold a book of this version at these tables.
+abbrev pub FilesHoldOf : ℕ → Image → Tables → Type 0
+FilesHoldOf version image t = (db : Trees) × HoldsDatabase image db × HoldsAfterOf version t db
+
+-- the same of the version in force
+abbrev pub FilesHold : Image → Tables → Type 0
+FilesHold = FilesHoldOf version
 
 -- what the refusal of a book is
 abbrev pub of_opening : OpeningFault → Fault
@@ -16,9 +26,3 @@ of_opening opening.Memory = Memory
 of_opening opening.Store = Store
 of_opening opening.NotABook = NotABook
 of_opening (opening.OtherVersion v) = OtherVersion v
-
--- the tables after all events; or after those that were taken, or these and the one in hand
-abbrev pub RunLeaves : {T : Type 0} → Tables → List Event → Result T RunFault → Tables → Type 0
-RunLeaves t events (Ok said) left = left ≡ tables_after t events
-RunLeaves t events (Err fault) left =
-    (left ≡ after_first fault.at t events) ⊎ (left ≡ after_first (fault.at + 1) t events)

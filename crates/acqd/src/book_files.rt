@@ -1,8 +1,5 @@
 //! The files of a book as they stand before it is opened: the book and, beside it, its log.
 
-ghost use Rattle.std.specs.Prelude.{IfErr};
-ghost use Rattle.acq_sql.specs.Checked.{IsFailure};
-
 use acq_sql::OpeningFault;
 use std::fs::{self, OpenOptions, Permissions};
 use std::io::{self, ErrorKind, IsTerminal};
@@ -22,19 +19,17 @@ const LEAST_PAGE: u64 = 512;
 
 /// Looks whether there may be a book in the file at a path, and makes nothing. Where the file is
 /// away, or empty, there is none, and the log that may stand beside it is left as it is: the file
-/// may come back, and the log is a part of it. Else the log gets the permissions of the file.
-pub(crate) fn find_book(rt: &HostRuntime, path: &str) -> Result<bool, OpeningFault>
-    ensures { IfErr result IsFailure }
-{
+/// may come back, and the log is a part of it. Then the log gets the permissions of the file.
+pub(crate) fn find_book(rt: &HostRuntime, path: &str) -> Result<(), OpeningFault> {
     if size_of(rt, path) == Some(0) {
-        return Ok(false);
+        return Err(OpeningFault::NotABook);
     }
     let log = log_of(rt, path)?;
     if let Ok(mode) = mode_of(rt, path) {
         guard_log(rt, log.as_str(), mode);
         tell_of_others(rt, path, mode);
     }
-    Ok(true)
+    Ok(())
 }
 
 /// Makes an empty file for a new book, which its owner alone may read, where there is none. Where a
@@ -67,9 +62,7 @@ fn size_of(rt: &HostRuntime, path: &str) -> Option<u64> {
 }
 
 /// The path of the log, which lies beside the book where a link leads.
-fn log_of(rt: &HostRuntime, path: &str) -> Result<String, OpeningFault>
-    ensures { IfErr result IsFailure }
-{
+fn log_of(rt: &HostRuntime, path: &str) -> Result<String, OpeningFault> {
     let log = match fs::canonicalize(rt, path) {
         Ok(real) => format!(in rt.alloc(); "{}-wal", real.as_str()),
         Err(_) => format!(in rt.alloc(); "{path}-wal"),

@@ -5,11 +5,9 @@
 ghost use Rattle.std.specs.Prelude.{◌≤◌};
 
 mod book_files;
-mod not_opened;
 mod open_book;
 mod standard_descriptors;
 mod standard_error;
-mod stopped_run;
 mod this_machine;
 
 use acq_book::Book;
@@ -17,7 +15,6 @@ use acq_commands::{Progress, PromptLines, SystemClock, TerminalProgress};
 use acq_link::{ReadSource, Sink, Source, WriteSink};
 use acq_program::{Machine, command, memory_fault, read_fault, utf8_fault};
 use acq_sql::SqlBook;
-pub use not_opened::NotOpened;
 pub use open_book::{make_book, migrate_book, open_book};
 use sqlite::Alter;
 use sqlite_disk::{Start, Unknown};
@@ -29,7 +26,6 @@ use std::hash::RandomState;
 use std::io::IsTerminal;
 use std::process::ExitCode;
 use std::{env, io, str};
-pub use stopped_run::stopped_run;
 pub use this_machine::ThisMachine;
 
 fn main(rt: HostRuntime) -> ExitCode {

@@ -1,6 +1,6 @@
 //! Books in files.
 
-ghost use Rattle.std.specs.Prelude.{◌≡◌, IfErr, IfOk, IfSome, IsSome, None, false};
+ghost use Rattle.std.specs.Prelude.{◌≡◌, IfOk, false};
 ghost use Rattle.sqlite_wal.specs.Files.{image_at};
 ghost use Rattle.sqlite.specs.Files.{IsOpened, file_state};
 ghost use Rattle.sqlite.specs.Held.{state};
@@ -14,11 +14,9 @@ ghost use Rattle.acq_sql_rows.specs.Rows.{version_of_six_digits};
 ghost use Rattle.acq_sql_changes.specs.Changed.{HoldsAfter, IsAt};
 ghost use Rattle.acq_sql.specs.Migrated.{IsOfSixDigits};
 ghost use Rattle.acq_sql.specs.Opened.{IsOpenAt};
-ghost use Rattle.acq_sql.specs.Checked.{IsFailure};
-ghost use Rattle.acq_sql.specs.Files.{FilesHold, FilesHoldOf};
+ghost use Rattle.acqd.specs.BookFiles.{FilesHold, FilesHoldOf};
 
 use crate::book_files::{find_book, make_room};
-use crate::not_opened::NotOpened;
 use acq_core::Limit;
 use acq_sql::opening::{an_open_finds_a_book_of_any_version, an_open_finds_the_book};
 use acq_sql::{OpeningFault, SqlBook};
@@ -30,65 +28,22 @@ use sqlite_store::FileStore;
 use std::alloc::Global;
 
 /// Opens the book in the file at a path and its log, of which `D` says what they hold before it.
-/// Where they hold a book, this is it, at the tables that the last whole change led to, and it is
-/// refused only for memory or by the store. Where the file is away or empty, as the system has it,
-/// there is none: nothing is made, and the log is left as it is.
+/// Where they hold a book, this is it, at the tables that the last whole change led to. Where the
+/// file is away or empty nothing is made, and the log is left as it is.
 pub fn open_book<D: Start>(
     rt: &HostRuntime,
     path: &str,
     start: D,
-) -> Result<Option<SqlBook<FileStore<FileFrom<D>>>>, NotOpened<FileStore<FileFrom<D>>>>
-    ensures opened { IfOk result (λ found. IfSome found (λ book.
-        HasCleanDisk (file_state book.connection) → (t : Tables)
-        → FilesHold (image_at D.Start) t → HasPast t
-        → IsOpenAt (file_state book.connection) t)) }
-    ensures refused { IfErr result (λ cause. IfSome cause.connection (λ connection.
-        HasCleanDisk (file_state connection) → (t : Tables)
-        → FilesHold (image_at D.Start) t → IsFailure cause.fault)) }
-    ensures closed { IfErr result (λ cause. cause.connection ≡ None → IsFailure cause.fault) }
+) -> Result<SqlBook<FileStore<FileFrom<D>>>, OpeningFault>
+    ensures { IfOk result (λ book. HasCleanDisk (file_state book.connection) → (t : Tables)
+        → FilesHold (image_at D.Start) t → HasPast t → IsOpenAt (file_state book.connection) t) }
 {
-    match find_book(rt, path) {
-        Ok(true) => open_files(rt, path, start),
-        Ok(false) => Ok(None),
-        Err(fault) => Err(closed(fault)),
-    }
-}
-
-/// Opens the book in the files at a path.
-fn open_files<D: Start>(
-    rt: &HostRuntime,
-    path: &str,
-    start: D,
-) -> Result<Option<SqlBook<FileStore<FileFrom<D>>>>, NotOpened<FileStore<FileFrom<D>>>>
-    ensures opened { IfOk result (λ found. IfSome found (λ book.
-        HasCleanDisk (file_state book.connection) → (t : Tables)
-        → FilesHold (image_at D.Start) t → HasPast t
-        → IsOpenAt (file_state book.connection) t)) }
-    ensures refused { IfErr result (λ cause. IfSome cause.connection (λ connection.
-        HasCleanDisk (file_state connection) → (t : Tables)
-        → FilesHold (image_at D.Start) t → IsFailure cause.fault)) }
-    ensures closed { IfErr result (λ cause. cause.connection ≡ None → IsFailure cause.fault) }
-{
-    match connect(rt, path, start) {
-        Ok(connection) => {
-            an_open_finds_the_book(&connection);
-            match adopted(rt.alloc(), connection) {
-                Ok(book) => Ok(Some(book)),
-                Err(cause) => Err(cause),
-            }
-        }
-        Err(fault) => Err(closed(fault)),
-    }
-}
-
-/// Why files weren't opened.
-fn closed<S: Alter + Drop>(fault: OpeningFault) -> NotOpened<S>
-    ensures fault { result.fault ≡ fault }
-    ensures none { result.connection ≡ None }
-{
-    NotOpened {
-        fault,
-        connection: None,
+    find_book(rt, path)?;
+    let connection = connect(rt, path, start)?;
+    an_open_finds_the_book(&connection);
+    match adopted(rt.alloc(), connection) {
+        Ok(book) => Ok(book),
+        Err(fault) => Err(fault),
     }
 }
 
@@ -125,9 +80,7 @@ pub fn migrate_book<D: Start>(
         → FilesHoldOf version_of_six_digits (image_at D.Start) t → HasPastUnder six_digits t
         → IsOpenAt (file_state book.connection) (widened_tables t)) }
 {
-    if !find_book(rt, path)? {
-        return Err(OpeningFault::NotABook);
-    }
+    find_book(rt, path)?;
     let connection = connect(rt, path, start)?;
     an_open_finds_a_book_of_any_version(&connection);
     match migrated(rt.alloc(), connection) {
@@ -138,30 +91,21 @@ pub fn migrate_book<D: Start>(
 
 // What follows is said of any store: a proof over that of this machine alone takes minutes.
 
-/// The book that a database holds.
+/// The book that a database holds. One that is refused is closed.
 fn adopted<S: Alter + Drop>(
     alloc: Global,
     connection: Connection<S>,
-) -> Result<SqlBook<S>, NotOpened<S>>
+) -> Result<SqlBook<S>, OpeningFault>
     requires settled { connection.in_transaction ≡ false }
     ensures same { IfOk result (λ book. HasCleanDisk (state S.Store book.connection)
         → (t : Tables) → IsAt (state S.Store connection) t → HasPast t
         → IsOpenAt (state S.Store book.connection) t) }
     ensures stop { IfOk result (λ book.
         Survives (state S.Store connection) (state S.Store book.connection) (λ _. ⊥)) }
-    ensures refused { IfErr result (λ cause. IfSome cause.connection (λ left.
-        HasCleanDisk (state S.Store left) → (t : Tables)
-        → IsAt (state S.Store connection) t → IsFailure cause.fault)) }
-    ensures refused_stop { IfErr result (λ cause. IfSome cause.connection (λ left.
-        Survives (state S.Store connection) (state S.Store left) (λ _. ⊥))) }
-    ensures handed_back { IfErr result (λ cause. IsSome cause.connection) }
 {
     match SqlBook::adopt(alloc, connection) {
         Ok(book) => Ok(book),
-        Err(refusal) => Err(NotOpened {
-            fault: refusal.fault,
-            connection: Some(refusal.connection),
-        }),
+        Err(refusal) => Err(refusal.fault),
     }
 }
 
@@ -214,7 +158,6 @@ fn connect<D: Start>(
     ensures found { IfOk result (λ connection. HasCleanDisk (file_state connection)
         → FindsIn (image_at D.Start) (file_state connection)) }
     ensures settled { IfOk result (λ connection. connection.in_transaction ≡ false) }
-    ensures failed { IfErr result IsFailure }
 {
     match Connection::open_from(rt, path, false, start) {
         Ok(connection) => Ok(connection),

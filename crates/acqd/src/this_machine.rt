@@ -45,9 +45,8 @@ impl<'a, D: Start> Machine<SqlBook<FileStore<FileFrom<D>>>> for ThisMachine<'a, 
 
     fn open_book(self, path: &str) -> Result<SqlBook<FileStore<FileFrom<D>>>, Fault> {
         match open_book(self.rt, path, self.start) {
-            Ok(Some(book)) => Ok(book),
-            Ok(None) => Err(Fault::NotABook),
-            Err(cause) => Err(fault_of_opening(cause.fault)),
+            Ok(book) => Ok(book),
+            Err(cause) => Err(fault_of_opening(cause)),
         }
     }
 
