@@ -8,9 +8,9 @@ use crate::running_stops::files_of;
 use crate::scenario::Scenario;
 use crate::step::Step;
 use crate::stopping_files::{FileAtHand, Stopping, copies_of, new_files, open, stopping_after};
-use acq_book::Book;
 use acq_host::Host;
 use acq_sql::{OpeningFault, SqlBook};
+use sqlite::Alter;
 use sqlite_disk::{Disk, Files};
 use sqlite_store::FileStore;
 use std::alloc::Global;
@@ -191,9 +191,9 @@ fn go_on_over<D: Disk + Drop>(
 }
 
 /// Takes the steps to come over a book.
-fn take_later<B: Book + Drop>(
+fn take_later<S: Alter + Drop>(
     alloc: Global,
-    book: B,
+    book: SqlBook<S>,
     later: &Later<'_>,
     findings: &mut Findings,
 ) -> Result<(), RowFault> {
