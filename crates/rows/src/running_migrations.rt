@@ -235,8 +235,11 @@ fn refuse_again<D: Disk + Drop>(alloc: Global, files: Files<D>) -> Result<(), Ro
     let Ok(book) = migrated(alloc, files) else {
         return Err(RowFault::Book);
     };
-    match SqlBook::migrate(alloc, book.release()) {
-        Err(refusal) if matches!(refusal.fault, OpeningFault::OtherVersion(2)) => Ok(()),
+    let Err(refusal) = SqlBook::migrate(alloc, book.release()) else {
+        return Err(RowFault::MigratedTwice);
+    };
+    match refusal.fault {
+        OpeningFault::OtherVersion(2) => Ok(()),
         _ => Err(RowFault::MigratedTwice),
     }
 }
