@@ -241,7 +241,7 @@ fn take_among<B: Book + Drop>(
     Ok(())
 }
 
-fn take_step<B: Book + Drop>(
+pub(crate) fn take_step<B: Book + Drop>(
     alloc: Global,
     host: &mut Host<B>,
     step: &Step,

@@ -3,7 +3,7 @@
 
 use crate::findings::Findings;
 use crate::row_fault::RowFault;
-use crate::running_scenarios::{ask, host_in_sql, take_steps};
+use crate::running_scenarios::{ask, host_in_sql, take_step};
 use crate::scenario::Scenario;
 use crate::step::Step;
 use crate::stopping_files::{FileAtHand, Stopping, copies_of, new_files, open, stopping_after};
@@ -181,19 +181,8 @@ fn go_on_over<D: Disk + Drop>(
         return Err(RowFault::Book);
     };
     let mut host = Host::new(alloc, book);
-    let steps = scenario.steps.as_slice();
-    take_steps(
-        alloc,
-        &mut host,
-        setup.get(taken..).unwrap_or(&[]),
-        findings,
-    )?;
-    let taken = taken.saturating_sub(setup.len());
-    take_steps(
-        alloc,
-        &mut host,
-        steps.get(taken..).unwrap_or(&[]),
-        findings,
-    )?;
+    for step in setup.iter().chain(scenario.steps.as_slice()).skip(taken) {
+        take_step(alloc, &mut host, step, findings)?;
+    }
     ask(alloc, host, scenario.reports.as_slice(), findings)
 }
