@@ -1,6 +1,6 @@
 //! The machine that the program runs on.
 
-ghost use Rattle.std.specs.Prelude.{◌≡◌};
+ghost use Rattle.std.specs.Prelude.{◌≡◌, IfErr};
 ghost use Rattle.acq_program.specs.BookFaults.{IsClosing, IsOpening};
 ghost use Rattle.acqd.specs.BookFiles.{of_opening};
 
@@ -69,7 +69,9 @@ impl<'a, D: Start> Machine<SqlBook<FileStore<FileFrom<D>>>> for ThisMachine<'a, 
         }
     }
 
-    fn close_book(book: SqlBook<FileStore<FileFrom<D>>>) -> Result<(), Fault> {
+    fn close_book(book: SqlBook<FileStore<FileFrom<D>>>) -> Result<(), Fault>
+        ensures { IfErr result IsClosing }
+    {
         match book.release().close() {
             Ok(()) => Ok(()),
             Err(error) => Err(fault_of_closing(&error)),
