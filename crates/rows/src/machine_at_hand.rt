@@ -1,5 +1,8 @@
 //! What stands ready in place of the machine.
 
+ghost use Rattle.std.specs.Prelude.{IfErr};
+ghost use Rattle.acq_program.specs.BookFaults.{IsClosing};
+
 use crate::connections_at_hand::ConnectionsAtHand;
 use crate::machine_terms::MachineTerms;
 use crate::no_gathering::NoGathering;
@@ -77,7 +80,9 @@ impl<'a> Machine<ListBook> for MachineAtHand<'a> {
         self.open_book(path)
     }
 
-    fn close_book(book: ListBook) -> Result<(), Fault> {
+    fn close_book(book: ListBook) -> Result<(), Fault>
+        ensures { IfErr result IsClosing }
+    {
         drop(book);
         Ok(())
     }
