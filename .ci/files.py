@@ -126,12 +126,12 @@ def no_room():
     size = os.path.getsize("book.db")
     limit = lambda: resource.setrlimit(resource.RLIMIT_FSIZE, (size, resource.RLIM_INFINITY))
     # A write behind the limit fails, since Python ignores the signal.
-    more = sales(2001, 60)
+    more = sales(2001, 20)
     ended = acqd(["replay"], more, preexec_fn=limit, restore_signals=False)
     wanted("a close with no room", (ended[0], ended[2]), (3, "acqd: 2 Store\n"))
-    wanted("lines of what was taken", ended[1].count(b"ask "), 60)
+    wanted("lines of what was taken", ended[1].count(b"ask "), 20)
     again = acqd(["replay"], more)
-    wanted("the same sales again", (again[0], again[1]), (0, b"refused 32\n" * 60))
+    wanted("the same sales again", (again[0], again[1]), (0, b"refused 32\n" * 20))
     if os.path.getsize("book.db") <= size:
         sys.exit("files: the database did not grow, so nothing was tried")
 
