@@ -1,5 +1,5 @@
 -- Look-ups, one after another, and a change after them.
-use Rattle.std.proofs.Common.{◌≡◌, ◌≤◌, ℕ, Bool, true, Err, inl, inr, ⊎_elim, ◌∙◌, refl, sym, arith}
+use Rattle.std.proofs.Common.{◌≡◌, ◌≤◌, ℕ, Bool, true, Err, inl, inr, ⊎_elim, ◌∙◌, refl, arith}
 use Rattle.acq_core.specs.Tables.{Tables}
 use Rattle.acq_book.specs.Calls.{Looks}
 use Rattle.acq_book.specs.Promise.{HasRisen, IfStore, LooksBy, MakesBy}

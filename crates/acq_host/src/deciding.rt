@@ -3,19 +3,20 @@
 ghost use Rattle.std.specs.Prelude.{◌≡◌, is_ok, IfOk, IfSome};
 ghost use Rattle.acq_core.specs.Arrivals.{arrival_of};
 ghost use Rattle.acq_core.specs.Changes.{change_for};
+ghost use Rattle.acq_core.specs.Known.{nothing};
 ghost use Rattle.acq_core.specs.Tables.{after_any, known_in, step_output};
 ghost use Rattle.acq_core.specs.Pasts.{HasPast};
 ghost use Rattle.acq_book.specs.Fits.{Fits};
 ghost use Rattle.acq_book.specs.Calls.{Looks, Makes};
 ghost use Rattle.acq_book.specs.Promise.{HasRisen, IfStore};
+ghost use Rattle.acq_host.specs.Looked.{IsLooked};
 
 use crate::looking_up::{look_up, nothing_looked};
 use acq_book::{Book, BookFault};
-use acq_core::{Arrival, Change, Event, Output};
+use acq_core::{Arrival, Change, Event, Looked, Output};
 use std::alloc::Global;
 
 /// Reads an event, looks up what it needs, and returns what the host says to it and what changes.
-#[tactic(auto, using(crate::proofs::Chains::looks_more))]
 pub(crate) fn decide<B: Book>(
     alloc: Global,
     book: &mut B,
@@ -29,11 +30,51 @@ pub(crate) fn decide<B: Book>(
     ensures store { IfStore result (HasRisen (B.failures book.old) (B.failures book.new)) }
 {
     let arrival = Arrival::of(alloc, event)?;
+    decide_arrival(alloc, book, &arrival)
+}
+
+/// Looks up what an event needs that was read, and returns what the host says to it and what
+/// changes.
+#[tactic(auto, using(crate::proofs::Chains::looks_more))]
+fn decide_arrival<B: Book>(
+    alloc: Global,
+    book: &mut B,
+    arrival: &Arrival,
+) -> Result<(Output, Option<Change>), BookFault>
+    ensures output { B.is_open book.new → IfOk result (λ x.
+        x.0 ≡ step_output (B.tables book.old) arrival.now) }
+    ensures change { B.is_open book.new → IfOk result (λ x.
+        x.1 ≡ change_for (known_in (B.tables book.old) arrival.now) arrival.now) }
+    ensures looks { Looks B.Book book.old book.new (is_ok result) }
+    ensures store { IfStore result (HasRisen (B.failures book.old) (B.failures book.new)) }
+{
     let today = book.day()?;
     let limit = book.limit()?;
     let mut looked = nothing_looked(today, limit);
-    look_up(book, &arrival, &mut looked)?;
-    Ok(arrival.decide(alloc, &looked)?)
+    let decided = decide_over(alloc, book, arrival, &mut looked);
+    drop(looked);
+    decided
+}
+
+/// The same, over what is known of the day alone. What was looked up is borrowed, since a proof of
+/// what lets it go takes a minute at each place that may.
+#[tactic(auto, using(crate::proofs::Chains::looks_more))]
+fn decide_over<B: Book>(
+    alloc: Global,
+    book: &mut B,
+    arrival: &Arrival,
+    looked: &mut Looked,
+) -> Result<(Output, Option<Change>), BookFault>
+    ensures output { B.is_open book.new → IsLooked (B.tables book.old) nothing looked.old
+        → IfOk result (λ x. x.0 ≡ step_output (B.tables book.old) arrival.now) }
+    ensures change { B.is_open book.new → IsLooked (B.tables book.old) nothing looked.old
+        → IfOk result (λ x.
+        x.1 ≡ change_for (known_in (B.tables book.old) arrival.now) arrival.now) }
+    ensures looks { Looks B.Book book.old book.new (is_ok result) }
+    ensures store { IfStore result (HasRisen (B.failures book.old) (B.failures book.new)) }
+{
+    look_up(book, arrival, looked)?;
+    Ok(arrival.decide(alloc, looked)?)
 }
 
 /// Makes a change, if there is one.

@@ -3,6 +3,7 @@
 ghost use Rattle.std.specs.Prelude.{◌≡◌, false};
 
 use crate::row_fault::RowFault;
+use crate::store_at_hand::StoreAtHand;
 use acq_core::Limit;
 use acq_sql::opening::{check_book, make_book};
 use day_totals::Day;
@@ -13,10 +14,12 @@ use std::alloc::Global;
 const VERSION: u32 = 2;
 
 /// What a new book is told as once these statements changed it, which stand with `; ` between them.
-pub fn put_opening(alloc: Global, text: &str, answer: &mut String) -> Result<(), RowFault> {
-    let Ok(mut connection) = Connection::open_in_memory(alloc) else {
-        return Err(RowFault::Book);
-    };
+pub fn put_opening<S: StoreAtHand>(
+    alloc: Global,
+    text: &str,
+    answer: &mut String,
+) -> Result<(), RowFault> {
+    let mut connection = S::open(alloc)?;
     let put = put_told(alloc, &mut connection, text, answer);
     drop(connection);
     put

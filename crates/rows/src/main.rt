@@ -31,6 +31,7 @@ mod scenario;
 mod scenario_file;
 mod step;
 mod stopping_files;
+mod store_at_hand;
 mod table_file;
 mod tables;
 
@@ -38,6 +39,8 @@ use command_file::run_commands;
 use findings::Findings;
 use row_fault::RowFault;
 use running_scenarios::run_scenarios;
+use sqlite::MemStore;
+use sqlite_disk::{Fuse, Memory};
 use std::process::ExitCode;
 use std::{env, fs, io};
 use table_file::run_table;
@@ -99,11 +102,11 @@ fn run_rows(
     findings: &mut Findings,
 ) -> Result<(), RowFault> {
     if name.ends_with(".scenarios") {
-        run_scenarios(rt, rt.alloc(), text, findings)
+        run_scenarios::<MemStore, Fuse<Memory>, HostRuntime>(rt, rt.alloc(), text, findings)
     } else if name.ends_with(".commands") {
         run_commands(rt, rt.alloc(), text, findings)
     } else if name.ends_with(".table") {
-        run_table(rt.alloc(), text, findings)
+        run_table::<MemStore>(rt.alloc(), text, findings)
     } else {
         Err(RowFault::OtherKind)
     }

@@ -7,7 +7,7 @@ use crate::running_scenarios::{ask, host_in_sql, take_steps};
 use crate::running_stops::files_of;
 use crate::scenario::Scenario;
 use crate::step::Step;
-use crate::stopping_files::{FileAtHand, Stopping, copies_of, new_files, open, stopping_after};
+use crate::stopping_files::{Calls, FRAMES, FileAtHand, Stopping, copies_of, new_files, open};
 use acq_host::Host;
 use acq_sql::{OpeningFault, SqlBook};
 use sqlite::Alter;
@@ -18,9 +18,7 @@ use std::alloc::Global;
 /// The most calls that a file may need for a migration.
 const MOST_CALLS: u64 = 200;
 
-/// A log as it is in daily use, and one so short that a migration writes to both files.
-const FRAMES: usize = 12;
-
+/// So short a log that a migration writes to both files.
 const SHORTEST: usize = 1;
 
 /// What comes behind the migration of a scenario's book.
@@ -32,7 +30,7 @@ struct Later<'a> {
 
 /// Runs a scenario whose book is migrated behind so many steps: without a stop, and then with one at
 /// each call of the migration in turn, of each file, which are so many calls at least.
-pub fn run_migrated(
+pub fn run_migrated<D: FileAtHand>(
     alloc: Global,
     setup: &[Step],
     scenario: &Scenario,
@@ -48,7 +46,8 @@ pub fn run_migrated(
     let steps = later;
     let later = Later { scenario, steps };
     findings.set_book(", in SQL, before it is migrated");
-    let old = old_files(alloc, setup, scenario, earlier, findings)?;
+    let new: Files<D> = new_files(alloc, Calls::ALL);
+    let old = made_old(alloc, setup, scenario, earlier, new, findings)?;
     run_from(alloc, &old, &later, least, findings)
 }
 
@@ -62,22 +61,11 @@ fn run_from<D: FileAtHand>(
 ) -> Result<(), RowFault> {
     findings.set_book(", in SQL, migrated");
     go_on(alloc, old, later, findings)?;
-    refuse_again(alloc, copies_of(alloc, old)?)?;
+    refuse_again(alloc, copies_of(alloc, old, Calls::ALL)?)?;
     findings.set_book(", in SQL, migrated over a log that stops");
     stop_in_turn(alloc, old, Stopping::Log, later, least, findings)?;
     findings.set_book(", in SQL, migrated over a database that stops");
     stop_in_turn(alloc, old, Stopping::Database, later, least, findings)
-}
-
-/// The files of a book of version 1 that has taken these steps.
-fn old_files(
-    alloc: Global,
-    setup: &[Step],
-    scenario: &Scenario,
-    earlier: &[Step],
-    findings: &mut Findings,
-) -> Result<Files<sqlite_disk::Memory>, RowFault> {
-    made_old(alloc, setup, scenario, earlier, new_files(alloc), findings)
 }
 
 /// Takes steps over new files, and makes the book one of version 1: its ranges have the first six
@@ -118,7 +106,7 @@ fn stop_in_turn<D: FileAtHand>(
 ) -> Result<(), RowFault> {
     let mut stops: u64 = 0;
     for calls in 0..MOST_CALLS {
-        let files = stopping_after(copies_of(alloc, old)?, stopping, calls);
+        let files = copies_of(alloc, old, Calls::until(stopping, calls))?;
         match migrate_until_stop(alloc, files, later, findings)? {
             None => {}
             Some(false) => stops = stops.saturating_add(1),
@@ -166,26 +154,14 @@ fn go_on<D: FileAtHand>(
     later: &Later<'_>,
     findings: &mut Findings,
 ) -> Result<(), RowFault> {
-    let (files, again) = (copies_of(alloc, left)?, copies_of(alloc, left)?);
-    go_on_over(alloc, files, again, later, findings)
-}
-
-/// Takes the steps to come over the book in files; where it is an old one, over that in other files
-/// of the same bytes, migrated. It is said of any files, as a proof over those in memory alone takes
-/// minutes.
-fn go_on_over<D: Disk + Drop>(
-    alloc: Global,
-    files: Files<D>,
-    again: Files<D>,
-    later: &Later<'_>,
-    findings: &mut Findings,
-) -> Result<(), RowFault> {
-    match adopted(alloc, files) {
+    match adopted(alloc, copies_of(alloc, left, Calls::ALL)?) {
         Ok(book) => take_later(alloc, book, later, findings),
-        Err(OpeningFault::OtherVersion(1)) => match migrated(alloc, again) {
-            Ok(book) => take_later(alloc, book, later, findings),
-            Err(_) => Err(RowFault::Book),
-        },
+        Err(OpeningFault::OtherVersion(1)) => {
+            match migrated(alloc, copies_of(alloc, left, Calls::ALL)?) {
+                Ok(book) => take_later(alloc, book, later, findings),
+                Err(_) => Err(RowFault::Book),
+            }
+        }
         Err(_) => Err(RowFault::Book),
     }
 }

@@ -2,7 +2,7 @@
 //! a scenario says so, among another merchant's events, over files that stop, or with a book that is
 //! migrated.
 
-ghost use Rattle.std.specs.Prelude.{◌≡◌, IfOk, false};
+ghost use Rattle.std.specs.Prelude.{◌≡◌, false};
 
 use crate::events_of_another::lot_of_another;
 use crate::findings::Findings;
@@ -13,6 +13,8 @@ use crate::running_stops::run_stopping;
 use crate::scenario::Scenario;
 use crate::scenario_file::ScenarioFile;
 use crate::step::Step;
+use crate::stopping_files::FileAtHand;
+use crate::store_at_hand::StoreAtHand;
 use acq_book::{Book, BookFault, ListBook};
 use acq_commands::{Fault, TextSink};
 use acq_core::Event;
@@ -21,15 +23,15 @@ use acq_link::MemorySink;
 use acq_out::write_output;
 use acq_reports::ReportFault;
 use acq_sql::SqlBook;
-use sqlite::{Alter, Connection, MemStore};
+use sqlite::{Alter, Connection};
 use std::alloc::Global;
 use std::fmt::Write;
 use std::hash::RandomState;
 use std::random::RandomSource;
 
 /// Runs all scenarios of a file.
-pub fn run_scenarios(
-    rt: &impl RandomSource,
+pub fn run_scenarios<S: StoreAtHand, D: FileAtHand, R: RandomSource>(
+    rt: &R,
     alloc: Global,
     text: &str,
     findings: &mut Findings,
@@ -40,18 +42,18 @@ pub fn run_scenarios(
     }
     for scenario in file.scenarios.as_slice() {
         let setup = file.setup.steps.as_slice();
-        run_over_books(rt, alloc, setup, scenario, findings)?;
-        run_over_files(alloc, setup, scenario, findings)?;
+        run_over_books::<S, R>(rt, alloc, setup, scenario, findings)?;
+        run_over_files::<D>(alloc, setup, scenario, findings)?;
         if let Some(sales) = scenario.others {
-            run_among(rt, alloc, setup, scenario, sales, findings)?;
+            run_among::<S, R>(rt, alloc, setup, scenario, sales, findings)?;
         }
     }
     Ok(())
 }
 
 /// Runs a scenario over each book.
-fn run_over_books(
-    rt: &impl RandomSource,
+fn run_over_books<S: StoreAtHand, R: RandomSource>(
+    rt: &R,
     alloc: Global,
     setup: &[Step],
     scenario: &Scenario,
@@ -69,17 +71,17 @@ fn run_over_books(
     findings.set_book(", in SQL");
     run_on(
         alloc,
-        host_in_sql(alloc, new_database(alloc)?, scenario)?,
+        host_in_sql(alloc, S::open(alloc)?, scenario)?,
         setup,
         scenario,
         findings,
     )?;
     findings.set_book(", in SQL, taken again before each event");
-    run_again_on(alloc, new_database(alloc)?, setup, scenario, findings)
+    run_again_on(alloc, S::open(alloc)?, setup, scenario, findings)
 }
 
 /// Runs a scenario whose book is migrated, or over files that stop, where it says so.
-fn run_over_files(
+fn run_over_files<D: FileAtHand>(
     alloc: Global,
     setup: &[Step],
     scenario: &Scenario,
@@ -88,16 +90,16 @@ fn run_over_files(
     match (scenario.migrated, scenario.stops) {
         (Some(before), stops) => {
             let least = stops.unwrap_or(0);
-            run_migrated(alloc, setup, scenario, before, least, findings)
+            run_migrated::<D>(alloc, setup, scenario, before, least, findings)
         }
-        (None, Some(least)) => run_stopping(alloc, setup, scenario, least, findings),
+        (None, Some(least)) => run_stopping::<D>(alloc, setup, scenario, least, findings),
         (None, None) => Ok(()),
     }
 }
 
 /// Runs a scenario among another merchant's events, over a book in memory and over one in SQL.
-fn run_among(
-    rt: &impl RandomSource,
+fn run_among<S: StoreAtHand, R: RandomSource>(
+    rt: &R,
     alloc: Global,
     setup: &[Step],
     scenario: &Scenario,
@@ -117,7 +119,7 @@ fn run_among(
     findings.set_book(", in SQL, among another merchant's events");
     run_among_on(
         alloc,
-        host_in_sql(alloc, new_database(alloc)?, scenario)?,
+        host_in_sql(alloc, S::open(alloc)?, scenario)?,
         setup,
         scenario.steps.as_slice(),
         sales,
@@ -128,17 +130,6 @@ fn run_among(
 /// A host over a new book in memory.
 fn host_in_memory(alloc: Global, keys: RandomState, scenario: &Scenario) -> Host<ListBook> {
     Host::in_memory(alloc, keys, scenario.limit, scenario.first_day)
-}
-
-/// An empty database, which is kept in memory. What is done with it is said of any store, as a proof
-/// over this one alone takes minutes.
-fn new_database(alloc: Global) -> Result<Connection<MemStore>, RowFault>
-    ensures settled { IfOk result (λ connection. connection.in_transaction ≡ false) }
-{
-    match Connection::open_in_memory(alloc) {
-        Ok(connection) => Ok(connection),
-        Err(_) => Err(RowFault::Book),
-    }
 }
 
 /// A host over a new book in a database.

@@ -6,7 +6,7 @@ use crate::row_fault::RowFault;
 use crate::running_scenarios::{ask, host_in_sql, take_step};
 use crate::scenario::Scenario;
 use crate::step::Step;
-use crate::stopping_files::{FileAtHand, Stopping, copies_of, new_files, open, stopping_after};
+use crate::stopping_files::{Calls, FRAMES, FileAtHand, Stopping, copies_of, new_files, open};
 use acq_book::Book;
 use acq_core::Event;
 use acq_host::Host;
@@ -17,9 +17,6 @@ use std::alloc::Global;
 
 /// The most calls that a file of a scenario may need.
 const MOST_CALLS: u64 = 1000;
-
-/// So short a log that both files are written to.
-const FRAMES: usize = 12;
 
 /// How a run over files that stop ended.
 enum Ended {
@@ -33,7 +30,7 @@ enum Ended {
 
 /// Runs a scenario over files of which one stops at each of its calls in turn, from the first on at
 /// which there is a book, until a run needs no more of them: at so many calls at least.
-pub fn run_stopping(
+pub fn run_stopping<D: FileAtHand>(
     alloc: Global,
     setup: &[Step],
     scenario: &Scenario,
@@ -41,12 +38,12 @@ pub fn run_stopping(
     findings: &mut Findings,
 ) -> Result<(), RowFault> {
     findings.set_book(", in SQL, over a log that stops");
-    stop_in_turn(alloc, Stopping::Log, setup, scenario, least, findings)?;
+    stop_in_turn::<D>(alloc, Stopping::Log, setup, scenario, least, findings)?;
     findings.set_book(", in SQL, over a database that stops");
-    stop_in_turn(alloc, Stopping::Database, setup, scenario, least, findings)
+    stop_in_turn::<D>(alloc, Stopping::Database, setup, scenario, least, findings)
 }
 
-fn stop_in_turn(
+fn stop_in_turn<D: FileAtHand>(
     alloc: Global,
     stopping: Stopping,
     setup: &[Step],
@@ -56,7 +53,7 @@ fn stop_in_turn(
 ) -> Result<(), RowFault> {
     let mut stops: u64 = 0;
     for calls in 0..MOST_CALLS {
-        let files = stopping_after(new_files(alloc), stopping, calls);
+        let files: Files<D> = new_files(alloc, Calls::until(stopping, calls));
         match run_until_stop(alloc, files, setup, scenario, findings)? {
             Ended::NoBook => {}
             Ended::Stopped => stops = stops.saturating_add(1),
@@ -151,7 +148,7 @@ fn is_frame_with_reply(step: &Step) -> bool {
     matches!(step.event, Event::Frame(..)) && step.said.as_slice().starts_with(b"reply ")
 }
 
-/// Goes on from what is left in files, behind so many steps.
+/// Goes on over copies of what is left in files, behind so many steps.
 fn go_on_from<D: FileAtHand>(
     alloc: Global,
     left: &Files<D>,
@@ -160,20 +157,7 @@ fn go_on_from<D: FileAtHand>(
     taken: usize,
     findings: &mut Findings,
 ) -> Result<(), RowFault> {
-    let copies = copies_of(alloc, left)?;
-    go_on_over(alloc, copies, setup, scenario, taken, findings)
-}
-
-/// Goes on over the book in files, behind so many steps. It is said of any files, as a proof over
-/// those in memory alone takes minutes.
-fn go_on_over<D: Disk + Drop>(
-    alloc: Global,
-    files: Files<D>,
-    setup: &[Step],
-    scenario: &Scenario,
-    taken: usize,
-    findings: &mut Findings,
-) -> Result<(), RowFault> {
+    let files = copies_of(alloc, left, Calls::ALL)?;
     let Some(connection) = open(alloc, files, FRAMES) else {
         return Err(RowFault::Book);
     };

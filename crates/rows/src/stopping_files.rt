@@ -1,4 +1,4 @@
-//! The files of a book, of which one stops at some call.
+//! The files of a book, in memory, of which one may stop at some call.
 
 ghost use Rattle.std.specs.Prelude.{◌≡◌, IfSome, false};
 
@@ -7,6 +7,33 @@ use sqlite::{Connection, Options};
 use sqlite_disk::{Crash, Disk, Files, Fuse, Memory};
 use sqlite_store::FileStore;
 use std::alloc::Global;
+
+/// So short a log that both files are written to.
+pub const FRAMES: usize = 12;
+
+/// How many calls each file of a book passes on; it fails each one after.
+#[derive(Clone, Copy, Debug)]
+pub struct Calls {
+    log: u64,
+    database: u64,
+}
+
+impl Calls {
+    /// No file stops.
+    pub const ALL: Calls = Calls {
+        log: u64::MAX,
+        database: u64::MAX,
+    };
+
+    /// Where one file stops after so many calls.
+    pub fn until(stopping: Stopping, calls: u64) -> Calls {
+        let (log, database) = match stopping {
+            Stopping::Log => (calls, u64::MAX),
+            Stopping::Database => (u64::MAX, calls),
+        };
+        Calls { log, database }
+    }
+}
 
 /// Which file of a book stops.
 #[derive(Clone, Copy, Debug)]
@@ -17,38 +44,35 @@ pub enum Stopping {
     Database,
 }
 
-/// A file whose bytes can be copied, and that loses what wasn't synced where the machine stops.
+/// A file that stops after so many calls, and loses what wasn't synced where the machine stops. What
+/// is done with one is said of any, as a proof over that in memory alone takes minutes.
 pub trait FileAtHand: Crash + Drop {
-    /// A file of the same bytes.
-    fn copied(&self, alloc: Global) -> Result<Memory, RowFault>;
-}
+    /// A new file.
+    fn new(alloc: Global, calls: u64) -> Self;
 
-impl FileAtHand for Memory {
-    fn copied(&self, alloc: Global) -> Result<Memory, RowFault> {
-        copy_of(alloc, self.bytes())
-    }
+    /// A file of the same bytes.
+    fn copied(&self, alloc: Global, calls: u64) -> Result<Self, RowFault>;
 }
 
 impl FileAtHand for Fuse<Memory> {
-    fn copied(&self, alloc: Global) -> Result<Memory, RowFault> {
-        copy_of(alloc, self.inner().bytes())
+    fn new(alloc: Global, calls: u64) -> Fuse<Memory> {
+        Fuse::new(Memory::new(alloc), calls)
     }
-}
 
-/// A file of these bytes.
-fn copy_of(alloc: Global, bytes: &[u8]) -> Result<Memory, RowFault> {
-    let mut copy = Memory::new(alloc);
-    match copy.write_at(0, bytes) {
-        Ok(()) => Ok(copy),
-        Err(_) => Err(RowFault::Memory),
+    fn copied(&self, alloc: Global, calls: u64) -> Result<Fuse<Memory>, RowFault> {
+        let mut copy = Memory::new(alloc);
+        match copy.write_at(0, self.inner().bytes()) {
+            Ok(()) => Ok(Fuse::new(copy, calls)),
+            Err(_) => Err(RowFault::Memory),
+        }
     }
 }
 
 /// New files.
-pub fn new_files(alloc: Global) -> Files<Memory> {
+pub fn new_files<D: FileAtHand>(alloc: Global, calls: Calls) -> Files<D> {
     Files {
-        log: Memory::new(alloc),
-        db: Memory::new(alloc),
+        log: D::new(alloc, calls.log),
+        db: D::new(alloc, calls.database),
     }
 }
 
@@ -56,23 +80,12 @@ pub fn new_files(alloc: Global) -> Files<Memory> {
 pub fn copies_of<D: FileAtHand>(
     alloc: Global,
     files: &Files<D>,
-) -> Result<Files<Memory>, RowFault> {
+    calls: Calls,
+) -> Result<Files<D>, RowFault> {
     Ok(Files {
-        log: files.log.copied(alloc)?,
-        db: files.db.copied(alloc)?,
+        log: files.log.copied(alloc, calls.log)?,
+        db: files.db.copied(alloc, calls.database)?,
     })
-}
-
-/// Files of which one passes so many calls on, and fails each one after.
-pub fn stopping_after(files: Files<Memory>, stopping: Stopping, calls: u64) -> Files<Fuse<Memory>> {
-    let (log_calls, database_calls) = match stopping {
-        Stopping::Log => (calls, u64::MAX),
-        Stopping::Database => (u64::MAX, calls),
-    };
-    Files {
-        log: Fuse::new(files.log, log_calls),
-        db: Fuse::new(files.db, database_calls),
-    }
 }
 
 /// Opens files, where no sync of them has failed; a log of so many frames is copied into the

@@ -11,6 +11,7 @@
 use crate::book_openings::put_opening;
 use crate::escapes::put_shown;
 use crate::row_fault::RowFault;
+use crate::store_at_hand::StoreAtHand;
 use acq_commands::Fault;
 use acq_core::{
     AdmittedCount, Amount, Currency, FirstReference, Limit, MerchantId, Moment, Reference, Service,
@@ -27,7 +28,7 @@ use std::fmt::Write;
 
 /// Puts what a row of this kind says of a text. Says whether there is such a kind, and the text is
 /// in its form.
-pub fn put_answer(
+pub fn put_answer<S: StoreAtHand>(
     alloc: Global,
     kind: &str,
     text: &str,
@@ -45,7 +46,7 @@ pub fn put_answer(
         "day" => put_day(text, answer)?,
         "resolve" => return put_resolved(text, answer),
         "element" => return put_element(alloc, text, answer),
-        "opening" => put_opening(alloc, text, answer)?,
+        "opening" => put_opening::<S>(alloc, text, answer)?,
         "type" => return put_reply_type(bytes, answer),
         "totals" => return put_totals(alloc, text, answer),
         _ => match is_taken(kind, text, bytes) {

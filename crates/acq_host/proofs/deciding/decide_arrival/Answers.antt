@@ -1,0 +1,32 @@
+-- over what is known of the day alone the tables decide the same as they did before it was asked
+use Rattle.std.proofs.Common.{◌≡◌, ◌∙◌, IfOk, sym, ap, subst}
+use Rattle.acq_core.specs.Changes.{change_for}
+use Rattle.acq_core.specs.Tables.{known_in, step_output}
+use Rattle.acq_host.proofs.deciding.decide_arrival.Goals as goal
+
+pub returns-clause-output : goal.returns-clause-output
+returns-clause-output g c = λ o3.
+    let o2 = c.decide_over-decided.ensures.looks.was_open o3 in
+    let o1 = c.limit.ensures.looks.was_open o2 in
+    let t1 = c.day.ensures.looks.same o1 in
+    let same = c.limit.ensures.looks.same o2 ∙ t1 in
+    let today = c.in_ok-today.ensures.value o1 ∙ sym (ap (λ t. t.day) same) in
+    let limit = c.in_ok-limit.ensures.value o2 ∙ ap (λ t. t.limit) t1 ∙ sym (ap (λ t. t.limit) same)
+    in
+    let nothing = c.nothing_looked-looked.ensures (g.B.Book.tables c.limit.new.self) today limit in
+    subst (λ t. IfOk c.decide_over-decided.result (λ x. x.0 ≡ step_output t c.args.arrival.now)) same
+    (c.decide_over-decided.ensures.output o3 nothing)
+
+pub returns-clause-change : goal.returns-clause-change
+returns-clause-change g c = λ o3.
+    let o2 = c.decide_over-decided.ensures.looks.was_open o3 in
+    let o1 = c.limit.ensures.looks.was_open o2 in
+    let t1 = c.day.ensures.looks.same o1 in
+    let same = c.limit.ensures.looks.same o2 ∙ t1 in
+    let today = c.in_ok-today.ensures.value o1 ∙ sym (ap (λ t. t.day) same) in
+    let limit = c.in_ok-limit.ensures.value o2 ∙ ap (λ t. t.limit) t1 ∙ sym (ap (λ t. t.limit) same)
+    in
+    let nothing = c.nothing_looked-looked.ensures (g.B.Book.tables c.limit.new.self) today limit in
+    subst (λ t. IfOk c.decide_over-decided.result (λ x.
+    x.1 ≡ change_for (known_in t c.args.arrival.now) c.args.arrival.now)) same
+    (c.decide_over-decided.ensures.change o3 nothing)

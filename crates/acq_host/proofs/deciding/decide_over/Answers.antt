@@ -1,0 +1,18 @@
+-- what is decided over what was looked up is what the tables decide
+use Rattle.std.proofs.Common.{◌∙◌, ap}
+use Rattle.acq_core.specs.Arrivals.{merchant_named}
+use Rattle.acq_core.specs.Changes.{change_for}
+use Rattle.acq_core.specs.Outcome.{outcome, output_of}
+use Rattle.acq_host.proofs.deciding.decide_over.Goals as goal
+
+pub returns-clause-output : goal.returns-clause-output
+returns-clause-output g c = λ o nothing.
+    let a = c.args.arrival.now in
+    c.in_ok-decide.ensures.output
+    ∙ ap (λ k. output_of (merchant_named a) (outcome k a))
+    (c.in_ok-look_up.ensures.known o nothing)
+
+pub returns-clause-change : goal.returns-clause-change
+returns-clause-change g c = λ o nothing.
+    c.in_ok-decide.ensures.change
+    ∙ ap (λ k. change_for k c.args.arrival.now) (c.in_ok-look_up.ensures.known o nothing)
