@@ -3,3 +3,4 @@ pub mod Runs
 pub mod Arguments
 pub mod Program
 pub mod WantedReports
+pub mod Commands

@@ -1,7 +1,9 @@
 //! The program's arguments.
 
-ghost use Rattle.std.specs.Prelude.{◌≡◌, IfErr, IfOk, codes, map, option_map, string_bytes};
-ghost use Rattle.clap.specs.Words.{first_value, found_of};
+ghost use Rattle.std.specs.Prelude.{◌≡◌, List, [], IfErr, IfOk, codes, map, option_map};
+ghost use Rattle.std.specs.Prelude.{string_bytes};
+ghost use Rattle.clap.specs.Words.{HasMatchesOf, Text, fault_of, first_value, found_of};
+ghost use Rattle.acq_program.specs.Program.{program};
 ghost use Rattle.acq_program.specs.Arguments.{AsksHolds, AsksInit, AsksListen};
 ghost use Rattle.acq_program.specs.Arguments.{AsksMigrate, AsksOnce};
 ghost use Rattle.acq_program.specs.Arguments.{AsksPending, DayIfThere};
@@ -45,6 +47,17 @@ pub fn action_of<W: AsStr>(alloc: Global, args: &[W]) -> Result<Action, UsageFau
     ensures { ReadsArguments (map W.text args.now) result }
 {
     let matches = program(alloc)?.try_get_matches_from(args)?;
+    let asked = asked_in(alloc, &matches);
+    drop(matches);
+    asked
+}
+
+/// What the arguments ask for, by what clap found in them. That is borrowed, since a proof of what
+/// lets it go takes long at each place that may.
+fn asked_in(alloc: Global, matches: &ArgMatches) -> Result<Action, UsageFault>
+    ensures { (words : List Text) → fault_of program words ≡ []
+        → HasMatchesOf program words matches.now → ReadsArguments words result }
+{
     match matches.subcommand() {
         Some(("init", options)) => init_of(alloc, options),
         Some(("migrate", options)) => migrate_of(alloc, options),

@@ -1,9 +1,10 @@
 //! The program's commands and their options, with their help.
 
-ghost use Rattle.std.specs.Prelude.{◌≡◌, false, IfOk};
-ghost use Rattle.clap.specs.Words.{app_of, new_app, rule_of, with_rule};
+ghost use Rattle.std.specs.Prelude.{◌≡◌, true, false};
+ghost use Rattle.clap.specs.Words.{App, app_of, new_app, rule_of, with_rule, with_subcommand};
+ghost use Rattle.acq_program.specs.Commands.{Makes};
 ghost use Rattle.clap.specs.declared.builder.action.ArgAction.TheVariants.{Append};
-ghost use Rattle.acq_program.specs.Program.{holds, init, listen, listen_at_moment};
+ghost use Rattle.acq_program.specs.Program.{acqd, holds, init, listen, listen_at_moment};
 ghost use Rattle.acq_program.specs.Program.{listen_at_port, making};
 ghost use Rattle.acq_program.specs.Program.{migrate, on_a_day, once, option};
 ghost use Rattle.acq_program.specs.Program.{pending};
@@ -266,47 +267,55 @@ const ANSWERING: &str = "The file of issuers' answers [default: `none` for each]
 const COMING_AT: &str =
     "The moment at which all frames come, 946684800 to 4102444799 [default: the clock's]";
 
+/// A command, if there was memory for it. Each step below takes what the one before it made: a
+/// proof that goes on behind a `?` carries the whole command along.
+type Made<'a> = Result<Command<'a>, AllocError>;
+
 pub(crate) fn program<'a>(alloc: Global) -> Result<Command<'a>, AllocError>
-    ensures { IfOk result (λ made. app_of made ≡ program) }
+    ensures { Makes result program }
 {
-    let clearing = day_command(alloc, "clearing", ABOUT_CLEARING)?;
-    let report = day_command(alloc, "report", ABOUT_REPORT)?;
-    own_books(alloc)?
-        .subcommand(clearing)?
-        .subcommand(report)?
-        .subcommand(holds_command(alloc)?)?
-        .subcommand(pending_command(alloc)?)?
-        .subcommand(show_command(alloc)?)
+    let made = own_books(alloc);
+    let made = with_command(made, day_command(alloc, "clearing", ABOUT_CLEARING));
+    let made = with_command(made, day_command(alloc, "report", ABOUT_REPORT));
+    let made = with_command(made, holds_command(alloc));
+    let made = with_command(made, pending_command(alloc));
+    with_command(made, show_command(alloc))
 }
 
 /// The program with the commands that make a book, or take what comes in.
-fn own_books<'a>(alloc: Global) -> Result<Command<'a>, AllocError>
-    ensures { IfOk result (λ made. app_of made ≡ making) }
+fn own_books<'a>(alloc: Global) -> Made<'a>
+    ensures { Makes result making }
+{
+    let made = with_command(Ok(top(alloc)), init_command(alloc));
+    let made = with_command(made, migrate_command(alloc));
+    let made = with_command(made, once_command(alloc));
+    let made = with_command(made, listen_command(alloc));
+    with_command(made, replay_command(alloc))
+}
+
+/// The program without commands.
+fn top<'a>(alloc: Global) -> Command<'a>
+    ensures { app_of result ≡ acqd }
 {
     Command::new(alloc, "acqd")
         .version("0.1.0")
         .about(ABOUT)
         .subcommand_required(true)
         .arg_required_else_help(false)
-        .subcommand(init_command(alloc)?)?
-        .subcommand(migrate_command(alloc)?)?
-        .subcommand(once_command(alloc)?)?
-        .subcommand(listen_command(alloc)?)?
-        .subcommand(replay_command(alloc)?)
 }
 
-fn init_command<'a>(alloc: Global) -> Result<Command<'a>, AllocError>
-    ensures { IfOk result (λ made. app_of made ≡ init) }
+fn init_command<'a>(alloc: Global) -> Made<'a>
+    ensures { Makes result init }
 {
-    let command = command(alloc, "init", ABOUT_INIT, MORE_OF_INIT);
-    let command = with_required(alloc, command, "db", "FILE", "The file of the new book")?;
+    let command = Ok(command(alloc, "init", ABOUT_INIT, MORE_OF_INIT));
+    let command = with_required(alloc, command, "db", "FILE", "The file of the new book");
     let command = with_required(
         alloc,
         command,
         "limit",
         "N",
         "How many messages of one merchant a day admits, 1 to 999999",
-    )?;
+    );
     with_required(
         alloc,
         command,
@@ -316,40 +325,40 @@ fn init_command<'a>(alloc: Global) -> Result<Command<'a>, AllocError>
     )
 }
 
-fn migrate_command<'a>(alloc: Global) -> Result<Command<'a>, AllocError>
-    ensures { IfOk result (λ made. app_of made ≡ migrate) }
+fn migrate_command<'a>(alloc: Global) -> Made<'a>
+    ensures { Makes result migrate }
 {
-    let command = command(alloc, "migrate", ABOUT_MIGRATE, MORE_OF_MIGRATE);
+    let command = Ok(command(alloc, "migrate", ABOUT_MIGRATE, MORE_OF_MIGRATE));
     with_required(alloc, command, "db", "FILE", "The file of the book")
 }
 
-fn once_command<'a>(alloc: Global) -> Result<Command<'a>, AllocError>
-    ensures { IfOk result (λ made. app_of made ≡ once) }
+fn once_command<'a>(alloc: Global) -> Made<'a>
+    ensures { Makes result once }
 {
-    let command = command(alloc, "once", ABOUT_ONCE, MORE_OF_ONCE);
-    let command = with_option(alloc, command, "db", "FILE", FILE_OR_MEMORY)?;
-    let command = with_option(alloc, command, "issuers", "FILE", ISSUERS)?;
+    let command = Ok(command(alloc, "once", ABOUT_ONCE, MORE_OF_ONCE));
+    let command = with_option(alloc, command, "db", "FILE", FILE_OR_MEMORY);
+    let command = with_option(alloc, command, "issuers", "FILE", ISSUERS);
     with_option(alloc, command, "at", "MOMENT", COMING_AT)
 }
 
-fn listen_command<'a>(alloc: Global) -> Result<Command<'a>, AllocError>
-    ensures { IfOk result (λ made. app_of made ≡ listen) }
+fn listen_command<'a>(alloc: Global) -> Made<'a>
+    ensures { Makes result listen }
 {
-    let command = listen_at_moment(alloc)?;
+    let command = listen_at_moment(alloc);
     let command = with_option(
         alloc,
         command,
         "frame-within",
         "SECONDS",
         "How long a frame may take, first byte to last, 0 to 999999, 0 for ever [default: 30]",
-    )?;
+    );
     let command = with_option(
         alloc,
         command,
         "idle-when-full",
         "SECONDS",
         "How long one may be silent while others wait for a place, as --idle [default: 10]",
-    )?;
+    );
     with_option(
         alloc,
         command,
@@ -360,12 +369,12 @@ fn listen_command<'a>(alloc: Global) -> Result<Command<'a>, AllocError>
 }
 
 /// `listen` with its file, its port, how many connections come, and what is said of each.
-fn listen_at_moment<'a>(alloc: Global) -> Result<Command<'a>, AllocError>
-    ensures { IfOk result (λ made. app_of made ≡ listen_at_moment) }
+fn listen_at_moment<'a>(alloc: Global) -> Made<'a>
+    ensures { Makes result listen_at_moment }
 {
-    let command = listen_at_port(alloc)?;
-    let command = with_option(alloc, command, "issuers", "FILE", ISSUERS)?;
-    let command = with_option(alloc, command, "at", "MOMENT", COMING_AT)?;
+    let command = listen_at_port(alloc);
+    let command = with_option(alloc, command, "issuers", "FILE", ISSUERS);
+    let command = with_option(alloc, command, "at", "MOMENT", COMING_AT);
     with_option(
         alloc,
         command,
@@ -376,12 +385,12 @@ fn listen_at_moment<'a>(alloc: Global) -> Result<Command<'a>, AllocError>
 }
 
 /// `listen` with its file, its port and how many connections come.
-fn listen_at_port<'a>(alloc: Global) -> Result<Command<'a>, AllocError>
-    ensures { IfOk result (λ made. app_of made ≡ listen_at_port) }
+fn listen_at_port<'a>(alloc: Global) -> Made<'a>
+    ensures { Makes result listen_at_port }
 {
-    let command = command(alloc, "listen", ABOUT_LISTEN, MORE_OF_LISTEN);
-    let command = with_required(alloc, command, "db", "FILE", "The file of the book")?;
-    let command = with_required(alloc, command, "port", "P", "The port, 1 to 65535")?;
+    let command = Ok(command(alloc, "listen", ABOUT_LISTEN, MORE_OF_LISTEN));
+    let command = with_required(alloc, command, "db", "FILE", "The file of the book");
+    let command = with_required(alloc, command, "port", "P", "The port, 1 to 65535");
     with_option(
         alloc,
         command,
@@ -391,31 +400,31 @@ fn listen_at_port<'a>(alloc: Global) -> Result<Command<'a>, AllocError>
     )
 }
 
-fn replay_command<'a>(alloc: Global) -> Result<Command<'a>, AllocError>
-    ensures { IfOk result (λ made. app_of made ≡ replay) }
+fn replay_command<'a>(alloc: Global) -> Made<'a>
+    ensures { Makes result replay }
 {
-    let command = command(alloc, "replay", ABOUT_REPLAY, MORE_OF_REPLAY);
-    let command = with_option(alloc, command, "db", "FILE", FILE_OR_MEMORY)?;
+    let command = Ok(command(alloc, "replay", ABOUT_REPLAY, MORE_OF_REPLAY));
+    let command = with_option(alloc, command, "db", "FILE", FILE_OR_MEMORY);
     let command = with_option(
         alloc,
         command,
         "limit",
         "N",
         "How many messages of one merchant a day admits, 1 to 999999 [default: 999999]",
-    )?;
+    );
     let command = with_option(
         alloc,
         command,
         "day",
         "YYYY-MM-DD",
         "The first business day, 2000-01-01 to 2099-12-31 [default: 2000-01-01]",
-    )?;
+    );
     let command = with_days(
         alloc,
         command,
         "clearing",
         "In place of the lines: the clearing file of a day that is over; may be repeated",
-    )?;
+    );
     with_days(
         alloc,
         command,
@@ -425,26 +434,26 @@ fn replay_command<'a>(alloc: Global) -> Result<Command<'a>, AllocError>
 }
 
 /// A command that writes a report on a day.
-fn day_command<'a>(alloc: Global, name: &'a str, about: &'a str) -> Result<Command<'a>, AllocError>
-    ensures { IfOk result (λ made. app_of made ≡ on_a_day name.now) }
+fn day_command<'a>(alloc: Global, name: &'a str, about: &'a str) -> Made<'a>
+    ensures { Makes result (on_a_day name.now) }
 {
-    let command = command(alloc, name, about, MORE_OF_REPORTS);
-    let command = with_required(alloc, command, "db", "FILE", "The file of the book")?;
+    let command = Ok(command(alloc, name, about, MORE_OF_REPORTS));
+    let command = with_required(alloc, command, "db", "FILE", "The file of the book");
     with_required(alloc, command, "day", "YYYY-MM-DD", "The business day")
 }
 
-fn holds_command<'a>(alloc: Global) -> Result<Command<'a>, AllocError>
-    ensures { IfOk result (λ made. app_of made ≡ holds) }
+fn holds_command<'a>(alloc: Global) -> Made<'a>
+    ensures { Makes result holds }
 {
-    let command = command(alloc, "holds", ABOUT_HOLDS, MORE_OF_HOLDS);
-    let command = with_required(alloc, command, "db", "FILE", "The file of the book")?;
+    let command = Ok(command(alloc, "holds", ABOUT_HOLDS, MORE_OF_HOLDS));
+    let command = with_required(alloc, command, "db", "FILE", "The file of the book");
     let command = with_required(
         alloc,
         command,
         "merchant",
         "MERCHANT",
         "The merchant, 1 to 15 bytes",
-    )?;
+    );
     with_required(
         alloc,
         command,
@@ -454,19 +463,19 @@ fn holds_command<'a>(alloc: Global) -> Result<Command<'a>, AllocError>
     )
 }
 
-fn pending_command<'a>(alloc: Global) -> Result<Command<'a>, AllocError>
-    ensures { IfOk result (λ made. app_of made ≡ pending) }
+fn pending_command<'a>(alloc: Global) -> Made<'a>
+    ensures { Makes result pending }
 {
-    let command = command(alloc, "pending", ABOUT_PENDING, MORE_OF_PENDING);
-    let command = with_required(alloc, command, "db", "FILE", "The file of the book")?;
+    let command = Ok(command(alloc, "pending", ABOUT_PENDING, MORE_OF_PENDING));
+    let command = with_required(alloc, command, "db", "FILE", "The file of the book");
     let command = with_option(
         alloc,
         command,
         "day",
         "YYYY-MM-DD",
         "The business day of the requests [default: all days]",
-    )?;
-    let command = with_option(alloc, command, "issuers", "FILE", ANSWERING)?;
+    );
+    let command = with_option(alloc, command, "issuers", "FILE", ANSWERING);
     with_option(
         alloc,
         command,
@@ -476,8 +485,8 @@ fn pending_command<'a>(alloc: Global) -> Result<Command<'a>, AllocError>
     )
 }
 
-fn show_command<'a>(alloc: Global) -> Result<Command<'a>, AllocError>
-    ensures { IfOk result (λ made. app_of made ≡ show) }
+fn show_command<'a>(alloc: Global) -> Made<'a>
+    ensures { Makes result show }
 {
     let hex = Arg::new(alloc, "hex")
         .long("hex")
@@ -495,48 +504,72 @@ fn command<'a>(alloc: Global, name: &'a str, about: &'a str, more: &'a str) -> C
     command.after_help(more)
 }
 
+/// A program with one more command.
+fn with_command<'a>(program: Made<'a>, command: Made<'a>) -> Made<'a>
+    ensures { (a b : App) → Makes program.entry a → Makes command.entry b
+        → b.top.is_plain ≡ true → Makes result (with_subcommand a b.top) }
+{
+    match (program, command) {
+        (Ok(program), Ok(command)) => program.subcommand(command),
+        (Ok(made), Err(error)) | (Err(error), Ok(made)) => {
+            drop(made);
+            Err(error)
+        }
+        (Err(error), Err(_)) => Err(error),
+    }
+}
+
 /// A command with one more option, which has to be there.
 fn with_required<'a>(
     alloc: Global,
-    command: Command<'a>,
+    command: Made<'a>,
     name: &'a str,
     value: &'a str,
     help: &'a str,
-) -> Result<Command<'a>, AllocError>
-    ensures { IfOk result (λ made. app_of made
-        ≡ with_rule (app_of command.entry) (required name.now)) }
+) -> Made<'a>
+    ensures { (a : App) → Makes command.entry a
+        → Makes result (with_rule a (required name.now)) }
 {
-    let arg = option_with_value(alloc, name, value, help, ArgAction::Set).required(true);
-    command.arg(arg)
+    let arg = option_with_value(alloc, name, value, help, ArgAction::Set);
+    with_arg(command, arg.required(true))
 }
 
 /// A command with one more option, which may be there once.
 fn with_option<'a>(
     alloc: Global,
-    command: Command<'a>,
+    command: Made<'a>,
     name: &'a str,
     value: &'a str,
     help: &'a str,
-) -> Result<Command<'a>, AllocError>
-    ensures { IfOk result (λ made. app_of made
-        ≡ with_rule (app_of command.entry) (option name.now)) }
+) -> Made<'a>
+    ensures { (a : App) → Makes command.entry a
+        → Makes result (with_rule a (option name.now)) }
 {
     let arg = option_with_value(alloc, name, value, help, ArgAction::Set);
-    command.arg(arg)
+    with_arg(command, arg)
 }
 
 /// A command with one more option, which names a day each time that it is there.
-fn with_days<'a>(
-    alloc: Global,
-    command: Command<'a>,
-    name: &'a str,
-    help: &'a str,
-) -> Result<Command<'a>, AllocError>
-    ensures { IfOk result (λ made. app_of made
-        ≡ with_rule (app_of command.entry) (option_with_value name.now Append)) }
+fn with_days<'a>(alloc: Global, command: Made<'a>, name: &'a str, help: &'a str) -> Made<'a>
+    ensures { (a : App) → Makes command.entry a
+        → Makes result (with_rule a (option_with_value name.now Append)) }
 {
     let arg = option_with_value(alloc, name, "YYYY-MM-DD", help, ArgAction::Append);
-    command.arg(arg)
+    with_arg(command, arg)
+}
+
+/// A command with one more option.
+fn with_arg<'a>(command: Made<'a>, arg: Arg<'a>) -> Made<'a>
+    ensures { (a : App) → Makes command.entry a → arg.entry.global ≡ false
+        → Makes result (with_rule a (rule_of arg.entry)) }
+{
+    match command {
+        Ok(command) => command.arg(arg),
+        Err(error) => {
+            drop(arg);
+            Err(error)
+        }
+    }
 }
 
 /// An option with a value, as `--name VALUE`.
