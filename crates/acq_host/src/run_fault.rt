@@ -18,7 +18,15 @@ pub struct RunFault {
 
 /// Without the outputs, whose replies hold card numbers.
 impl fmt::Debug for RunFault {
+    ghost use Rattle.std.specs.Prelude.{Some};
+    ghost use Rattle.acq_host.specs.Shown.{shown_run_fault};
+
+    ghost debug_output = { λ fault. Some (shown_run_fault fault.at fault.fault) };
+
     fn fmt<W: fmt::Write>(&self, f: &mut fmt::Formatter<W>) -> fmt::Result {
-        write!(f, "RunFault at {}: {:?}", self.at, self.fault)
+        match self.fault {
+            BookFault::Memory => write!(f, "RunFault at {}: Memory", self.at),
+            BookFault::Store => write!(f, "RunFault at {}: Store", self.at),
+        }
     }
 }

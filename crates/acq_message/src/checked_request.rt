@@ -8,7 +8,7 @@ use crate::request_message::RequestMessage;
 use std::marker::Model;
 
 /// A request that the first check passed. Contracts see it as the request.
-#[derive(Debug, Drop)]
+#[derive(Drop)]
 pub struct CheckedRequest {
     request: RequestMessage,
 }

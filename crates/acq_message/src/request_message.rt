@@ -5,7 +5,7 @@ use crate::service::Service;
 use iso_codec::Message;
 
 /// A message of a type that is served, and when it came.
-#[derive(Debug, Drop)]
+#[derive(Drop)]
 pub struct RequestMessage {
     pub moment: Moment,
     pub service: Service,

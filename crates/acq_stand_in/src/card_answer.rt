@@ -7,7 +7,7 @@ use acq_core::Verdict;
 use card_no::CardNumber;
 
 /// What the issuer of one card answers, as a record of the stand-in file says.
-#[derive(Clone, Copy, Debug, Drop)]
+#[derive(Clone, Copy, Drop)]
 pub struct CardAnswer {
     /// The card. Where the record's text is no valid card number, it is no request's card.
     pub card: Option<CardNumber>,

@@ -3,7 +3,7 @@ use Rattle.std.proofs.Common.{◌≡◌, ℕ, zero, suc, ◌+◌, ◌-◌, ◌�
 use Rattle.std.proofs.Common.{◌++◌, length, take}
 use Rattle.std.proofs.Common.{Option, Some, None, Result, Ok, Err, refl, sym, ap, ◌∙◌, arith, inl}
 use Rattle.std.proofs.Common.{inr}
-use Rattle.std.specs.Prelude.{IfSome, ◌||◌, ◌⊎◌}
+use Rattle.std.specs.Prelude.{◌||◌, ◌⊎◌}
 use Rattle.std.proofs.lemmas.Bool.{cases_Bool, false≢true, cond_both}
 use Rattle.std.proofs.lemmas.List.{append-nil, take_at, length-append, length_push}
 use Rattle.csv.specs.Machine.{Read, step, in_field, start_field, start_record, is_end, ends_at_end}
@@ -18,10 +18,12 @@ use Rattle.csv.specs.declared.parser.State.TheVariants as st
 use Rattle.csv.specs.declared.parser.Action.{Action}
 use Rattle.card_no.specs.declared.range.Range.{Range}
 use Rattle.card_no.specs.declared.range_fault.RangeFault.{RangeFault}
-use Rattle.card_no.specs.declared.range_fault.RangeFault.TheVariants.{Memory, BadRange, Overlap}
-use Rattle.card_no.specs.declared.range_fault.RangeFault.TheVariants.{NoSuchRange, BadLine}
+use Rattle.card_no.specs.declared.range_fault.RangeFault.TheVariants.{Memory}
+use Rattle.card_no.specs.declared.read_stop.ReadStop.{ReadStop}
+use Rattle.card_no.specs.declared.read_stop.ReadStop.TheVariants.{Fault, Unread}
 use Rattle.card_no.specs.RangeFiles.{with_record, with_records, records_of, ranges_of_text}
-use Rattle.card_no.specs.RangeFiles.{StopsBefore, ReadsRanges}
+use Rattle.card_no.specs.RangeFiles.{StopsBefore}
+use Rattle.card_no.specs.ReadStops.{Stops}
 use Rattle.card_no.specs.RangeFiles.{◌>>=◌}
 
 -- ---- each record takes bytes
@@ -304,35 +306,21 @@ stands-stopped text left state ranges n p =
     rw (all, before) (take_at p.rows later (length p.rows) refl) in
     (omega (arith, p.count), omega (arith, p.count, size), rw (front, p.made) refl)
 
--- ---- what a reader answers
+-- ---- why reading stopped
 
-pub reads-refused : (text : List ℕ) (fault : RangeFault) → ranges_of_text text ≡ Err fault
-    → ReadsRanges text (Err fault)
-reads-refused text Memory h = tt
-reads-refused text BadRange h = h
-reads-refused text (Overlap r) h = h
-reads-refused text NoSuchRange h = h
-reads-refused text (BadLine n) h = inl h
-
-pub reads-stopped : (text : List ℕ) (n : ℕ) (fault : RangeFault) → StopsBefore n text →
-    (fault ≡ Memory)
-    ⊎ (fault ≡ BadLine n) → ReadsRanges text (Err fault)
-reads-stopped text n fault h (inl memory) = rw memory tt
-reads-stopped text n fault h (inr line) = rw line (inr h)
-
-pub when_known : (o : Option (List ℕ)) (P : List ℕ → Type 0) →
-    ((text : List ℕ) → o ≡ Some text → P text) → IfSome o P
-when_known None P h = tt
-when_known (Some text) P h = h text refl
+pub stops-unread : (text : List ℕ) (n : ℕ) (stop : ReadStop) → StopsBefore n text →
+    (stop ≡ Fault Memory)
+    ⊎ (stop ≡ Unread n) → Stops text stop
+stops-unread text n stop h (inl memory) = rw memory (inr refl)
+stops-unread text n stop h (inr unread) = rw unread h
 
 -- the record that was read is refused, or memory ran out for it
-pub reads-failed : {R : Type 0} (rem : R → Option (List ℕ)) (text : List ℕ) (a b : Reader R)
+pub stops-refused : {R : Type 0} (rem : R → Option (List ℕ)) (text : List ℕ) (a b : Reader R)
     (ranges : List Range)
     (n : ℕ) (fields : List (List ℕ)) (fault : RangeFault)
     → Stands text (source_of rem a) a.state ranges n → a.config ≡ default_config →
     ReadRecord rem a b true fields
-    → (fault ≡ Memory) ⊎ (with_record n ranges fields ≡ Err fault) → ReadsRanges text (Err fault)
-reads-failed rem text a b ranges n fields fault p config read (inl memory) = rw memory tt
-reads-failed rem text a b ranges n fields fault p config read (inr refused) =
-    reads-refused text fault
-    (stands-refused rem text a b ranges n fields fault p config read refused)
+    → (fault ≡ Memory) ⊎ (with_record n ranges fields ≡ Err fault) → Stops text (Fault fault)
+stops-refused rem text a b ranges n fields fault p config read (inl memory) = inr memory
+stops-refused rem text a b ranges n fields fault p config read (inr refused) =
+    inl (stands-refused rem text a b ranges n fields fault p config read refused)

@@ -5,6 +5,7 @@ pub mod Ranges
 pub mod RangeChanges
 pub mod Widening
 pub mod RangeFiles
+pub mod ReadStops
 pub mod FaultTexts
 pub mod Worked
 pub mod Padding

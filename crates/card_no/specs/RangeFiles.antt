@@ -1,20 +1,18 @@
 -- Range list files (own profile): CSV as the crate `csv` reads it, with no header line, a record of
 -- four fields for each range.
-use Rattle.std.specs.Prelude.{◌≡◌, ⊤, ℕ, ◌+◌, ◌-◌, ◌≤◌, nat_le, Bool, ◌&&◌, List, [], ◌∷◌}
+use Rattle.std.specs.Prelude.{◌≡◌, ℕ, ◌+◌, ◌-◌, ◌≤◌, nat_le, Bool, ◌&&◌, List, [], ◌∷◌}
 use Rattle.std.specs.Prelude.{length, take, Option, Some, None, Result, Ok, Err, IsOk, ◌⊎◌}
 use Rattle.std.specs.Prelude.{if◌then◌else◌}
 use Rattle.std.specs.List.{list_all}
 use Rattle.std.specs.Char.{is_ascii_digit}
 use Rattle.std.specs.Str.Parse.{digits_value}
 use Rattle.csv.specs.Reading.{default_config, records, strip_bom}
-use Rattle.csv.specs.declared.error.ErrorKind as kind
 use Rattle.card_no.specs.Prefix.{is_prefix_text}
 use Rattle.card_no.specs.Ranges.{is_issuer}
 use Rattle.card_no.specs.RangeChanges.{added}
 use Rattle.card_no.specs.declared.range.Range.{Range}
 use Rattle.card_no.specs.declared.range_fault.RangeFault.{RangeFault}
-use Rattle.card_no.specs.declared.range_fault.RangeFault.TheVariants.{Memory, BadRange, Overlap}
-use Rattle.card_no.specs.declared.range_fault.RangeFault.TheVariants.{NoSuchRange, BadLine}
+use Rattle.card_no.specs.declared.range_fault.RangeFault.TheVariants.{Memory, BadLine}
 
 -- one or two digits
 abbrev pub is_days_text : List ℕ → Bool
@@ -76,17 +74,16 @@ StopsBefore n text =
     (1 ≤ n) × (n ≤ length (records_of text) + 1)
     × IsOk (with_records 1 [] (take (n - 1) (records_of text)))
 
--- What a reader of this text results in: its list; or memory ran out; or the fault of its first
--- record refused; or, where a read failed, the number of the record that could not be had.
-abbrev pub ReadsRanges : List ℕ → Result (List Range) RangeFault → Type 0
-ReadsRanges text (Ok ranges) = ranges_of_text text ≡ Ok ranges
-ReadsRanges text (Err Memory) = ⊤
-ReadsRanges text (Err BadRange) = ranges_of_text text ≡ Err BadRange
-ReadsRanges text (Err (Overlap r)) = ranges_of_text text ≡ Err (Overlap r)
-ReadsRanges text (Err NoSuchRange) = ranges_of_text text ≡ Err NoSuchRange
-ReadsRanges text (Err (BadLine n)) = (ranges_of_text text ≡ Err (BadLine n)) ⊎ StopsBefore n text
+-- What a text in memory results in: its list, or the fault of its first record refused; or memory
+-- ran out.
+abbrev pub ReadsText : List ℕ → Result (List Range) RangeFault → Type 0
+ReadsText text result = (result ≡ ranges_of_text text) ⊎ (result ≡ Err Memory)
 
--- why record n could not be had, by the kind of the error: want of memory, or else a bad line
-abbrev pub read_fault_of : kind.ErrorKind → ℕ → RangeFault
-read_fault_of kind.TheVariants.OutOfMemory n = Memory
-read_fault_of other n = BadLine n
+-- The number of a record that could not be had.
+abbrev pub MissesRecord : List ℕ → Result (List Range) RangeFault → Type 0
+MissesRecord text result = (n : ℕ) × (result ≡ Err (BadLine n)) × StopsBefore n text
+
+-- What a reader of this text results in: what the text does in memory; or, where a read failed, the
+-- number of the record that could not be had.
+abbrev pub ReadsRanges : List ℕ → Result (List Range) RangeFault → Type 0
+ReadsRanges text result = ReadsText text result ⊎ MissesRecord text result

@@ -12,6 +12,7 @@ mod range_fault;
 mod range_file;
 mod range_list;
 mod range_text;
+mod read_stop;
 mod track2;
 
 pub use card_number::CardNumber;

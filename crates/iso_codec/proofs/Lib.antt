@@ -17,3 +17,4 @@ pub mod SpellingComputes
 pub mod SelectedElements
 pub mod PlacesOfFaults
 pub mod PlacesOfPieces
+pub mod ShownSizes

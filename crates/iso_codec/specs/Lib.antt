@@ -5,6 +5,7 @@ pub mod Faults
 pub mod FaultTexts
 pub mod Setting
 pub mod Span
+pub mod Shown
 pub mod Reading
 pub mod FaultPlaces
 pub mod Examples

@@ -50,14 +50,18 @@ impl Model for Message {
 /// The type, and each element's number and length. No content is printed, since it may be a card
 /// number or a track.
 impl fmt::Debug for Message {
+    ghost use Rattle.std.specs.Prelude.{Some};
+    ghost use Rattle.iso_codec.specs.Shown.{shown_message};
+
+    ghost debug_output = { λ m. Some (shown_message m) };
+
     fn fmt<W: fmt::Write>(&self, f: &mut fmt::Formatter<W>) -> fmt::Result {
-        let [a, b, c, d] = self.kind;
-        write!(
-            f,
-            "Message({}{}{}{}",
-            a as char, b as char, c as char, d as char
-        )?;
-        for span in self.spans.as_slice() {
+        let Ok(kind) = str::from_utf8(&self.kind) else {
+            unreachable!();
+        };
+        write!(f, "Message({kind}")?;
+        let spans = self.spans.as_slice();
+        for span in spans {
             write!(f, ", {}: {} bytes", span.number, span.len)?;
         }
         write!(f, ")")

@@ -1,4 +1,4 @@
-//! A file of ranges whose reads fail in turn.
+//! Files of ranges: one whose reads fail in turn, and one in memory.
 
 use card_no::{RangeFault, RangeList};
 use std::io;
@@ -54,5 +54,12 @@ fn each_read_failing(rt: HostRuntime) {
     assert!(rt; outcome(&read) == (23, 3));
     let fails = usize::MAX;
     let read = RangeList::read_csv(rt.alloc(), Failing { text, at: 0, fails });
+    assert!(rt; outcome(&read) == (0, 2));
+}
+
+#[test]
+fn a_file_in_memory(rt: HostRuntime) {
+    let text = b"40000000,49999999,12345,7\n50000000,59999999,67890,1\n".as_slice();
+    let read = RangeList::from_csv(rt.alloc(), text);
     assert!(rt; outcome(&read) == (0, 2));
 }

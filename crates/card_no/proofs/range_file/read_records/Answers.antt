@@ -2,8 +2,7 @@ use Rattle.std.proofs.Common.{◌∙◌, inl}
 use Rattle.std.proofs.lemmas.Result.{err_from_is_err_and}
 use Rattle.csv.specs.Records.{fields_of}
 use Rattle.card_no.proofs.FileRecords.{stands-start, stands-more, stands-end, stands-stopped}
-use Rattle.card_no.proofs.FileRecords.{reads-failed}
-use Rattle.card_no.proofs.FileRecords.{reads-stopped}
+use Rattle.card_no.proofs.FileRecords.{stops-refused, stops-unread}
 use Rattle.card_no.proofs.range_file.read_records.Goals as goal
 
 pub loop-number-init : goal.loop-number-init
@@ -35,7 +34,7 @@ returns-in_err-add_record-in-Ok-true g c = λ text left.
     let read = rw c.in-Ok-true.field-0-test at (c.in-Ok-true.ensures.reads inv.trim inv.ready) in
     let p = err_from_is_err_and c.from_residual.result c.from_residual.ensures.1 in
     rw (p.1, p.2)
-    (reads-failed g.R.Read.remaining text c.loop-number.records c.read_byte_record.new.self
+    (stops-refused g.R.Read.remaining text c.loop-number.records c.read_byte_record.new.self
     c.loop-number.ranges c.loop-number.number
     (fields_of c.read_byte_record.new.row) _ (inv.known text left) inv.config read
     c.in_err-add_record-in-Ok-true.ensures.fault)
@@ -51,6 +50,6 @@ returns-in-Ok-false g c = λ text left.
 
 pub returns-in-Err : goal.returns-in-Err
 returns-in-Err g c = λ text left.
-    reads-stopped text c.loop-number.number c.read_fault.result
+    stops-unread text c.loop-number.number c.unread.result
     (stands-stopped text _ _ _ _ (c.loop-number.invariant.known text left))
-    c.read_fault.ensures.either
+    c.unread.ensures.either
