@@ -9,6 +9,7 @@ ghost use Rattle.acq_front.specs.Exchanges.{EndsInFirst, EndsWith, Goes, IfWaits
 ghost use Rattle.acq_front.specs.Exchanges.{late_fault, tells_end};
 ghost use Rattle.acq_front.specs.Faults.{IfStore, UnlessRefused, failed_reads, failed_writes};
 ghost use Rattle.acq_front.specs.Serving.{HoldsFrame};
+ghost use Rattle.acq_front.specs.Stops.{left_of};
 
 use crate::conversation::Conversation;
 use crate::line::Line;
@@ -63,7 +64,7 @@ impl<L: Line> Exchange<L> {
     ) -> Result<Round, FrontFault>
         ensures goes { B.is_honest host.new → B.is_open host.old → UnlessRefused result
             (Goes (C.may_give clock.old) (I.may_say issuer.old) (B.tables host.old)
-            (B.tables host.new) (passed L.received L.sent self.old)
+            (left_of B.Book host.new) (passed L.received L.sent self.old)
             (passed L.received L.sent self.new)) }
         ensures ends { EndsWith (held_of self.new) (unsent_of self.new) result }
         // The end is told exactly where the line ended, and a fault of reading or writing where a
