@@ -18,7 +18,7 @@ use Rattle.acq_front.specs.Exchanges.{EndsInFirst, EndsWith, FollowsLog, Goes, I
 use Rattle.acq_front.specs.Exchanges.{tells_end}
 use Rattle.acq_front.specs.Log.{Entry}
 use Rattle.acq_front.specs.Ends.{Steps, StopsAt}
-use Rattle.acq_front.specs.Faults.{UnlessRefused, failed_reads, failed_writes}
+use Rattle.acq_front.specs.Faults.{IfRefused, UnlessRefused, failed_reads, failed_writes}
 use Rattle.acq_front.specs.declared.round.Round.{Round}
 use Rattle.acq_front.specs.declared.turn.Turn.TheVariants.{Took}
 use Rattle.acq_front.proofs.Following.{follows_fed, follows_written, follows_took}
@@ -33,6 +33,29 @@ unless_refused (Err fault.TheVariants.Ended) h = h
 unless_refused (Err (fault.TheVariants.Undecodable u)) h = h
 unless_refused (Err fault.TheVariants.Read) h = h
 unless_refused (Err (fault.TheVariants.Write n)) h = h
+
+-- nothing was refused
+pub unrefused : {X : Type 0} (r : Result X fault.FrontFault) (p : fault.FrontFault → Type 0) →
+    IfRefused r (λ f. ⊥) → IfRefused r p
+unrefused (Ok x) p h = tt
+unrefused (Err fault.TheVariants.Memory) p h = absurd h
+unrefused (Err fault.TheVariants.Store) p h = absurd h
+unrefused (Err fault.TheVariants.BadLength) p h = tt
+unrefused (Err fault.TheVariants.Ended) p h = tt
+unrefused (Err (fault.TheVariants.Undecodable u)) p h = tt
+unrefused (Err fault.TheVariants.Read) p h = tt
+unrefused (Err (fault.TheVariants.Write n)) p h = tt
+
+-- what holds of any fault
+pub if_refused : (X : Type 0) (f : fault.FrontFault) (p : fault.FrontFault → Type 0) → p f →
+    IfRefused {X = X} (Err f) p
+if_refused X fault.TheVariants.Memory p h = h
+if_refused X fault.TheVariants.Store p h = h
+if_refused X fault.TheVariants.BadLength p h = tt
+if_refused X fault.TheVariants.Ended p h = tt
+if_refused X (fault.TheVariants.Undecodable u) p h = tt
+if_refused X fault.TheVariants.Read p h = tt
+if_refused X (fault.TheVariants.Write n) p h = tt
 
 -- where a turn stopped the connection, so does the round
 pub stops_ends : (held unsent : List ℕ) (f : fault.FrontFault) → StopsAt held unsent (Err f) →

@@ -1,16 +1,17 @@
-use Rattle.std.proofs.Common.{rules, ◌≡◌, ◌∙◌, [], Ok, refl, subst}
+use Rattle.std.proofs.Common.{rules, ◌≡◌, ◌∙◌, [], Ok, Err, refl, subst}
 use Rattle.std.proofs.lemmas.Result.{err_from_is_err_and}
 use Rattle.std.specs.Prelude.{Result}
 use Rattle.acq_front.specs.declared.front_fault.FrontFault as fault
 use Rattle.acq_front.specs.Ends as turns
 use Rattle.acq_front.specs.Ends.{Steps}
+use Rattle.acq_front.specs.declared.round.Round.{Round}
 use Rattle.acq_front.specs.declared.turn.Turn.{Turn}
 use Rattle.acq_front.specs.declared.turn.Turn.TheVariants.{Took, Waits}
 use Rattle.acq_front.specs.Stops.{left_of}
 use Rattle.acq_front.specs.Exchanges.{held_of, unsent_of, hand_of, gone_of}
 use Rattle.acq_front.proofs.StopsLeave.{none_stop}
 use Rattle.acq_front.proofs.Rounds.{first_none, none_left, reads_on, stops, stops_ends, takes_on}
-use Rattle.acq_front.proofs.Rounds.{unless_refused, writes_on}
+use Rattle.acq_front.proofs.Rounds.{if_refused, unless_refused, unrefused, writes_on}
 use Rattle.acq_front.proofs.exchange.Exchange.round.Goals as goal
 
 pub returns-then-not-is_empty-clause-goes : goal.returns-then-not-is_empty-clause-goes
@@ -106,3 +107,19 @@ pub returns-in-Waits-clause-in_hand : goal.returns-in-Waits-clause-in_hand
 returns-in-Waits-clause-in_hand g c = λ first.
     first_none (g.L.Line.sent c.receive.new.self.line) (hand_of c.receive.new.self)
     (gone_of c.receive.new.self) (c.receive.ensures.gone ∙ c.turn.ensures.gone)
+
+pub returns-then-not-is_empty-clause-refused : goal.returns-then-not-is_empty-clause-refused
+returns-then-not-is_empty-clause-refused g c = λ h o.
+    unrefused c.send.result _ c.send.ensures.unrefused
+
+pub returns-in_err-turn-clause-refused : goal.returns-in_err-turn-clause-refused
+returns-in_err-turn-clause-refused g c = λ h o.
+    let p = err_from_is_err_and c.from_residual.result c.from_residual.ensures.1 in
+    rw (p.1, p.2) (if_refused Round c.in_err-turn.field-0.0 (λ f. Steps (g.C.Clock.may_give c.args.clock.now)
+    (g.I.Issuer.may_say c.args.issuer.now) (g.B.Book.tables c.args.host.now)
+    (left_of g.B.Book c.turn.new.host) (held_of c.args.self.now) (turns.held_of c.turn.new.self)
+    (turns.unsent_of c.turn.new.self) (Err f)) (c.in_err-turn.ensures.steps h o))
+
+pub returns-in-Waits-clause-refused : goal.returns-in-Waits-clause-refused
+returns-in-Waits-clause-refused g c = λ h o.
+    unrefused c.receive.result _ c.receive.ensures.unrefused
