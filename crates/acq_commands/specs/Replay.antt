@@ -96,3 +96,15 @@ abbrev pub AfterReading : Result (Unit {0}) fault.Fault → Type 0 → Type 0
 AfterReading (Err fault.TheVariants.Memory) whole = Unit {0}
 AfterReading (Err fault.TheVariants.Read) whole = Unit {0}
 AfterReading other whole = whole
+
+-- The book took so many first events of a text, or none where it reads as none. A stop leaves these,
+-- or these and the next.
+pub record TakesUpTo {S : Type 0} (book : Course S) (text : List ℕ) : Type 0 where
+  pub events : List Event
+  pub spelled : (events_of_text text ≡ Ok events) ⊎ (events ≡ [])
+  pub taken : ℕ
+  pub leads : (left_after book).is_open →
+      (left_after book).tables ≡ after_first taken (tables_before book) events
+  pub stop : StopLeaves (left_after book)
+      (λ t. (t ≡ after_first taken (tables_before book) events)
+      ⊎ (t ≡ after_first (taken + 1) (tables_before book) events))

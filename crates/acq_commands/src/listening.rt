@@ -3,7 +3,7 @@
 ghost use Rattle.std.specs.Prelude.{◌≡◌, ◌++◌, ℕ, OnOk};
 ghost use Rattle.acq_core.specs.Pasts.{HasPast};
 ghost use Rattle.acq_front.specs.Stops.{left_of};
-ghost use Rattle.acq_commands.specs.Listening.{ReachedUnlessRefused, Served, ServesConnections};
+ghost use Rattle.acq_commands.specs.Listening.{ReachesBy, Served, ServesConnections};
 ghost use Rattle.acq_commands.specs.Listening.{ServesOne, going_on, told_line, traffic};
 ghost use Rattle.acq_commands.specs.Listening.{with_served};
 
@@ -56,9 +56,9 @@ pub fn listen_together_on<B: Book + Drop, N: Gathering, C: Clock, I: Issuer, F: 
     faults: &mut F,
 ) -> (B, Result<(), Fault>)
     requires past { B.is_open book → HasPast (B.tables book) }
-    // The book that is left has what it had, and what the host took.
-    ensures reached { B.is_honest result.0 → B.is_open book
-        → ReachedUnlessRefused (B.tables book) (B.tables result.0) result.1 }
+    // The book that is left has what it had, and what the host took; and what a stop may leave.
+    ensures reaches { B.is_honest result.0 → B.is_open book
+        → ReachesBy (B.tables book) (left_of B.Book result.0) result.1 }
 {
     let mut host = Host::new(alloc, book);
     let ended = gathering.serve_all(alloc, &mut host, count, clock, issuer, faults);
