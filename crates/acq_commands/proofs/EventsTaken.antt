@@ -26,7 +26,8 @@ module _ {S : Type 0} (book : Ghosts S) (settled : LeavesTables book) where
       let still = took.stays_open honest opened in
       record {
         tables = λ t l. settled b still t l
-            ∙ (took.leads honest opened ∙ ap (tables_after (book.tables a)) (take_all at events all));
+            ∙ (took.leads honest opened
+            ∙ ap (tables_after (book.tables a)) (take_all at events all));
         stored = stored b still;
       }
 

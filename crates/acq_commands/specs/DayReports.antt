@@ -69,7 +69,8 @@ pub record TakesEvents (old : Tables) (left : Left) (text : List ℕ) : Type 0 w
   pub leads : left.tables ≡ tables_after old events
   pub stop : LeavesAll left old events
 
--- So many first events were taken, and not the next one. A stop leaves these, or these and the next.
+-- So many first events were taken, and not the next one. A stop leaves these, or these and the
+-- next.
 pub record TakesFirst (old : Tables) (left : Left) (events : List Event) : Type 0 where
   pub taken : ℕ
   pub in_hand : taken < length events

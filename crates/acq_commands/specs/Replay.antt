@@ -97,8 +97,8 @@ AfterReading (Err fault.TheVariants.Memory) whole = Unit {0}
 AfterReading (Err fault.TheVariants.Read) whole = Unit {0}
 AfterReading other whole = whole
 
--- The book took so many first events of a text, or none where it reads as none. A stop leaves these,
--- or these and the next.
+-- The book took so many first events of a text, or none where it reads as none. A stop leaves
+-- these, or these and the next.
 pub record TakesUpTo {S : Type 0} (book : Course S) (text : List ℕ) : Type 0 where
   pub events : List Event
   pub spelled : (events_of_text text ≡ Ok events) ⊎ (events ≡ [])

@@ -220,8 +220,8 @@ module _ (S : Saying) where
         stop = subst (LeavesAll now old) (sym talked) took.stop;
       }
 
-  answers_all : {old : Tables} {now : Left} {c : Connection} {held : List ℕ} → Going S old now c held →
-      AllAnswered S old now c
+  answers_all : {old : Tables} {now : Left} {c : Connection} {held : List ℕ} →
+      Going S old now c held → AllAnswered S old now c
   answers_all so = all_answered so.events so.took so.written
 
   -- no message could be taken out of the stream
@@ -392,8 +392,8 @@ module _ (S : Saying) where
           came = took.came;
           read = all_read c.messages m.message so.read cut.reads;
           tables = led;
-          alone = ran_alone old now.tables (talk old with_it.messages with_it.moments with_it.verdicts)
-              led;
+          alone = ran_alone old now.tables
+              (talk old with_it.messages with_it.moments with_it.verdicts) led;
           said = subst (λ (es : List Event). AreSaid S (queries old es) with_it.verdicts)
               (sym talked) took.said;
           earlier = replies old so.events;

@@ -1,6 +1,6 @@
 -- What a stop leaves where an event was taken, or refused, or nothing was taken.
-use Rattle.std.proofs.Common.{◌≡◌, true, false, List, [], ◌∷◌, ◌++◌, ⊎_elim, inl, inr, refl, sym, ap, ◌∙◌}
-use Rattle.std.proofs.Common.{append_assoc, subst}
+use Rattle.std.proofs.Common.{◌≡◌, true, false, List, [], ◌∷◌, ◌++◌, ⊎_elim, inl, inr, refl, sym}
+use Rattle.std.proofs.Common.{ap, ◌∙◌, append_assoc}
 use Rattle.acq_core.specs.declared.event.Event.{Event}
 use Rattle.acq_core.specs.Arrivals.{arrival_of}
 use Rattle.acq_core.specs.Tables.{Tables, step_tables, tables_after}
@@ -38,7 +38,8 @@ module _ {S : Type 0} (book : Ghosts S) where
 module _ (left : Left) (old mid : Tables) (events : List Event) (at : mid ≡ tables_after old events)
   where
     moved : (made : List Event) → tables_after mid made ≡ tables_after old (events ++ made)
-    moved made = ap (λ (t : Tables). tables_after t made) at ∙ sym (tables_after-append old events made)
+    moved made = ap (λ (t : Tables). tables_after t made) at
+        ∙ sym (tables_after-append old events made)
 
     pub all_behind : (made : List Event) → LeavesAll left mid made →
         LeavesAll left old (events ++ made)

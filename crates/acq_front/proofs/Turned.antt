@@ -20,8 +20,8 @@ use Rattle.acq_front.specs.declared.front_fault.FrontFault as fault
 use Rattle.acq_front.specs.Faults.{of_book, IfStore}
 use Rattle.acq_front.specs.Stops.{Left, LeavesAll, LeavesSome}
 use Rattle.acq_front.specs.Talk.{Saying, reply_in, replies}
-use Rattle.acq_front.specs.Turns.{is_read, Incoming, TookMessage, TookNone, TookAllButAnswer, Answered}
-use Rattle.acq_front.specs.Turns.{Refused, Said, Takes, Turns, ReplyFits, Sends, SendsReply}
+use Rattle.acq_front.specs.Turns.{is_read, Incoming, TookMessage, TookNone, TookAllButAnswer}
+use Rattle.acq_front.specs.Turns.{Answered, Refused, Said, Takes, Turns, ReplyFits, Sends, SendsReply}
 use Rattle.acq_front.specs.Outgoing.{frame_said}
 use Rattle.acq_front.proofs.Reading.{undecodable_is, reads}
 use Rattle.acq_front.proofs.MessagesTaken.{AsksNothing, makes_asking, replies_one, replies_two}
@@ -74,7 +74,8 @@ book_stops may_say book.TheVariants.Memory old left m refused = refused
 book_stops may_say book.TheVariants.Store old left m refused = refused
 
 -- where a message was not taken, or didn't read, nothing goes out
-pub take_stops : (may_say : Saying) (old : Tables) (left : Left) (m : Incoming) (f : fault.FrontFault) → Takes may_say old left m (Err f) →
+pub take_stops : (may_say : Saying) (old : Tables) (left : Left) (m : Incoming)
+    (f : fault.FrontFault) → Takes may_say old left m (Err f) →
     Turns may_say old left m [] (Err f)
 take_stops may_say old left m fault.TheVariants.Memory h = h
 take_stops may_say old left m fault.TheVariants.Store h = h
@@ -84,7 +85,8 @@ take_stops may_say old left m (fault.TheVariants.Undecodable u) h = h
 take_stops may_say old left m fault.TheVariants.Read h = absurd h
 take_stops may_say old left m (fault.TheVariants.Write n) h = absurd h
 
-module _ (may_say : Saying) (old : Tables) (left : Left) (m : Incoming) (events : List Event) (reads : is_read m.message ≡ true)
+module _ (may_say : Saying) (old : Tables) (left : Left) (m : Incoming) (events : List Event)
+    (reads : is_read m.message ≡ true)
     (took : TookMessage may_say old left m events) where
   -- a reply's frame went out, or its first bytes
   reply_sent : (text before now : List ℕ) (r : Result (Unit {0}) fault.FrontFault) →
@@ -144,7 +146,8 @@ module _ (may_say : Saying) (old : Tables) (left : Left) (m : Incoming) (events 
   said_sent o before now (Err f) are fits sent = absurd sent
 
 -- what the host said last was sent, if it is a reply
-pub was_sent : (may_say : Saying) (old : Tables) (left : Left) (m : Incoming) (o : Output) (before now : List ℕ) (r : Result (Unit {0}) fault.FrontFault) →
+pub was_sent : (may_say : Saying) (old : Tables) (left : Left) (m : Incoming) (o : Output)
+    (before now : List ℕ) (r : Result (Unit {0}) fault.FrontFault) →
     Said may_say old left m o → SendsReply o before now r →
     (out : List ℕ) × (now ≡ before ++ out) × Turns may_say old left m out r
 was_sent may_say old left m o before now r s sent =
@@ -152,7 +155,8 @@ was_sent may_say old left m o before now r s sent =
     sent
 
 -- what the host said last is held as a frame, if it is a reply
-pub was_held : (may_say : Saying) (old : Tables) (left : Left) (m : Incoming) (o : Output) → Said may_say old left m o →
+pub was_held : (may_say : Saying) (old : Tables) (left : Left) (m : Incoming) (o : Output) →
+    Said may_say old left m o →
     Turns may_say old left m (frame_said o) (Ok tt)
 was_held may_say old left m o s = (
   record { events = s.events; took = s.took; written = frames_held o s.replied s.fits },

@@ -98,8 +98,8 @@ module _ (may_give : ℕ → Type 0) (may_say : Saying) (old : Tables) (left : L
     pub took : TookMessage may_say old left
         (record { message = message; moments = moments; verdicts = verdicts }) events
 
-  -- A round: the host took nothing, or the events of one message, and a stop leaves them; and behind
-  -- any log, by whichever connections its events came, the connection goes on to follow it.
+  -- A round: the host took nothing, or the events of one message, and a stop leaves just these; and
+  -- behind any log, by whichever connections its events came, the connection goes on to follow it.
   pub record Goes (before after : Passed) : Type 0 where
     pub events : List Event
     pub took : (events ≡ []) ⊎ TookOne events

@@ -75,8 +75,8 @@ returns-in-Waits-clause-goes g c = λ h o.
     c.if-not-is_empty.false c.unsent.ensures in
     let waits : c.turn.result ≡ Ok Waits = search rules in
     let turned = subst (λ (r : Result Turn fault.FrontFault). Steps give say
-    (g.B.Book.tables c.args.host.now) (left_of g.B.Book c.turn.new.host) (held_of it) (turns.held_of c.turn.new.self)
-    (turns.unsent_of c.turn.new.self) r) waits
+    (g.B.Book.tables c.args.host.now) (left_of g.B.Book c.turn.new.host) (held_of it)
+    (turns.held_of c.turn.new.self) (turns.unsent_of c.turn.new.self) r) waits
     (c.turn.ensures.steps h o) in
     let came = c.receive.ensures.received in
     unless_refused c.receive.result
@@ -115,7 +115,8 @@ returns-then-not-is_empty-clause-refused g c = λ h o.
 pub returns-in_err-turn-clause-refused : goal.returns-in_err-turn-clause-refused
 returns-in_err-turn-clause-refused g c = λ h o.
     let p = err_from_is_err_and c.from_residual.result c.from_residual.ensures.1 in
-    rw (p.1, p.2) (if_refused Round c.in_err-turn.field-0.0 (λ f. Steps (g.C.Clock.may_give c.args.clock.now)
+    rw (p.1, p.2) (if_refused Round c.in_err-turn.field-0.0
+    (λ f. Steps (g.C.Clock.may_give c.args.clock.now)
     (g.I.Issuer.may_say c.args.issuer.now) (g.B.Book.tables c.args.host.now)
     (left_of g.B.Book c.turn.new.host) (held_of c.args.self.now) (turns.held_of c.turn.new.self)
     (turns.unsent_of c.turn.new.self) (Err f)) (c.in_err-turn.ensures.steps h o))
