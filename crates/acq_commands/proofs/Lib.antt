@@ -1,3 +1,4 @@
+pub mod EventsTaken
 pub mod ConnectionsServed
 pub mod FramesInOrder
 pub mod LinesWritten

@@ -2,6 +2,7 @@
 use Rattle.std.proofs.Common.{◌≡◌, List, ℕ, inl, inr, subst, sym}
 use Rattle.std.specs.Prelude.{Result, Ok, Err, IfErr, OnOk}
 use Rattle.acq_core.specs.Tables.{Opening, Tables, new_tables}
+use Rattle.acq_front.specs.Stops.{open_at}
 use Rattle.acq_reports.specs.declared.report_fault.ReportFault.{ReportFault}
 use Rattle.acq_commands.specs.declared.day_report.DayReport.{DayReport}
 use Rattle.acq_commands.specs.declared.fault.Fault.{Fault}
@@ -13,7 +14,7 @@ use Rattle.acq_commands.specs.Runs.{EndsReports}
 pub ends_reports : (opening : Opening) (book : Tables) (reports : List DayReport)
     (text sent after : List ℕ)
     (taken ended : Result (Unit {0}) Fault)
-    → Takes (λ t. t) (λ t. Unit {0}) (new_tables opening) book text taken
+    → Takes (record { left = open_at; old = new_tables opening; new = book }) text taken
     → IfErr taken (λ cause. (ended ≡ Err cause) × (after ≡ sent))
     → OnOk taken (Unit {0} → Unit {0} →
     (written : Result (Unit {0}) ReportFault) × (ended ≡ told written)

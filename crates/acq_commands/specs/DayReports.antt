@@ -1,9 +1,11 @@
 -- Reports on days, one after the other, over any book.
-use Rattle.std.specs.Prelude.{◌≡◌, ◌⊎◌, ℕ, List, ◌∷◌, ◌++◌, flat_map, None, Result, Ok, Err}
+use Rattle.std.specs.Prelude.{◌≡◌, ◌⊎◌, ℕ, ◌+◌, ◌<◌, List, ◌∷◌, ◌++◌, length, flat_map, None}
+use Rattle.std.specs.Prelude.{Result, Ok, Err}
 use Rattle.std.specs.List.{All}
 use Rattle.acq_core.specs.declared.event.Event.{Event}
 use Rattle.acq_core.specs.Tables.{Tables, tables_after}
 use Rattle.acq_host.specs.Runs.{after_first}
+use Rattle.acq_front.specs.Stops.{Left, LeavesAll, StopLeaves}
 use Rattle.acq_out.specs.EventLines.{events_of_text}
 use Rattle.acq_reports.specs.ClearingFile.{clearing_text}
 use Rattle.acq_reports.specs.SettlementReport.{settlement_text}
@@ -15,6 +17,7 @@ use Rattle.acq_commands.specs.declared.report_kind.ReportKind.{ReportKind}
 use Rattle.acq_commands.specs.declared.report_kind.ReportKind.TheVariants.{Clearing, Settlement}
 use Rattle.acq_commands.specs.declared.fault.Fault as fault
 use Rattle.acq_commands.specs.Faults.{of_report}
+use Rattle.acq_commands.specs.Streams.{Course, left_after, tables_before}
 
 -- what is written of a day
 abbrev pub text_on : ReportKind → Tables → ℕ → List ℕ
@@ -59,35 +62,39 @@ told (Err cause) = Err (of_report cause)
 
 -- ---- the events before them
 
--- all events of a text were taken
-pub record TakesEvents (t now : Tables) (text : List ℕ) : Type 0 where
+-- all events of a text were taken, and a stop leaves them
+pub record TakesEvents (old : Tables) (left : Left) (text : List ℕ) : Type 0 where
   pub events : List Event
   pub spelled : events_of_text text ≡ Ok events
-  pub leads : now ≡ tables_after t events
+  pub leads : left.tables ≡ tables_after old events
+  pub stop : LeavesAll left old events
+
+-- So many first events were taken, and not the next one. A stop leaves these, or these and the
+-- next.
+pub record TakesFirst (old : Tables) (left : Left) (events : List Event) : Type 0 where
+  pub taken : ℕ
+  pub in_hand : taken < length events
+  pub leads : left.is_open → left.tables ≡ after_first taken old events
+  pub stop : StopLeaves left
+      (λ t. (t ≡ after_first taken old events) ⊎ (t ≡ after_first (taken + 1) old events))
 
 -- some first events of a text were taken
-pub record TakesSome {S : Type 0} (tables : S → Tables) (is_open : S → Type 0) (old new : S)
-    (text : List ℕ) : Type 0 where
+pub record TakesSome {S : Type 0} (book : Course S) (text : List ℕ) : Type 0 where
   pub events : List Event
   pub spelled : events_of_text text ≡ Ok events
-  pub taken : ℕ
-  pub leads : is_open new → tables new ≡ after_first taken (tables old) events
+  pub first : TakesFirst (tables_before book) (left_after book) events
 
 -- Why not all events of a text were taken: a bad line, or a read that failed, before the first; or
 -- memory ran out or the store failed, after some.
-abbrev pub StopsTaking : {S : Type 0} → (S → Tables) → (S → Type 0) → S → S → List ℕ
-    → fault.Fault → Type 0
-StopsTaking tables is_open old new text (fault.TheVariants.BadLine n) =
-    (events_of_text text ≡ Err n) × (new ≡ old)
-StopsTaking tables is_open old new text fault.TheVariants.Read = new ≡ old
-StopsTaking tables is_open old new text fault.TheVariants.Memory =
-    (new ≡ old) ⊎ TakesSome tables is_open old new text
-StopsTaking tables is_open old new text fault.TheVariants.Store =
-    TakesSome tables is_open old new text
-StopsTaking tables is_open old new text other = ⊥
+abbrev pub StopsTaking : {S : Type 0} → Course S → List ℕ → fault.Fault → Type 0
+StopsTaking book text (fault.TheVariants.BadLine n) =
+    (events_of_text text ≡ Err n) × (book.new ≡ book.old)
+StopsTaking book text fault.TheVariants.Read = book.new ≡ book.old
+StopsTaking book text fault.TheVariants.Memory = (book.new ≡ book.old) ⊎ TakesSome book text
+StopsTaking book text fault.TheVariants.Store = TakesSome book text
+StopsTaking book text other = ⊥
 
 -- how the events of a text were taken
-abbrev pub Takes : {S : Type 0} → (S → Tables) → (S → Type 0) → S → S → List ℕ
-    → Result (Unit {0}) fault.Fault → Type 0
-Takes tables is_open old new text (Ok u) = TakesEvents (tables old) (tables new) text
-Takes tables is_open old new text (Err cause) = StopsTaking tables is_open old new text cause
+abbrev pub Takes : {S : Type 0} → Course S → List ℕ → Result (Unit {0}) fault.Fault → Type 0
+Takes book text (Ok u) = TakesEvents (tables_before book) (left_after book) text
+Takes book text (Err cause) = StopsTaking book text cause

@@ -1,10 +1,11 @@
 -- Connections that are served one after the other.
-use Rattle.std.specs.Prelude.{◌≡◌, ◌+◌, ℕ, List, [], ◌∷◌, ◌++◌, length, Result, Ok, Err}
+use Rattle.std.specs.Prelude.{◌≡◌, ◌≤◌, ◌+◌, ℕ, List, [], ◌∷◌, ◌++◌, length, Result, Ok, Err}
 use Rattle.std.specs.List.{All}
 use Rattle.acq_core.specs.declared.event.Event.{Event}
 use Rattle.acq_core.specs.Tables.{Tables, tables_after}
 use Rattle.acq_front.specs.Faults.{failed_reads, failed_writes}
 use Rattle.acq_front.specs.Serving.{Connection, Serves}
+use Rattle.acq_front.specs.Stops.{Left, LeavesAll, LeavesSome, open_at}
 use Rattle.acq_front.specs.Talk.{Saying}
 use Rattle.acq_front.specs.declared.front_fault.FrontFault as front
 use Rattle.acq_commands.specs.Faults.{fault_line, of_front}
@@ -62,34 +63,45 @@ traffic_after t (s ∷ later) = traffic_after (with_served t s) later
 
 module _ (may_give : ℕ → Type 0) (may_say : Saying) where
   -- one connection was served over the book at the old tables, at moments that may be given
-  abbrev pub ServesOne : Tables → Type 0 → Tables → Served → Type 0
-  ServesOne old stays_open new s =
-      All may_give s.connection.moments × Serves may_say old stays_open new s.connection s.ended
+  abbrev pub ServesOne : Tables → Left → Served → Type 0
+  ServesOne old left s =
+      All may_give s.connection.moments × Serves may_say old left s.connection s.ended
 
   -- these were served, each over the tables that the one before it left
   abbrev pub ServesEach : Tables → Tables → List Served → Type 0
   ServesEach old new [] = new ≡ old
   ServesEach old new (s ∷ later) =
-      (mid : Tables) × ServesOne old (Unit {0}) mid s × ServesEach mid new later
+      (mid : Tables) × ServesOne old (open_at mid) s × ServesEach mid new later
 
-  -- So many were served; or the last of them ended the program.
-  -- What passed over them is all that passed.
-  abbrev pub ServesConnections : Tables → Type 0 → Tables → (passed passes : Traffic) → ℕ →
+  -- So many were served, and a stop leaves the tables behind them; or the last of them ended the
+  -- program. What passed over them is all that passed.
+  abbrev pub ServesConnections : Tables → Left → (passed passes : Traffic) → ℕ →
       Result (Unit {0}) Fault → Type 0
-  ServesConnections old stays_open new passed passes count (Ok u) =
-      (all : List Served) × (length all ≡ count) × ServesEach old new all
-      × (passes ≡ traffic_after passed all)
-  ServesConnections old stays_open new passed passes count (Err fault) =
+  ServesConnections old left passed passes count (Ok u) =
+      (all : List Served) × (length all ≡ count) × ServesEach old left.tables all
+      × LeavesAll left left.tables [] × (passes ≡ traffic_after passed all)
+  ServesConnections old left passed passes count (Err fault) =
       (before : List Served) × (last : Served) × (mid : Tables) × ServesEach old mid before
-      × ServesOne mid stays_open new last × (going_on last.ended ≡ Err fault)
+      × ServesOne mid left last × (going_on last.ended ≡ Err fault)
       × (passes ≡ with_served (traffic_after passed before) last)
 
--- these tables are those after some events
-abbrev pub Reached : Tables → Tables → Type 0
-Reached old new = (events : List Event) × (new ≡ tables_after old events)
+-- the host took some events, and a stop leaves them
+pub record Reaches (old : Tables) (left : Left) : Type 0 where
+  pub events : List Event
+  pub tables : left.tables ≡ tables_after old events
+  pub stop : LeavesAll left old events
 
--- they are, where neither memory nor the store stopped the program
-abbrev pub ReachedUnlessRefused : Tables → Tables → Result (Unit {0}) Fault → Type 0
-ReachedUnlessRefused old new (Err Memory) = Unit {0}
-ReachedUnlessRefused old new (Err Store) = Unit {0}
-ReachedUnlessRefused old new other = Reached old new
+-- So it is, but memory or the store refused a call, perhaps with one more event in hand. A stop
+-- leaves the events that were taken, or these and the one in hand.
+pub record ReachesSome (old : Tables) (left : Left) : Type 0 where
+  pub events : List Event
+  pub in_hand : List Event
+  pub at_most_one : length in_hand ≤ 1
+  pub tables : left.is_open → left.tables ≡ tables_after old events
+  pub stop : LeavesSome left old events in_hand
+
+-- what the host took, by how the program ended
+abbrev pub ReachesBy : Tables → Left → Result (Unit {0}) Fault → Type 0
+ReachesBy old left (Err Memory) = ReachesSome old left
+ReachesBy old left (Err Store) = ReachesSome old left
+ReachesBy old left other = Reaches old left

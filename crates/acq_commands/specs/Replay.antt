@@ -8,7 +8,8 @@ use Rattle.acq_core.specs.Tables.{Tables, outputs, tables_after}
 use Rattle.acq_host.specs.Runs.{after_first}
 use Rattle.acq_out.specs.EventLines.{events_of_text}
 use Rattle.acq_out.specs.OutputLines.{line_of}
-use Rattle.acq_commands.specs.Streams.{Course, Stream}
+use Rattle.acq_front.specs.Stops.{LeavesAll, StopLeaves}
+use Rattle.acq_commands.specs.Streams.{Course, Stream, left_after, tables_before}
 use Rattle.acq_commands.specs.declared.fault.Fault as fault
 
 -- the lines of what the host says to events
@@ -32,26 +33,31 @@ Reaches said taken written part (fault.TheVariants.Write n) =
     (taken ≡ written + 1) × BeginsLine said written n part
 Reaches said taken written part other = ⊥
 
--- All events of a text were taken, and their lines written.
+-- All events of a text were taken, and a stop leaves them; and their lines were written.
 pub record ReplaysAll {S : Type 0} (book : Course S) (text : List ℕ) (sent : Stream) : Type 0 where
   pub events : List Event
   pub spelled : events_of_text text ≡ Ok events
-  pub lines_sent : sent.after ≡ sent.before ++ lines (book.tables book.old) events
-  pub leads : book.tables book.new ≡ tables_after (book.tables book.old) events
+  pub lines_sent : sent.after ≡ sent.before ++ lines (tables_before book) events
+  pub leads : (left_after book).tables ≡ tables_after (tables_before book) events
+  pub stop : LeavesAll (left_after book) (tables_before book) events
 
 -- So many first events were taken, and so many lines written whole, with a part of the next; and
--- an event was in hand.
+-- an event was in hand. A stop leaves the events that were taken, or these and the one in hand,
+-- where it wasn't.
 pub record Stops {S : Type 0} (book : Course S) (events : List Event) (sent : Stream)
     (cause : fault.Fault) : Type 0 where
   pub taken : ℕ
   pub written : ℕ
   pub part : List ℕ
   pub lines_sent :
-      sent.after ≡ sent.before ++ (lines (book.tables book.old) (take written events) ++ part)
+      sent.after ≡ sent.before ++ (lines (tables_before book) (take written events) ++ part)
   pub in_hand : written < length events
-  pub next : Reaches (outputs (book.tables book.old) events) taken written part cause
-  pub leads : book.is_open book.new →
-      book.tables book.new ≡ after_first taken (book.tables book.old) events
+  pub next : Reaches (outputs (tables_before book) events) taken written part cause
+  pub leads : (left_after book).is_open →
+      (left_after book).tables ≡ after_first taken (tables_before book) events
+  pub stop : StopLeaves (left_after book)
+      (λ t. (t ≡ after_first taken (tables_before book) events)
+      ⊎ ((taken ≡ written) × (t ≡ after_first (taken + 1) (tables_before book) events)))
 
 -- The faults that can stop the events of a text once they are read.
 abbrev pub StopsEvents : fault.Fault → Type 0
@@ -90,3 +96,15 @@ abbrev pub AfterReading : Result (Unit {0}) fault.Fault → Type 0 → Type 0
 AfterReading (Err fault.TheVariants.Memory) whole = Unit {0}
 AfterReading (Err fault.TheVariants.Read) whole = Unit {0}
 AfterReading other whole = whole
+
+-- The book took so many first events of a text, or none where it reads as none. A stop leaves
+-- these, or these and the next.
+pub record TakesUpTo {S : Type 0} (book : Course S) (text : List ℕ) : Type 0 where
+  pub events : List Event
+  pub spelled : (events_of_text text ≡ Ok events) ⊎ (events ≡ [])
+  pub taken : ℕ
+  pub leads : (left_after book).is_open →
+      (left_after book).tables ≡ after_first taken (tables_before book) events
+  pub stop : StopLeaves (left_after book)
+      (λ t. (t ≡ after_first taken (tables_before book) events)
+      ⊎ (t ≡ after_first (taken + 1) (tables_before book) events))

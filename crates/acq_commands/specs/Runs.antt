@@ -3,6 +3,7 @@ use Rattle.std.specs.Prelude.{◌≡◌, ◌⊎◌, ℕ, List, [], ◌∷◌, �
 use Rattle.std.specs.Prelude.{Result, Err, String}
 use Rattle.std.specs.declared.alloc.Global.{Global}
 use Rattle.acq_core.specs.Tables.{Opening, Tables, new_tables}
+use Rattle.acq_front.specs.Stops.{open_at}
 use Rattle.acq_reports.specs.declared.report_fault.ReportFault.{ReportFault}
 use Rattle.acq_commands.specs.declared.day_report.DayReport.{DayReport}
 use Rattle.acq_commands.specs.declared.fault.Fault.{Fault}
@@ -16,20 +17,21 @@ abbrev pub RunsLines : Opening → (received sent : Stream) → Result (Unit {0}
 RunsLines opening received sent ended =
     (text : List ℕ) × (book : Tables) × (received.after ≡ received.before ++ text)
     × Replays
-    (record { tables = λ t. t; is_open = λ t. Unit {0}; old = new_tables opening; new = book })
+    (record { left = open_at; old = new_tables opening; new = book })
     text sent ended
 
 -- what stops the event lines before any report is begun: nothing goes out
 abbrev pub StopsBefore : Opening → List ℕ → List ℕ → List ℕ → Fault → Type 0
 StopsBefore opening text sent sent_after cause =
-    (book : Tables) × StopsTaking (λ t. t) (λ t. Unit {0}) (new_tables opening) book text cause
+    (book : Tables)
+    × StopsTaking (record { left = open_at; old = new_tables opening; new = book }) text cause
     × (sent_after ≡ sent)
 
 -- Over the tables after all events of a text, these reports went out by the result.
 abbrev pub ReportsAfter : Opening → List DayReport → List ℕ → List ℕ → List ℕ
     → Result (Unit {0}) ReportFault → Type 0
 ReportsAfter opening reports text sent sent_after written =
-    (book : Tables) × TakesEvents (new_tables opening) book text
+    (book : Tables) × TakesEvents (new_tables opening) (open_at book) text
     × WritesReports book reports sent sent_after written
 
 -- The event lines of a text were stopped, or all were taken over a new book, and reports on it were

@@ -1,10 +1,11 @@
 //! What commands do with the book of a file.
 
-ghost use Rattle.std.specs.Prelude.{IfErr};
+ghost use Rattle.std.specs.Prelude.{◌≡◌, ◌++◌, ℕ, List, IfErr};
 ghost use Rattle.acq_core.specs.Pasts.{HasPast};
+ghost use Rattle.acq_front.specs.Stops.{left_of};
 ghost use Rattle.acq_link.specs.Moves.{TakesAll};
 ghost use Rattle.acq_commands.specs.Faults.{IsReporting};
-ghost use Rattle.acq_commands.specs.Replay.{AfterReading};
+ghost use Rattle.acq_commands.specs.Replay.{AfterReading, TakesUpTo};
 
 use crate::book_report::BookReport;
 use crate::day_report::DayReport;
@@ -31,6 +32,10 @@ pub fn replay_on<B: Book + Drop, S: Source, K: Sink, P: Progress>(
     progress: &mut P,
 ) -> (B, Result<(), Fault>)
     requires past { B.is_open book → HasPast (B.tables book) }
+    // What the book took of the events that were read, and what a stop may leave.
+    ensures takes { B.is_honest result.0 → B.is_open book → (text : List ℕ)
+        × (S.received input.new ≡ S.received input.old ++ text)
+        × TakesUpTo (record { left = left_of B.Book; old = book; new = result.0 }) text }
     // Unless memory ran out or a read failed, the whole input was read.
     ensures whole { AfterReading result.1
         (TakesAll (S.remaining input.old) (S.received input.old) (S.received input.new)) }

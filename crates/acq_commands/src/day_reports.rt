@@ -1,6 +1,6 @@
 //! Reports on days, one after the other.
 
-ghost use Rattle.std.specs.Prelude.{◌≡◌, ◌+◌, Err, IfErr, OnOk, Result};
+ghost use Rattle.std.specs.Prelude.{◌≡◌, ◌+◌, Bool, Err, IfErr, OnOk, Result};
 ghost use Rattle.acq_book.specs.Calls.{Looks};
 ghost use Rattle.acq_reports.specs.Faults.{IfStoreFailed, StoreFailed, failed_writes, is_settled};
 ghost use Rattle.acq_reports.specs.Refusals.{day_refusal};
@@ -69,6 +69,7 @@ pub(crate) fn report_if_taken<B: Book, K: Sink>(
 ) -> Result<(), Fault>
     ensures stopped { IfErr taken (λ cause. (result ≡ Err cause)
         × (K.sent output.new ≡ K.sent output.old)) }
+    ensures looks { (succeeded : Bool) × Looks B.Book book.old book.new succeeded }
     ensures written { OnOk taken (B.is_honest book.new → B.is_open book.old
         → (written : Result (Unit {0}) report_fault.ReportFault) × (result ≡ told written)
         × WritesReports (B.tables book.old) reports.now (K.sent output.old) (K.sent output.new)

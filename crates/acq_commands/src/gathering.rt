@@ -1,6 +1,7 @@
 //! Connections that are served at once.
 
-ghost use Rattle.acq_commands.specs.Listening.{ReachedUnlessRefused};
+ghost use Rattle.acq_front.specs.Stops.{left_of};
+ghost use Rattle.acq_commands.specs.Listening.{ReachesBy};
 
 use crate::fault::Fault;
 use acq_book::Book;
@@ -22,7 +23,8 @@ pub trait Gathering {
         issuer: &mut I,
         faults: &mut F,
     ) -> Result<(), Fault>
-        // The host took events, whichever they were, and nothing else happened to its tables.
-        ensures reached { B.is_honest host.new → B.is_open host.old
-            → ReachedUnlessRefused (B.tables host.old) (B.tables host.new) result };
+        // The host took events, whichever they were, and nothing else happened to its tables; and
+        // what a stop may leave.
+        ensures reaches { B.is_honest host.new → B.is_open host.old
+            → ReachesBy (B.tables host.old) (left_of B.Book host.new) result };
 }

@@ -2,7 +2,8 @@
 
 ghost use Rattle.std.specs.Prelude.{◌≡◌, ◌++◌, ℕ, OnOk};
 ghost use Rattle.acq_core.specs.Pasts.{HasPast};
-ghost use Rattle.acq_commands.specs.Listening.{ReachedUnlessRefused, Served, ServesConnections};
+ghost use Rattle.acq_front.specs.Stops.{left_of};
+ghost use Rattle.acq_commands.specs.Listening.{ReachesBy, Served, ServesConnections};
 ghost use Rattle.acq_commands.specs.Listening.{ServesOne, going_on, told_line, traffic};
 ghost use Rattle.acq_commands.specs.Listening.{with_served};
 
@@ -32,7 +33,7 @@ pub fn listen_on<B: Book + Drop, N: Connections, C: Clock, I: Issuer, F: Sink>(
     // How they were served, over the book that is left.
     ensures served { B.is_honest result.0 → B.is_open book
         → ServesConnections (C.may_give clock.old) (I.may_say issuer.old) (B.tables book)
-        (B.is_open result.0) (B.tables result.0)
+        (left_of B.Book result.0)
         (traffic N.received N.sent N.read_failures N.write_failures connections.old)
         (traffic N.received N.sent N.read_failures N.write_failures connections.new)
         count result.1 }
@@ -55,9 +56,9 @@ pub fn listen_together_on<B: Book + Drop, N: Gathering, C: Clock, I: Issuer, F: 
     faults: &mut F,
 ) -> (B, Result<(), Fault>)
     requires past { B.is_open book → HasPast (B.tables book) }
-    // The book that is left has what it had, and what the host took.
-    ensures reached { B.is_honest result.0 → B.is_open book
-        → ReachedUnlessRefused (B.tables book) (B.tables result.0) result.1 }
+    // The book that is left has what it had, and what the host took; and what a stop may leave.
+    ensures reaches { B.is_honest result.0 → B.is_open book
+        → ReachesBy (B.tables book) (left_of B.Book result.0) result.1 }
 {
     let mut host = Host::new(alloc, book);
     let ended = gathering.serve_all(alloc, &mut host, count, clock, issuer, faults);
@@ -76,7 +77,7 @@ fn serve_all<B: Book + Drop, N: Connections, C: Clock, I: Issuer, F: Sink>(
 ) -> Result<(), Fault>
     ensures served { B.is_honest host.new → B.is_open host.old
         → ServesConnections (C.may_give clock.old) (I.may_say issuer.old) (B.tables host.old)
-        (B.is_open host.new) (B.tables host.new)
+        (left_of B.Book host.new)
         (traffic N.received N.sent N.read_failures N.write_failures connections.old)
         (traffic N.received N.sent N.read_failures N.write_failures connections.new)
         count result }
@@ -98,7 +99,7 @@ fn serve_one<B: Book + Drop, N: Connections, C: Clock, I: Issuer, F: Sink>(
 ) -> Result<(), Fault>
     ensures served { B.is_honest host.new → B.is_open host.old → (s : Served)
         × ServesOne (C.may_give clock.old) (I.may_say issuer.old) (B.tables host.old)
-        (B.is_open host.new) (B.tables host.new) s
+        (left_of B.Book host.new) s
         × (traffic N.received N.sent N.read_failures N.write_failures connections.new
         ≡ with_served (traffic N.received N.sent N.read_failures N.write_failures connections.old)
         s)

@@ -2,6 +2,7 @@
 
 ghost use Rattle.std.specs.Prelude.{◌≡◌, ◌+◌, OnOk};
 ghost use Rattle.acq_core.specs.Pasts.{HasPast};
+ghost use Rattle.acq_front.specs.Stops.{left_of};
 ghost use Rattle.acq_link.specs.Moves.{TakesAll};
 ghost use Rattle.acq_commands.specs.Faults.{failed_reads, failed_writes};
 ghost use Rattle.acq_commands.specs.Once.{ServesInMemory, ServesOnce};
@@ -30,7 +31,7 @@ pub fn once_on<B: Book + Drop, C: Clock, I: Issuer, S: Source, K: Sink>(
     // How what came was served, over the book that is left.
     ensures served { B.is_honest result.0 → B.is_open book
         → ServesOnce (C.may_give clock.old) (I.may_say issuer.old) (B.tables book)
-        (B.is_open result.0) (B.tables result.0)
+        (left_of B.Book result.0)
         (record { before = S.received input.old; after = S.received input.new })
         (record { before = K.sent output.old; after = K.sent output.new }) result.1 }
     // Where all is well, the whole input was read.

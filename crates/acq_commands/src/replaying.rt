@@ -7,6 +7,7 @@ ghost use Rattle.acq_core.specs.Tables.{step_output, step_tables, tables_after};
 ghost use Rattle.acq_book.specs.Calls.{Makes};
 ghost use Rattle.acq_book.specs.Promise.{HasRisen};
 ghost use Rattle.acq_book.specs.declared.book_fault.BookFault.{BookFault};
+ghost use Rattle.acq_front.specs.Stops.{LeavesAll, left_of};
 ghost use Rattle.acq_out.specs.OutputLines.{WritesLine, line_of};
 ghost use Rattle.acq_link.specs.Moves.{TakesAll};
 ghost use Rattle.acq_out.specs.declared.out_fault.OutFault.{OutFault};
@@ -33,11 +34,10 @@ pub fn replay<B: Book + Drop, S: Source, K: Sink, P: Progress>(
     output: &mut K,
     progress: &mut P,
 ) -> Result<(), Fault>
-    // What was read, what was written of it, and what the book took.
+    // What was read, what was written of it, what the book took, and what a stop may leave.
     ensures replays { B.is_honest host.new → B.is_open host.old → (text : List ℕ)
         × (S.received input.new ≡ S.received input.old ++ text)
-        × Replays
-        (record { tables = B.tables; is_open = B.is_open; old = host.old; new = host.new }) text
+        × Replays (record { left = left_of B.Book; old = host.old; new = host.new }) text
         (record { before = K.sent output.old; after = K.sent output.new }) result }
     // Unless memory ran out or a read failed, the whole input was read.
     ensures whole { AfterReading result
@@ -68,9 +68,11 @@ fn take_all<B: Book + Drop, K: Sink, P: Progress>(
         (K.sent output.new ≡ K.sent output.old ++ lines (B.tables host.old) events.now) }
     ensures tables { B.is_honest host.new → B.is_open host.old → OnOk result
         (B.tables host.new ≡ tables_after (B.tables host.old) events.now) }
+    ensures stop { B.is_honest host.new → B.is_open host.old → OnOk result
+        (LeavesAll (left_of B.Book host.new) (B.tables host.old) events.now) }
     ensures stops { B.is_honest host.new → B.is_open host.old → IfErr result (λ fault.
-        Stops (record { tables = B.tables; is_open = B.is_open; old = host.old; new = host.new })
-        events.now (record { before = K.sent output.old; after = K.sent output.new }) fault) }
+        Stops (record { left = left_of B.Book; old = host.old; new = host.new }) events.now
+        (record { before = K.sent output.old; after = K.sent output.new }) fault) }
     ensures which { IfErr result StopsEvents }
     ensures writes { K.failures output.new ≡ K.failures output.old + failed_writes result }
     ensures store { IsErrOf result Store

@@ -1,11 +1,11 @@
 //! Event lines in, and nothing out.
 
-ghost use Rattle.std.specs.Prelude.{◌≡◌, ◌+◌, ◌++◌, ℕ, List, is_ok, IfErr, IsErrOf, OnOk};
+ghost use Rattle.std.specs.Prelude.{◌≡◌, ◌+◌, ◌++◌, ℕ, List, IsErrOf, OnErr, OnOk};
 ghost use Rattle.acq_core.specs.Tables.{tables_after};
 ghost use Rattle.acq_book.specs.Promise.{HasRisen, IfStore};
-ghost use Rattle.acq_host.specs.Runs.{after_first};
+ghost use Rattle.acq_front.specs.Stops.{LeavesAll, left_of};
 ghost use Rattle.acq_link.specs.Moves.{TakesAll};
-ghost use Rattle.acq_commands.specs.DayReports.{Takes};
+ghost use Rattle.acq_commands.specs.DayReports.{Takes, TakesFirst};
 ghost use Rattle.acq_commands.specs.Faults.{failed_reads};
 ghost use Rattle.acq_commands.specs.Replay.{AfterReading};
 ghost use Rattle.acq_commands.specs.declared.fault.Fault.TheVariants.{Store};
@@ -27,10 +27,10 @@ pub fn take_events<B: Book + Drop, S: Source, P: Progress>(
     input: &mut S,
     progress: &mut P,
 ) -> Result<(), Fault>
-    // What was read, and what the book took of it.
+    // What was read, what the book took of it, and what a stop may leave.
     ensures takes { B.is_honest host.new → B.is_open host.old → (text : List ℕ)
         × (S.received input.new ≡ S.received input.old ++ text)
-        × Takes B.tables B.is_open host.old host.new text result }
+        × Takes (record { left = left_of B.Book; old = host.old; new = host.new }) text result }
     // Unless memory ran out or a read failed, the whole input was read.
     ensures whole { AfterReading result
         (TakesAll (S.remaining input.old) (S.received input.old) (S.received input.new)) }
@@ -52,9 +52,10 @@ fn take_each<B: Book + Drop, P: Progress>(
 ) -> Result<(), BookFault>
     ensures taken { B.is_honest host.new → B.is_open host.old → OnOk result
         (B.tables host.new ≡ tables_after (B.tables host.old) events.now) }
-    ensures stopped { B.is_honest host.new → B.is_open host.old → IfErr result (λ fault.
-        (taken : ℕ) × (B.is_open host.new
-        → B.tables host.new ≡ after_first taken (B.tables host.old) events.now)) }
+    ensures stop { B.is_honest host.new → B.is_open host.old → OnOk result
+        (LeavesAll (left_of B.Book host.new) (B.tables host.old) events.now) }
+    ensures stopped { B.is_honest host.new → B.is_open host.old → OnErr result
+        (TakesFirst (B.tables host.old) (left_of B.Book host.new) events.now) }
     ensures store { IfStore result (HasRisen (B.failures host.old) (B.failures host.new)) }
 {
     progress.begin(events.len());

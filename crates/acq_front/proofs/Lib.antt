@@ -1,3 +1,4 @@
+pub mod StopsLeave
 mod FilledFrames
 pub mod GivenInOrder
 pub mod MessagesTaken

@@ -1,5 +1,6 @@
 -- Which events a message makes, what is replied to them, and what is asked for them.
 use Rattle.std.proofs.Common.{◌≡◌, ℕ, true, List, [], ◌∷◌, ◌++◌, refl, sym, ap, ◌∙◌, append-nil}
+use Rattle.std.proofs.Common.{subst}
 use Rattle.std.specs.List.{list_all}
 use Rattle.std.proofs.lemmas.Bool.{and_from}
 use Rattle.acq_link.specs.Frames.{frame, framed, Frames, fits_frame}
@@ -13,6 +14,7 @@ use Rattle.acq_core.specs.Arrivals.{arrival_of}
 use Rattle.acq_core.specs.Tables.{Tables, step_output, step_tables, tables_after}
 use Rattle.acq_front.specs.Talk.{Taking, taking_said, reply_in, replies, query_for, queries, Saying}
 use Rattle.acq_front.specs.Talk.{AreSaid}
+use Rattle.acq_front.specs.Stops.{Left, LeavesAll}
 use Rattle.acq_front.specs.Turns.{Makes, TookMessage}
 
 -- the host asks for nothing
@@ -113,32 +115,37 @@ module _ (may_say : Saying) where
       said_one t moment message query verdict is said
 
   -- the message was taken, and nobody was asked
-  pub took_alone : (t new : Tables) (moment : ℕ) (message : List ℕ) (o : Output) →
+  pub took_alone : (t : Tables) (left : Left) (moment : ℕ) (message : List ℕ) (o : Output) →
       step_output t (arrival_of (Frame moment message)) ≡ o → AsksNothing o →
-      new ≡ step_tables t (arrival_of (Frame moment message)) →
-      TookMessage may_say t new
+      left.tables ≡ step_tables t (arrival_of (Frame moment message)) →
+      LeavesAll left t (Frame moment message ∷ []) →
+      TookMessage may_say t left
       (record { message = message; moments = moment ∷ []; verdicts = [] })
       (Frame moment message ∷ [])
-  took_alone t new moment message o is nothing tables = record {
+  took_alone t left moment message o is nothing tables stop = record {
     makes = makes_alone t moment message o is nothing;
     tables = tables;
     said = said_nothing t (Frame moment message) o is nothing;
+    stop = stop;
   }
 
   -- the message and its issuer's answer were taken
-  pub took_answer : (t mid new : Tables) (moment next : ℕ) (message : List ℕ) (query : Query)
-      (verdict : Verdict) →
+  pub took_answer : (t mid : Tables) (left : Left) (moment next : ℕ) (message : List ℕ)
+      (query : Query) (verdict : Verdict) →
       step_output t (arrival_of (Frame moment message)) ≡ Ask query →
       mid ≡ step_tables t (arrival_of (Frame moment message)) →
-      new ≡ step_tables mid (arrival_of (Answer next query.merchant query.reference verdict)) →
+      left.tables
+      ≡ step_tables mid (arrival_of (Answer next query.merchant query.reference verdict)) →
+      LeavesAll left mid (Answer next query.merchant query.reference verdict ∷ []) →
       may_say query verdict →
-      TookMessage may_say t new
+      TookMessage may_say t left
       (record { message = message; moments = moment ∷ next ∷ []; verdicts = verdict ∷ [] })
       (Frame moment message ∷ Answer next query.merchant query.reference verdict ∷ [])
-  took_answer t mid new moment next message query verdict is between tables said = record {
-    makes = makes_asking t moment next message query verdict is;
-    tables = tables
-        ∙ ap (λ (x : Tables). step_tables x
-        (arrival_of (Answer next query.merchant query.reference verdict))) between;
-    said = said_two t moment next message query.merchant query.reference query verdict is said;
-  }
+  took_answer t mid left moment next message query verdict is between tables stop said =
+      let answer = Answer next query.merchant query.reference verdict in
+      record {
+        makes = makes_asking t moment next message query verdict is;
+        tables = tables ∙ ap (λ (x : Tables). step_tables x (arrival_of answer)) between;
+        said = said_two t moment next message query.merchant query.reference query verdict is said;
+        stop = subst (λ (x : Tables). LeavesAll left x (answer ∷ [])) between stop;
+      }

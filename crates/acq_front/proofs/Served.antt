@@ -11,6 +11,7 @@ use Rattle.acq_link.proofs.WrittenFrames.{framed-append, framed-push}
 use Rattle.acq_link.proofs.FramesReadOnce.{partial_is}
 use Rattle.acq_message.specs.declared.verdict.Verdict.{Verdict}
 use Rattle.acq_core.specs.declared.event.Event.{Event}
+use Rattle.acq_core.specs.declared.event.Event.TheVariants.{Frame}
 use Rattle.acq_core.specs.declared.query.Query.{Query}
 use Rattle.acq_core.specs.Tables.{Tables, outputs, tables_after}
 use Rattle.acq_history.proofs.FinalDays.{tables_after-append}
@@ -19,22 +20,25 @@ use Rattle.acq_host.proofs.PartiesAlone.{is_alone}
 use Rattle.acq_front.specs.declared.front_fault.FrontFault as fault
 use Rattle.acq_front.specs.Faults.{of_stream}
 use Rattle.acq_front.specs.Talk.{talk, replies, queries, Saying, AreSaid}
-use Rattle.acq_front.specs.Turns.{is_read, Makes, Incoming, TookMessage, TookAllButAnswer, Answered}
-use Rattle.acq_front.specs.Turns.{Refused, CutShort, Turns}
+use Rattle.acq_front.specs.Stops.{Left, LeavesAll}
+use Rattle.acq_front.specs.Turns.{is_read, Makes, Incoming, TookMessage, TookNone, TookAllButAnswer}
+use Rattle.acq_front.specs.Turns.{Answered, Refused, CutShort, Turns}
 use Rattle.acq_front.specs.Serving.{Connection, AllAnswered, CutsLast, LeavesOff, Serves, AllRead}
+use Rattle.acq_front.proofs.StopsLeave.{all_behind, some_behind, some_next}
 use Rattle.acq_front.proofs.TalkGoesOn.{GoesOn, goes_on_none, goes_on_more, talk_is, talk_ends}
 use Rattle.acq_front.proofs.TalkGoesOn.{replies-append, said_more, said_weaker}
 
 -- the host took these messages' events
-pub record TookAll (may_say : Saying) (old now : Tables) (c : Connection)
+pub record TookAll (may_say : Saying) (old : Tables) (now : Left) (c : Connection)
     (events : List Event) : Type 0 where
   pub came : FramesThen c.input c.messages c.rest
   pub goes : GoesOn old c.messages c.moments c.verdicts events
-  pub tables : now ≡ tables_after old events
+  pub tables : now.tables ≡ tables_after old events
   pub said : AreSaid may_say (queries old events) c.verdicts
+  pub stop : LeavesAll now old events
 
 -- and their replies' frames went out; these bytes are held
-pub record Going (may_say : Saying) (old now : Tables) (c : Connection)
+pub record Going (may_say : Saying) (old : Tables) (now : Left) (c : Connection)
     (held : List ℕ) : Type 0 where
   pub events : List Event
   pub took : TookAll may_say old now c events
@@ -112,27 +116,28 @@ ran_alone : (old now : Tables) (events : List Event) → now ≡ tables_after ol
 ran_alone old now events so = is_alone old now events (outputs old events) refl so
 
 module _ (S : Saying) where
-  pub going_none : (t : Tables) → Going S t t nothing_yet []
-  going_none t = record {
+  pub going_none : (now : Left) → LeavesAll now now.tables [] →
+      Going S now.tables now nothing_yet []
+  going_none now stop = record {
     events = [];
     took = record {
       came = record { each = refl; whole = refl };
-      goes = goes_on_none t;
-      tables =
-          refl;
+      goes = goes_on_none now.tables;
+      tables = refl;
       said = tt;
+      stop = stop;
     };
     written = record { each = refl; whole = refl };
     rest = refl;
     read = refl;
   }
 
-  pub going_held : {old now : Tables} {c : Connection} {held other : List ℕ} →
+  pub going_held : {old : Tables} {now : Left} {c : Connection} {held other : List ℕ} →
       Going S old now c held → other ≡ held → Going S old now c other
   going_held {old = old} {now = now} {c = c} so e = subst (λ (l : List ℕ). Going S old now c l)
       (sym e) so
 
-  pub going_read : {old now : Tables} {c : Connection} {held : List ℕ} (piece : List ℕ) →
+  pub going_read : {old : Tables} {now : Left} {c : Connection} {held : List ℕ} (piece : List ℕ) →
       Going S old now c held → Going S old now (with_piece c piece) (held ++ piece)
   going_read {c = c} piece so = record {
     events = so.events;
@@ -145,6 +150,7 @@ module _ (S : Saying) where
       goes = so.took.goes;
       tables = so.took.tables;
       said = so.took.said;
+      stop = so.took.stop;
     };
     written = so.written;
     rest = ap (λ (l : List ℕ). l ++ piece) so.rest;
@@ -163,12 +169,12 @@ module _ (S : Saying) where
   }
 
   -- the next message's events were taken too
-  took_more : (old mid new : Tables) (c : Connection) (held : List ℕ) (made : List Event)
+  took_more : (old : Tables) (mid now : Left) (c : Connection) (held : List ℕ) (made : List Event)
       (m : Incoming) (out left : List ℕ) →
       (so : Going S old mid c held) → BeginsWithFrame held m.message left →
-      TookMessage S mid new m made →
-      TookAll S old new (with_message c m out left) (so.events ++ made)
-  took_more old mid new c held made m out left so begins took = record {
+      TookMessage S mid.tables now m made →
+      TookAll S old now (with_message c m out left) (so.events ++ made)
+  took_more old mid now c held made m out left so begins took = record {
     came = frames_then_more c held m.message left so.took.came so.rest begins;
     goes = goes_on_more old c.messages m.message c.moments m.moments c.verdicts m.verdicts so.events
         made so.took.goes
@@ -176,20 +182,21 @@ module _ (S : Saying) where
         took.makes);
     tables = took.tables ∙ ap (λ (t : Tables). tables_after t made) so.took.tables
         ∙ sym (tables_after-append old so.events made);
-    said = said_more S old mid so.events made c.verdicts m.verdicts so.took.tables so.took.said
-        took.said;
+    said = said_more S old mid.tables so.events made c.verdicts m.verdicts so.took.tables
+        so.took.said took.said;
+    stop = all_behind now old mid.tables so.events so.took.tables made took.stop;
   }
 
-  pub going_more : {old mid new : Tables} {c : Connection} {held : List ℕ}
+  pub going_more : {old : Tables} {mid now : Left} {c : Connection} {held : List ℕ}
       (m : Incoming) (out left : List ℕ) →
       Going S old mid c held → BeginsWithFrame held m.message left → is_read m.message ≡ true →
-      Answered S mid new m out →
-      Going S old new (with_message c m out left) left
-  going_more {old = old} {mid = mid} {new = new} {c = c} {held = held} m out left so begins reads
+      Answered S mid.tables now m out →
+      Going S old now (with_message c m out left) left
+  going_more {old = old} {mid = mid} {now = now} {c = c} {held = held} m out left so begins reads
       answered = record {
         events = so.events ++ answered.events;
-        took = took_more old mid new c held answered.events m out left so begins answered.took;
-        written = written_more old mid so.events answered.events c.output out so.took.tables
+        took = took_more old mid now c held answered.events m out left so begins answered.took;
+        written = written_more old mid.tables so.events answered.events c.output out so.took.tables
             so.written answered.written;
         rest = refl;
         read = all_read c.messages m.message so.read reads;
@@ -197,7 +204,7 @@ module _ (S : Saying) where
 
   -- ---- ends
 
-  all_answered : {old now : Tables} {c : Connection} (events : List Event) →
+  all_answered : {old : Tables} {now : Left} {c : Connection} (events : List Event) →
       TookAll S old now c events → Frames c.output (replies old events) → AllAnswered S old now c
   all_answered {old = old} {now = now} {c = c} events took written =
       let talked = talk_ends old c.messages c.moments c.verdicts events took.goes in
@@ -205,25 +212,26 @@ module _ (S : Saying) where
       record {
         came = took.came;
         tables = led;
-        alone = ran_alone old now (talk old c.messages c.moments c.verdicts) led;
+        alone = ran_alone old now.tables (talk old c.messages c.moments c.verdicts) led;
         said = subst (λ (es : List Event). AreSaid S (queries old es) c.verdicts)
             (sym talked) took.said;
         written = subst (λ (es : List Event). Frames c.output (replies old es))
             (sym talked) written;
+        stop = subst (LeavesAll now old) (sym talked) took.stop;
       }
 
-  answers_all : {old now : Tables} {c : Connection} {held : List ℕ} → Going S old now c held →
-      AllAnswered S old now c
+  answers_all : {old : Tables} {now : Left} {c : Connection} {held : List ℕ} →
+      Going S old now c held → AllAnswered S old now c
   answers_all so = all_answered so.events so.took so.written
 
   -- no message could be taken out of the stream
-  pub stream_stops : (e : deframe.DeframeFault) {old now : Tables}
-      (stays_open : Type 0) {c : Connection} {held : List ℕ} → Going S old now c held →
+  pub stream_stops : (e : deframe.DeframeFault) {old : Tables} {now : Left} {c : Connection}
+      {held : List ℕ} → Going S old now c held →
       (e ≡ deframe.TheVariants.BadLength → has_bad_length held ≡ true) →
-      Serves S old stays_open now c (Err (of_stream e))
-  stream_stops deframe.TheVariants.BadLength stays_open so bad =
+      Serves S old now c (Err (of_stream e))
+  stream_stops deframe.TheVariants.BadLength so bad =
       (answers_all so, so.read, ap has_bad_length so.rest ∙ bad refl)
-  stream_stops deframe.TheVariants.Memory {old = old} {now = now} stays_open {c = c} so bad =
+  stream_stops deframe.TheVariants.Memory {old = old} {now = now} {c = c} so bad =
       record {
         came = so.took.came;
         read = so.read;
@@ -233,9 +241,15 @@ module _ (S : Saying) where
         all = talk_ends old c.messages c.moments c.verdicts so.events so.took.goes
             ∙ sym (append-nil so.events);
         tables = λ still. so.took.tables;
-        alone = λ still. ran_alone old now so.events so.took.tables;
+        alone = λ still. ran_alone old now.tables so.events so.took.tables;
         said = so.took.said;
         written = so.written;
+        in_hand = [];
+        which = inl refl;
+        stop = record {
+          tables = λ t l. inl (so.took.stop.tables t l);
+          stored = so.took.stop.stored;
+        };
       }
 
   no_frame : (held : List ℕ) → MayBecomeFrame held → has_frame held ≡ false
@@ -243,31 +257,31 @@ module _ (S : Saying) where
   no_frame held (inr part) = (partial_is held part).0
 
   -- a read failed
-  pub read_stops : {old now : Tables} (stays_open : Type 0) {c : Connection} {held : List ℕ} →
+  pub read_stops : {old : Tables} {now : Left} {c : Connection} {held : List ℕ} →
       Going S old now c held → MayBecomeFrame held →
-      Serves S old stays_open now c (Err fault.TheVariants.Read)
-  read_stops stays_open {held = held} so may =
+      Serves S old now c (Err fault.TheVariants.Read)
+  read_stops {held = held} so may =
       (answers_all so, so.read, ap has_frame so.rest ∙ no_frame held may)
 
   -- no connection was had
-  pub none_served : (t : Tables) (stays_open : Type 0) →
-      Serves S t stays_open t nothing_yet (Err fault.TheVariants.Read)
-  none_served t stays_open = read_stops stays_open (going_none t) (inl refl)
+  pub none_served : (now : Left) → LeavesAll now now.tables [] →
+      Serves S now.tables now nothing_yet (Err fault.TheVariants.Read)
+  none_served now stop = read_stops (going_none now stop) (inl refl)
 
   -- the input ended
-  pub ends_well : {old now : Tables} (stays_open : Type 0) {c : Connection} {held : List ℕ} →
+  pub ends_well : {old : Tables} {now : Left} {c : Connection} {held : List ℕ} →
       Going S old now c held → held ≡ [] →
-      Serves S old stays_open now c (Ok tt)
-  ends_well stays_open so none = (answers_all so, so.read, so.rest ∙ none)
+      Serves S old now c (Ok tt)
+  ends_well so none = (answers_all so, so.read, so.rest ∙ none)
 
   is_begun : (held : List ℕ) → MayBecomeFrame held → (held ≡ [] → ⊥) → is_partial held ≡ true
   is_begun held (inl none) some = absurd (some none)
   is_begun held (inr part) some = part
 
-  pub ends_inside : {old now : Tables} (stays_open : Type 0) {c : Connection} {held : List ℕ} →
+  pub ends_inside : {old : Tables} {now : Left} {c : Connection} {held : List ℕ} →
       Going S old now c held → MayBecomeFrame held →
-      (held ≡ [] → ⊥) → Serves S old stays_open now c (Err fault.TheVariants.Ended)
-  ends_inside stays_open {held = held} so may some =
+      (held ≡ [] → ⊥) → Serves S old now c (Err fault.TheVariants.Ended)
+  ends_inside {held = held} so may some =
       (answers_all so, so.read, ap is_partial so.rest ∙ is_begun held may some)
 
   -- ---- one message stops it
@@ -280,18 +294,19 @@ module _ (S : Saying) where
       pub moments_are : d.moments ≡ c.moments ++ moments
       pub verdicts_are : d.verdicts ≡ c.verdicts ++ verdicts
 
-  module _ (old mid : Tables) (stays_open : Type 0) (new : Tables) (c : Connection)
+  module _ (old : Tables) (mid now : Left) (c : Connection)
       (held left : List ℕ) (m : Incoming) (out : List ℕ) (so : Going S old mid c held)
       (begins : BeginsWithFrame held m.message left) where
     abbrev with_it : Connection
     with_it = with_message c m out left
 
     -- nothing of it was taken
-    refused_whole : out ≡ [] → (stays_open → new ≡ mid) → m.verdicts ≡ [] →
-        LeavesOff S old stays_open new (with_nothing_taken c out m.moments m.verdicts)
-    refused_whole none kept unasked =
+    refused_whole : out ≡ [] → TookNone mid.tables now m →
+        LeavesOff S old now (with_nothing_taken c out m.moments m.verdicts)
+    refused_whole none untaken =
         let same : c.verdicts ++ m.verdicts ≡ c.verdicts =
-        ap (λ (l : List Verdict). c.verdicts ++ l) unasked ∙ append-nil c.verdicts in
+        ap (λ (l : List Verdict). c.verdicts ++ l) untaken.unasked ∙ append-nil c.verdicts in
+        let came = Frame untaken.moment m.message in
         record {
           came = so.took.came;
           read = so.read;
@@ -301,18 +316,38 @@ module _ (S : Saying) where
           all = ap (λ (l : List Verdict). talk old c.messages (c.moments ++ m.moments) l) same
               ∙ talk_is old c.messages c.moments m.moments c.verdicts so.events so.took.goes
               ∙ sym (append-nil so.events);
-          tables = λ still. kept still ∙ so.took.tables;
-          alone = λ still. ran_alone old new so.events (kept still ∙ so.took.tables);
+          tables = λ still. untaken.tables still ∙ so.took.tables;
+          alone = λ still. ran_alone old now.tables so.events
+              (untaken.tables still ∙ so.took.tables);
           said = subst (AreSaid S (queries old so.events)) (sym same) so.took.said;
           written = frames_and_no_more c.output out (replies old so.events) none so.written;
+          in_hand = came ∷ [];
+          which = inr (
+            refl,
+            (
+              came,
+              record {
+                message = m.message;
+                behind = left;
+                begins = subst (λ (l : List ℕ). BeginsWithFrame l m.message left) (sym so.rest)
+                    begins;
+                earlier = c.moments;
+                moment = untaken.moment;
+                given = ap (λ (l : List ℕ). c.moments ++ l) untaken.given;
+                is = refl;
+              },
+              refl,
+            ),
+          );
+          stop = some_next now old mid.tables so.events so.took.tables (came ∷ []) untaken.stop;
         }
 
     -- its answer wasn't taken
-    refused_answer : out ≡ [] → TookAllButAnswer S mid stays_open new m →
-        LeavesOff S old stays_open new with_it
+    refused_answer : out ≡ [] → TookAllButAnswer S mid.tables now m →
+        LeavesOff S old now with_it
     refused_answer none most =
         let first = most.came ∷ [] in
-        let led : stays_open → new ≡ tables_after old (so.events ++ first) =
+        let led : now.is_open → now.tables ≡ tables_after old (so.events ++ first) =
         λ still. most.tables still ∙ ap (λ (t : Tables). tables_after t first) so.took.tables
         ∙ sym (tables_after-append old so.events first) in
         let goes = goes_on_more old c.messages m.message c.moments m.moments c.verdicts m.verdicts
@@ -329,22 +364,27 @@ module _ (S : Saying) where
               (so.events ++ most.came ∷ most.answer ∷ []) goes
               ∙ sym (append_assoc so.events first (most.answer ∷ []));
           tables = led;
-          alone = λ still. ran_alone old new (so.events ++ first) (led still);
-          said = said_more S old mid so.events first c.verdicts m.verdicts so.took.tables
+          alone = λ still. ran_alone old now.tables (so.events ++ first) (led still);
+          said = said_more S old mid.tables so.events first c.verdicts m.verdicts so.took.tables
               so.took.said most.said;
-          written = written_more old mid so.events first c.output out so.took.tables so.written
+          written = written_more old mid.tables so.events first c.output out so.took.tables
+              so.written
               (record {
                 each = ap (list_all fits_frame) most.silent;
                 whole =
                     none ∙ ap framed (sym most.silent);
               });
+          in_hand = most.answer ∷ [];
+          which = inl refl;
+          stop = some_behind now old mid.tables so.events so.took.tables first (most.answer ∷ [])
+              most.stop;
         }
 
     -- its reply's frame went out in part
-    cuts_last : (n : ℕ) → CutShort S mid new m out n →
-        CutsLast S old new with_it n
+    cuts_last : (n : ℕ) → CutShort S mid.tables now m out n →
+        CutsLast S old now with_it n
     cuts_last n cut =
-        let took = took_more old mid new c held cut.events m out left so begins cut.took in
+        let took = took_more old mid now c held cut.events m out left so begins cut.took in
         let talked = talk_ends old with_it.messages with_it.moments with_it.verdicts
         (so.events ++ cut.events) took.goes in
         let led = took.tables ∙ ap (tables_after old) (sym talked) in
@@ -352,8 +392,8 @@ module _ (S : Saying) where
           came = took.came;
           read = all_read c.messages m.message so.read cut.reads;
           tables = led;
-          alone = ran_alone old new (talk old with_it.messages with_it.moments with_it.verdicts)
-              led;
+          alone = ran_alone old now.tables
+              (talk old with_it.messages with_it.moments with_it.verdicts) led;
           said = subst (λ (es : List Event). AreSaid S (queries old es) with_it.verdicts)
               (sym talked) took.said;
           earlier = replies old so.events;
@@ -365,26 +405,27 @@ module _ (S : Saying) where
           short = cut.short;
           written = ap (λ (l : List ℕ). c.output ++ l) cut.written
               ∙ ap (λ (l : List ℕ). l ++ take n (frame cut.reply)) so.written.whole;
+          stop = subst (LeavesAll now old) (sym talked) took.stop;
         }
 
     -- what is left where a message stops a connection
     abbrev Stopped : fault.FrontFault → Type 0
     Stopped f = (d : Connection) × Extends c d out m.moments m.verdicts
-        × Serves S old stays_open new d (Err f)
+        × Serves S old now d (Err f)
 
     extends_with : Extends c with_it out m.moments m.verdicts
     extends_with = record { input = refl; output = refl; moments_are = refl; verdicts_are = refl }
 
-    refused : Refused S mid stays_open new m out →
-        (d : Connection) × Extends c d out m.moments m.verdicts × LeavesOff S old stays_open new d
-    refused (none, inl (kept, unasked)) = (
+    refused : Refused S mid.tables now m out →
+        (d : Connection) × Extends c d out m.moments m.verdicts × LeavesOff S old now d
+    refused (none, inl untaken) = (
       with_nothing_taken c out m.moments m.verdicts,
       record { input = refl; output = refl; moments_are = refl; verdicts_are = refl },
-      refused_whole none kept unasked,
+      refused_whole none untaken,
     )
     refused (none, inr most) = (with_it, extends_with, refused_answer none most)
 
-    pub stopped : (f : fault.FrontFault) → Turns S mid stays_open new m out (Err f) → Stopped f
+    pub stopped : (f : fault.FrontFault) → Turns S mid.tables now m out (Err f) → Stopped f
     stopped fault.TheVariants.Memory stops = refused stops
     stopped fault.TheVariants.Store stops = refused stops
     stopped (fault.TheVariants.Undecodable f) (answered, unread) = (
@@ -392,9 +433,9 @@ module _ (S : Saying) where
       extends_with,
       (
         all_answered (so.events ++ answered.events)
-            (took_more old mid new c held answered.events m out left so begins answered.took)
-            (written_more old mid so.events answered.events c.output out so.took.tables so.written
-            answered.written),
+            (took_more old mid now c held answered.events m out left so begins answered.took)
+            (written_more old mid.tables so.events answered.events c.output out so.took.tables
+            so.written answered.written),
         record {
           before = c.messages;
           last = m.message;
@@ -412,21 +453,22 @@ module _ (S : Saying) where
 -- ---- an issuer that might say more
 
 module _ (S R : Saying) (f : (q : Query) (v : Verdict) → S q v → R q v) (old : Tables)
-    (stays_open : Type 0) (new : Tables) (m : Incoming) (out : List ℕ) where
-  took_weaker : (events : List Event) → TookMessage S old new m events →
-      TookMessage R old new m events
+    (now : Left) (m : Incoming) (out : List ℕ) where
+  took_weaker : (events : List Event) → TookMessage S old now m events →
+      TookMessage R old now m events
   took_weaker events took = record {
     makes = took.makes;
     tables = took.tables;
     said = said_weaker S R f (queries old events) m.verdicts took.said;
+    stop = took.stop;
   }
 
-  answered_weaker : Answered S old new m out → Answered R old new m out
+  answered_weaker : Answered S old now m out → Answered R old now m out
   answered_weaker a =
       record { events = a.events; took = took_weaker a.events a.took; written = a.written }
 
-  refused_weaker : Refused S old stays_open new m out → Refused R old stays_open new m out
-  refused_weaker (none, inl same) = (none, inl same)
+  refused_weaker : Refused S old now m out → Refused R old now m out
+  refused_weaker (none, inl untaken) = (none, inl untaken)
   refused_weaker (none, inr most) = (
     none,
     inr (record {
@@ -438,11 +480,12 @@ module _ (S R : Saying) (f : (q : Query) (v : Verdict) → S q v → R q v) (old
       tables = most.tables;
       said = said_weaker S R f (queries old (most.came ∷ [])) m.verdicts most.said;
       silent = most.silent;
+      stop = most.stop;
     }),
   )
 
   pub turns_weaker : (r : Result (Unit {0}) fault.FrontFault) →
-      Turns S old stays_open new m out r → Turns R old stays_open new m out r
+      Turns S old now m out r → Turns R old now m out r
   turns_weaker (Ok u) (answered, reads) = (answered_weaker answered, reads)
   turns_weaker (Err fault.TheVariants.Memory) stops = refused_weaker stops
   turns_weaker (Err fault.TheVariants.Store) stops = refused_weaker stops

@@ -1,27 +1,57 @@
 -- How a connection was served, said with less.
-use Rattle.std.proofs.Common.{ℕ, Result, Ok, Err}
+use Rattle.std.proofs.Common.{◌≡◌, ◌⊎◌, ◌++◌, ℕ, Result, Ok, Err, inl, subst, refl, sym}
+use Rattle.std.proofs.Common.{◌∙◌, ⊎_elim}
 use Rattle.acq_message.specs.declared.verdict.Verdict.{Verdict}
 use Rattle.acq_core.specs.declared.query.Query.{Query}
-use Rattle.acq_core.specs.Tables.{Tables}
+use Rattle.acq_core.specs.Tables.{Tables, outputs, tables_after}
+use Rattle.acq_host.specs.Headline.{IsAlone}
 use Rattle.acq_front.specs.declared.front_fault.FrontFault as fault
+use Rattle.acq_front.specs.Stops.{Left, StopLeaves}
 use Rattle.acq_front.specs.Talk.{queries, Saying}
 use Rattle.acq_front.specs.Serving.{Connection, AllAnswered, CutsLast, LeavesOff, Serves, events_of}
 use Rattle.acq_front.proofs.TalkGoesOn.{said_weaker}
 
--- the issuer might have said more, and the book stays open in fewer cases
-module _ (S R : Saying) (f : (q : Query) (v : Verdict) → S q v → R q v) (stays still : Type 0)
-    (g : still → stays)
-    (old new : Tables) (c : Connection) where
-  all_weaker : AllAnswered S old new c → AllAnswered R old new c
-  all_weaker a = record {
-    came = a.came;
-    tables = a.tables;
-    alone = a.alone;
-    said = said_weaker S R f (queries old (events_of old c)) c.verdicts a.said;
-    written = a.written;
+-- Less is known of what is left: the book stays open in fewer cases, and a stop may leave what it
+-- might, or the tables of a book that is open.
+pub record SaysLess (left less : Left) : Type 0 where
+  pub is_open : less.is_open → left.is_open
+  pub same : less.tables ≡ left.tables
+  pub may_leave : (t : Tables) → less.may_leave t →
+      left.may_leave t ⊎ (left.is_open × (t ≡ left.tables))
+  pub leaves_books : left.leaves_books → less.leaves_books
+
+-- the same
+pub says_same : (left : Left) → SaysLess left left
+says_same left = record {
+  is_open = λ o. o;
+  same = refl;
+  may_leave = λ t l. inl l;
+  leaves_books = λ b. b;
+}
+
+-- the issuer might have said more, and less is known of what is left
+module _ (S R : Saying) (f : (q : Query) (v : Verdict) → S q v → R q v) (left less : Left)
+    (g : SaysLess left less) (old : Tables) (c : Connection) where
+  stop_weaker : (such : Tables → Type 0) → StopLeaves left such →
+      (left.is_open → such left.tables) → StopLeaves less such
+  stop_weaker such stop led = record {
+    tables = λ t l. ⊎_elim (stop.tables t)
+        (λ opened. subst such (sym opened.1) (led opened.0)) (g.may_leave t l);
+    stored = g.leaves_books stop.stored;
   }
 
-  leaves_weaker : LeavesOff S old stays new c → LeavesOff R old still new c
+  all_weaker : AllAnswered S old left c → AllAnswered R old less c
+  all_weaker a = record {
+    came = a.came;
+    tables = g.same ∙ a.tables;
+    alone = subst (IsAlone old (events_of old c) (outputs old (events_of old c))) (sym g.same)
+        a.alone;
+    said = said_weaker S R f (queries old (events_of old c)) c.verdicts a.said;
+    written = a.written;
+    stop = stop_weaker (λ t. t ≡ tables_after old (events_of old c)) a.stop (λ o. a.tables);
+  }
+
+  leaves_weaker : LeavesOff S old left c → LeavesOff R old less c
   leaves_weaker a = record {
     came = a.came;
     read = a.read;
@@ -29,28 +59,36 @@ module _ (S R : Saying) (f : (q : Query) (v : Verdict) → S q v → R q v) (sta
     missing = a.missing;
     at_most_one = a.at_most_one;
     all = a.all;
-    tables = λ s. a.tables (g s);
-    alone = λ s. a.alone (g s);
+    tables = λ s. g.same ∙ a.tables (g.is_open s);
+    alone = λ s. subst (IsAlone old a.events (outputs old a.events)) (sym g.same)
+        (a.alone (g.is_open s));
     said = said_weaker S R f (queries old a.events) c.verdicts a.said;
     written = a.written;
+    in_hand = a.in_hand;
+    which = a.which;
+    stop = stop_weaker
+        (λ t. (t ≡ tables_after old a.events) ⊎ (t ≡ tables_after old (a.events ++ a.in_hand)))
+        a.stop (λ o. inl (a.tables o));
   }
 
-  cuts_weaker : (n : ℕ) → CutsLast S old new c n → CutsLast R old new c n
+  cuts_weaker : (n : ℕ) → CutsLast S old left c n → CutsLast R old less c n
   cuts_weaker n a = record {
     came = a.came;
     read = a.read;
-    tables = a.tables;
-    alone = a.alone;
+    tables = g.same ∙ a.tables;
+    alone = subst (IsAlone old (events_of old c) (outputs old (events_of old c))) (sym g.same)
+        a.alone;
     said = said_weaker S R f (queries old (events_of old c)) c.verdicts a.said;
     earlier = a.earlier;
     last = a.last;
     replied = a.replied;
     short = a.short;
     written = a.written;
+    stop = stop_weaker (λ t. t ≡ tables_after old (events_of old c)) a.stop (λ o. a.tables);
   }
 
-  pub serves_weaker : (r : Result (Unit {0}) fault.FrontFault) → Serves S old stays new c r →
-      Serves R old still new c r
+  pub serves_weaker : (r : Result (Unit {0}) fault.FrontFault) → Serves S old left c r →
+      Serves R old less c r
   serves_weaker (Ok u) (a, read, rest) = (all_weaker a, read, rest)
   serves_weaker (Err fault.TheVariants.Memory) a = leaves_weaker a
   serves_weaker (Err fault.TheVariants.Store) a = leaves_weaker a

@@ -1,6 +1,6 @@
 -- How one message was taken and answered.
 use Rattle.std.proofs.Common.{◌≡◌, ◌==◌, ◌<◌, subst, ℕ, true, List, [], ◌∷◌, ◌++◌, Result, Ok, Err}
-use Rattle.std.proofs.Common.{refl, sym, ap, ◌∙◌, append-nil, arith, inr}
+use Rattle.std.proofs.Common.{refl, sym, ap, ◌∙◌, append-nil, arith, inl, inr}
 use Rattle.std.proofs.lemmas.Bool.{and_from, le-leb, lt-ltb}
 use Rattle.std.proofs.lemmas.Bool.Decides.{nat_tests}
 use Rattle.std.specs.Prelude.{length}
@@ -18,9 +18,10 @@ use Rattle.acq_book.specs.declared.book_fault.BookFault as book
 use Rattle.acq_host.specs.Runs.{IsWellSaid}
 use Rattle.acq_front.specs.declared.front_fault.FrontFault as fault
 use Rattle.acq_front.specs.Faults.{of_book, IfStore}
+use Rattle.acq_front.specs.Stops.{Left, LeavesAll, LeavesSome}
 use Rattle.acq_front.specs.Talk.{Saying, reply_in, replies}
-use Rattle.acq_front.specs.Turns.{is_read, Incoming, TookMessage, TookAllButAnswer, Answered}
-use Rattle.acq_front.specs.Turns.{Refused, Said, Takes, Turns, ReplyFits, Sends, SendsReply}
+use Rattle.acq_front.specs.Turns.{is_read, Incoming, TookMessage, TookNone, TookAllButAnswer}
+use Rattle.acq_front.specs.Turns.{Answered, Refused, Said, Takes, Turns, ReplyFits, Sends, SendsReply}
 use Rattle.acq_front.specs.Outgoing.{frame_said}
 use Rattle.acq_front.proofs.Reading.{undecodable_is, reads}
 use Rattle.acq_front.proofs.MessagesTaken.{AsksNothing, makes_asking, replies_one, replies_two}
@@ -65,33 +66,33 @@ store_on X Y fault.TheVariants.Read P Q f p = tt
 store_on X Y (fault.TheVariants.Write n) P Q f p = tt
 
 -- the book refused
-pub book_stops : (may_say : Saying) (e : book.BookFault) (old : Tables) (stays_open : Type 0)
-    (new : Tables) (m : Incoming) →
-    Refused may_say old stays_open new m [] →
-    Takes may_say old stays_open new m (Err (of_book e))
-book_stops may_say book.TheVariants.Memory old stays_open new m refused = refused
-book_stops may_say book.TheVariants.Store old stays_open new m refused = refused
+pub book_stops : (may_say : Saying) (e : book.BookFault) (old : Tables) (left : Left)
+    (m : Incoming) →
+    Refused may_say old left m [] →
+    Takes may_say old left m (Err (of_book e))
+book_stops may_say book.TheVariants.Memory old left m refused = refused
+book_stops may_say book.TheVariants.Store old left m refused = refused
 
 -- where a message was not taken, or didn't read, nothing goes out
-pub take_stops : (may_say : Saying) (old : Tables) (stays_open : Type 0) (new : Tables)
-    (m : Incoming) (f : fault.FrontFault) → Takes may_say old stays_open new m (Err f) →
-    Turns may_say old stays_open new m [] (Err f)
-take_stops may_say old stays_open new m fault.TheVariants.Memory h = h
-take_stops may_say old stays_open new m fault.TheVariants.Store h = h
-take_stops may_say old stays_open new m fault.TheVariants.BadLength h = absurd h
-take_stops may_say old stays_open new m fault.TheVariants.Ended h = absurd h
-take_stops may_say old stays_open new m (fault.TheVariants.Undecodable u) h = h
-take_stops may_say old stays_open new m fault.TheVariants.Read h = absurd h
-take_stops may_say old stays_open new m (fault.TheVariants.Write n) h = absurd h
+pub take_stops : (may_say : Saying) (old : Tables) (left : Left) (m : Incoming)
+    (f : fault.FrontFault) → Takes may_say old left m (Err f) →
+    Turns may_say old left m [] (Err f)
+take_stops may_say old left m fault.TheVariants.Memory h = h
+take_stops may_say old left m fault.TheVariants.Store h = h
+take_stops may_say old left m fault.TheVariants.BadLength h = absurd h
+take_stops may_say old left m fault.TheVariants.Ended h = absurd h
+take_stops may_say old left m (fault.TheVariants.Undecodable u) h = h
+take_stops may_say old left m fault.TheVariants.Read h = absurd h
+take_stops may_say old left m (fault.TheVariants.Write n) h = absurd h
 
-module _ (may_say : Saying) (old : Tables) (stays_open : Type 0) (new : Tables)
-    (m : Incoming) (events : List Event) (reads : is_read m.message ≡ true)
-    (took : TookMessage may_say old new m events) where
+module _ (may_say : Saying) (old : Tables) (left : Left) (m : Incoming) (events : List Event)
+    (reads : is_read m.message ≡ true)
+    (took : TookMessage may_say old left m events) where
   -- a reply's frame went out, or its first bytes
   reply_sent : (text before now : List ℕ) (r : Result (Unit {0}) fault.FrontFault) →
       replies old events ≡ text ∷ [] →
       fits_frame text ≡ true → Sends text before now r →
-      (out : List ℕ) × (now ≡ before ++ out) × Turns may_say old stays_open new m out r
+      (out : List ℕ) × (now ≡ before ++ out) × Turns may_say old left m out r
   reply_sent text before now (Ok u) one fits sent = (
     frame text,
     sent,
@@ -128,7 +129,7 @@ module _ (may_say : Saying) (old : Tables) (stays_open : Type 0) (new : Tables)
 
   -- nothing was to go out
   nothing_sent : (before now : List ℕ) → replies old events ≡ [] → now ≡ before →
-      (out : List ℕ) × (now ≡ before ++ out) × Turns may_say old stays_open new m out (Ok tt)
+      (out : List ℕ) × (now ≡ before ++ out) × Turns may_say old left m out (Ok tt)
   nothing_sent before now none same = (
     [],
     same ∙ sym (append-nil before),
@@ -138,26 +139,26 @@ module _ (may_say : Saying) (old : Tables) (stays_open : Type 0) (new : Tables)
   -- what the host said last was sent, if it is a reply
   pub said_sent : (o : Output) (before now : List ℕ) (r : Result (Unit {0}) fault.FrontFault) →
       replies old events ≡ reply_in o → ReplyFits o → SendsReply o before now r →
-      (out : List ℕ) × (now ≡ before ++ out) × Turns may_say old stays_open new m out r
+      (out : List ℕ) × (now ≡ before ++ out) × Turns may_say old left m out r
   said_sent (Reply party text) before now r are fits sent = reply_sent text before now r are
       (fits party text refl) sent
   said_sent o before now (Ok u) are fits sent = nothing_sent before now are sent
   said_sent o before now (Err f) are fits sent = absurd sent
 
 -- what the host said last was sent, if it is a reply
-pub was_sent : (may_say : Saying) (old : Tables) (stays_open : Type 0) (new : Tables)
-    (m : Incoming) (o : Output) (before now : List ℕ) (r : Result (Unit {0}) fault.FrontFault) →
-    Said may_say old new m o → SendsReply o before now r →
-    (out : List ℕ) × (now ≡ before ++ out) × Turns may_say old stays_open new m out r
-was_sent may_say old stays_open new m o before now r s sent =
-    said_sent may_say old stays_open new m s.events s.reads s.took o before now r s.replied s.fits
+pub was_sent : (may_say : Saying) (old : Tables) (left : Left) (m : Incoming) (o : Output)
+    (before now : List ℕ) (r : Result (Unit {0}) fault.FrontFault) →
+    Said may_say old left m o → SendsReply o before now r →
+    (out : List ℕ) × (now ≡ before ++ out) × Turns may_say old left m out r
+was_sent may_say old left m o before now r s sent =
+    said_sent may_say old left m s.events s.reads s.took o before now r s.replied s.fits
     sent
 
 -- what the host said last is held as a frame, if it is a reply
-pub was_held : (may_say : Saying) (old : Tables) (stays_open : Type 0) (new : Tables)
-    (m : Incoming) (o : Output) → Said may_say old new m o →
-    Turns may_say old stays_open new m (frame_said o) (Ok tt)
-was_held may_say old stays_open new m o s = (
+pub was_held : (may_say : Saying) (old : Tables) (left : Left) (m : Incoming) (o : Output) →
+    Said may_say old left m o →
+    Turns may_say old left m (frame_said o) (Ok tt)
+was_held may_say old left m o s = (
   record { events = s.events; took = s.took; written = frames_held o s.replied s.fits },
   s.reads,
 )
@@ -176,38 +177,54 @@ module _ (may_say : Saying) (t : Tables) (moment : ℕ) (text message : List ℕ
   abbrev alone : List ℕ → Incoming
   alone x = record { message = x; moments = moment ∷ []; verdicts = [] }
 
+  -- it was not taken
+  pub message_refused : (left : Left) → (left.is_open → left.tables ≡ t) →
+      LeavesSome left t [] (Frame moment text ∷ []) →
+      Refused may_say t left (alone message) []
+  message_refused left kept stop =
+      let none : TookNone t left (alone text) = record {
+        moment = moment;
+        given = refl;
+        unasked = refl;
+        tables = kept;
+        stop = stop;
+      } in
+      let refused : Refused may_say t left (alone text) [] = (refl, inl none) in
+      subst (λ (x : List ℕ). Refused may_say t left (alone x) []) same refused
+
   -- it doesn't read
-  pub unread : (stays_open : Type 0) (new : Tables) (f : DecodeFault) →
+  pub unread : (left : Left) (f : DecodeFault) →
       step_output t (arrival_of (Frame moment text)) ≡ Undecodable f →
-      new ≡ step_tables t (arrival_of (Frame moment text)) →
-      Takes may_say t stays_open new (alone message) (Err (fault.TheVariants.Undecodable f))
-  unread stays_open new f is tables =
-      let answered : Answered may_say t new (alone text) [] = record {
+      left.tables ≡ step_tables t (arrival_of (Frame moment text)) →
+      LeavesAll left t (Frame moment text ∷ []) →
+      Takes may_say t left (alone message) (Err (fault.TheVariants.Undecodable f))
+  unread left f is tables stop =
+      let answered : Answered may_say t left (alone text) [] = record {
         events = Frame moment text ∷ [];
-        took = took_alone may_say t new moment text (Undecodable f) is (λ query e. cc) tables;
+        took = took_alone may_say t left moment text (Undecodable f) is (λ query e. cc) tables stop;
         written = frames_none (replies_one t (Frame moment text) (Undecodable f) is);
       } in
-      let turned : Takes may_say t stays_open new (alone text)
-      (Err (fault.TheVariants.Undecodable f)) =
+      let turned : Takes may_say t left (alone text) (Err (fault.TheVariants.Undecodable f)) =
       (answered, undecodable_is t moment text f is) in
-      subst (λ (x : List ℕ). Takes may_say t stays_open new (alone x)
+      subst (λ (x : List ℕ). Takes may_say t left (alone x)
       (Err (fault.TheVariants.Undecodable f))) same turned
 
   -- nobody is asked
-  pub plain_said : (new : Tables) (o : Output) →
+  pub plain_said : (left : Left) (o : Output) →
       step_output t (arrival_of (Frame moment text)) ≡ o →
-      new ≡ step_tables t (arrival_of (Frame moment text)) →
+      left.tables ≡ step_tables t (arrival_of (Frame moment text)) →
+      LeavesAll left t (Frame moment text ∷ []) →
       AsksNothing o → ((f : DecodeFault) → o ≡ Undecodable f → ⊥) → ReplyFits o →
-      Said may_say t new (alone message) o
-  plain_said new o is tables nothing read fits =
-      let said : Said may_say t new (alone text) o = record {
+      Said may_say t left (alone message) o
+  plain_said left o is tables stop nothing read fits =
+      let said : Said may_say t left (alone text) o = record {
         events = Frame moment text ∷ [];
-        took = took_alone may_say t new moment text o is nothing tables;
+        took = took_alone may_say t left moment text o is nothing tables stop;
         reads = reads t moment text o is read;
         replied = replies_one t (Frame moment text) o is;
         fits = fits;
       } in
-      subst (λ (x : List ℕ). Said may_say t new (alone x) o) same said
+      subst (λ (x : List ℕ). Said may_say t left (alone x) o) same said
 
   module _ (next : ℕ) (query : Query) (verdict : Verdict)
       (is : step_output t (arrival_of (Frame moment text)) ≡ Ask query)
@@ -221,10 +238,11 @@ module _ (may_say : Saying) (t : Tables) (moment : ℕ) (text message : List ℕ
     asking x = record { message = x; moments = moment ∷ next ∷ []; verdicts = verdict ∷ [] }
 
     -- the issuer was asked, and its answer was not taken
-    pub answer_refused : (stays_open : Type 0) (new : Tables) → (stays_open → new ≡ mid) →
-        Refused may_say t stays_open new (asking message) []
-    answer_refused stays_open new kept =
-        let most : TookAllButAnswer may_say t stays_open new (asking text) = record {
+    pub answer_refused : (left : Left) → (left.is_open → left.tables ≡ mid) →
+        LeavesSome left mid [] (answer ∷ []) →
+        Refused may_say t left (asking message) []
+    answer_refused left kept stop =
+        let most : TookAllButAnswer may_say t left (asking text) = record {
           came = Frame moment text;
           answer = answer;
           is_answer = tt;
@@ -233,24 +251,27 @@ module _ (may_say : Saying) (t : Tables) (moment : ℕ) (text message : List ℕ
           tables = λ still. kept still ∙ between;
           said = said_one may_say t moment text query verdict is said;
           silent = replies_one t (Frame moment text) (Ask query) is;
+          stop = subst (λ (x : Tables). LeavesSome left x [] (answer ∷ [])) between stop;
         } in
-        let refused : Refused may_say t stays_open new (asking text) [] =
-        (refl, inr most) in
-        subst (λ (x : List ℕ). Refused may_say t stays_open new (asking x) []) same refused
+        let refused : Refused may_say t left (asking text) [] = (refl, inr most) in
+        subst (λ (x : List ℕ). Refused may_say t left (asking x) []) same refused
 
     -- its answer was taken
-    pub answer_said : (new : Tables) (o : Output) →
-        o ≡ step_output mid (arrival_of answer) → new ≡ step_tables mid (arrival_of answer) →
-        ReplyFits o → Said may_say t new (asking message) o
-    answer_said new o out tables fits =
+    pub answer_said : (left : Left) (o : Output) →
+        o ≡ step_output mid (arrival_of answer) →
+        left.tables ≡ step_tables mid (arrival_of answer) →
+        LeavesAll left mid (answer ∷ []) →
+        ReplyFits o → Said may_say t left (asking message) o
+    answer_said left o out tables stop fits =
         let said_last : step_output (step_tables t (arrival_of (Frame moment text)))
         (arrival_of answer) ≡ o =
         ap (λ (x : Tables). step_output x (arrival_of answer)) (sym between) ∙ sym out in
-        let both : Said may_say t new (asking text) o = record {
+        let both : Said may_say t left (asking text) o = record {
           events = Frame moment text ∷ answer ∷ [];
-          took = took_answer may_say t mid new moment next text query verdict is between tables said;
+          took = took_answer may_say t mid left moment next text query verdict is between tables
+              stop said;
           reads = reads t moment text (Ask query) is (λ f e. cc);
           replied = replies_two t (Frame moment text) answer query o is said_last;
           fits = fits;
         } in
-        subst (λ (x : List ℕ). Said may_say t new (asking x) o) same both
+        subst (λ (x : List ℕ). Said may_say t left (asking x) o) same both

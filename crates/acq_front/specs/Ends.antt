@@ -5,6 +5,7 @@ use Rattle.acq_link.specs.Frames.{has_bad_length}
 use Rattle.acq_link.specs.FramesAt.{BeginsWithFrame, MayBecomeFrame}
 use Rattle.acq_message.specs.declared.verdict.Verdict.{Verdict}
 use Rattle.acq_core.specs.Tables.{Tables}
+use Rattle.acq_front.specs.Stops.{Left, LeavesAll}
 use Rattle.acq_front.specs.Talk.{Saying}
 use Rattle.acq_front.specs.Turns as front
 use Rattle.acq_front.specs.declared.front_fault.FrontFault as fault
@@ -28,36 +29,36 @@ hand_of c = frame_of c.output
 abbrev pub gone_of : Conversation → ℕ
 gone_of c = gone_from c.output
 
--- nothing was taken
-pub record TookNothing (old new : Tables) (held left unsent : List ℕ) : Type 0 where
-  pub tables : new ≡ old
-  pub same : left ≡ held
+-- nothing was taken, and a stop leaves the tables as they are
+pub record TookNothing (old : Tables) (left : Left) (held rest unsent : List ℕ) : Type 0 where
+  pub tables : left.tables ≡ old
+  pub stop : LeavesAll left old []
+  pub same : rest ≡ held
   pub none : unsent ≡ []
 
-module _ (may_give : ℕ → Type 0) (may_say : Saying) (old : Tables) (stays_open : Type 0)
-    (new : Tables) where
+module _ (may_give : ℕ → Type 0) (may_say : Saying) (old : Tables) (left : Left) where
   -- The next message was taken, at moments that may be given, and answered as `serve` answers one;
   -- what is to be written is what went out there.
-  pub record TakesNext (held left unsent : List ℕ) (ended : Result (Unit {0}) fault.FrontFault)
+  pub record TakesNext (held rest unsent : List ℕ) (ended : Result (Unit {0}) fault.FrontFault)
       : Type 0 where
     pub message : List ℕ
-    pub begins : BeginsWithFrame held message left
+    pub begins : BeginsWithFrame held message rest
     pub moments : List ℕ
     pub given : All may_give moments
     pub verdicts : List Verdict
-    pub turns : front.Turns may_say old stays_open new
+    pub turns : front.Turns may_say old left
         (record { message = message; moments = moments; verdicts = verdicts }) unsent ended
 
   -- one turn
   abbrev pub Steps : List ℕ → List ℕ → List ℕ → Result Turn fault.FrontFault → Type 0
-  Steps held left unsent (Ok Waits) = TookNothing old new held left unsent × MayBecomeFrame held
-  Steps held left unsent (Ok Took) = TakesNext held left unsent (Ok tt)
-  Steps held left unsent (Err fault.TheVariants.BadLength) =
-      TookNothing old new held left unsent × (has_bad_length held ≡ true)
-  Steps held left unsent (Err fault.TheVariants.Memory) =
-      TookNothing old new held left unsent
-      ⊎ TakesNext held left unsent (Err fault.TheVariants.Memory)
-  Steps held left unsent (Err f) = TakesNext held left unsent (Err f)
+  Steps held rest unsent (Ok Waits) = TookNothing old left held rest unsent × MayBecomeFrame held
+  Steps held rest unsent (Ok Took) = TakesNext held rest unsent (Ok tt)
+  Steps held rest unsent (Err fault.TheVariants.BadLength) =
+      TookNothing old left held rest unsent × (has_bad_length held ≡ true)
+  Steps held rest unsent (Err fault.TheVariants.Memory) =
+      TookNothing old left held rest unsent
+      ⊎ TakesNext held rest unsent (Err fault.TheVariants.Memory)
+  Steps held rest unsent (Err f) = TakesNext held rest unsent (Err f)
 
 -- Where no message could be taken, what stands in front: nothing or a frame that is begun, and then
 -- nothing is to be written; or a bad length. Whether the input ended, whether it could be read and

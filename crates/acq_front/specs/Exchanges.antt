@@ -6,6 +6,7 @@ use Rattle.acq_link.specs.Frames.{has_bad_length, is_partial}
 use Rattle.acq_message.specs.declared.verdict.Verdict.{Verdict}
 use Rattle.acq_core.specs.declared.event.Event.{Event}
 use Rattle.acq_core.specs.Tables.{Tables, tables_after}
+use Rattle.acq_front.specs.Stops.{Left, LeavesAll}
 use Rattle.acq_front.specs.Talk.{Saying}
 use Rattle.acq_front.specs.Turns.{TookMessage}
 use Rattle.acq_front.specs.declared.front_fault.FrontFault as fault
@@ -87,22 +88,23 @@ EndsWith held unsent (Err fault.TheVariants.BadLength) = has_bad_length held ≡
 EndsWith held unsent (Err fault.TheVariants.Ended) = is_partial held ≡ true
 EndsWith held unsent other = Unit {0}
 
-module _ (may_give : ℕ → Type 0) (may_say : Saying) (old new : Tables) where
+module _ (may_give : ℕ → Type 0) (may_say : Saying) (old : Tables) (left : Left) where
   -- the host took the events of one message, at moments that may be given
   pub record TookOne (events : List Event) : Type 0 where
     pub message : List ℕ
     pub moments : List ℕ
     pub given : All may_give moments
     pub verdicts : List Verdict
-    pub took : TookMessage may_say old new
+    pub took : TookMessage may_say old left
         (record { message = message; moments = moments; verdicts = verdicts }) events
 
-  -- A round: the host took nothing, or the events of one message; and behind any log, by whichever
-  -- connections its events came, the connection goes on to follow it.
+  -- A round: the host took nothing, or the events of one message, and a stop leaves just these; and
+  -- behind any log, by whichever connections its events came, the connection goes on to follow it.
   pub record Goes (before after : Passed) : Type 0 where
     pub events : List Event
     pub took : (events ≡ []) ⊎ TookOne events
-    pub tables : new ≡ tables_after old events
+    pub tables : left.tables ≡ tables_after old events
+    pub stop : LeavesAll left old events
     pub follows : (k : ℕ) (t : Tables) (log : List Entry) → old ≡ after_log t log →
         FollowsLog k t log before →
         FollowsLog k t (log ++ map (by k) events) after

@@ -2,6 +2,7 @@ pub mod Coming
 pub mod Supplies
 pub mod Talk
 pub mod Faults
+pub mod Stops
 pub mod Turns
 pub mod Serving
 pub mod Exchanges

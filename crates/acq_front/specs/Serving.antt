@@ -5,13 +5,16 @@ use Rattle.std.specs.List.{list_all}
 use Rattle.acq_link.specs.Frames.{fits_frame, frame, framed, Frames, FramesThen, has_frame}
 use Rattle.acq_link.specs.Frames.{has_bad_length}
 use Rattle.acq_link.specs.Frames.{is_partial}
+use Rattle.acq_link.specs.FramesAt.{BeginsWithFrame}
 use Rattle.iso_codec.specs.Reading.{reading_of}
 use Rattle.iso_codec.specs.declared.decode_fault.DecodeFault.{DecodeFault}
 use Rattle.acq_message.specs.declared.verdict.Verdict.{Verdict}
 use Rattle.acq_core.specs.declared.event.Event.{Event}
+use Rattle.acq_core.specs.declared.event.Event.TheVariants.{Frame}
 use Rattle.acq_core.specs.Tables.{Tables, outputs, tables_after}
 use Rattle.acq_host.specs.Headline.{IsAlone}
 use Rattle.acq_front.specs.declared.front_fault.FrontFault as fault
+use Rattle.acq_front.specs.Stops.{Left, LeavesAll, LeavesSome}
 use Rattle.acq_front.specs.Talk.{talk, replies, queries, Saying, AreSaid}
 use Rattle.acq_front.specs.Turns.{is_read, IsAnswer}
 
@@ -45,41 +48,61 @@ AllRead messages = list_all is_read messages ≡ true
 
 -- What came are the frames of the messages and then the rest. The host took the messages' events,
 -- asking the issuer for each answer, and what went out are the frames of the replies to them: to
--- each merchant, and to nobody, what its own events alone give.
-pub record AllAnswered (may_say : Saying) (old new : Tables) (c : Connection) : Type 0 where
-  pub came : FramesThen c.input c.messages c.rest
-  pub tables : new ≡ tables_after old (events_of old c)
-  pub alone : IsAlone old (events_of old c) (outputs old (events_of old c)) new
-  pub said : AreSaid may_say (queries old (events_of old c)) c.verdicts
-  pub written : Frames c.output (replies old (events_of old c))
+-- each merchant, and to nobody, what its own events alone give. A stop leaves all these events.
+pub record AllAnswered (may_say : Saying) (old : Tables) (left : Left) (c : Connection) : Type 0
+  where
+    pub came : FramesThen c.input c.messages c.rest
+    pub tables : left.tables ≡ tables_after old (events_of old c)
+    pub alone : IsAlone old (events_of old c) (outputs old (events_of old c)) left.tables
+    pub said : AreSaid may_say (queries old (events_of old c)) c.verdicts
+    pub written : Frames c.output (replies old (events_of old c))
+    pub stop : LeavesAll left old (events_of old c)
 
 -- So it is, but of the last reply's frame only the first n bytes went out.
-pub record CutsLast (may_say : Saying) (old new : Tables) (c : Connection) (n : ℕ) : Type 0 where
+pub record CutsLast (may_say : Saying) (old : Tables) (left : Left) (c : Connection) (n : ℕ)
+    : Type 0 where
   pub came : FramesThen c.input c.messages c.rest
   pub read : AllRead c.messages
-  pub tables : new ≡ tables_after old (events_of old c)
-  pub alone : IsAlone old (events_of old c) (outputs old (events_of old c)) new
+  pub tables : left.tables ≡ tables_after old (events_of old c)
+  pub alone : IsAlone old (events_of old c) (outputs old (events_of old c)) left.tables
   pub said : AreSaid may_say (queries old (events_of old c)) c.verdicts
   pub earlier : List (List ℕ)
   pub last : List ℕ
   pub replied : replies old (events_of old c) ≡ earlier ++ last ∷ []
   pub short : n < length (frame last)
   pub written : c.output ≡ framed earlier ++ take n (frame last)
+  pub stop : LeavesAll left old (events_of old c)
 
--- So it is, but the last issuer's answer may not have been taken. The tables are those of the
--- events that were, where the book is still open.
-pub record LeavesOff (may_say : Saying) (old : Tables) (stays_open : Type 0) (new : Tables)
-    (c : Connection) : Type 0 where
-  pub came : FramesThen c.input c.messages c.rest
-  pub read : AllRead c.messages
-  pub events : List Event
-  pub missing : List Event
-  pub at_most_one : (missing ≡ []) ⊎ ((e : Event) × IsAnswer e × (missing ≡ e ∷ []))
-  pub all : events_of old c ≡ events ++ missing
-  pub tables : stays_open → new ≡ tables_after old events
-  pub alone : stays_open → IsAlone old events (outputs old events) new
-  pub said : AreSaid may_say (queries old events) c.verdicts
-  pub written : Frames c.output (replies old events)
+-- behind the messages stands another one's frame: it came at the last of the moments, as this event
+pub record IsNext (c : Connection) (e : Event) : Type 0 where
+  pub message : List ℕ
+  pub behind : List ℕ
+  pub begins : BeginsWithFrame c.rest message behind
+  pub earlier : List ℕ
+  pub moment : ℕ
+  pub given : c.moments ≡ earlier ++ moment ∷ []
+  pub is : e ≡ Frame moment message
+
+-- So it is, but the last issuer's answer may not have been taken, or the next message. The tables
+-- are those of the events that were, where the book is still open; a stop leaves these events, or
+-- these and the one that was not taken.
+pub record LeavesOff (may_say : Saying) (old : Tables) (left : Left) (c : Connection) : Type 0
+  where
+    pub came : FramesThen c.input c.messages c.rest
+    pub read : AllRead c.messages
+    pub events : List Event
+    pub missing : List Event
+    pub at_most_one : (missing ≡ []) ⊎ ((e : Event) × IsAnswer e × (missing ≡ e ∷ []))
+    pub all : events_of old c ≡ events ++ missing
+    pub tables : left.is_open → left.tables ≡ tables_after old events
+    pub alone : left.is_open → IsAlone old events (outputs old events) left.tables
+    pub said : AreSaid may_say (queries old events) c.verdicts
+    pub written : Frames c.output (replies old events)
+    pub in_hand : List Event
+    pub which :
+        (in_hand ≡ missing)
+        ⊎ ((missing ≡ []) × ((e : Event) × IsNext c e × (in_hand ≡ e ∷ [])))
+    pub stop : LeavesSome left old events in_hand
 
 -- the last of these messages doesn't read, for this reason, and it alone
 pub record LastUnread (messages : List (List ℕ)) (f : DecodeFault) : Type 0 where
@@ -90,21 +113,21 @@ pub record LastUnread (messages : List (List ℕ)) (f : DecodeFault) : Type 0 wh
   pub unread : reading_of last ≡ Err f
 
 -- how a connection was served
-abbrev pub Serves : Saying → Tables → Type 0 → Tables → Connection →
+abbrev pub Serves : Saying → Tables → Left → Connection →
     Result (Unit {0}) fault.FrontFault → Type 0
-Serves may_say old stays_open new c (Ok u) =
-    AllAnswered may_say old new c × AllRead c.messages × (c.rest ≡ [])
-Serves may_say old stays_open new c (Err fault.TheVariants.Memory) =
-    LeavesOff may_say old stays_open new c
-Serves may_say old stays_open new c (Err fault.TheVariants.Store) =
-    LeavesOff may_say old stays_open new c
-Serves may_say old stays_open new c (Err fault.TheVariants.BadLength) =
-    AllAnswered may_say old new c × AllRead c.messages × (has_bad_length c.rest ≡ true)
-Serves may_say old stays_open new c (Err fault.TheVariants.Ended) =
-    AllAnswered may_say old new c × AllRead c.messages × (is_partial c.rest ≡ true)
-Serves may_say old stays_open new c (Err (fault.TheVariants.Undecodable f)) =
-    AllAnswered may_say old new c × LastUnread c.messages f
-Serves may_say old stays_open new c (Err fault.TheVariants.Read) =
-    AllAnswered may_say old new c × AllRead c.messages × (has_frame c.rest ≡ false)
-Serves may_say old stays_open new c (Err (fault.TheVariants.Write n)) =
-    CutsLast may_say old new c n
+Serves may_say old left c (Ok u) =
+    AllAnswered may_say old left c × AllRead c.messages × (c.rest ≡ [])
+Serves may_say old left c (Err fault.TheVariants.Memory) =
+    LeavesOff may_say old left c
+Serves may_say old left c (Err fault.TheVariants.Store) =
+    LeavesOff may_say old left c
+Serves may_say old left c (Err fault.TheVariants.BadLength) =
+    AllAnswered may_say old left c × AllRead c.messages × (has_bad_length c.rest ≡ true)
+Serves may_say old left c (Err fault.TheVariants.Ended) =
+    AllAnswered may_say old left c × AllRead c.messages × (is_partial c.rest ≡ true)
+Serves may_say old left c (Err (fault.TheVariants.Undecodable f)) =
+    AllAnswered may_say old left c × LastUnread c.messages f
+Serves may_say old left c (Err fault.TheVariants.Read) =
+    AllAnswered may_say old left c × AllRead c.messages × (has_frame c.rest ≡ false)
+Serves may_say old left c (Err (fault.TheVariants.Write n)) =
+    CutsLast may_say old left c n

@@ -7,6 +7,7 @@ ghost use Rattle.acq_front.specs.Coming.{GivesAll};
 ghost use Rattle.acq_front.specs.Faults.{IfStore, UnlessRefused, failed_reads, failed_writes};
 ghost use Rattle.acq_front.specs.Passing.{CameOver, FailsOver, PassesOver};
 ghost use Rattle.acq_front.specs.Serving.{Connection, FrameCame, Serves};
+ghost use Rattle.acq_front.specs.Stops.{left_of};
 ghost use Rattle.acq_front.specs.Talk.{first_moment};
 
 use crate::clock::Clock;
@@ -48,8 +49,8 @@ pub trait Connections {
             × GivesAll first_moment (C.coming clock.old) (C.coming clock.new) c.moments
             × All (C.may_give clock.old) c.moments
             × GivesAll Verdict.NoAnswer (I.coming issuer.old) (I.coming issuer.new) c.verdicts
-            × Serves (I.may_say issuer.old) (B.tables host.old) (B.is_open host.new)
-            (B.tables host.new) c result }
+            × Serves (I.may_say issuer.old) (B.tables host.old)
+            (left_of B.Book host.new) c result }
         ensures was_honest { B.is_honest host.new → B.is_honest host.old }
         ensures said_later { (q : Query) (v : Verdict) → I.may_say issuer.new q v
             → I.may_say issuer.old q v }
@@ -81,8 +82,8 @@ pub fn serve_ends<B: Book + Drop, S: Source + Drop, K: Sink + Drop, C: Clock, I:
         × GivesAll first_moment (C.coming clock.old) (C.coming clock.new) c.moments
         × All (C.may_give clock.old) c.moments
         × GivesAll Verdict.NoAnswer (I.coming issuer.old) (I.coming issuer.new) c.verdicts
-        × Serves (I.may_say issuer.old) (B.tables host.old) (B.is_open host.new)
-        (B.tables host.new) c result }
+        × Serves (I.may_say issuer.old) (B.tables host.old)
+        (left_of B.Book host.new) c result }
     ensures was_honest { B.is_honest host.new → B.is_honest host.old }
     ensures said_later { (q : Query) (v : Verdict) → I.may_say issuer.new q v
         → I.may_say issuer.old q v }

@@ -7,6 +7,7 @@ ghost use Rattle.acq_book.specs.Promise.{HasRisen};
 ghost use Rattle.acq_front.specs.Ends.{held_of, unsent_of, hand_of, gone_of, Steps, StopsAt};
 ghost use Rattle.acq_front.specs.Faults.{IfStore, UnlessRefused};
 ghost use Rattle.acq_front.specs.Serving.{HoldsFrame};
+ghost use Rattle.acq_front.specs.Stops.{left_of};
 
 use crate::outgoing::Outgoing;
 use crate::serving::take_message;
@@ -101,8 +102,8 @@ impl Conversation {
         requires { unsent_of self.old ≡ [] }
         ensures steps { B.is_honest host.new → B.is_open host.old
             → Steps (C.may_give clock.old) (I.may_say issuer.old) (B.tables host.old)
-            (B.is_open host.new) (B.tables host.new) (held_of self.old) (held_of self.new)
-            (unsent_of self.new) result }
+            (left_of B.Book host.new) (held_of self.old) (held_of self.new) (unsent_of self.new)
+            result }
         // Where no message could be taken, what stands in front.
         ensures stops { StopsAt (held_of self.new) (unsent_of self.new) result }
         // Nothing of its reply was written yet.

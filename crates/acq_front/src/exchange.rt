@@ -1,14 +1,17 @@
 //! Connections whose lines don't wait.
 
 ghost use Rattle.std.specs.Prelude.{◌≡◌, ◌⊎◌, ◌≤◌, ◌+◌, ◌++◌, ℕ, List, [], false, length, take};
-ghost use Rattle.std.specs.Prelude.{drop};
+ghost use Rattle.std.specs.Prelude.{drop, Err};
 ghost use Rattle.acq_link.specs.FramesAt.{MayBecomeFrame};
 ghost use Rattle.acq_book.specs.Promise.{HasRisen};
 ghost use Rattle.acq_front.specs.Exchanges.{line_of, held_of, unsent_of, hand_of, gone_of, passed};
 ghost use Rattle.acq_front.specs.Exchanges.{EndsInFirst, EndsWith, Goes, IfWaits, IfWrite};
 ghost use Rattle.acq_front.specs.Exchanges.{late_fault, tells_end};
-ghost use Rattle.acq_front.specs.Faults.{IfStore, UnlessRefused, failed_reads, failed_writes};
+ghost use Rattle.acq_front.specs.Ends.{Steps};
+ghost use Rattle.acq_front.specs.Faults.{IfRefused, IfStore, UnlessRefused};
+ghost use Rattle.acq_front.specs.Faults.{failed_reads, failed_writes};
 ghost use Rattle.acq_front.specs.Serving.{HoldsFrame};
+ghost use Rattle.acq_front.specs.Stops.{left_of};
 
 use crate::conversation::Conversation;
 use crate::line::Line;
@@ -63,8 +66,13 @@ impl<L: Line> Exchange<L> {
     ) -> Result<Round, FrontFault>
         ensures goes { B.is_honest host.new → B.is_open host.old → UnlessRefused result
             (Goes (C.may_give clock.old) (I.may_say issuer.old) (B.tables host.old)
-            (B.tables host.new) (passed L.received L.sent self.old)
+            (left_of B.Book host.new) (passed L.received L.sent self.old)
             (passed L.received L.sent self.new)) }
+        // Where memory or the store refused a call, it is as a turn tells it.
+        ensures refused { B.is_honest host.new → B.is_open host.old → IfRefused result (λ fault.
+            Steps (C.may_give clock.old) (I.may_say issuer.old) (B.tables host.old)
+            (left_of B.Book host.new) (held_of self.old) (held_of self.new) (unsent_of self.new)
+            (Err fault)) }
         ensures ends { EndsWith (held_of self.new) (unsent_of self.new) result }
         // The end is told exactly where the line ended, and a fault of reading or writing where a
         // read or a write failed.
@@ -135,6 +143,7 @@ impl<L: Line> Exchange<L> {
             → EndsInFirst (L.sent (line_of self.new)) (hand_of self.new) (gone_of self.new) }
         ensures told { IfWrite result (λ n. n ≡ gone_of self.new) }
         ensures store { IfStore result ⊥ }
+        ensures unrefused { IfRefused result (λ fault. ⊥) }
         ensures idle { IfWaits result
             (passed L.received L.sent self.new ≡ passed L.received L.sent self.old) }
     {
@@ -167,6 +176,7 @@ impl<L: Line> Exchange<L> {
         ensures gone { gone_of self.new ≡ gone_of self.old }
         ensures told { IfWrite result (λ n. ⊥) }
         ensures store { IfStore result ⊥ }
+        ensures unrefused { IfRefused result (λ fault. ⊥) }
         ensures idle { IfWaits result
             (passed L.received L.sent self.new ≡ passed L.received L.sent self.old) }
     {

@@ -12,6 +12,7 @@ ghost use Rattle.acq_front.specs.Faults.{failed_writes};
 ghost use Rattle.acq_front.specs.Turns.{OfMessage, OfTaking, ReplyFits, Sends, SendsReply};
 ghost use Rattle.acq_front.specs.Turns.{Takes, Turns};
 ghost use Rattle.acq_front.specs.Serving.{Connection, FrameCame, Serves};
+ghost use Rattle.acq_front.specs.Stops.{left_of};
 
 use crate::clock::Clock;
 use crate::front_fault::FrontFault;
@@ -44,15 +45,15 @@ pub fn serve<B: Book + Drop, S: Source, K: Sink, C: Clock, I: Issuer>(
     clock: &mut C,
     issuer: &mut I,
 ) -> Result<(), FrontFault>
-    // What came and what went out, and how it was served.
+    // What came and what went out, how it was served, and what a stop may leave.
     ensures served { B.is_honest host.new → B.is_open host.old → (c : Connection)
         × (S.received source.new ≡ S.received source.old ++ c.input)
         × (K.sent sink.new ≡ K.sent sink.old ++ c.output)
         × GivesAll first_moment (C.coming clock.old) (C.coming clock.new) c.moments
         × All (C.may_give clock.old) c.moments
         × GivesAll Verdict.NoAnswer (I.coming issuer.old) (I.coming issuer.new) c.verdicts
-        × Serves (I.may_say issuer.old) (B.tables host.old) (B.is_open host.new)
-        (B.tables host.new) c result }
+        × Serves (I.may_say issuer.old) (B.tables host.old)
+        (left_of B.Book host.new) c result }
     ensures was_honest { B.is_honest host.new → B.is_honest host.old }
     // Clock and issuer give nothing later that they might not have given at first.
     ensures said_later { (q : Query) (v : Verdict) → I.may_say issuer.new q v
@@ -107,8 +108,7 @@ pub fn answer_message<B: Book + Drop, K: Sink, C: Clock, I: Issuer>(
         × GivesAll first_moment (C.coming clock.old) (C.coming clock.new) moments
         × All (C.may_give clock.old) moments
         × GivesAll Verdict.NoAnswer (I.coming issuer.old) (I.coming issuer.new) verdicts
-        × Turns (I.may_say issuer.old) (B.tables host.old) (B.is_open host.new)
-        (B.tables host.new)
+        × Turns (I.may_say issuer.old) (B.tables host.old) (left_of B.Book host.new)
         (record { message = message.items; moments = moments; verdicts = verdicts }) out result }
     ensures was_honest { B.is_honest host.new → B.is_honest host.old }
     ensures stays_open { B.is_honest host.new → B.is_open host.old
@@ -139,8 +139,7 @@ pub(crate) fn take_message<B: Book + Drop, C: Clock, I: Issuer>(
         × GivesAll first_moment (C.coming clock.old) (C.coming clock.new) moments
         × All (C.may_give clock.old) moments
         × GivesAll Verdict.NoAnswer (I.coming issuer.old) (I.coming issuer.new) verdicts
-        × Takes (I.may_say issuer.old) (B.tables host.old) (B.is_open host.new)
-        (B.tables host.new)
+        × Takes (I.may_say issuer.old) (B.tables host.old) (left_of B.Book host.new)
         (record { message = message.items; moments = moments; verdicts = verdicts }) result }
     ensures was_honest { B.is_honest host.new → B.is_honest host.old }
     ensures stays_open { B.is_honest host.new → B.is_open host.old

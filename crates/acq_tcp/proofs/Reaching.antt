@@ -1,66 +1,132 @@
 -- What one part reaches, and the next one from there, both reach.
-use Rattle.std.proofs.Common.{ℕ, ◌++◌, ◌∙◌, ap, sym, Option, Some, None, Result, Ok, Err}
+use Rattle.std.proofs.Common.{ℕ, List, [], ◌∷◌, ◌++◌, ◌∙◌, ap, sym, refl, inl, inr, arith}
+use Rattle.std.proofs.Common.{Option, Some, None, Result, Ok, Err}
 use Rattle.acq_core.specs.Tables.{Tables, tables_after}
+use Rattle.acq_core.specs.declared.event.Event.TheVariants.{Frame}
 use Rattle.acq_history.proofs.FinalDays.{tables_after-append}
-use Rattle.acq_commands.specs.Listening.{Reached, ReachedUnlessRefused}
+use Rattle.acq_commands.specs.Listening.{Reaches, ReachesSome, ReachesBy, going_on}
 use Rattle.acq_commands.specs.declared.fault.Fault as fault
+use Rattle.acq_front.proofs.StopsLeave.{all_behind, some_behind}
+use Rattle.acq_front.specs.Ends.{Steps}
 use Rattle.acq_front.specs.Exchanges.{Goes, Passed}
 use Rattle.acq_front.specs.Faults as front
+use Rattle.acq_front.specs.Stops.{Left, LeavesAll}
 use Rattle.acq_front.specs.Talk.{Saying}
+use Rattle.acq_front.specs.Turns.{Incoming, Refused}
 use Rattle.acq_front.specs.declared.front_fault.FrontFault as ended
 use Rattle.acq_front.specs.declared.round.Round.{Round}
-use Rattle.acq_tcp.specs.Rounds.{UnlessRefused}
+use Rattle.acq_tcp.specs.Rounds.{RoundReaches}
 
-pub reached_on : (old mid new : Tables) → Reached old mid → Reached mid new → Reached old new
-reached_on old mid new one two = (
-  one.0 ++ two.0,
-  two.1 ∙ ap (λ (t : Tables). tables_after t two.0) one.1
-      ∙ sym (tables_after-append old one.0 two.0),
-)
+-- nothing was taken
+pub reaches_none : (left : Left) → LeavesAll left left.tables [] → Reaches left.tables left
+reaches_none left stop = record { events = []; tables = refl; stop = stop }
 
-pub refused_on : (old mid new : Tables) (f : fault.Fault) → Reached old mid →
-    ReachedUnlessRefused mid new (Err f) →
-    ReachedUnlessRefused old new (Err f)
-refused_on old mid new fault.TheVariants.Memory one two = tt
-refused_on old mid new fault.TheVariants.Store one two = tt
-refused_on old mid new (fault.TheVariants.BadAnswer n) one two = reached_on old mid new one two
-refused_on old mid new fault.TheVariants.NoSuchMerchant one two = reached_on old mid new one two
-refused_on old mid new fault.TheVariants.NotABook one two = reached_on old mid new one two
-refused_on old mid new (fault.TheVariants.OtherVersion n) one two = reached_on old mid new one two
-refused_on old mid new fault.TheVariants.BadLength one two = reached_on old mid new one two
-refused_on old mid new fault.TheVariants.Ended one two = reached_on old mid new one two
-refused_on old mid new (fault.TheVariants.Undecodable u) one two = reached_on old mid new one two
-refused_on old mid new fault.TheVariants.Read one two = reached_on old mid new one two
-refused_on old mid new (fault.TheVariants.Write n) one two = reached_on old mid new one two
-refused_on old mid new fault.TheVariants.DayNotOver one two = reached_on old mid new one two
-refused_on old mid new (fault.TheVariants.StillPending n) one two = reached_on old mid new one two
-refused_on old mid new (fault.TheVariants.BadLine n) one two = reached_on old mid new one two
+pub reached_on : (old : Tables) (mid left : Left) → Reaches old mid → Reaches mid.tables left →
+    Reaches old left
+reached_on old mid left one two = record {
+  events = one.events ++ two.events;
+  tables = two.tables ∙ ap (λ (t : Tables). tables_after t two.events) one.tables
+      ∙ sym (tables_after-append old one.events two.events);
+  stop = all_behind left old mid.tables one.events one.tables two.events two.stop;
+}
+
+some_on : (old : Tables) (mid left : Left) → Reaches old mid → ReachesSome mid.tables left →
+    ReachesSome old left
+some_on old mid left one two = record {
+  events = one.events ++ two.events;
+  in_hand = two.in_hand;
+  at_most_one = two.at_most_one;
+  tables = λ o. two.tables o ∙ ap (λ (t : Tables). tables_after t two.events) one.tables
+      ∙ sym (tables_after-append old one.events two.events);
+  stop = some_behind left old mid.tables one.events one.tables two.events two.in_hand two.stop;
+}
+
+pub refused_on : (old : Tables) (mid left : Left) (f : fault.Fault) → Reaches old mid →
+    ReachesBy mid.tables left (Err f) → ReachesBy old left (Err f)
+refused_on old mid left fault.TheVariants.Memory one two = some_on old mid left one two
+refused_on old mid left fault.TheVariants.Store one two = some_on old mid left one two
+refused_on old mid left (fault.TheVariants.BadAnswer n) one two = reached_on old mid left one two
+refused_on old mid left fault.TheVariants.NoSuchMerchant one two = reached_on old mid left one two
+refused_on old mid left fault.TheVariants.NotABook one two = reached_on old mid left one two
+refused_on old mid left (fault.TheVariants.OtherVersion n) one two = reached_on old mid left one two
+refused_on old mid left fault.TheVariants.BadLength one two = reached_on old mid left one two
+refused_on old mid left fault.TheVariants.Ended one two = reached_on old mid left one two
+refused_on old mid left (fault.TheVariants.Undecodable u) one two = reached_on old mid left one two
+refused_on old mid left fault.TheVariants.Read one two = reached_on old mid left one two
+refused_on old mid left (fault.TheVariants.Write n) one two = reached_on old mid left one two
+refused_on old mid left fault.TheVariants.DayNotOver one two = reached_on old mid left one two
+refused_on old mid left (fault.TheVariants.StillPending n) one two = reached_on old mid left one two
+refused_on old mid left (fault.TheVariants.BadLine n) one two = reached_on old mid left one two
+
+-- where some were, and none was refused
+pub some_of : (old : Tables) (left : Left) → Reaches old left → ReachesSome old left
+some_of old left all = record {
+  events = all.events;
+  in_hand = [];
+  at_most_one = omega arith;
+  tables = λ o. all.tables;
+  stop = record { tables = λ t l. inl (all.stop.tables t l); stored = all.stop.stored };
+}
 
 -- what a round leaves is reached, however the connection ended behind it
-pub reached_still : (r : Option (Result (Unit {0}) ended.FrontFault)) (old new : Tables) →
-    Reached old new → UnlessRefused r (Reached old new)
-reached_still None old new h = h
-reached_still (Some (Ok u)) old new h = h
-reached_still (Some (Err ended.TheVariants.Memory)) old new h = tt
-reached_still (Some (Err ended.TheVariants.Store)) old new h = tt
-reached_still (Some (Err ended.TheVariants.BadLength)) old new h = h
-reached_still (Some (Err ended.TheVariants.Ended)) old new h = h
-reached_still (Some (Err (ended.TheVariants.Undecodable f))) old new h = h
-reached_still (Some (Err ended.TheVariants.Read)) old new h = h
-reached_still (Some (Err (ended.TheVariants.Write n))) old new h = h
+pub reached_still : (r : Option (Result (Unit {0}) ended.FrontFault)) (old : Tables) (left : Left) →
+    Reaches old left → RoundReaches old left r
+reached_still None old left h = h
+reached_still (Some (Ok u)) old left h = h
+reached_still (Some (Err ended.TheVariants.Memory)) old left h = some_of old left h
+reached_still (Some (Err ended.TheVariants.Store)) old left h = some_of old left h
+reached_still (Some (Err ended.TheVariants.BadLength)) old left h = h
+reached_still (Some (Err ended.TheVariants.Ended)) old left h = h
+reached_still (Some (Err (ended.TheVariants.Undecodable f))) old left h = h
+reached_still (Some (Err ended.TheVariants.Read)) old left h = h
+reached_still (Some (Err (ended.TheVariants.Write n))) old left h = h
 
-module _ (may_give : ℕ → Type 0) (may_say : Saying) (old new : Tables) (before after : Passed) where
-  pub round_reaches : Goes may_give may_say old new before after → Reached old new
-  round_reaches goes = (goes.events, goes.tables)
+module _ (may_give : ℕ → Type 0) (may_say : Saying) (old : Tables) (left : Left) where
+  -- of a message nothing was taken, or not its issuer's answer
+  refused : (m : Incoming) (out : List ℕ) → Refused may_say old left m out → ReachesSome old left
+  refused m out (none, inl untaken) = record {
+    events = [];
+    in_hand = Frame untaken.moment m.message ∷ [];
+    at_most_one = omega arith;
+    tables = untaken.tables;
+    stop = untaken.stop;
+  }
+  refused m out (none, inr most) = record {
+    events = most.came ∷ [];
+    in_hand = most.answer ∷ [];
+    at_most_one = omega arith;
+    tables = most.tables;
+    stop = most.stop;
+  }
 
-  -- and so where the round ended it
-  pub end_reaches : (f : ended.FrontFault) →
-      front.UnlessRefused {X = Round} (Err f) (Goes may_give may_say old new before after) →
-      UnlessRefused (Some (Err f)) (Reached old new)
-  end_reaches ended.TheVariants.Memory h = tt
-  end_reaches ended.TheVariants.Store h = tt
-  end_reaches ended.TheVariants.BadLength h = round_reaches h
-  end_reaches ended.TheVariants.Ended h = round_reaches h
-  end_reaches (ended.TheVariants.Undecodable f) h = round_reaches h
-  end_reaches ended.TheVariants.Read h = round_reaches h
-  end_reaches (ended.TheVariants.Write n) h = round_reaches h
+  module _ (before after : Passed) where
+    pub round_reaches : Goes may_give may_say old left before after → Reaches old left
+    round_reaches goes = record { events = goes.events; tables = goes.tables; stop = goes.stop }
+
+    -- and so where the round ended it
+    pub end_reaches : (held rest unsent : List ℕ) (f : ended.FrontFault) →
+        front.UnlessRefused {X = Round} (Err f) (Goes may_give may_say old left before after) →
+        front.IfRefused {X = Round} (Err f)
+        (λ g. Steps may_give may_say old left held rest unsent (Err g)) →
+        RoundReaches old left (Some (Err f))
+    end_reaches held rest unsent ended.TheVariants.Memory h (inl none) = some_of old left
+        (record { events = []; tables = none.tables; stop = none.stop })
+    end_reaches held rest unsent ended.TheVariants.Memory h (inr next) = refused _ unsent next.turns
+    end_reaches held rest unsent ended.TheVariants.Store h next = refused _ unsent next.turns
+    end_reaches held rest unsent ended.TheVariants.BadLength h none = round_reaches h
+    end_reaches held rest unsent ended.TheVariants.Ended h none = round_reaches h
+    end_reaches held rest unsent (ended.TheVariants.Undecodable f) h none = round_reaches h
+    end_reaches held rest unsent ended.TheVariants.Read h none = round_reaches h
+    end_reaches held rest unsent (ended.TheVariants.Write n) h none = round_reaches h
+
+-- what the end of a connection is for the program
+pub program_reaches : (old : Tables) (left : Left) (r : Result (Unit {0}) ended.FrontFault) →
+    RoundReaches old left (Some r) → ReachesBy old left (going_on r)
+program_reaches old left (Ok u) h = h
+program_reaches old left (Err ended.TheVariants.Memory) h = h
+program_reaches old left (Err ended.TheVariants.Store) h = h
+program_reaches old left (Err ended.TheVariants.BadLength) h = h
+program_reaches old left (Err ended.TheVariants.Ended) h = h
+program_reaches old left (Err (ended.TheVariants.Undecodable f)) h = h
+program_reaches old left (Err ended.TheVariants.Read) h = h
+program_reaches old left (Err (ended.TheVariants.Write n)) h = h

@@ -1,7 +1,7 @@
 //! A connection among others.
 
-ghost use Rattle.acq_commands.specs.Listening.{Reached};
-ghost use Rattle.acq_tcp.specs.Rounds.{UnlessRefused};
+ghost use Rattle.acq_front.specs.Stops.{left_of};
+ghost use Rattle.acq_tcp.specs.Rounds.{RoundReaches, UnlessRefused};
 
 use crate::parting::{PIECE, Parting};
 use crate::time_limits::{TimeLimits, left_of, shorter};
@@ -99,8 +99,8 @@ impl<'a, T: time::Clock> OpenConnection<'a, T> {
         now: Option<Instant>,
         limits: TimeLimits,
     ) -> Option<Result<(), FrontFault>>
-        ensures reached { B.is_honest host.new → B.is_open host.old
-            → UnlessRefused result (Reached (B.tables host.old) (B.tables host.new)) }
+        ensures reaches { B.is_honest host.new → B.is_open host.old
+            → RoundReaches (B.tables host.old) (left_of B.Book host.new) result }
         ensures stays_open { B.is_honest host.new → B.is_open host.old
             → UnlessRefused result (B.is_open host.new) }
         ensures was_honest { B.is_honest host.new → B.is_honest host.old }

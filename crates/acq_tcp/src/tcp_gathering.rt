@@ -2,7 +2,8 @@
 
 ghost use Rattle.std.specs.Prelude.{◌≤◌, IfErr, OnOk};
 ghost use Rattle.acq_commands.specs.Faults.{IsOfGathering};
-ghost use Rattle.acq_commands.specs.Listening.{ReachedUnlessRefused};
+ghost use Rattle.acq_commands.specs.Listening.{ReachesBy};
+ghost use Rattle.acq_front.specs.Stops.{left_of};
 
 use crate::open_connection::OpenConnection;
 use crate::parting::ends_in_bad_frame;
@@ -254,8 +255,8 @@ impl<'a, T: time::Clock> TcpGathering<'a, T> {
         issuer: &mut I,
         faults: &mut F,
     ) -> Result<(), Fault>
-        ensures reached { B.is_honest host.new → B.is_open host.old
-            → ReachedUnlessRefused (B.tables host.old) (B.tables host.new) result }
+        ensures reaches { B.is_honest host.new → B.is_open host.old
+            → ReachesBy (B.tables host.old) (left_of B.Book host.new) result }
         ensures stays_open { B.is_honest host.new → B.is_open host.old
             → OnOk result (B.is_open host.new) }
         ensures was_honest { B.is_honest host.new → B.is_honest host.old }
@@ -295,8 +296,8 @@ fn give_round<'a, T: time::Clock, B: Book + Drop, C: Clock, I: Issuer, F: Sink>(
     limits: TimeLimits,
     faults: &mut F,
 ) -> Result<(), Fault>
-    ensures reached { B.is_honest host.new → B.is_open host.old
-        → ReachedUnlessRefused (B.tables host.old) (B.tables host.new) result }
+    ensures reaches { B.is_honest host.new → B.is_open host.old
+        → ReachesBy (B.tables host.old) (left_of B.Book host.new) result }
     ensures stays_open { B.is_honest host.new → B.is_open host.old
         → OnOk result (B.is_open host.new) }
     ensures was_honest { B.is_honest host.new → B.is_honest host.old }

@@ -2,7 +2,10 @@ use Rattle.std.proofs.Common.{[], ◌++◌, ◌∷◌, refl, sym, ap, ◌∙◌,
 use Rattle.std.proofs.lemmas.Result.{err_from_is_err_and}
 use Rattle.std.proofs.lemmas.List.{length_push}
 use Rattle.acq_commands.specs.Listening.{Traffic, with_served}
-use Rattle.acq_commands.proofs.ConnectionsServed.{weaker_one, one_more, passes_more}
+use Rattle.acq_front.specs.Stops.{left_of, open_at}
+use Rattle.acq_front.proofs.ServedWeaker.{says_same}
+use Rattle.acq_front.proofs.StopsLeave.{none_stop}
+use Rattle.acq_commands.proofs.ConnectionsServed.{weaker_one, says_open, one_more, passes_more}
 use Rattle.acq_commands.proofs.listening.serve_all.Goals as goal
 
 pub loop-init : goal.loop-init
@@ -31,7 +34,8 @@ loop-preserved g c =
             one_more give say old mid new so.0 s.0 so.2
                 (weaker_one (g.C.Clock.may_give c.loop.clock) give inv.3
                 (g.I.Issuer.may_say c.loop.issuer) say inv.2
-                (g.B.Book.is_open c.serve_one.new.host) (Unit {0}) (λ u. still) mid new s.0 s.1),
+                (left_of g.B.Book c.serve_one.new.host) (open_at new)
+                (says_open (left_of g.B.Book c.serve_one.new.host) still) mid s.0 s.1),
             passes_more _ _ _ so.0 s.0 so.3 s.2,
             still,
           )),
@@ -49,8 +53,7 @@ returns-in_err-serve_one g c = record {
       let give = g.C.Clock.may_give c.args.clock.now in
       let say = g.I.Issuer.may_say c.args.issuer.now in
       let mid = g.B.Book.tables c.loop.host in
-      let new = g.B.Book.tables c.serve_one.new.host in
-      let still = g.B.Book.is_open c.serve_one.new.host in
+      let left = left_of g.B.Book c.serve_one.new.host in
       let so = inv.0 (one.was_honest h) o in
       let s = one.served h so.4 in
       rw (p.1, p.2) (
@@ -59,7 +62,7 @@ returns-in_err-serve_one g c = record {
         mid,
         so.2,
         weaker_one (g.C.Clock.may_give c.loop.clock) give inv.3 (g.I.Issuer.may_say c.loop.issuer)
-            say inv.2 still still (λ u. u) mid new s.0 s.1,
+            say inv.2 left left (says_same left) mid s.0 s.1,
         sym s.3,
         s.2 ∙ ap (λ (t : Traffic). with_served t s.0) so.3,
       );
@@ -68,6 +71,11 @@ returns-in_err-serve_one g c = record {
 pub returns : goal.returns
 returns g c = record {
   served = λ h o.
-      let so = c.loop.invariant.0 h o in
-      (so.0, (let size = so.1 in omega (arith, size)), so.2, so.3);
+      let so = c.loop.invariant.0 h o in (
+        so.0,
+        (let size = so.1 in omega (arith, size)),
+        so.2,
+        none_stop g.B.Book g.met.B.Book.settled g.met.B.Book.stored c.loop.host so.4,
+        so.3,
+      );
 }

@@ -1,4 +1,5 @@
-use Rattle.std.proofs.Common.{◌+◌, ◌++◌, ◌∷◌, [], take, length, ⊎_elim, refl, sym, ap, subst, ◌∙◌}
+use Rattle.std.proofs.Common.{◌+◌, ◌++◌, ◌∷◌, [], take, length, ⊎_elim, inl, inr}
+use Rattle.std.proofs.Common.{refl, sym, ap, subst, ◌∙◌}
 use Rattle.std.proofs.Common.{append_assoc, append-nil, arith}
 use Rattle.std.specs.Prelude.{Some}
 use Rattle.std.specs.List.{flat_map}
@@ -6,10 +7,11 @@ use Rattle.std.proofs.lemmas.Option.{slice_get_read}
 use Rattle.std.proofs.lemmas.Result.{err_from_is_err_and}
 use Rattle.acq_core.specs.Arrivals.{arrival_of}
 use Rattle.acq_core.specs.Tables.{outputs, step_output, step_tables}
-use Rattle.acq_host.proofs.Runs.{took_next, after_next}
+use Rattle.acq_host.proofs.Runs.{took_next, after_next, may_stop_at, leaves_books_at}
 use Rattle.acq_out.specs.OutputLines.{line_of}
 use Rattle.acq_commands.specs.Replay.{Reaches, lines}
 use Rattle.acq_commands.proofs.LinesWritten.{lines-push, output_next, reaches_line, reaches_untaken}
+use Rattle.acq_commands.proofs.EventsTaken.{all_stop}
 use Rattle.acq_commands.proofs.replaying.take_all.Goals as goal
 
 pub loop-event-preserved : goal.loop-event-preserved
@@ -62,6 +64,13 @@ returns-in_err-take_next-clause-stops g c = λ h opened.
       leads = λ o.
           let was = made.was_honest h in
           made.unmade refl (so.1.stays_open was opened) o ∙ so.1.leads was opened;
+      stop = record {
+        tables = λ u l. ⊎_elim (λ is. inl is) (λ is. inr (refl, is))
+            (may_stop_at g.B.Book c.args.host.now c.loop-event.host c.take_next.new.host events at e
+            so.0 so.1 made h opened (omega arith) c.event-item.is g.met.B.Book.settled u l);
+        stored = leaves_books_at g.B.Book c.args.host.now c.loop-event.host c.take_next.new.host
+            events at e so.0 so.1 made h opened;
+      };
     })
     (λ taken.
     let made = taken.2 in
@@ -86,5 +95,17 @@ returns-in_err-take_next-clause-stops g c = λ h opened.
           made.made refl between o
           ∙ (ap (λ u. step_tables u (arrival_of e)) (so.1.leads was opened)
           ∙ sym (after_next t events at e (omega arith) c.event-item.is));
+      stop = record {
+        tables = λ u l. inl (made.settled refl between h u l
+            ∙ (ap (λ v. step_tables v (arrival_of e)) (so.1.leads was opened)
+            ∙ sym (after_next t events at e (omega arith) c.event-item.is)));
+        stored = made.books between h;
+      };
     })
     (c.in_err-take_next.ensures.fault))
+
+pub returns-clause-stop : goal.returns-clause-stop
+returns-clause-stop g c = λ h opened.
+    let so = c.loop-event.invariant.0 in
+    all_stop g.B.Book g.met.B.Book.settled g.met.B.Book.stored c.args.host.now c.loop-event.host
+    c.args.events.now c.loop-event.event-index so.0 (omega arith) so.1 h opened

@@ -1,5 +1,6 @@
 use Rattle.std.proofs.Common.{subst}
 use Rattle.acq_core.specs.Tables.{Tables}
+use Rattle.acq_front.specs.Stops.{open_at}
 use Rattle.acq_commands.specs.Replay.{Replays}
 use Rattle.acq_commands.proofs.replaying_in_memory.replay_to_lines.Goals as goal
 
@@ -10,12 +11,7 @@ returns-clause-runs g c =
       c.replay-ended.new.host,
       so.1,
       subst (λ (t : Tables). Replays
-          (record {
-            tables = λ (u : Tables). u;
-            is_open = λ (u : Tables). Unit {0};
-            old = t;
-            new = c.replay-ended.new.host;
-          })
+          (record { left = open_at; old = t; new = c.replay-ended.new.host })
           so.0
           (record {
             before = g.K.Sink.sent c.args.output.now;

@@ -2,6 +2,7 @@ use Rattle.std.proofs.Common.{◌≡◌, List, subst}
 use Rattle.std.specs.Prelude.{OnOk, Result}
 use Rattle.acq_reports.specs.declared.report_fault.ReportFault.{ReportFault}
 use Rattle.acq_core.specs.Tables.{Tables}
+use Rattle.acq_front.specs.Stops.{open_at}
 use Rattle.acq_commands.specs.declared.day_report.DayReport.{DayReport}
 use Rattle.acq_commands.specs.DayReports.{Takes, WritesReports, told}
 use Rattle.acq_commands.proofs.ReportsEnd.{ends_reports, still_after}
@@ -23,7 +24,7 @@ returns-clause-runs g c =
       }) book reports
           so.0 (g.K.Sink.sent c.args.output.now) (g.K.Sink.sent ended.new.output)
           c.take_events-taken.result ended.result
-          (subst (λ (t : Tables). Takes (λ (u : Tables). u) (λ (u : Tables). Unit {0}) t book so.0
+          (subst (λ (t : Tables). Takes (record { left = open_at; old = t; new = book }) so.0
           c.take_events-taken.result) c.in_memory-host.ensures so.2)
           ended.ensures.stopped
           (subst (λ (asked : List DayReport). OnOk c.take_events-taken.result (Unit {0} → Unit {0}

@@ -1,6 +1,7 @@
 use Rattle.std.proofs.Common.{[], sym, append-nil, inl, inr}
 use Rattle.std.proofs.lemmas.Result.{err_from_is_err_and}
 use Rattle.acq_core.specs.declared.output.Output.{Output}
+use Rattle.acq_front.specs.Stops.{left_of}
 use Rattle.acq_front.proofs.Turned.{if_store, store_on, take_stops, was_sent}
 use Rattle.acq_front.proofs.serving.answer_message.Goals as goal
 
@@ -15,7 +16,7 @@ returns-in_err-said-clause-turns g c = λ h o.
       t.2,
       t.3,
       t.4,
-      rw (p.1, p.2) (take_stops _ _ _ _ _ c.in_err-said.field-0.0 t.5),
+      rw (p.1, p.2) (take_stops _ _ _ _ c.in_err-said.field-0.0 t.5),
     )
 
 pub returns-in_err-said-clause-store : goal.returns-in_err-said-clause-store
@@ -28,7 +29,7 @@ pub returns-clause-turns : goal.returns-clause-turns
 returns-clause-turns g c = λ h o.
     let t = c.in_ok-said.ensures.takes h o in
     let sent = was_sent (g.I.Issuer.may_say c.args.issuer.now) (g.B.Book.tables c.args.host.now)
-    (g.B.Book.is_open c.take_message.new.host) (g.B.Book.tables c.take_message.new.host) _
+    (left_of g.B.Book c.take_message.new.host) _
     c.in_ok-said.said _ _ c.send_reply.result t.5 (c.send_reply.ensures.sent t.5.fits) in (
       sent.0,
       t.0,

@@ -3,6 +3,7 @@ use Rattle.std.proofs.Common.{arith}
 use Rattle.std.proofs.lemmas.Result.{err_from_is_err_and}
 use Rattle.std.proofs.lemmas.List.{take-append-le}
 use Rattle.acq_message.specs.declared.verdict.Verdict.TheVariants.{NoAnswer}
+use Rattle.acq_front.specs.Stops.{left_of}
 use Rattle.acq_front.specs.Talk.{first_moment}
 use Rattle.acq_front.specs.Turns.{Incoming}
 use Rattle.std.proofs.lemmas.List.Elements.{All-nil}
@@ -12,6 +13,7 @@ use Rattle.acq_front.proofs.StreamRead.{received_none, empty_of, not_empty_of}
 use Rattle.acq_front.proofs.FramesCame.{none_came, piece_came, frame_taken, frame_came}
 use Rattle.acq_front.proofs.FramesCame.{risen_earlier}
 use Rattle.acq_front.proofs.Turned.{store_on}
+use Rattle.acq_front.proofs.StopsLeave.{none_stop}
 use Rattle.acq_front.proofs.Served.{nothing_yet, going_none, going_held, with_piece, going_read}
 use Rattle.acq_front.proofs.Served.{with_message, going_more, stream_stops, read_stops, ends_well}
 use Rattle.acq_front.proofs.Served.{ends_inside, stopped, turns_weaker}
@@ -27,7 +29,8 @@ loop-message-init g c =
         gives_none _ _,
         All-nil _,
         gives_none _ _,
-        going_held may_say (going_none may_say (g.B.Book.tables c.args.host.now))
+        going_held may_say (going_none may_say (left_of g.B.Book c.args.host.now)
+            (none_stop g.B.Book g.met.B.Book.settled g.met.B.Book.stored c.args.host.now o))
             c.new-input.ensures,
         o,
       )),
@@ -52,8 +55,7 @@ returns-in_err-message-clause-served g c = λ h o.
       i.4,
       i.5,
       rw (p.1, p.2) (stream_stops (g.I.Issuer.may_say c.args.issuer.now) c.in_err-message.field-0.0
-          (g.B.Book.is_open c.loop-message.host) i.6
-          (λ is. c.in_err-message.ensures.bad (ap Err is))),
+          i.6 (λ is. c.in_err-message.ensures.bad (ap Err is))),
     )
 
 pub returns-in_err-answer_message-clause-served : goal.returns-in_err-answer_message-clause-served
@@ -66,14 +68,13 @@ returns-in_err-answer_message-clause-served g c = λ h o.
     let begins = rw c.in-Some.is at c.in_ok-message.ensures.some in
     let fault = c.in_err-answer_message.field-0.0 in
     let old = g.B.Book.tables c.args.host.now in
-    let mid = g.B.Book.tables c.loop-message.host in
-    let new = g.B.Book.tables c.answer_message.new.host in
-    let still = g.B.Book.is_open c.answer_message.new.host in
+    let mid = left_of g.B.Book c.loop-message.host in
+    let now = left_of g.B.Book c.answer_message.new.host in
     let m : Incoming =
     record { message = c.in-Some.message.items; moments = e.1; verdicts = e.2 } in
     let w = turns_weaker (g.I.Issuer.may_say c.loop-message.issuer) may_say
-    c.loop-message.invariant.5 mid still new m e.0 (Err fault) e.7 in
-    let x = stopped may_say old mid still new i.0 c.loop-message.input
+    c.loop-message.invariant.5 mid.tables now m e.0 (Err fault) e.7 in
+    let x = stopped may_say old mid now i.0 c.loop-message.input
     c.take_message.new.self m e.0 i.6 begins fault w in (
       x.0,
       i.1 ∙ ap (λ (l : List ℕ). g.S.Source.received c.args.source.now ++ l) (sym x.1.input),
@@ -113,12 +114,11 @@ loop-message-preserved-in-Some g c =
           let e = c.in_ok-answer_message.ensures.turns h i.7 in
           let begins = rw c.in-Some.is at c.in_ok-message.ensures.some in
           let mid = g.B.Book.tables c.loop-message.host in
-          let new = g.B.Book.tables c.answer_message.new.host in
-          let still = g.B.Book.is_open c.answer_message.new.host in
+          let now = left_of g.B.Book c.answer_message.new.host in
           let m : Incoming =
           record { message = c.in-Some.message.items; moments = e.1; verdicts = e.2 } in
           let w = turns_weaker (g.I.Issuer.may_say c.loop-message.issuer) may_say
-          c.loop-message.invariant.5 mid still new m e.0 (Ok tt) e.7 in
+          c.loop-message.invariant.5 mid now m e.0 (Ok tt) e.7 in
           let so = going_more may_say m e.0 c.take_message.new.self i.6 begins w.1 w.0 in (
             with_message i.0 m e.0 c.take_message.new.self,
             i.1,
@@ -157,8 +157,7 @@ returns-in_err-n-clause-served g c = λ h o.
       i.4,
       i.5,
       rw (p.1, p.2)
-          (read_stops (g.I.Issuer.may_say c.args.issuer.now) (g.B.Book.is_open c.loop-message.host)
-          i.6 begun.1),
+          (read_stops (g.I.Issuer.may_say c.args.issuer.now) i.6 begun.1),
     )
 
 pub returns-then-is_empty-clause-served : goal.returns-then-is_empty-clause-served
@@ -174,8 +173,7 @@ returns-then-is_empty-clause-served g c = λ h o.
       i.3,
       i.4,
       i.5,
-      ends_well (g.I.Issuer.may_say c.args.issuer.now) (g.B.Book.is_open c.loop-message.host) i.6
-          none,
+      ends_well (g.I.Issuer.may_say c.args.issuer.now) i.6 none,
     )
 
 pub returns-else-is_empty-clause-served : goal.returns-else-is_empty-clause-served
@@ -189,8 +187,7 @@ returns-else-is_empty-clause-served g c = λ h o.
       i.3,
       i.4,
       i.5,
-      ends_inside (g.I.Issuer.may_say c.args.issuer.now) (g.B.Book.is_open c.loop-message.host) i.6
-          begun.1
+      ends_inside (g.I.Issuer.may_say c.args.issuer.now) i.6 begun.1
           (λ none. not_empty_of c.take_message.new.self
           (sym c.is_empty.ensures ∙ c.if-is_empty.false) (begun.0 ∙ none)),
     )

@@ -8,6 +8,7 @@ use Rattle.acq_message.specs.declared.verdict.Verdict.TheVariants.{NoAnswer}
 use Rattle.acq_front.specs.Coming.{GivesAll}
 use Rattle.acq_front.specs.Talk.{first_moment}
 use Rattle.acq_front.specs.Serving.{Connection}
+use Rattle.acq_front.specs.Stops.{left_of}
 use Rattle.acq_front.proofs.Served.{Going}
 use Rattle.acq_front.proofs.serving.serve.Given as goal
 
@@ -20,7 +21,7 @@ invariant-loop-message g l = (g.B.Book.is_honest l.host → g.B.Book.is_open l.f
     × All (g.C.Clock.may_give l.fn.clock) c.moments
     × GivesAll NoAnswer (g.I.Issuer.coming l.fn.issuer) (g.I.Issuer.coming l.issuer) c.verdicts
     × Going (g.I.Issuer.may_say l.fn.issuer) (g.B.Book.tables l.fn.host)
-    (g.B.Book.tables l.host) c l.input
+    (left_of g.B.Book l.host) c l.input
     × g.B.Book.is_open l.host)
     × (g.B.Book.is_honest l.host → g.B.Book.is_honest l.fn.host)
     × ((input : List ℕ) × (g.S.Source.received l.source ≡ g.S.Source.received l.fn.source ++ input)

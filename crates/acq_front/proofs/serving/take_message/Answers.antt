@@ -1,14 +1,18 @@
-use Rattle.std.proofs.Common.{[], ◌∷◌, refl, sym, ◌∙◌, inl}
+use Rattle.std.proofs.Common.{[], ◌∷◌, refl, sym, ◌∙◌}
 use Rattle.std.proofs.lemmas.Result.{err_from_is_err_and}
 use Rattle.std.proofs.lemmas.List.Elements.{All-nil, All-cons}
 use Rattle.acq_front.proofs.GivenInOrder.{gives_none, gives_one, gives_append, two_moments}
-use Rattle.acq_front.proofs.Turned.{reply_fits, book_stops, unread, plain_said}
+use Rattle.acq_core.specs.declared.event.Event.TheVariants.{Frame, Answer}
+use Rattle.acq_front.specs.Stops.{left_of}
+use Rattle.acq_front.proofs.StopsLeave.{taken_stop, refused_stop}
+use Rattle.acq_front.proofs.Turned.{reply_fits, book_stops, message_refused, unread, plain_said}
 use Rattle.acq_front.proofs.Turned.{answer_refused, answer_said}
 use Rattle.acq_front.proofs.serving.take_message.Goals as goal
 
 pub returns-in_err-said-clause-takes : goal.returns-in_err-said-clause-takes
 returns-in_err-said-clause-takes g c = λ h o.
     let p = err_from_is_err_and c.from_residual.result c.from_residual.ensures.1 in
+    let makes = c.in_err-said.ensures.tables in
     let may_say = g.I.Issuer.may_say c.args.issuer.now in (
       c.now.result ∷ [],
       [],
@@ -16,9 +20,12 @@ returns-in_err-said-clause-takes g c = λ h o.
       All-cons (g.C.Clock.may_give c.args.clock.now) c.now.result [] c.now.ensures.given
           (All-nil _),
       gives_none _ _,
-      rw (p.1, p.2)
-          (book_stops may_say c.in_err-said.field-0.0 _ _ _ _
-          (refl, inl ((λ still. c.in_err-said.ensures.tables.unmade refl o still), refl))),
+      rw (p.1, p.2) (book_stops may_say c.in_err-said.field-0.0 _ _ _
+          (message_refused may_say (g.B.Book.tables c.args.host.now) c.now.result c.from_vec.result
+          c.args.message.items c.from_vec.ensures (left_of g.B.Book c.take.new.self)
+          (λ still. makes.unmade refl o still)
+          (refused_stop g.B.Book c.args.host.now c.take.new.self
+          (Frame c.now.result c.from_vec.result) h o g.met.B.Book.settled makes))),
     )
 
 pub returns-in-Undecodable-clause-takes : goal.returns-in-Undecodable-clause-takes
@@ -32,9 +39,11 @@ returns-in-Undecodable-clause-takes g c = λ h o.
       gives_none _ _,
       unread (g.I.Issuer.may_say c.args.issuer.now) (g.B.Book.tables c.args.host.now) c.now.result
           c.from_vec.result c.args.message.items
-          c.from_vec.ensures (g.B.Book.is_open c.take.new.self) _ _
+          c.from_vec.ensures (left_of g.B.Book c.take.new.self) _
           (sym (c.in_ok-said.ensures.output h o) ∙ c.in-Undecodable.is)
-          (makes.made refl o (makes.stays_open refl h o)),
+          (makes.made refl o (makes.stays_open refl h o))
+          (taken_stop g.B.Book c.args.host.now c.take.new.self
+          (Frame c.now.result c.from_vec.result) h o makes),
     )
 
 pub returns-in_err-said-in-Ask-clause-takes : goal.returns-in_err-said-in-Ask-clause-takes
@@ -53,15 +62,18 @@ returns-in_err-said-in-Ask-clause-takes g c = λ h o.
           c.now.ensures.given
           (c.now.ensures.later c.now-in-Ask.result c.now-in-Ask.ensures.given),
       gives_one _ _ _ _ c.answer-verdict.ensures.coming,
-      rw (p.1, p.2) (book_stops may_say c.in_err-said-in-Ask.field-0.0 _ _ _ _
+      rw (p.1, p.2) (book_stops may_say c.in_err-said-in-Ask.field-0.0 _ _ _
           (answer_refused may_say (g.B.Book.tables c.args.host.now) c.now.result c.from_vec.result
           c.args.message.items
           c.from_vec.ensures c.now-in-Ask.result c.in-Ask.query c.answer-verdict.result
           (sym (c.in_ok-said.ensures.output (second.was_honest h) o) ∙ c.in-Ask.is)
           (g.B.Book.tables c.take.new.self)
           (first.made refl o between) c.answer-verdict.ensures.said
-          (g.B.Book.is_open c.take-in-Ask.new.self) (g.B.Book.tables c.take-in-Ask.new.self)
-          (λ still. second.unmade refl between still))),
+          (left_of g.B.Book c.take-in-Ask.new.self)
+          (λ still. second.unmade refl between still)
+          (refused_stop g.B.Book c.take.new.self c.take-in-Ask.new.self
+          (Answer c.now-in-Ask.result c.in-Ask.query.merchant c.in-Ask.query.reference
+          c.answer-verdict.result) h between g.met.B.Book.settled second))),
     )
 
 pub returns-in-Ask-clause-takes : goal.returns-in-Ask-clause-takes
@@ -85,9 +97,12 @@ returns-in-Ask-clause-takes g c = λ h o.
           (sym (c.in_ok-said.ensures.output (second.was_honest h) o) ∙ c.in-Ask.is)
           (g.B.Book.tables c.take.new.self) (first.made refl o between)
           c.answer-verdict.ensures.said
-          (g.B.Book.tables c.take-in-Ask.new.self)
+          (left_of g.B.Book c.take-in-Ask.new.self)
           c.in_ok-said-in-Ask.said (c.in_ok-said-in-Ask.ensures.output h between)
           (second.made refl between end)
+          (taken_stop g.B.Book c.take.new.self c.take-in-Ask.new.self
+          (Answer c.now-in-Ask.result c.in-Ask.query.merchant c.in-Ask.query.reference
+          c.answer-verdict.result) h between second)
           (reply_fits c.in_ok-said-in-Ask.said (c.in_ok-said-in-Ask.ensures.reply h between)),
     )
 
@@ -102,9 +117,11 @@ returns-clause-takes g c = λ h o.
       gives_none _ _,
       plain_said (g.I.Issuer.may_say c.args.issuer.now) (g.B.Book.tables c.args.host.now)
           c.now.result c.from_vec.result
-          c.args.message.items c.from_vec.ensures (g.B.Book.tables c.take.new.self)
+          c.args.message.items c.from_vec.ensures (left_of g.B.Book c.take.new.self)
           c.in_ok-said.said (sym (c.in_ok-said.ensures.output h o))
-          (makes.made refl o (makes.stays_open refl h o)) c.in_default.not-Ask
+          (makes.made refl o (makes.stays_open refl h o))
+          (taken_stop g.B.Book c.args.host.now c.take.new.self
+          (Frame c.now.result c.from_vec.result) h o makes) c.in_default.not-Ask
           c.in_default.not-Undecodable
           (reply_fits c.in_ok-said.said (c.in_ok-said.ensures.reply h o)),
     )

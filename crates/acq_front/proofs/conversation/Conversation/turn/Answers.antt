@@ -1,6 +1,7 @@
 use Rattle.std.proofs.Common.{[], inr}
 use Rattle.std.proofs.lemmas.Result.{err_from_is_err_and}
 use Rattle.acq_front.specs.declared.turn.Turn.{Turn}
+use Rattle.acq_front.specs.Stops.{left_of}
 use Rattle.acq_front.proofs.Turned.{store_on, was_held}
 use Rattle.acq_front.proofs.conversation.Conversation.turn.Goals as goal
 
@@ -16,8 +17,7 @@ returns-clause-steps g c = λ h o.
       verdicts = t.1;
       turns = rw (c.hold.ensures.gone, c.clear.ensures.gone, c.hold.ensures.holds t.5.fits)
           (was_held (g.I.Issuer.may_say c.args.issuer.now) (g.B.Book.tables c.args.host.now)
-          (g.B.Book.is_open c.take_message-2.new.host) (g.B.Book.tables c.take_message-2.new.host) _
-          c.in_ok-said.said t.5);
+          (left_of g.B.Book c.take_message-2.new.host) _ c.in_ok-said.said t.5);
     }
 
 pub returns-in_err-hold-clause-store : goal.returns-in_err-hold-clause-store

@@ -1,15 +1,23 @@
-use Rattle.acq_tcp.proofs.Reaching.{end_reaches, reached_still, round_reaches}
+use Rattle.acq_front.specs.Stops.{left_of}
+use Rattle.acq_front.proofs.StopsLeave.{none_stop}
+use Rattle.acq_tcp.proofs.Reaching.{end_reaches, reached_still, reaches_none, round_reaches}
 use Rattle.acq_tcp.proofs.open_connection.OpenConnection.give_round.Goals as goal
 
-pub returns-in-Ok-Waits-clause-reached : goal.returns-in-Ok-Waits-clause-reached
-returns-in-Ok-Waits-clause-reached g c = λ h o.
+pub returns-in-Ok-Waits-clause-reaches : goal.returns-in-Ok-Waits-clause-reaches
+returns-in-Ok-Waits-clause-reaches g c = λ h o.
     reached_still c.end_late-in-Ok-Waits.result _ _
     (round_reaches (g.C.Clock.may_give c.args.clock.now) (g.I.Issuer.may_say c.args.issuer.now)
-    (g.B.Book.tables c.args.host.now) (g.B.Book.tables c.round.new.host) _ _
+    (g.B.Book.tables c.args.host.now) (left_of g.B.Book c.round.new.host) _ _
     (c.in-Ok-Waits.ensures.goes h o))
 
-pub returns-in-Err-clause-reached : goal.returns-in-Err-clause-reached
-returns-in-Err-clause-reached g c = λ h o.
+pub returns-in-Err-clause-reaches : goal.returns-in-Err-clause-reaches
+returns-in-Err-clause-reaches g c = λ h o.
     end_reaches (g.C.Clock.may_give c.args.clock.now) (g.I.Issuer.may_say c.args.issuer.now)
-    (g.B.Book.tables c.args.host.now) (g.B.Book.tables c.round.new.host) _ _ c.in-Err.fault
-    (c.in-Err.ensures.goes h o)
+    (g.B.Book.tables c.args.host.now) (left_of g.B.Book c.round.new.host) _ _ _ _ _ c.in-Err.fault
+    (c.in-Err.ensures.goes h o) (c.in-Err.ensures.refused h o)
+
+pub returns-then-not-self-clause-reaches : goal.returns-then-not-self-clause-reaches
+returns-then-not-self-clause-reaches g c = λ h o.
+    reached_still c.end_late.result _ _
+    (reaches_none (left_of g.B.Book c.args.host.now)
+    (none_stop g.B.Book g.met.B.Book.settled g.met.B.Book.stored c.args.host.now o))

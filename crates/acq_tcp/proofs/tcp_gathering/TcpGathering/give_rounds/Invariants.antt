@@ -1,10 +1,11 @@
 -- each place stays, and the host took events
 use Rattle.std.proofs.Common.{◌≡◌, length}
-use Rattle.acq_commands.specs.Listening.{Reached}
+use Rattle.acq_commands.specs.Listening.{Reaches}
+use Rattle.acq_front.specs.Stops.{left_of}
 use Rattle.acq_tcp.proofs.tcp_gathering.TcpGathering.give_rounds.Given as goal
 
 abbrev pub invariant-loop-place : goal.invariant-loop-place
 invariant-loop-place g l = (length l.self.places.items ≡ l.place-end)
     × (g.B.Book.is_honest l.host → g.B.Book.is_open l.fn.host →
-    Reached (g.B.Book.tables l.fn.host) (g.B.Book.tables l.host) × g.B.Book.is_open l.host)
+    Reaches (g.B.Book.tables l.fn.host) (left_of g.B.Book l.host) × g.B.Book.is_open l.host)
     × (g.B.Book.is_honest l.host → g.B.Book.is_honest l.fn.host)

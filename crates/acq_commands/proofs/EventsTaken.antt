@@ -1,0 +1,146 @@
+-- What a stop leaves of events that were taken one after the other.
+use Rattle.std.proofs.Common.{◌≡◌, ◌⊎◌, ℕ, ◌<◌, ◌≤◌, Bool, false, List, [], length, take, get_or}
+use Rattle.std.proofs.Common.{Result, Ok, Err, inl, inr, ⊎_elim, refl, sym, ap, subst, ◌∙◌, arith}
+use Rattle.std.proofs.lemmas.List.{take_all}
+use Rattle.acq_core.specs.declared.event.Event.{Event}
+use Rattle.acq_core.specs.declared.output.Output.{Output}
+use Rattle.acq_core.specs.Arrivals.{arrival_of}
+use Rattle.acq_core.specs.Tables.{step_tables, tables_after}
+use Rattle.acq_book.specs.declared.book.Book.{Ghosts}
+use Rattle.acq_book.specs.Calls.{Looks, Makes}
+use Rattle.acq_host.proofs.Runs.{HasTaken, LeavesTables, may_stop_at, leaves_books_at}
+use Rattle.acq_front.specs.Stops.{left_of, LeavesAll, StopLeaves}
+use Rattle.acq_out.specs.EventLines.{events_of_text}
+use Rattle.acq_commands.specs.DayReports.{Takes, TakesFirst, TakesSome}
+use Rattle.acq_commands.specs.Replay.{Replays, Stops, TakesUpTo}
+use Rattle.acq_commands.specs.Streams.{Course, Stream}
+use Rattle.acq_commands.specs.declared.fault.Fault as fault
+
+module _ {S : Type 0} (book : Ghosts S) (settled : LeavesTables book) where
+  -- all of them were
+  pub all_stop : ((s : S) → book.is_open s → book.leaves_books s) → (a b : S)
+      (events : List Event) (at : ℕ) (said : List Output) → length events ≤ at →
+      HasTaken book a b (take at events) said → book.is_honest b → book.is_open a →
+      LeavesAll (left_of book b) (book.tables a) events
+  all_stop stored a b events at said all took honest opened =
+      let still = took.stays_open honest opened in
+      record {
+        tables = λ t l. settled b still t l
+            ∙ (took.leads honest opened
+            ∙ ap (tables_after (book.tables a)) (take_all at events all));
+        stored = stored b still;
+      }
+
+  -- some first of them were, and the next one wasn't
+  pub first_taken : (a b c : S) (events : List Event) (at : ℕ) (e : Event) (said : List Output) →
+      at < length events → e ≡ get_or events at e → HasTaken book a b (take at events) said →
+      Makes book b c false (step_tables (book.tables b) (arrival_of e)) →
+      book.is_honest c → book.is_open a → TakesFirst (book.tables a) (left_of book c) events
+  first_taken a b c events at e said within is took makes honest opened =
+      let was = makes.was_honest honest in
+      record {
+        taken = at;
+        in_hand = within;
+        leads = λ o. makes.unmade refl (took.stays_open was opened) o ∙ took.leads was opened;
+        stop = record {
+          tables = may_stop_at book a b c events at e said took makes honest opened within is
+              settled;
+          stored = leaves_books_at book a b c events at e said took makes honest opened;
+        };
+      }
+
+-- ---- of a text
+
+module _ {S : Type 0} (book : Ghosts S) (settled : LeavesTables book)
+    (stored : (s : S) → book.is_open s → book.leaves_books s) (a c : S) (text : List ℕ) where
+  abbrev it : Course S
+  it = record { left = left_of book; old = a; new = c }
+
+  -- none was taken
+  up_to_none : book.is_open a → c ≡ a → TakesUpTo it text
+  up_to_none opened same = record {
+    events = [];
+    spelled = inr refl;
+    taken = 0;
+    leads = λ o. ap book.tables same;
+    stop = subst (λ (s : S). StopLeaves (left_of book s)
+        (λ t. (t ≡ book.tables a) ⊎ (t ≡ book.tables a))) (sym same)
+        (record { tables = λ t l. inl (settled a opened t l); stored = stored a opened });
+  }
+
+  up_to_all : (events : List Event) → events_of_text text ≡ Ok events →
+      book.tables c ≡ tables_after (book.tables a) events →
+      LeavesAll (left_of book c) (book.tables a) events → TakesUpTo it text
+  up_to_all events spelled led stop =
+      let whole = take_all (length events) events (omega arith) in
+      let at = ap (tables_after (book.tables a)) (sym whole) in
+      record {
+        events = events;
+        spelled = inl spelled;
+        taken = length events;
+        leads = λ o. led ∙ at;
+        stop = record { tables = λ t l. inl (stop.tables t l ∙ at); stored = stop.stored };
+      }
+
+  up_to_some : TakesSome it text → TakesUpTo it text
+  up_to_some some = record {
+    events = some.events;
+    spelled = inl some.spelled;
+    taken = some.first.taken;
+    leads = some.first.leads;
+    stop = some.first.stop;
+  }
+
+  -- the lines of a text were replayed
+  up_to_stop : (sent : Stream) (f : fault.Fault) (events : List Event) →
+      events_of_text text ≡ Ok events → Stops it events sent f → TakesUpTo it text
+  up_to_stop sent f events spelled stops = record {
+    events = events;
+    spelled = inl spelled;
+    taken = stops.taken;
+    leads = stops.leads;
+    stop = record {
+      tables = λ t l. ⊎_elim inl (λ next. inr next.1) (stops.stop.tables t l);
+      stored = stops.stop.stored;
+    };
+  }
+
+  pub replayed_up_to : book.is_open a → (sent : Stream) (r : Result (Unit {0}) fault.Fault) →
+      Replays it text sent r → TakesUpTo it text
+  replayed_up_to opened sent (Ok u) all = up_to_all all.events all.spelled all.leads all.stop
+  replayed_up_to opened sent (Err (fault.TheVariants.BadLine n)) h = up_to_none opened h.1
+  replayed_up_to opened sent (Err fault.TheVariants.Read) h = up_to_none opened h.0
+  replayed_up_to opened sent (Err fault.TheVariants.Memory) (inl h) = up_to_none opened h.0
+  replayed_up_to opened sent (Err fault.TheVariants.Memory) (inr h) =
+      up_to_stop sent fault.TheVariants.Memory h.0 h.1 h.2
+  replayed_up_to opened sent (Err fault.TheVariants.Store) h =
+      up_to_stop sent fault.TheVariants.Store h.0 h.1 h.2
+  replayed_up_to opened sent (Err (fault.TheVariants.Write n)) h =
+      up_to_stop sent (fault.TheVariants.Write n) h.0 h.1 h.2
+  replayed_up_to opened sent (Err f) h = absurd h
+
+  -- its events were taken
+  pub taken_up_to : book.is_open a → (r : Result (Unit {0}) fault.Fault) →
+      Takes it text r → TakesUpTo it text
+  taken_up_to opened (Ok u) all = up_to_all all.events all.spelled all.leads all.stop
+  taken_up_to opened (Err (fault.TheVariants.BadLine n)) h = up_to_none opened h.1
+  taken_up_to opened (Err fault.TheVariants.Read) h = up_to_none opened h
+  taken_up_to opened (Err fault.TheVariants.Memory) (inl h) = up_to_none opened h
+  taken_up_to opened (Err fault.TheVariants.Memory) (inr h) = up_to_some h
+  taken_up_to opened (Err fault.TheVariants.Store) h = up_to_some h
+  taken_up_to opened (Err f) h = absurd h
+
+  -- and then it was looked at
+  pub looked_up_to : (d : S) (succeeded : Bool) → book.is_honest d →
+      Looks book c d succeeded → TakesUpTo it text →
+      TakesUpTo (record { left = left_of book; old = a; new = d }) text
+  looked_up_to d succeeded honest looks up = record {
+    events = up.events;
+    spelled = up.spelled;
+    taken = up.taken;
+    leads = λ o. looks.same o ∙ up.leads (looks.was_open o);
+    stop = record {
+      tables = λ t l. up.stop.tables t (looks.leaves honest t l);
+      stored = looks.books honest up.stop.stored;
+    };
+  }
