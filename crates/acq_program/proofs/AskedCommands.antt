@@ -1,5 +1,5 @@
 -- What the arguments ask for, by the command that clap found in them.
-use Rattle.std.proofs.Common.{◌≡◌, ◌∙◌, ap, sym, subst, codes, List, Option, Some, None, inl, refl}
+use Rattle.std.proofs.Common.{◌≡◌, ◌∙◌, ap, sym, subst, List, Option, Some, None, inl, refl}
 use Rattle.std.specs.Prelude.{Box, Result, Ok, Err, [], option_map}
 use Rattle.clap.specs.Words.{App, HasMatchesOf, Row, Text, fault_of}
 use Rattle.clap.specs.Words.{is_simple, rows_of, subcommand_name_of, subcommand_of}

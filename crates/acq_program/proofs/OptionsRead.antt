@@ -2,7 +2,7 @@
 use Rattle.std.proofs.Common.{◌≡◌, List, ap, codes, inl, inr, refl}
 use Rattle.std.specs.Borrow.{Bor}
 use Rattle.std.specs.Prelude.{[], Option, Result, Ok, Err, map, option_map, unwrap_or}
-use Rattle.clap.specs.Words.{Text, first_value, matched_of, raw_values, rows_of}
+use Rattle.clap.specs.Words.{Text, matched_of, raw_values, rows_of}
 use Rattle.clap.specs.declared.parser.matches.Found.{Found}
 use Rattle.clap.proofs.WalkLemmas.{first_value-rows, raw_values-rows}
 use Rattle.acq_program.specs.declared.option_name.OptionName.{OptionName}

@@ -1,5 +1,6 @@
 -- Commands as they are put together.
-use Rattle.std.specs.Prelude.{◌≡◌, AllocError, IfOk, Result}
+use Rattle.std.specs.Prelude.{◌≡◌, IfOk, Result}
+use Rattle.std.specs.declared.alloc.AllocError.{AllocError}
 use Rattle.clap.specs.Words.{App, app_of}
 use Rattle.clap.specs.declared.builder.command.Command.{Command}
 

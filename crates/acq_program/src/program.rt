@@ -2,8 +2,8 @@
 
 ghost use Rattle.std.specs.Prelude.{◌≡◌, true, false};
 ghost use Rattle.clap.specs.Words.{App, app_of, new_app, rule_of, with_rule, with_subcommand};
-ghost use Rattle.acq_program.specs.Commands.{Makes};
 ghost use Rattle.clap.specs.declared.builder.action.ArgAction.TheVariants.{Append};
+ghost use Rattle.acq_program.specs.Commands.{Makes};
 ghost use Rattle.acq_program.specs.Program.{acqd, holds, init, listen, listen_at_moment};
 ghost use Rattle.acq_program.specs.Program.{listen_at_port, making};
 ghost use Rattle.acq_program.specs.Program.{migrate, on_a_day, once, option};

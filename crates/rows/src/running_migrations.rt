@@ -1,18 +1,18 @@
 //! Scenarios whose book is one of version 1, with ranges of six digits, until it is migrated: it goes
 //! on as one that always had eight, and a stop at any call leaves it whole, of version 1 or of 2.
 
+ghost use Rattle.std.specs.Prelude.{◌≡◌, false};
+
 use crate::findings::Findings;
 use crate::row_fault::RowFault;
 use crate::running_scenarios::{ask, host_in_sql, take_steps};
-use crate::running_stops::files_of;
 use crate::scenario::Scenario;
 use crate::step::Step;
 use crate::stopping_files::{Calls, FRAMES, FileAtHand, Stopping, copies_of, new_files, open};
 use acq_host::Host;
 use acq_sql::{OpeningFault, SqlBook};
-use sqlite::Alter;
+use sqlite::{Alter, Connection};
 use sqlite_disk::{Disk, Files};
-use sqlite_store::FileStore;
 use std::alloc::Global;
 
 /// The most calls that a file may need for a migration.
@@ -68,8 +68,7 @@ fn run_from<D: FileAtHand>(
     stop_in_turn(alloc, old, Stopping::Database, later, least, findings)
 }
 
-/// Takes steps over new files, and makes the book one of version 1: its ranges have the first six
-/// digits of theirs.
+/// Takes steps over new files, and makes the book one of version 1.
 fn made_old<D: Disk + Drop>(
     alloc: Global,
     setup: &[Step],
@@ -81,15 +80,31 @@ fn made_old<D: Disk + Drop>(
     let Some(connection) = open(alloc, files, FRAMES) else {
         return Err(RowFault::Book);
     };
+    let connection = old_book(alloc, connection, setup, scenario, earlier, findings)?;
+    Ok(connection.into_store().close())
+}
+
+/// Takes steps over a new book in a database, and makes it one of version 1: its ranges have the
+/// first six digits of theirs. What is done over a book is said of any database, as a proof over one
+/// in files takes minutes.
+fn old_book<S: Alter + Drop>(
+    alloc: Global,
+    connection: Connection<S>,
+    setup: &[Step],
+    scenario: &Scenario,
+    earlier: &[Step],
+    findings: &mut Findings,
+) -> Result<Connection<S>, RowFault>
+    requires settled { connection.in_transaction ≡ false }
+{
     let mut host = host_in_sql(alloc, connection, scenario)?;
     take_steps(alloc, &mut host, setup, findings)?;
     take_steps(alloc, &mut host, earlier, findings)?;
     let mut connection = host.into_book().release();
     let narrowed = connection.execute("UPDATE ranges SET low = low / 100, high = high / 100", &[]);
     let marked = connection.execute("UPDATE book SET version = 1", &[]);
-    let files = connection.into_store().close();
     match (narrowed, marked) {
-        (Ok(_), Ok(_)) => Ok(files),
+        (Ok(_), Ok(_)) => Ok(connection),
         _ => Err(RowFault::Book),
     }
 }
@@ -141,27 +156,72 @@ fn migrated_in<D: Disk + Drop>(alloc: Global, files: Files<D>) -> Option<(Files<
     let Some(connection) = open(alloc, files, SHORTEST) else {
         return None;
     };
+    let (connection, is_migrated) = migrated(alloc, connection);
+    Some((connection.into_store().close(), is_migrated))
+}
+
+/// The database of a book behind its migration, and whether it was migrated.
+fn migrated<S: Alter + Drop>(alloc: Global, connection: Connection<S>) -> (Connection<S>, bool)
+    requires settled { connection.in_transaction ≡ false }
+{
     match SqlBook::migrate(alloc, connection) {
-        Ok(book) => Some((book.release().into_store().close(), true)),
-        Err(refusal) => Some((refusal.connection.into_store().close(), false)),
+        Ok(book) => (book.release(), true),
+        Err(refusal) => (refusal.connection, false),
     }
 }
 
-/// Takes the steps to come over the book in files, which is migrated before where it is an old one.
+/// Takes the steps to come over the book in copies of files, which is migrated before where it is an
+/// old one.
 fn go_on<D: FileAtHand>(
     alloc: Global,
     left: &Files<D>,
     later: &Later<'_>,
     findings: &mut Findings,
 ) -> Result<(), RowFault> {
-    match adopted(alloc, copies_of(alloc, left, Calls::ALL)?) {
-        Ok(book) => take_later(alloc, book, later, findings),
-        Err(OpeningFault::OtherVersion(1)) => {
-            match migrated(alloc, copies_of(alloc, left, Calls::ALL)?) {
-                Ok(book) => take_later(alloc, book, later, findings),
-                Err(_) => Err(RowFault::Book),
-            }
+    let Some(connection) = open(alloc, copies_of(alloc, left, Calls::ALL)?, FRAMES) else {
+        return Err(RowFault::Book);
+    };
+    if go_on_over(alloc, connection, later, findings)? {
+        return Ok(());
+    }
+    let Some(connection) = open(alloc, copies_of(alloc, left, Calls::ALL)?, FRAMES) else {
+        return Err(RowFault::Book);
+    };
+    go_on_migrated(alloc, connection, later, findings)
+}
+
+/// Takes the steps to come over the book in a database. Says whether it could; an old one can't.
+fn go_on_over<S: Alter + Drop>(
+    alloc: Global,
+    connection: Connection<S>,
+    later: &Later<'_>,
+    findings: &mut Findings,
+) -> Result<bool, RowFault>
+    requires settled { connection.in_transaction ≡ false }
+{
+    match SqlBook::adopt(alloc, connection) {
+        Ok(book) => {
+            take_later(alloc, book, later, findings)?;
+            Ok(true)
         }
+        Err(refusal) => match refusal.fault {
+            OpeningFault::OtherVersion(1) => Ok(false),
+            _ => Err(RowFault::Book),
+        },
+    }
+}
+
+/// Migrates the old book in a database, and takes the steps to come over it.
+fn go_on_migrated<S: Alter + Drop>(
+    alloc: Global,
+    connection: Connection<S>,
+    later: &Later<'_>,
+    findings: &mut Findings,
+) -> Result<(), RowFault>
+    requires settled { connection.in_transaction ≡ false }
+{
+    match SqlBook::migrate(alloc, connection) {
+        Ok(book) => take_later(alloc, book, later, findings),
         Err(_) => Err(RowFault::Book),
     }
 }
@@ -178,37 +238,22 @@ fn take_later<S: Alter + Drop>(
     ask(alloc, host, later.scenario.reports.as_slice(), findings)
 }
 
-/// The book in files.
-fn adopted<D: Disk + Drop>(
-    alloc: Global,
-    files: Files<D>,
-) -> Result<SqlBook<FileStore<D>>, OpeningFault> {
-    let Some(connection) = open(alloc, files, FRAMES) else {
-        return Err(OpeningFault::Store);
-    };
-    match SqlBook::adopt(alloc, connection) {
-        Ok(book) => Ok(book),
-        Err(refusal) => Err(refusal.fault),
-    }
-}
-
-/// The book of version 1 in files, migrated.
-fn migrated<D: Disk + Drop>(
-    alloc: Global,
-    files: Files<D>,
-) -> Result<SqlBook<FileStore<D>>, OpeningFault> {
-    let Some(connection) = open(alloc, files, FRAMES) else {
-        return Err(OpeningFault::Store);
-    };
-    match SqlBook::migrate(alloc, connection) {
-        Ok(book) => Ok(book),
-        Err(refusal) => Err(refusal.fault),
-    }
-}
-
 /// Migrates the book in files, which is then refused as one of version 2.
 fn refuse_again<D: Disk + Drop>(alloc: Global, files: Files<D>) -> Result<(), RowFault> {
-    let Ok(book) = migrated(alloc, files) else {
+    match open(alloc, files, FRAMES) {
+        Some(connection) => refuse_migrated(alloc, connection),
+        None => Err(RowFault::Book),
+    }
+}
+
+/// Migrates the book in a database, which is then refused as one of version 2.
+fn refuse_migrated<S: Alter + Drop>(
+    alloc: Global,
+    connection: Connection<S>,
+) -> Result<(), RowFault>
+    requires settled { connection.in_transaction ≡ false }
+{
+    let Ok(book) = SqlBook::migrate(alloc, connection) else {
         return Err(RowFault::Book);
     };
     let Err(refusal) = SqlBook::migrate(alloc, book.release()) else {

@@ -1,9 +1,11 @@
 //! Scenarios over files that stop at each of their calls in turn: what is left of them is each time a
 //! book that holds all events so far, with or without the one in hand, and goes on as written.
 
+ghost use Rattle.std.specs.Prelude.{◌≡◌, false};
+
 use crate::findings::Findings;
 use crate::row_fault::RowFault;
-use crate::running_scenarios::{ask, host_in_sql, take_step};
+use crate::running_scenarios::{ask, take_step};
 use crate::scenario::Scenario;
 use crate::step::Step;
 use crate::stopping_files::{Calls, FRAMES, FileAtHand, Stopping, copies_of, new_files, open};
@@ -11,8 +13,8 @@ use acq_book::Book;
 use acq_core::Event;
 use acq_host::Host;
 use acq_sql::SqlBook;
-use sqlite_disk::{Disk, Files};
-use sqlite_store::FileStore;
+use sqlite::{Alter, Connection};
+use sqlite_disk::Files;
 use std::alloc::Global;
 
 /// The most calls that a file of a scenario may need.
@@ -76,11 +78,12 @@ fn run_until_stop<D: FileAtHand>(
     let Some(connection) = open(alloc, files, FRAMES) else {
         return Ok(Ended::NoBook);
     };
-    let Ok(mut host) = host_in_sql(alloc, connection, scenario) else {
+    let (connection, taken) = taken_over(alloc, connection, setup, scenario);
+    let Some(taken) = taken else {
+        drop(connection);
         return Ok(Ended::NoBook);
     };
-    let taken = take_until_stop(&mut host, setup, scenario.steps.as_slice());
-    let mut left = files_of(host);
+    let mut left = connection.into_store().close();
     if taken == setup.len().saturating_add(scenario.steps.len()) {
         return Ok(Ended::Whole);
     }
@@ -89,6 +92,27 @@ fn run_until_stop<D: FileAtHand>(
     left.db.crash();
     go_on(alloc, &left, setup, scenario, taken, findings)?;
     Ok(Ended::Stopped)
+}
+
+/// Takes steps over a new book in a database until one fails. Returns the database, and how many
+/// were taken, if there was a book. What is done over a book is said of any database, as a proof
+/// over one in files takes minutes.
+fn taken_over<S: Alter + Drop>(
+    alloc: Global,
+    connection: Connection<S>,
+    setup: &[Step],
+    scenario: &Scenario,
+) -> (Connection<S>, Option<usize>)
+    requires settled { connection.in_transaction ≡ false }
+{
+    match SqlBook::create(alloc, connection, scenario.limit, scenario.first_day) {
+        Ok(book) => {
+            let mut host = Host::new(alloc, book);
+            let taken = take_until_stop(&mut host, setup, scenario.steps.as_slice());
+            (host.into_book().release(), Some(taken))
+        }
+        Err(refusal) => (refusal.connection, None),
+    }
 }
 
 /// Takes steps until one fails, and returns how many were taken.
@@ -101,12 +125,6 @@ fn take_until_stop<B: Book + Drop>(host: &mut Host<B>, setup: &[Step], steps: &[
         taken = taken.saturating_add(1);
     }
     taken
-}
-
-/// The files of a host, with no call of them.
-pub fn files_of<D: Disk + Drop>(host: Host<SqlBook<FileStore<D>>>) -> Files<D> {
-    let connection = host.into_book().release();
-    connection.into_store().close()
 }
 
 /// Goes on from what is left in files: from the step at which they stopped, or, where the book has
@@ -158,9 +176,23 @@ fn go_on_from<D: FileAtHand>(
     findings: &mut Findings,
 ) -> Result<(), RowFault> {
     let files = copies_of(alloc, left, Calls::ALL)?;
-    let Some(connection) = open(alloc, files, FRAMES) else {
-        return Err(RowFault::Book);
-    };
+    match open(alloc, files, FRAMES) {
+        Some(connection) => go_on_over(alloc, connection, setup, scenario, taken, findings),
+        None => Err(RowFault::Book),
+    }
+}
+
+/// Goes on over the book in a database, behind so many steps.
+fn go_on_over<S: Alter + Drop>(
+    alloc: Global,
+    connection: Connection<S>,
+    setup: &[Step],
+    scenario: &Scenario,
+    taken: usize,
+    findings: &mut Findings,
+) -> Result<(), RowFault>
+    requires settled { connection.in_transaction ≡ false }
+{
     let Ok(book) = SqlBook::adopt(alloc, connection) else {
         return Err(RowFault::Book);
     };

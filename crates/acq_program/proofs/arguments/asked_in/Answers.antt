@@ -1,5 +1,5 @@
 -- command by command: what the options were read as is what the arguments ask for
-use Rattle.std.proofs.Common.{◌≡◌, ◌∙◌, Some, codes, ap, sym, refl, inl, inr}
+use Rattle.std.proofs.Common.{◌∙◌, Some, codes, ap, sym, refl, inl, inr}
 use Rattle.std.specs.Prelude.{Ok}
 use Rattle.clap.specs.Words.{found_of, rows_of}
 use Rattle.acq_program.specs.Arguments.{AsksHolds, AsksInit, AsksListen, AsksMigrate}
