@@ -9,6 +9,7 @@ ghost use Rattle.acq_book.specs.Lookups.{used_at, totals_at};
 ghost use Rattle.acq_sql_rows.specs.Tallies.{tally_of};
 ghost use Rattle.acq_sql_rows.specs.Relation.{Holds};
 ghost use Rattle.acq_sql_reads.specs.Looked.{Answers, LooksOnly, ShowsTally, totals_row};
+ghost use Rattle.acq_sql_reads.specs.Failing.{FailsOnlyExcused};
 
 use crate::columns::{read, used_count_at};
 use acq_core::UsedCount;
@@ -31,6 +32,7 @@ pub fn used<S: Alter>(
     ensures answers { Answers (state S.Store conn.old) (state S.Store conn.new) result
         (λ t. used_at t merchant day) }
     ensures looks { LooksOnly (state S.Store conn.old) (state S.Store conn.new) (is_ok result) }
+    ensures fails { FailsOnlyExcused (state S.Store conn.old) (state S.Store conn.new) result }
 {
     let rows = running_rows(conn, merchant, day)?;
     match rows.first() {
@@ -66,6 +68,7 @@ fn running_rows<S: Alter>(
         → Holds (state S.Store conn.old).now t → IfOk result
         (λ rows. ShowsTally (tally_of t merchant day) rows.items) }
     ensures looks { LooksOnly (state S.Store conn.old) (state S.Store conn.new) (is_ok result) }
+    ensures fails { FailsOnlyExcused (state S.Store conn.old) (state S.Store conn.new) result }
 {
     let merchant = merchant.to_bytes();
     conn.query_all(

@@ -14,4 +14,4 @@ returns c =
     c.in_ok-get-5.ensures.ok.1 c.in_ok-get-6.ensures.ok.1 c.in_ok-get-7.ensures.ok.1
     c.in_ok-get-8.ensures.ok.1
     (rw is at c.from_parts.ensures.counts) (rw is at c.from_parts.ensures.amounts))
-    c.read.ensures
+    c.read.ensures.value
