@@ -1,23 +1,19 @@
 -- When a look-up fails.
-use Rattle.std.proofs.Common.{◌≡◌, ◌≢◌, ◌⊎◌, inl, inr, ℕ, ◌<◌, ◌≤◌, true, false, List, [], ◌∷◌, length}
+use Rattle.std.proofs.Common.{◌≡◌, ◌≢◌, inl, ℕ, ◌≤◌, true, List, [], ◌∷◌, length}
 use Rattle.std.proofs.Common.{Result, Ok, Err, IfErr, Option, None, Some, refl, sym, ap, ◌∙◌, arith}
-use Rattle.std.proofs.Common.{zero, suc, Bool, find, option_map, slice_get, nat_le}
+use Rattle.std.proofs.Common.{Bool, find, option_map, slice_get, nat_le}
 use Rattle.std.specs.Prelude.{All}
 use Rattle.std.specs.Option.{option_to_list}
 use Rattle.std.specs.Str.{bytes_eq}
 use Rattle.std.proofs.lemmas.Bool.{and_parts, leb-true, le-leb}
 use Rattle.std.proofs.lemmas.List.Elements.{All-contains}
-use Rattle.std.proofs.Math.ListN.{get_or-eq_default}
 use Rattle.sqlite_value.specs.Order.{Row, column}
-use Rattle.sqlite_value.specs.declared.value.Value.{Value}
-use Rattle.sqlite_value.specs.declared.value.Value.TheVariants.{Null, Text}
+use Rattle.sqlite_value.specs.declared.value.Value.TheVariants.{Text}
 use Rattle.sqlite_value.specs.declared.keys.Key.{Key}
 use Rattle.sqlite_sql.specs.Term.{Term}
 use Rattle.sqlite_typing.specs.Types.{accepts_program}
 use Rattle.sqlite_tied.specs.Compute.{everything}
-use Rattle.sqlite.specs.declared.error.ErrorCode.TheVariants as code
 use Rattle.sqlite.specs.declared.error.Error.{Error}
-use Rattle.sqlite.specs.declared.error.Error.TheVariants.{SqliteFailure}
 use Rattle.sqlite.specs.Listing.{understood}
 use Rattle.sqlite.specs.State.{State, HasCleanDisk, FailsToQuery}
 use Rattle.row_lemmas.specs.Excused.{IsExcused}
@@ -27,6 +23,7 @@ use Rattle.row_lemmas.proofs.StatementFailures.{tail_of, names_of}
 use Rattle.row_lemmas.proofs.QueriesSucceed.{query_excused}
 use Rattle.day_totals.specs.Day.{IsDayNumber}
 use Rattle.acq_core.specs.declared.merchant.Merchant.{Merchant}
+use Rattle.acq_core.specs.declared.reconciliation.Reconciliation.{Reconciliation}
 use Rattle.acq_core.specs.Numbers.{is_limit, is_used_count, greatest_limit}
 use Rattle.acq_core.specs.Pasts.{HasPast}
 use Rattle.acq_core.specs.Tables.{Tables}
@@ -38,8 +35,8 @@ use Rattle.acq_sql_rows.specs.Rows.{merchant_row}
 use Rattle.acq_sql_rows.specs.Tallies.{tally_of}
 use Rattle.acq_sql_rows.specs.Schema.{book_schema}
 use Rattle.acq_sql_rows.specs.Schema as schema
-use Rattle.acq_sql_reads.specs.Failing.{FailsForMemory, FailsOnlyExcused, IsMerchantRow}
-use Rattle.acq_sql_reads.specs.Looked.{ShowsTally}
+use Rattle.acq_sql_reads.specs.Failing.{FailsForMemory, FailsOnlyExcused, IsMerchantRow, IsBalanceRow}
+use Rattle.acq_sql_reads.specs.Looked.{ShowsTally, balance_cells}
 use Rattle.acq_sql_reads.proofs.RowReads.{first_row}
 use Rattle.acq_sql_reads.specs.Texts as text
 use Rattle.acq_sql_reads.specs.Queries as query
@@ -77,6 +74,12 @@ unfolding understood everything book_schema schema.up_to_reconciliations schema.
     schema.up_to_book
 running_alone = record { whole = refl; given = refl }
 
+reconciliation_alone : IsAlone text.reconciliation_text 2
+unfolding understood everything book_schema schema.up_to_reconciliations schema.up_to_postings
+    schema.up_to_requests schema.up_to_ranges schema.up_to_terminals schema.up_to_merchants
+    schema.up_to_book
+reconciliation_alone = record { whole = refl; given = refl }
+
 typed_business : accepts_program book_schema [] query.business_query [] ≡ true
 unfolding book_schema schema.up_to_reconciliations schema.up_to_postings schema.up_to_requests
     schema.up_to_ranges schema.up_to_terminals schema.up_to_merchants schema.up_to_book
@@ -99,6 +102,13 @@ typed_running : (merchant : List ℕ) (day : ℕ)
 unfolding book_schema schema.up_to_reconciliations schema.up_to_postings schema.up_to_requests
     schema.up_to_ranges schema.up_to_terminals schema.up_to_merchants schema.up_to_book
 typed_running merchant day = refl
+
+typed_reconciliation : (day : ℕ) (merchant : List ℕ)
+    → accepts_program book_schema [] query.reconciliation_query (number day ∷ Text merchant ∷ [])
+    ≡ true
+unfolding book_schema schema.up_to_reconciliations schema.up_to_postings schema.up_to_requests
+    schema.up_to_ranges schema.up_to_terminals schema.up_to_merchants schema.up_to_book
+typed_reconciliation day merchant = refl
 
 module _ {V : Type 0} (old new : State) (res : Result V Error) where
   -- it failed to show its rows
@@ -137,6 +147,13 @@ module _ {V : Type 0} (old new : State) (res : Result V Error) where
   running_fails merchant day =
       fails text.running_text (Text merchant ∷ number day ∷ []) _ _ _ _ _ _ asks.running_asks
       running_alone (typed_running merchant day)
+
+  pub reconciliation_fails : (day : ℕ) (merchant : List ℕ)
+      → Failed text.reconciliation_text (number day ∷ Text merchant ∷ [])
+      → FailsOnlyExcused old new res
+  reconciliation_fails day merchant =
+      fails text.reconciliation_text (number day ∷ Text merchant ∷ []) _ _ _ _ _ _
+      asks.reconciliation_asks reconciliation_alone (typed_reconciliation day merchant)
 
 -- ---- a row that was found
 
@@ -201,3 +218,12 @@ pub used_shown : (t : Tables) (m : List ℕ) (day : ℕ) (rows : List Row) (row 
     → column row 0 ≡ number (tally_of t m day).used
 used_shown t m day rows row shown some =
     ap (λ r. column r 0) (first_row (tally_of t m day) rows row shown some)
+
+-- ---- reconciliations
+
+pub balance_shown : (o : Option (ℕ × Reconciliation)) (rows : List Row) (row : Row)
+    → rows ≡ option_to_list (option_map balance_cells o) → Some row ≡ slice_get rows 0
+    → IsBalanceRow row
+balance_shown None rows row are some =
+    absurd (let e = some ∙ ap (λ l. slice_get l 0) are in cc)
+balance_shown (Some r) rows row are some = (r, one_first rows row (balance_cells r) are some)
