@@ -36,6 +36,12 @@ use Rattle.acq_sql_rows.specs.Tallies.{tally_of}
 use Rattle.acq_sql_rows.specs.Schema.{book_schema}
 use Rattle.acq_sql_rows.specs.Schema as schema
 use Rattle.acq_sql_reads.specs.Failing.{FailsForMemory, FailsOnlyExcused, IsMerchantRow, IsBalanceRow}
+use Rattle.acq_sql_reads.specs.Failing.{IsTallyRow}
+use Rattle.std.proofs.Common.{◌↔◌, IsSome, subst, true≢false}
+use Rattle.sqlite.specs.declared.error.ErrorCode.TheVariants.{DatabaseCorrupt}
+use Rattle.sqlite.specs.declared.error.Error.TheVariants.{SqliteFailure}
+use Rattle.day_totals.specs.Totals.{DayTotals, AreWithinLimits}
+use Rattle.acq_sql_rows.specs.Rows.{tally_row}
 use Rattle.acq_sql_reads.specs.Looked.{ShowsTally, balance_cells}
 use Rattle.acq_sql_reads.proofs.RowReads.{first_row}
 use Rattle.acq_sql_reads.specs.Texts as text
@@ -218,6 +224,42 @@ pub used_shown : (t : Tables) (m : List ℕ) (day : ℕ) (rows : List Row) (row 
     → column row 0 ≡ number (tally_of t m day).used
 used_shown t m day rows row shown some =
     ap (λ r. column r 0) (first_row (tally_of t m day) rows row shown some)
+
+pub tally_row_of : (t : Tables) → HasPast t → (m : List ℕ) (day : ℕ) (rows : List Row) (row : Row)
+    → ShowsTally (tally_of t m day) rows → Some row ≡ slice_get rows 0 → IsTallyRow row
+tally_row_of t (opening, book) m day rows row shown some = (
+  tally_of t m day,
+  first_row (tally_of t m day) rows row shown some,
+  ((books_are_sound opening t book).numbers.merchants m).totals day,
+)
+
+-- four counts and four amounts that were read are within the limits
+pub parts_fit : (row : Row) (a b c d e f g h : ℕ)
+    → column row 1 ≡ number a → column row 2 ≡ number b → column row 3 ≡ number c
+    → column row 4 ≡ number d → column row 5 ≡ number e → column row 6 ≡ number f
+    → column row 7 ≡ number g → column row 8 ≡ number h → IsTallyRow row
+    → AreWithinLimits (a ∷ b ∷ c ∷ d ∷ []) (e ∷ f ∷ g ∷ h ∷ [])
+parts_fit row a b c d e f g h e1 e2 e3 e4 e5 e6 e7 e8 (tally, is, within) =
+    let same : (k : ℕ) → column row k ≡ column (tally_row tally) k = λ k. ap (λ r. column r k) is in
+    let k1 : a ≡ tally.totals.credits.count = let q = sym e1 ∙ same 1 in cc in
+    let k2 : b ≡ tally.totals.credit_reversals.count = let q = sym e2 ∙ same 2 in cc in
+    let k3 : c ≡ tally.totals.debits.count = let q = sym e3 ∙ same 3 in cc in
+    let k4 : d ≡ tally.totals.debit_reversals.count = let q = sym e4 ∙ same 4 in cc in
+    let k5 : e ≡ tally.totals.credits.amount = let q = sym e5 ∙ same 5 in cc in
+    let k6 : f ≡ tally.totals.credit_reversals.amount = let q = sym e6 ∙ same 6 in cc in
+    let k7 : g ≡ tally.totals.debits.amount = let q = sym e7 ∙ same 7 in cc in
+    let k8 : h ≡ tally.totals.debit_reversals.amount = let q = sym e8 ∙ same 8 in cc in
+    (omega (arith, within.0, k1, k2, k3, k4), omega (arith, within.1, k5, k6, k7, k8))
+
+-- totals are made of parts within the limits
+pub made_of_parts : (made : Option DayTotals) (res : Result DayTotals Error)
+    (counts amounts : List ℕ)
+    → IfErr res (λ e. (made ≡ None) × (e ≡ SqliteFailure DatabaseCorrupt))
+    → IsSome made ↔ AreWithinLimits counts amounts → AreWithinLimits counts amounts
+    → FailsForMemory res
+made_of_parts made (Ok x) counts amounts fault within fit = tt
+made_of_parts made (Err e) counts amounts fault within fit =
+    absurd (true≢false (sym (subst (λ o. IsSome o) fault.0 (within.1 fit))))
 
 -- ---- reconciliations
 

@@ -1,6 +1,7 @@
 //! The values of a row that was read.
 
-ghost use Rattle.std.specs.Prelude.{◌≡◌, ◌≢◌, ◌<◌, ◌^◌, ℕ, List, true, None, Some, IfOk, IfErr};
+ghost use Rattle.std.specs.Prelude.{◌≡◌, ◌≢◌, ◌<◌, ◌-◌, ◌^◌, ℕ, List, true};
+ghost use Rattle.std.specs.Prelude.{Option, None, Some, IfSome, IfOk, IfErr, length};
 ghost use Rattle.sqlite.specs.declared.error.ErrorCode.TheVariants.{DatabaseCorrupt, OutOfMemory};
 ghost use Rattle.sqlite.specs.declared.error.Error.TheVariants.{SqliteFailure};
 ghost use Rattle.sqlite_value.specs.declared.value.Value.TheVariants.{Text};
@@ -133,7 +134,9 @@ pub fn reference_at(row: &Row, at: usize) -> Result<Reference, Error>
 
 /// The reference in a column, if there is one.
 pub fn reference_if_at(row: &Row, at: usize) -> Result<Option<Reference>, Error>
-    ensures { IfOk result (λ reference. column row.now at ≡ number_or_null reference) }
+    ensures value { IfOk result (λ reference. column row.now at ≡ number_or_null reference) }
+    ensures fails { at < length row.now → (o : Option ℕ) → column row.now at ≡ number_or_null o
+        → IfSome o (λ n. is_reference n ≡ true) → FailsForMemory result }
 {
     match row.get_ref(at)? {
         ValueRef::Null => Ok(None),
@@ -180,7 +183,9 @@ pub fn bit_at(row: &Row, at: usize) -> Result<bool, Error>
 
 /// What count(*) counted: at the greatest number that it gives, there may be more.
 pub fn count_at(row: &Row, at: usize) -> Result<u64, Error>
-    ensures { IfOk result (λ n. (many : ℕ) → column row.now at ≡ count many → n ≡ many) }
+    ensures value { IfOk result (λ n. (many : ℕ) → column row.now at ≡ count many → n ≡ many) }
+    ensures fails { (n : ℕ) → column row.now at ≡ number n → n < 2 ^ 63 - 1
+        → FailsForMemory result }
 {
     let n: u64 = row.get(at)?;
     if n < 9_223_372_036_854_775_807 {

@@ -1,6 +1,6 @@
 //! A request from its row.
 
-ghost use Rattle.std.specs.Prelude.{◌≡◌, ℕ, List, Ok, IfOk, IfErr, length};
+ghost use Rattle.std.specs.Prelude.{◌≡◌, ◌<◌, ◌^◌, ℕ, List, Option, Ok, IfSome, IfOk, IfErr, length};
 ghost use Rattle.sqlite.specs.declared.error.ErrorCode.TheVariants.{OutOfMemory};
 ghost use Rattle.sqlite.specs.declared.error.Error.TheVariants.{SqliteFailure};
 ghost use Rattle.sqlite_value.specs.declared.value.Value.TheVariants.{Text};
@@ -110,7 +110,9 @@ fn status_at(row: &Row, at: usize) -> Result<Status, Error>
 }
 
 fn number_if_at(row: &Row, at: usize) -> Result<Option<u64>, Error>
-    ensures { IfOk result (λ n. column row.now at ≡ number_or_null n) }
+    ensures value { IfOk result (λ n. column row.now at ≡ number_or_null n) }
+    ensures fails { at < length row.now → (o : Option ℕ) → column row.now at ≡ number_or_null o
+        → FailsForMemory result }
 {
     match row.get_ref(at)? {
         ValueRef::Null => Ok(None),
@@ -119,7 +121,9 @@ fn number_if_at(row: &Row, at: usize) -> Result<Option<u64>, Error>
 }
 
 fn hold_days_if_at(row: &Row, at: usize) -> Result<Option<u8>, Error>
-    ensures { IfOk result (λ days. column row.now at ≡ number_or_null days) }
+    ensures value { IfOk result (λ days. column row.now at ≡ number_or_null days) }
+    ensures fails { at < length row.now → (o : Option ℕ) → column row.now at ≡ number_or_null o
+        → IfSome o (λ n. n < 2 ^ 8) → FailsForMemory result }
 {
     match row.get_ref(at)? {
         ValueRef::Null => Ok(None),
@@ -129,6 +133,8 @@ fn hold_days_if_at(row: &Row, at: usize) -> Result<Option<u8>, Error>
 
 fn content_if_at(alloc: Global, row: &Row, at: usize) -> Result<Option<ElementContent>, Error>
     ensures value { IfOk result (λ content. column row.now at ≡ text_or_null content) }
+    ensures fails { at < length row.now → (o : Option (List ℕ))
+        → column row.now at ≡ text_or_null o → FailsForMemory result }
     ensures memory { NeedsText (column row.now at) result }
 {
     match row.get_ref(at)? {
