@@ -35,7 +35,8 @@ use Rattle.acq_sql_rows.specs.Rows.{merchant_row}
 use Rattle.acq_sql_rows.specs.Tallies.{tally_of}
 use Rattle.acq_sql_rows.specs.Schema.{book_schema}
 use Rattle.acq_sql_rows.specs.Schema as schema
-use Rattle.acq_sql_reads.specs.Failing.{FailsForMemory, FailsOnlyExcused, IsMerchantRow, IsBalanceRow}
+use Rattle.acq_sql_reads.specs.Failing.{FailsForMemory, FailsOnlyExcused}
+use Rattle.acq_sql_reads.specs.Failing.{IsMerchantRow, IsBalanceRow}
 use Rattle.acq_sql_reads.specs.Failing.{IsTallyRow}
 use Rattle.std.proofs.Common.{◌↔◌, IsSome, subst, true≢false}
 use Rattle.sqlite.specs.declared.error.ErrorCode.TheVariants.{DatabaseCorrupt}
@@ -127,7 +128,8 @@ module _ {V : Type 0} (old new : State) (res : Result V Error) where
       → IsAlone sql (length params)
       → accepts_program book_schema [] (table_query t test None project order limit) params ≡ true
       → Failed sql params → FailsOnlyExcused old new res
-  fails sql params t test project order limit names ask lone typed failed clean tables at past free =
+  fails sql params t test project order limit names ask lone typed failed clean tables at past
+      free =
       query_excused t test project order limit book_schema params typed sql old new names res
       at.holds.rows.schema ask.is ask.plain (omega (arith, lone.whole)) (sym lone.given)
       ask.unlisted at.is_open free (failed clean)

@@ -4,7 +4,8 @@ use Rattle.std.proofs.lemmas.Result.{IfOk-weaker}
 use Rattle.acq_sql_reads.proofs.RowReads.{pair_read}
 use Rattle.sqlite.specs.Held.{state}
 use Rattle.std.proofs.lemmas.Result.{err_from_is_err_and}
-use Rattle.acq_sql_reads.proofs.Failing.{memory_excused, limit_fits, day_fits, one_first, none_first}
+use Rattle.acq_sql_reads.proofs.Failing.{memory_excused, limit_fits, day_fits, one_first}
+use Rattle.acq_sql_reads.proofs.Failing.{none_first}
 use Rattle.acq_sql_reads.proofs.book_row.limit_and_day.Goals as goal
 
 pub returns-in-Some-clause-answers : goal.returns-in-Some-clause-answers
@@ -23,7 +24,8 @@ returns-in_err-rows-clause-fails g c clean t at past free =
 
 pub returns-in-Some-clause-fails : goal.returns-in-Some-clause-fails
 returns-in-Some-clause-fails g c clean t at past free =
-    memory_excused (state g.S.Store c.args.conn.now) (state g.S.Store c.book_rows.new.conn) c.read_row.result
+    memory_excused (state g.S.Store c.args.conn.now) (state g.S.Store c.book_rows.new.conn)
+    c.read_row.result
     (c.read_row.ensures.fails t.limit t.day
     (one_first c.in_ok-rows.rows.items c.in-Some.row.now _
     (c.in_ok-rows.ensures.answers clean t at.holds)

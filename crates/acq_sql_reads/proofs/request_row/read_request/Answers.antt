@@ -25,7 +25,8 @@ returns c len =
           reply.0 len c.in_ok-key.ensures c.in_ok-essence.ensures.value c.in_ok-day.ensures.value
           c.in_ok-status.ensures c.in_ok-admitted.ensures.value c.in_ok-reference.ensures.value
           c.in_ok-follows.ensures.value
-          c.in_ok-amount.ensures.value c.in_ok-leg.ensures.value c.in_ok-card.ensures.value c.in_ok-acquirer.ensures.value
+          c.in_ok-amount.ensures.value c.in_ok-leg.ensures.value c.in_ok-card.ensures.value
+          c.in_ok-acquirer.ensures.value
           c.in_ok-hold_days.ensures.value c.in_ok-hold_end.ensures.value reply.1,
       reply.2,
     )

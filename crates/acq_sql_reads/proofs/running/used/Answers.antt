@@ -25,7 +25,8 @@ returns-in_err-rows-clause-fails g c clean t at past free =
 
 pub returns-in-Some-clause-fails : goal.returns-in-Some-clause-fails
 returns-in-Some-clause-fails g c clean t at past free =
-    memory_excused (state g.S.Store c.args.conn.now) (state g.S.Store c.running_rows.new.conn) c.used_count_at.result
+    memory_excused (state g.S.Store c.args.conn.now) (state g.S.Store c.running_rows.new.conn)
+    c.used_count_at.result
     (c.used_count_at.ensures.fails (tally_of t c.args.merchant c.args.day).used
     (used_shown t c.args.merchant c.args.day c.in_ok-rows.rows.items c.in-Some.row.now
     (c.in_ok-rows.ensures.answers clean t at.holds)
