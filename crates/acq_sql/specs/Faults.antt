@@ -1,9 +1,11 @@
--- The faults' numbers and texts.
-use Rattle.std.specs.Prelude.{ℕ, List, ◌++◌, [], codes}
+-- What an error of the database is to a book, and the faults' numbers and texts.
+use Rattle.std.specs.Prelude.{ℕ, ◌+◌, ◌-◌, ◌^◌, min, List, ◌++◌, [], codes, Result, Ok, Err}
 use Rattle.std.specs.Fmt.{decimal}
 use Rattle.sqlite.specs.declared.error.Error.{Error}
 use Rattle.sqlite.specs.declared.error.Error.TheVariants.{SqliteFailure}
 use Rattle.sqlite.specs.declared.error.ErrorCode.TheVariants as code
+use Rattle.acq_book.specs.declared.book_fault.BookFault.{BookFault}
+use Rattle.acq_book.specs.declared.book_fault.BookFault.TheVariants as book
 use Rattle.acq_sql.specs.declared.opening.opening_fault.OpeningFault.{OpeningFault}
 use Rattle.acq_sql.specs.declared.opening.opening_fault.OpeningFault.TheVariants.{Memory, Store}
 use Rattle.acq_sql.specs.declared.opening.opening_fault.OpeningFault.TheVariants.{NotABook}
@@ -33,7 +35,18 @@ values_of (OtherVersion n) = codes " " ++ decimal n
 abbrev pub text_of : OpeningFault → List ℕ
 text_of fault = decimal (number_of fault) ++ codes " " ++ name_of fault ++ values_of fault
 
--- what an error of the database is
+-- what an error of the database is to an open
 abbrev pub fault_of : Error → OpeningFault
 fault_of (SqliteFailure code.OutOfMemory) = Memory
 fault_of e = Store
+
+-- what it is to a book that is open
+abbrev pub book_fault_of : Error → BookFault
+book_fault_of (SqliteFailure code.OutOfMemory) = book.Memory
+book_fault_of e = book.Store
+
+-- of so many failures of the store, how many there are after a call; the greatest count stays
+abbrev pub failures_after : {T : Type 0} → ℕ → Result T BookFault → ℕ
+failures_after n (Ok x) = n
+failures_after n (Err book.Memory) = n
+failures_after n (Err book.Store) = min (n + 1) (2 ^ 64 - 1)

@@ -20,3 +20,4 @@ pub mod HoldReferences
 pub mod HoldWalk
 pub mod RowidOrder
 pub mod PendingWalk
+pub mod Failing

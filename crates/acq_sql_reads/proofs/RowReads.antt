@@ -86,7 +86,7 @@ pub tally_shown : (o : Option Running) (rows : List Row) (tally : Tally)
 tally_shown None rows tally are is = inl (are, sym is)
 tally_shown (Some r) rows tally are is = inr (are ∙ ap (λ t. tally_row t ∷ []) is)
 
-first_row : (tally : Tally) (rows : List Row) (row : Row) → ShowsTally tally rows →
+pub first_row : (tally : Tally) (rows : List Row) (row : Row) → ShowsTally tally rows →
     Some row ≡ slice_get rows 0
     → row ≡ tally_row tally
 first_row tally rows row (inl none) some =

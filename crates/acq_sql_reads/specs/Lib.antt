@@ -6,3 +6,4 @@ pub mod WalkTexts
 pub mod WalkQueries
 pub mod Shown
 pub mod Walked
+pub mod Failing

@@ -1,11 +1,19 @@
 //! The values of a row that was read.
 
-ghost use Rattle.std.specs.Prelude.{◌≡◌, ℕ, IfOk, Some};
+ghost use Rattle.std.specs.Prelude.{◌≡◌, ◌≢◌, ◌<◌, ◌-◌, ◌^◌, ℕ, List, true};
+ghost use Rattle.std.specs.Prelude.{Option, None, Some, IfSome, IfOk, IfErr, length};
+ghost use Rattle.sqlite.specs.declared.error.ErrorCode.TheVariants.{DatabaseCorrupt, OutOfMemory};
+ghost use Rattle.sqlite.specs.declared.error.Error.TheVariants.{SqliteFailure};
 ghost use Rattle.sqlite_value.specs.declared.value.Value.TheVariants.{Text};
 ghost use Rattle.sqlite_value.specs.Order.{column};
 ghost use Rattle.sqlite_sql.specs.Aggregate.{count};
 ghost use Rattle.row_lemmas.specs.Values.{number, number_or_null};
+ghost use Rattle.day_totals.specs.Day.{IsDayNumber};
+ghost use Rattle.acq_message.specs.Names.{is_merchant, is_currency};
+ghost use Rattle.acq_message.specs.Numbers.{is_amount, is_reference};
+ghost use Rattle.acq_core.specs.Numbers.{is_first_reference, is_limit, is_used_count};
 ghost use Rattle.acq_sql_rows.specs.Rows.{leg_number, bit_of};
+ghost use Rattle.acq_sql_reads.specs.Failing.{FailsForMemory, NeedsText};
 
 use acq_core::{FirstReference, Limit, UsedCount};
 use acq_message::{Amount, Currency, MerchantId, Reference};
@@ -17,7 +25,9 @@ use std::alloc::Global;
 
 /// What was read, or the fault of a row that the host hasn't written.
 pub fn read<T>(value: Option<T>) -> Result<T, Error>
-    ensures { IfOk result (λ x. value ≡ Some x) }
+    ensures value { IfOk result (λ x. value ≡ Some x) }
+    ensures fault { IfErr result
+        (λ e. (value ≡ None) × (e ≡ SqliteFailure DatabaseCorrupt)) }
 {
     match value {
         Some(value) => Ok(value),
@@ -27,7 +37,9 @@ pub fn read<T>(value: Option<T>) -> Result<T, Error>
 
 /// The text of a column.
 pub fn text_at(row: &Row, at: usize) -> Result<&[u8], Error>
-    ensures { IfOk result (λ text. column row.now at ≡ Text text.now) }
+    ensures value { IfOk result (λ text. column row.now at ≡ Text text.now) }
+    ensures fails { IfErr result (λ e. (text : List ℕ) → column row.now at ≢ Text text) }
+    ensures kind { IfErr result (λ e. e ≢ SqliteFailure OutOfMemory) }
 {
     match row.get_ref(at)? {
         ValueRef::Text(text) => Ok(text),
@@ -37,49 +49,63 @@ pub fn text_at(row: &Row, at: usize) -> Result<&[u8], Error>
 
 /// The merchant's name in a column.
 pub fn merchant_at(row: &Row, at: usize) -> Result<MerchantId, Error>
-    ensures { IfOk result (λ id. column row.now at ≡ Text id) }
+    ensures value { IfOk result (λ id. column row.now at ≡ Text id) }
+    ensures fails { IfErr result (λ e. (id : List ℕ) → column row.now at ≡ Text id
+        → is_merchant id ≢ true) }
 {
     read(MerchantId::read(text_at(row, at)?))
 }
 
 /// The currency in a column.
 pub fn currency_at(row: &Row, at: usize) -> Result<Currency, Error>
-    ensures { IfOk result (λ currency. column row.now at ≡ Text currency) }
+    ensures value { IfOk result (λ currency. column row.now at ≡ Text currency) }
+    ensures fails { IfErr result (λ e. (currency : List ℕ) → column row.now at ≡ Text currency
+        → is_currency currency ≢ true) }
 {
     read(Currency::read(text_at(row, at)?))
 }
 
 /// The first reference in a column.
 pub fn first_reference_at(row: &Row, at: usize) -> Result<FirstReference, Error>
-    ensures { IfOk result (λ first. column row.now at ≡ number first) }
+    ensures value { IfOk result (λ first. column row.now at ≡ number first) }
+    ensures fails { (first : ℕ) → column row.now at ≡ number first
+        → is_first_reference first ≡ true → FailsForMemory result }
 {
     read(FirstReference::from_number(row.get(at)?))
 }
 
 /// The limit in a column.
 pub fn limit_at(row: &Row, at: usize) -> Result<Limit, Error>
-    ensures { IfOk result (λ limit. column row.now at ≡ number limit) }
+    ensures value { IfOk result (λ limit. column row.now at ≡ number limit) }
+    ensures fails { (limit : ℕ) → column row.now at ≡ number limit → is_limit limit ≡ true
+        → FailsForMemory result }
 {
     read(Limit::from_number(row.get(at)?))
 }
 
 /// The business day in a column.
 pub fn day_at(row: &Row, at: usize) -> Result<Day, Error>
-    ensures { IfOk result (λ day. column row.now at ≡ number day) }
+    ensures value { IfOk result (λ day. column row.now at ≡ number day) }
+    ensures fails { (day : ℕ) → column row.now at ≡ number day → IsDayNumber day
+        → FailsForMemory result }
 {
     read(Day::from_number(row.get(at)?))
 }
 
 /// The count against the limit of a day in a column.
 pub fn used_count_at(row: &Row, at: usize) -> Result<UsedCount, Error>
-    ensures { IfOk result (λ used. column row.now at ≡ number used) }
+    ensures value { IfOk result (λ used. column row.now at ≡ number used) }
+    ensures fails { (used : ℕ) → column row.now at ≡ number used → is_used_count used ≡ true
+        → FailsForMemory result }
 {
     read(UsedCount::from_number(row.get(at)?))
 }
 
 /// The issuer's id in a column.
 pub fn issuer_at(alloc: Global, row: &Row, at: usize) -> Result<IssuerId, Error>
-    ensures { IfOk result (λ issuer. column row.now at ≡ Text issuer) }
+    ensures value { IfOk result (λ issuer. column row.now at ≡ Text issuer) }
+    ensures fails { (issuer : List ℕ) → column row.now at ≡ Text issuer → FailsForMemory result }
+    ensures memory { NeedsText (column row.now at) result }
 {
     match IssuerId::from_slice(alloc, text_at(row, at)?) {
         Ok(issuer) => Ok(issuer),
@@ -89,7 +115,9 @@ pub fn issuer_at(alloc: Global, row: &Row, at: usize) -> Result<IssuerId, Error>
 
 /// The days of a hold in a column.
 pub fn hold_days_at(row: &Row, at: usize) -> Result<u8, Error>
-    ensures { IfOk result (λ days. column row.now at ≡ number days) }
+    ensures value { IfOk result (λ days. column row.now at ≡ number days) }
+    ensures fails { (days : ℕ) → column row.now at ≡ number days → days < 2 ^ 8
+        → FailsForMemory result }
 {
     let days: u32 = row.get(at)?;
     read(u8::try_from(days).ok())
@@ -97,14 +125,18 @@ pub fn hold_days_at(row: &Row, at: usize) -> Result<u8, Error>
 
 /// The reference in a column.
 pub fn reference_at(row: &Row, at: usize) -> Result<Reference, Error>
-    ensures { IfOk result (λ reference. column row.now at ≡ number reference) }
+    ensures value { IfOk result (λ reference. column row.now at ≡ number reference) }
+    ensures fails { (reference : ℕ) → column row.now at ≡ number reference
+        → is_reference reference ≡ true → FailsForMemory result }
 {
     read(Reference::from_number(row.get(at)?))
 }
 
 /// The reference in a column, if there is one.
 pub fn reference_if_at(row: &Row, at: usize) -> Result<Option<Reference>, Error>
-    ensures { IfOk result (λ reference. column row.now at ≡ number_or_null reference) }
+    ensures value { IfOk result (λ reference. column row.now at ≡ number_or_null reference) }
+    ensures fails { at < length row.now → (o : Option ℕ) → column row.now at ≡ number_or_null o
+        → IfSome o (λ n. is_reference n ≡ true) → FailsForMemory result }
 {
     match row.get_ref(at)? {
         ValueRef::Null => Ok(None),
@@ -114,7 +146,8 @@ pub fn reference_if_at(row: &Row, at: usize) -> Result<Option<Reference>, Error>
 
 /// The leg in a column.
 pub fn leg_at(row: &Row, at: usize) -> Result<Leg, Error>
-    ensures { IfOk result (λ leg. column row.now at ≡ number (leg_number leg)) }
+    ensures value { IfOk result (λ leg. column row.now at ≡ number (leg_number leg)) }
+    ensures fails { (n : ℕ) → column row.now at ≡ number n → n < 4 → FailsForMemory result }
 {
     let n: u32 = row.get(at)?;
     match n {
@@ -128,14 +161,17 @@ pub fn leg_at(row: &Row, at: usize) -> Result<Leg, Error>
 
 /// The amount in a column.
 pub fn amount_at(row: &Row, at: usize) -> Result<Amount, Error>
-    ensures { IfOk result (λ amount. column row.now at ≡ number amount) }
+    ensures value { IfOk result (λ amount. column row.now at ≡ number amount) }
+    ensures fails { (amount : ℕ) → column row.now at ≡ number amount → is_amount amount ≡ true
+        → FailsForMemory result }
 {
     read(Amount::from_number(row.get(at)?))
 }
 
 /// The truth value in a column.
 pub fn bit_at(row: &Row, at: usize) -> Result<bool, Error>
-    ensures { IfOk result (λ bit. column row.now at ≡ number (bit_of bit)) }
+    ensures value { IfOk result (λ bit. column row.now at ≡ number (bit_of bit)) }
+    ensures fails { (n : ℕ) → column row.now at ≡ number n → n < 2 → FailsForMemory result }
 {
     let n: u32 = row.get(at)?;
     match n {
@@ -147,7 +183,9 @@ pub fn bit_at(row: &Row, at: usize) -> Result<bool, Error>
 
 /// What count(*) counted: at the greatest number that it gives, there may be more.
 pub fn count_at(row: &Row, at: usize) -> Result<u64, Error>
-    ensures { IfOk result (λ n. (many : ℕ) → column row.now at ≡ count many → n ≡ many) }
+    ensures value { IfOk result (λ n. (many : ℕ) → column row.now at ≡ count many → n ≡ many) }
+    ensures fails { (n : ℕ) → column row.now at ≡ number n → n < 2 ^ 63 - 1
+        → FailsForMemory result }
 {
     let n: u64 = row.get(at)?;
     if n < 9_223_372_036_854_775_807 {

@@ -9,6 +9,7 @@ ghost use Rattle.acq_book.specs.Lookups.{merchant_at, has_terminal_at};
 ghost use Rattle.acq_sql_rows.specs.Rows.{merchant_row};
 ghost use Rattle.acq_sql_rows.specs.Relation.{Holds};
 ghost use Rattle.acq_sql_reads.specs.Looked.{Answers, LooksOnly, is_any};
+ghost use Rattle.acq_sql_reads.specs.Failing.{FailsForMemory, FailsOnlyExcused, IsMerchantRow};
 
 use crate::columns::{currency_at, first_reference_at, merchant_at};
 use acq_core::Merchant;
@@ -29,6 +30,7 @@ pub fn merchant<S: Alter>(
     ensures answers { Answers (state S.Store conn.old) (state S.Store conn.new) result
         (λ t. merchant_at t id) }
     ensures looks { LooksOnly (state S.Store conn.old) (state S.Store conn.new) (is_ok result) }
+    ensures fails { FailsOnlyExcused (state S.Store conn.old) (state S.Store conn.new) result }
 {
     let rows = merchant_rows(conn, id)?;
     match rows.first() {
@@ -43,6 +45,7 @@ fn merchant_rows<S: Alter>(conn: &mut Connection<S>, id: MerchantId) -> Result<V
         → Holds (state S.Store conn.old).now t → IfOk result
         (λ rows. rows.items ≡ option_to_list (option_map merchant_row (merchant_at t id))) }
     ensures looks { LooksOnly (state S.Store conn.old) (state S.Store conn.new) (is_ok result) }
+    ensures fails { FailsOnlyExcused (state S.Store conn.old) (state S.Store conn.new) result }
 {
     let id = id.to_bytes();
     conn.query_all(MERCHANT, &[ValueRef::Text(&id)])
@@ -50,7 +53,8 @@ fn merchant_rows<S: Alter>(conn: &mut Connection<S>, id: MerchantId) -> Result<V
 
 /// The merchant of a row with the three columns.
 pub fn read_merchant(row: &Row) -> Result<Merchant, Error>
-    ensures { IfOk result (λ m. length row.now ≡ 3 → row.now ≡ merchant_row m) }
+    ensures value { IfOk result (λ m. length row.now ≡ 3 → row.now ≡ merchant_row m) }
+    ensures fails { IsMerchantRow row.now → FailsForMemory result }
 {
     Ok(Merchant {
         id: merchant_at(row, 0)?,
@@ -68,6 +72,7 @@ pub fn has_terminal<S: Alter>(
     ensures answers { Answers (state S.Store conn.old) (state S.Store conn.new) result
         (λ t. has_terminal_at t merchant id) }
     ensures looks { LooksOnly (state S.Store conn.old) (state S.Store conn.new) (is_ok result) }
+    ensures fails { FailsOnlyExcused (state S.Store conn.old) (state S.Store conn.new) result }
 {
     let rows = terminal_rows(conn, merchant, id)?;
     Ok(!rows.is_empty())
@@ -83,6 +88,7 @@ fn terminal_rows<S: Alter>(
         → Holds (state S.Store conn.old).now t → IfOk result
         (λ rows. is_any rows.items ≡ has_terminal_at t merchant id) }
     ensures looks { LooksOnly (state S.Store conn.old) (state S.Store conn.new) (is_ok result) }
+    ensures fails { FailsOnlyExcused (state S.Store conn.old) (state S.Store conn.new) result }
 {
     let merchant = merchant.to_bytes();
     let id = id.to_bytes();

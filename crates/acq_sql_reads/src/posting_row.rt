@@ -4,6 +4,7 @@ ghost use Rattle.std.specs.Prelude.{◌≡◌, length, IfOk};
 ghost use Rattle.sqlite_value.specs.declared.value.Value.TheVariants.{Text};
 ghost use Rattle.sqlite_value.specs.Order.{column};
 ghost use Rattle.acq_sql_rows.specs.Rows.{posting_row};
+ghost use Rattle.acq_sql_reads.specs.Failing.{NeedsText};
 
 use crate::columns::{amount_at, day_at, leg_at, merchant_at, read, reference_at, text_at};
 use acq_core::Posting;
@@ -44,7 +45,8 @@ pub(crate) fn read_posting(alloc: Global, row: &Row) -> Result<(u64, Posting), E
 
 /// The text of a column, copied.
 fn content_at(alloc: Global, row: &Row, at: usize) -> Result<ElementContent, Error>
-    ensures { IfOk result (λ content. column row.now at ≡ Text content) }
+    ensures value { IfOk result (λ content. column row.now at ≡ Text content) }
+    ensures memory { NeedsText (column row.now at) result }
 {
     match ElementContent::from_slice(alloc, text_at(row, at)?) {
         Ok(content) => Ok(content),

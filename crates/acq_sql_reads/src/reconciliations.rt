@@ -9,6 +9,7 @@ ghost use Rattle.acq_core.specs.Pasts.{HasPast};
 ghost use Rattle.acq_sql_rows.specs.Relation.{Holds};
 ghost use Rattle.acq_sql_reads.specs.Looked.{AnswersWhere, LooksOnly, balance_cells};
 ghost use Rattle.acq_sql_reads.specs.Looked.{last_numbered_at};
+ghost use Rattle.acq_sql_reads.specs.Failing.{FailsForMemory, FailsOnlyExcused, IsBalanceRow};
 
 use crate::columns::bit_at;
 use acq_core::Reconciliation;
@@ -30,6 +31,7 @@ pub fn last_reconciliation<S: Alter>(
     ensures answers { AnswersWhere (state S.Store conn.old) (state S.Store conn.new) result
         HasPast (λ t. last_numbered_at t merchant day) }
     ensures looks { LooksOnly (state S.Store conn.old) (state S.Store conn.new) (is_ok result) }
+    ensures fails { FailsOnlyExcused (state S.Store conn.old) (state S.Store conn.new) result }
 {
     let rows = last_rows(conn, merchant, day)?;
     match rows.first() {
@@ -48,6 +50,7 @@ fn last_rows<S: Alter>(
         → Holds (state S.Store conn.old).now t → HasPast t → IfOk result (λ rows. rows.items
         ≡ option_to_list (option_map balance_cells (last_numbered_at t merchant day))) }
     ensures looks { LooksOnly (state S.Store conn.old) (state S.Store conn.new) (is_ok result) }
+    ensures fails { FailsOnlyExcused (state S.Store conn.old) (state S.Store conn.new) result }
 {
     let merchant = merchant.to_bytes();
     conn.query_all(
@@ -61,8 +64,9 @@ fn read_reconciliation(
     merchant: MerchantId,
     day: Day,
 ) -> Result<(u64, Reconciliation), Error>
-    ensures { IfOk result (λ x. (x.1.merchant ≡ merchant) × (x.1.day ≡ day)
+    ensures value { IfOk result (λ x. (x.1.merchant ≡ merchant) × (x.1.day ≡ day)
         × (length row.now ≡ 2 → row.now ≡ balance_cells x)) }
+    ensures fails { IsBalanceRow row.now → FailsForMemory result }
 {
     let number = row.get(0)?;
     let in_balance = bit_at(row, 1)?;

@@ -1,13 +1,19 @@
 //! A request from its row.
 
-ghost use Rattle.std.specs.Prelude.{◌≡◌, ℕ, List, Ok, IfOk, length};
+ghost use Rattle.std.specs.Prelude.{◌≡◌, ◌<◌, ◌^◌, ℕ, List, Option, Ok};
+ghost use Rattle.std.specs.Prelude.{IfSome, IfOk, IfErr, length};
+ghost use Rattle.sqlite.specs.declared.error.ErrorCode.TheVariants.{OutOfMemory};
+ghost use Rattle.sqlite.specs.declared.error.Error.TheVariants.{SqliteFailure};
 ghost use Rattle.sqlite_value.specs.declared.value.Value.TheVariants.{Text};
 ghost use Rattle.sqlite_value.specs.Order.{column};
 ghost use Rattle.row_lemmas.specs.Values.{number, number_or_null, text_or_null};
+ghost use Rattle.iso_codec.specs.Message.{IsoMessage};
+ghost use Rattle.iso_codec.specs.Faults.{NeedsMemory};
 ghost use Rattle.iso_codec.specs.Reading.{reading_of};
 ghost use Rattle.acq_message.specs.Services.{digits_of};
 ghost use Rattle.acq_core.specs.Statuses.{status_number};
 ghost use Rattle.acq_sql_reads.specs.Recorded.{HasKey, IsRowOf};
+ghost use Rattle.acq_sql_reads.specs.Failing.{FailsForMemory, NeedsText};
 
 use crate::columns::{
     amount_at, bit_at, day_at, hold_days_at, leg_at, merchant_at, read, reference_if_at, text_at,
@@ -88,7 +94,9 @@ fn service_at(row: &Row, at: usize) -> Result<Service, Error>
 }
 
 fn message_text_at(alloc: Global, row: &Row, at: usize) -> Result<MessageText, Error>
-    ensures { IfOk result (λ text. column row.now at ≡ Text text) }
+    ensures value { IfOk result (λ text. column row.now at ≡ Text text) }
+    ensures fails { (text : List ℕ) → column row.now at ≡ Text text → FailsForMemory result }
+    ensures memory { NeedsText (column row.now at) result }
 {
     match MessageText::from_slice(alloc, text_at(row, at)?) {
         Ok(text) => Ok(text),
@@ -103,7 +111,9 @@ fn status_at(row: &Row, at: usize) -> Result<Status, Error>
 }
 
 fn number_if_at(row: &Row, at: usize) -> Result<Option<u64>, Error>
-    ensures { IfOk result (λ n. column row.now at ≡ number_or_null n) }
+    ensures value { IfOk result (λ n. column row.now at ≡ number_or_null n) }
+    ensures fails { at < length row.now → (o : Option ℕ) → column row.now at ≡ number_or_null o
+        → FailsForMemory result }
 {
     match row.get_ref(at)? {
         ValueRef::Null => Ok(None),
@@ -112,7 +122,9 @@ fn number_if_at(row: &Row, at: usize) -> Result<Option<u64>, Error>
 }
 
 fn hold_days_if_at(row: &Row, at: usize) -> Result<Option<u8>, Error>
-    ensures { IfOk result (λ days. column row.now at ≡ number_or_null days) }
+    ensures value { IfOk result (λ days. column row.now at ≡ number_or_null days) }
+    ensures fails { at < length row.now → (o : Option ℕ) → column row.now at ≡ number_or_null o
+        → IfSome o (λ n. n < 2 ^ 8) → FailsForMemory result }
 {
     match row.get_ref(at)? {
         ValueRef::Null => Ok(None),
@@ -121,7 +133,10 @@ fn hold_days_if_at(row: &Row, at: usize) -> Result<Option<u8>, Error>
 }
 
 fn content_if_at(alloc: Global, row: &Row, at: usize) -> Result<Option<ElementContent>, Error>
-    ensures { IfOk result (λ content. column row.now at ≡ text_or_null content) }
+    ensures value { IfOk result (λ content. column row.now at ≡ text_or_null content) }
+    ensures fails { at < length row.now → (o : Option (List ℕ))
+        → column row.now at ≡ text_or_null o → FailsForMemory result }
+    ensures memory { NeedsText (column row.now at) result }
 {
     match row.get_ref(at)? {
         ValueRef::Null => Ok(None),
@@ -135,8 +150,12 @@ fn content_if_at(alloc: Global, row: &Row, at: usize) -> Result<Option<ElementCo
 
 /// The message that a column's text reads as.
 fn message_at(alloc: Global, row: &Row, at: usize) -> Result<Message, Error>
-    ensures { IfOk result (λ m. (text : List ℕ)
+    ensures value { IfOk result (λ m. (text : List ℕ)
         × (column row.now at ≡ Text text) × (reading_of text ≡ Ok m)) }
+    ensures fails { (text : List ℕ) (m : IsoMessage) → column row.now at ≡ Text text
+        → reading_of text ≡ Ok m → FailsForMemory result }
+    ensures memory { IfErr result (λ e. e ≡ SqliteFailure OutOfMemory
+        → (text : List ℕ) × (column row.now at ≡ Text text) × NeedsMemory text) }
 {
     let text = text_at(row, at)?;
     match decode(alloc, text) {

@@ -9,6 +9,7 @@ ghost use Rattle.acq_book.specs.Lookups.{used_at, totals_at};
 ghost use Rattle.acq_sql_rows.specs.Tallies.{tally_of};
 ghost use Rattle.acq_sql_rows.specs.Relation.{Holds};
 ghost use Rattle.acq_sql_reads.specs.Looked.{Answers, LooksOnly, ShowsTally, totals_row};
+ghost use Rattle.acq_sql_reads.specs.Failing.{FailsForMemory, FailsOnlyExcused, IsTallyRow};
 
 use crate::columns::{read, used_count_at};
 use acq_core::UsedCount;
@@ -31,6 +32,7 @@ pub fn used<S: Alter>(
     ensures answers { Answers (state S.Store conn.old) (state S.Store conn.new) result
         (λ t. used_at t merchant day) }
     ensures looks { LooksOnly (state S.Store conn.old) (state S.Store conn.new) (is_ok result) }
+    ensures fails { FailsOnlyExcused (state S.Store conn.old) (state S.Store conn.new) result }
 {
     let rows = running_rows(conn, merchant, day)?;
     match rows.first() {
@@ -48,6 +50,7 @@ pub fn totals<S: Alter>(
     ensures answers { Answers (state S.Store conn.old) (state S.Store conn.new) result
         (λ t. totals_at t merchant day) }
     ensures looks { LooksOnly (state S.Store conn.old) (state S.Store conn.new) (is_ok result) }
+    ensures fails { FailsOnlyExcused (state S.Store conn.old) (state S.Store conn.new) result }
 {
     let rows = running_rows(conn, merchant, day)?;
     match rows.first() {
@@ -66,6 +69,7 @@ fn running_rows<S: Alter>(
         → Holds (state S.Store conn.old).now t → IfOk result
         (λ rows. ShowsTally (tally_of t merchant day) rows.items) }
     ensures looks { LooksOnly (state S.Store conn.old) (state S.Store conn.new) (is_ok result) }
+    ensures fails { FailsOnlyExcused (state S.Store conn.old) (state S.Store conn.new) result }
 {
     let merchant = merchant.to_bytes();
     conn.query_all(
@@ -75,8 +79,9 @@ fn running_rows<S: Alter>(
 }
 
 fn read_totals(row: &Row) -> Result<Totals, Error>
-    ensures { IfOk result
+    ensures value { IfOk result
         (λ totals. length row.now ≡ 9 → row.now ≡ column row.now 0 ∷ totals_row totals) }
+    ensures fails { IsTallyRow row.now → FailsForMemory result }
 {
     let counts = [row.get(1)?, row.get(2)?, row.get(3)?, row.get(4)?];
     let amounts = [row.get(5)?, row.get(6)?, row.get(7)?, row.get(8)?];

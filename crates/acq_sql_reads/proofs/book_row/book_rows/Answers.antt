@@ -4,6 +4,7 @@ use Rattle.sqlite.specs.Held.{state}
 use Rattle.acq_sql_reads.specs.Texts.{business_text}
 use Rattle.acq_sql_reads.proofs.TextLemmas.{business_asks}
 use Rattle.acq_sql_reads.proofs.Leaves.{looks}
+use Rattle.acq_sql_reads.proofs.Failing.{business_fails}
 use Rattle.acq_sql_reads.proofs.KeyReads.{business_found}
 use Rattle.acq_sql_reads.proofs.book_row.book_rows.Goals as goal
 
@@ -21,3 +22,8 @@ returns-clause-looks g c =
     business_asks.begins
     (λ rows. rows.items) c.query_all.result c.query_all.ensures.ok c.query_all.ensures.err
     c.query_all.ensures.mode c.query_all.ensures.survives
+
+pub returns-clause-fails : goal.returns-clause-fails
+returns-clause-fails g c =
+    business_fails (state g.S.Store c.args.conn.now) (state g.S.Store c.query_all.new.self)
+    c.query_all.result c.query_all.ensures.err

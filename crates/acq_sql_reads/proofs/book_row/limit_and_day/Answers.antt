@@ -2,6 +2,10 @@ use Rattle.std.proofs.Common.{◌∙◌, ap}
 use Rattle.std.specs.List.{slice_get}
 use Rattle.std.proofs.lemmas.Result.{IfOk-weaker}
 use Rattle.acq_sql_reads.proofs.RowReads.{pair_read}
+use Rattle.sqlite.specs.Held.{state}
+use Rattle.std.proofs.lemmas.Result.{err_from_is_err_and}
+use Rattle.acq_sql_reads.proofs.Failing.{memory_excused, limit_fits, day_fits, one_first}
+use Rattle.acq_sql_reads.proofs.Failing.{none_first}
 use Rattle.acq_sql_reads.proofs.book_row.limit_and_day.Goals as goal
 
 pub returns-in-Some-clause-answers : goal.returns-in-Some-clause-answers
@@ -11,4 +15,24 @@ returns-in-Some-clause-answers g c clean t holds =
     (λ x read. pair_read t.limit t.day rows c.in-Some.row.now x
     (c.in_ok-rows.ensures.answers clean t holds)
     (c.in-Some.ensures.value ∙ ap (λ l. slice_get l 0) c.deref.ensures.value) read)
-    c.read_row.ensures
+    c.read_row.ensures.value
+
+pub returns-in_err-rows-clause-fails : goal.returns-in_err-rows-clause-fails
+returns-in_err-rows-clause-fails g c clean t at past free =
+    let p = err_from_is_err_and c.from_residual.result c.from_residual.ensures.1 in
+    rw (p.1, p.2) (c.in_err-rows.ensures.fails clean t at past free)
+
+pub returns-in-Some-clause-fails : goal.returns-in-Some-clause-fails
+returns-in-Some-clause-fails g c clean t at past free =
+    memory_excused (state g.S.Store c.args.conn.now) (state g.S.Store c.book_rows.new.conn)
+    c.read_row.result
+    (c.read_row.ensures.fails t.limit t.day
+    (one_first c.in_ok-rows.rows.items c.in-Some.row.now _
+    (c.in_ok-rows.ensures.answers clean t at.holds)
+    (c.in-Some.ensures.value ∙ ap (λ l. slice_get l 0) c.deref.ensures.value))
+    (limit_fits t past) (day_fits t past))
+
+pub returns-clause-fails : goal.returns-clause-fails
+returns-clause-fails g c clean t at past free =
+    absurd (none_first c.in_ok-rows.rows.items _ (c.in_ok-rows.ensures.answers clean t at.holds)
+    (c.in-None.ensures.value ∙ ap (λ l. slice_get l 0) c.deref.ensures.value))

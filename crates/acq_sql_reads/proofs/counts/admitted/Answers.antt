@@ -10,7 +10,7 @@ returns-in_default-clause-answers g c clean t holds past =
     let none = sym c.in_default.is ∙ c.in_ok-enrolled.ensures.answers clean t holds in
     IfOk-weaker c.read.result _ _
     (λ n is. is ∙ none_admitted c.args.merchant t past none)
-    (number_read c.read.result c.from_number.result _ 0 c.read.ensures c.from_number.ensures)
+    (number_read c.read.result c.from_number.result _ 0 c.read.ensures.value c.from_number.ensures)
 
 pub returns-in_err-greatest-clause-looks : goal.returns-in_err-greatest-clause-looks
 returns-in_err-greatest-clause-looks g c =

@@ -5,6 +5,7 @@ use Rattle.sqlite.specs.Held.{state}
 use Rattle.acq_sql_reads.specs.Texts.{terminal_text}
 use Rattle.acq_sql_reads.proofs.TextLemmas.{terminal_asks}
 use Rattle.acq_sql_reads.proofs.Leaves.{looks}
+use Rattle.acq_sql_reads.proofs.Failing.{terminal_fails}
 use Rattle.acq_sql_reads.proofs.KeyReads.{terminal_found}
 use Rattle.acq_sql_reads.proofs.enrolments.terminal_rows.Goals as goal
 
@@ -24,3 +25,8 @@ returns-clause-looks g c =
     terminal_asks.begins (λ rows. rows.items) c.query_all.result c.query_all.ensures.ok
     c.query_all.ensures.err c.query_all.ensures.mode
     c.query_all.ensures.survives
+
+pub returns-clause-fails : goal.returns-clause-fails
+returns-clause-fails g c =
+    terminal_fails (state g.S.Store c.args.conn.now) (state g.S.Store c.query_all.new.self)
+    c.query_all.result c.to_bytes-merchant.result c.to_bytes-id.result c.query_all.ensures.err

@@ -1,5 +1,8 @@
-use Rattle.std.proofs.Common.{◌∙◌, ap}
+use Rattle.std.proofs.Common.{◌∙◌, ap, inl}
+use Rattle.std.proofs.lemmas.Result.{err_from_is_err_and}
 use Rattle.std.specs.List.{slice_get}
+use Rattle.acq_sql_reads.specs.Looked.{last_numbered_at}
+use Rattle.acq_sql_reads.proofs.Failing.{balance_shown}
 use Rattle.acq_sql_reads.proofs.ReconciliationReads.{last_read}
 use Rattle.acq_sql_reads.proofs.reconciliations.last_reconciliation.Goals as goal
 
@@ -8,4 +11,19 @@ returns-in-Some-clause-answers g c clean t holds past =
     last_read c.args.merchant c.args.day t.reconciliations c.in_ok-rows.rows.items c.in-Some.row.now
     c.in_ok-read_reconciliation-in-Some.field-0 (c.in_ok-rows.ensures.answers clean t holds past)
     (c.in-Some.ensures.value ∙ ap (λ l. slice_get l 0) c.deref.ensures.value)
-    c.in_ok-read_reconciliation-in-Some.ensures
+    c.in_ok-read_reconciliation-in-Some.ensures.value
+
+pub returns-in_err-rows-clause-fails : goal.returns-in_err-rows-clause-fails
+returns-in_err-rows-clause-fails g c clean t at past free =
+    let p = err_from_is_err_and c.from_residual.result c.from_residual.ensures.1 in
+    rw (p.1, p.2) (c.in_err-rows.ensures.fails clean t at past free)
+
+pub returns-in_err-read_reconciliation-in-Some-clause-fails :
+    goal.returns-in_err-read_reconciliation-in-Some-clause-fails
+returns-in_err-read_reconciliation-in-Some-clause-fails g c clean t at past free =
+    let p = err_from_is_err_and c.from_residual-in_err-read_reconciliation-in-Some.result
+    c.from_residual-in_err-read_reconciliation-in-Some.ensures.1 in
+    rw (p.1, p.2) (inl (c.in_err-read_reconciliation-in-Some.ensures.fails
+    (balance_shown (last_numbered_at t c.args.merchant c.args.day) c.in_ok-rows.rows.items
+    c.in-Some.row.now (c.in_ok-rows.ensures.answers clean t at.holds past)
+    (c.in-Some.ensures.value ∙ ap (λ l. slice_get l 0) c.deref.ensures.value))))

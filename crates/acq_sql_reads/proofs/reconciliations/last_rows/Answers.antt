@@ -6,6 +6,7 @@ use Rattle.sqlite.specs.Values.{bound_value}
 use Rattle.sqlite.specs.Held.{state}
 use Rattle.acq_sql_reads.specs.Texts.{reconciliation_text}
 use Rattle.acq_sql_reads.proofs.TextLemmas.{reconciliation_asks}
+use Rattle.acq_sql_reads.proofs.Failing.{reconciliation_fails}
 use Rattle.acq_sql_reads.proofs.Leaves.{looks}
 use Rattle.acq_sql_reads.proofs.ReconciliationReads.{reconciliation_found}
 use Rattle.acq_sql_reads.proofs.reconciliations.last_rows.Goals as goal
@@ -27,3 +28,9 @@ returns-clause-looks g c =
     reconciliation_asks.begins (λ rows. rows.items) c.query_all.result c.query_all.ensures.ok
     c.query_all.ensures.err c.query_all.ensures.mode
     c.query_all.ensures.survives
+
+pub returns-clause-fails : goal.returns-clause-fails
+returns-clause-fails g c =
+    reconciliation_fails (state g.S.Store c.args.conn.now) (state g.S.Store c.query_all.new.self)
+    c.query_all.result c.args.day c.to_bytes-merchant.result
+    (rw (c.day_value.ensures) at c.query_all.ensures.err)

@@ -3,7 +3,7 @@ use Rattle.acq_sql_reads.proofs.request_row.read_request.Goals as goal
 
 pub returns : goal.returns
 returns c len =
-    let reply = c.in_ok-reply.ensures in (
+    let reply = c.in_ok-reply.ensures.value in (
       reply.0,
       request_is c.args.row.now
           (record {
@@ -22,10 +22,11 @@ returns c len =
             hold_end = c.in_ok-hold_end.hold_end;
             reply = c.in_ok-reply.reply;
           })
-          reply.0 len c.in_ok-key.ensures c.in_ok-essence.ensures c.in_ok-day.ensures
-          c.in_ok-status.ensures c.in_ok-admitted.ensures c.in_ok-reference.ensures
-          c.in_ok-follows.ensures
-          c.in_ok-amount.ensures c.in_ok-leg.ensures c.in_ok-card.ensures c.in_ok-acquirer.ensures
-          c.in_ok-hold_days.ensures c.in_ok-hold_end.ensures reply.1,
+          reply.0 len c.in_ok-key.ensures c.in_ok-essence.ensures.value c.in_ok-day.ensures.value
+          c.in_ok-status.ensures c.in_ok-admitted.ensures.value c.in_ok-reference.ensures.value
+          c.in_ok-follows.ensures.value
+          c.in_ok-amount.ensures.value c.in_ok-leg.ensures.value c.in_ok-card.ensures.value
+          c.in_ok-acquirer.ensures.value
+          c.in_ok-hold_days.ensures.value c.in_ok-hold_end.ensures.value reply.1,
       reply.2,
     )

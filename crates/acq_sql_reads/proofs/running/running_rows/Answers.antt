@@ -8,6 +8,7 @@ use Rattle.acq_sql_reads.specs.Texts.{running_text}
 use Rattle.acq_sql_reads.proofs.TextLemmas.{running_asks}
 use Rattle.acq_sql_reads.proofs.Leaves.{looks}
 use Rattle.acq_sql_reads.proofs.KeyReads.{running_found}
+use Rattle.acq_sql_reads.proofs.Failing.{running_fails}
 use Rattle.acq_sql_reads.proofs.running.running_rows.Goals as goal
 
 pub returns-clause-answers : goal.returns-clause-answers
@@ -26,3 +27,9 @@ returns-clause-looks g c =
     running_asks.begins (λ rows. rows.items) c.query_all.result c.query_all.ensures.ok
     c.query_all.ensures.err c.query_all.ensures.mode
     c.query_all.ensures.survives
+
+pub returns-clause-fails : goal.returns-clause-fails
+returns-clause-fails g c =
+    running_fails (state g.S.Store c.args.conn.now) (state g.S.Store c.query_all.new.self)
+    c.query_all.result c.to_bytes-merchant.result c.args.day
+    (rw (c.day_value.ensures) at c.query_all.ensures.err)
