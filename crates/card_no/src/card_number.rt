@@ -17,7 +17,7 @@ const LEAST_LEN: usize = 10;
 
 /// A valid card number: 10 to 19 digits that pass the check of ISO/IEC 7812-1; the lower bound is
 /// this profile's own. It is printed masked, also by `Debug`.
-#[derive(Clone, Copy, PartialEq, Eq)]
+#[derive(Clone, Copy)]
 pub struct CardNumber {
     // The digits, and a `0` for each place behind them.
     digits: [u8; GREATEST_LEN],

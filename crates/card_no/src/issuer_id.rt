@@ -7,7 +7,7 @@ use std::marker::Model;
 
 /// An issuer's id as it is written, leading zeros too. A list of ranges takes it where it is 1 to
 /// 11 digits (own profile).
-#[derive(Clone, Debug, Drop)]
+#[derive(Debug, Drop)]
 pub struct IssuerId {
     text: Vec<u8>,
 }
@@ -18,26 +18,6 @@ impl Model for IssuerId {
     ghost Value = { List ℕ };
 
     ghost view = { λ i. i.text.items };
-}
-
-impl PartialEq for IssuerId {
-    ghost use Rattle.std.specs.Prelude.{nat_eq};
-    ghost use Rattle.std.specs.Cmp.{partial_equiv_from_equiv};
-    ghost use Rattle.std.specs.Cmp.Lexicographic.{pointwise, nat_list_eq_equiv};
-
-    ghost eq = { pointwise nat_eq };
-
-    ghost laws = { partial_equiv_from_equiv nat_list_eq_equiv };
-
-    fn eq(&self, other: &IssuerId) -> bool {
-        self.as_bytes() == other.as_bytes()
-    }
-}
-
-impl Eq for IssuerId {
-    ghost use Rattle.std.specs.Cmp.Lexicographic.{nat_list_eq_equiv};
-
-    ghost laws = { nat_list_eq_equiv };
 }
 
 impl IssuerId {

@@ -11,7 +11,7 @@ use std::marker::Model;
 
 /// The number of a card number's first digits, as many as an issuer identification number has by
 /// ISO/IEC 7812-1:2017 ([`Prefix::DIGITS`]). It finds the card's issuer. Contracts see the number.
-#[derive(Clone, Copy, Debug, PartialEq, Eq, PartialOrd, Ord)]
+#[derive(Clone, Copy, Debug, PartialEq, Eq)]
 pub struct Prefix {
     number: u32,
 }

@@ -16,7 +16,7 @@ const ISSUER_LEN: usize = 11;
 /// The cards of one issuer (own profile): those whose prefix lies from `low` to `high`, both
 /// included. A hold on such a card is open for `hold_days` days. Any values make a `Range`:
 /// [`Range::is_valid`] says whether a list may have it.
-#[derive(Clone, Debug, Drop, PartialEq, Eq)]
+#[derive(Debug, Drop)]
 pub struct Range {
     pub low: u32,
     pub high: u32,

@@ -11,7 +11,7 @@ use std::fmt;
 
 /// Why a list of ranges could not be changed or read. The text of a fault is its name and then its
 /// values.
-#[derive(Debug, Drop, PartialEq, Eq)]
+#[derive(Debug, Drop)]
 pub enum RangeFault {
     /// Memory ran out.
     Memory,

@@ -62,8 +62,13 @@ fn ranges_of<R: Read + Drop>(alloc: Global, reader: R) -> Result<RangeList, Read
         .flexible(true)
         .from_reader(alloc, reader);
     let mut fields = ByteRecord::new(alloc);
-    read_records(alloc, &mut records, &mut fields, &mut ranges)?;
-    Ok(ranges)
+    let read = read_records(alloc, &mut records, &mut fields, &mut ranges);
+    drop(fields);
+    drop(records);
+    match read {
+        Ok(()) => Ok(ranges),
+        Err(stop) => Err(stop),
+    }
 }
 
 /// Adds the ranges of all records to an empty list.

@@ -19,7 +19,7 @@ use std::alloc::Global;
 use std::marker::Model;
 
 /// Ranges in order of `low`, no two of which overlap.
-#[derive(Debug, Drop)]
+#[derive(Drop)]
 pub struct RangeList {
     ranges: Vec<Range>,
 }
@@ -89,7 +89,8 @@ impl RangeList {
             return Err(RangeFault::BadRange);
         }
         if let Some(other) = self.overlapping(range.low, range.high) {
-            return Err(RangeFault::Overlap(other.clone()?));
+            let other = other.copied(*self.ranges.allocator())?;
+            return Err(RangeFault::Overlap(other));
         }
         let place = place(self.ranges.as_slice(), &range);
         self.ranges.insert(place, range)?;
