@@ -1,8 +1,13 @@
--- The elements of a message that pass a test are a message's.
-use Rattle.std.proofs.Common.{◌≡◌, ℕ, ◌≤◌, Bool, true, List, [], ◌∷◌, refl, arith, inl, inr}
+-- The elements of a message that pass a test are a message's, and are found one after the other.
+use Rattle.std.proofs.Common.{◌≡◌, ℕ, ◌+◌, ◌<◌, ◌≤◌, Bool, true, false, List, [], ◌∷◌, ◌++◌, length}
+use Rattle.std.proofs.Common.{take, get_or, refl, ap, ◌∙◌, arith, append-nil, inl, inr}
 use Rattle.std.specs.List.{list_all, filter}
 use Rattle.std.proofs.lemmas.Bool.{and_parts, and_from, cases_Bool}
+use Rattle.std.proofs.lemmas.List.Elements.{filter-append}
+use Rattle.iso_codec.specs.declared.span.Span.{Span}
 use Rattle.iso_codec.specs.Message.{IsMessage, IsKind, numbers, Ascends, is_element}
+use Rattle.iso_codec.specs.Span.{element_at, elements_in}
+use Rattle.iso_codec.proofs.SpanElements.{elements_in-more}
 
 pub elements-filter : (p : ℕ × List ℕ → Bool) (es : List (ℕ × List ℕ)) →
     list_all is_element es ≡ true
@@ -40,3 +45,28 @@ message-filter p kind other es m k = record {
   each = elements-filter p es m.each;
   ascends = ascends-filter p 1 es m.ascends;
 }
+
+-- ---- one more element
+
+more : (p : ℕ × List ℕ → Bool) (bytes : List ℕ) (spans : List Span) (i : ℕ) (s : Span) →
+    i < length spans
+    → s ≡ get_or spans i s
+    → filter p (elements_in bytes (take (i + 1) spans))
+    ≡ filter p (elements_in bytes (take i spans)) ++ filter p (element_at bytes s ∷ [])
+more p bytes spans i s lt is =
+    ap (filter p) (elements_in-more bytes spans i s lt is)
+    ∙ filter-append p (elements_in bytes (take i spans)) (element_at bytes s ∷ [])
+
+pub more-kept : (p : ℕ × List ℕ → Bool) (bytes : List ℕ) (spans : List Span) (i : ℕ) (s : Span) →
+    i < length spans
+    → s ≡ get_or spans i s → p (element_at bytes s) ≡ true
+    → filter p (elements_in bytes (take (i + 1) spans))
+    ≡ filter p (elements_in bytes (take i spans)) ++ element_at bytes s ∷ []
+more-kept p bytes spans i s lt is kept = more p bytes spans i s lt is ∙ rw kept refl
+
+pub more-dropped : (p : ℕ × List ℕ → Bool) (bytes : List ℕ) (spans : List Span) (i : ℕ) (s : Span)
+    → i < length spans → s ≡ get_or spans i s → p (element_at bytes s) ≡ false
+    → filter p (elements_in bytes (take (i + 1) spans)) ≡ filter p (elements_in bytes (take i spans))
+more-dropped p bytes spans i s lt is dropped =
+    more p bytes spans i s lt is
+    ∙ rw dropped (append-nil (filter p (elements_in bytes (take i spans))))

@@ -1,11 +1,12 @@
 -- What is shown of a message, by its spans.
 use Rattle.std.proofs.Common.{◌≡◌, ℕ, ◌+◌, ◌≤◌, true, List, [], ◌∷◌, ◌++◌, length}
-use Rattle.std.proofs.Common.{take, drop, refl, ap, ◌∙◌, append_assoc, leb, arith}
+use Rattle.std.proofs.Common.{◌<◌, take, drop, get_or, refl, sym, ap, ◌∙◌, append_assoc, leb, arith}
 use Rattle.std.specs.Prelude.{IsAscii, codes}
 use Rattle.std.specs.List.{list_all, flat_map}
 use Rattle.std.specs.Char.{is_ascii_digit}
 use Rattle.std.proofs.lemmas.Bool.{and_parts, leb-true}
-use Rattle.std.proofs.lemmas.List.{length-take-le, length-drop, take_all}
+use Rattle.std.proofs.lemmas.List.{length-take-le, length-drop, take_all, take_more, append-nil}
+use Rattle.std.proofs.lemmas.List.Concat.{flat_map-append}
 use Rattle.std.proofs.lemmas.Str.Ascii.{IsAscii-nil, IsAscii-cons}
 use Rattle.iso_codec.specs.Message.{IsoMessage}
 use Rattle.iso_codec.specs.declared.span.Span.{Span}
@@ -37,6 +38,22 @@ digits-ascii (x ∷ xs) h =
     let p = and_parts (is_ascii_digit x) (list_all is_ascii_digit xs) h in
     let below : x ≤ 57 = leb-true x 57 (and_parts (leb 48 x) (leb x 57) p.0).1 in
     IsAscii-cons x xs (omega arith) (digits-ascii xs p.1)
+
+-- one size more, behind the type and the sizes before it
+pub shown-more : (kind : List ℕ) (spans : List Span) (i : ℕ) (s : Span) → i < length spans
+    → s ≡ get_or spans i s
+    → codes "Message(" ++ (kind ++ flat_map shown_span (take (i + 1) spans))
+    ≡ (codes "Message(" ++ (kind ++ flat_map shown_span (take i spans))) ++ shown_span s
+shown-more kind spans i s lt is =
+    let front = flat_map shown_span (take i spans) in
+    let one : flat_map shown_span (take (i + 1) spans) ≡ front ++ shown_span s =
+    ap (λ (ss : List Span). flat_map shown_span ss) (take_more spans i s lt)
+    ∙ flat_map-append shown_span (take i spans) (get_or spans i s ∷ [])
+    ∙ ap (λ (t : List ℕ). front ++ t) (append-nil (shown_span (get_or spans i s)))
+    ∙ ap (λ (x : Span). front ++ shown_span x) (sym is) in
+    ap (λ (t : List ℕ). codes "Message(" ++ (kind ++ t)) one
+    ∙ ap (λ (t : List ℕ). codes "Message(" ++ t) (sym (append_assoc kind front (shown_span s)))
+    ∙ sym (append_assoc (codes "Message(") (kind ++ front) (shown_span s))
 
 -- the sizes of all spans, behind the type, are those of the message's elements
 pub shown-whole : (m : IsoMessage) (bytes : List ℕ) (stored spans : List Span) (i : ℕ)

@@ -11,9 +11,11 @@ use Rattle.std.proofs.lemmas.List.{drop-map, drop_more, length-map, map-append, 
 use Rattle.std.proofs.lemmas.List.{length-append, length-drop, take_all, drop_all, take_at, drop_at}
 use Rattle.std.proofs.lemmas.List.{get_or-map, get_or_default, length-set, get_or-set_other}
 use Rattle.std.proofs.lemmas.Grind.{get_or-set_at}
+use Rattle.std.proofs.lemmas.List.{append-nil}
+use Rattle.std.proofs.lemmas.List.Concat.{flat_map-append}
 use Rattle.std.proofs.lemmas.List.Folds.{list_all-append}
 use Rattle.iso_codec.specs.declared.span.Span.{Span}
-use Rattle.iso_codec.specs.Message.{numbers, is_element, content_of}
+use Rattle.iso_codec.specs.Message.{numbers, is_element, content_of, spelled, body}
 use Rattle.iso_codec.specs.Setting.{is_below, StartsFrom, IsPlace}
 use Rattle.iso_codec.specs.Span.{is_within, element_at, elements_in, numbers_of}
 use Rattle.iso_codec.proofs.TableBounds.{format_in_bounds}
@@ -219,6 +221,17 @@ elements_in-more bytes spans i s lt is =
     ap (elements_in bytes) (take_more spans i s lt) ∙ map_push (element_at bytes) (take i spans)
     (get_or spans i s)
     ∙ ap (λ (x : Span). elements_in bytes (take i spans) ++ element_at bytes x ∷ []) (sym is)
+
+-- the spelling of the first i + 1 elements
+pub body-more : (bytes : List ℕ) (spans : List Span) (i : ℕ) (s : Span) → i < length spans →
+    s ≡ get_or spans i s
+    → body (elements_in bytes (take (i + 1) spans)) ≡ body (elements_in bytes (take i spans))
+    ++ spelled (element_at bytes s)
+body-more bytes spans i s lt is =
+    let front = elements_in bytes (take i spans) in
+    let e = element_at bytes s in
+    ap body (elements_in-more bytes spans i s lt is) ∙ flat_map-append spelled front (e ∷ [])
+    ∙ ap (λ (t : List ℕ). body front ++ t) (append-nil (spelled e))
 
 pub numbers_of-more : (spans : List Span) (i : ℕ) (s : Span) → i < length spans →
     s ≡ get_or spans i s

@@ -7,7 +7,7 @@ ghost use Rattle.iso_codec.specs.Faults.{is_known};
 ghost use Rattle.iso_codec.specs.Setting.{IsFirstBit};
 
 /// The primary bitmap, and the secondary one, or zero where there is none.
-#[derive(Clone, Copy, Debug, PartialEq, Eq)]
+#[derive(Clone, Copy)]
 pub struct Bitmaps {
     pub primary: u64,
     pub secondary: u64,

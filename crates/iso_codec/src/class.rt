@@ -1,7 +1,7 @@
 //! Which bytes an element may have.
 
 /// The class of an element's content.
-#[derive(Clone, Copy, Debug, PartialEq, Eq)]
+#[derive(Clone, Copy)]
 pub enum Class {
     /// n: `0` to `9`.
     Numeric,

@@ -73,16 +73,16 @@ impl fmt::Display for DecodeFault {
 
     fn fmt<W: fmt::Write>(&self, f: &mut fmt::Formatter<W>) -> fmt::Result {
         match self {
-            DecodeFault::Memory => write!(f, "no memory"),
-            DecodeFault::BadType => write!(f, "the type is not four digits"),
-            DecodeFault::BadBitmap => write!(f, "a bitmap is not hexadecimal"),
+            DecodeFault::Memory => f.write_str("no memory"),
+            DecodeFault::BadType => f.write_str("the type is not four digits"),
+            DecodeFault::BadBitmap => f.write_str("a bitmap is not hexadecimal"),
             DecodeFault::UnknownElement(number) => {
                 write!(f, "element {number} is not in the profile")
             }
             DecodeFault::Truncated(number) => write!(f, "the text ends in element {number}"),
             DecodeFault::BadLength(number) => write!(f, "element {number} has a bad length"),
             DecodeFault::BadContent(number) => write!(f, "element {number} has a bad content"),
-            DecodeFault::Trailing => write!(f, "bytes stand after the last element"),
+            DecodeFault::Trailing => f.write_str("bytes stand after the last element"),
         }
     }
 }

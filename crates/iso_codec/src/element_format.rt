@@ -7,7 +7,7 @@ use crate::class::Class;
 use crate::form::Form;
 
 /// How an element is spelled: how long its content is, and of which bytes.
-#[derive(Clone, Copy, Debug, PartialEq, Eq)]
+#[derive(Clone, Copy)]
 pub struct ElementFormat {
     pub form: Form,
     pub class: Class,

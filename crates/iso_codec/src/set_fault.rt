@@ -7,7 +7,7 @@ use std::error::Error;
 use std::fmt;
 
 /// Why an element can't have a content, or that memory ran out.
-#[derive(Clone, Copy, Debug, PartialEq, Eq)]
+#[derive(Clone, Copy, Debug)]
 pub enum SetFault {
     /// Memory ran out.
     Memory,
@@ -55,7 +55,7 @@ impl fmt::Display for SetFault {
 
     fn fmt<W: fmt::Write>(&self, f: &mut fmt::Formatter<W>) -> fmt::Result {
         match self {
-            SetFault::Memory => write!(f, "no memory"),
+            SetFault::Memory => f.write_str("no memory"),
             SetFault::UnknownElement(number) => {
                 write!(f, "element {number} is not in the profile")
             }

@@ -1,6 +1,8 @@
-use Rattle.std.proofs.Common.{ap, sym, ◌∙◌, ◌≡◌, List, ℕ, ◌++◌, append_assoc, subst}
+use Rattle.std.proofs.Common.{ap, sym, ◌∙◌, ◌≡◌, List, ℕ, [], ◌++◌, append_assoc, subst}
+use Rattle.std.proofs.lemmas.List.{append-nil}
 use Rattle.std.proofs.lemmas.Result.{on_ok_weaker}
 use Rattle.iso_codec.specs.Message.{IsMessage, numbers, body}
+use Rattle.iso_codec.specs.Reading.{Extends}
 use Rattle.iso_codec.specs.Setting.{Marks}
 use Rattle.iso_codec.specs.Span.{numbers_of}
 use Rattle.iso_codec.proofs.SpanElements.{numbers-elements_in, numbers_of_range}
@@ -37,3 +39,43 @@ returns-clause-ok c =
           ∙ ap (λ (x : List ℕ). x ++ body m.elements) (p.3 ∙ ap (λ (x : List ℕ). x ++ p.0) head)
           ∙ simp append_assoc,
     )) c.push_body.ensures.ok
+
+-- what grew twice grew
+onward : (a b c : List ℕ) → Extends a b → Extends b c → Extends a c
+onward a b c x y = (x.0 ++ y.0, y.1 ∙ ap (λ (l : List ℕ). l ++ y.0) x.1 ∙ append_assoc a x.0 y.0)
+
+same : (a b : List ℕ) → b ≡ a → Extends a b
+same a b h = ([], h ∙ sym (append-nil a))
+
+pub returns-in_err-reserve-clause-grows : goal.returns-in_err-reserve-clause-grows
+returns-in_err-reserve-clause-grows c =
+    same c.args.out.now.items c.reserve.new.self.items c.reserve.ensures.items
+
+pub returns-in_err-extend_from_slice-clause-grows :
+    goal.returns-in_err-extend_from_slice-clause-grows
+returns-in_err-extend_from_slice-clause-grows c =
+    same c.args.out.now.items c.extend_from_slice.new.self.items
+    (c.in_err-extend_from_slice.ensures.items ∙ c.reserve.ensures.items)
+
+pub returns-in_err-push_bitmaps-clause-grows : goal.returns-in_err-push_bitmaps-clause-grows
+returns-in_err-push_bitmaps-clause-grows c =
+    let out = c.args.out.now.items in
+    let kind : Extends out c.extend_from_slice.new.self.items =
+    onward out c.reserve.new.self.items c.extend_from_slice.new.self.items
+    (same out c.reserve.new.self.items c.reserve.ensures.items)
+    (c.kind.result, c.in_ok-extend_from_slice.ensures.items) in
+    onward out c.extend_from_slice.new.self.items c.push_bitmaps.new.out.items kind
+    c.push_bitmaps.ensures.grows
+
+pub returns-clause-grows : goal.returns-clause-grows
+returns-clause-grows c =
+    let out = c.args.out.now.items in
+    let kind : Extends out c.extend_from_slice.new.self.items =
+    onward out c.reserve.new.self.items c.extend_from_slice.new.self.items
+    (same out c.reserve.new.self.items c.reserve.ensures.items)
+    (c.kind.result, c.in_ok-extend_from_slice.ensures.items) in
+    let bitmaps : Extends out c.push_bitmaps.new.out.items =
+    onward out c.extend_from_slice.new.self.items c.push_bitmaps.new.out.items kind
+    c.push_bitmaps.ensures.grows in
+    onward out c.push_bitmaps.new.out.items c.push_body.new.out.items bitmaps
+    c.push_body.ensures.grows
