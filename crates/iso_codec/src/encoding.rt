@@ -74,13 +74,12 @@ fn push_length(out: &mut Vec<u8>, form: Form, len: usize) -> Result<(), AllocErr
     ensures grows { Extends out.old.items out.new.items }
 {
     match form {
-        Form::Fixed(_) => {}
-        Form::Llvar(_) => out.extend_from_slice(&[digit(len / 10), digit(len % 10)])?,
+        Form::Fixed(_) => Ok(()),
+        Form::Llvar(_) => out.extend_from_slice(&[digit(len / 10), digit(len % 10)]),
         Form::Lllvar(_) => {
-            out.extend_from_slice(&[digit(len / 100), digit(len / 10 % 10), digit(len % 10)])?
+            out.extend_from_slice(&[digit(len / 100), digit(len / 10 % 10), digit(len % 10)])
         }
     }
-    Ok(())
 }
 
 fn push_element(out: &mut Vec<u8>, number: u8, content: &[u8]) -> Result<(), AllocError>

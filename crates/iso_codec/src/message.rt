@@ -272,7 +272,7 @@ fn make_room(spans: &mut Vec<Span>, bytes: &mut Vec<u8>) -> Result<(), AllocErro
 {
     if spans.capacity() == 0 {
         spans.reserve(USUAL_ELEMENTS)?;
-        bytes.reserve(USUAL_BYTES)?;
+        return bytes.reserve(USUAL_BYTES);
     }
     Ok(())
 }
