@@ -12,3 +12,4 @@ pub mod Following
 pub mod Rounds
 pub mod FramesCame
 pub mod Turning
+pub mod FaultsApart

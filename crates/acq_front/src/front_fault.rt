@@ -8,7 +8,7 @@ use std::fmt;
 
 /// Why a connection was given up. Its text is its number, its name and its values, as printed lines
 /// have them.
-#[derive(Clone, Copy, Debug, PartialEq, Eq)]
+#[derive(Clone, Copy, Debug, PartialEq)]
 pub enum FrontFault {
     /// 1: memory ran out.
     Memory,
@@ -27,7 +27,8 @@ pub enum FrontFault {
 }
 
 impl FrontFault {
-    ghost use Rattle.std.specs.Prelude.{◌≡◌};
+    ghost use Rattle.std.specs.Prelude.{◌≡◌, ◌++◌, codes};
+    ghost use Rattle.std.specs.Fmt.{decimal};
     ghost use Rattle.acq_front.specs.Faults.{number_of, name_of};
 
     /// The fault's number.
@@ -45,17 +46,18 @@ impl FrontFault {
         }
     }
 
-    fn name(&self) -> &'static str
-        ensures { result.now ≡ name_of self.now }
+    /// The fault's number and name.
+    fn heading(&self) -> &'static str
+        ensures { result.now ≡ decimal (number_of self.now) ++ codes " " ++ name_of self.now }
     {
         match self {
-            FrontFault::Memory => "Memory",
-            FrontFault::Store => "Store",
-            FrontFault::BadLength => "BadLength",
-            FrontFault::Ended => "Ended",
-            FrontFault::Undecodable(_) => "Undecodable",
-            FrontFault::Read => "Read",
-            FrontFault::Write(_) => "Write",
+            FrontFault::Memory => "1 Memory",
+            FrontFault::Store => "2 Store",
+            FrontFault::BadLength => "50 BadLength",
+            FrontFault::Ended => "51 Ended",
+            FrontFault::Undecodable(_) => "52 Undecodable",
+            FrontFault::Read => "53 Read",
+            FrontFault::Write(_) => "54 Write",
         }
     }
 }
@@ -67,7 +69,7 @@ impl fmt::Display for FrontFault {
     ghost output = { λ f. Some (text_of f) };
 
     fn fmt<W: fmt::Write>(&self, f: &mut fmt::Formatter<W>) -> fmt::Result {
-        write!(f, "{} {}", self.number(), self.name())?;
+        f.write_str(self.heading())?;
         match self {
             FrontFault::Undecodable(fault) => write!(f, " {} {}", fault.number(), fault.element()),
             FrontFault::Write(bytes) => write!(f, " {bytes}"),

@@ -1,7 +1,7 @@
 //! How a round of a connection went.
 
 /// How a round of a connection went.
-#[derive(Clone, Copy, Debug, PartialEq, Drop)]
+#[derive(Clone, Copy, Drop)]
 pub enum Round {
     /// Bytes went out, a message was taken, or bytes came: there may be more to do at once.
     GoesOn,

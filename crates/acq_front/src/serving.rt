@@ -153,10 +153,11 @@ pub(crate) fn take_message<B: Book + Drop, C: Clock, I: Issuer>(
 {
     let came = Event::Frame(clock.now(), MessageText::from_vec(message));
     let said = host.take(&came)?;
-    match &said {
-        Output::Undecodable(fault) => Err(FrontFault::Undecodable(*fault)),
+    drop(came);
+    match said {
+        Output::Undecodable(fault) => Err(FrontFault::Undecodable(fault)),
         Output::Ask(query) => {
-            let verdict = issuer.answer(query);
+            let verdict = issuer.answer(&query);
             let answer = Event::Answer(clock.now(), query.merchant, query.reference, verdict);
             let said = host.take(&answer)?;
             Ok(said)

@@ -1,7 +1,7 @@
 //! What a turn did.
 
 /// What a turn did, and so what is to be done next.
-#[derive(Clone, Copy, Debug, PartialEq, Eq, Drop)]
+#[derive(Drop)]
 pub enum Turn {
     /// No message is whole: more bytes are needed.
     Waits,

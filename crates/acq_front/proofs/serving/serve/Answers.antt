@@ -1,8 +1,9 @@
 use Rattle.std.proofs.Common.{[], inl, inr, Ok, Err, ◌≡◌, ◌++◌, List, ℕ, take, refl, sym, ap, ◌∙◌, append-nil}
-use Rattle.std.proofs.Common.{arith}
+use Rattle.std.proofs.Common.{arith, ◌+◌}
 use Rattle.std.proofs.lemmas.Result.{err_from_is_err_and}
 use Rattle.std.proofs.lemmas.List.{take-append-le}
 use Rattle.acq_message.specs.declared.verdict.Verdict.TheVariants.{NoAnswer}
+use Rattle.acq_front.specs.Faults.{failed_writes}
 use Rattle.acq_front.specs.Stops.{left_of}
 use Rattle.acq_front.specs.Talk.{first_moment}
 use Rattle.acq_front.specs.Turns.{Incoming}
@@ -14,6 +15,9 @@ use Rattle.acq_front.proofs.FramesCame.{none_came, piece_came, frame_taken, fram
 use Rattle.acq_front.proofs.FramesCame.{risen_earlier}
 use Rattle.acq_front.proofs.Turned.{store_on}
 use Rattle.acq_front.proofs.StopsLeave.{none_stop}
+use Rattle.acq_front.proofs.FaultsApart.{stream_unended, stream_unread, stream_unwritten}
+use Rattle.acq_front.proofs.FaultsApart.{stream_unstored, message_unended, message_unread}
+use Rattle.acq_front.proofs.Rounds.{unless_refused}
 use Rattle.acq_front.proofs.Served.{nothing_yet, going_none, going_held, with_piece, going_read}
 use Rattle.acq_front.proofs.Served.{with_message, going_more, stream_stops, read_stops, ends_well}
 use Rattle.acq_front.proofs.Served.{ends_inside, stopped, turns_weaker}
@@ -228,3 +232,91 @@ loop-message-preserved g c =
       piece_came (g.S.Source.received c.args.source.now) _ _ c.loop-message.input
           c.feed.new.self piece fed c.in_ok-n.ensures.received c.loop-message.invariant.8,
     )
+
+-- what holds at every exit, whichever fault it tells
+pub returns-in_err-message-clause-stays_open : goal.returns-in_err-message-clause-stays_open
+returns-in_err-message-clause-stays_open g c = λ h o.
+    unless_refused c.from_residual.result (c.loop-message.invariant.0 h o).7
+
+pub returns-in_err-message-clause-whole : goal.returns-in_err-message-clause-whole
+returns-in_err-message-clause-whole g c =
+    let p = err_from_is_err_and c.from_residual.result c.from_residual.ensures.1 in
+    rw (p.1, p.2) (stream_unended _ c.in_err-message.field-0.0)
+
+pub returns-in_err-message-clause-reads : goal.returns-in_err-message-clause-reads
+returns-in_err-message-clause-reads g c =
+    let p = err_from_is_err_and c.from_residual.result c.from_residual.ensures.1 in
+    rw (p.1, p.2, stream_unread (Unit {0}) c.in_err-message.field-0.0)
+    (omega (arith, c.loop-message.invariant.3))
+
+pub returns-in_err-message-clause-writes : goal.returns-in_err-message-clause-writes
+returns-in_err-message-clause-writes g c =
+    let p = err_from_is_err_and c.from_residual.result c.from_residual.ensures.1 in
+    rw (p.1, p.2, stream_unwritten (Unit {0}) c.in_err-message.field-0.0)
+    (omega (arith, c.loop-message.invariant.4))
+
+pub returns-in_err-message-clause-store : goal.returns-in_err-message-clause-store
+returns-in_err-message-clause-store g c =
+    let p = err_from_is_err_and c.from_residual.result c.from_residual.ensures.1 in
+    rw (p.1, p.2) (stream_unstored (Unit {0}) _ c.in_err-message.field-0.0)
+
+pub returns-in_err-answer_message-clause-stays_open :
+    goal.returns-in_err-answer_message-clause-stays_open
+returns-in_err-answer_message-clause-stays_open g c = λ h o.
+    let p = err_from_is_err_and c.from_residual-in_err-answer_message.result
+    c.from_residual-in_err-answer_message.ensures.1 in
+    let e = c.in_err-answer_message.ensures in
+    rw (p.1, p.2) (e.stays_open h (c.loop-message.invariant.0 (e.was_honest h) o).7)
+
+pub returns-in_err-answer_message-clause-whole : goal.returns-in_err-answer_message-clause-whole
+returns-in_err-answer_message-clause-whole g c =
+    let p = err_from_is_err_and c.from_residual-in_err-answer_message.result
+    c.from_residual-in_err-answer_message.ensures.1 in
+    rw (p.1, p.2) (message_unended _ c.in_err-answer_message.field-0.0
+    c.in_err-answer_message.ensures.fault)
+
+pub returns-in_err-answer_message-clause-reads : goal.returns-in_err-answer_message-clause-reads
+returns-in_err-answer_message-clause-reads g c =
+    let p = err_from_is_err_and c.from_residual-in_err-answer_message.result
+    c.from_residual-in_err-answer_message.ensures.1 in
+    let unread = message_unread (Unit {0}) c.in_err-answer_message.field-0.0
+    c.in_err-answer_message.ensures.fault in
+    rw (p.1, p.2, unread) (omega (arith, c.loop-message.invariant.3))
+
+pub returns-in_err-answer_message-clause-writes : goal.returns-in_err-answer_message-clause-writes
+returns-in_err-answer_message-clause-writes g c =
+    let p = err_from_is_err_and c.from_residual-in_err-answer_message.result
+    c.from_residual-in_err-answer_message.ensures.1 in
+    rw (p.1, p.2)
+    (c.in_err-answer_message.ensures.writes
+    ∙ ap (λ (n : ℕ). n + failed_writes {X = Unit {0}} (Err c.in_err-answer_message.field-0.0))
+    c.loop-message.invariant.4)
+
+pub returns-in_err-n-clause-stays_open : goal.returns-in_err-n-clause-stays_open
+returns-in_err-n-clause-stays_open g c = λ h o.
+    unless_refused c.from_residual-in_err-n.result (c.loop-message.invariant.0 h o).7
+
+pub returns-in_err-n-clause-whole : goal.returns-in_err-n-clause-whole
+returns-in_err-n-clause-whole g c =
+    let p = err_from_is_err_and c.from_residual-in_err-n.result c.from_residual-in_err-n.ensures.1
+    in
+    rw (p.1, p.2) tt
+
+pub returns-in_err-n-clause-reads : goal.returns-in_err-n-clause-reads
+returns-in_err-n-clause-reads g c =
+    let p = err_from_is_err_and c.from_residual-in_err-n.result c.from_residual-in_err-n.ensures.1
+    in
+    rw (p.1, p.2)
+    (c.in_err-n.ensures.failures ∙ ap (λ (n : ℕ). n + 1) c.loop-message.invariant.3)
+
+pub returns-in_err-n-clause-writes : goal.returns-in_err-n-clause-writes
+returns-in_err-n-clause-writes g c =
+    let p = err_from_is_err_and c.from_residual-in_err-n.result c.from_residual-in_err-n.ensures.1
+    in
+    rw (p.1, p.2) (omega (arith, c.loop-message.invariant.4))
+
+pub returns-in_err-n-clause-store : goal.returns-in_err-n-clause-store
+returns-in_err-n-clause-store g c =
+    let p = err_from_is_err_and c.from_residual-in_err-n.result c.from_residual-in_err-n.ensures.1
+    in
+    rw (p.1, p.2) tt

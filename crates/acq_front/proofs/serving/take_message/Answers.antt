@@ -76,8 +76,8 @@ returns-in_err-said-in-Ask-clause-takes g c = λ h o.
           c.answer-verdict.result) h between g.met.B.Book.settled second))),
     )
 
-pub returns-in-Ask-clause-takes : goal.returns-in-Ask-clause-takes
-returns-in-Ask-clause-takes g c = λ h o.
+pub returns-in_ok-said-in-Ask-clause-takes : goal.returns-in_ok-said-in-Ask-clause-takes
+returns-in_ok-said-in-Ask-clause-takes g c = λ h o.
     let may_say = g.I.Issuer.may_say c.args.issuer.now in
     let first = c.in_ok-said.ensures.tables in
     let second = c.in_ok-said-in-Ask.ensures.tables in
@@ -106,8 +106,8 @@ returns-in-Ask-clause-takes g c = λ h o.
           (reply_fits c.in_ok-said-in-Ask.said (c.in_ok-said-in-Ask.ensures.reply h between)),
     )
 
-pub returns-clause-takes : goal.returns-clause-takes
-returns-clause-takes g c = λ h o.
+pub returns-in_default-clause-takes : goal.returns-in_default-clause-takes
+returns-in_default-clause-takes g c = λ h o.
     let makes = c.in_ok-said.ensures.tables in (
       c.now.result ∷ [],
       [],

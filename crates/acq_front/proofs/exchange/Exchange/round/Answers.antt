@@ -1,4 +1,4 @@
-use Rattle.std.proofs.Common.{rules, ◌≡◌, ◌∙◌, [], Ok, Err, refl, subst}
+use Rattle.std.proofs.Common.{rules, arith, ◌≡◌, ◌∙◌, [], Ok, Err, refl, subst}
 use Rattle.std.proofs.lemmas.Result.{err_from_is_err_and}
 use Rattle.std.specs.Prelude.{Result}
 use Rattle.acq_front.specs.declared.front_fault.FrontFault as fault
@@ -10,8 +10,9 @@ use Rattle.acq_front.specs.declared.turn.Turn.TheVariants.{Took, Waits}
 use Rattle.acq_front.specs.Stops.{left_of}
 use Rattle.acq_front.specs.Exchanges.{held_of, unsent_of, hand_of, gone_of}
 use Rattle.acq_front.proofs.StopsLeave.{none_stop}
-use Rattle.acq_front.proofs.Rounds.{first_none, none_left, reads_on, stops, stops_ends, takes_on}
-use Rattle.acq_front.proofs.Rounds.{if_refused, unless_refused, unrefused, writes_on}
+use Rattle.acq_front.proofs.Rounds.{first_none, none_left, reads_on, stops, stops_apart, stops_ends}
+use Rattle.acq_front.proofs.Rounds.{if_refused, takes_on, unless_refused, unrefused, writes_on}
+use Rattle.acq_front.proofs.Turned.{store_on}
 use Rattle.acq_front.proofs.exchange.Exchange.round.Goals as goal
 
 pub returns-then-not-is_empty-clause-goes : goal.returns-then-not-is_empty-clause-goes
@@ -124,3 +125,42 @@ returns-in_err-turn-clause-refused g c = λ h o.
 pub returns-in-Waits-clause-refused : goal.returns-in-Waits-clause-refused
 returns-in-Waits-clause-refused g c = λ h o.
     unrefused c.receive.result _ c.receive.ensures.unrefused
+
+pub returns-in_err-turn-clause-line_ends : goal.returns-in_err-turn-clause-line_ends
+returns-in_err-turn-clause-line_ends g c = λ before.
+    let p = err_from_is_err_and c.from_residual.result c.from_residual.ensures.1 in
+    let apart = stops_apart (turns.held_of c.turn.new.self) (turns.unsent_of c.turn.new.self)
+    c.in_err-turn.field-0.0 c.in_err-turn.ensures.stops in
+    rw (p.1, p.2, apart.2) before
+
+pub returns-in_err-turn-clause-reads : goal.returns-in_err-turn-clause-reads
+returns-in_err-turn-clause-reads g c =
+    let p = err_from_is_err_and c.from_residual.result c.from_residual.ensures.1 in
+    let apart = stops_apart (turns.held_of c.turn.new.self) (turns.unsent_of c.turn.new.self)
+    c.in_err-turn.field-0.0 c.in_err-turn.ensures.stops in
+    rw (p.1, p.2, apart.0) (omega arith)
+
+pub returns-in_err-turn-clause-writes : goal.returns-in_err-turn-clause-writes
+returns-in_err-turn-clause-writes g c =
+    let p = err_from_is_err_and c.from_residual.result c.from_residual.ensures.1 in
+    let apart = stops_apart (turns.held_of c.turn.new.self) (turns.unsent_of c.turn.new.self)
+    c.in_err-turn.field-0.0 c.in_err-turn.ensures.stops in
+    rw (p.1, p.2, apart.1) (omega arith)
+
+pub returns-in_err-turn-clause-told : goal.returns-in_err-turn-clause-told
+returns-in_err-turn-clause-told g c =
+    let p = err_from_is_err_and c.from_residual.result c.from_residual.ensures.1 in
+    let apart = stops_apart (turns.held_of c.turn.new.self) (turns.unsent_of c.turn.new.self)
+    c.in_err-turn.field-0.0 c.in_err-turn.ensures.stops in
+    rw (p.1, p.2) (apart.3 _)
+
+pub returns-in_err-turn-clause-store : goal.returns-in_err-turn-clause-store
+returns-in_err-turn-clause-store g c =
+    let p = err_from_is_err_and c.from_residual.result c.from_residual.ensures.1 in
+    rw (p.1, p.2) (store_on Turn Round c.in_err-turn.field-0.0 _ _ (λ why. why)
+    c.in_err-turn.ensures.store)
+
+pub returns-in_err-turn-clause-stays_open : goal.returns-in_err-turn-clause-stays_open
+returns-in_err-turn-clause-stays_open g c = λ h o.
+    let p = err_from_is_err_and c.from_residual.result c.from_residual.ensures.1 in
+    rw (p.1, p.2) (c.in_err-turn.ensures.stays_open h o)
