@@ -3,7 +3,7 @@
 use acq_core::{MerchantId, Moment};
 
 /// The open holds of a merchant, in the book in a file.
-#[derive(Debug, Drop)]
+#[derive(Drop)]
 pub struct HoldsOptions {
     /// The path of the book's file.
     pub path: String,

@@ -4,7 +4,7 @@ use crate::patience::Patience;
 use acq_core::Moment;
 
 /// Connections that are served over a book.
-#[derive(Debug, Drop)]
+#[derive(Drop)]
 pub struct ListenOptions {
     /// The path of the book's file.
     pub path: String,

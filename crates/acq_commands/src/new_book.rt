@@ -4,7 +4,7 @@ use acq_core::Limit;
 use day_totals::Day;
 
 /// A new book that is asked for.
-#[derive(Debug, Drop)]
+#[derive(Drop)]
 pub struct NewBook {
     /// The path of its file.
     pub path: String,

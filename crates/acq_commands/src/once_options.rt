@@ -3,7 +3,7 @@
 use acq_core::Moment;
 
 /// Frames that are answered over a book.
-#[derive(Debug, Drop)]
+#[derive(Drop)]
 pub struct OnceOptions {
     /// The path of the book's file; without one the book is new, in memory.
     pub book: Option<String>,

@@ -5,7 +5,7 @@ use acq_core::Limit;
 use day_totals::Day;
 
 /// What a replay is asked for.
-#[derive(Debug, Drop)]
+#[derive(Drop)]
 pub struct ReplayOptions {
     /// The path of the book's file; a new book in memory where there is none.
     pub book: Option<String>,

@@ -8,7 +8,7 @@ use std::marker::Model;
 /// How many of a merchant's requests were admitted so far, each of which got a reference: no more
 /// than 999,999 on each of the 36,525 days that there are (own profile). Contracts see it as a
 /// number.
-#[derive(Clone, Copy, Debug, PartialEq, Eq)]
+#[derive(Clone, Copy)]
 pub struct AdmittedCount {
     number: u64,
 }

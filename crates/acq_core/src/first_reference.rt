@@ -9,7 +9,7 @@ use std::marker::Model;
 
 /// The reference that a merchant's first admitted request gets, from 1 to 900,000,000,000, so that
 /// twelve digits hold all that follow (own profile). Contracts see it as a number.
-#[derive(Clone, Copy, Debug, PartialEq, Eq)]
+#[derive(Clone, Copy)]
 pub struct FirstReference {
     number: u64,
 }

@@ -7,7 +7,7 @@ use std::marker::Model;
 
 /// How many messages of one merchant a business day admits, from 1 to 999,999 (own profile).
 /// Contracts see it as a number.
-#[derive(Clone, Copy, Debug, PartialEq, Eq)]
+#[derive(Clone, Copy)]
 pub struct Limit {
     number: u32,
 }

@@ -11,7 +11,7 @@ use day_totals::{Day, Totals};
 
 /// The keys to look up for an event, each where it is needed. All but the prefix and the bounds are
 /// looked up for the merchant.
-#[derive(Clone, Copy, Debug, PartialEq, Eq)]
+#[derive(Clone, Copy)]
 pub struct Wanted {
     /// The merchant that the event names.
     pub merchant: Option<MerchantId>,

@@ -4,7 +4,7 @@ use crate::first_reference::FirstReference;
 use acq_message::{Currency, MerchantId};
 
 /// A row of the merchants.
-#[derive(Clone, Copy, Debug, PartialEq, Eq)]
+#[derive(Clone, Copy)]
 pub struct Merchant {
     pub id: MerchantId,
     pub currency: Currency,

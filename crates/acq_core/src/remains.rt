@@ -4,7 +4,7 @@ use crate::status::Status;
 use acq_message::Amount;
 
 /// What a completion or a reversal leaves of the request that it follows.
-#[derive(Clone, Copy, Debug, PartialEq, Eq)]
+#[derive(Clone, Copy)]
 pub struct Remains {
     pub status: Status,
     pub amount: Amount,

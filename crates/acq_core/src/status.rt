@@ -4,7 +4,7 @@ ghost use Rattle.std.specs.Prelude.{◌≡◌, IfSome};
 ghost use Rattle.acq_core.specs.Statuses.{status_number, status_numbered};
 
 /// Where a recorded request stands, with the number that the tables keep.
-#[derive(Clone, Copy, Debug, PartialEq, Eq)]
+#[derive(Clone, Copy)]
 pub enum Status {
     /// 0: it was refused.
     Refused,

@@ -3,7 +3,7 @@
 use acq_message::{MerchantId, TerminalId};
 
 /// A row of the terminals.
-#[derive(Clone, Copy, Debug, PartialEq, Eq)]
+#[derive(Clone, Copy)]
 pub struct Terminal {
     pub merchant: MerchantId,
     pub id: TerminalId,

@@ -7,7 +7,7 @@ use std::marker::Model;
 
 /// How many messages of a merchant count against the limit of one day: no more than the greatest
 /// limit, 999,999 (own profile). Contracts see it as a number.
-#[derive(Clone, Copy, Debug, PartialEq, Eq)]
+#[derive(Clone, Copy)]
 pub struct UsedCount {
     number: u32,
 }

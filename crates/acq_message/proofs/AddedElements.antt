@@ -125,12 +125,12 @@ more m added = record { kind = m.kind; elements = with_contents m.elements added
 -- the elements of totals, set behind a code
 pub totals_set : (r : RequestMessage) (day : ℕ) (code : ResponseCode) (in_balance : Bool)
     (t : DayTotals)
-    (m0 m1 m2 m3 m4 : IsoMessage) (balance net : List ℕ) → m0 ≡ coded_reply day r code
+    (m0 m1 m2 m3 : IsoMessage) (balance net : List ℕ) → m0 ≡ coded_reply day r code
     → m1 ≡ more m0 ((66, balance) ∷ []) → m2 ≡ more m1 (count_elements t) →
     m3 ≡ more m2 (amount_elements t)
-    → m4 ≡ more m3 ((97, net) ∷ []) → balance ≡ (if in_balance then codes "1" else codes "2")
-    → net ≡ net_text_of (net_of t) → m4 ≡ totals_reply day r code in_balance t
-totals_set r day code in_balance t m0 m1 m2 m3 m4 balance net coded e1 e2 e3 e4 is_balance is_net =
-    rw (e4, e3, e2, e1, is_balance, is_net)
+    → balance ≡ (if in_balance then codes "1" else codes "2") → net ≡ net_text_of (net_of t)
+    → more m3 ((97, net) ∷ []) ≡ totals_reply day r code in_balance t
+totals_set r day code in_balance t m0 m1 m2 m3 balance net coded e1 e2 e3 is_balance is_net =
+    rw (e3, e2, e1, is_balance, is_net)
     (reply_more r m0 (day_element r.service day ++ code_element code)
     (totals_elements in_balance t) coded)

@@ -8,7 +8,7 @@ use std::marker::Model;
 /// An amount in minor units, as element 4 may have it: from 0 to 999,999,999,999. Which amounts are
 /// accepted is a check of its own. Contracts see it as a number. Source: ISO 8583:1987, amount,
 /// transaction.
-#[derive(Clone, Copy, Debug, PartialEq, Eq)]
+#[derive(Clone, Copy, PartialEq, Eq)]
 pub struct Amount {
     number: u64,
 }

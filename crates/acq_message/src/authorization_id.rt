@@ -8,7 +8,7 @@ use std::marker::Model;
 
 /// What an issuer approves under, as element 38 has it: six bytes of class an. Contracts see it as
 /// the list of these bytes. Source: ISO 8583:1987, authorization identification response.
-#[derive(Clone, Copy, Debug, PartialEq, Eq)]
+#[derive(Clone, Copy)]
 pub struct AuthorizationId {
     bytes: [u8; 6],
 }
@@ -31,11 +31,9 @@ impl AuthorizationId {
     pub fn read(text: &[u8]) -> Option<AuthorizationId>
         ensures { SomeIff result (is_authorization_id text.now ≡ true) text.now }
     {
-        let bytes = <[u8; 6]>::try_from(text).ok()?;
-        if all_alphanumeric(&bytes) {
-            Some(AuthorizationId { bytes })
-        } else {
-            None
+        match <[u8; 6]>::try_from(text) {
+            Ok(bytes) if all_alphanumeric(&bytes) => Some(AuthorizationId { bytes }),
+            _ => None,
         }
     }
 

@@ -8,7 +8,7 @@ use std::marker::Model;
 
 /// A merchant's one currency, as element 49 has it: three bytes of class an, such as `978`.
 /// Contracts see it as the list of these bytes. Source: ISO 8583:1987, currency code, transaction.
-#[derive(Clone, Copy, Debug, PartialEq, Eq)]
+#[derive(Clone, Copy)]
 pub struct Currency {
     bytes: [u8; 3],
 }
@@ -32,11 +32,9 @@ impl Currency {
     pub fn read(text: &[u8]) -> Option<Currency>
         ensures { SomeIff result (is_currency text.now ≡ true) text.now }
     {
-        let bytes = <[u8; 3]>::try_from(text).ok()?;
-        if all_alphanumeric(&bytes) {
-            Some(Currency { bytes })
-        } else {
-            None
+        match <[u8; 3]>::try_from(text) {
+            Ok(bytes) if all_alphanumeric(&bytes) => Some(Currency { bytes }),
+            _ => None,
         }
     }
 

@@ -9,7 +9,7 @@ use std::marker::Model;
 /// The code that an issuer declines with, as element 39 has it: two bytes of class an, other than
 /// `00`. It may be one that the host gives for its own reasons. Contracts see it as the list of
 /// these bytes. Source: ISO 8583:1987, response code.
-#[derive(Clone, Copy, Debug, PartialEq, Eq)]
+#[derive(Clone, Copy)]
 pub struct DeclineCode {
     bytes: [u8; 2],
 }
@@ -33,11 +33,9 @@ impl DeclineCode {
     pub fn read(text: &[u8]) -> Option<DeclineCode>
         ensures { SomeIff result (is_decline_code text.now ≡ true) text.now }
     {
-        let bytes = <[u8; 2]>::try_from(text).ok()?;
-        if all_alphanumeric(&bytes) && bytes != *b"00" {
-            Some(DeclineCode { bytes })
-        } else {
-            None
+        match <[u8; 2]>::try_from(text) {
+            Ok(bytes) if all_alphanumeric(&bytes) && bytes != *b"00" => Some(DeclineCode { bytes }),
+            _ => None,
         }
     }
 

@@ -5,9 +5,9 @@ ghost use Rattle.acq_message.specs.Elements.{essential, essence_of};
 
 use crate::card::card_number_of;
 use crate::message_text::MessageText;
-use crate::put::put;
 use crate::reply::spelled;
 use crate::service::Service;
+use crate::with_content::with_content;
 use iso_codec::Message;
 use std::alloc::{AllocError, Global};
 
@@ -21,10 +21,11 @@ pub fn essence_of(
     ensures { IfOk result (λ text. text ≡ essence_of service message.now) }
 {
     let [a, b, c] = service.digits();
-    let mut essence = message.select(alloc, [a, b, c, b'0'], essential(service))?;
-    if let Some(number) = card_number_of(message) {
-        put(&mut essence, alloc, 2, number)?;
-    }
+    let selected = message.select(alloc, [a, b, c, b'0'], essential(service))?;
+    let essence = match card_number_of(message) {
+        Some(number) => with_content(selected, alloc, 2, number)?,
+        None => selected,
+    };
     spelled(alloc, &essence)
 }
 

@@ -47,7 +47,7 @@ fn has_needed_card(service: Service, message: &Message) -> bool
 fn has_unverifiable(message: &Message) -> bool
     ensures { result ≡ list_any (has message.now) unverifiable }
 {
-    [52, 64, 128].iter().any(|number| has(message, *number))
+    has(message, 52) || has(message, 64) || has(message, 128)
 }
 
 /// Whether element 95 of a reversal is there, and doesn't begin with an amount of twelve digits.

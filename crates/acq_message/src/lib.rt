@@ -22,7 +22,6 @@ mod first_check;
 mod merchant_id;
 mod message_text;
 mod moment;
-mod put;
 mod reconciliation_reply;
 mod reference;
 mod reply;
@@ -34,6 +33,7 @@ mod terminal_id;
 mod trace;
 mod transmission;
 mod verdict;
+mod with_content;
 
 pub use amount::Amount;
 pub use authorization_id::AuthorizationId;

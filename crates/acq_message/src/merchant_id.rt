@@ -12,7 +12,7 @@ use std::marker::Model;
 
 /// A merchant's name, as element 42 has it: fifteen bytes from 0x20 to 0x7E. Contracts see it as
 /// the list of these bytes. Source: ISO 8583:1987, card acceptor identification code.
-#[derive(Clone, Copy, Debug, PartialEq, Eq)]
+#[derive(Clone, Copy, PartialEq, Eq)]
 pub struct MerchantId {
     bytes: [u8; 15],
 }
@@ -36,11 +36,9 @@ impl MerchantId {
     pub fn read(text: &[u8]) -> Option<MerchantId>
         ensures { SomeIff result (is_merchant text.now ≡ true) text.now }
     {
-        let bytes = <[u8; 15]>::try_from(text).ok()?;
-        if all_printable(&bytes) {
-            Some(MerchantId { bytes })
-        } else {
-            None
+        match <[u8; 15]>::try_from(text) {
+            Ok(bytes) if all_printable(&bytes) => Some(MerchantId { bytes }),
+            _ => None,
         }
     }
 

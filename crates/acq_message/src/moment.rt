@@ -7,7 +7,7 @@ use std::marker::Model;
 
 /// A moment of UTC, in whole seconds since 1970-01-01 00:00:00, from 2000-01-01 00:00:00 to
 /// 2099-12-31 23:59:59 (own profile). Contracts see it as the number of seconds.
-#[derive(Clone, Copy, Debug, PartialEq, Eq)]
+#[derive(Clone, Copy)]
 pub struct Moment {
     seconds: u64,
 }

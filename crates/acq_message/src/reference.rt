@@ -10,7 +10,7 @@ use std::marker::Model;
 /// What a merchant's admitted requests are told apart by, as element 37 has it: a number of at most
 /// twelve digits. Contracts see it as a number. Source: ISO 8583:1987, retrieval reference number;
 /// how it is given: own profile.
-#[derive(Clone, Copy, Debug, PartialEq, Eq, Hash)]
+#[derive(Clone, Copy, PartialEq, Eq, Hash)]
 pub struct Reference {
     number: u64,
 }

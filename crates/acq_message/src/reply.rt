@@ -8,12 +8,12 @@ ghost use Rattle.iso_codec.specs.Reading.{spelling};
 
 use crate::merchant_id::MerchantId;
 use crate::message_text::MessageText;
-use crate::put::put;
 use crate::reference::Reference;
 use crate::request_message::RequestMessage;
 use crate::response_code::ResponseCode;
 use crate::service::Service;
 use crate::verdict::Verdict;
+use crate::with_content::with_content;
 use day_totals::Day;
 use iso_codec::{Message, encode};
 use std::alloc::{AllocError, Global};
@@ -47,13 +47,13 @@ pub(crate) fn dated_reply(
         (λ m. m ≡ reply_to request.now (day_element request.now.service day)) }
 {
     let service = request.service;
-    let mut message = request
+    let echo = request
         .message
         .select(alloc, service.reply_kind(), service.echoed())?;
-    if service != Service::NetworkManagement {
-        put(&mut message, alloc, 15, &day.mmdd())?;
+    match service {
+        Service::NetworkManagement => Ok(echo),
+        _ => with_content(echo, alloc, 15, &day.mmdd()),
     }
-    Ok(message)
 }
 
 /// The reply of a code and the business day.
@@ -65,9 +65,8 @@ pub fn coded_reply(
 ) -> Result<Message, AllocError>
     ensures { IfOk result (λ m. m ≡ coded_reply day request.now code) }
 {
-    let mut message = dated_reply(alloc, day, request)?;
-    put(&mut message, alloc, 39, &code.to_bytes())?;
-    Ok(message)
+    let message = dated_reply(alloc, day, request)?;
+    with_content(message, alloc, 39, &code.to_bytes())
 }
 
 /// The same with a reference, where there is one.
@@ -80,12 +79,11 @@ pub fn referring_reply(
 ) -> Result<Message, AllocError>
     ensures { IfOk result (λ m. m ≡ referring_reply day request.now reference code) }
 {
-    let mut message = match reference {
+    let message = match reference {
         Some(reference) => draft_reply(alloc, day, request, reference)?,
         None => dated_reply(alloc, day, request)?,
     };
-    put(&mut message, alloc, 39, &code.to_bytes())?;
-    Ok(message)
+    with_content(message, alloc, 39, &code.to_bytes())
 }
 
 /// What stands fixed of the reply to an admitted request, before its issuer answers.
@@ -97,9 +95,8 @@ pub fn draft_reply(
 ) -> Result<Message, AllocError>
     ensures { IfOk result (λ m. m ≡ draft_reply day request.now reference) }
 {
-    let mut message = dated_reply(alloc, day, request)?;
-    put(&mut message, alloc, 37, &reference.text())?;
-    Ok(message)
+    let message = dated_reply(alloc, day, request)?;
+    with_content(message, alloc, 37, &reference.text())
 }
 
 /// The reply to a request that its issuer answered, from what stood fixed of it.
@@ -110,10 +107,10 @@ pub fn answered_reply(
 ) -> Result<Message, AllocError>
     ensures { IfOk result (λ m. m ≡ answered_reply draft.now verdict) }
 {
-    let mut message = draft.copied(alloc)?;
-    if let Some(id) = verdict.authorization_id() {
-        put(&mut message, alloc, 38, &id.to_bytes())?;
-    }
-    put(&mut message, alloc, 39, &verdict.code().to_bytes())?;
-    Ok(message)
+    let copy = draft.copied(alloc)?;
+    let message = match verdict.authorization_id() {
+        Some(id) => with_content(copy, alloc, 38, &id.to_bytes())?,
+        None => copy,
+    };
+    with_content(message, alloc, 39, &verdict.code().to_bytes())
 }

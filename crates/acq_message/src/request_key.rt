@@ -15,7 +15,7 @@ use crate::transmission::Transmission;
 
 /// What tells a recorded request from all others. A request with the same key is a repeat (own
 /// profile).
-#[derive(Clone, Copy, Debug, PartialEq, Eq, Hash)]
+#[derive(Clone, Copy, PartialEq, Eq, Hash)]
 pub struct RequestKey {
     pub merchant: MerchantId,
     pub terminal: TerminalId,

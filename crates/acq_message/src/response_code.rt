@@ -7,7 +7,7 @@ ghost use Rattle.acq_message.specs.Responses.{code_text};
 use crate::decline_code::DeclineCode;
 
 /// A response code, element 39. When each is given is the host's own rule.
-#[derive(Clone, Copy, Debug, PartialEq, Eq)]
+#[derive(Clone, Copy)]
 pub enum ResponseCode {
     /// 00: approved, or done.
     Approved,

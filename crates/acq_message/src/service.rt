@@ -5,7 +5,7 @@ ghost use Rattle.acq_message.specs.Services.{service_of, digits_of, reply_kind, 
 
 /// A kind of request that is served. A request whose type ends in 1 is the repeat of the one whose
 /// type ends in 0, and is served alike.
-#[derive(Clone, Copy, Debug, PartialEq, Eq, Hash)]
+#[derive(Clone, Copy, PartialEq, Eq, Hash)]
 pub enum Service {
     /// 0100 and 0101: a hold is asked for.
     Authorization,

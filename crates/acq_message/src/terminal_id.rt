@@ -13,7 +13,7 @@ use std::marker::Model;
 /// A terminal's name, as element 41 has it: eight bytes from 0x20 to 0x7E. The same name at two
 /// merchants is two terminals. Contracts see it as the list of these bytes. Source: ISO 8583:1987,
 /// card acceptor terminal identification.
-#[derive(Clone, Copy, Debug, PartialEq, Eq)]
+#[derive(Clone, Copy, PartialEq, Eq)]
 pub struct TerminalId {
     bytes: [u8; 8],
 }
@@ -37,11 +37,9 @@ impl TerminalId {
     pub fn read(text: &[u8]) -> Option<TerminalId>
         ensures { SomeIff result (is_terminal text.now ≡ true) text.now }
     {
-        let bytes = <[u8; 8]>::try_from(text).ok()?;
-        if all_printable(&bytes) {
-            Some(TerminalId { bytes })
-        } else {
-            None
+        match <[u8; 8]>::try_from(text) {
+            Ok(bytes) if all_printable(&bytes) => Some(TerminalId { bytes }),
+            _ => None,
         }
     }
 

@@ -12,7 +12,7 @@ use std::marker::Model;
 
 /// What a terminal numbers its messages with, as element 11 has it: six digits. Contracts see it as
 /// the list of their bytes. Source: ISO 8583:1987, systems trace audit number.
-#[derive(Clone, Copy, Debug, PartialEq, Eq)]
+#[derive(Clone, Copy, PartialEq, Eq)]
 pub struct Trace {
     bytes: [u8; 6],
 }
@@ -35,11 +35,9 @@ impl Trace {
     pub fn read(text: &[u8]) -> Option<Trace>
         ensures { SomeIff result (is_trace text.now ≡ true) text.now }
     {
-        let bytes = <[u8; 6]>::try_from(text).ok()?;
-        if all_digits(&bytes) {
-            Some(Trace { bytes })
-        } else {
-            None
+        match <[u8; 6]>::try_from(text) {
+            Ok(bytes) if all_digits(&bytes) => Some(Trace { bytes }),
+            _ => None,
         }
     }
 

@@ -13,7 +13,7 @@ use std::marker::Model;
 /// When a terminal sent a message by its own clock, as element 7 has it: ten digits, MMDDhhmmss. It
 /// serves as a part of a request's key, so any ten digits are taken (own profile). Contracts see it
 /// as the list of their bytes. Source: ISO 8583:1987, transmission date and time.
-#[derive(Clone, Copy, Debug, PartialEq, Eq)]
+#[derive(Clone, Copy, PartialEq, Eq)]
 pub struct Transmission {
     bytes: [u8; 10],
 }
@@ -37,11 +37,9 @@ impl Transmission {
     pub fn read(text: &[u8]) -> Option<Transmission>
         ensures { SomeIff result (is_transmission text.now ≡ true) text.now }
     {
-        let bytes = <[u8; 10]>::try_from(text).ok()?;
-        if all_digits(&bytes) {
-            Some(Transmission { bytes })
-        } else {
-            None
+        match <[u8; 10]>::try_from(text) {
+            Ok(bytes) if all_digits(&bytes) => Some(Transmission { bytes }),
+            _ => None,
         }
     }
 

@@ -9,7 +9,7 @@ use crate::decline_code::DeclineCode;
 use crate::response_code::ResponseCode;
 
 /// What an issuer says to a request that it was asked about.
-#[derive(Clone, Copy, Debug, PartialEq, Eq)]
+#[derive(Clone, Copy)]
 pub enum Verdict {
     /// It approves, under this id.
     Approved(AuthorizationId),

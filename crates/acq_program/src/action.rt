@@ -6,7 +6,7 @@ use acq_commands::{
 };
 
 /// What the program is asked to do.
-#[derive(Debug, Drop)]
+#[derive(Drop)]
 pub enum Action {
     /// Make a new book in a file.
     Init(NewBook),

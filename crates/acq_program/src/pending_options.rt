@@ -4,7 +4,7 @@ use acq_core::Moment;
 use day_totals::Day;
 
 /// Answers to the requests that are pending in the book in a file.
-#[derive(Debug, Drop)]
+#[derive(Drop)]
 pub struct PendingOptions {
     /// The path of the book's file.
     pub path: String,

@@ -4,7 +4,7 @@ use acq_core::MerchantId;
 use day_totals::Day;
 
 /// A day of a merchant.
-#[derive(Clone, Copy, Debug, PartialEq, Eq, Hash)]
+#[derive(Clone, Copy, PartialEq, Eq, Hash)]
 pub(crate) struct MerchantDay {
     pub merchant: MerchantId,
     pub day: Day,

@@ -3,7 +3,7 @@
 use acq_core::{MerchantId, Reference};
 
 /// A reference of a merchant.
-#[derive(Clone, Copy, Debug, PartialEq, Eq, Hash)]
+#[derive(Clone, Copy, PartialEq, Eq, Hash)]
 pub(crate) struct MerchantReference {
     pub merchant: MerchantId,
     pub reference: Reference,

@@ -3,7 +3,7 @@
 use acq_core::{MerchantId, TerminalId};
 
 /// The name of a terminal at a merchant.
-#[derive(Clone, Copy, Debug, PartialEq, Eq, Hash)]
+#[derive(Clone, Copy, PartialEq, Eq, Hash)]
 pub(crate) struct MerchantTerminal {
     pub merchant: MerchantId,
     pub id: TerminalId,

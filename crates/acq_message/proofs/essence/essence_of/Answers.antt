@@ -15,7 +15,7 @@ use Rattle.acq_message.specs.Cards.{card_of}
 use Rattle.acq_message.specs.Elements.{essential, essence_of}
 use Rattle.acq_message.proofs.NeededElements.{one_of_all}
 use Rattle.acq_message.proofs.essence.essence_of.Goals as goal
-use Rattle.acq_message.proofs.essence.essence_of.Goals.{in-Some+in_ok-put, in_default}
+use Rattle.acq_message.proofs.essence.essence_of.Goals.{in-Some+in_ok-essence-in-Some, in-None}
 
 -- the card number stands before elements that are all behind it
 front : (numbers : List ℕ) → list_all (ltb 2) numbers ≡ true →
@@ -79,21 +79,21 @@ without_card : (s : Service) (m essence : IsoMessage) (digits numbers : List ℕ
 without_card s m essence digits numbers are_digits are_numbers is so =
     rw (so, four_digits s digits are_digits, are_numbers, ← is) refl
 
-whole : (c : goal.After-drop-essence-inside-3) → spelling c.match-card_number_of.essence
+whole : (c : goal.After-drop-essence-inside-2) → spelling c.match-card_number_of.essence
     ≡ essence_of c.args.service c.args.message.now
 whole c =
     let m = c.args.message.now in
     elim c.match-card_number_of.branch [
-      | in-Some+in_ok-put w ↦
-          rw (w.essence-is, w.in_ok-put.ensures)
-          (with_card c.args.service m c.in_ok-essence.essence c.digits.result
+      | in-Some+in_ok-essence-in-Some w ↦
+          rw (w.essence-is, w.in_ok-essence-in-Some.ensures)
+          (with_card c.args.service m c.in_ok-selected.selected c.digits.result
           c.essential.result.now w.in-Some.number.now c.digits.ensures c.essential.ensures
           w.in-Some.ensures.value
-          c.in_ok-essence.ensures)
-      | in_default w ↦
-          rw w.essence-is (without_card c.args.service m c.in_ok-essence.essence c.digits.result
-          c.essential.result.now c.digits.ensures c.essential.ensures w.in_default.ensures.value
-          c.in_ok-essence.ensures)
+          c.in_ok-selected.ensures)
+      | in-None w ↦
+          rw w.essence-is (without_card c.args.service m c.in_ok-selected.selected c.digits.result
+          c.essential.result.now c.digits.ensures c.essential.ensures w.in-None.ensures.value
+          c.in_ok-selected.ensures)
     ]
 
 pub returns : goal.returns
