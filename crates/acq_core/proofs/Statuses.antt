@@ -1,5 +1,5 @@
 -- What is so of each status in the list is so of every status, and a status is known by its number.
-use Rattle.std.proofs.Common.{◌≡◌, ◌==◌, Bool, true, false, List, [], ◌∷◌, map, Some, refl, sym}
+use Rattle.std.proofs.Common.{◌≡◌, ◌==◌, Bool, true, List, [], ◌∷◌, map, Some, refl, sym}
 use Rattle.std.proofs.Common.{ap, ◌∙◌}
 use Rattle.std.proofs.lemmas.Bool.{eqb-true}
 use Rattle.std.specs.List.{AllByRecursion}
@@ -9,7 +9,6 @@ use Rattle.acq_core.specs.declared.status.Status.TheVariants.{Refused, Pending, 
 use Rattle.acq_core.specs.declared.status.Status.TheVariants.{Completed, Reversed}
 use Rattle.acq_core.specs.declared.status.Status.TheVariants.{ReversedPending, Reconciled}
 use Rattle.acq_core.specs.declared.status.Status.TheVariants.{Lowered}
-use Rattle.acq_core.specs.declared.reply_state.ReplyState.{ReplyState}
 use Rattle.acq_core.specs.declared.reply_state.ReplyState.TheVariants.{Awaited}
 use Rattle.acq_core.specs.Statuses.{all_statuses, status_number, status_numbered}
 use Rattle.acq_core.specs.Decision.{is_awaited}

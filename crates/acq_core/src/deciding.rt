@@ -4,6 +4,7 @@ ghost use Rattle.std.specs.Prelude.{◌≡◌, nat_lt, true, IfOk, if◌then◌e
 ghost use Rattle.std.specs.List.{list_any};
 ghost use Rattle.std.specs.Str.{bytes_eq};
 ghost use Rattle.day_totals.specs.Day.{last_day};
+ghost use Rattle.acq_message.specs.Elements.{essence_of};
 ghost use Rattle.acq_message.specs.Services.{is_recordable};
 ghost use Rattle.acq_core.specs.Decision as decided;
 ghost use Rattle.acq_core.specs.Decision.{decision, decision_of_request, decision_of_merchant};
@@ -137,12 +138,24 @@ fn decision_of_repeat<'a>(
     ensures feasible { (k : Known) → IfOk result (λ d. is_feasible k (meaning_of d) ≡ true) }
 {
     let message = request.as_request();
-    let essence = essence_of(alloc, message.service, &message.message)?;
-    if essence.as_bytes() == recorded.essence.as_bytes() {
+    if has_essence_of(alloc, message, recorded)? {
         Ok(repeat_of(recorded))
     } else {
         Ok(Decision::Replies(message, ResponseCode::DuplicateTransmission))
     }
+}
+
+/// Whether a request is alike in its essence to a recorded one.
+fn has_essence_of(
+    alloc: Global,
+    request: &RequestMessage,
+    recorded: &Request,
+) -> Result<bool, AllocError>
+    ensures { IfOk result (λ is_alike. is_alike
+        ≡ bytes_eq (essence_of request.now.service request.now.message) recorded.now.essence) }
+{
+    let essence = essence_of(alloc, request.service, &request.message)?;
+    Ok(essence.as_bytes() == recorded.essence.as_bytes())
 }
 
 /// What a repeat of a recorded request gets.
@@ -199,8 +212,6 @@ fn is_other_transaction(merchant: &Merchant, request: &RequestMessage) -> bool
 fn has_transaction(service: Service, transaction: &[u8]) -> bool
     ensures { result ≡ list_any (bytes_eq transaction.now) (transactions service) }
 {
-    match service {
-        Service::Financial => matches!(transaction, b"00" | b"20"),
-        _ => matches!(transaction, b"00"),
-    }
+    let is_return = service == Service::Financial && transaction == b"20".as_slice();
+    is_return || transaction == b"00".as_slice()
 }

@@ -5,7 +5,7 @@ ghost use Rattle.iso_codec.specs.Reading.{spelling};
 ghost use Rattle.day_totals.specs.Day.{last_day};
 ghost use Rattle.acq_message.specs.Services.{is_recordable};
 ghost use Rattle.acq_message.specs.Reply.{coded_reply};
-ghost use Rattle.acq_core.specs.Changes.{change_of, refused_row};
+ghost use Rattle.acq_core.specs.Changes.{change_of, refused_row, recorded_row};
 ghost use Rattle.acq_core.specs.Looking.{known_of};
 ghost use Rattle.acq_core.specs.Meaning.{meaning_of, is_feasible};
 ghost use Rattle.acq_core.specs.Outcome.{outcome_of, output_of};
@@ -16,6 +16,7 @@ use crate::decision::Decision;
 use crate::lookup::Looked;
 use crate::output::Output;
 use crate::recording::recorded_row;
+use crate::request::Request;
 use acq_message::{CheckedRequest, MerchantId, RequestMessage, ResponseCode, coded_reply, spelled};
 use day_totals::Day;
 use iso_codec::Message;
@@ -118,9 +119,25 @@ fn refused(
         ≡ Some (Change.AddRequest (refused_row today request.now code))) }
 {
     let reply = coded_reply(alloc, today, request.as_request(), code)?;
+    let (output, row) = replied_and_recorded(alloc, today, merchant, request, reply)?;
+    Ok((output, Some(Change::AddRequest(row))))
+}
+
+/// A reply in its spelling, and the row of a request that nothing came of, which keeps it.
+pub(crate) fn replied_and_recorded(
+    alloc: Global,
+    today: Day,
+    merchant: Option<MerchantId>,
+    request: &CheckedRequest,
+    reply: Message,
+) -> Result<(Output, Request), AllocError>
+    requires { is_recordable request.now.service ≡ true }
+    ensures output { IfOk result (λ x. x.0 ≡ Output.Reply merchant (spelling reply)) }
+    ensures row { IfOk result (λ x. x.1 ≡ recorded_row today request.now reply) }
+{
     let output = replied(alloc, merchant, &reply)?;
     let row = recorded_row(alloc, today, request, reply)?;
-    Ok((output, Some(Change::AddRequest(row))))
+    Ok((output, row))
 }
 
 /// The day after one that isn't the last.

@@ -3,7 +3,7 @@
 ghost use Rattle.std.specs.Prelude.{◌≡◌, true, IfOk};
 ghost use Rattle.std.specs.Option.{option_copied};
 ghost use Rattle.acq_message.specs.Services.{is_recordable};
-ghost use Rattle.acq_core.specs.Changes.{recorded_row, accepted_row};
+ghost use Rattle.acq_core.specs.Changes.{recorded_row};
 
 use crate::request::Request;
 use crate::status::Status;
@@ -44,22 +44,6 @@ pub(crate) fn recorded_row(
         hold_end: None,
         reply,
     })
-}
-
-/// The row of a request that the host accepted, with its reply.
-pub(crate) fn accepted_row(
-    alloc: Global,
-    today: Day,
-    request: &CheckedRequest,
-    reply: Message,
-) -> Result<Request, AllocError>
-    requires { is_recordable request.now.service ≡ true }
-    ensures { IfOk result (λ row. row ≡ accepted_row today request.now reply) }
-{
-    let mut row = recorded_row(alloc, today, request, reply)?;
-    row.status = Status::Approved;
-    row.admitted = true;
-    Ok(row)
 }
 
 /// A copy of an element's content, where it is there.

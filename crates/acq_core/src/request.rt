@@ -50,9 +50,9 @@ impl Request {
         ensures { IfOk result (λ copy. copy ≡ self.now) }
     {
         let essence = self.essence.copied(alloc)?;
+        let reply = self.reply.copied(alloc)?;
         let card = content_copied(alloc, &self.card)?;
         let acquirer = content_copied(alloc, &self.acquirer)?;
-        let reply = self.reply.copied(alloc)?;
         Ok(Request {
             key: self.key,
             essence,
@@ -73,7 +73,7 @@ impl Request {
 }
 
 /// A copy of an element's content, where it is there.
-fn content_copied(
+pub(crate) fn content_copied(
     alloc: Global,
     content: &Option<ElementContent>,
 ) -> Result<Option<ElementContent>, AllocError>

@@ -19,7 +19,7 @@ use crate::lookup::Looked;
 use crate::merchant::Merchant;
 use crate::output::Output;
 use crate::query::Query;
-use crate::recording::accepted_row;
+use crate::recording::recorded_row;
 use crate::status::Status;
 use acq_message::{
     CheckedRequest, Reference, ResponseCode, Service, amount_in, card_of, digits_value,
@@ -113,8 +113,9 @@ pub(crate) fn admitted(
     let query = query_of(alloc, request, range, reference)?;
     let message = request.as_request();
     let draft = draft_reply(alloc, today, message, reference)?;
-    let mut row = accepted_row(alloc, today, request, draft)?;
+    let mut row = recorded_row(alloc, today, request, draft)?;
     row.status = Status::Pending;
+    row.admitted = true;
     row.reference = Some(reference);
     row.leg = admitted_leg(message.service, sale_leg(&message.message));
     row.hold_days = Some(range.hold_days);

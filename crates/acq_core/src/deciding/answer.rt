@@ -70,9 +70,9 @@ pub(crate) fn answered(
         (answered_hold_end p.key.service moment verdict.now p.hold_days)
         (answer_posting verdict.now p))) }
 {
+    let posting = answer_posting(alloc, *verdict, request)?;
     let reply = answered_reply(alloc, &request.reply, *verdict)?;
     let output = replied(alloc, merchant, &reply)?;
-    let posting = answer_posting(alloc, *verdict, request)?;
     let change = Change::Answered {
         key: request.key,
         status: answered_status(*verdict),

@@ -13,18 +13,16 @@ ghost use Rattle.acq_core.specs.Tables.{prior_of};
 use super::{is_full, is_other_transaction};
 use crate::change::Change;
 use crate::decision::Decision;
-use crate::effects::replied;
+use crate::effects::replied_and_recorded;
 use crate::lookup::Looked;
 use crate::merchant::Merchant;
 use crate::output::Output;
 use crate::posted::{posting_today, reference_of};
-use crate::recording::accepted_row;
 use crate::remains::Remains;
-use crate::request::Request;
+use crate::request::{Request, content_copied};
 use crate::status::Status;
 use acq_message::{
-    CheckedRequest, ElementContent, MerchantId, Moment, ResponseCode, Service, amount_in,
-    coded_reply,
+    CheckedRequest, MerchantId, Moment, ResponseCode, Service, amount_in, coded_reply,
 };
 use day_totals::{Day, Leg};
 use std::alloc::{AllocError, Global};
@@ -92,14 +90,16 @@ pub(crate) fn completed(
         (Some (completion_posting today request.now p)))) }
 {
     let message = request.as_request();
-    let reply = coded_reply(alloc, today, message, ResponseCode::Approved)?;
-    let output = replied(alloc, merchant, &reply)?;
     let amount = amount_in(&message.message);
     let posting = posting_today(alloc, today, request, Leg::Debit, amount, hold)?;
-    let mut row = accepted_row(alloc, today, request, reply)?;
+    let card = content_copied(alloc, &hold.card)?;
+    let reply = coded_reply(alloc, today, message, ResponseCode::Approved)?;
+    let (output, mut row) = replied_and_recorded(alloc, today, merchant, request, reply)?;
+    row.status = Status::Approved;
+    row.admitted = true;
     row.follows = reference_of(hold);
     row.leg = Leg::Debit;
-    row.card = card_of_hold(alloc, hold)?;
+    row.card = card;
     let change = Change::Follow {
         request: row,
         original: hold.key,
@@ -110,14 +110,4 @@ pub(crate) fn completed(
         posting: Some(posting),
     };
     Ok((output, Some(change)))
-}
-
-/// A copy of a hold's card number.
-fn card_of_hold(alloc: Global, hold: &Request) -> Result<Option<ElementContent>, AllocError>
-    ensures { IfOk result (λ card. card ≡ hold.now.card) }
-{
-    match &hold.card {
-        Some(card) => Ok(Some(card.copied(alloc)?)),
-        None => Ok(None),
-    }
 }

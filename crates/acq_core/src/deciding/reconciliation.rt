@@ -15,12 +15,11 @@ ghost use Rattle.acq_core.specs.Outcome.{is_in_balance, balance_code};
 
 use crate::change::Change;
 use crate::decision::Decision;
-use crate::effects::replied;
+use crate::effects::replied_and_recorded;
 use crate::lookup::Looked;
 use crate::output::Output;
 use crate::reconciled_day::reconciled_day;
 use crate::reconciliation::Reconciliation;
-use crate::recording::recorded_row;
 use crate::status::Status;
 use acq_message::{
     CheckedRequest, MerchantId, ResponseCode, claimed_in, merchant_of, totals_reply,
@@ -68,8 +67,7 @@ pub(crate) fn reconciled(
     let in_balance = is_in_balance(looked, request);
     let code = balance_code(in_balance);
     let reply = totals_reply(alloc, day, message, code, in_balance, &looked.totals)?;
-    let output = replied(alloc, merchant, &reply)?;
-    let mut row = recorded_row(alloc, looked.today, request, reply)?;
+    let (output, mut row) = replied_and_recorded(alloc, looked.today, merchant, request, reply)?;
     row.status = Status::Reconciled;
     let reconciliation = Reconciliation {
         merchant: merchant_of(request),

@@ -19,12 +19,11 @@ ghost use Rattle.acq_core.specs.Tables.{is_reversible, prior_of, reply_state_of}
 use super::is_full;
 use crate::change::Change;
 use crate::decision::Decision;
-use crate::effects::replied;
+use crate::effects::replied_and_recorded;
 use crate::lookup::Looked;
 use crate::output::Output;
 use crate::posted::{posted_leg, posting_today, reference_of, reversal_leg};
 use crate::posting::Posting;
-use crate::recording::accepted_row;
 use crate::remains::Remains;
 use crate::request::Request;
 use crate::status::Status;
@@ -123,6 +122,7 @@ pub(crate) fn reversed(
         (remains_of p (remaining_in request.now.message)) (reversal_posting today request.now p))) }
 {
     let message = request.as_request();
+    let posting = reversal_posting(alloc, today, request, original)?;
     let reply = referring_reply(
         alloc,
         today,
@@ -130,9 +130,9 @@ pub(crate) fn reversed(
         reference_of(original),
         ResponseCode::Approved,
     )?;
-    let output = replied(alloc, merchant, &reply)?;
-    let posting = reversal_posting(alloc, today, request, original)?;
-    let mut row = accepted_row(alloc, today, request, reply)?;
+    let (output, mut row) = replied_and_recorded(alloc, today, merchant, request, reply)?;
+    row.status = Status::Approved;
+    row.admitted = true;
     row.follows = reference_of(original);
     row.leg = reversing_leg(posted_leg(original));
     let change = Change::Follow {

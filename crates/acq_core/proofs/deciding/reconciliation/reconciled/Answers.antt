@@ -34,7 +34,7 @@ changed made row merchant m day b balance same named is = rw (same, named, is) r
 
 pub returns-clause-output : goal.returns-clause-output
 returns-clause-output c =
-    c.in_ok-output.ensures
+    c.in_ok-output.ensures.output
     ∙ ap (λ (m : IsoMessage). Reply c.args.merchant (spelling m)) (c.in_ok-reply.ensures
     ∙ totals_replied c.args.day c.as_request-message.result.now c.args.request.now
     c.balance_code-code.result
@@ -45,14 +45,14 @@ returns-clause-output c =
 
 pub returns-clause-change : goal.returns-clause-change
 returns-clause-change c =
-    changed c.in_ok-row.row (recorded_row c.args.looked.now.today c.args.request.now
+    changed c.in_ok-output.row (recorded_row c.args.looked.now.today c.args.request.now
     (totals_reply c.args.day c.args.request.now
     (balance_code (is_in_balance (known_of c.args.looked.now) c.args.request.now))
     (is_in_balance (known_of c.args.looked.now) c.args.request.now) c.args.looked.now.totals))
     c.merchant_of.result (text_at c.args.request.now.message 42) c.args.day
     c.is_in_balance-in_balance.result
     (is_in_balance (known_of c.args.looked.now) c.args.request.now)
-    (c.in_ok-row.ensures ∙ ap (recorded_row c.args.looked.now.today c.args.request.now)
+    (c.in_ok-output.ensures.row ∙ ap (recorded_row c.args.looked.now.today c.args.request.now)
     (c.in_ok-reply.ensures
     ∙ totals_replied c.args.day c.as_request-message.result.now c.args.request.now
     c.balance_code-code.result
