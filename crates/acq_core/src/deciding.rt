@@ -115,15 +115,12 @@ fn decision_of_merchant<'a>(
         ≡ decision_of_merchant (known_of looked.now) request.now looked.now.merchant) }
     ensures feasible { IfOk result (λ d. is_feasible (known_of looked.now) (meaning_of d) ≡ true) }
 {
-    let Some(merchant) = &looked.merchant else {
-        return Ok(Decision::Replies(request.as_request(), ResponseCode::InvalidMerchant));
-    };
-    if !looked.has_terminal {
-        return Ok(Decision::Replies(request.as_request(), ResponseCode::InvalidMerchant));
-    }
-    match &looked.recorded {
-        Some(recorded) => decision_of_repeat(alloc, request, recorded),
-        None => Ok(decision_by_service(looked, merchant, request)),
+    match &looked.merchant {
+        Some(merchant) if looked.has_terminal => match &looked.recorded {
+            Some(recorded) => decision_of_repeat(alloc, request, recorded),
+            None => Ok(decision_by_service(looked, merchant, request)),
+        },
+        _ => Ok(Decision::Replies(request.as_request(), ResponseCode::InvalidMerchant)),
     }
 }
 

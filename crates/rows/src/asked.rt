@@ -9,7 +9,7 @@ use day_totals::Day;
 use std::alloc::Global;
 
 /// What is asked of a book.
-#[derive(Clone, Copy, Debug)]
+#[derive(Clone, Copy)]
 pub enum Asked {
     /// A day's clearing file.
     Clearing(Day),
