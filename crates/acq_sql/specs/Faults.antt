@@ -1,5 +1,5 @@
 -- What an error of the database is to a book, and the faults' numbers and texts.
-use Rattle.std.specs.Prelude.{ℕ, ◌+◌, ◌-◌, ◌^◌, min, List, ◌++◌, [], codes, Result, Ok, Err}
+use Rattle.std.specs.Prelude.{ℕ, ◌+◌, ◌-◌, ◌^◌, min, List, ◌++◌, codes, Result, Ok, Err}
 use Rattle.std.specs.Fmt.{decimal}
 use Rattle.sqlite.specs.declared.error.Error.{Error}
 use Rattle.sqlite.specs.declared.error.Error.TheVariants.{SqliteFailure}
@@ -17,23 +17,12 @@ number_of Store = 2
 number_of NotABook = 40
 number_of (OtherVersion n) = 41
 
--- a fault's name
-abbrev pub name_of : OpeningFault → List ℕ
-name_of Memory = codes "Memory"
-name_of Store = codes "Store"
-name_of NotABook = codes "NotABook"
-name_of (OtherVersion n) = codes "OtherVersion"
-
--- its value, behind a space
-abbrev pub values_of : OpeningFault → List ℕ
-values_of Memory = []
-values_of Store = []
-values_of NotABook = []
-values_of (OtherVersion n) = codes " " ++ decimal n
-
--- the fault as printed lines have it
+-- the fault as printed lines have it: its number, its name and its value
 abbrev pub text_of : OpeningFault → List ℕ
-text_of fault = decimal (number_of fault) ++ codes " " ++ name_of fault ++ values_of fault
+text_of Memory = codes "1 Memory"
+text_of Store = codes "2 Store"
+text_of NotABook = codes "40 NotABook"
+text_of (OtherVersion n) = codes "41 OtherVersion " ++ decimal n
 
 -- what an error of the database is to an open
 abbrev pub fault_of : Error → OpeningFault

@@ -21,7 +21,7 @@ pub enum OpeningFault {
 }
 
 impl OpeningFault {
-    ghost use Rattle.acq_sql.specs.Faults.{number_of, name_of};
+    ghost use Rattle.acq_sql.specs.Faults.{number_of};
 
     /// The fault's number.
     pub fn number(&self) -> u8
@@ -34,17 +34,6 @@ impl OpeningFault {
             OpeningFault::OtherVersion(_) => 41,
         }
     }
-
-    fn name(&self) -> &'static str
-        ensures { result.now ≡ name_of self.now }
-    {
-        match self {
-            OpeningFault::Memory => "Memory",
-            OpeningFault::Store => "Store",
-            OpeningFault::NotABook => "NotABook",
-            OpeningFault::OtherVersion(_) => "OtherVersion",
-        }
-    }
 }
 
 impl fmt::Display for OpeningFault {
@@ -54,10 +43,11 @@ impl fmt::Display for OpeningFault {
     ghost output = { λ f. Some (text_of f) };
 
     fn fmt<W: fmt::Write>(&self, f: &mut fmt::Formatter<W>) -> fmt::Result {
-        write!(f, "{} {}", self.number(), self.name())?;
         match self {
-            OpeningFault::OtherVersion(version) => write!(f, " {version}"),
-            _ => Ok(()),
+            OpeningFault::Memory => f.write_str("1 Memory"),
+            OpeningFault::Store => f.write_str("2 Store"),
+            OpeningFault::NotABook => f.write_str("40 NotABook"),
+            OpeningFault::OtherVersion(version) => write!(f, "41 OtherVersion {version}"),
         }
     }
 }
