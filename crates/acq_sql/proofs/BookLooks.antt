@@ -178,6 +178,21 @@ value_of g old seen new is answer result looks out settled same ok look says o =
     answer result look says
     same ok o
 
+-- what a look-up over the connection leaves, one of the book as it is seen leaves
+pub looks_of : {S T : Type 0} (g : Ghosts S) (old seen new : Kept S) → old ≡ seen
+    → (answer : Result T Error) (result : Result T BookFault)
+    → LooksOnly (state g old.connection) (state g new.connection) (is_ok answer)
+    → old.connection.in_transaction ≡ false → IsSettled g seen → is_ok result ≡ is_ok answer
+    → old.failures ≤ new.failures
+    → LooksBy (tables g) (is_honest g) (is_open g) (may_leave g) (leaves_books g)
+    (λ (b : Kept S). b.failures) (store_faults g) seen new (is_ok result)
+looks_of g old seen new is answer result looks out settled same rise =
+    subst (λ (k : Kept _). LooksBy (tables g) (is_honest g) (is_open g) (may_leave g)
+    (leaves_books g) (λ (b : Kept _). b.failures) (store_faults g) k new (is_ok result)) is
+    (looks_at g old new (is_ok result)
+    (subst (LooksOnly (state g old.connection) (state g new.connection)) (sym same) looks) out
+    (subst (IsSettled g) (sym is) settled) rise)
+
 -- what the database of an open book holds
 pub held_by : {S : Type 0} (g : Ghosts S) (old seen : Kept S) → old ≡ seen → is_open g seen
     → Holds (state g old.connection).now (tables g seen)

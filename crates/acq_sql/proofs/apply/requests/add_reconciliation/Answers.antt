@@ -1,4 +1,5 @@
-use Rattle.acq_sql.proofs.apply.LooksFirst.{whole_from}
+use Rattle.sqlite.specs.Held.{state}
+use Rattle.acq_sql.proofs.apply.LooksFirst.{fails_looking, refuses, whole_from}
 use Rattle.acq_sql.proofs.apply.requests.add_reconciliation.Goals as goal
 
 pub returns : goal.returns
@@ -7,3 +8,16 @@ returns g c =
     whole_from found.looks
     (λ clean t holds suits. (suits.0.used, found.answers clean t holds suits.1))
     c.reconcile.ensures
+
+pub returns-in_err-check_hold_end : goal.returns-in_err-check_hold_end
+returns-in_err-check_hold_end g c =
+    refuses (state g.S.Store c.args.conn.now) c.requires.settled _ c.from_residual.ensures.0
+
+pub returns-in_err-reply : goal.returns-in_err-reply
+returns-in_err-reply g c =
+    refuses (state g.S.Store c.args.conn.now) c.requires.settled _ c.from_residual-in_err-reply.ensures.0
+
+pub returns-in_err-number : goal.returns-in_err-number
+returns-in_err-number g c =
+    fails_looking c.in_err-number.ensures.looks c.requires.settled _
+    c.from_residual-in_err-number.ensures.0

@@ -1,5 +1,5 @@
 use Rattle.acq_book.specs.Lookups.{referred_at}
-use Rattle.acq_sql.proofs.BookLooks.{value_of}
+use Rattle.acq_sql.proofs.BookLooks.{looks_of, value_of}
 use Rattle.acq_sql.proofs.sql_book.SqlBookBook.by_reference.Goals as goal
 
 pub returns-clause-value : goal.returns-clause-value
@@ -12,3 +12,10 @@ returns-clause-value g c o =
     c.counted.ensures.same c.counted.ensures.succeeds
     (λ t. referred_at t c.args.merchant c.args.reference)
     c.by_reference-answer.ensures.answers o
+
+pub returns-clause-looks : goal.returns-clause-looks
+returns-clause-looks g c =
+    looks_of g.S.Store _ _
+    (record { connection = c.by_reference-answer.new.conn; failures = c.counted.new.failures })
+    c.self.view_is c.by_reference-answer.result c.counted.result c.by_reference-answer.ensures.looks
+    c.self.invariant c.settled.ensures c.counted.ensures.succeeds c.counted.ensures.rise

@@ -1,5 +1,5 @@
 use Rattle.acq_book.specs.Lookups.{overlapping_at}
-use Rattle.acq_sql.proofs.BookLooks.{value_of}
+use Rattle.acq_sql.proofs.BookLooks.{looks_of, value_of}
 use Rattle.acq_sql.proofs.sql_book.SqlBookBook.overlapping.Goals as goal
 
 pub returns-clause-value : goal.returns-clause-value
@@ -11,3 +11,10 @@ returns-clause-value g c o =
     c.settled.ensures
     c.counted.ensures.same c.counted.ensures.succeeds (λ t. overlapping_at t c.args.low c.args.high)
     (λ clean t holds past. c.overlapping-answer.ensures.answers clean t holds) o
+
+pub returns-clause-looks : goal.returns-clause-looks
+returns-clause-looks g c =
+    looks_of g.S.Store _ _
+    (record { connection = c.overlapping-answer.new.conn; failures = c.counted.new.failures })
+    c.self.view_is c.overlapping-answer.result c.counted.result c.overlapping-answer.ensures.looks
+    c.self.invariant c.settled.ensures c.counted.ensures.succeeds c.counted.ensures.rise

@@ -1,5 +1,5 @@
 use Rattle.acq_book.specs.Lookups.{range_at}
-use Rattle.acq_sql.proofs.BookLooks.{apart_of, value_of}
+use Rattle.acq_sql.proofs.BookLooks.{apart_of, looks_of, value_of}
 use Rattle.acq_sql.proofs.sql_book.SqlBookBook.range.Goals as goal
 
 pub returns-clause-value : goal.returns-clause-value
@@ -11,3 +11,10 @@ returns-clause-value g c o =
     c.settled.ensures
     c.counted.ensures.same c.counted.ensures.succeeds (λ t. range_at t c.args.prefix)
     (λ clean t holds past. c.range-answer.ensures.answers clean t holds (apart_of t past)) o
+
+pub returns-clause-looks : goal.returns-clause-looks
+returns-clause-looks g c =
+    looks_of g.S.Store _ _
+    (record { connection = c.range-answer.new.conn; failures = c.counted.new.failures })
+    c.self.view_is c.range-answer.result c.counted.result c.range-answer.ensures.looks
+    c.self.invariant c.settled.ensures c.counted.ensures.succeeds c.counted.ensures.rise

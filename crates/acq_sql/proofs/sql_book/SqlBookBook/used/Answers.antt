@@ -1,5 +1,5 @@
 use Rattle.acq_book.specs.Lookups.{used_at}
-use Rattle.acq_sql.proofs.BookLooks.{value_of}
+use Rattle.acq_sql.proofs.BookLooks.{looks_of, value_of}
 use Rattle.acq_sql.proofs.sql_book.SqlBookBook.used.Goals as goal
 
 pub returns-clause-value : goal.returns-clause-value
@@ -11,3 +11,10 @@ returns-clause-value g c o =
     c.settled.ensures
     c.counted.ensures.same c.counted.ensures.succeeds (λ t. used_at t c.args.merchant c.args.day)
     (λ clean t holds past. c.used-answer.ensures.answers clean t holds) o
+
+pub returns-clause-looks : goal.returns-clause-looks
+returns-clause-looks g c =
+    looks_of g.S.Store _ _
+    (record { connection = c.used-answer.new.conn; failures = c.counted.new.failures })
+    c.self.view_is c.used-answer.result c.counted.result c.used-answer.ensures.looks
+    c.self.invariant c.settled.ensures c.counted.ensures.succeeds c.counted.ensures.rise

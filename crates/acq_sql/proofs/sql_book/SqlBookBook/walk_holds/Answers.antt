@@ -1,5 +1,5 @@
 use Rattle.acq_sql.specs.Opened.{tables}
-use Rattle.acq_sql.proofs.BookLooks.{held_by, relay_ok, relay_err}
+use Rattle.acq_sql.proofs.BookLooks.{held_by, looks_of, relay_err, relay_ok}
 use Rattle.acq_sql.proofs.sql_book.SqlBookBook.walk_holds.Goals as goal
 
 pub returns-clause-seen : goal.returns-clause-seen
@@ -13,3 +13,10 @@ returns-clause-begun g c clean o =
     relay_err _ c.walk_holds-walked.result c.counted.result c.counted.ensures.succeeds
     (c.walk_holds-walked.ensures.begun clean (tables g.S.Store c.args.self.now)
     (held_by g.S.Store _ _ c.self.view_is o) o.past)
+
+pub returns-clause-looks : goal.returns-clause-looks
+returns-clause-looks g c =
+    looks_of g.S.Store _ _
+    (record { connection = c.walk_holds-walked.new.conn; failures = c.counted.new.failures })
+    c.self.view_is c.walk_holds-walked.result c.counted.result c.walk_holds-walked.ensures.looks
+    c.self.invariant c.settled.ensures c.counted.ensures.succeeds c.counted.ensures.rise
