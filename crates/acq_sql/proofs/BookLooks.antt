@@ -1,6 +1,7 @@
 -- A look-up over a connection is one of its book.
-use Rattle.std.proofs.Common.{ℕ, inl, inr, true≢false, Result, Ok, Err, IfOk, OnOk, OnErr, is_ok, ◌≡◌, ◌≤◌}
-use Rattle.std.proofs.Common.{Bool, true, false, IsTrue, ⊎_elim, sym, ap, subst, ◌∙◌, arith}
+use Rattle.std.proofs.Common.{ℕ, inl, inr, true≢false, Result, Ok, Err, IfOk, OnOk, OnErr, is_ok}
+use Rattle.std.proofs.Common.{◌≡◌, ◌≤◌}
+use Rattle.std.proofs.Common.{IsErr, Bool, true, false, IsTrue, ⊎_elim, sym, ap, subst, ◌∙◌, arith}
 use Rattle.sqlite_disk.specs.Disk.{MoreFaults}
 use Rattle.sqlite_trees.specs.declared.store.Store.{Ghosts}
 use Rattle.sqlite.specs.Effect.{Database}
@@ -179,8 +180,8 @@ value_of g old seen new is answer result looks out settled same ok look says o =
     same ok o
 
 -- what a look-up over the connection leaves, one of the book as it is seen leaves
-pub looks_of : {S T : Type 0} (g : Ghosts S) (old seen new : Kept S) → old ≡ seen
-    → (answer : Result T Error) (result : Result T BookFault)
+pub looks_of : {S T U : Type 0} (g : Ghosts S) (old seen new : Kept S) → old ≡ seen
+    → (answer : Result T Error) (result : Result U BookFault)
     → LooksOnly (state g old.connection) (state g new.connection) (is_ok answer)
     → old.connection.in_transaction ≡ false → IsSettled g seen → is_ok result ≡ is_ok answer
     → old.failures ≤ new.failures
@@ -192,6 +193,13 @@ looks_of g old seen new is answer result looks out settled same rise =
     (looks_at g old new (is_ok result)
     (subst (LooksOnly (state g old.connection) (state g new.connection)) (sym same) looks) out
     (subst (IsSettled g) (sym is) settled) rise)
+
+-- where the answer of a look-up was passed on as it failed
+pub failed_too : {T U V E F G : Type 0} {e : F} (answer : Result T E) (told : Result U F)
+    (result : Result V G) → told ≡ Err e → is_ok told ≡ is_ok answer → IsErr result
+    → is_ok result ≡ is_ok answer
+failed_too answer told (Ok x) was same is = absurd (cc)
+failed_too answer told (Err f) was same is = sym (ap is_ok was) ∙ same
 
 -- what the database of an open book holds
 pub held_by : {S : Type 0} (g : Ghosts S) (old seen : Kept S) → old ≡ seen → is_open g seen

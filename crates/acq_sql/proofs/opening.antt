@@ -4,3 +4,5 @@ pub mod OpenedBooks
 pub mod AllPlain
 pub mod Versions
 pub mod PlainBook
+pub mod GoingOn
+pub mod Failures

@@ -18,7 +18,8 @@ returns-in_err-check_hold_end g c =
 
 pub returns-in_err-text : goal.returns-in_err-text
 returns-in_err-text g c =
-    refuses (state g.S.Store c.args.conn.now) c.requires.settled _ c.from_residual-in_err-text.ensures.0
+    refuses (state g.S.Store c.args.conn.now) c.requires.settled _
+    c.from_residual-in_err-text.ensures.0
 
 pub returns-in_err-number-in-Some : goal.returns-in_err-number-in-Some
 returns-in_err-number-in-Some g c =

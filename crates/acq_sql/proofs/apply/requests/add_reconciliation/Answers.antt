@@ -15,7 +15,8 @@ returns-in_err-check_hold_end g c =
 
 pub returns-in_err-reply : goal.returns-in_err-reply
 returns-in_err-reply g c =
-    refuses (state g.S.Store c.args.conn.now) c.requires.settled _ c.from_residual-in_err-reply.ensures.0
+    refuses (state g.S.Store c.args.conn.now) c.requires.settled _
+    c.from_residual-in_err-reply.ensures.0
 
 pub returns-in_err-number : goal.returns-in_err-number
 returns-in_err-number g c =

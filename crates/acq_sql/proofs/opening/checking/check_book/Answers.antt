@@ -1,11 +1,36 @@
+use Rattle.std.proofs.Common.{refl, rules}
+use Rattle.std.proofs.lemmas.Result.{err_from_is_err_and}
 use Rattle.sqlite.specs.Held.{state}
-use Rattle.std.proofs.Common.{rules}
 use Rattle.acq_sql_reads.proofs.Leaves.{looks_nowhere}
+use Rattle.acq_sql.proofs.opening.Failures.{error_fails, failure_judges}
 use Rattle.acq_sql.proofs.opening.checking.check_book.Goals as goal
 
-pub returns-in_err-is_book_schema-clause-looks : goal.returns-in_err-is_book_schema-clause-looks
-returns-in_err-is_book_schema-clause-looks g c =
-    let looks = looks_nowhere (state g.S.Store c.args.conn.now) in search rules
+pub returns-in_err-is_book_schema : goal.returns-in_err-is_book_schema
+returns-in_err-is_book_schema g c =
+    let p = err_from_is_err_and c.from_residual.result c.from_residual.ensures.1 in
+    let fails = error_fails c.in_err-is_book_schema.field-0.0 in
+    record {
+      judged = λ clean. rw (p.1, p.2) (failure_judges (Unit {0}) c.args.wanted
+          (state g.S.Store c.args.conn.now).now _ fails);
+      accepts = λ clean t at. rw (p.1, p.2) fails;
+      looks = rw p.1 (looks_nowhere (state g.S.Store c.args.conn.now));
+      unchanged = λ other. refl;
+      settled = λ out. out;
+    }
+
+pub returns-in_err-version : goal.returns-in_err-version
+returns-in_err-version g c =
+    let result = c.from_residual-in_err-version.result in
+    let p = err_from_is_err_and result c.from_residual-in_err-version.ensures.1 in
+    let fails = error_fails c.in_err-version.field-0.0 in
+    record {
+      judged = λ clean. rw (p.1, p.2) (failure_judges (Unit {0}) c.args.wanted
+          (state g.S.Store c.args.conn.now).now _ fails);
+      accepts = λ clean t at. rw (p.1, p.2) fails;
+      looks = rw p.1 c.in_err-version.ensures.looks;
+      unchanged = search rules;
+      settled = c.version.ensures.settled;
+    }
 
 pub returns-then-not-branch-clause-looks : goal.returns-then-not-branch-clause-looks
 returns-then-not-branch-clause-looks g c = looks_nowhere (state g.S.Store c.args.conn.now)

@@ -4,6 +4,8 @@ use Rattle.acq_sql_rows.specs.Schema as schema
 use Rattle.acq_sql_changes.proofs.Commits.{was_clean}
 use Rattle.acq_sql.proofs.opening.TablesMade.{makes_book, makes_merchants, makes_terminals}
 use Rattle.acq_sql.proofs.opening.TablesMade.{makes_ranges}
+use Rattle.acq_sql.proofs.opening.GoingOn.{GoesOn, goes_then, kept_then, not_ok, stop_then}
+use Rattle.std.proofs.Common.{rules}
 use Rattle.acq_sql.proofs.opening.tables.create_enrolments.Goals as goal
 
 pub returns-clause-extends : goal.returns-clause-extends
@@ -28,3 +30,175 @@ returns-clause-extends g c clean4 inside blank =
     makes_terminals made2 in
     c.in_ok-create-4.ensures.adds clean4 mode3 schema.up_to_terminals schema.ranges makes_ranges
     made3
+
+pub returns-in_err-create : goal.returns-in_err-create
+returns-in_err-create g c =
+    record {
+      same_reference = search rules;
+      extends = λ clean within blank. not_ok _ _ c.from_residual.ensures.0;
+      inside = λ clean within. not_ok _ _ c.from_residual.ensures.0;
+      kept = c.create.ensures.kept;
+      survives = c.create.ensures.survives;
+    }
+
+pub returns-in_err-create-2 : goal.returns-in_err-create-2
+returns-in_err-create-2 g c =
+    let step1 : GoesOn (state g.S.Store c.args.tx.now.conn.now)
+    (state g.S.Store c.create.new.tx.conn.now) = record {
+      stop = c.create.ensures.survives;
+      kept = c.create.ensures.kept;
+      inside = c.in_ok-create.ensures.inside;
+    } in
+    record {
+      same_reference = search rules;
+      extends = λ clean within blank. not_ok _ _ c.from_residual-in_err-create-2.ensures.0;
+      inside = λ clean within. not_ok _ _ c.from_residual-in_err-create-2.ensures.0;
+      kept = kept_then step1 c.create-2.ensures.survives c.create-2.ensures.kept;
+      survives = stop_then step1 c.create-2.ensures.survives;
+    }
+
+pub returns-in_err-create-3 : goal.returns-in_err-create-3
+returns-in_err-create-3 g c =
+    let step1 : GoesOn (state g.S.Store c.args.tx.now.conn.now)
+    (state g.S.Store c.create.new.tx.conn.now) = record {
+      stop = c.create.ensures.survives;
+      kept = c.create.ensures.kept;
+      inside = c.in_ok-create.ensures.inside;
+    } in
+    let step2 : GoesOn (state g.S.Store c.create.new.tx.conn.now)
+    (state g.S.Store c.create-2.new.tx.conn.now) = record {
+      stop = c.create-2.ensures.survives;
+      kept = c.create-2.ensures.kept;
+      inside = c.in_ok-create-2.ensures.inside;
+    } in
+    let after2 = goes_then step1 step2 in
+    record {
+      same_reference = search rules;
+      extends = λ clean within blank. not_ok _ _ c.from_residual-in_err-create-3.ensures.0;
+      inside = λ clean within. not_ok _ _ c.from_residual-in_err-create-3.ensures.0;
+      kept = kept_then after2 c.create-3.ensures.survives c.create-3.ensures.kept;
+      survives = stop_then after2 c.create-3.ensures.survives;
+    }
+
+pub returns-in_err-create-4 : goal.returns-in_err-create-4
+returns-in_err-create-4 g c =
+    let step1 : GoesOn (state g.S.Store c.args.tx.now.conn.now)
+    (state g.S.Store c.create.new.tx.conn.now) = record {
+      stop = c.create.ensures.survives;
+      kept = c.create.ensures.kept;
+      inside = c.in_ok-create.ensures.inside;
+    } in
+    let step2 : GoesOn (state g.S.Store c.create.new.tx.conn.now)
+    (state g.S.Store c.create-2.new.tx.conn.now) = record {
+      stop = c.create-2.ensures.survives;
+      kept = c.create-2.ensures.kept;
+      inside = c.in_ok-create-2.ensures.inside;
+    } in
+    let after2 = goes_then step1 step2 in
+    let step3 : GoesOn (state g.S.Store c.create-2.new.tx.conn.now)
+    (state g.S.Store c.create-3.new.tx.conn.now) = record {
+      stop = c.create-3.ensures.survives;
+      kept = c.create-3.ensures.kept;
+      inside = c.in_ok-create-3.ensures.inside;
+    } in
+    let after3 = goes_then after2 step3 in
+    record {
+      same_reference = search rules;
+      extends = λ clean within blank. not_ok _ _ c.from_residual-in_err-create-4.ensures.0;
+      inside = λ clean within. not_ok _ _ c.from_residual-in_err-create-4.ensures.0;
+      kept = kept_then after3 c.create-4.ensures.survives c.create-4.ensures.kept;
+      survives = stop_then after3 c.create-4.ensures.survives;
+    }
+
+pub returns-clause-inside : goal.returns-clause-inside
+returns-clause-inside g c =
+    let step1 : GoesOn (state g.S.Store c.args.tx.now.conn.now)
+    (state g.S.Store c.create.new.tx.conn.now) = record {
+      stop = c.create.ensures.survives;
+      kept = c.create.ensures.kept;
+      inside = c.in_ok-create.ensures.inside;
+    } in
+    let step2 : GoesOn (state g.S.Store c.create.new.tx.conn.now)
+    (state g.S.Store c.create-2.new.tx.conn.now) = record {
+      stop = c.create-2.ensures.survives;
+      kept = c.create-2.ensures.kept;
+      inside = c.in_ok-create-2.ensures.inside;
+    } in
+    let after2 = goes_then step1 step2 in
+    let step3 : GoesOn (state g.S.Store c.create-2.new.tx.conn.now)
+    (state g.S.Store c.create-3.new.tx.conn.now) = record {
+      stop = c.create-3.ensures.survives;
+      kept = c.create-3.ensures.kept;
+      inside = c.in_ok-create-3.ensures.inside;
+    } in
+    let after3 = goes_then after2 step3 in
+    let step4 : GoesOn (state g.S.Store c.create-3.new.tx.conn.now)
+    (state g.S.Store c.create-4.new.tx.conn.now) = record {
+      stop = c.create-4.ensures.survives;
+      kept = c.create-4.ensures.kept;
+      inside = c.in_ok-create-4.ensures.inside;
+    } in
+    let after4 = goes_then after3 step4 in
+    after4.inside
+
+pub returns-clause-kept : goal.returns-clause-kept
+returns-clause-kept g c =
+    let step1 : GoesOn (state g.S.Store c.args.tx.now.conn.now)
+    (state g.S.Store c.create.new.tx.conn.now) = record {
+      stop = c.create.ensures.survives;
+      kept = c.create.ensures.kept;
+      inside = c.in_ok-create.ensures.inside;
+    } in
+    let step2 : GoesOn (state g.S.Store c.create.new.tx.conn.now)
+    (state g.S.Store c.create-2.new.tx.conn.now) = record {
+      stop = c.create-2.ensures.survives;
+      kept = c.create-2.ensures.kept;
+      inside = c.in_ok-create-2.ensures.inside;
+    } in
+    let after2 = goes_then step1 step2 in
+    let step3 : GoesOn (state g.S.Store c.create-2.new.tx.conn.now)
+    (state g.S.Store c.create-3.new.tx.conn.now) = record {
+      stop = c.create-3.ensures.survives;
+      kept = c.create-3.ensures.kept;
+      inside = c.in_ok-create-3.ensures.inside;
+    } in
+    let after3 = goes_then after2 step3 in
+    let step4 : GoesOn (state g.S.Store c.create-3.new.tx.conn.now)
+    (state g.S.Store c.create-4.new.tx.conn.now) = record {
+      stop = c.create-4.ensures.survives;
+      kept = c.create-4.ensures.kept;
+      inside = c.in_ok-create-4.ensures.inside;
+    } in
+    let after4 = goes_then after3 step4 in
+    after4.kept
+
+pub returns-clause-survives : goal.returns-clause-survives
+returns-clause-survives g c =
+    let step1 : GoesOn (state g.S.Store c.args.tx.now.conn.now)
+    (state g.S.Store c.create.new.tx.conn.now) = record {
+      stop = c.create.ensures.survives;
+      kept = c.create.ensures.kept;
+      inside = c.in_ok-create.ensures.inside;
+    } in
+    let step2 : GoesOn (state g.S.Store c.create.new.tx.conn.now)
+    (state g.S.Store c.create-2.new.tx.conn.now) = record {
+      stop = c.create-2.ensures.survives;
+      kept = c.create-2.ensures.kept;
+      inside = c.in_ok-create-2.ensures.inside;
+    } in
+    let after2 = goes_then step1 step2 in
+    let step3 : GoesOn (state g.S.Store c.create-2.new.tx.conn.now)
+    (state g.S.Store c.create-3.new.tx.conn.now) = record {
+      stop = c.create-3.ensures.survives;
+      kept = c.create-3.ensures.kept;
+      inside = c.in_ok-create-3.ensures.inside;
+    } in
+    let after3 = goes_then after2 step3 in
+    let step4 : GoesOn (state g.S.Store c.create-3.new.tx.conn.now)
+    (state g.S.Store c.create-4.new.tx.conn.now) = record {
+      stop = c.create-4.ensures.survives;
+      kept = c.create-4.ensures.kept;
+      inside = c.in_ok-create-4.ensures.inside;
+    } in
+    let after4 = goes_then after3 step4 in
+    after4.stop

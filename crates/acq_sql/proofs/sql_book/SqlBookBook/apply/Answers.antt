@@ -23,7 +23,8 @@ returns-clause-makes g c =
     c.self.view_is
     (subst (λ b. MakesBy (tables g.S.Store) (is_honest g.S.Store) (is_open g.S.Store)
     (may_leave g.S.Store) (leaves_books g.S.Store)
-    (λ (book : Kept _). book.failures) (store_faults g.S.Store) old now b (after (tables g.S.Store old) change))
+    (λ (book : Kept _). book.failures) (store_faults g.S.Store) old now b (after (tables g.S.Store
+    old) change))
     (sym c.counted.ensures.succeeds)
     (makes_at g.S.Store g.met.S.Store.settled old now change c.apply-made.result
     c.apply-made.ensures

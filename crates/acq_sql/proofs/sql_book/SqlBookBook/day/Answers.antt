@@ -1,5 +1,5 @@
 use Rattle.std.proofs.Common.{ap}
-use Rattle.acq_sql.proofs.BookLooks.{value_of}
+use Rattle.acq_sql.proofs.BookLooks.{failed_too, looks_of, value_of}
 use Rattle.acq_sql.proofs.sql_book.SqlBookBook.day.Goals as goal
 
 pub returns-clause-value : goal.returns-clause-value
@@ -13,3 +13,23 @@ returns-clause-value g c o =
     c.self.invariant c.settled.ensures c.counted.ensures.same c.counted.ensures.succeeds
     (λ t. (t.limit, t.day))
     (λ clean t holds past. c.limit_and_day-answer.ensures.answers clean t holds) o))
+
+pub returns-clause-looks : goal.returns-clause-looks
+returns-clause-looks g c =
+    rw c.in_ok-day.was at
+    (looks_of g.S.Store _ _
+    (record { connection = c.limit_and_day-answer.new.conn; failures = c.counted.new.failures })
+    c.self.view_is c.limit_and_day-answer.result c.counted.result
+    c.limit_and_day-answer.ensures.looks
+    c.self.invariant c.settled.ensures c.counted.ensures.succeeds c.counted.ensures.rise)
+
+pub returns-in_err-day-clause-looks : goal.returns-in_err-day-clause-looks
+returns-in_err-day-clause-looks g c =
+    looks_of g.S.Store _ _
+    (record { connection = c.limit_and_day-answer.new.conn; failures = c.counted.new.failures })
+    c.self.view_is c.limit_and_day-answer.result c.from_residual.result
+    c.limit_and_day-answer.ensures.looks
+    c.self.invariant c.settled.ensures
+    (failed_too c.limit_and_day-answer.result c.counted.result c.from_residual.result
+    c.in_err-day.was
+    c.counted.ensures.succeeds c.from_residual.ensures.0) c.counted.ensures.rise

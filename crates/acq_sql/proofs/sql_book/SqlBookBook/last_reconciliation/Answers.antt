@@ -1,7 +1,7 @@
 use Rattle.std.proofs.Common.{◌∙◌, ap}
 use Rattle.acq_sql_reads.specs.Looked.{last_numbered_at}
 use Rattle.std.specs.Prelude.{option_map}
-use Rattle.acq_sql.proofs.BookLooks.{value_of}
+use Rattle.acq_sql.proofs.BookLooks.{failed_too, looks_of, value_of}
 use Rattle.acq_sql.proofs.sql_book.SqlBookBook.last_reconciliation.Goals as goal
 
 pub returns-clause-value : goal.returns-clause-value
@@ -18,3 +18,29 @@ returns-clause-value g c o =
     c.self.invariant c.settled.ensures c.counted.ensures.same c.counted.ensures.succeeds
     (λ t. last_numbered_at t c.args.merchant c.args.day)
     c.last_reconciliation-answer.ensures.answers o))
+
+pub returns-clause-looks : goal.returns-clause-looks
+returns-clause-looks g c =
+    rw c.in_ok-last.was at
+    (looks_of g.S.Store _ _
+    (record {
+      connection = c.last_reconciliation-answer.new.conn;
+      failures = c.counted.new.failures;
+    })
+    c.self.view_is c.last_reconciliation-answer.result c.counted.result
+    c.last_reconciliation-answer.ensures.looks
+    c.self.invariant c.settled.ensures c.counted.ensures.succeeds c.counted.ensures.rise)
+
+pub returns-in_err-last-clause-looks : goal.returns-in_err-last-clause-looks
+returns-in_err-last-clause-looks g c =
+    looks_of g.S.Store _ _
+    (record {
+      connection = c.last_reconciliation-answer.new.conn;
+      failures = c.counted.new.failures;
+    })
+    c.self.view_is c.last_reconciliation-answer.result c.from_residual.result
+    c.last_reconciliation-answer.ensures.looks
+    c.self.invariant c.settled.ensures
+    (failed_too c.last_reconciliation-answer.result c.counted.result c.from_residual.result
+    c.in_err-last.was
+    c.counted.ensures.succeeds c.from_residual.ensures.0) c.counted.ensures.rise

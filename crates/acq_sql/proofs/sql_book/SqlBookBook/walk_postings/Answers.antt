@@ -18,5 +18,6 @@ pub returns-clause-looks : goal.returns-clause-looks
 returns-clause-looks g c =
     looks_of g.S.Store _ _
     (record { connection = c.walk_postings-walked.new.conn; failures = c.counted.new.failures })
-    c.self.view_is c.walk_postings-walked.result c.counted.result c.walk_postings-walked.ensures.looks
+    c.self.view_is c.walk_postings-walked.result c.counted.result
+    c.walk_postings-walked.ensures.looks
     c.self.invariant c.settled.ensures c.counted.ensures.succeeds c.counted.ensures.rise
