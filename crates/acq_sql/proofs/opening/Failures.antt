@@ -1,5 +1,5 @@
 -- What an exit that passes on an error says.
-use Rattle.std.proofs.Common.{◌≡◌, inl, inr, refl, ℕ, arith, Ok, Err, Result, OnErr}
+use Rattle.std.proofs.Common.{inl, inr, ℕ, arith, Ok, Err, Result, OnErr}
 use Rattle.sqlite.specs.declared.error.Error.{Error}
 use Rattle.sqlite.specs.Effect.{Database}
 use Rattle.acq_sql.specs.Checked.{IsFailure, Judges}

@@ -43,8 +43,8 @@ pub fn a_stop_leaves_a_book<D: Disk + Drop>(book: SqlBook<FileStore<D>>) -> File
     given_up(book)
 }
 
-/// The store of a book that is given up. It is said of any store, as what is said of files alone
-/// costs ten times the proof at each call.
+/// The store of a book that is given up. It is said of any store, as each call over files alone
+/// is dear to prove.
 fn given_up<S: Alter + Drop>(book: SqlBook<S>) -> S
     ensures numbered { IsClean (S.Store.view result) → IsTrue (S.Store.view result).is_numbered }
     ensures sound { IsClean (S.Store.view result) → AreDatabases (S.Store.recovers result) }
