@@ -5,7 +5,7 @@ use std::error::Error;
 use std::fmt;
 
 /// Why no message could be taken out of a stream.
-#[derive(Clone, Copy, Debug, PartialEq, Eq, Drop)]
+#[derive(Clone, Copy, Debug, Drop)]
 pub enum DeframeFault {
     /// A growth was refused.
     Memory,
@@ -20,10 +20,10 @@ impl fmt::Display for DeframeFault {
     ghost output = { λ f. Some (text_of_deframe_fault f) };
 
     fn fmt<W: fmt::Write>(&self, f: &mut fmt::Formatter<W>) -> fmt::Result {
-        match self {
-            DeframeFault::Memory => write!(f, "out of memory"),
-            DeframeFault::BadLength => write!(f, "a frame of a bad length"),
-        }
+        f.write_str(match self {
+            DeframeFault::Memory => "out of memory",
+            DeframeFault::BadLength => "a frame of a bad length",
+        })
     }
 }
 

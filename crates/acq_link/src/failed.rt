@@ -15,7 +15,7 @@ impl fmt::Display for Failed {
     ghost output = { λ _. Some text_of_failed };
 
     fn fmt<W: fmt::Write>(&self, f: &mut fmt::Formatter<W>) -> fmt::Result {
-        write!(f, "a read or a write failed")
+        f.write_str("a read or a write failed")
     }
 }
 

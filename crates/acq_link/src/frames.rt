@@ -1,7 +1,7 @@
 //! Frames on a link (own profile): a message of 1 to 4,096 bytes behind its length in two bytes,
 //! high byte first.
 
-ghost use Rattle.std.specs.Prelude.{◌≡◌, ◌+◌, ◌++◌, IfOk, true};
+ghost use Rattle.std.specs.Prelude.{◌≡◌, ◌+◌, ◌++◌, IfOk, OnOk, true};
 ghost use Rattle.acq_link.specs.Frames.{frame, fits_frame};
 ghost use Rattle.acq_link.specs.FramesAt.{WritesFrame, failed_writes};
 ghost use Rattle.acq_link.specs.Fronts.{IsFront};
@@ -59,10 +59,17 @@ fn frame_of(alloc: Global, message: &[u8]) -> Result<Vec<u8>, AllocError>
     requires { fits_frame message.now ≡ true }
     ensures { IfOk result (λ bytes. bytes.items ≡ frame message.now) }
 {
-    let mut length = [0; HEADER];
-    BigEndian::write_u16(&mut length, message.len() as u16);
     let mut bytes = Vec::with_capacity(alloc, HEADER + message.len())?;
-    bytes.extend_from_slice(&length)?;
-    bytes.extend_from_slice(message)?;
+    add_frame(&mut bytes, message)?;
     Ok(bytes)
+}
+
+/// Puts the frame of a message behind the others.
+pub(crate) fn add_frame(frames: &mut Vec<u8>, message: &[u8]) -> Result<(), AllocError>
+    requires { fits_frame message.now ≡ true }
+    ensures { OnOk result (frames.new.items ≡ frames.old.items ++ frame message.now) }
+{
+    let length = message.len() as u16;
+    frames.extend_from_slice(&length.to_be_bytes())?;
+    frames.extend_from_slice(message)
 }

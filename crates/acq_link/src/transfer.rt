@@ -52,11 +52,16 @@ pub fn read_to_end<S: Source>(alloc: Global, source: &mut S) -> Result<Vec<u8>, 
     let mut buffer = [0; PIECE];
     let reads = source.reads_left();
     for _ in 0..reads {
-        let n = source.read(&mut buffer)?;
+        let n = match source.read(&mut buffer) {
+            Ok(n) => n,
+            Err(Failed) => return Err(InputFault::Read),
+        };
         if n == 0 {
             return Ok(all);
         }
-        all.extend_from_slice(&buffer[..n])?;
+        if all.extend_from_slice(&buffer[..n]).is_err() {
+            return Err(InputFault::Memory);
+        }
     }
     // No read is left, so that this one fails.
     let _ = source.read(&mut buffer);

@@ -8,7 +8,7 @@ use std::error::Error;
 use std::fmt;
 
 /// Why a frame was not written whole.
-#[derive(Clone, Copy, Debug, PartialEq, Eq, Drop)]
+#[derive(Clone, Copy, Debug, Drop)]
 pub enum WriteFault {
     /// A growth was refused, and nothing was written.
     Memory,
@@ -24,7 +24,7 @@ impl fmt::Display for WriteFault {
 
     fn fmt<W: fmt::Write>(&self, f: &mut fmt::Formatter<W>) -> fmt::Result {
         match self {
-            WriteFault::Memory => write!(f, "out of memory"),
+            WriteFault::Memory => f.write_str("out of memory"),
             WriteFault::Write(bytes) => write!(f, "a write failed after {bytes} bytes"),
         }
     }

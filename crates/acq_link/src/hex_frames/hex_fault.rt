@@ -7,7 +7,7 @@ use std::error::Error;
 use std::fmt;
 
 /// Why a text of hexadecimal lines gave no frames.
-#[derive(Clone, Copy, Debug, PartialEq, Eq, Drop)]
+#[derive(Clone, Copy, Debug, Drop)]
 pub enum HexFault {
     /// A growth was refused.
     Memory,
@@ -24,7 +24,7 @@ impl fmt::Display for HexFault {
 
     fn fmt<W: fmt::Write>(&self, f: &mut fmt::Formatter<W>) -> fmt::Result {
         match self {
-            HexFault::Memory => write!(f, "out of memory"),
+            HexFault::Memory => f.write_str("out of memory"),
             HexFault::BadLine(number) => write!(f, "line {number} holds no message"),
         }
     }

@@ -4,13 +4,14 @@ ghost use Rattle.std.specs.Prelude.{◌≡◌, ◌⊎◌, ◌<◌, ◌++◌, ◌
 ghost use Rattle.std.specs.Prelude.{Ok, None, Some, IfOk, IfErr, OnOk, MatchOption};
 ghost use Rattle.std.specs.Prelude.{option_to_list, true, false};
 ghost use Rattle.std.specs.List.{position};
-ghost use Rattle.acq_link.specs.Frames.{Frames, fits_frame, frame, framed};
+ghost use Rattle.acq_link.specs.Frames.{Frames, framed};
 ghost use Rattle.acq_link.specs.HexFaults.{IsFaultOf};
 ghost use Rattle.acq_link.specs.HexLines as spec;
 ghost use Rattle.acq_link.specs.HexLines.{is_bad_line, lines_of, message_of_digits};
 ghost use Rattle.acq_link.specs.HexLines.{message_of_line, messages_of_text};
 ghost use Rattle.acq_link.specs.declared.hex_frames.hex_fault.HexFault.TheVariants.{Memory, BadLine};
 
+use crate::frames::add_frame;
 use crate::hex_frames::hex_fault::HexFault;
 use hex::FromHexError;
 use std::alloc::{AllocError, Global};
@@ -98,14 +99,4 @@ fn message_of(alloc: Global, digits: &[u8]) -> Result<Option<Vec<u8>>, AllocErro
         return Ok(None);
     }
     Ok(Some(message))
-}
-
-/// Puts the frame of a message behind the others.
-fn add_frame(frames: &mut Vec<u8>, message: &[u8]) -> Result<(), AllocError>
-    requires { fits_frame message.now ≡ true }
-    ensures { OnOk result (frames.new.items ≡ frames.old.items ++ frame message.now) }
-{
-    let length = message.len() as u16;
-    frames.extend_from_slice(&length.to_be_bytes())?;
-    frames.extend_from_slice(message)
 }
