@@ -46,6 +46,17 @@ find-filter p q (x ∷ xs) =
       | false ↦ find-filter p q xs
     ]
 
+-- a filter of a filter
+pub filter-filter : {X : Type 0} (p q : X → Bool) (xs : List X) →
+    filter q (filter p xs) ≡ filter (λ x. p x && q x) xs
+filter-filter p q [] = refl
+filter-filter p q (x ∷ xs) =
+    elim (p x) as (λ b. filter q (cond b (x ∷ filter p xs) (filter p xs))
+    ≡ cond (b && q x) (x ∷ filter (λ y. p y && q y) xs) (filter (λ y. p y && q y) xs)) [
+      | true ↦ ap (λ l. cond (q x) (x ∷ l) l) (filter-filter p q xs)
+      | false ↦ filter-filter p q xs
+    ]
+
 -- one more at the end
 pub place-push : {X : Type 0} (p : X → Bool) (xs : List X) (y : X) →
     place p (xs ++ y ∷ []) ≡ option_or (place p xs) (cond (p y) (Some (length xs)) None)

@@ -2,7 +2,9 @@
 
 ghost use Rattle.std.specs.Prelude.{◌≡◌, IfOk};
 ghost use Rattle.std.specs.Option.{option_copied};
+ghost use Rattle.acq_book.specs.Promise.{HasRisen, IfStore};
 
+use crate::book_fault::BookFault;
 use acq_core::{Posting, Request};
 use card_no::Range;
 use std::alloc::{AllocError, Global};
@@ -11,8 +13,9 @@ use std::alloc::{AllocError, Global};
 pub(crate) fn found_copied(
     alloc: Global,
     row: Option<&Request>,
-) -> Result<Option<Request>, AllocError>
-    ensures { IfOk result (λ copy. copy ≡ option_copied row.entry) }
+) -> Result<Option<Request>, BookFault>
+    ensures copy { IfOk result (λ copy. copy ≡ option_copied row.entry) }
+    ensures store { IfStore result (HasRisen 0 0) }
 {
     match row {
         Some(row) => Ok(Some(row.copied(alloc)?)),
@@ -21,11 +24,9 @@ pub(crate) fn found_copied(
 }
 
 /// A copy of a range, where one was found.
-pub(crate) fn range_copied(
-    alloc: Global,
-    range: Option<&Range>,
-) -> Result<Option<Range>, AllocError>
-    ensures { IfOk result (λ copy. copy ≡ option_copied range.entry) }
+pub(crate) fn range_copied(alloc: Global, range: Option<&Range>) -> Result<Option<Range>, BookFault>
+    ensures copy { IfOk result (λ copy. copy ≡ option_copied range.entry) }
+    ensures store { IfStore result (HasRisen 0 0) }
 {
     match range {
         Some(range) => Ok(Some(range.copied(alloc)?)),

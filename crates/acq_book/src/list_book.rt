@@ -7,7 +7,7 @@ ghost use Rattle.acq_book.specs.Fits.{Fits};
 
 use crate::book::Book;
 use crate::book_fault::BookFault;
-use crate::copies::{found_copied, posting_copied, range_copied};
+use crate::copies::{found_copied, range_copied};
 use crate::lists::{Merchants, Postings, Reconciliations, Requests, Terminals};
 use crate::visit::Visit;
 use crate::walks::{in_order_of_names, in_order_of_numbers, in_order_of_references, show};
@@ -121,8 +121,7 @@ impl ListBook {
         ensures ok { OnOk result (self.new ≡ after self.old (change.AddRequest row.now)) }
         ensures err { OnErr result (self.new ≡ self.old) }
     {
-        let row = row.copied(self.alloc)?;
-        self.requests.reserve()?;
+        let row = self.requests.reserve_for(self.alloc, row)?;
         self.requests.push(row);
         Ok(())
     }
@@ -141,9 +140,8 @@ impl ListBook {
             (change.Answered key.now status reply.now hold_end posting.now)) }
         ensures err { OnErr result (self.new ≡ self.old) }
     {
+        let posting = self.postings.reserve_for(self.alloc, posting)?;
         let reply = reply.copied(self.alloc)?;
-        let posting = posting_copied(self.alloc, posting)?;
-        self.postings.reserve()?;
         self.requests.answer(key, status, reply, hold_end);
         self.postings.push_if(posting);
         Ok(())
@@ -162,10 +160,8 @@ impl ListBook {
             (change.Follow request.now original.now remains posting.now)) }
         ensures err { OnErr result (self.new ≡ self.old) }
     {
-        let request = request.copied(self.alloc)?;
-        let posting = posting_copied(self.alloc, posting)?;
-        self.requests.reserve()?;
-        self.postings.reserve()?;
+        let posting = self.postings.reserve_for(self.alloc, posting)?;
+        let request = self.requests.reserve_for(self.alloc, request)?;
         self.requests.follow(original, remains);
         self.requests.push(request);
         self.postings.push_if(posting);
@@ -182,12 +178,49 @@ impl ListBook {
             (change.Reconciled request.now reconciliation.now)) }
         ensures err { OnErr result (self.new ≡ self.old) }
     {
-        let request = request.copied(self.alloc)?;
-        self.requests.reserve()?;
         self.reconciliations.reserve()?;
+        let request = self.requests.reserve_for(self.alloc, request)?;
         self.requests.push(request);
         self.reconciliations.push(reconciliation);
         Ok(())
+    }
+
+    fn make(&mut self, change: &Change) -> Result<(), AllocError>
+        requires { Fits self.old change.now }
+        ensures ok { OnOk result (self.new ≡ after self.old change.now) }
+        ensures err { OnErr result (self.new ≡ self.old) }
+    {
+        match change {
+            Change::AddMerchant(merchant) => self.add_merchant(*merchant),
+            Change::AddTerminal(terminal) => self.add_terminal(*terminal),
+            Change::AddRange(range) => self.add_range(range),
+            Change::DropRange { low, high } => {
+                self.drop_range(*low, *high);
+                Ok(())
+            }
+            Change::SetDay(day) => {
+                self.day = *day;
+                Ok(())
+            }
+            Change::AddRequest(row) => self.add_request(row),
+            Change::Answered {
+                key,
+                status,
+                reply,
+                hold_end,
+                posting,
+            } => self.answered(key, *status, reply, *hold_end, posting),
+            Change::Follow {
+                request,
+                original,
+                remains,
+                posting,
+            } => self.follow(request, original, *remains, posting),
+            Change::Reconciled {
+                request,
+                reconciliation,
+            } => self.reconciled(request, reconciliation),
+        }
     }
 }
 
@@ -229,15 +262,15 @@ impl Book for ListBook {
     }
 
     fn range(&mut self, prefix: Prefix) -> Result<Option<Range>, BookFault> {
-        Ok(range_copied(self.alloc, self.ranges.find(prefix))?)
+        range_copied(self.alloc, self.ranges.find(prefix))
     }
 
     fn overlapping(&mut self, low: u32, high: u32) -> Result<Option<Range>, BookFault> {
-        Ok(range_copied(self.alloc, self.ranges.overlapping(low, high))?)
+        range_copied(self.alloc, self.ranges.overlapping(low, high))
     }
 
     fn request(&mut self, key: RequestKey) -> Result<Option<Request>, BookFault> {
-        Ok(found_copied(self.alloc, self.requests.get(&key))?)
+        found_copied(self.alloc, self.requests.get(&key))
     }
 
     fn by_reference(
@@ -246,7 +279,7 @@ impl Book for ListBook {
         reference: Reference,
     ) -> Result<Option<Request>, BookFault> {
         let found = self.requests.by_reference(merchant, reference);
-        Ok(found_copied(self.alloc, found)?)
+        found_copied(self.alloc, found)
     }
 
     fn admitted(&mut self, merchant: MerchantId) -> Result<AdmittedCount, BookFault> {
@@ -278,15 +311,13 @@ impl Book for ListBook {
         day: Day,
         visitor: &mut V,
     ) -> Result<(), BookFault> {
-        let rows = self.postings.of_day(self.alloc, day)?;
-        show(&in_order_of_numbers(rows)?, visitor);
-        Ok(())
+        let rows = self.postings.of_day(self.alloc, day);
+        show(in_order_of_numbers(rows), visitor)
     }
 
     fn walk_merchants<V: Visit<Merchant>>(&mut self, visitor: &mut V) -> Result<(), BookFault> {
-        let rows = self.merchants.all(self.alloc)?;
-        show(&in_order_of_names(rows)?, visitor);
-        Ok(())
+        let rows = self.merchants.all(self.alloc);
+        show(in_order_of_names(rows), visitor)
     }
 
     fn walk_holds<V: Visit<Request>>(
@@ -294,43 +325,15 @@ impl Book for ListBook {
         merchant: MerchantId,
         visitor: &mut V,
     ) -> Result<(), BookFault> {
-        let rows = self.requests.holds(self.alloc, merchant)?;
-        show(&in_order_of_references(rows)?, visitor);
-        Ok(())
+        let rows = self.requests.holds(self.alloc, merchant);
+        show(in_order_of_references(rows), visitor)
     }
 
     fn walk_pending<V: Visit<Request>>(&mut self, visitor: &mut V) -> Result<(), BookFault> {
-        let rows = self.requests.waiting(self.alloc)?;
-        show(&rows, visitor);
-        Ok(())
+        show(self.requests.waiting(self.alloc), visitor)
     }
 
     fn apply(&mut self, change: &Change) -> Result<(), BookFault> {
-        match change {
-            Change::AddMerchant(merchant) => self.add_merchant(*merchant)?,
-            Change::AddTerminal(terminal) => self.add_terminal(*terminal)?,
-            Change::AddRange(range) => self.add_range(range)?,
-            Change::DropRange { low, high } => self.drop_range(*low, *high),
-            Change::SetDay(day) => self.day = *day,
-            Change::AddRequest(row) => self.add_request(row)?,
-            Change::Answered {
-                key,
-                status,
-                reply,
-                hold_end,
-                posting,
-            } => self.answered(key, *status, reply, *hold_end, posting)?,
-            Change::Follow {
-                request,
-                original,
-                remains,
-                posting,
-            } => self.follow(request, original, *remains, posting)?,
-            Change::Reconciled {
-                request,
-                reconciliation,
-            } => self.reconciled(request, reconciliation)?,
-        }
-        Ok(())
+        Ok(self.make(change)?)
     }
 }

@@ -3,7 +3,7 @@
 use day_totals::Totals;
 
 /// The sums of a merchant's day.
-#[derive(Clone, Copy, Debug, PartialEq, Eq)]
+#[derive(Clone, Copy)]
 pub(crate) struct DaySums {
     /// How many postings there are.
     pub posted: u64,

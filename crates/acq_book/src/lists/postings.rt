@@ -9,6 +9,7 @@ ghost use Rattle.acq_core.specs.Tables.{postings_of, totals_on, with_next_postin
 ghost use Rattle.acq_book.specs.Keys.{day_eq};
 ghost use Rattle.acq_book.specs.Sums.{sums_at, with_one};
 
+use crate::copies::posting_copied;
 use crate::lists::day_sums::DaySums;
 use crate::lists::merchant_day::MerchantDay;
 use crate::lists::put::put;
@@ -71,15 +72,20 @@ impl Postings {
             .collect(alloc)
     }
 
-    /// Makes room for one more.
-    pub fn reserve(&mut self) -> Result<(), AllocError>
+    /// Makes room for one more, and a copy of it, where there is one.
+    pub fn reserve_for(
+        &mut self,
+        alloc: Global,
+        posting: &Option<Posting>,
+    ) -> Result<Option<Posting>, AllocError>
         ensures rows { self.new.rows ≡ self.old.rows }
         ensures room { OnOk result (0 < self.new.room) }
+        ensures copy { IfOk result (λ copy. copy ≡ posting.now) }
     {
         self.rows.reserve(1)?;
         self.sums.reserve(1)?;
         self.room = 1;
-        Ok(())
+        posting_copied(alloc, posting)
     }
 
     /// One more posting, if there is one. Its day has room for it.

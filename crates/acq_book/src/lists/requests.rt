@@ -7,6 +7,7 @@ ghost use Rattle.std.specs.Prelude.{IfSome, IfOk, OnOk, MatchOption};
 ghost use Rattle.std.specs.Map.Iter.{deref};
 ghost use Rattle.std.specs.Option.{option_copied};
 ghost use Rattle.std.specs.Map.{count_at};
+ghost use Rattle.std.specs.Str.{bytes_eq};
 ghost use Rattle.indexmap.specs.IndexMap.{values, get, spare, IsUnique};
 ghost use Rattle.acq_message.specs.Numbers.{is_number};
 ghost use Rattle.acq_message.specs.Elements.{same_key};
@@ -125,8 +126,7 @@ impl Requests {
     {
         self.rows
             .values()
-            .filter(|row| row.key.merchant == merchant)
-            .filter(|row| is_hold(row))
+            .filter(|row| is_hold_of(row, merchant))
             .collect(alloc)
     }
 
@@ -141,17 +141,18 @@ impl Requests {
             .collect(alloc)
     }
 
-    /// Makes room for one more.
-    pub fn reserve(&mut self) -> Result<(), AllocError>
+    /// Makes room for one more, and a copy of it.
+    pub fn reserve_for(&mut self, alloc: Global, row: &Request) -> Result<Request, AllocError>
         ensures rows { self.new.rows ≡ self.old.rows }
         ensures room { OnOk result (0 < self.new.room) }
+        ensures copy { IfOk result (λ copy. copy ≡ row.now) }
     {
         self.rows.reserve(1)?;
         self.places.reserve(1)?;
         self.used.reserve(1)?;
         self.admitted.reserve(1)?;
         self.room = 1;
-        Ok(())
+        row.copied(alloc)
     }
 
     /// One more request.
@@ -213,11 +214,13 @@ fn is_pending_on(row: &Request, day: Day) -> bool
     is_waiting(row) && row.day == day
 }
 
-/// Whether it is an approved authorization, which was neither completed nor undone.
-fn is_hold(row: &Request) -> bool
-    ensures { result ≡ (is_authorization row.now.key.service && is_approved row.now.status) }
+/// Whether it is an approved authorization of this merchant, which was neither completed nor undone.
+fn is_hold_of(row: &Request, merchant: MerchantId) -> bool
+    ensures { result ≡ (bytes_eq row.now.key.merchant merchant
+        && (is_authorization row.now.key.service && is_approved row.now.status)) }
 {
-    matches!(row.key.service, Service::Authorization)
+    row.key.merchant == merchant
+        && matches!(row.key.service, Service::Authorization)
         && matches!(row.status, Status::Approved | Status::Lowered)
 }
 

@@ -11,7 +11,7 @@ push-requires-clause-new c =
     let rows = c.args.self.now.requests in
     let now : c.follow.new.self.rows ≡ with_changed k f rows =
     c.follow.ensures.rows ∙ ap (with_changed k f)
-    (c.reserve.ensures.rows ∙ ap (λ t. t.requests) c.self.view_is) in
+    (c.reserve_for-2.ensures.rows ∙ ap (λ t. t.requests) c.self.view_is) in
     let new : IsNewRow rows c.args.request.now = record {
       key = c.requires.0.key;
       reference = c.requires.0.reference;
@@ -19,5 +19,5 @@ push-requires-clause-new c =
       admitted = c.requires.0.admitted;
     } in
     subst (λ l. IsNewRow l c.in_ok-request.request) (sym now)
-    (subst (λ row. IsNewRow (with_changed k f rows) row) (sym c.in_ok-request.ensures)
+    (subst (λ row. IsNewRow (with_changed k f rows) row) (sym c.in_ok-request.ensures.copy)
     (new_changed k f (edit_follow c.args.remains) rows c.args.request.now new))

@@ -1,5 +1,5 @@
 use Rattle.acq_book.proofs.Showing.{lead-more, lead-last, lead-end}
-use Rattle.acq_book.proofs.walks.show.Goals as goal
+use Rattle.acq_book.proofs.walks.show_each.Goals as goal
 
 pub loop-row-init : goal.loop-row-init
 loop-row-init g c = λ w seen. seen
