@@ -3,7 +3,7 @@
 use std::alloc::AllocError;
 
 /// Why a call of a book failed.
-#[derive(Clone, Copy, Debug, PartialEq, Eq)]
+#[derive(Clone, Copy, Debug)]
 pub enum BookFault {
     /// 1: memory ran out.
     Memory,
