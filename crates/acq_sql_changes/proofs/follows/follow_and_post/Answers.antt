@@ -51,7 +51,7 @@ returns-in_err-raise g c =
 pub returns-in_err-follow_request : goal.returns-in_err-follow_request
 returns-in_err-follow_request g c =
     let same : c.drop-tx.new.self.0 ≡ c.conn-1.given.0 =
-        search rules in
+    search rules in
     let begin = began g.S.Store c.args.conn.now _ c.transaction-tx.ensures.begun in
     gives_up g.S.Store begin.within c.follow_request.ensures.writes same
     c.drop-tx.ensures _ c.from_residual.ensures.0
@@ -59,7 +59,7 @@ returns-in_err-follow_request g c =
 pub returns-in_err-add_request : goal.returns-in_err-add_request
 returns-in_err-add_request g c =
     let same : c.drop-tx-in_err-add_request.new.self.0 ≡ c.conn-in_err-add_request-1.given.0 =
-        search rules in
+    search rules in
     let begin = began g.S.Store c.args.conn.now _ c.transaction-tx.ensures.begun in
     let after_follow_request = within_still begin.within c.in_ok-follow_request.ensures.writes in
     gives_up g.S.Store after_follow_request c.add_request.ensures.writes same
@@ -68,7 +68,7 @@ returns-in_err-add_request g c =
 pub returns-in_err-add_posting : goal.returns-in_err-add_posting
 returns-in_err-add_posting g c =
     let same : c.drop-tx-in_err-add_posting.new.self.0 ≡ c.conn-in_err-add_posting-1.given.0 =
-        search rules in
+    search rules in
     let begin = began g.S.Store c.args.conn.now _ c.transaction-tx.ensures.begun in
     let after_follow_request = within_still begin.within c.in_ok-follow_request.ensures.writes in
     let after_add_request = within_still after_follow_request c.in_ok-add_request.ensures.writes in

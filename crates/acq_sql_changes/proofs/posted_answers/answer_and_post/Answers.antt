@@ -3,7 +3,8 @@ use Rattle.acq_core.specs.Tables.{Tables, answered_row}
 use Rattle.acq_sql_rows.specs.Tallies.{posting_tally}
 use Rattle.acq_sql_changes.specs.Written.{with_answer, with_posting}
 use Rattle.acq_sql_changes.specs.Changed.{HasRoomToPost, with_whole_answer}
-use Rattle.acq_sql_changes.proofs.Commits.{began, wrote, makes_raised, commits, gives_up, within_still}
+use Rattle.acq_sql_changes.proofs.Commits.{began, wrote, makes_raised, commits}
+use Rattle.acq_sql_changes.proofs.Commits.{gives_up, within_still}
 use Rattle.acq_sql_changes.proofs.ListTallies.{LeavesDay, changed_tally, comes_after, tally_posted}
 use Rattle.acq_sql_changes.proofs.Room.{changed_short, posting_short}
 use Rattle.acq_sql_changes.proofs.posted_answers.answer_and_post.Goals as goal
@@ -35,7 +36,7 @@ returns g c =
 pub returns-in_err-answer_request : goal.returns-in_err-answer_request
 returns-in_err-answer_request g c =
     let same : c.drop-tx.new.self.0 ≡ c.conn-1.given.0 =
-        search rules in
+    search rules in
     let begin = began g.S.Store c.args.conn.now _ c.transaction-tx.ensures.begun in
     gives_up g.S.Store begin.within c.answer_request.ensures.writes same
     c.drop-tx.ensures _ c.from_residual.ensures.0
@@ -43,7 +44,7 @@ returns-in_err-answer_request g c =
 pub returns-in_err-add_posting : goal.returns-in_err-add_posting
 returns-in_err-add_posting g c =
     let same : c.drop-tx-in_err-add_posting.new.self.0 ≡ c.conn-in_err-add_posting-1.given.0 =
-        search rules in
+    search rules in
     let begin = began g.S.Store c.args.conn.now _ c.transaction-tx.ensures.begun in
     let after_answer_request = within_still begin.within c.in_ok-answer_request.ensures.writes in
     gives_up g.S.Store after_answer_request c.add_posting.ensures.writes same
@@ -52,7 +53,7 @@ returns-in_err-add_posting g c =
 pub returns-in_err-raise : goal.returns-in_err-raise
 returns-in_err-raise g c =
     let same : c.drop-tx-in_err-raise.new.self.0 ≡ c.conn-in_err-raise-1.given.0 =
-        search rules in
+    search rules in
     let begin = began g.S.Store c.args.conn.now _ c.transaction-tx.ensures.begun in
     let after_answer_request = within_still begin.within c.in_ok-answer_request.ensures.writes in
     let after_add_posting = within_still after_answer_request c.in_ok-add_posting.ensures.writes in
