@@ -64,6 +64,17 @@ fn asked_in(alloc: Global, matches: &ArgMatches) -> Result<Action, UsageFault>
         Some(("once", options)) => once_of(alloc, options),
         Some(("listen", options)) => listen_of(alloc, options),
         Some(("replay", options)) => replay_of(alloc, options),
+        _ => text_asked_in(alloc, matches),
+    }
+}
+
+/// The same of the commands that only write texts. They are apart, since a proof of all names at
+/// once takes four times as long.
+fn text_asked_in(alloc: Global, matches: &ArgMatches) -> Result<Action, UsageFault>
+    ensures { (words : List Text) → fault_of program words ≡ []
+        → HasMatchesOf program words matches.now → ReadsArguments words result }
+{
+    match matches.subcommand() {
         Some(("clearing", options)) => report_of(alloc, ReportKind::Clearing, options),
         Some(("report", options)) => report_of(alloc, ReportKind::Settlement, options),
         Some(("holds", options)) => holds_of(alloc, options),

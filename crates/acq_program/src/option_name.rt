@@ -40,19 +40,19 @@ impl fmt::Display for OptionName {
 
     fn fmt<W: fmt::Write>(&self, f: &mut fmt::Formatter<W>) -> fmt::Result {
         match self {
-            OptionName::Db => write!(f, "--db"),
-            OptionName::Limit => write!(f, "--limit"),
-            OptionName::Day => write!(f, "--day"),
-            OptionName::Merchant => write!(f, "--merchant"),
-            OptionName::At => write!(f, "--at"),
-            OptionName::Port => write!(f, "--port"),
-            OptionName::Count => write!(f, "--count"),
-            OptionName::Idle => write!(f, "--idle"),
-            OptionName::FrameWithin => write!(f, "--frame-within"),
-            OptionName::IdleWhenFull => write!(f, "--idle-when-full"),
-            OptionName::Together => write!(f, "--together"),
-            OptionName::Report(ReportKind::Clearing) => write!(f, "--clearing"),
-            OptionName::Report(ReportKind::Settlement) => write!(f, "--report"),
+            OptionName::Db => f.write_str("--db"),
+            OptionName::Limit => f.write_str("--limit"),
+            OptionName::Day => f.write_str("--day"),
+            OptionName::Merchant => f.write_str("--merchant"),
+            OptionName::At => f.write_str("--at"),
+            OptionName::Port => f.write_str("--port"),
+            OptionName::Count => f.write_str("--count"),
+            OptionName::Idle => f.write_str("--idle"),
+            OptionName::FrameWithin => f.write_str("--frame-within"),
+            OptionName::IdleWhenFull => f.write_str("--idle-when-full"),
+            OptionName::Together => f.write_str("--together"),
+            OptionName::Report(ReportKind::Clearing) => f.write_str("--clearing"),
+            OptionName::Report(ReportKind::Settlement) => f.write_str("--report"),
         }
     }
 }

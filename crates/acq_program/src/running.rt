@@ -1,11 +1,12 @@
 //! One run of the program.
 
-ghost use Rattle.std.specs.Prelude.{◌≡◌, ◌≤◌, [], map, IfErr, MatchResult, OnOk};
+ghost use Rattle.std.specs.Prelude.{◌≡◌, ◌≤◌, [], map, Ok, IfErr, IfOk, MatchResult, OnOk};
 ghost use Rattle.clap.specs.Words.{fault_of, kind_of};
 ghost use Rattle.clap.specs.declared.error.kind.ErrorKind.TheVariants.{OutOfMemory};
 ghost use Rattle.acq_program.specs.Program.{program};
 ghost use Rattle.acq_program.specs.BookFaults.{IsClosing, IsOpening};
 ghost use Rattle.acq_commands.specs.Faults.{status_after};
+ghost use Rattle.acq_commands.specs.Runs.{RunsReplay};
 ghost use Rattle.acq_program.specs.Runs.{Does, IsQuiet, IsUntouched, MayCome, ReadsWhole, Runs};
 ghost use Rattle.acq_program.specs.Runs.{ServesAsked, ServesIn, Tells};
 
@@ -14,9 +15,9 @@ use crate::pending::answer_pending;
 use crate::{Action, UsageFault, action_of};
 use acq_book::Book;
 use acq_commands::{
-    Fault, ListenOptions, NewBook, OnceOptions, Progress, ReplayOptions, TextSink, holds_of,
-    listen_on, listen_together_on, once_in_memory, once_on, replay_in_memory, replay_on, report_on,
-    show,
+    BookReport, Fault, HoldsOptions, ListenOptions, NewBook, OnceOptions, Progress, ReplayOptions,
+    TextSink, holds_of, listen_on, listen_together_on, once_in_memory, once_on, replay_in_memory,
+    replay_on, report_on, show,
 };
 use acq_front::{Clock, FixedClock, Issuer, NoIssuer};
 use acq_link::{Sink, Source};
@@ -107,20 +108,11 @@ fn run<B: Book + Drop, M: Machine<B> + Drop, C: Clock, S: Source, K: Sink, F: Si
         Action::Migrate(path) => migrate(machine, &path),
         Action::Once(asked) => once(alloc, keys, machine, &asked, clock, input, output),
         Action::Listen(asked) => listen(alloc, machine, &asked, clock, faults),
-        Action::Replay(options) => match &options.book {
-            Some(path) => {
-                replay_in_file(alloc, machine, path, &options, input, output, progress)
-            }
-            None => replay_in_memory(alloc, keys, &options, input, output, progress),
-        },
-        Action::Report(options) => {
-            let book = machine.open_book(options.path.as_str())?;
-            report_on(alloc, book, &options, output)
+        Action::Replay(options) => {
+            replay(alloc, keys, machine, &options, input, output, progress)
         }
-        Action::Holds(options) => {
-            let book = machine.open_book(options.path.as_str())?;
-            holds_of(alloc, book, &options, output)
-        }
+        Action::Report(options) => report(alloc, machine, &options, output),
+        Action::Holds(options) => holds(alloc, machine, &options, output),
         Action::Pending(asked) => answer_pending(alloc, machine, &asked, clock, output),
         Action::Show(form) => show(alloc, form, input, output),
     }
@@ -235,11 +227,9 @@ fn once_over<B: Book + Drop, M: Machine<B> + Drop, C: Clock, I: Issuer + Drop, S
 {
     match path {
         Some(path) => {
-            let book = machine.open_book(path.as_str())?;
-            let mut issuer = issuers?;
-            let (book, ended) = once_on(alloc, book, clock, &mut issuer, input, output);
-            ended?;
-            M::close_book(book)
+            let opened = machine.open_book(path.as_str());
+            let (book, mut issuer, ()) = all_opened(opened, issuers, Ok(()))?;
+            closed::<B, M>(once_on(alloc, book, clock, &mut issuer, input, output))
         }
         None => {
             let mut issuer = issuers?;
@@ -298,10 +288,9 @@ fn listen_over<B: Book + Drop, M: Machine<B> + Drop, C: Clock, I: Issuer + Drop,
         return gather_over(alloc, machine, asked, clock, issuers, faults);
     }
     let connections = machine.listen_at(asked.port, asked.patience);
-    let book = machine.open_book(asked.path.as_str())?;
-    let mut issuer = issuers?;
-    let mut connections = connections?;
-    let (book, ended) = listen_on(
+    let opened = machine.open_book(asked.path.as_str());
+    let (book, mut issuer, mut connections) = all_opened(opened, issuers, connections)?;
+    closed::<B, M>(listen_on(
         alloc,
         book,
         &mut connections,
@@ -309,9 +298,7 @@ fn listen_over<B: Book + Drop, M: Machine<B> + Drop, C: Clock, I: Issuer + Drop,
         clock,
         &mut issuer,
         faults,
-    );
-    ended?;
-    M::close_book(book)
+    ))
 }
 
 /// Answers the frames of connections over the book in a file, many at once.
@@ -324,10 +311,9 @@ fn gather_over<B: Book + Drop, M: Machine<B> + Drop, C: Clock, I: Issuer + Drop,
     faults: &mut F,
 ) -> Result<(), Fault> {
     let gathering = machine.gather_at(alloc, asked.port, asked.patience, asked.together);
-    let book = machine.open_book(asked.path.as_str())?;
-    let mut issuer = issuers?;
-    let mut gathering = gathering?;
-    let (book, ended) = listen_together_on(
+    let opened = machine.open_book(asked.path.as_str());
+    let (book, mut issuer, mut gathering) = all_opened(opened, issuers, gathering)?;
+    closed::<B, M>(listen_together_on(
         alloc,
         book,
         &mut gathering,
@@ -335,9 +321,75 @@ fn gather_over<B: Book + Drop, M: Machine<B> + Drop, C: Clock, I: Issuer + Drop,
         clock,
         &mut issuer,
         faults,
-    );
-    ended?;
-    M::close_book(book)
+    ))
+}
+
+/// The book, who answers and what connections come over, or the first fault in this order. It is
+/// apart, since a proof of what each fault lets go takes long beside all that a command holds.
+fn all_opened<B: Drop, I: Drop, N: Drop>(
+    book: Result<B, Fault>,
+    issuer: Result<I, Fault>,
+    connections: Result<N, Fault>,
+) -> Result<(B, I, N), Fault>
+    ensures book { IfOk result (λ opened. book ≡ Ok opened.0) }
+    ensures issuer { IfOk result (λ opened. issuer ≡ Ok opened.1) }
+{
+    Ok((book?, issuer?, connections?))
+}
+
+/// Gives back the book of a run that ended well.
+fn closed<B: Book + Drop, M: Machine<B>>(ran: (B, Result<(), Fault>)) -> Result<(), Fault>
+    ensures { OnOk result (ran.1 ≡ Ok tt) }
+{
+    let (book, ended) = ran;
+    match ended {
+        Ok(()) => M::close_book(book),
+        Err(fault) => Err(fault),
+    }
+}
+
+/// Writes a report on the book in a file.
+fn report<B: Book + Drop, M: Machine<B>, K: Sink>(
+    alloc: Global,
+    machine: M,
+    options: &BookReport,
+    output: &mut K,
+) -> Result<(), Fault> {
+    let book = machine.open_book(options.path.as_str())?;
+    report_on(alloc, book, options, output)
+}
+
+/// Writes the open holds of a merchant of the book in a file.
+fn holds<B: Book + Drop, M: Machine<B>, K: Sink>(
+    alloc: Global,
+    machine: M,
+    options: &HoldsOptions,
+    output: &mut K,
+) -> Result<(), Fault> {
+    let book = machine.open_book(options.path.as_str())?;
+    holds_of(alloc, book, options, output)
+}
+
+/// Replays an input over the book in a file, or without one over a new book.
+fn replay<B: Book + Drop, M: Machine<B> + Drop, S: Source, K: Sink, P: Progress>(
+    alloc: Global,
+    keys: RandomState,
+    machine: M,
+    options: &ReplayOptions,
+    input: &mut S,
+    output: &mut K,
+    progress: &mut P,
+) -> Result<(), Fault>
+    ensures runs { RunsReplay options.now
+        (record { before = S.received input.old; after = S.received input.new })
+        (record { before = K.sent output.old; after = K.sent output.new }) result }
+    ensures whole { ReadsWhole
+        (S.remaining input.old) (S.received input.old) (S.received input.new) result }
+{
+    match &options.book {
+        Some(path) => replay_in_file(alloc, machine, path, options, input, output, progress),
+        None => replay_in_memory(alloc, keys, options, input, output, progress),
+    }
 }
 
 /// Replays an input over the book in a file.
@@ -355,9 +407,7 @@ fn replay_in_file<B: Book + Drop, M: Machine<B> + Drop, S: Source, K: Sink, P: P
 {
     let book = machine.open_book(path.as_str())?;
     let reports = options.reports.as_slice();
-    let (book, ended) = replay_on(alloc, book, reports, input, output, progress);
-    ended?;
-    M::close_book(book)
+    closed::<B, M>(replay_on(alloc, book, reports, input, output, progress))
 }
 
 /// Writes what clap says of the arguments, help and the version to `output`, and returns the

@@ -1,5 +1,5 @@
 -- The faults' numbers and texts, what a fault of the book is, and how many writes failed.
-use Rattle.std.specs.Prelude.{◌⊎◌, ℕ, List, ◌++◌, [], Bool, true, false, codes, Result, Ok, Err}
+use Rattle.std.specs.Prelude.{◌⊎◌, ℕ, List, ◌++◌, Bool, true, false, codes, Result, Ok, Err}
 use Rattle.std.specs.Fmt.{decimal}
 use Rattle.acq_book.specs.declared.book.Book.{Ghosts}
 use Rattle.acq_book.specs.declared.book_fault.BookFault as book
@@ -18,27 +18,14 @@ number_of (Write n) = 54
 number_of DayNotOver = 60
 number_of (StillPending n) = 61
 
--- a fault's name
-abbrev pub name_of : ReportFault → List ℕ
-name_of Memory = codes "Memory"
-name_of Store = codes "Store"
-name_of NoSuchMerchant = codes "NoSuchMerchant"
-name_of (Write n) = codes "Write"
-name_of DayNotOver = codes "DayNotOver"
-name_of (StillPending n) = codes "StillPending"
-
--- its value, behind a space
-abbrev pub values_of : ReportFault → List ℕ
-values_of Memory = []
-values_of Store = []
-values_of NoSuchMerchant = []
-values_of (Write n) = codes " " ++ decimal n
-values_of DayNotOver = []
-values_of (StillPending n) = codes " " ++ decimal n
-
--- the fault as printed lines have it
+-- the fault as printed lines have it: its number, its name and its value
 abbrev pub text_of : ReportFault → List ℕ
-text_of fault = decimal (number_of fault) ++ codes " " ++ name_of fault ++ values_of fault
+text_of Memory = codes "1 Memory"
+text_of Store = codes "2 Store"
+text_of NoSuchMerchant = codes "37 NoSuchMerchant"
+text_of (Write n) = codes "54 Write " ++ decimal n
+text_of DayNotOver = codes "60 DayNotOver"
+text_of (StillPending n) = codes "61 StillPending " ++ decimal n
 
 -- what a fault of the book is
 abbrev pub of_book : book.BookFault → ReportFault

@@ -25,7 +25,7 @@ pub enum ReportFault {
 }
 
 impl ReportFault {
-    ghost use Rattle.acq_reports.specs.Faults.{number_of, name_of};
+    ghost use Rattle.acq_reports.specs.Faults.{number_of};
 
     /// The fault's number.
     pub fn number(&self) -> u8
@@ -40,19 +40,6 @@ impl ReportFault {
             ReportFault::StillPending(_) => 61,
         }
     }
-
-    fn name(&self) -> &'static str
-        ensures { result.now ≡ name_of self.now }
-    {
-        match self {
-            ReportFault::Memory => "Memory",
-            ReportFault::Store => "Store",
-            ReportFault::NoSuchMerchant => "NoSuchMerchant",
-            ReportFault::Write(_) => "Write",
-            ReportFault::DayNotOver => "DayNotOver",
-            ReportFault::StillPending(_) => "StillPending",
-        }
-    }
 }
 
 impl fmt::Display for ReportFault {
@@ -62,14 +49,13 @@ impl fmt::Display for ReportFault {
     ghost output = { λ f. Some (text_of f) };
 
     fn fmt<W: fmt::Write>(&self, f: &mut fmt::Formatter<W>) -> fmt::Result {
-        write!(f, "{} {}", self.number(), self.name())?;
         match self {
-            ReportFault::Write(bytes) => write!(f, " {bytes}"),
-            ReportFault::StillPending(requests) => write!(f, " {requests}"),
-            ReportFault::Memory
-            | ReportFault::Store
-            | ReportFault::NoSuchMerchant
-            | ReportFault::DayNotOver => Ok(()),
+            ReportFault::Memory => f.write_str("1 Memory"),
+            ReportFault::Store => f.write_str("2 Store"),
+            ReportFault::NoSuchMerchant => f.write_str("37 NoSuchMerchant"),
+            ReportFault::Write(bytes) => write!(f, "54 Write {bytes}"),
+            ReportFault::DayNotOver => f.write_str("60 DayNotOver"),
+            ReportFault::StillPending(requests) => write!(f, "61 StillPending {requests}"),
         }
     }
 }

@@ -30,15 +30,15 @@ pub enum RowFault {
 impl fmt::Display for RowFault {
     fn fmt<W: fmt::Write>(&self, f: &mut fmt::Formatter<W>) -> fmt::Result {
         match self {
-            RowFault::Memory => write!(f, "out of memory"),
-            RowFault::Keys => write!(f, "no random keys"),
-            RowFault::Book => write!(f, "no book"),
+            RowFault::Memory => f.write_str("out of memory"),
+            RowFault::Keys => f.write_str("no random keys"),
+            RowFault::Book => f.write_str("no book"),
             RowFault::Malformed(line) => write!(f, "line {line} is no row"),
-            RowFault::OtherKind => write!(f, "not scenarios, commands or a table"),
-            RowFault::Empty => write!(f, "no row"),
+            RowFault::OtherKind => f.write_str("not scenarios, commands or a table"),
+            RowFault::Empty => f.write_str("no row"),
             RowFault::FewStops(stops) => write!(f, "files stopped at {stops} calls alone"),
-            RowFault::NeverWhole => write!(f, "files that stop never sufficed"),
-            RowFault::MigratedTwice => write!(f, "a book was migrated twice"),
+            RowFault::NeverWhole => f.write_str("files that stop never sufficed"),
+            RowFault::MigratedTwice => f.write_str("a book was migrated twice"),
         }
     }
 }

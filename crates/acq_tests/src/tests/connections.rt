@@ -8,6 +8,7 @@ use acq_front::{FrontFault, SliceClock, SliceIssuer, serve};
 use acq_link::{MemorySink, ReadSource, SliceSource, WriteSink};
 use std::alloc::Global;
 use std::cell::Cell;
+use std::random::RandomSource;
 use std::test::Fail;
 
 /// An echo test as a frame, and the frame that answers it.
@@ -40,22 +41,33 @@ fn approval() -> Result<Verdict, Fail> {
 #[test]
 fn a_reply_cut_short_is_given_again(rt: HostRuntime) -> Result<(), Fail> {
     let alloc = rt.alloc();
-    let mut source = SliceSource::new(SALE.as_bytes());
     let mut sink = MemorySink::failing_after(alloc, 97, 10);
     let mut again = MemorySink::new(alloc);
-    let verdicts = [approval()?];
-    let repeat = both(alloc, "\x00\x620201", SALE.get(6..).ok_or("a sale")?)?;
-    let mut repeated = SliceSource::new(repeat.as_slice());
-    let mut host = new_host(&rt, alloc)?;
-    let mut issuer = SliceIssuer::new(&verdicts);
-    let ended = served(&mut host, alloc, &mut source, &mut sink, &mut issuer);
-    let later = served(&mut host, alloc, &mut repeated, &mut again, &mut issuer);
-    drop(host);
+    let (ended, later) = served_with_repeat(&rt, alloc, &mut sink, &mut again)?;
     assert_eq!(rt; ended, Err(FrontFault::Write(10)));
     assert_eq!(rt; sink.as_bytes(), APPROVED.as_bytes().split_at(10).0);
     assert_eq!(rt; later, Ok(()));
     assert_eq!(rt; again.as_bytes(), APPROVED.as_bytes());
     Ok(())
+}
+
+/// Serves the sale on one connection and its repeat on another, and returns how each ended.
+fn served_with_repeat(
+    rt: &impl RandomSource,
+    alloc: Global,
+    sink: &mut MemorySink,
+    again: &mut MemorySink,
+) -> Result<(Result<(), FrontFault>, Result<(), FrontFault>), Fail> {
+    let mut source = SliceSource::new(SALE.as_bytes());
+    let verdicts = [approval()?];
+    let repeat = both(alloc, "\x00\x620201", SALE.get(6..).ok_or("a sale")?)?;
+    let mut repeated = SliceSource::new(repeat.as_slice());
+    let mut host = new_host(rt, alloc)?;
+    let mut issuer = SliceIssuer::new(&verdicts);
+    let ended = served(&mut host, alloc, &mut source, sink, &mut issuer);
+    let later = served(&mut host, alloc, &mut repeated, again, &mut issuer);
+    drop(host);
+    Ok((ended, later))
 }
 
 /// The source gives a frame, and goes on only if its reply is out.

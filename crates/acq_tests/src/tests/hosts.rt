@@ -32,8 +32,8 @@ fn take_all<B: Book + Drop>(host: &mut Host<B>, events: &[Event]) {
 }
 
 /// Serves a connection in the morning.
-pub(super) fn served(
-    host: &mut Host<ListBook>,
+pub(super) fn served<B: Book + Drop>(
+    host: &mut Host<B>,
     alloc: Global,
     source: &mut SliceSource<'_>,
     sink: &mut MemorySink,

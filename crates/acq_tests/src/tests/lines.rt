@@ -1,9 +1,10 @@
 //! Each form of a line, and faults in mid-stream.
 
-use acq_core::Event;
+use acq_core::{Event, Verdict};
 use acq_link::SliceSource;
 use acq_out::{OutFault, read_events};
 use std::alloc::Global;
+use std::process::Abort;
 use std::test::Fail;
 
 /// What a text reads as, in pieces of seven bytes.
@@ -56,6 +57,16 @@ const ANSWERS: [(&[u8], &[u8], u64, &[u8], &[u8]); 4] = [
     ),
 ];
 
+/// The verdict has this authorization id, or none, and this code.
+fn has_verdict(rt: &impl Abort, verdict: &Verdict, id: &[u8], code: &[u8]) {
+    assert_eq!(rt; verdict.code().to_bytes().as_slice(), code);
+    let found = verdict.authorization_id().map(|id| id.to_bytes());
+    assert_eq!(rt; found.is_some(), !id.is_empty());
+    if let Some(found) = found {
+        assert_eq!(rt; found.as_slice(), id);
+    }
+}
+
 #[test]
 fn answers(rt: HostRuntime) -> Result<(), Fail> {
     for (line, name, number, id, code) in ANSWERS {
@@ -67,12 +78,7 @@ fn answers(rt: HostRuntime) -> Result<(), Fail> {
         assert_eq!(rt; moment.seconds(), 946_684_800);
         assert_eq!(rt; merchant.to_bytes().as_slice(), name);
         assert_eq!(rt; reference.number(), number);
-        assert_eq!(rt; verdict.code().to_bytes().as_slice(), code);
-        let found = verdict.authorization_id().map(|id| id.to_bytes());
-        assert_eq!(rt; found.is_some(), !id.is_empty());
-        if let Some(found) = found {
-            assert_eq!(rt; found.as_slice(), id);
-        }
+        has_verdict(&rt, verdict, id, code);
     }
     Ok(())
 }
@@ -131,7 +137,12 @@ fn merchants_and_terminals(rt: HostRuntime) -> Result<(), Fail> {
     let text = b"enrol,SHOP,97a,000000000001,,\nterminal,MERCHANT0000001,T 1,,,\n";
     let events = read(rt.alloc(), text)?;
     assert_eq!(rt; events.len(), 2);
-    let Event::Enrol(merchant, currency, first) = &events[0] else {
+    is_enrolment(&rt, &events[0])?;
+    is_terminal(&rt, &events[1])
+}
+
+fn is_enrolment(rt: &impl Abort, event: &Event) -> Result<(), Fail> {
+    let Event::Enrol(merchant, currency, first) = event else {
         return Err(Fail::from("an enrolment"));
     };
     assert_eq!(rt;
@@ -140,7 +151,11 @@ fn merchants_and_terminals(rt: HostRuntime) -> Result<(), Fail> {
     );
     assert_eq!(rt; currency.to_bytes().as_slice(), b"97a".as_slice());
     assert_eq!(rt; first.number(), 1);
-    let Event::AddTerminal(merchant, terminal) = &events[1] else {
+    Ok(())
+}
+
+fn is_terminal(rt: &impl Abort, event: &Event) -> Result<(), Fail> {
+    let Event::AddTerminal(merchant, terminal) = event else {
         return Err(Fail::from("a terminal"));
     };
     assert_eq!(rt;

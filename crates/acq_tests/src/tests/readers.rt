@@ -54,22 +54,32 @@ impl Write for Unsteady {
 }
 
 #[test]
-fn readers_and_writers_are_sources_and_sinks(rt: HostRuntime) -> Result<(), Fail> {
+fn readers_are_sources(rt: HostRuntime) -> Result<(), Fail> {
     let mut source = ReadSource::new(TEXT);
     let all = read_to_end(rt.alloc(), &mut source)?;
     assert_eq!(rt; all.as_slice(), TEXT);
     assert_eq!(rt; source.into_inner().len(), 0);
+    Ok(())
+}
 
+#[test]
+fn writers_are_sinks(rt: HostRuntime) {
     let mut sink = WriteSink::new(Vec::new(rt.alloc()));
     assert_eq!(rt; write_out(&mut sink, TEXT), Ok(()));
     assert_eq!(rt; sink.into_inner().as_slice(), TEXT);
+}
 
-    // A full slice takes none of some bytes.
+/// A full slice takes none of some bytes.
+#[test]
+fn a_full_slice_fails(rt: HostRuntime) {
     let mut room = [0u8; 4];
     let mut sink = WriteSink::new(&mut room[..]);
     assert_eq!(rt; write_out(&mut sink, TEXT), Err(4));
     assert_eq!(rt; sink.write(b""), Ok(0));
+}
 
+#[test]
+fn a_frame_is_its_length_and_its_text(rt: HostRuntime) -> Result<(), Fail> {
     let mut sink = MemorySink::new(rt.alloc());
     write_frame(rt.alloc(), b"ab", &mut sink)?;
     assert_eq!(rt; sink.as_bytes(), b"\x00\x02ab".as_slice());

@@ -5,8 +5,10 @@ use super::script_event::MORNING;
 use super::script_event::ScriptEvent::{self, Frame, FrameAt};
 use super::two_days::{FIRST_DAY, FIRST_REPLIES, SECOND_DAY, SECOND_REPLY};
 use super::wording::bytes_in;
+use acq_book::Book;
 use acq_core::{Event, Moment, Verdict};
 use acq_front::{FrontFault, SliceIssuer};
+use acq_host::Host;
 use acq_link::{MemorySink, SliceSource};
 use std::alloc::Global;
 use std::process::Abort;
@@ -46,6 +48,17 @@ fn first_talk(alloc: Global) -> Result<Talk, Fail> {
     talk_of(alloc, &FIRST_DAY, &FIRST_REPLIES)
 }
 
+/// The second day.
+fn second_talk(alloc: Global) -> Result<Talk, Fail> {
+    talk_of(alloc, &SECOND_DAY, &[SECOND_REPLY])
+}
+
+/// The verdicts on the sale and the hold of these days.
+fn verdicts() -> Result<[Verdict; 2], Fail> {
+    let (sale, hold) = (Verdict::approved(b"A1B2C3"), Verdict::approved(b"H00001"));
+    Ok([sale.ok_or("an id")?, hold.ok_or("an id")?])
+}
+
 /// Serves the first day on a connection that fails, and again on one that doesn't, and then the
 /// second day; and returns how the first one ended. The others get all replies.
 fn served_again(
@@ -55,24 +68,47 @@ fn served_again(
     sink: &mut MemorySink,
 ) -> Result<Result<(), FrontFault>, Fail> {
     let first = first_talk(alloc)?;
-    let second = talk_of(alloc, &SECOND_DAY, &[SECOND_REPLY])?;
-    let (sale, hold) = (Verdict::approved(b"A1B2C3"), Verdict::approved(b"H00001"));
-    let verdicts = [sale.ok_or("an id")?, hold.ok_or("an id")?];
-    let cutover = Event::Cutover(Moment::from_seconds(MORNING).ok_or("a moment")?);
-    let (mut again, mut later) = (MemorySink::new(alloc), MemorySink::new(alloc));
-    let mut issuer = SliceIssuer::new(&verdicts);
-    let mut host = new_host(rt, alloc)?;
-    let ended = served(&mut host, alloc, source, sink, &mut issuer);
-    let frames = &mut SliceSource::new(first.frames.as_slice());
-    let is_again = served(&mut host, alloc, frames, &mut again, &mut issuer).is_ok();
-    let is_over = host.take(&cutover).is_ok();
-    let frames = &mut SliceSource::new(second.frames.as_slice());
-    let is_later = served(&mut host, alloc, frames, &mut later, &mut issuer).is_ok();
-    drop(host);
-    assert!(rt; is_again && is_over && is_later);
+    let second = second_talk(alloc)?;
+    let mut said = [MemorySink::new(alloc), MemorySink::new(alloc)];
+    let ended = served_days(rt, alloc, [&first, &second], source, sink, &mut said)?;
+    let [again, later] = said;
     assert_eq!(rt; again.as_bytes(), first.replies.as_slice());
     assert_eq!(rt; later.as_bytes(), second.replies.as_slice());
     Ok(ended)
+}
+
+/// The same; what the later connections get is written to the last two sinks.
+fn served_days(
+    rt: &(impl Abort + RandomSource),
+    alloc: Global,
+    days: [&Talk; 2],
+    source: &mut SliceSource<'_>,
+    sink: &mut MemorySink,
+    said: &mut [MemorySink; 2],
+) -> Result<Result<(), FrontFault>, Fail> {
+    let cutover = Event::Cutover(Moment::from_seconds(MORNING).ok_or("a moment")?);
+    let verdicts = verdicts()?;
+    let mut issuer = SliceIssuer::new(&verdicts);
+    let mut host = new_host(rt, alloc)?;
+    let ended = served(&mut host, alloc, source, sink, &mut issuer);
+    let is_again = is_served(&mut host, alloc, days[0], &mut said[0], &mut issuer);
+    let is_over = host.take(&cutover).is_ok();
+    let is_later = is_served(&mut host, alloc, days[1], &mut said[1], &mut issuer);
+    drop(host);
+    assert!(rt; is_again && is_over && is_later);
+    Ok(ended)
+}
+
+/// Serves a day on a connection, and says whether it went well.
+fn is_served<B: Book + Drop>(
+    host: &mut Host<B>,
+    alloc: Global,
+    talk: &Talk,
+    sink: &mut MemorySink,
+    issuer: &mut SliceIssuer<'_>,
+) -> bool {
+    let frames = &mut SliceSource::new(talk.frames.as_slice());
+    served(host, alloc, frames, sink, issuer).is_ok()
 }
 
 /// Where a read fails, every frame that came whole has its reply, and the next connection gets all.

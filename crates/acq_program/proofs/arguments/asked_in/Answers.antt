@@ -1,14 +1,9 @@
 -- command by command: what the options were read as is what the arguments ask for
 use Rattle.std.proofs.Common.{◌∙◌, Some, codes, ap, sym, refl, inl, inr}
-use Rattle.std.specs.Prelude.{Ok}
 use Rattle.clap.specs.Words.{found_of, rows_of}
-use Rattle.acq_program.specs.Arguments.{AsksHolds, AsksInit, AsksListen, AsksMigrate}
-use Rattle.acq_program.specs.Arguments.{AsksOnce, AsksReplay, AsksReport, AsksShow}
-use Rattle.acq_program.specs.Arguments.{AsksPending}
+use Rattle.acq_program.specs.Arguments.{AsksInit, AsksListen, AsksMigrate}
+use Rattle.acq_program.specs.Arguments.{AsksOnce, AsksReplay}
 use Rattle.acq_program.specs.Program.{program}
-use Rattle.acq_program.specs.declared.action.Action.TheVariants.{Show}
-use Rattle.acq_commands.specs.declared.input_form.InputForm.{InputForm}
-use Rattle.acq_commands.specs.declared.report_kind.ReportKind.TheVariants as kinds
 use Rattle.acq_program.proofs.AskedCommands.{named, reads_command}
 use Rattle.acq_program.proofs.arguments.asked_in.Goals as goal
 
@@ -32,40 +27,6 @@ returns-in-Some-replay-default c = λ words well matches.
     matches (ap Some (sym it.is-replay) ∙ it.ensures.name) it.ensures.rows)
     c.replay_of.result c.replay_of.ensures
 
-pub returns-in-Some-clearing-default : goal.returns-in-Some-clearing-default
-returns-in-Some-clearing-default c = λ words well matches.
-    let it = c.in-Some-clearing-default in
-    let found = found_of it.options.now in
-    reads_command (codes "clearing") (AsksReport kinds.Clearing)
-    (λ command asked h. inr (inr (inr (inl h)))) words found
-    well
-    (named c.args.matches.now program words (codes "clearing") (rows_of found) refl
-    matches (ap Some (sym it.is-clearing) ∙ it.ensures.name)
-    it.ensures.rows)
-    c.report_of.result c.report_of.ensures
-
-pub returns-in-Some-report-default : goal.returns-in-Some-report-default
-returns-in-Some-report-default c = λ words well matches.
-    let it = c.in-Some-report-default in
-    let found = found_of it.options.now in
-    reads_command (codes "report") (AsksReport kinds.Settlement)
-    (λ command asked h. inr (inr (inr (inr (inl h))))) words found
-    well
-    (named c.args.matches.now program words (codes "report") (rows_of found) refl
-    matches (ap Some (sym it.is-report) ∙ it.ensures.name) it.ensures.rows)
-    c.report_of-in-Some-report-default.result c.report_of-in-Some-report-default.ensures
-
-pub returns-in-Some-holds-default : goal.returns-in-Some-holds-default
-returns-in-Some-holds-default c = λ words well matches.
-    let it = c.in-Some-holds-default in
-    let found = found_of it.options.now in
-    reads_command (codes "holds") AsksHolds (λ command asked h. inr (inr (inr (inr (inr (inl h))))))
-    words found
-    well
-    (named c.args.matches.now program words (codes "holds") (rows_of found) refl
-    matches (ap Some (sym it.is-holds) ∙ it.ensures.name) it.ensures.rows)
-    c.holds_of.result c.holds_of.ensures
-
 pub returns-in-Some-once-default : goal.returns-in-Some-once-default
 returns-in-Some-once-default c = λ words well matches.
     let it = c.in-Some-once-default in
@@ -75,17 +36,6 @@ returns-in-Some-once-default c = λ words well matches.
     (named c.args.matches.now program words (codes "once") (rows_of found) refl
     matches (ap Some (sym it.is-once) ∙ it.ensures.name) it.ensures.rows)
     c.once_of.result c.once_of.ensures
-
-pub returns-in-Some-show-default : goal.returns-in-Some-show-default
-returns-in-Some-show-default c = λ words well matches.
-    let it = c.in-Some-show-default in
-    let found = found_of it.options.now in
-    reads_command (codes "show") AsksShow
-    (λ command asked h. inr (inr (inr (inr (inr (inr (inl h))))))) words found
-    well
-    (named c.args.matches.now program words (codes "show") (rows_of found) refl
-    matches (ap Some (sym it.is-show) ∙ it.ensures.name) it.ensures.rows)
-    (Ok (Show c.form_of.result)) (ap (λ (x : InputForm). Ok (Show x)) c.form_of.ensures)
 
 pub returns-in-Some-listen-default : goal.returns-in-Some-listen-default
 returns-in-Some-listen-default c = λ words well matches.
@@ -109,15 +59,3 @@ returns-in-Some-migrate-default c = λ words well matches.
     matches (ap Some (sym it.is-migrate) ∙ it.ensures.name)
     it.ensures.rows)
     c.migrate_of.result c.migrate_of.ensures
-
-pub returns-in-Some-pending-default : goal.returns-in-Some-pending-default
-returns-in-Some-pending-default c = λ words well matches.
-    let it = c.in-Some-pending-default in
-    let found = found_of it.options.now in
-    reads_command (codes "pending") AsksPending
-    (λ command asked h. inr (inr (inr (inr (inr (inr (inr (inr (inr h))))))))) words found
-    well
-    (named c.args.matches.now program words (codes "pending") (rows_of found) refl
-    matches (ap Some (sym it.is-pending) ∙ it.ensures.name)
-    it.ensures.rows)
-    c.pending_of.result c.pending_of.ensures

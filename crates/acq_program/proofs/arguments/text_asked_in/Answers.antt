@@ -1,0 +1,70 @@
+-- command by command: what the options were read as is what the arguments ask for
+use Rattle.std.proofs.Common.{◌∙◌, Some, codes, ap, sym, refl, inl, inr}
+use Rattle.std.specs.Prelude.{Ok}
+use Rattle.clap.specs.Words.{found_of, rows_of}
+use Rattle.acq_program.specs.Arguments.{AsksHolds}
+use Rattle.acq_program.specs.Arguments.{AsksReport, AsksShow}
+use Rattle.acq_program.specs.Arguments.{AsksPending}
+use Rattle.acq_program.specs.Program.{program}
+use Rattle.acq_program.specs.declared.action.Action.TheVariants.{Show}
+use Rattle.acq_commands.specs.declared.input_form.InputForm.{InputForm}
+use Rattle.acq_commands.specs.declared.report_kind.ReportKind.TheVariants as kinds
+use Rattle.acq_program.proofs.AskedCommands.{named, reads_command}
+use Rattle.acq_program.proofs.arguments.text_asked_in.Goals as goal
+
+pub returns-in-Some-clearing-default : goal.returns-in-Some-clearing-default
+returns-in-Some-clearing-default c = λ words well matches.
+    let it = c.in-Some-clearing-default in
+    let found = found_of it.options.now in
+    reads_command (codes "clearing") (AsksReport kinds.Clearing)
+    (λ command asked h. inr (inr (inr (inl h)))) words found
+    well
+    (named c.args.matches.now program words (codes "clearing") (rows_of found) refl
+    matches (ap Some (sym it.is-clearing) ∙ it.ensures.name)
+    it.ensures.rows)
+    c.report_of.result c.report_of.ensures
+
+pub returns-in-Some-report-default : goal.returns-in-Some-report-default
+returns-in-Some-report-default c = λ words well matches.
+    let it = c.in-Some-report-default in
+    let found = found_of it.options.now in
+    reads_command (codes "report") (AsksReport kinds.Settlement)
+    (λ command asked h. inr (inr (inr (inr (inl h))))) words found
+    well
+    (named c.args.matches.now program words (codes "report") (rows_of found) refl
+    matches (ap Some (sym it.is-report) ∙ it.ensures.name) it.ensures.rows)
+    c.report_of-in-Some-report-default.result c.report_of-in-Some-report-default.ensures
+
+pub returns-in-Some-holds-default : goal.returns-in-Some-holds-default
+returns-in-Some-holds-default c = λ words well matches.
+    let it = c.in-Some-holds-default in
+    let found = found_of it.options.now in
+    reads_command (codes "holds") AsksHolds (λ command asked h. inr (inr (inr (inr (inr (inl h))))))
+    words found
+    well
+    (named c.args.matches.now program words (codes "holds") (rows_of found) refl
+    matches (ap Some (sym it.is-holds) ∙ it.ensures.name) it.ensures.rows)
+    c.holds_of.result c.holds_of.ensures
+
+pub returns-in-Some-show-default : goal.returns-in-Some-show-default
+returns-in-Some-show-default c = λ words well matches.
+    let it = c.in-Some-show-default in
+    let found = found_of it.options.now in
+    reads_command (codes "show") AsksShow
+    (λ command asked h. inr (inr (inr (inr (inr (inr (inl h))))))) words found
+    well
+    (named c.args.matches.now program words (codes "show") (rows_of found) refl
+    matches (ap Some (sym it.is-show) ∙ it.ensures.name) it.ensures.rows)
+    (Ok (Show c.form_of.result)) (ap (λ (x : InputForm). Ok (Show x)) c.form_of.ensures)
+
+pub returns-in-Some-pending-default : goal.returns-in-Some-pending-default
+returns-in-Some-pending-default c = λ words well matches.
+    let it = c.in-Some-pending-default in
+    let found = found_of it.options.now in
+    reads_command (codes "pending") AsksPending
+    (λ command asked h. inr (inr (inr (inr (inr (inr (inr (inr (inr h))))))))) words found
+    well
+    (named c.args.matches.now program words (codes "pending") (rows_of found) refl
+    matches (ap Some (sym it.is-pending) ∙ it.ensures.name)
+    it.ensures.rows)
+    c.pending_of.result c.pending_of.ensures
