@@ -9,7 +9,7 @@ use std::fmt;
 
 /// Why events were not read, or a text was not written. Its text is its number, its name and its
 /// value, as printed lines have them.
-#[derive(Clone, Copy, Debug, PartialEq, Eq, Drop)]
+#[derive(Clone, Copy, Debug, PartialEq, Drop)]
 pub enum OutFault {
     /// 1: memory ran out.
     Memory,
@@ -22,6 +22,8 @@ pub enum OutFault {
 }
 
 impl OutFault {
+    ghost use Rattle.std.specs.Prelude.{◌++◌, codes};
+    ghost use Rattle.std.specs.Fmt.{decimal};
     ghost use Rattle.acq_out.specs.Faults.{number_of, name_of};
 
     /// The fault's number.
@@ -36,14 +38,15 @@ impl OutFault {
         }
     }
 
-    fn name(&self) -> &'static str
-        ensures { result.now ≡ name_of self.now }
+    /// The fault's number and name.
+    fn heading(&self) -> &'static str
+        ensures { result.now ≡ decimal (number_of self.now) ++ codes " " ++ name_of self.now }
     {
         match self {
-            OutFault::Memory => "Memory",
-            OutFault::Read => "Read",
-            OutFault::Write(_) => "Write",
-            OutFault::BadLine(_) => "BadLine",
+            OutFault::Memory => "1 Memory",
+            OutFault::Read => "53 Read",
+            OutFault::Write(_) => "54 Write",
+            OutFault::BadLine(_) => "62 BadLine",
         }
     }
 }
@@ -55,7 +58,7 @@ impl fmt::Display for OutFault {
     ghost output = { λ f. Some (text_of f) };
 
     fn fmt<W: fmt::Write>(&self, f: &mut fmt::Formatter<W>) -> fmt::Result {
-        write!(f, "{} {}", self.number(), self.name())?;
+        f.write_str(self.heading())?;
         match self {
             OutFault::Write(bytes) => write!(f, " {bytes}"),
             OutFault::BadLine(record) => write!(f, " {record}"),

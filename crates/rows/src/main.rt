@@ -7,8 +7,6 @@
 #![tactic(auto)]
 
 mod asked;
-mod book_at_hand;
-mod book_in_files;
 mod book_openings;
 mod command_file;
 mod command_run;
@@ -34,7 +32,6 @@ mod scenario_file;
 mod step;
 mod stopping_files;
 mod store_at_hand;
-mod store_in_files;
 mod table_file;
 mod tables;
 
@@ -44,13 +41,9 @@ use row_fault::RowFault;
 use running_scenarios::run_scenarios;
 use sqlite::MemStore;
 use sqlite_disk::{Fuse, Memory};
-use sqlite_store::FileStore;
 use std::process::ExitCode;
 use std::{env, fs, io};
 use table_file::run_table;
-
-/// A file of a book, in memory, which may stop.
-type Kept = Fuse<Memory>;
 
 fn main(rt: HostRuntime) -> ExitCode {
     match run(&rt) {
@@ -109,12 +102,7 @@ fn run_rows(
     findings: &mut Findings,
 ) -> Result<(), RowFault> {
     if name.ends_with(".scenarios") {
-        run_scenarios::<MemStore, Kept, FileStore<Kept>, HostRuntime>(
-            rt,
-            rt.alloc(),
-            text,
-            findings,
-        )
+        run_scenarios::<MemStore, Fuse<Memory>, HostRuntime>(rt, rt.alloc(), text, findings)
     } else if name.ends_with(".commands") {
         run_commands(rt, rt.alloc(), text, findings)
     } else if name.ends_with(".table") {

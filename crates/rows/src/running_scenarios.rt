@@ -2,8 +2,8 @@
 //! a scenario says so, among another merchant's events, over files that stop, or with a book that is
 //! migrated.
 
-use crate::book_at_hand::BookAtHand;
-use crate::book_in_files::BookInFiles;
+ghost use Rattle.std.specs.Prelude.{◌≡◌, false};
+
 use crate::events_of_another::lot_of_another;
 use crate::findings::Findings;
 use crate::report_asked::ReportAsked;
@@ -15,7 +15,6 @@ use crate::scenario_file::ScenarioFile;
 use crate::step::Step;
 use crate::stopping_files::FileAtHand;
 use crate::store_at_hand::StoreAtHand;
-use crate::store_in_files::StoreInFiles;
 use acq_book::{Book, BookFault, ListBook};
 use acq_commands::{Fault, TextSink};
 use acq_core::Event;
@@ -24,13 +23,14 @@ use acq_link::MemorySink;
 use acq_out::write_output;
 use acq_reports::ReportFault;
 use acq_sql::SqlBook;
+use sqlite::{Alter, Connection};
 use std::alloc::Global;
 use std::fmt::Write;
 use std::hash::RandomState;
 use std::random::RandomSource;
 
 /// Runs all scenarios of a file.
-pub fn run_scenarios<S: StoreAtHand, D: FileAtHand, T: StoreInFiles<D>, R: RandomSource>(
+pub fn run_scenarios<S: StoreAtHand, D: FileAtHand, R: RandomSource>(
     rt: &R,
     alloc: Global,
     text: &str,
@@ -42,17 +42,17 @@ pub fn run_scenarios<S: StoreAtHand, D: FileAtHand, T: StoreInFiles<D>, R: Rando
     }
     for scenario in file.scenarios.as_slice() {
         let setup = file.setup.steps.as_slice();
-        run_over_books::<SqlBook<S>, R>(rt, alloc, setup, scenario, findings)?;
-        run_over_files::<D, SqlBook<T>>(alloc, setup, scenario, findings)?;
+        run_over_books::<S, R>(rt, alloc, setup, scenario, findings)?;
+        run_over_files::<D>(alloc, setup, scenario, findings)?;
         if let Some(sales) = scenario.others {
-            run_among::<SqlBook<S>, R>(rt, alloc, setup, scenario, sales, findings)?;
+            run_among::<S, R>(rt, alloc, setup, scenario, sales, findings)?;
         }
     }
     Ok(())
 }
 
 /// Runs a scenario over each book.
-fn run_over_books<B: BookAtHand, R: RandomSource>(
+fn run_over_books<S: StoreAtHand, R: RandomSource>(
     rt: &R,
     alloc: Global,
     setup: &[Step],
@@ -71,23 +71,17 @@ fn run_over_books<B: BookAtHand, R: RandomSource>(
     findings.set_book(", in SQL");
     run_on(
         alloc,
-        host_in_sql::<B>(alloc, scenario)?,
+        host_in_sql(alloc, S::open(alloc)?, scenario)?,
         setup,
         scenario,
         findings,
     )?;
     findings.set_book(", in SQL, taken again before each event");
-    run_again_on(
-        alloc,
-        host_in_sql::<B>(alloc, scenario)?,
-        setup,
-        scenario,
-        findings,
-    )
+    run_again_on(alloc, S::open(alloc)?, setup, scenario, findings)
 }
 
 /// Runs a scenario whose book is migrated, or over files that stop, where it says so.
-fn run_over_files<D: FileAtHand, B: BookInFiles<D>>(
+fn run_over_files<D: FileAtHand>(
     alloc: Global,
     setup: &[Step],
     scenario: &Scenario,
@@ -96,15 +90,15 @@ fn run_over_files<D: FileAtHand, B: BookInFiles<D>>(
     match (scenario.migrated, scenario.stops) {
         (Some(before), stops) => {
             let least = stops.unwrap_or(0);
-            run_migrated::<D, B>(alloc, setup, scenario, before, least, findings)
+            run_migrated::<D>(alloc, setup, scenario, before, least, findings)
         }
-        (None, Some(least)) => run_stopping::<D, B>(alloc, setup, scenario, least, findings),
+        (None, Some(least)) => run_stopping::<D>(alloc, setup, scenario, least, findings),
         (None, None) => Ok(()),
     }
 }
 
 /// Runs a scenario among another merchant's events, over a book in memory and over one in SQL.
-fn run_among<B: BookAtHand, R: RandomSource>(
+fn run_among<S: StoreAtHand, R: RandomSource>(
     rt: &R,
     alloc: Global,
     setup: &[Step],
@@ -125,7 +119,7 @@ fn run_among<B: BookAtHand, R: RandomSource>(
     findings.set_book(", in SQL, among another merchant's events");
     run_among_on(
         alloc,
-        host_in_sql::<B>(alloc, scenario)?,
+        host_in_sql(alloc, S::open(alloc)?, scenario)?,
         setup,
         scenario.steps.as_slice(),
         sales,
@@ -138,16 +132,29 @@ fn host_in_memory(alloc: Global, keys: RandomState, scenario: &Scenario) -> Host
     Host::in_memory(alloc, keys, scenario.limit, scenario.first_day)
 }
 
-/// A host over a new book in SQL.
-fn host_in_sql<B: BookAtHand>(alloc: Global, scenario: &Scenario) -> Result<Host<B>, RowFault> {
-    let book = B::make(alloc, scenario.limit, scenario.first_day)?;
-    Ok(Host::new(alloc, book))
+/// A host over a new book in a database.
+pub(crate) fn host_in_sql<S: Alter + Drop>(
+    alloc: Global,
+    connection: Connection<S>,
+    scenario: &Scenario,
+) -> Result<Host<SqlBook<S>>, RowFault>
+    requires settled { connection.in_transaction ≡ false }
+{
+    match SqlBook::create(alloc, connection, scenario.limit, scenario.first_day) {
+        Ok(book) => Ok(Host::new(alloc, book)),
+        Err(_) => Err(RowFault::Book),
+    }
 }
 
-/// A host over the same book, which is taken again.
-fn taken_again<B: BookAtHand>(alloc: Global, host: Host<B>) -> Result<Host<B>, RowFault> {
-    let book = host.into_book().take_again(alloc)?;
-    Ok(Host::new(alloc, book))
+/// A host over the same database, which is handed back and taken again.
+fn taken_again<S: Alter + Drop>(
+    alloc: Global,
+    host: Host<SqlBook<S>>,
+) -> Result<Host<SqlBook<S>>, RowFault> {
+    match SqlBook::adopt(alloc, host.into_book().release()) {
+        Ok(book) => Ok(Host::new(alloc, book)),
+        Err(_) => Err(RowFault::Book),
+    }
 }
 
 /// Runs a scenario over a host, which is given back.
@@ -164,13 +171,16 @@ fn run_on<B: Book + Drop>(
 }
 
 /// Runs a scenario over a book in SQL that is handed back and taken again before each event.
-fn run_again_on<B: BookAtHand>(
+fn run_again_on<S: Alter + Drop>(
     alloc: Global,
-    mut host: Host<B>,
+    connection: Connection<S>,
     setup: &[Step],
     scenario: &Scenario,
     findings: &mut Findings,
-) -> Result<(), RowFault> {
+) -> Result<(), RowFault>
+    requires settled { connection.in_transaction ≡ false }
+{
+    let mut host = host_in_sql(alloc, connection, scenario)?;
     take_steps(alloc, &mut host, setup, findings)?;
     for step in scenario.steps.as_slice() {
         host = taken_again(alloc, host)?;

@@ -1,16 +1,19 @@
 //! Scenarios over files that stop at each of their calls in turn: what is left of them is each time a
 //! book that holds all events so far, with or without the one in hand, and goes on as written.
 
-use crate::book_in_files::BookInFiles;
+ghost use Rattle.std.specs.Prelude.{◌≡◌, false};
+
 use crate::findings::Findings;
 use crate::row_fault::RowFault;
 use crate::running_scenarios::{ask, take_step};
 use crate::scenario::Scenario;
 use crate::step::Step;
-use crate::stopping_files::{Calls, FileAtHand, Stopping, copies_of, new_files};
+use crate::stopping_files::{Calls, FRAMES, FileAtHand, Stopping, copies_of, new_files, open};
 use acq_book::Book;
 use acq_core::Event;
 use acq_host::Host;
+use acq_sql::SqlBook;
+use sqlite::{Alter, Connection};
 use sqlite_disk::Files;
 use std::alloc::Global;
 
@@ -29,7 +32,7 @@ enum Ended {
 
 /// Runs a scenario over files of which one stops at each of its calls in turn, from the first on at
 /// which there is a book, until a run needs no more of them: at so many calls at least.
-pub fn run_stopping<D: FileAtHand, B: BookInFiles<D>>(
+pub fn run_stopping<D: FileAtHand>(
     alloc: Global,
     setup: &[Step],
     scenario: &Scenario,
@@ -37,12 +40,12 @@ pub fn run_stopping<D: FileAtHand, B: BookInFiles<D>>(
     findings: &mut Findings,
 ) -> Result<(), RowFault> {
     findings.set_book(", in SQL, over a log that stops");
-    stop_in_turn::<D, B>(alloc, Stopping::Log, setup, scenario, least, findings)?;
+    stop_in_turn::<D>(alloc, Stopping::Log, setup, scenario, least, findings)?;
     findings.set_book(", in SQL, over a database that stops");
-    stop_in_turn::<D, B>(alloc, Stopping::Database, setup, scenario, least, findings)
+    stop_in_turn::<D>(alloc, Stopping::Database, setup, scenario, least, findings)
 }
 
-fn stop_in_turn<D: FileAtHand, B: BookInFiles<D>>(
+fn stop_in_turn<D: FileAtHand>(
     alloc: Global,
     stopping: Stopping,
     setup: &[Step],
@@ -53,7 +56,7 @@ fn stop_in_turn<D: FileAtHand, B: BookInFiles<D>>(
     let mut stops: u64 = 0;
     for calls in 0..MOST_CALLS {
         let files: Files<D> = new_files(alloc, Calls::until(stopping, calls));
-        match run_until_stop::<D, B>(alloc, files, setup, scenario, findings)? {
+        match run_until_stop(alloc, files, setup, scenario, findings)? {
             Ended::NoBook => {}
             Ended::Stopped => stops = stops.saturating_add(1),
             Ended::Whole if stops < least => return Err(RowFault::FewStops(stops)),
@@ -65,27 +68,51 @@ fn stop_in_turn<D: FileAtHand, B: BookInFiles<D>>(
 
 /// Runs a scenario over new files, and where they stop goes on from what was written to them, and
 /// from what of it was synced.
-fn run_until_stop<D: FileAtHand, B: BookInFiles<D>>(
+fn run_until_stop<D: FileAtHand>(
     alloc: Global,
     files: Files<D>,
     setup: &[Step],
     scenario: &Scenario,
     findings: &mut Findings,
 ) -> Result<Ended, RowFault> {
-    let Some(book) = B::make(alloc, files, scenario.limit, scenario.first_day) else {
+    let Some(connection) = open(alloc, files, FRAMES) else {
         return Ok(Ended::NoBook);
     };
-    let mut host = Host::new(alloc, book);
-    let taken = take_until_stop(&mut host, setup, scenario.steps.as_slice());
-    let mut left = host.into_book().close();
+    let (connection, taken) = taken_over(alloc, connection, setup, scenario);
+    let Some(taken) = taken else {
+        drop(connection);
+        return Ok(Ended::NoBook);
+    };
+    let mut left = connection.into_store().close();
     if taken == setup.len().saturating_add(scenario.steps.len()) {
         return Ok(Ended::Whole);
     }
-    go_on::<D, B>(alloc, &left, setup, scenario, taken, findings)?;
+    go_on(alloc, &left, setup, scenario, taken, findings)?;
     left.log.crash();
     left.db.crash();
-    go_on::<D, B>(alloc, &left, setup, scenario, taken, findings)?;
+    go_on(alloc, &left, setup, scenario, taken, findings)?;
     Ok(Ended::Stopped)
+}
+
+/// Takes steps over a new book in a database until one fails. Returns the database, and how many
+/// were taken, if there was a book. What is done over a book is said of any database, as a proof
+/// over one in files takes minutes.
+fn taken_over<S: Alter + Drop>(
+    alloc: Global,
+    connection: Connection<S>,
+    setup: &[Step],
+    scenario: &Scenario,
+) -> (Connection<S>, Option<usize>)
+    requires settled { connection.in_transaction ≡ false }
+{
+    match SqlBook::create(alloc, connection, scenario.limit, scenario.first_day) {
+        Ok(book) => {
+            let mut host = Host::new(alloc, book);
+            let taken = take_until_stop(&mut host, setup, scenario.steps.as_slice());
+            (host.into_book().release(), Some(taken))
+        }
+        Err(refusal) => (refusal.connection, None),
+    }
 }
 
 /// Takes steps until one fails, and returns how many were taken.
@@ -102,7 +129,7 @@ fn take_until_stop<B: Book + Drop>(host: &mut Host<B>, setup: &[Step], steps: &[
 
 /// Goes on from what is left in files: from the step at which they stopped, or, where the book has
 /// that one, from the next. A frame that gets a reply gets the same again, and posts nothing twice.
-fn go_on<D: FileAtHand, B: BookInFiles<D>>(
+fn go_on<D: FileAtHand>(
     alloc: Global,
     left: &Files<D>,
     setup: &[Step],
@@ -111,7 +138,7 @@ fn go_on<D: FileAtHand, B: BookInFiles<D>>(
     findings: &mut Findings,
 ) -> Result<(), RowFault> {
     let mut without = findings.of_same_book(alloc);
-    go_on_from::<D, B>(alloc, left, setup, scenario, taken, &mut without)?;
+    go_on_from(alloc, left, setup, scenario, taken, &mut without)?;
     if without.is_empty() {
         return Ok(());
     }
@@ -120,7 +147,7 @@ fn go_on<D: FileAtHand, B: BookInFiles<D>>(
         return findings.take_from(&without);
     }
     let mut with = findings.of_same_book(alloc);
-    go_on_from::<D, B>(
+    go_on_from(
         alloc,
         left,
         setup,
@@ -140,7 +167,7 @@ fn is_frame_with_reply(step: &Step) -> bool {
 }
 
 /// Goes on over copies of what is left in files, behind so many steps.
-fn go_on_from<D: FileAtHand, B: BookInFiles<D>>(
+fn go_on_from<D: FileAtHand>(
     alloc: Global,
     left: &Files<D>,
     setup: &[Step],
@@ -149,7 +176,24 @@ fn go_on_from<D: FileAtHand, B: BookInFiles<D>>(
     findings: &mut Findings,
 ) -> Result<(), RowFault> {
     let files = copies_of(alloc, left, Calls::ALL)?;
-    let Some(book) = B::take(alloc, files)? else {
+    match open(alloc, files, FRAMES) {
+        Some(connection) => go_on_over(alloc, connection, setup, scenario, taken, findings),
+        None => Err(RowFault::Book),
+    }
+}
+
+/// Goes on over the book in a database, behind so many steps.
+fn go_on_over<S: Alter + Drop>(
+    alloc: Global,
+    connection: Connection<S>,
+    setup: &[Step],
+    scenario: &Scenario,
+    taken: usize,
+    findings: &mut Findings,
+) -> Result<(), RowFault>
+    requires settled { connection.in_transaction ≡ false }
+{
+    let Ok(book) = SqlBook::adopt(alloc, connection) else {
         return Err(RowFault::Book);
     };
     let mut host = Host::new(alloc, book);

@@ -1,8 +1,15 @@
 //! The files of a book, in memory, of which one may stop at some call.
 
+ghost use Rattle.std.specs.Prelude.{◌≡◌, IfSome, false};
+
 use crate::row_fault::RowFault;
+use sqlite::{Connection, Options};
 use sqlite_disk::{Crash, Disk, Files, Fuse, Memory};
+use sqlite_store::FileStore;
 use std::alloc::Global;
+
+/// So short a log that both files are written to.
+pub const FRAMES: usize = 12;
 
 /// How many calls each file of a book passes on; it fails each one after.
 #[derive(Clone, Copy, Debug)]
@@ -79,4 +86,24 @@ pub fn copies_of<D: FileAtHand>(
         log: files.log.copied(alloc, calls.log)?,
         db: files.db.copied(alloc, calls.database)?,
     })
+}
+
+/// Opens files, where no sync of them has failed; a log of so many frames is copied into the
+/// database.
+pub fn open<D: Disk + Drop>(
+    alloc: Global,
+    files: Files<D>,
+    frames: usize,
+) -> Option<Connection<FileStore<D>>>
+    ensures settled { IfSome result (λ connection. connection.in_transaction ≡ false) }
+{
+    if !files.may_be_used() {
+        return None;
+    }
+    let mut options = Options::new(1);
+    options.checkpoint_frames = frames;
+    match Connection::open_files(alloc, files, options) {
+        Ok(connection) => Some(connection),
+        Err(_) => None,
+    }
 }

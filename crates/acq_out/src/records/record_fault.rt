@@ -8,7 +8,7 @@ use std::error::Error;
 use std::fmt;
 
 /// Why a text's records gave no values. A caller tells it by a fault of its own, with its number.
-#[derive(Clone, Copy, Debug, PartialEq, Eq, Drop)]
+#[derive(Clone, Copy, Debug, PartialEq, Drop)]
 pub enum RecordFault {
     /// Memory ran out.
     Memory,
@@ -26,8 +26,8 @@ impl fmt::Display for RecordFault {
 
     fn fmt<W: fmt::Write>(&self, f: &mut fmt::Formatter<W>) -> fmt::Result {
         match self {
-            RecordFault::Memory => write!(f, "out of memory"),
-            RecordFault::Read => write!(f, "a read failed"),
+            RecordFault::Memory => f.write_str("out of memory"),
+            RecordFault::Read => f.write_str("a read failed"),
             RecordFault::BadRecord(record) => write!(f, "record {record} is out of its form"),
         }
     }

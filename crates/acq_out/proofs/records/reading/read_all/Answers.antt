@@ -1,6 +1,7 @@
-use Rattle.std.proofs.Common.{◌∙◌, inl}
+use Rattle.std.proofs.Common.{◌∙◌, inl, inr, ap}
 use Rattle.std.proofs.lemmas.Result.{err_from_is_err_and}
 use Rattle.csv.specs.Records.{fields_of}
+use Rattle.acq_out.specs.RecordFaults.{reads_failed}
 use Rattle.acq_out.proofs.records.RecordsRead.{stands-start, stands-more, stands-end, reads-failed}
 use Rattle.acq_out.proofs.records.reading.read_all.Goals as goal
 
@@ -50,3 +51,12 @@ returns-in_err-add_record-in-Ok-true-clause-values g c = λ text left.
     c.loop-number.values.items c.loop-number.number
     (fields_of c.read_byte_record.new.row) _ (inv.known text left) inv.config read
     c.in_err-add_record-in-Ok-true.ensures.fault)
+
+pub returns-in_err-add_record-in-Ok-true-clause-reads
+    : goal.returns-in_err-add_record-in-Ok-true-clause-reads
+returns-in_err-add_record-in-Ok-true-clause-reads g c =
+    let p = err_from_is_err_and c.from_residual.result c.from_residual.ensures.1 in
+    rw (p.1, p.2) (elim c.in_err-add_record-in-Ok-true.ensures.fault [
+      | inl memory ↦ ap reads_failed memory
+      | inr bad ↦ ap reads_failed bad.0
+    ])
