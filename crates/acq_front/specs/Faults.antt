@@ -1,6 +1,6 @@
 -- The faults' numbers and texts, what faults of the parts are to a connection, and how many reads
 -- and writes failed.
-use Rattle.std.specs.Prelude.{ℕ, List, ◌++◌, [], codes, Result, Ok, Err}
+use Rattle.std.specs.Prelude.{ℕ, List, ◌++◌, codes, Result, Ok, Err}
 use Rattle.std.specs.Fmt.{decimal}
 use Rattle.acq_link.specs.declared.deframe_fault.DeframeFault as deframe
 use Rattle.iso_codec.specs.FaultTexts.{number_of_fault, element_of_fault}
@@ -19,26 +19,17 @@ number_of (Undecodable fault) = 52
 number_of Read = 53
 number_of (Write n) = 54
 
--- a fault's name
-abbrev pub name_of : FrontFault → List ℕ
-name_of Memory = codes "Memory"
-name_of Store = codes "Store"
-name_of BadLength = codes "BadLength"
-name_of Ended = codes "Ended"
-name_of (Undecodable fault) = codes "Undecodable"
-name_of Read = codes "Read"
-name_of (Write n) = codes "Write"
-
--- its values, each behind a space
-abbrev pub values_of : FrontFault → List ℕ
-values_of (Undecodable fault) =
-    codes " " ++ decimal (number_of_fault fault) ++ codes " " ++ decimal (element_of_fault fault)
-values_of (Write n) = codes " " ++ decimal n
-values_of other = []
-
--- the fault as printed lines have it
+-- the fault as printed lines have it: its number, its name and its values
 abbrev pub text_of : FrontFault → List ℕ
-text_of fault = decimal (number_of fault) ++ codes " " ++ name_of fault ++ values_of fault
+text_of Memory = codes "1 Memory"
+text_of Store = codes "2 Store"
+text_of BadLength = codes "50 BadLength"
+text_of Ended = codes "51 Ended"
+text_of (Undecodable fault) =
+    codes "52 Undecodable " ++ decimal (number_of_fault fault) ++ codes " "
+    ++ decimal (element_of_fault fault)
+text_of Read = codes "53 Read"
+text_of (Write n) = codes "54 Write " ++ decimal n
 
 -- what a book's fault is
 abbrev pub of_book : book.BookFault → FrontFault

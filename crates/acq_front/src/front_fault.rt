@@ -27,9 +27,8 @@ pub enum FrontFault {
 }
 
 impl FrontFault {
-    ghost use Rattle.std.specs.Prelude.{◌≡◌, ◌++◌, codes};
-    ghost use Rattle.std.specs.Fmt.{decimal};
-    ghost use Rattle.acq_front.specs.Faults.{number_of, name_of};
+    ghost use Rattle.std.specs.Prelude.{◌≡◌};
+    ghost use Rattle.acq_front.specs.Faults.{number_of};
 
     /// The fault's number.
     pub fn number(&self) -> u8
@@ -45,21 +44,6 @@ impl FrontFault {
             FrontFault::Write(_) => 54,
         }
     }
-
-    /// The fault's number and name.
-    fn heading(&self) -> &'static str
-        ensures { result.now ≡ decimal (number_of self.now) ++ codes " " ++ name_of self.now }
-    {
-        match self {
-            FrontFault::Memory => "1 Memory",
-            FrontFault::Store => "2 Store",
-            FrontFault::BadLength => "50 BadLength",
-            FrontFault::Ended => "51 Ended",
-            FrontFault::Undecodable(_) => "52 Undecodable",
-            FrontFault::Read => "53 Read",
-            FrontFault::Write(_) => "54 Write",
-        }
-    }
 }
 
 impl fmt::Display for FrontFault {
@@ -69,11 +53,16 @@ impl fmt::Display for FrontFault {
     ghost output = { λ f. Some (text_of f) };
 
     fn fmt<W: fmt::Write>(&self, f: &mut fmt::Formatter<W>) -> fmt::Result {
-        f.write_str(self.heading())?;
         match self {
-            FrontFault::Undecodable(fault) => write!(f, " {} {}", fault.number(), fault.element()),
-            FrontFault::Write(bytes) => write!(f, " {bytes}"),
-            _ => Ok(()),
+            FrontFault::Memory => f.write_str("1 Memory"),
+            FrontFault::Store => f.write_str("2 Store"),
+            FrontFault::BadLength => f.write_str("50 BadLength"),
+            FrontFault::Ended => f.write_str("51 Ended"),
+            FrontFault::Undecodable(fault) => {
+                write!(f, "52 Undecodable {} {}", fault.number(), fault.element())
+            }
+            FrontFault::Read => f.write_str("53 Read"),
+            FrontFault::Write(bytes) => write!(f, "54 Write {bytes}"),
         }
     }
 }

@@ -1,5 +1,5 @@
 -- The faults' numbers and texts, and how many reads and writes failed.
-use Rattle.std.specs.Prelude.{ℕ, List, ◌++◌, [], codes, Result, Ok, Err}
+use Rattle.std.specs.Prelude.{ℕ, List, ◌++◌, codes, Result, Ok, Err}
 use Rattle.std.specs.Fmt.{decimal}
 use Rattle.acq_out.specs.declared.records.record_fault.RecordFault as records
 use Rattle.acq_out.specs.declared.out_fault.OutFault.{OutFault}
@@ -11,23 +11,12 @@ number_of Read = 53
 number_of (Write n) = 54
 number_of (BadLine n) = 62
 
--- a fault's name
-abbrev pub name_of : OutFault → List ℕ
-name_of Memory = codes "Memory"
-name_of Read = codes "Read"
-name_of (Write n) = codes "Write"
-name_of (BadLine n) = codes "BadLine"
-
--- its value, behind a space
-abbrev pub values_of : OutFault → List ℕ
-values_of Memory = []
-values_of Read = []
-values_of (Write n) = codes " " ++ decimal n
-values_of (BadLine n) = codes " " ++ decimal n
-
--- the fault as printed lines have it
+-- the fault as printed lines have it: its number, its name and its value
 abbrev pub text_of : OutFault → List ℕ
-text_of fault = decimal (number_of fault) ++ codes " " ++ name_of fault ++ values_of fault
+text_of Memory = codes "1 Memory"
+text_of Read = codes "53 Read"
+text_of (Write n) = codes "54 Write " ++ decimal n
+text_of (BadLine n) = codes "62 BadLine " ++ decimal n
 
 -- what a fault of reading records is
 abbrev pub of_records : records.RecordFault → OutFault

@@ -22,9 +22,7 @@ pub enum OutFault {
 }
 
 impl OutFault {
-    ghost use Rattle.std.specs.Prelude.{◌++◌, codes};
-    ghost use Rattle.std.specs.Fmt.{decimal};
-    ghost use Rattle.acq_out.specs.Faults.{number_of, name_of};
+    ghost use Rattle.acq_out.specs.Faults.{number_of};
 
     /// The fault's number.
     pub fn number(&self) -> u8
@@ -37,18 +35,6 @@ impl OutFault {
             OutFault::BadLine(_) => 62,
         }
     }
-
-    /// The fault's number and name.
-    fn heading(&self) -> &'static str
-        ensures { result.now ≡ decimal (number_of self.now) ++ codes " " ++ name_of self.now }
-    {
-        match self {
-            OutFault::Memory => "1 Memory",
-            OutFault::Read => "53 Read",
-            OutFault::Write(_) => "54 Write",
-            OutFault::BadLine(_) => "62 BadLine",
-        }
-    }
 }
 
 impl fmt::Display for OutFault {
@@ -58,11 +44,11 @@ impl fmt::Display for OutFault {
     ghost output = { λ f. Some (text_of f) };
 
     fn fmt<W: fmt::Write>(&self, f: &mut fmt::Formatter<W>) -> fmt::Result {
-        f.write_str(self.heading())?;
         match self {
-            OutFault::Write(bytes) => write!(f, " {bytes}"),
-            OutFault::BadLine(record) => write!(f, " {record}"),
-            OutFault::Memory | OutFault::Read => Ok(()),
+            OutFault::Memory => f.write_str("1 Memory"),
+            OutFault::Read => f.write_str("53 Read"),
+            OutFault::Write(bytes) => write!(f, "54 Write {bytes}"),
+            OutFault::BadLine(record) => write!(f, "62 BadLine {record}"),
         }
     }
 }
