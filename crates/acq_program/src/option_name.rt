@@ -39,20 +39,20 @@ impl fmt::Display for OptionName {
     ghost output = { λ option. Some (name_of_option option) };
 
     fn fmt<W: fmt::Write>(&self, f: &mut fmt::Formatter<W>) -> fmt::Result {
-        match self {
-            OptionName::Db => f.write_str("--db"),
-            OptionName::Limit => f.write_str("--limit"),
-            OptionName::Day => f.write_str("--day"),
-            OptionName::Merchant => f.write_str("--merchant"),
-            OptionName::At => f.write_str("--at"),
-            OptionName::Port => f.write_str("--port"),
-            OptionName::Count => f.write_str("--count"),
-            OptionName::Idle => f.write_str("--idle"),
-            OptionName::FrameWithin => f.write_str("--frame-within"),
-            OptionName::IdleWhenFull => f.write_str("--idle-when-full"),
-            OptionName::Together => f.write_str("--together"),
-            OptionName::Report(ReportKind::Clearing) => f.write_str("--clearing"),
-            OptionName::Report(ReportKind::Settlement) => f.write_str("--report"),
-        }
+        f.write_str(match self {
+            OptionName::Db => "--db",
+            OptionName::Limit => "--limit",
+            OptionName::Day => "--day",
+            OptionName::Merchant => "--merchant",
+            OptionName::At => "--at",
+            OptionName::Port => "--port",
+            OptionName::Count => "--count",
+            OptionName::Idle => "--idle",
+            OptionName::FrameWithin => "--frame-within",
+            OptionName::IdleWhenFull => "--idle-when-full",
+            OptionName::Together => "--together",
+            OptionName::Report(ReportKind::Clearing) => "--clearing",
+            OptionName::Report(ReportKind::Settlement) => "--report",
+        })
     }
 }
