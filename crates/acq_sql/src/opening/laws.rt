@@ -1,11 +1,11 @@
 //! What an open finds of a book.
 
-ghost use Rattle.std.specs.Prelude.{ℕ, IsTrue};
+ghost use Rattle.std.specs.Prelude.{ℕ};
 ghost use Rattle.sqlite_wal.specs.Recovery.{Image};
-ghost use Rattle.sqlite_trees.specs.View.{IsClean, IsQuiet};
+ghost use Rattle.sqlite_trees.specs.View.{IsClean};
 ghost use Rattle.sqlite_store.specs.FileStore as files;
 ghost use Rattle.sqlite.specs.Files.{over_files};
-ghost use Rattle.sqlite.specs.Held.{AreDatabases, state};
+ghost use Rattle.sqlite.specs.Held.{state};
 ghost use Rattle.sqlite.specs.State.{Opens, IsLive};
 ghost use Rattle.acq_core.specs.Tables.{Tables};
 ghost use Rattle.acq_sql_changes.specs.Changed.{IsAt, IsAtOf, HoldsAfter, HoldsAfterOf};
@@ -39,17 +39,6 @@ pub fn a_stop_leaves_a_book<D: Disk + Drop>(book: SqlBook<FileStore<D>>) -> File
     ensures left { IsClean (files.view result) → leaves_books over_files book
         → (left : Image) → (files.state result).may_leave left
         → ∥ ((t : Tables) × may_leave over_files book t × FilesHold left t) ∥₁ }
-{
-    given_up(book)
-}
-
-/// The store of a book that is given up. It is said of any store, as each call over files alone
-/// is dear to prove.
-fn given_up<S: Alter + Drop>(book: SqlBook<S>) -> S
-    ensures numbered { IsClean (S.Store.view result) → IsTrue (S.Store.view result).is_numbered }
-    ensures sound { IsClean (S.Store.view result) → AreDatabases (S.Store.recovers result) }
-    ensures quiet { IsQuiet S.Store.view S.Store.faults S.Store.recovers S.Store.is_shielded
-        book.connection.store result }
 {
     book.release().into_store()
 }
