@@ -1,5 +1,5 @@
 -- What was looked up part by part.
-use Rattle.std.specs.Prelude.{◌≡◌, option_and_then}
+use Rattle.std.specs.Prelude.{◌≡◌, None, option_and_then}
 use Rattle.acq_message.specs.Elements.{or_empty}
 use Rattle.acq_core.specs.declared.lookup.Wanted.{Wanted}
 use Rattle.acq_core.specs.declared.lookup.Looked.{Looked}
@@ -30,3 +30,16 @@ pub record IsLooked (t : Tables) (w : Wanted) (l : Looked) : Type 0 where
   pub totals :
       l.totals ≡ totals_if (totals_at t (or_empty w.merchant))
       (option_and_then (λ id. w.totals_day) w.merchant)
+
+-- of what is wanted, what is looked up for no merchant, or under a whole key
+abbrev pub rows_of : Wanted → Wanted
+rows_of w = record {
+  merchant = None;
+  terminal = None;
+  key = w.key;
+  original = w.original;
+  reference = None;
+  prefix = w.prefix;
+  bounds = w.bounds;
+  totals_day = None;
+}

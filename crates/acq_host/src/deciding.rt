@@ -77,16 +77,16 @@ fn decide_over<B: Book>(
     Ok(arrival.decide(alloc, looked)?)
 }
 
-/// Makes a change, if there is one.
-pub(crate) fn apply<B: Book>(book: &mut B, change: Option<Change>) -> Result<(), BookFault>
-    requires fits { B.is_open book.old → IfSome change (Fits (B.tables book.old)) }
-    requires past { B.is_open book.old → HasPast (after_any (B.tables book.old) change) }
+/// Makes a change, if there is one. It is lent, since whoever lets it go here does so in two arms.
+pub(crate) fn apply<B: Book>(book: &mut B, change: &Option<Change>) -> Result<(), BookFault>
+    requires fits { B.is_open book.old → IfSome change.now (Fits (B.tables book.old)) }
+    requires past { B.is_open book.old → HasPast (after_any (B.tables book.old) change.now) }
     ensures makes { Makes B.Book
-        book.old book.new (is_ok result) (after_any (B.tables book.old) change) }
+        book.old book.new (is_ok result) (after_any (B.tables book.old) change.now) }
     ensures store { IfStore result (HasRisen (B.failures book.old) (B.failures book.new)) }
 {
     match change {
-        Some(change) => book.apply(&change),
+        Some(change) => book.apply(change),
         None => Ok(()),
     }
 }

@@ -92,7 +92,9 @@ impl<B: Book + Drop> Host<B> {
     {
         every_event(event);
         let (output, change) = decide(self.alloc, &mut self.book, event)?;
-        apply(&mut self.book, change)?;
+        let made = apply(&mut self.book, &change);
+        drop(change);
+        made?;
         Ok(output)
     }
 

@@ -9,7 +9,7 @@ ghost use Rattle.acq_book.specs.Lookups.{merchant_at, has_terminal_at, range_at,
 ghost use Rattle.acq_book.specs.Lookups.{request_at, referred_at, admitted_at, used_at, totals_at};
 ghost use Rattle.acq_book.specs.Calls.{Looks};
 ghost use Rattle.acq_book.specs.Promise.{HasRisen, IfStore};
-ghost use Rattle.acq_host.specs.Looked.{IsLooked};
+ghost use Rattle.acq_host.specs.Looked.{IsLooked, rows_of};
 
 use acq_book::{Book, BookFault};
 use acq_core::{
@@ -95,8 +95,7 @@ fn none_used() -> UsedCount
     count
 }
 
-/// Looks up what is wanted. Each part is put in its place at once, since what was looked up is
-/// large.
+/// Looks up what is wanted: first what is looked up for no merchant, or under a whole key.
 #[tactic(auto, using(crate::proofs::Chains::looks_more))]
 fn look_up_wanted<B: Book>(
     book: &mut B,
@@ -108,18 +107,61 @@ fn look_up_wanted<B: Book>(
     ensures looks { Looks B.Book book.old book.new (is_ok result) }
     ensures store { IfStore result (HasRisen (B.failures book.old) (B.failures book.new)) }
 {
+    look_up_rows(book, wanted, looked)?;
+    look_up_of_merchant(book, wanted, looked)
+}
+
+/// Looks up the ranges and the requests under their keys. Each part is put in its place at once,
+/// since what was looked up is large.
+#[tactic(auto, using(crate::proofs::Chains::looks_more))]
+fn look_up_rows<B: Book>(
+    book: &mut B,
+    wanted: &Wanted,
+    looked: &mut Looked,
+) -> Result<(), BookFault>
+    ensures looked { B.is_open book.new → IsLooked (B.tables book.old) nothing looked.old
+        → OnOk result (IsLooked (B.tables book.old) (rows_of wanted.now) looked.new) }
+    ensures looks { Looks B.Book book.old book.new (is_ok result) }
+    ensures store { IfStore result (HasRisen (B.failures book.old) (B.failures book.new)) }
+{
+    looked.range = range(book, wanted.prefix)?;
+    looked.overlapped = overlapping(book, wanted.bounds)?;
+    let recorded = request(book, wanted.key)?;
+    put(&mut looked.recorded, recorded);
+    let original = request(book, wanted.original)?;
+    put(&mut looked.original, original);
+    Ok(())
+}
+
+/// Looks up what is looked up for the merchant that is wanted, where the rest was.
+#[tactic(auto, using(crate::proofs::Chains::looks_more))]
+fn look_up_of_merchant<B: Book>(
+    book: &mut B,
+    wanted: &Wanted,
+    looked: &mut Looked,
+) -> Result<(), BookFault>
+    ensures looked { B.is_open book.new
+        → IsLooked (B.tables book.old) (rows_of wanted.now) looked.old
+        → OnOk result (IsLooked (B.tables book.old) wanted.now looked.new) }
+    ensures looks { Looks B.Book book.old book.new (is_ok result) }
+    ensures store { IfStore result (HasRisen (B.failures book.old) (B.failures book.new)) }
+{
     let today = looked.today;
     looked.merchant = merchant(book, wanted.merchant)?;
     looked.has_terminal = has_terminal(book, wanted.merchant, wanted.terminal)?;
     looked.admitted = admitted(book, wanted.merchant)?;
     looked.used = used(book, wanted.merchant, today)?;
     looked.totals = totals(book, wanted.merchant, wanted.totals_day)?;
-    looked.range = range(book, wanted.prefix)?;
-    looked.overlapped = overlapping(book, wanted.bounds)?;
-    looked.recorded = request(book, wanted.key)?;
-    looked.original = request(book, wanted.original)?;
-    looked.referred = referred(book, wanted.merchant, wanted.reference)?;
+    let referred = referred(book, wanted.merchant, wanted.reference)?;
+    put(&mut looked.referred, referred);
     Ok(())
+}
+
+/// Puts a request in its place, and lets go what stood there, as no other function here does.
+fn put(place: &mut Option<Request>, found: Option<Request>)
+    ensures { place.new ≡ found }
+{
+    *place = found;
 }
 
 /// The merchant that is wanted.

@@ -1,5 +1,5 @@
 -- what the host took so far, and one event more
-use Rattle.std.proofs.Common.{take, [], refl, sym, ap, ◌∙◌, subst, arith}
+use Rattle.std.proofs.Common.{take, [], inl, refl, sym, ap, ◌∙◌, subst, arith}
 use Rattle.std.proofs.lemmas.List.{take_all}
 use Rattle.acq_core.specs.Tables.{outputs, tables_after}
 use Rattle.acq_core.specs.Pasts.{HasPast}
@@ -28,6 +28,20 @@ loop-at-preserved g c = record {
       c.in_default.ensures.tables c.in_default.ensures.said;
   past = c.in_default.ensures.past;
 }
+
+pub returns-in-Err-clause-fault : goal.returns-in-Err-clause-fault
+returns-in-Err-clause-fault g c = λ h o. record {
+  within = omega arith;
+  outputs = c.in-Err.ensures.kept
+      ∙ c.loop-at.invariant.took.says (c.in-Err.ensures.tables.was_honest h) o;
+}
+
+pub returns-in-Err-clause-fault_tables : goal.returns-in-Err-clause-fault_tables
+returns-in-Err-clause-fault_tables g c = λ o end.
+    let makes = c.in-Err.ensures.tables in
+    let first = c.loop-at.invariant.took in
+    let before = makes.was_honest (g.met.B.Book.honest c.take_next.new.self end) in
+    makes.unmade refl (first.stays_open before o) end ∙ first.leads before o
 
 pub returns-in-Err-clause-fault_alone : goal.returns-in-Err-clause-fault_alone
 returns-in-Err-clause-fault_alone g c = λ o end.
@@ -68,6 +82,21 @@ returns-in-Err-clause-shuts g c = λ h o.
     shut_at g.B.Book c.args.self.now c.loop-at.self c.take_next.new.self c.args.events.now
     c.loop-at.at c.index-events-at.result c.loop-at.said.items c.loop-at.invariant.took
     c.in-Err.ensures.tables h o
+
+pub returns-clause-outputs : goal.returns-clause-outputs
+returns-clause-outputs g c = λ h o.
+    c.loop-at.invariant.took.says h o
+    ∙ ap (outputs (g.B.Book.tables c.args.self.now))
+    (take_all c.loop-at.at c.args.events.now c.loop-at-test.false)
+
+pub returns-clause-tables : goal.returns-clause-tables
+returns-clause-tables g c = λ h o.
+    c.loop-at.invariant.took.leads h o
+    ∙ ap (tables_after (g.B.Book.tables c.args.self.now))
+    (take_all c.loop-at.at c.args.events.now c.loop-at-test.false)
+
+pub returns-clause-shuts : goal.returns-clause-shuts
+returns-clause-shuts g c = λ h o. inl (c.loop-at.invariant.took.stays_open h o)
 
 pub returns-clause-books : goal.returns-clause-books
 returns-clause-books g c = λ h o.

@@ -13,8 +13,8 @@ use Rattle.acq_host.proofs.Runs.{past_of_left}
 use Rattle.acq_host.proofs.ChangesFit.{changes_fit}
 use Rattle.acq_host.proofs.host.Host.take.Goals as goal
 
-pub apply-requires : goal.apply-requires
-apply-requires g c = record {
+pub apply-made-requires : goal.apply-made-requires
+apply-made-requires g c = record {
   fits = λ o.
       let e = c.args.event.now in
       let looks = c.in_ok-output.ensures.looks in
@@ -31,31 +31,31 @@ apply-requires g c = record {
       (past.0, books_go_on past.0 t c.args.event.now past.1 c.every_event.ensures);
 }
 
-pub returns-in_err-apply-clause-tables : goal.returns-in_err-apply-clause-tables
-returns-in_err-apply-clause-tables g c =
+pub returns-in_err-made-clause-tables : goal.returns-in_err-made-clause-tables
+returns-in_err-made-clause-tables g c =
     let looks = c.in_ok-output.ensures.looks in
-    let failed : is_ok c.from_residual-in_err-apply.result ≡ false = search rules in
+    let failed : is_ok c.from_residual-in_err-made.result ≡ false = search rules in
     subst (λ ok. Makes g.B.Book
-    c.args.self.now c.apply.new.book ok
+    c.args.self.now c.apply-made.new.book ok
     (step_tables (g.B.Book.tables c.args.self.now) (arrival_of c.args.event.now)))
     (sym failed)
     (subst (λ b. Makes g.B.Book b
-    c.apply.new.book false (step_tables (g.B.Book.tables b) (arrival_of c.args.event.now)))
+    c.apply-made.new.book false (step_tables (g.B.Book.tables b) (arrival_of c.args.event.now)))
     c.self.view_is
     (makes_after g.B.Book.tables g.B.Book.is_honest g.B.Book.is_open g.B.Book.may_leave
     g.B.Book.leaves_books g.B.Book.failures g.B.Book.store_faults
-    g.met.B.Book.honest c.self.inside.book c.decide.new.book c.apply.new.book _ _ _
+    g.met.B.Book.honest c.self.inside.book c.decide.new.book c.apply-made.new.book _ _ _
     (λ o i. after_any (looks.same o i) (c.in_ok-output.ensures.change o i)) looks
-    c.in_err-apply.ensures.makes))
+    c.in_err-made.ensures.makes))
 
 pub invariant_of-self-2 : goal.invariant_of-self-2
 invariant_of-self-2 g c = λ o.
     let e = c.args.event.now in
     let looks = c.in_ok-output.ensures.looks in
-    let makes = c.in_ok-apply.ensures.makes in
+    let makes = c.in_ok-made.ensures.makes in
     let t = g.B.Book.tables c.self.inside.book in
     let went_on : g.B.Book.is_open c.decide.new.book →
-    HasPast (g.B.Book.tables c.apply.new.book) = λ between.
+    HasPast (g.B.Book.tables c.apply-made.new.book) = λ between.
     let past = c.self.invariant (looks.was_open between) in (
       past.0,
       subst (IsBook past.0)
@@ -73,7 +73,7 @@ returns-clause-output g c = λ h o.
     let looks = c.in_ok-output.ensures.looks in
     let was_open = subst g.B.Book.is_open (sym c.self.view_is) o in
     c.in_ok-output.ensures.output
-    (looks.stays_open refl (c.in_ok-apply.ensures.makes.was_honest h) was_open)
+    (looks.stays_open refl (c.in_ok-made.ensures.makes.was_honest h) was_open)
     ∙ ap (λ b. step_output (g.B.Book.tables b) (arrival_of c.args.event.now)) c.self.view_is
 
 pub returns-clause-reply : goal.returns-clause-reply
@@ -83,7 +83,7 @@ returns-clause-reply g c = λ h o party text is.
     let was_open = subst g.B.Book.is_open (sym c.self.view_is) o in
     let past = c.self.invariant was_open in
     let output = c.in_ok-output.ensures.output
-    (looks.stays_open refl (c.in_ok-apply.ensures.makes.was_honest h) was_open) in
+    (looks.stays_open refl (c.in_ok-made.ensures.makes.was_honest h) was_open) in
     (books_are_sound past.0 t past.1).next_reply c.args.event.now party text c.every_event.ensures
     (sym output ∙ is)
 
@@ -91,26 +91,26 @@ pub returns-clause-tables : goal.returns-clause-tables
 returns-clause-tables g c =
     let looks = c.in_ok-output.ensures.looks in
     subst (λ b. Makes g.B.Book b
-    c.apply.new.book true (step_tables (g.B.Book.tables b) (arrival_of c.args.event.now)))
+    c.apply-made.new.book true (step_tables (g.B.Book.tables b) (arrival_of c.args.event.now)))
     c.self.view_is
     (makes_after g.B.Book.tables g.B.Book.is_honest g.B.Book.is_open g.B.Book.may_leave
     g.B.Book.leaves_books g.B.Book.failures g.B.Book.store_faults
-    g.met.B.Book.honest c.self.inside.book c.decide.new.book c.apply.new.book _ _ _
+    g.met.B.Book.honest c.self.inside.book c.decide.new.book c.apply-made.new.book _ _ _
     (λ o i. after_any (looks.same o i) (c.in_ok-output.ensures.change o i)) looks
-    c.in_ok-apply.ensures.makes)
+    c.in_ok-made.ensures.makes)
 
 pub returns-clause-left : goal.returns-clause-left
 returns-clause-left g c = λ h o.
-    past_of_left g.B.Book c.args.self.now c.apply.new.book true c.args.event.now
+    past_of_left g.B.Book c.args.self.now c.apply-made.new.book true c.args.event.now
     g.met.B.Book.settled c.every_event.ensures (returns-clause-tables g c)
     (subst (λ b. g.B.Book.is_open b → HasPast (g.B.Book.tables b)) c.self.view_is c.self.invariant
     o)
     h o
 
-pub returns-in_err-apply-clause-left : goal.returns-in_err-apply-clause-left
-returns-in_err-apply-clause-left g c = λ h o.
-    past_of_left g.B.Book c.args.self.now c.apply.new.book _ c.args.event.now
-    g.met.B.Book.settled c.every_event.ensures (returns-in_err-apply-clause-tables g c)
+pub returns-in_err-made-clause-left : goal.returns-in_err-made-clause-left
+returns-in_err-made-clause-left g c = λ h o.
+    past_of_left g.B.Book c.args.self.now c.apply-made.new.book _ c.args.event.now
+    g.met.B.Book.settled c.every_event.ensures (returns-in_err-made-clause-tables g c)
     (subst (λ b. g.B.Book.is_open b → HasPast (g.B.Book.tables b)) c.self.view_is c.self.invariant
     o)
     h o
