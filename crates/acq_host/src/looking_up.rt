@@ -124,8 +124,10 @@ fn look_up_rows<B: Book>(
     ensures looks { Looks B.Book book.old book.new (is_ok result) }
     ensures store { IfStore result (HasRisen (B.failures book.old) (B.failures book.new)) }
 {
-    looked.range = range(book, wanted.prefix)?;
-    looked.overlapped = overlapping(book, wanted.bounds)?;
+    let range = range(book, wanted.prefix)?;
+    put(&mut looked.range, range);
+    let overlapped = overlapping(book, wanted.bounds)?;
+    put(&mut looked.overlapped, overlapped);
     let recorded = request(book, wanted.key)?;
     put(&mut looked.recorded, recorded);
     let original = request(book, wanted.original)?;
@@ -157,8 +159,8 @@ fn look_up_of_merchant<B: Book>(
     Ok(())
 }
 
-/// Puts a request in its place, and lets go what stood there, as no other function here does.
-fn put(place: &mut Option<Request>, found: Option<Request>)
+/// Puts what was found in its place, and lets go what stood there, as no other function here does.
+fn put<T: Drop>(place: &mut Option<T>, found: Option<T>)
     ensures { place.new ≡ found }
 {
     *place = found;

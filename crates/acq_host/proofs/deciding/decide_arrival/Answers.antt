@@ -2,6 +2,7 @@
 use Rattle.std.proofs.Common.{◌≡◌, ◌∙◌, IfOk, sym, ap, subst}
 use Rattle.acq_core.specs.Changes.{change_for}
 use Rattle.acq_core.specs.Tables.{known_in, step_output}
+use Rattle.acq_host.proofs.Chains.{looks_then}
 use Rattle.acq_host.proofs.deciding.decide_arrival.Goals as goal
 
 pub returns-clause-output : goal.returns-clause-output
@@ -30,3 +31,8 @@ returns-clause-change g c = λ o3.
     subst (λ t. IfOk c.decide_over-decided.result (λ x.
     x.1 ≡ change_for (known_in t c.args.arrival.now) c.args.arrival.now)) same
     (c.decide_over-decided.ensures.change o3 nothing)
+
+pub returns-clause-looks : goal.returns-clause-looks
+returns-clause-looks g c =
+    looks_then g.B.Book c.in_ok-today.ensures.looks
+    (looks_then g.B.Book c.in_ok-limit.ensures.looks c.decide_over-decided.ensures.looks)
