@@ -77,7 +77,7 @@ fn decide_over<B: Book>(
     Ok(arrival.decide(alloc, looked)?)
 }
 
-/// Makes a change, if there is one. It is lent, since whoever lets it go here does so in two arms.
+/// Makes a change, if there is one. It is lent, so that the caller lets it go, once.
 pub(crate) fn apply<B: Book>(book: &mut B, change: &Option<Change>) -> Result<(), BookFault>
     requires fits { B.is_open book.old → IfSome change.now (Fits (B.tables book.old)) }
     requires past { B.is_open book.old → HasPast (after_any (B.tables book.old) change.now) }

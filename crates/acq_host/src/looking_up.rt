@@ -159,7 +159,7 @@ fn look_up_of_merchant<B: Book>(
     Ok(())
 }
 
-/// Puts what was found in its place, and lets go what stood there, as no other function here does.
+/// Puts what was found in its place. What stood there is let go in this one function.
 fn put<T: Drop>(place: &mut Option<T>, found: Option<T>)
     ensures { place.new ≡ found }
 {
