@@ -35,7 +35,8 @@ pub(crate) fn look_up<B: Book>(
     if is_nothing(&wanted) {
         return Ok(());
     }
-    look_up_wanted(book, &wanted, looked)
+    look_up_rows(book, &wanted, looked)?;
+    look_up_of_merchant(book, &wanted, looked)
 }
 
 /// Whether nothing is wanted, as for network management.
@@ -93,22 +94,6 @@ fn none_used() -> UsedCount
         unreachable!();
     };
     count
-}
-
-/// Looks up what is wanted: first what is looked up for no merchant, or under a whole key.
-#[tactic(auto, using(crate::proofs::Chains::looks_more))]
-fn look_up_wanted<B: Book>(
-    book: &mut B,
-    wanted: &Wanted,
-    looked: &mut Looked,
-) -> Result<(), BookFault>
-    ensures looked { B.is_open book.new → IsLooked (B.tables book.old) nothing looked.old
-        → OnOk result (IsLooked (B.tables book.old) wanted.now looked.new) }
-    ensures looks { Looks B.Book book.old book.new (is_ok result) }
-    ensures store { IfStore result (HasRisen (B.failures book.old) (B.failures book.new)) }
-{
-    look_up_rows(book, wanted, looked)?;
-    look_up_of_merchant(book, wanted, looked)
 }
 
 /// Looks up the ranges and the requests under their keys. Each part is put in its place at once,
@@ -209,12 +194,7 @@ fn admitted<B: Book>(book: &mut B, merchant: Option<MerchantId>) -> Result<Admit
 {
     match merchant {
         Some(merchant) => book.admitted(merchant),
-        None => {
-            let Some(none) = AdmittedCount::from_number(0) else {
-                unreachable!();
-            };
-            Ok(none)
-        }
+        None => Ok(none_admitted()),
     }
 }
 
@@ -232,12 +212,7 @@ fn used<B: Book>(
 {
     match merchant {
         Some(merchant) => book.used(merchant, day),
-        None => {
-            let Some(none) = UsedCount::from_number(0) else {
-                unreachable!();
-            };
-            Ok(none)
-        }
+        None => Ok(none_used()),
     }
 }
 

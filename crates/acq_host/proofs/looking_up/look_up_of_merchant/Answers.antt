@@ -54,3 +54,12 @@ returns-in_err-referred-clause-looks g c =
     (looks_then g.B.Book c.in_ok-looked-4.ensures.looks
     (looks_then g.B.Book c.in_ok-looked-5.ensures.looks
     c.in_err-referred.ensures.looks)))))
+
+pub returns-clause-looks : goal.returns-clause-looks
+returns-clause-looks g c =
+    looks_then g.B.Book c.in_ok-looked.ensures.looks
+    (looks_then g.B.Book c.in_ok-looked-2.ensures.looks
+    (looks_then g.B.Book c.in_ok-looked-3.ensures.looks
+    (looks_then g.B.Book c.in_ok-looked-4.ensures.looks
+    (looks_then g.B.Book c.in_ok-looked-5.ensures.looks
+    c.in_ok-referred.ensures.looks))))

@@ -33,3 +33,10 @@ returns-in_err-original-clause-looks g c =
     (looks_then g.B.Book c.in_ok-overlapped.ensures.looks
     (looks_then g.B.Book c.in_ok-recorded.ensures.looks
     c.in_err-original.ensures.looks)))
+
+pub returns-clause-looks : goal.returns-clause-looks
+returns-clause-looks g c =
+    looks_then g.B.Book c.in_ok-range.ensures.looks
+    (looks_then g.B.Book c.in_ok-overlapped.ensures.looks
+    (looks_then g.B.Book c.in_ok-recorded.ensures.looks
+    c.in_ok-original.ensures.looks))
