@@ -16,38 +16,22 @@ use Rattle.acq_commands.specs.declared.fault.Fault.TheVariants.{NotABook, OtherV
 use Rattle.acq_commands.specs.declared.fault.Fault.TheVariants.{Ended, Undecodable, Read, Write}
 use Rattle.acq_commands.specs.declared.fault.Fault.TheVariants.{DayNotOver, StillPending, BadLine}
 
-abbrev pub number_of : Fault → ℕ
-number_of Memory = 1
-number_of Store = 2
-number_of (BadAnswer n) = 23
-number_of NoSuchMerchant = 37
-number_of NotABook = 40
-number_of (OtherVersion v) = 41
-number_of BadLength = 50
-number_of Ended = 51
-number_of (Undecodable fault) = 52
-number_of Read = 53
-number_of (Write n) = 54
-number_of DayNotOver = 60
-number_of (StillPending n) = 61
-number_of (BadLine n) = 62
-
--- a fault's name
-abbrev pub name_of : Fault → List ℕ
-name_of Memory = codes "Memory"
-name_of Store = codes "Store"
-name_of (BadAnswer n) = codes "BadLine"
-name_of NoSuchMerchant = codes "NoSuchMerchant"
-name_of NotABook = codes "NotABook"
-name_of (OtherVersion v) = codes "OtherVersion"
-name_of BadLength = codes "BadLength"
-name_of Ended = codes "Ended"
-name_of (Undecodable fault) = codes "Undecodable"
-name_of Read = codes "Read"
-name_of (Write n) = codes "Write"
-name_of DayNotOver = codes "DayNotOver"
-name_of (StillPending n) = codes "StillPending"
-name_of (BadLine n) = codes "BadLine"
+-- a fault's number and name
+abbrev pub heading_of : Fault → List ℕ
+heading_of Memory = codes "1 Memory"
+heading_of Store = codes "2 Store"
+heading_of (BadAnswer n) = codes "23 BadLine"
+heading_of NoSuchMerchant = codes "37 NoSuchMerchant"
+heading_of NotABook = codes "40 NotABook"
+heading_of (OtherVersion v) = codes "41 OtherVersion"
+heading_of BadLength = codes "50 BadLength"
+heading_of Ended = codes "51 Ended"
+heading_of (Undecodable fault) = codes "52 Undecodable"
+heading_of Read = codes "53 Read"
+heading_of (Write n) = codes "54 Write"
+heading_of DayNotOver = codes "60 DayNotOver"
+heading_of (StillPending n) = codes "61 StillPending"
+heading_of (BadLine n) = codes "62 BadLine"
 
 -- its values, each behind a space
 abbrev pub values_of : Fault → List ℕ
@@ -62,7 +46,7 @@ values_of other = []
 
 -- the fault as printed lines have it
 abbrev pub text_of : Fault → List ℕ
-text_of fault = decimal (number_of fault) ++ codes " " ++ name_of fault ++ values_of fault
+text_of fault = heading_of fault ++ values_of fault
 
 -- the line that tells a fault
 abbrev pub fault_line : Fault → List ℕ

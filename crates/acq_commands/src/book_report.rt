@@ -3,7 +3,7 @@
 use crate::day_report::DayReport;
 
 /// A report on the book in a file.
-#[derive(Debug, Drop)]
+#[derive(Drop)]
 pub struct BookReport {
     /// The path of the book's file.
     pub path: String,

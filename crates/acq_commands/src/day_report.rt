@@ -4,7 +4,7 @@ use crate::report_kind::ReportKind;
 use day_totals::Day;
 
 /// A report on a business day that is over.
-#[derive(Clone, Copy, Debug, PartialEq, Eq)]
+#[derive(Clone, Copy, Debug)]
 pub struct DayReport {
     /// What is written of the day.
     pub kind: ReportKind,

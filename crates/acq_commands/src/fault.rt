@@ -16,7 +16,7 @@ use std::fmt;
 
 /// Why a command stopped. Its text is its number, its name and its values, as printed lines have
 /// them.
-#[derive(Clone, Copy, Debug, PartialEq, Eq)]
+#[derive(Clone, Copy, Debug)]
 pub enum Fault {
     /// 1: memory ran out.
     Memory,
@@ -52,29 +52,7 @@ pub enum Fault {
 }
 
 impl Fault {
-    ghost use Rattle.acq_commands.specs.Faults.{number_of, status_of, name_of};
-
-    /// The fault's number.
-    pub fn number(&self) -> u8
-        ensures { result ≡ number_of self.now }
-    {
-        match self {
-            Fault::Memory => 1,
-            Fault::Store => 2,
-            Fault::BadAnswer(_) => 23,
-            Fault::NoSuchMerchant => 37,
-            Fault::NotABook => 40,
-            Fault::OtherVersion(_) => 41,
-            Fault::BadLength => 50,
-            Fault::Ended => 51,
-            Fault::Undecodable(_) => 52,
-            Fault::Read => 53,
-            Fault::Write(_) => 54,
-            Fault::DayNotOver => 60,
-            Fault::StillPending(_) => 61,
-            Fault::BadLine(_) => 62,
-        }
-    }
+    ghost use Rattle.acq_commands.specs.Faults.{status_of, heading_of};
 
     /// The status that the program ends with.
     pub fn status(&self) -> u8
@@ -86,24 +64,25 @@ impl Fault {
         }
     }
 
-    pub(crate) fn name(&self) -> &'static str
-        ensures { result.now ≡ name_of self.now }
+    /// The fault's number and its name.
+    pub(crate) fn heading(&self) -> &'static str
+        ensures { result.now ≡ heading_of self.now }
     {
         match self {
-            Fault::Memory => "Memory",
-            Fault::Store => "Store",
-            Fault::BadAnswer(_) => "BadLine",
-            Fault::NoSuchMerchant => "NoSuchMerchant",
-            Fault::NotABook => "NotABook",
-            Fault::OtherVersion(_) => "OtherVersion",
-            Fault::BadLength => "BadLength",
-            Fault::Ended => "Ended",
-            Fault::Undecodable(_) => "Undecodable",
-            Fault::Read => "Read",
-            Fault::Write(_) => "Write",
-            Fault::DayNotOver => "DayNotOver",
-            Fault::StillPending(_) => "StillPending",
-            Fault::BadLine(_) => "BadLine",
+            Fault::Memory => "1 Memory",
+            Fault::Store => "2 Store",
+            Fault::BadAnswer(_) => "23 BadLine",
+            Fault::NoSuchMerchant => "37 NoSuchMerchant",
+            Fault::NotABook => "40 NotABook",
+            Fault::OtherVersion(_) => "41 OtherVersion",
+            Fault::BadLength => "50 BadLength",
+            Fault::Ended => "51 Ended",
+            Fault::Undecodable(_) => "52 Undecodable",
+            Fault::Read => "53 Read",
+            Fault::Write(_) => "54 Write",
+            Fault::DayNotOver => "60 DayNotOver",
+            Fault::StillPending(_) => "61 StillPending",
+            Fault::BadLine(_) => "62 BadLine",
         }
     }
 }
@@ -115,14 +94,16 @@ impl fmt::Display for Fault {
     ghost output = { λ f. Some (text_of f) };
 
     fn fmt<W: fmt::Write>(&self, f: &mut fmt::Formatter<W>) -> fmt::Result {
-        write!(f, "{} {}", self.number(), self.name())?;
         match self {
-            Fault::OtherVersion(version) => write!(f, " {version}"),
-            Fault::Undecodable(fault) => write!(f, " {} {}", fault.number(), fault.element()),
-            Fault::Write(bytes) => write!(f, " {bytes}"),
-            Fault::StillPending(requests) => write!(f, " {requests}"),
-            Fault::BadAnswer(record) | Fault::BadLine(record) => write!(f, " {record}"),
-            _ => Ok(()),
+            Fault::Undecodable(cause) => {
+                write!(f, "52 Undecodable {} {}", cause.number(), cause.element())
+            }
+            Fault::OtherVersion(n)
+            | Fault::Write(n)
+            | Fault::StillPending(n)
+            | Fault::BadAnswer(n)
+            | Fault::BadLine(n) => write!(f, "{} {n}", self.heading()),
+            _ => f.write_str(self.heading()),
         }
     }
 }

@@ -14,9 +14,7 @@ pub fn write_fault_line<F: Sink>(fault: &Fault, faults: &mut F) -> Result<(), Fa
     ensures failed { OnErr result (F.failures faults.new ≡ F.failures faults.old + 1) }
 {
     put(faults, b"acqd: ")?;
-    put_number(faults, u64::from(fault.number()))?;
-    put(faults, b" ")?;
-    put(faults, fault.name().as_bytes())?;
+    put(faults, fault.heading().as_bytes())?;
     put_values(faults, fault)?;
     put(faults, b"\n")
 }
@@ -48,15 +46,6 @@ fn put_value<F: Sink>(faults: &mut F, n: u64) -> Result<(), Failed>
     ensures failed { OnErr result (F.failures faults.new ≡ F.failures faults.old + 1) }
 {
     put(faults, b" ")?;
-    put_number(faults, n)
-}
-
-/// Writes a number.
-fn put_number<F: Sink>(faults: &mut F, n: u64) -> Result<(), Failed>
-    ensures ok { OnOk result (F.sent faults.new ≡ F.sent faults.old ++ decimal n) }
-    ensures well { OnOk result (F.failures faults.new ≡ F.failures faults.old) }
-    ensures failed { OnErr result (F.failures faults.new ≡ F.failures faults.old + 1) }
-{
     put(faults, Buffer::new().format(n).as_bytes())
 }
 

@@ -1,7 +1,7 @@
 //! How messages stand in an input.
 
 /// How messages stand in an input.
-#[derive(Clone, Copy, Debug, PartialEq, Eq)]
+#[derive(Clone, Copy)]
 pub enum InputForm {
     /// As frames: two bytes of length, high byte first, and the message.
     Frames,

@@ -1,7 +1,7 @@
 //! How long connections may take.
 
 /// For how many seconds a connection may be as it is before it is closed; 0 is for ever.
-#[derive(Clone, Copy, Debug, PartialEq, Eq, Drop)]
+#[derive(Clone, Copy, Debug, Drop)]
 pub struct Patience {
     /// For how many seconds it may send nothing, or take nothing of a reply.
     pub idle: u64,

@@ -116,6 +116,10 @@ fn take_next<B: Book + Drop, K: Sink>(
         → HasRisen (B.failures host.old) (B.failures host.new) }
 {
     let said = host.take(event)?;
-    write_output(alloc, &said, output)?;
-    Ok(())
+    let written = write_output(alloc, &said, output);
+    drop(said);
+    match written {
+        Ok(()) => Ok(()),
+        Err(fault) => Err(Fault::from(fault)),
+    }
 }

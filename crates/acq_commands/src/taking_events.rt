@@ -40,8 +40,10 @@ pub fn take_events<B: Book + Drop, S: Source, P: Progress>(
         → HasRisen (B.failures host.old) (B.failures host.new) }
 {
     let events = read_events(alloc, input)?;
-    take_each(host, events.as_slice(), progress)?;
-    Ok(())
+    match take_each(host, events.as_slice(), progress) {
+        Ok(()) => Ok(()),
+        Err(fault) => Err(Fault::from(fault)),
+    }
 }
 
 /// Takes events in order.
