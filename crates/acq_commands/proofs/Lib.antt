@@ -5,3 +5,4 @@ pub mod LinesWritten
 pub mod ReportsEnd
 pub mod ReportsWritten
 pub mod ShownFrames
+pub mod FaultsTold

@@ -6,10 +6,10 @@ use Rattle.acq_front.specs.Stops.{open_at}
 use Rattle.acq_reports.specs.declared.report_fault.ReportFault.{ReportFault}
 use Rattle.acq_commands.specs.declared.day_report.DayReport.{DayReport}
 use Rattle.acq_commands.specs.declared.fault.Fault.{Fault}
-use Rattle.acq_commands.specs.declared.fault.Fault.TheVariants.{Memory, Read}
 use Rattle.acq_commands.specs.DayReports.{Takes, WritesReports, told}
 use Rattle.acq_commands.specs.Replay.{AfterReading}
 use Rattle.acq_commands.specs.Runs.{EndsReports}
+use Rattle.acq_commands.proofs.FaultsTold.{any_end}
 
 pub ends_reports : (opening : Opening) (book : Tables) (reports : List DayReport)
     (text sent after : List ℕ)
@@ -26,11 +26,6 @@ ends_reports opening book reports text sent after (Err cause) ended takes (is, s
     inl (cause, is, (book, takes, same))
 
 -- ---- what was read before the reports
-
-any_end : (result : Result (Unit {0}) Fault) (whole : Type 0) → whole → AfterReading result whole
-any_end (Err Memory) whole h = tt
-any_end (Err Read) whole h = tt
-any_end result whole h = h
 
 -- what is said of how the events ended is said of how the reports did
 pub still_after : (taken result : Result (Unit {0}) Fault) (whole Unwritten : Type 0) →

@@ -1,13 +1,20 @@
 -- What is shown of frames, one after another.
 use Rattle.std.proofs.Common.{◌≡◌, ℕ, true, List, [], ◌∷◌, ◌++◌, refl, sym, ap, ◌∙◌, append-nil}
-use Rattle.std.proofs.Common.{inl, Err}
+use Rattle.std.proofs.Common.{append_assoc, take, inl, inr, Ok, Err}
+use Rattle.std.specs.Prelude.{Result}
 use Rattle.std.proofs.lemmas.List.Concat.{flat_map-append}
-use Rattle.acq_link.specs.Frames.{fits_frame, frame}
+use Rattle.acq_link.specs.Frames.{fits_frame, frame, framed}
+use Rattle.acq_link.specs.FramesAt.{BeginsWithFrame}
+use Rattle.acq_link.specs.HexFaults.{IsFaultOf}
+use Rattle.acq_link.specs.HexLines.{messages_of_text}
+use Rattle.acq_link.specs.declared.hex_frames.hex_fault.HexFault as hex
 use Rattle.acq_link.specs.declared.input_fault.InputFault as input
 use Rattle.acq_commands.specs.declared.input_form.InputForm.{InputForm}
 use Rattle.acq_commands.specs.declared.input_form.InputForm.TheVariants as form
-use Rattle.acq_commands.specs.Faults.{of_input}
-use Rattle.acq_commands.specs.Show.{ShowsAll, ShowsFirst, ShowsInput, entries, entry}
+use Rattle.acq_commands.specs.declared.fault.Fault as fault
+use Rattle.acq_commands.specs.Faults.{failed_reads, failed_writes, of_hex, of_input}
+use Rattle.acq_commands.specs.Show.{FrameFault, Shows, ShowsAll, ShowsFirst, ShowsHex, ShowsInput}
+use Rattle.acq_commands.specs.Show.{ShowsOne, ShowsUntil, entries, entry}
 use Rattle.acq_commands.proofs.FramesInOrder.{taken_all, taken_more, taken_none}
 
 pub shows_none : (bytes : List ℕ) → ShowsFirst bytes [] [] bytes
@@ -38,3 +45,72 @@ input_unshown form.Frames input.TheVariants.Memory bytes = ([], bytes, shows_non
 input_unshown form.Frames input.TheVariants.Read bytes = refl
 input_unshown form.HexLines input.TheVariants.Memory bytes = inl refl
 input_unshown form.HexLines input.TheVariants.Read bytes = refl
+
+-- ---- where no whole frame stands at the front
+
+pub frame_stops : (bytes out rest : List ℕ) (messages : List (List ℕ)) (f : fault.Fault) →
+    ShowsFirst bytes out messages rest → FrameFault rest f → ShowsUntil bytes out f
+frame_stops bytes out rest messages fault.TheVariants.BadLength first h = (messages, rest, first, h)
+frame_stops bytes out rest messages fault.TheVariants.Ended first h = (messages, rest, first, h)
+frame_stops bytes out rest messages f first h = absurd h
+
+pub frame_unread : (rest : List ℕ) (f : fault.Fault) → FrameFault rest f →
+    failed_reads (Err f) ≡ 0
+frame_unread rest fault.TheVariants.BadLength h = refl
+frame_unread rest fault.TheVariants.Ended h = refl
+frame_unread rest f h = absurd h
+
+pub frame_unwritten : (rest : List ℕ) (f : fault.Fault) → FrameFault rest f →
+    failed_writes (Err f) ≡ 0
+frame_unwritten rest fault.TheVariants.BadLength h = refl
+frame_unwritten rest fault.TheVariants.Ended h = refl
+frame_unwritten rest f h = absurd h
+
+-- ---- where a message was not shown whole
+
+pub one_stops : (bytes out rest message later start old new : List ℕ) (messages : List (List ℕ))
+    (f : fault.Fault) → ShowsFirst bytes out messages rest → BeginsWithFrame rest message later →
+    old ≡ start ++ out → ShowsOne message old new (Err f) →
+    (more : List ℕ) × (new ≡ start ++ more) × ShowsUntil bytes more f
+one_stops bytes out rest message later start old new messages fault.TheVariants.Memory first begins
+    is same =
+    (out, same ∙ is, (messages, rest, first))
+one_stops bytes out rest message later start old new messages (fault.TheVariants.Write n) first
+    begins is so =
+    let part = take n (entry message) in (
+      out ++ part,
+      so.1 ∙ (ap (λ (x : List ℕ). x ++ part) is ∙ append_assoc start out part),
+      (messages, message, record {
+        rest = rest;
+        before = out;
+        shows = first;
+        next = (later, begins);
+        short = so.0;
+        given = refl;
+      }),
+    )
+one_stops bytes out rest message later start old new messages f first begins is h = absurd h
+
+pub one_unread : (message old new : List ℕ) (f : fault.Fault) → ShowsOne message old new (Err f) →
+    failed_reads (Err f) ≡ 0
+one_unread message old new fault.TheVariants.Memory h = refl
+one_unread message old new (fault.TheVariants.Write n) h = refl
+one_unread message old new f h = absurd h
+
+-- ---- lines in hexadecimal
+
+-- none of their messages could be shown
+pub hex_unshown : (lines : List ℕ) (e : hex.HexFault) → IsFaultOf lines e →
+    ShowsHex lines [] (Err (of_hex e))
+hex_unshown lines hex.TheVariants.Memory h = inl refl
+hex_unshown lines (hex.TheVariants.BadLine n) h = (h, refl)
+
+-- they hold the messages that were shown
+pub hex_shown : (lines out : List ℕ) (messages : List (List ℕ)) (r : Result (Unit {0}) fault.Fault)
+    → messages_of_text lines ≡ Ok messages → Shows (framed messages) out r → ShowsHex lines out r
+hex_shown lines out messages (Ok u) spelled shown = (messages, spelled, shown)
+hex_shown lines out messages (Err (fault.TheVariants.BadLine n)) spelled shown = absurd shown
+hex_shown lines out messages (Err fault.TheVariants.Read) spelled shown = shown
+hex_shown lines out messages (Err fault.TheVariants.Memory) spelled shown =
+    inr (messages, spelled, shown)
+hex_shown lines out messages (Err f) spelled shown = (messages, spelled, shown)

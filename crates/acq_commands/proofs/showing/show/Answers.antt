@@ -1,5 +1,7 @@
-use Rattle.std.proofs.Common.{List, ℕ, [], ◌++◌, ◌∙◌, sym, ap, append-nil}
+use Rattle.std.proofs.Common.{List, ℕ, [], ◌++◌, ◌∙◌, sym, ap, append-nil, Err}
 use Rattle.std.proofs.lemmas.Result.{err_from_is_err_and}
+use Rattle.acq_commands.proofs.FaultsTold.{all_taken, any_end}
+use Rattle.acq_commands.proofs.FaultsTold.{input_reads, input_unread, input_unwritten}
 use Rattle.acq_commands.proofs.ShownFrames.{input_unshown}
 use Rattle.acq_commands.proofs.showing.show.Goals as goal
 
@@ -27,3 +29,30 @@ returns-clause-shown g c =
       rw c.in-HexLines.is
           more.2,
     )
+
+pub returns-in_err-bytes-clause-whole : goal.returns-in_err-bytes-clause-whole
+returns-in_err-bytes-clause-whole g c =
+    let p = err_from_is_err_and c.from_residual.result c.from_residual.ensures.1 in
+    rw (p.1, p.2) (input_unread c.in_err-bytes.field-0.0 _)
+
+pub returns-in_err-bytes-clause-reads : goal.returns-in_err-bytes-clause-reads
+returns-in_err-bytes-clause-reads g c =
+    let p = err_from_is_err_and c.from_residual.result c.from_residual.ensures.1 in
+    rw (p.1, p.2) (input_reads c.in_err-bytes.field-0.0 _ _
+    (λ is. c.in_err-bytes.ensures.read (ap Err is))
+    (λ is. c.in_err-bytes.ensures.memory (ap Err is)))
+
+pub returns-in_err-bytes-clause-writes : goal.returns-in_err-bytes-clause-writes
+returns-in_err-bytes-clause-writes g c =
+    let p = err_from_is_err_and c.from_residual.result c.from_residual.ensures.1 in
+    rw (p.1, p.2) (input_unwritten c.in_err-bytes.field-0.0 _)
+
+pub returns-clause-whole : goal.returns-clause-whole
+returns-clause-whole g c =
+    any_end c.show_hex.result _ (all_taken _ _ _ _ _ c.in_ok-bytes.ensures.known
+    c.in_ok-bytes.ensures.end c.in_ok-bytes.ensures.received)
+
+pub returns-in-Frames-clause-whole : goal.returns-in-Frames-clause-whole
+returns-in-Frames-clause-whole g c =
+    any_end c.show_frames.result _ (all_taken _ _ _ _ _ c.in_ok-bytes.ensures.known
+    c.in_ok-bytes.ensures.end c.in_ok-bytes.ensures.received)
