@@ -1,17 +1,22 @@
 -- What the faults of calls are, as a command tells them.
 use Rattle.std.proofs.Common.{◌≡◌, ℕ, ◌+◌, ◌++◌, List, Option, Some, None, Err, refl, sym, ap}
-use Rattle.std.proofs.Common.{◌∙◌, append-nil, arith, inl}
+use Rattle.std.proofs.Common.{◌∙◌, append-nil, arith, inl, inr}
 use Rattle.std.specs.Prelude.{IsErrOf, Result}
 use Rattle.std.specs.Io.KnownBytes.{Consumes, IsAtEnd}
+use Rattle.acq_book.specs.Promise.{IfStore}
+use Rattle.acq_book.specs.declared.book_fault.BookFault as book
+use Rattle.acq_core.specs.declared.output.Output.{Output}
 use Rattle.acq_link.specs.Moves.{TakesAll}
 use Rattle.acq_link.specs.declared.hex_frames.hex_fault.HexFault as hex
 use Rattle.acq_link.specs.declared.input_fault.InputFault as input
+use Rattle.acq_out.specs.OutputLines.{WritesLine}
 use Rattle.acq_out.specs.Reads.{ReadsEvents}
 use Rattle.acq_out.specs.Faults as outs
 use Rattle.acq_out.specs.declared.out_fault.OutFault as out
-use Rattle.acq_commands.specs.DayReports.{StopsTaking}
-use Rattle.acq_commands.specs.Faults.{failed_reads, failed_writes, of_hex, of_input, of_out}
-use Rattle.acq_commands.specs.Replay.{AfterReading, StopsAt}
+use Rattle.acq_commands.specs.DayReports.{StopsTaking, TakesSome}
+use Rattle.acq_commands.specs.Faults.{failed_reads, failed_writes, of_book, of_hex, of_input}
+use Rattle.acq_commands.specs.Faults.{of_out}
+use Rattle.acq_commands.specs.Replay.{AfterReading, StopsAt, StopsEvents}
 use Rattle.acq_commands.specs.Streams.{Course, Stream}
 use Rattle.acq_commands.specs.declared.fault.Fault as fault
 
@@ -102,3 +107,44 @@ module _ {S : Type 0} (book : Course S) (text : List ℕ) (same : book.new ≡ b
   untaken out.TheVariants.Read h = same
   untaken (out.TheVariants.Write n) h = absurd h
   untaken (out.TheVariants.BadLine n) h = (h, same)
+
+-- ---- a fault of a book
+
+pub book_stops : (e : book.BookFault) → StopsEvents (of_book e)
+book_stops book.TheVariants.Memory = tt
+book_stops book.TheVariants.Store = tt
+
+pub book_unread : (e : book.BookFault) → failed_reads (Err (of_book e)) ≡ 0
+book_unread book.TheVariants.Memory = refl
+book_unread book.TheVariants.Store = refl
+
+pub book_unwritten : (e : book.BookFault) (n : ℕ) → n ≡ n + failed_writes (Err (of_book e))
+book_unwritten book.TheVariants.Memory n = omega arith
+book_unwritten book.TheVariants.Store n = omega arith
+
+pub book_stored : (X : Type 0) (e : book.BookFault) (risen : Type 0) →
+    IfStore {T = X} (Err e) risen →
+    IsErrOf {T = Unit {0}} (Err (of_book e)) fault.TheVariants.Store → risen
+book_stored X book.TheVariants.Memory risen h is = cc
+book_stored X book.TheVariants.Store risen h is = h
+
+pub some_taken : {S : Type 0} (it : Course S) (text : List ℕ) (e : book.BookFault) →
+    TakesSome it text → StopsTaking it text (of_book e)
+some_taken it text book.TheVariants.Memory some = inr some
+some_taken it text book.TheVariants.Store some = some
+
+-- ---- a fault of an output's line
+
+pub line_stops : (o : Output) (old new : List ℕ) (e : out.OutFault) → WritesLine o old new (Err e) →
+    StopsEvents (of_out e)
+line_stops o old new out.TheVariants.Memory h = tt
+line_stops o old new out.TheVariants.Read h = absurd h
+line_stops o old new (out.TheVariants.Write n) h = tt
+line_stops o old new (out.TheVariants.BadLine n) h = absurd h
+
+pub line_writes : (e : out.OutFault) (old new : ℕ) → new ≡ old + outs.writes_failed e →
+    new ≡ old + failed_writes (Err (of_out e))
+line_writes out.TheVariants.Memory old new h = h
+line_writes out.TheVariants.Read old new h = h
+line_writes (out.TheVariants.Write n) old new h = h
+line_writes (out.TheVariants.BadLine n) old new h = h
