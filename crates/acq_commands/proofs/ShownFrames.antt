@@ -80,14 +80,18 @@ one_stops bytes out rest message later start old new messages (fault.TheVariants
     let part = take n (entry message) in (
       out ++ part,
       so.1 ∙ (ap (λ (x : List ℕ). x ++ part) is ∙ append_assoc start out part),
-      (messages, message, record {
-        rest = rest;
-        before = out;
-        shows = first;
-        next = (later, begins);
-        short = so.0;
-        given = refl;
-      }),
+      (
+        messages,
+        message,
+        record {
+          rest = rest;
+          before = out;
+          shows = first;
+          next = (later, begins);
+          short = so.0;
+          given = refl;
+        },
+      ),
     )
 one_stops bytes out rest message later start old new messages f first begins is h = absurd h
 

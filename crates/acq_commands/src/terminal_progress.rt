@@ -72,7 +72,7 @@ impl<C: Clock, W: Write> Progress for TerminalProgress<'_, C, W> {
             return;
         }
         if let Some(terminal) = &mut self.terminal {
-            let _ = write!(terminal, "\r\x1b[K");
+            let _ = terminal.write_all(b"\r\x1b[K");
         }
         self.is_shown = false;
     }

@@ -1,12 +1,14 @@
 use Rattle.std.proofs.Common.{◌++◌, true, refl, sym, ap, ◌∙◌, subst, arith}
+use Rattle.std.proofs.lemmas.List.{take_all}
 use Rattle.std.proofs.lemmas.Result.{err_from_is_err_and}
 use Rattle.std.specs.Prelude.{Err}
 use Rattle.acq_core.specs.Tables.{Tables}
 use Rattle.acq_book.proofs.Chains.{looks_more}
+use Rattle.acq_reports.specs.Faults.{is_settled}
 use Rattle.acq_reports.specs.Refusals.{day_refusal}
 use Rattle.acq_reports.specs.Writing.{Reports}
-use Rattle.acq_commands.specs.DayReports.{report_text}
-use Rattle.acq_commands.proofs.ReportsWritten.{given_next, sent_next, stops_here}
+use Rattle.acq_commands.specs.DayReports.{AreGiven, report_text, report_texts}
+use Rattle.acq_commands.proofs.ReportsWritten.{given_next, sent_next, stops_here, stored_later}
 use Rattle.acq_commands.proofs.day_reports.write_reports.Goals as goal
 
 pub loop-report-preserved : goal.loop-report-preserved
@@ -55,3 +57,40 @@ returns-in_err-write_report-clause-texts g c = λ honest opened.
     (subst (λ (t : Tables). Reports {T = Unit {0}} (day_refusal t r.day)
     (report_text t r) between after (Err cause))
     (loop.invariant.0.same middle) (c.in_err-write_report.ensures.text honest middle)))
+
+pub returns-in_err-write_report-clause-writes : goal.returns-in_err-write_report-clause-writes
+returns-in_err-write_report-clause-writes g c = λ honest opened.
+    let loop = c.loop-report in
+    let before = c.in_err-write_report.ensures.looks.was_honest honest in
+    let middle = loop.invariant.0.stays_open refl before opened in
+    let so = loop.invariant.1 before opened in
+    let written = c.in_err-write_report.ensures.writes honest middle in
+    let p = err_from_is_err_and c.from_residual.result c.from_residual.ensures.1 in
+    rw (p.1, p.2) (omega (arith, written, so.2))
+
+pub returns-in_err-write_report-clause-looks : goal.returns-in_err-write_report-clause-looks
+returns-in_err-write_report-clause-looks g c =
+    let loop = c.loop-report in
+    let p = err_from_is_err_and c.from_residual.result c.from_residual.ensures.1 in
+    rw (p.1, p.2) (looks_more g.B.Book.tables g.B.Book.is_honest g.B.Book.is_open
+    g.B.Book.may_leave g.B.Book.leaves_books g.B.Book.failures g.B.Book.store_faults
+    c.args.book.now loop.book c.write_report.new.book
+    (is_settled {T = Unit {0}} (Err c.in_err-write_report.field-0.0))
+    loop.invariant.0 c.in_err-write_report.ensures.looks)
+
+pub returns-in_err-write_report-clause-store : goal.returns-in_err-write_report-clause-store
+returns-in_err-write_report-clause-store g c =
+    let loop = c.loop-report in
+    let p = err_from_is_err_and c.from_residual.result c.from_residual.ensures.1 in
+    rw (p.1, p.2) (stored_later g.B.Book c.args.book.now loop.book c.write_report.new.book
+    c.in_err-write_report.field-0.0 loop.invariant.0 c.in_err-write_report.ensures.looks
+    c.in_err-write_report.ensures.store)
+
+pub returns-clause-texts : goal.returns-clause-texts
+returns-clause-texts g c = λ honest opened.
+    let t = g.B.Book.tables c.args.book.now in
+    let so = c.loop-report.invariant.1 honest opened in
+    let all = take_all c.loop-report.report-index c.args.reports.now (omega arith) in (
+      subst (AreGiven t) all so.0,
+      so.1 ∙ ap (λ reports. g.K.Sink.sent c.args.output.now ++ report_texts t reports) all,
+    )

@@ -1,17 +1,13 @@
 use Rattle.std.proofs.lemmas.Result.{err_from_is_err_and}
 use Rattle.acq_commands.proofs.fault_line.put_values.Goals as goal
 
-pub returns-in_err-put_value-in-Undecodable-clause-ok : goal.returns-in_err-put_value-in-Undecodable-clause-ok
-returns-in_err-put_value-in-Undecodable-clause-ok g c =
-    let p = err_from_is_err_and c.from_residual.result c.from_residual.ensures.1 in
-    rw p.1 tt
-
-pub returns-in_err-put_value-in-Undecodable-clause-well : goal.returns-in_err-put_value-in-Undecodable-clause-well
-returns-in_err-put_value-in-Undecodable-clause-well g c =
-    let p = err_from_is_err_and c.from_residual.result c.from_residual.ensures.1 in
-    rw p.1 tt
-
-pub returns-in_err-put_value-in-Undecodable-clause-failed : goal.returns-in_err-put_value-in-Undecodable-clause-failed
-returns-in_err-put_value-in-Undecodable-clause-failed g c =
-    let p = err_from_is_err_and c.from_residual.result c.from_residual.ensures.1 in
-    rw p.1 c.in_err-put_value-in-Undecodable.ensures.failed
+pub returns-in_err-put_value-in-Undecodable : goal.returns-in_err-put_value-in-Undecodable
+returns-in_err-put_value-in-Undecodable g c =
+    let p = err_from_is_err_and c.from_residual.result
+    c.from_residual.ensures.1 in
+    record {
+      ok = rw p.1 tt;
+      well = rw p.1 tt;
+      failed = rw p.1
+          c.in_err-put_value-in-Undecodable.ensures.failed;
+    }

@@ -3,10 +3,11 @@ use Rattle.std.proofs.Common.{refl, sym, ap, subst, ◌∙◌}
 use Rattle.std.proofs.Common.{append_assoc, append-nil, arith}
 use Rattle.std.specs.Prelude.{Some}
 use Rattle.std.specs.List.{flat_map}
+use Rattle.std.proofs.lemmas.List.{take_all}
 use Rattle.std.proofs.lemmas.Option.{slice_get_read}
 use Rattle.std.proofs.lemmas.Result.{err_from_is_err_and}
 use Rattle.acq_core.specs.Arrivals.{arrival_of}
-use Rattle.acq_core.specs.Tables.{outputs, step_output, step_tables}
+use Rattle.acq_core.specs.Tables.{outputs, step_output, step_tables, tables_after}
 use Rattle.acq_host.proofs.Runs.{took_next, after_next, may_stop_at, leaves_books_at}
 use Rattle.acq_out.specs.OutputLines.{line_of}
 use Rattle.acq_commands.specs.Replay.{Reaches, lines}
@@ -109,3 +110,42 @@ returns-clause-stop g c = λ h opened.
     let so = c.loop-event.invariant.0 in
     all_stop g.B.Book g.met.B.Book.settled g.met.B.Book.stored c.args.host.now c.loop-event.host
     c.args.events.now c.loop-event.event-index so.0 (omega arith) so.1 h opened
+
+pub returns-in_err-take_next-clause-lines : goal.returns-in_err-take_next-clause-lines
+returns-in_err-take_next-clause-lines g c = λ h opened.
+    let p = err_from_is_err_and c.from_residual.result c.from_residual.ensures.1 in
+    rw p.1 tt
+
+pub returns-in_err-take_next-clause-tables : goal.returns-in_err-take_next-clause-tables
+returns-in_err-take_next-clause-tables g c = λ h opened.
+    let p = err_from_is_err_and c.from_residual.result c.from_residual.ensures.1 in
+    rw p.1 tt
+
+pub returns-in_err-take_next-clause-stop : goal.returns-in_err-take_next-clause-stop
+returns-in_err-take_next-clause-stop g c = λ h opened.
+    let p = err_from_is_err_and c.from_residual.result c.from_residual.ensures.1 in
+    rw p.1 tt
+
+pub returns-in_err-take_next-clause-which : goal.returns-in_err-take_next-clause-which
+returns-in_err-take_next-clause-which g c =
+    let p = err_from_is_err_and c.from_residual.result c.from_residual.ensures.1 in
+    rw (p.1, p.2) c.in_err-take_next.ensures.which
+
+pub returns-in_err-take_next-clause-writes : goal.returns-in_err-take_next-clause-writes
+returns-in_err-take_next-clause-writes g c =
+    let p = err_from_is_err_and c.from_residual.result c.from_residual.ensures.1 in
+    rw (p.1, p.2) (omega (arith, c.in_err-take_next.ensures.writes, c.loop-event.invariant.1))
+
+pub returns-clause-lines : goal.returns-clause-lines
+returns-clause-lines g c = λ h opened.
+    let so = c.loop-event.invariant.0 in
+    let all = take_all c.loop-event.event-index c.args.events.now (omega arith) in
+    so.2 h opened
+    ∙ ap (λ said. g.K.Sink.sent c.args.output.now ++ flat_map line_of said)
+    (so.1.says h opened ∙ ap (outputs (g.B.Book.tables c.args.host.now)) all)
+
+pub returns-clause-tables : goal.returns-clause-tables
+returns-clause-tables g c = λ h opened.
+    let so = c.loop-event.invariant.0 in
+    let all = take_all c.loop-event.event-index c.args.events.now (omega arith) in
+    so.1.leads h opened ∙ ap (tables_after (g.B.Book.tables c.args.host.now)) all

@@ -1,4 +1,4 @@
-use Rattle.std.proofs.Common.{List, ℕ, [], ◌++◌, ◌∙◌, sym, ap, append-nil, Err}
+use Rattle.std.proofs.Common.{List, ℕ, [], ◌++◌, ◌∙◌, sym, ap, append-nil, arith, Err}
 use Rattle.std.proofs.lemmas.Result.{err_from_is_err_and}
 use Rattle.acq_commands.proofs.FaultsTold.{all_taken, any_end}
 use Rattle.acq_commands.proofs.FaultsTold.{input_reads, input_unread, input_unwritten}
@@ -56,3 +56,29 @@ pub returns-in-Frames-clause-whole : goal.returns-in-Frames-clause-whole
 returns-in-Frames-clause-whole g c =
     any_end c.show_frames.result _ (all_taken _ _ _ _ _ c.in_ok-bytes.ensures.known
     c.in_ok-bytes.ensures.end c.in_ok-bytes.ensures.received)
+
+pub returns-clause-reads : goal.returns-clause-reads
+returns-clause-reads g c = omega (arith, c.in_ok-bytes.ensures.well, c.show_hex.ensures.reads)
+
+pub returns-clause-writes : goal.returns-clause-writes
+returns-clause-writes g c = c.show_hex.ensures.writes
+
+pub returns-in-Frames-clause-reads : goal.returns-in-Frames-clause-reads
+returns-in-Frames-clause-reads g c =
+    omega (arith, c.in_ok-bytes.ensures.well, c.show_frames.ensures.reads)
+
+pub returns-in-Frames-clause-writes : goal.returns-in-Frames-clause-writes
+returns-in-Frames-clause-writes g c = c.show_frames.ensures.writes
+
+pub returns-in-Frames-clause-shown : goal.returns-in-Frames-clause-shown
+returns-in-Frames-clause-shown g c =
+    let more = c.show_frames.ensures.shown in (
+      c.as_slice.result.now,
+      more.0,
+      c.in_ok-bytes.ensures.received
+          ∙ ap (λ (bytes : List ℕ). g.S.Source.received c.args.input.now ++ bytes)
+          (sym c.as_slice.ensures.value),
+      more.1,
+      rw c.in-Frames.is
+          more.2,
+    )
