@@ -38,7 +38,7 @@ use Rattle.acq_sql_rows.specs.Schema as schema
 use Rattle.acq_sql_reads.specs.Failing.{FailsForMemory, FailsOnlyExcused}
 use Rattle.acq_sql_reads.specs.Failing.{IsMerchantRow, IsBalanceRow}
 use Rattle.acq_sql_reads.specs.Failing.{IsTallyRow}
-use Rattle.std.proofs.Common.{◌↔◌, IsSome, subst, true≢false}
+use Rattle.std.proofs.Common.{◌↔◌, IsSome, SomeIff, subst, true≢false}
 use Rattle.sqlite.specs.declared.error.ErrorCode.TheVariants.{DatabaseCorrupt}
 use Rattle.sqlite.specs.declared.error.Error.TheVariants.{SqliteFailure}
 use Rattle.day_totals.specs.Totals.{DayTotals, AreWithinLimits}
@@ -170,6 +170,15 @@ pub memory_excused : {T : Type 0} (old new : State) (res : Result T Error) → F
     → IfErr res (IsExcused old new)
 memory_excused old new (Ok x) memory = tt
 memory_excused old new (Err e) memory = inl memory
+
+-- a number that fits is read
+pub number_taken : {T : Type 0} (res : Result T Error) (o : Option T) (fits : Type 0) (n : T)
+    (P : Error → Type 0) → IfErr res (λ e. (o ≡ None) × (e ≡ SqliteFailure DatabaseCorrupt))
+    → SomeIff o fits n → fits → IfErr res P
+number_taken (Ok x) o fits n P fault some fit = tt
+number_taken (Err e) None fits n P fault some fit = absurd (some fit)
+number_taken (Err e) (Some x) fits n P fault some fit =
+    absurd (let none : Some x ≡ None = fault.0 in cc)
 
 -- no row was read
 pub none_first : (rows : List Row) (first : Row) → rows ≡ first ∷ [] → None ≢ slice_get rows 0

@@ -3,12 +3,13 @@ use Rattle.std.proofs.Common.{◌≡◌, ◌+◌, ◌≤◌, ◌<◌, ℕ, zero,
 use Rattle.std.proofs.Common.{true≢false, List, []}
 use Rattle.std.proofs.Common.{◌∷◌, Option, None, Some, Ok, Err, Result, SomeIff, IfOk, Less, refl}
 use Rattle.std.proofs.Common.{sym, ap, subst}
-use Rattle.std.proofs.Common.{subst₂, ◌∙◌, arith}
+use Rattle.std.proofs.Common.{subst₂, ◌∙◌, arith, slice_get}
+use Rattle.std.proofs.lemmas.Result.{IfOk-weaker}
 use Rattle.std.specs.List.{cons_option, range_with_len}
 use Rattle.std.specs.Ordering.{is_gt, ordering_reverse}
 use Rattle.std.specs.Str.{bytes_eq}
 use Rattle.sqlite_value.specs.declared.value.Value.TheVariants.{Int, Null, Text}
-use Rattle.sqlite_value.specs.Order.{Row, value_cmp}
+use Rattle.sqlite_value.specs.Order.{Row, column, value_cmp}
 use Rattle.sqlite_value.proofs.OrderLemmas.{then-Equal, value_cmp-Null, value_cmp_total}
 use Rattle.sqlite_trees.proofs.ListLemmas.{ascending_weaker}
 use Rattle.sqlite_sql.specs.Query.{Output}
@@ -148,6 +149,31 @@ pub number_read : {T : Type 0} (r : Result T Error) (o : Option T) (fits : Type 
 number_read (Ok x) None fits n is found = absurd (let e : None ≡ Some x = is in cc)
 number_read (Ok x) (Some y) fits n is found = let e : x ≡ y = cc in e ∙ found.1
 number_read (Err e) o fits n is found = tt
+
+-- ---- what was read of the row
+
+same_reference : (a b : Option ℕ) → number_or_null a ≡ number_or_null b → a ≡ b
+same_reference None None h = refl
+same_reference None (Some b) h = absurd (cc)
+same_reference (Some a) None h = absurd (cc)
+same_reference (Some a) (Some b) h = let e : a ≡ b = cc in ap Some e
+
+pub greatest_read : (first many : ℕ) (rows : List Row) (row : Row) (r : Result (Option ℕ) Error)
+    → ShowsGreatest first many rows → Some row ≡ slice_get rows 0
+    → IfOk r (λ o. column row 0 ≡ number_or_null o) → IfOk r (λ o. many ≡ count_up_to first o)
+greatest_read first many rows row r (inl none) some =
+    absurd (let e = some ∙ ap (λ l. slice_get l 0) none.0 in cc)
+greatest_read first many rows row r (inr (o, one, is)) some =
+    let shown : row ≡ number_or_null o ∷ [] =
+    let e : Some row ≡ Some (number_or_null o ∷ []) = some ∙ ap (λ l. slice_get l 0) one in cc in
+    IfOk-weaker r _ _ (λ p here. is ∙ ap (count_up_to first)
+    (same_reference o p (sym (ap (λ l. column l 0) shown) ∙ here)))
+
+pub none_greatest : (first many : ℕ) (rows : List Row) → ShowsGreatest first many rows
+    → None ≡ slice_get rows 0 → many ≡ 0
+none_greatest first many rows (inl none) is = none.1
+none_greatest first many rows (inr (o, one, more)) is =
+    absurd (let e = is ∙ ap (λ l. slice_get l 0) one in cc)
 
 -- ---- the rows
 

@@ -1,7 +1,7 @@
 -- What a SELECT leaves, also where it fails.
 use Rattle.std.proofs.Common.{◌≡◌, ◌⊎◌, inl, inr, ℕ, Bool, true, false, true≢false, List, Ok, Err}
 use Rattle.std.proofs.Common.{Result, IfOk, IfErr}
-use Rattle.std.proofs.Common.{IsTrue, is_ok, None, [], refl, sym, subst, ◌∙◌, arith, ⊎_elim}
+use Rattle.std.proofs.Common.{IsTrue, IsErr, is_ok, None, [], refl, sym, subst, ◌∙◌, arith, ⊎_elim}
 use Rattle.sqlite_value.specs.Order.{Row}
 use Rattle.sqlite_trees.specs.Tree.{Trees}
 use Rattle.sqlite_resolve.specs.declared.compiled.Compiled.{Compiled}
@@ -131,6 +131,25 @@ looks_nowhere s =
       );
       settled = λ out. out;
       stop = stops_nowhere s;
+    }
+
+-- ---- one look-up, by what is made of it
+
+-- it failed
+pub looks_in_vain : {T : Type 0} {old new : State} → LooksOnly old new false
+    → (result : Result T Error) → IsErr result → LooksOnly old new (is_ok result)
+looks_in_vain looks (Ok x) is = absurd (true≢false (sym is))
+looks_in_vain looks (Err e) is = looks
+
+-- it succeeded, whatever became of what was found
+pub looks_once : {old new : State} → LooksOnly old new true → (succeeded : Bool)
+    → LooksOnly old new succeeded
+looks_once looks succeeded =
+    record {
+      same = λ clean is. looks.same clean refl;
+      undone = looks.undone;
+      settled = looks.settled;
+      stop = looks.stop;
     }
 
 -- ---- one look-up after another that succeeded

@@ -1,7 +1,9 @@
 -- From the columns that were read to the request.
-use Rattle.std.proofs.Common.{◌≡◌, ◌==◌, ℕ, pos, Bool, List, [], ◌∷◌, length, slice_get}
+use Rattle.std.proofs.Common.{◌≡◌, ◌≤◌, ◌<◌, ◌==◌, ℕ, pos, Bool, List, [], ◌∷◌, length, slice_get}
 use Rattle.std.proofs.Common.{slice_index_or, Option, None, Some}
-use Rattle.std.proofs.Common.{Ok, refl, sym, ap, ◌∙◌, arith}
+use Rattle.std.proofs.Common.{Ok, true, false, get_or, take, refl, sym, ap, ◌∙◌, arith}
+use Rattle.std.specs.Prelude.{if◌then◌else◌}
+use Rattle.std.specs.Str.{bytes_eq}
 use Rattle.sqlite_value.specs.declared.value.Value.TheVariants.{Int, Text}
 use Rattle.sqlite_value.specs.Order.{Row, column}
 use Rattle.row_lemmas.specs.Values.{number, number_or_null, text_or_null}
@@ -10,10 +12,13 @@ use Rattle.iso_codec.specs.Reading.{reading_of}
 use Rattle.day_totals.specs.Totals.{all_legs}
 use Rattle.day_totals.specs.declared.leg.Leg.{Leg}
 use Rattle.day_totals.specs.declared.leg.Leg.TheVariants.{Credit}
+use Rattle.acq_message.specs.declared.service.Service.{Service}
+use Rattle.acq_message.specs.Services.{digits_of, served, service_in, service_of}
 use Rattle.acq_core.specs.declared.request.Request.{Request}
 use Rattle.acq_core.specs.Statuses.{status_number}
 use Rattle.acq_sql_rows.specs.Rows.{request_row, leg_number, bit_of}
 use Rattle.acq_sql_rows.specs.ReadBack.{request_at}
+use Rattle.acq_sql_changes.proofs.writes.RunningTotals.{bytes_same}
 use Rattle.acq_sql_reads.specs.Recorded.{request_cells, IsRowOf, HasKey, ShowsRequest}
 use Rattle.acq_sql_rows.proofs.TablesReadBack.{text_back, number_back, bit_back, leg_back}
 use Rattle.acq_core.proofs.Statuses.{status_back}
@@ -27,6 +32,57 @@ bit_same a b h = sym (bit_back a) ∙ ap (λ n. n == 1) h ∙ bit_back b
 
 pub leg_same : (a b : Leg) → leg_number a ≡ leg_number b → a ≡ b
 leg_same a b h = sym (leg_back a) ∙ ap (λ n. slice_index_or all_legs n Credit) h ∙ leg_back b
+
+-- ---- a service by the digits of its type
+
+abbrev HaveDigits : List (List ℕ × Service) → Type 0
+HaveDigits [] = Unit {0}
+HaveDigits (row ∷ rows) = (take 3 row.0 ≡ digits_of row.1) × HaveDigits rows
+
+digits_in : (rows : List (List ℕ × Service)) → HaveDigits rows
+    → (kind : List ℕ) (s : Service) → service_in rows kind ≡ Some s → take 3 kind ≡ digits_of s
+digits_in [] all kind s is = absurd (cc)
+digits_in (row ∷ rows) all kind s is =
+    go (digits_in rows all.1 kind s) (bytes_eq kind row.0) refl is
+  where
+    go : (service_in rows kind ≡ Some s → take 3 kind ≡ digits_of s)
+        → (b : Bool) → bytes_eq kind row.0 ≡ b
+        → (if b then Some row.1 else service_in rows kind) ≡ Some s → take 3 kind ≡ digits_of s
+    go rest true same is =
+        let e : row.1 ≡ s = cc in
+        ap (take 3) (bytes_same kind row.0 same) ∙ all.0 ∙ ap digits_of e
+    go rest false other is = rest is
+
+digits_served : HaveDigits served
+digits_served = (
+  refl,
+  (
+    refl,
+    (
+      refl,
+      (
+        refl,
+        (
+          refl,
+          (
+            refl,
+            (
+              refl,
+              (refl, (refl, (refl, (refl, (refl, (refl, (refl, tt))))))),
+            ),
+          ),
+        ),
+      ),
+    ),
+  ),
+)
+
+-- the type's last digit is 0
+pub service_read : (text : List ℕ) (s : Service) → 3 ≤ length text → length text < 4
+    → service_of (get_or text 0 0 ∷ get_or text 1 0 ∷ get_or text 2 0 ∷ 48 ∷ []) ≡ Some s
+    → text ≡ digits_of s
+service_read (a ∷ b ∷ c ∷ []) s low high = digits_in served digits_served (a ∷ b ∷ c ∷ 48 ∷ []) s
+service_read text s low high = absurd (omega arith)
 
 -- ---- a row is one request's
 

@@ -2,7 +2,7 @@
 -- left of the connection.
 use Rattle.std.proofs.Common.{◌≡◌, ◌⊎◌, ◌++◌, Bool, inl, inr, true, false, true≢false, ℕ, List, []}
 use Rattle.std.proofs.Common.{◌∷◌}
-use Rattle.std.proofs.Common.{IsTrue, Ok}
+use Rattle.std.proofs.Common.{IsErr, IsTrue, Ok, OnOk}
 use Rattle.std.proofs.Common.{refl, sym, subst, ◌∙◌, arith, Result, Err, OnErr}
 use Rattle.sqlite_trees.specs.declared.store.Store.{Ghosts}
 use Rattle.sqlite_value.specs.Order.{Row}
@@ -179,6 +179,11 @@ module _ {S T V : Type 0} {g : Ghosts S} {sql : List ℕ} {params : Row} {first 
 pub on_err : {T E X : Type 0} (r : Result T E) → X → OnErr r X
 on_err (Ok x) is = tt
 on_err (Err e) is = is
+
+-- nothing is said of a success where there was none
+pub none_from_err : {T E : Type 0} (X : Type 0) (r : Result T E) → IsErr r → OnOk r X
+none_from_err X (Ok x) is = absurd (true≢false (sym is))
+none_from_err X (Err e) is = tt
 
 -- ---- what is left
 

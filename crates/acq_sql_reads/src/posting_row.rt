@@ -13,8 +13,7 @@ use card_no::CardNumber;
 use sqlite::{Error, ErrorCode, Row};
 use std::alloc::Global;
 
-/// The posting of a row with the nine columns, and its number. A card that is no valid card number
-/// is none that a host wrote, and would be cleared.
+/// The posting of a row with the nine columns, and its number.
 pub(crate) fn read_posting(alloc: Global, row: &Row) -> Result<(u64, Posting), Error>
     ensures { IfOk result (λ p. length row.now ≡ 9 → row.now ≡ posting_row p) }
 {
@@ -26,8 +25,7 @@ pub(crate) fn read_posting(alloc: Global, row: &Row) -> Result<(u64, Posting), E
     let reference = reference_at(row, 5)?;
     let terminal = read(TerminalId::read(text_at(row, 7)?))?;
     let trace = read(Trace::read(text_at(row, 8)?))?;
-    read(CardNumber::read(text_at(row, 6)?))?;
-    let card = content_at(alloc, row, 6)?;
+    let card = card_at(alloc, row, 6)?;
     Ok((
         number,
         Posting {
@@ -43,12 +41,15 @@ pub(crate) fn read_posting(alloc: Global, row: &Row) -> Result<(u64, Posting), E
     ))
 }
 
-/// The text of a column, copied.
-fn content_at(alloc: Global, row: &Row, at: usize) -> Result<ElementContent, Error>
+/// The card of a column, copied. One that is no valid card number is none that a host wrote, and
+/// would be cleared.
+fn card_at(alloc: Global, row: &Row, at: usize) -> Result<ElementContent, Error>
     ensures value { IfOk result (λ content. column row.now at ≡ Text content) }
     ensures memory { NeedsText (column row.now at) result }
 {
-    match ElementContent::from_slice(alloc, text_at(row, at)?) {
+    let text = text_at(row, at)?;
+    read(CardNumber::read(text))?;
+    match ElementContent::from_slice(alloc, text) {
         Ok(content) => Ok(content),
         Err(_) => Err(Error::SqliteFailure(ErrorCode::OutOfMemory)),
     }

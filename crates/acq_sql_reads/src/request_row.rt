@@ -80,17 +80,10 @@ fn service_at(row: &Row, at: usize) -> Result<Service, Error>
     ensures { IfOk result (λ service. column row.now at ≡ Text (digits_of service)) }
 {
     let text = text_at(row, at)?;
-    let digits = read(<[u8; 3]>::try_from(text).ok())?;
-    match &digits {
-        b"010" => Ok(Service::Authorization),
-        b"020" => Ok(Service::Financial),
-        b"022" => Ok(Service::Completion),
-        b"040" => Ok(Service::Reversal),
-        b"042" => Ok(Service::ReversalAdvice),
-        b"050" => Ok(Service::Reconciliation),
-        b"080" => Ok(Service::NetworkManagement),
-        _ => Err(Error::SqliteFailure(ErrorCode::DatabaseCorrupt)),
-    }
+    let [a, b, c] = text else {
+        return Err(Error::SqliteFailure(ErrorCode::DatabaseCorrupt));
+    };
+    read(Service::of([*a, *b, *c, b'0']))
 }
 
 fn message_text_at(alloc: Global, row: &Row, at: usize) -> Result<MessageText, Error>

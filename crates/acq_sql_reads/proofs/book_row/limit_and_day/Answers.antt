@@ -1,11 +1,11 @@
 use Rattle.std.proofs.Common.{◌∙◌, ap}
 use Rattle.std.specs.List.{slice_get}
-use Rattle.std.proofs.lemmas.Result.{IfOk-weaker}
+use Rattle.std.proofs.lemmas.Result.{IfOk-from_err, IfOk-weaker, err_from_is_err_and}
 use Rattle.acq_sql_reads.proofs.RowReads.{pair_read}
 use Rattle.sqlite.specs.Held.{state}
-use Rattle.std.proofs.lemmas.Result.{err_from_is_err_and}
 use Rattle.acq_sql_reads.proofs.Failing.{memory_excused, limit_fits, day_fits, one_first}
 use Rattle.acq_sql_reads.proofs.Failing.{none_first}
+use Rattle.acq_sql_reads.proofs.Leaves.{looks_in_vain, looks_once}
 use Rattle.acq_sql_reads.proofs.book_row.limit_and_day.Goals as goal
 
 pub returns-in-Some-clause-answers : goal.returns-in-Some-clause-answers
@@ -36,3 +36,17 @@ pub returns-clause-fails : goal.returns-clause-fails
 returns-clause-fails g c clean t at past free =
     absurd (none_first c.in_ok-rows.rows.items _ (c.in_ok-rows.ensures.answers clean t at.holds)
     (c.in-None.ensures.value ∙ ap (λ l. slice_get l 0) c.deref.ensures.value))
+
+pub returns-in_err-rows-clause-answers : goal.returns-in_err-rows-clause-answers
+returns-in_err-rows-clause-answers g c clean t holds =
+    IfOk-from_err c.from_residual.result _ c.from_residual.ensures.0
+
+pub returns-in_err-rows-clause-looks : goal.returns-in_err-rows-clause-looks
+returns-in_err-rows-clause-looks g c =
+    looks_in_vain c.in_err-rows.ensures.looks c.from_residual.result c.from_residual.ensures.0
+
+pub returns-in-Some-clause-looks : goal.returns-in-Some-clause-looks
+returns-in-Some-clause-looks g c = looks_once c.in_ok-rows.ensures.looks _
+
+pub returns-clause-looks : goal.returns-clause-looks
+returns-clause-looks g c = looks_once c.in_ok-rows.ensures.looks _

@@ -1,9 +1,21 @@
-use Rattle.std.proofs.Common.{rules, sym, ◌∙◌}
-use Rattle.std.proofs.lemmas.Result.{IfOk-weaker}
+use Rattle.std.proofs.Common.{sym, ◌∙◌}
+use Rattle.std.proofs.lemmas.Result.{IfOk-from_err, IfOk-weaker}
 use Rattle.sqlite.specs.Held.{state}
-use Rattle.acq_sql_reads.proofs.Leaves.{holds_still, clean_before, looks_then}
+use Rattle.acq_sql_reads.proofs.Leaves.{clean_before, holds_still}
+use Rattle.acq_sql_reads.proofs.Leaves.{looks_in_vain, looks_once, looks_then}
 use Rattle.acq_sql_reads.proofs.GreatestReads.{number_read, none_admitted}
 use Rattle.acq_sql_reads.proofs.counts.admitted.Goals as goal
+
+pub returns-in_err-enrolled-clause-answers : goal.returns-in_err-enrolled-clause-answers
+returns-in_err-enrolled-clause-answers g c clean t holds past =
+    IfOk-from_err c.from_residual.result _ c.from_residual.ensures.0
+
+pub returns-in_err-enrolled-clause-looks : goal.returns-in_err-enrolled-clause-looks
+returns-in_err-enrolled-clause-looks g c =
+    looks_in_vain c.in_err-enrolled.ensures.looks c.from_residual.result c.from_residual.ensures.0
+
+pub returns-in_default-clause-looks : goal.returns-in_default-clause-looks
+returns-in_default-clause-looks g c = looks_once c.in_ok-enrolled.ensures.looks _
 
 pub returns-in_default-clause-answers : goal.returns-in_default-clause-answers
 returns-in_default-clause-answers g c clean t holds past =
@@ -14,10 +26,16 @@ returns-in_default-clause-answers g c clean t holds past =
 
 pub returns-in_err-greatest-clause-looks : goal.returns-in_err-greatest-clause-looks
 returns-in_err-greatest-clause-looks g c =
-    let looks = looks_then (state g.S.Store c.args.conn.now) (state g.S.Store c.merchant.new.conn)
+    looks_in_vain
+    (looks_then (state g.S.Store c.args.conn.now) (state g.S.Store c.merchant.new.conn)
     (state g.S.Store c.greatest_reference.new.conn) c.in_ok-enrolled.ensures.looks _
-    c.in_err-greatest.ensures.looks in
-    search rules
+    c.in_err-greatest.ensures.looks)
+    c.from_residual-in_err-greatest.result c.from_residual-in_err-greatest.ensures.0
+
+pub returns-in_err-greatest-clause-answers : goal.returns-in_err-greatest-clause-answers
+returns-in_err-greatest-clause-answers g c clean t holds past =
+    IfOk-from_err c.from_residual-in_err-greatest.result _
+    c.from_residual-in_err-greatest.ensures.0
 
 pub returns-clause-answers : goal.returns-clause-answers
 returns-clause-answers g c clean t holds past =
@@ -31,3 +49,11 @@ returns-clause-answers g c clean t holds past =
     (holds_still old mid new first before t holds) past
     c.in-Some.enrolled enrolled in
     IfOk-weaker c.count_from.result _ _ (λ n is. is ∙ sym many) c.count_from.ensures
+
+pub returns-clause-looks : goal.returns-clause-looks
+returns-clause-looks g c =
+    looks_once
+    (looks_then (state g.S.Store c.args.conn.now) (state g.S.Store c.merchant.new.conn)
+    (state g.S.Store c.greatest_reference.new.conn) c.in_ok-enrolled.ensures.looks _
+    c.in_ok-greatest.ensures.looks)
+    _

@@ -1,7 +1,8 @@
-use Rattle.std.proofs.lemmas.Result.{err_from_is_err_and}
+use Rattle.std.proofs.lemmas.Result.{IfOk-from_err, err_from_is_err_and}
 use Rattle.std.proofs.Common.{◌∙◌, ap, inl}
 use Rattle.std.specs.List.{slice_get}
 use Rattle.acq_sql_reads.proofs.Failing.{merchant_fits}
+use Rattle.acq_sql_reads.proofs.Leaves.{looks_in_vain, looks_once}
 use Rattle.acq_sql_reads.proofs.enrolments.merchant.Goals as goal
 
 pub returns-in_err-rows-clause-fails : goal.returns-in_err-rows-clause-fails
@@ -18,3 +19,28 @@ returns-in_err-read_merchant-in-Some-clause-fails g c clean t at past free =
     (merchant_fits t past c.args.id c.in_ok-rows.rows.items c.in-Some.row.now
     (c.in_ok-rows.ensures.answers clean t at.holds)
     (c.in-Some.ensures.value ∙ ap (λ l. slice_get l 0) c.deref.ensures.value))))
+
+pub returns-in_err-rows-clause-answers : goal.returns-in_err-rows-clause-answers
+returns-in_err-rows-clause-answers g c clean t holds =
+    IfOk-from_err c.from_residual.result _ c.from_residual.ensures.0
+
+pub returns-in_err-rows-clause-looks : goal.returns-in_err-rows-clause-looks
+returns-in_err-rows-clause-looks g c =
+    looks_in_vain c.in_err-rows.ensures.looks c.from_residual.result c.from_residual.ensures.0
+
+pub returns-in_err-read_merchant-in-Some-clause-answers :
+    goal.returns-in_err-read_merchant-in-Some-clause-answers
+returns-in_err-read_merchant-in-Some-clause-answers g c clean t holds =
+    IfOk-from_err c.from_residual-in_err-read_merchant-in-Some.result _
+    c.from_residual-in_err-read_merchant-in-Some.ensures.0
+
+pub returns-in_err-read_merchant-in-Some-clause-looks :
+    goal.returns-in_err-read_merchant-in-Some-clause-looks
+returns-in_err-read_merchant-in-Some-clause-looks g c =
+    looks_once c.in_ok-rows.ensures.looks _
+
+pub returns-in-Some-clause-looks : goal.returns-in-Some-clause-looks
+returns-in-Some-clause-looks g c = looks_once c.in_ok-rows.ensures.looks _
+
+pub returns-clause-looks : goal.returns-clause-looks
+returns-clause-looks g c = looks_once c.in_ok-rows.ensures.looks _

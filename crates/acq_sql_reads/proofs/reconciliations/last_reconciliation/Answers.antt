@@ -1,9 +1,10 @@
 use Rattle.std.proofs.Common.{◌∙◌, ap, inl}
-use Rattle.std.proofs.lemmas.Result.{err_from_is_err_and}
+use Rattle.std.proofs.lemmas.Result.{IfOk-from_err, err_from_is_err_and}
 use Rattle.std.specs.List.{slice_get}
 use Rattle.acq_sql_reads.specs.Looked.{last_numbered_at}
 use Rattle.acq_sql_reads.proofs.Failing.{balance_shown}
 use Rattle.acq_sql_reads.proofs.ReconciliationReads.{last_read}
+use Rattle.acq_sql_reads.proofs.Leaves.{looks_in_vain, looks_once}
 use Rattle.acq_sql_reads.proofs.reconciliations.last_reconciliation.Goals as goal
 
 pub returns-in-Some-clause-answers : goal.returns-in-Some-clause-answers
@@ -27,3 +28,28 @@ returns-in_err-read_reconciliation-in-Some-clause-fails g c clean t at past free
     (balance_shown (last_numbered_at t c.args.merchant c.args.day) c.in_ok-rows.rows.items
     c.in-Some.row.now (c.in_ok-rows.ensures.answers clean t at.holds past)
     (c.in-Some.ensures.value ∙ ap (λ l. slice_get l 0) c.deref.ensures.value))))
+
+pub returns-in_err-rows-clause-answers : goal.returns-in_err-rows-clause-answers
+returns-in_err-rows-clause-answers g c clean t holds past =
+    IfOk-from_err c.from_residual.result _ c.from_residual.ensures.0
+
+pub returns-in_err-rows-clause-looks : goal.returns-in_err-rows-clause-looks
+returns-in_err-rows-clause-looks g c =
+    looks_in_vain c.in_err-rows.ensures.looks c.from_residual.result c.from_residual.ensures.0
+
+pub returns-in_err-read_reconciliation-in-Some-clause-answers :
+    goal.returns-in_err-read_reconciliation-in-Some-clause-answers
+returns-in_err-read_reconciliation-in-Some-clause-answers g c clean t holds past =
+    IfOk-from_err c.from_residual-in_err-read_reconciliation-in-Some.result _
+    c.from_residual-in_err-read_reconciliation-in-Some.ensures.0
+
+pub returns-in_err-read_reconciliation-in-Some-clause-looks :
+    goal.returns-in_err-read_reconciliation-in-Some-clause-looks
+returns-in_err-read_reconciliation-in-Some-clause-looks g c =
+    looks_once c.in_ok-rows.ensures.looks _
+
+pub returns-in-Some-clause-looks : goal.returns-in-Some-clause-looks
+returns-in-Some-clause-looks g c = looks_once c.in_ok-rows.ensures.looks _
+
+pub returns-clause-looks : goal.returns-clause-looks
+returns-clause-looks g c = looks_once c.in_ok-rows.ensures.looks _

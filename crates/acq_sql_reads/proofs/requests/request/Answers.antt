@@ -2,6 +2,8 @@ use Rattle.std.proofs.Common.{◌∙◌, ap}
 use Rattle.std.specs.List.{slice_get}
 use Rattle.acq_book.specs.Lookups.{request_at}
 use Rattle.acq_sql_reads.proofs.RequestRows.{row_is}
+use Rattle.std.proofs.lemmas.Result.{IfOk-from_err}
+use Rattle.acq_sql_reads.proofs.Leaves.{looks_in_vain, looks_once}
 use Rattle.acq_sql_reads.proofs.requests.request.Goals as goal
 
 pub returns-in-Some-clause-answers : goal.returns-in-Some-clause-answers
@@ -10,3 +12,28 @@ returns-in-Some-clause-answers g c clean t holds =
     c.in_ok-read_request-in-Some.field-0 (c.in_ok-rows.ensures.answers clean t holds)
     (c.in-Some.ensures.value ∙ ap (λ l. slice_get l 0) c.deref.ensures.value)
     c.in_ok-read_request-in-Some.ensures
+
+pub returns-in_err-rows-clause-answers : goal.returns-in_err-rows-clause-answers
+returns-in_err-rows-clause-answers g c clean t holds =
+    IfOk-from_err c.from_residual.result _ c.from_residual.ensures.0
+
+pub returns-in_err-rows-clause-looks : goal.returns-in_err-rows-clause-looks
+returns-in_err-rows-clause-looks g c =
+    looks_in_vain c.in_err-rows.ensures.looks c.from_residual.result c.from_residual.ensures.0
+
+pub returns-in_err-read_request-in-Some-clause-answers :
+    goal.returns-in_err-read_request-in-Some-clause-answers
+returns-in_err-read_request-in-Some-clause-answers g c clean t holds =
+    IfOk-from_err c.from_residual-in_err-read_request-in-Some.result _
+    c.from_residual-in_err-read_request-in-Some.ensures.0
+
+pub returns-in_err-read_request-in-Some-clause-looks :
+    goal.returns-in_err-read_request-in-Some-clause-looks
+returns-in_err-read_request-in-Some-clause-looks g c =
+    looks_once c.in_ok-rows.ensures.looks _
+
+pub returns-in-Some-clause-looks : goal.returns-in-Some-clause-looks
+returns-in-Some-clause-looks g c = looks_once c.in_ok-rows.ensures.looks _
+
+pub returns-clause-looks : goal.returns-clause-looks
+returns-clause-looks g c = looks_once c.in_ok-rows.ensures.looks _

@@ -1,8 +1,11 @@
 use Rattle.sqlite.specs.Held.{state}
 use Rattle.std.proofs.Common.{◌∙◌, ap}
 use Rattle.std.specs.List.{slice_get}
-use Rattle.std.proofs.lemmas.Result.{err_from_is_err_and}
+use Rattle.std.proofs.lemmas.Result.{IfOk-from_err, IfOk-weaker, err_from_is_err_and}
 use Rattle.acq_sql_reads.proofs.Failing.{memory_excused, tally_row_of}
+use Rattle.acq_sql_rows.specs.Tallies.{tally_of}
+use Rattle.acq_sql_reads.proofs.RowReads.{totals_read}
+use Rattle.acq_sql_reads.proofs.Leaves.{looks_in_vain, looks_once}
 use Rattle.acq_sql_reads.proofs.running.totals.Goals as goal
 
 pub returns-in_err-rows-clause-fails : goal.returns-in_err-rows-clause-fails
@@ -17,3 +20,25 @@ returns-in-Some-clause-fails g c clean t at past free =
     (c.read_totals.ensures.fails (tally_row_of t past c.args.merchant c.args.day
     c.in_ok-rows.rows.items c.in-Some.row.now (c.in_ok-rows.ensures.answers clean t at.holds)
     (c.in-Some.ensures.value ∙ ap (λ l. slice_get l 0) c.deref.ensures.value)))
+
+pub returns-in_err-rows-clause-answers : goal.returns-in_err-rows-clause-answers
+returns-in_err-rows-clause-answers g c clean t holds =
+    IfOk-from_err c.from_residual.result _ c.from_residual.ensures.0
+
+pub returns-in_err-rows-clause-looks : goal.returns-in_err-rows-clause-looks
+returns-in_err-rows-clause-looks g c =
+    looks_in_vain c.in_err-rows.ensures.looks c.from_residual.result c.from_residual.ensures.0
+
+pub returns-in-Some-clause-looks : goal.returns-in-Some-clause-looks
+returns-in-Some-clause-looks g c = looks_once c.in_ok-rows.ensures.looks _
+
+pub returns-clause-looks : goal.returns-clause-looks
+returns-clause-looks g c = looks_once c.in_ok-rows.ensures.looks _
+
+pub returns-in-Some-clause-answers : goal.returns-in-Some-clause-answers
+returns-in-Some-clause-answers g c clean t holds =
+    IfOk-weaker c.read_totals.result _ _
+    (λ x read. totals_read (tally_of t c.args.merchant c.args.day) c.in_ok-rows.rows.items
+    c.in-Some.row.now x (c.in_ok-rows.ensures.answers clean t holds)
+    (c.in-Some.ensures.value ∙ ap (λ l. slice_get l 0) c.deref.ensures.value) read)
+    c.read_totals.ensures.value

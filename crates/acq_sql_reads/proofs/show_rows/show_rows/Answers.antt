@@ -1,13 +1,13 @@
-use Rattle.std.proofs.Common.{[], inl, inr, true, false, refl, ◌∙◌, rules, Err}
+use Rattle.std.proofs.Common.{[], inl, inr, true, false, refl, subst, sym, ◌∙◌, rules, Err}
 use Rattle.sqlite.specs.Values.{bound}
 use Rattle.sqlite.specs.State.{HasCleanDisk}
 use Rattle.sqlite.specs.Held.{state}
 use Rattle.acq_sql_reads.specs.Looked.{LooksOnly}
-use Rattle.acq_sql_reads.proofs.Leaves.{looks}
+use Rattle.acq_sql_reads.proofs.Leaves.{looks, looks_in_vain}
 use Rattle.acq_sql_reads.proofs.Showing.{shown_none, shown_more, shown_to_last, shown_each}
 use Rattle.acq_sql_reads.proofs.Showing.{shown_first, shown_before}
 use Rattle.acq_sql_reads.proofs.Showing.{kept_on, settled_on, looks_still, looks_on, looks_failed}
-use Rattle.acq_sql_reads.proofs.Showing.{on_err}
+use Rattle.acq_sql_reads.proofs.Showing.{none_from_err, on_err}
 use Rattle.acq_sql_reads.proofs.show_rows.show_rows.Goals as goal
 
 pub returns-in_err-rows-clause-looks : goal.returns-in_err-rows-clause-looks
@@ -20,7 +20,7 @@ returns-in_err-rows-clause-looks g c plain =
     looks c.args.sql.now (bound c.args.params.now) old new plain {X = Unit {0}} (λ x. []) (Err e)
     (λ clean. tt)
     refused.err refused.mode refused.survives in
-    search rules
+    looks_in_vain here c.from_residual.result c.from_residual.ensures.0
 
 pub rows-init : goal.rows-init
 rows-init g c =
@@ -134,3 +134,28 @@ pub returns-clause-looks : goal.returns-clause-looks
 returns-clause-looks g c plain =
     let here = looks_still c.rows.invariant.1 plain false in
     search rules
+
+pub returns-in_err-rows-clause-seen : goal.returns-in_err-rows-clause-seen
+returns-in_err-rows-clause-seen g c clean plain =
+    none_from_err _ c.from_residual.result c.from_residual.ensures.0
+
+pub returns-in_err-rows-clause-begun : goal.returns-in_err-rows-clause-begun
+returns-in_err-rows-clause-begun g c clean plain =
+    on_err c.from_residual.result ([], [], inl refl, tt, refl)
+
+pub returns-in_err-row-clause-seen : goal.returns-in_err-row-clause-seen
+returns-in_err-row-clause-seen g c clean plain =
+    none_from_err _ c.from_residual-in_err-row.result c.from_residual-in_err-row.ensures.0
+
+pub returns-in_default-clause-begun : goal.returns-in_default-clause-begun
+returns-in_default-clause-begun g c clean plain = tt
+
+pub returns-in_err-shown-clause-seen : goal.returns-in_err-shown-clause-seen
+returns-in_err-shown-clause-seen g c clean plain =
+    none_from_err _ c.from_residual-in_err-shown.result c.from_residual-in_err-shown.ensures.0
+
+pub returns-then-not-row-clause-begun : goal.returns-then-not-row-clause-begun
+returns-then-not-row-clause-begun g c clean plain = tt
+
+pub returns-clause-seen : goal.returns-clause-seen
+returns-clause-seen g c clean plain = tt

@@ -1,0 +1,17 @@
+use Rattle.std.proofs.lemmas.Result.{IfOk-from_err}
+use Rattle.acq_sql_reads.proofs.Leaves.{looks_in_vain, looks_once}
+use Rattle.acq_sql_reads.proofs.counts.pending.Goals as goal
+
+pub returns-in_err-rows-clause-answers : goal.returns-in_err-rows-clause-answers
+returns-in_err-rows-clause-answers g c clean t holds =
+    IfOk-from_err c.from_residual.result _ c.from_residual.ensures.0
+
+pub returns-in_err-rows-clause-looks : goal.returns-in_err-rows-clause-looks
+returns-in_err-rows-clause-looks g c =
+    looks_in_vain c.in_err-rows.ensures.looks c.from_residual.result c.from_residual.ensures.0
+
+pub returns-in-Some-clause-looks : goal.returns-in-Some-clause-looks
+returns-in-Some-clause-looks g c = looks_once c.in_ok-rows.ensures.looks _
+
+pub returns-clause-looks : goal.returns-clause-looks
+returns-clause-looks g c = looks_once c.in_ok-rows.ensures.looks _
