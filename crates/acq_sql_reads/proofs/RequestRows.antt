@@ -3,7 +3,9 @@ use Rattle.std.proofs.Common.{◌≡◌, ◌≤◌, ◌<◌, ◌==◌, ℕ, pos,
 use Rattle.std.proofs.Common.{slice_index_or, Option, None, Some}
 use Rattle.std.proofs.Common.{Ok, true, false, get_or, take, refl, sym, ap, ◌∙◌, arith}
 use Rattle.std.specs.Prelude.{if◌then◌else◌}
+use Rattle.std.specs.List.{list_all}
 use Rattle.std.specs.Str.{bytes_eq}
+use Rattle.std.proofs.lemmas.Bool.{and_parts}
 use Rattle.sqlite_value.specs.declared.value.Value.TheVariants.{Int, Text}
 use Rattle.sqlite_value.specs.Order.{Row, column}
 use Rattle.row_lemmas.specs.Values.{number, number_or_null, text_or_null}
@@ -35,53 +37,31 @@ leg_same a b h = sym (leg_back a) ∙ ap (λ n. slice_index_or all_legs n Credit
 
 -- ---- a service by the digits of its type
 
-abbrev HaveDigits : List (List ℕ × Service) → Type 0
-HaveDigits [] = Unit {0}
-HaveDigits (row ∷ rows) = (take 3 row.0 ≡ digits_of row.1) × HaveDigits rows
+abbrev has_digits : List ℕ × Service → Bool
+has_digits row = bytes_eq (take 3 row.0) (digits_of row.1)
 
-digits_in : (rows : List (List ℕ × Service)) → HaveDigits rows
+digits_in : (rows : List (List ℕ × Service)) → list_all has_digits rows ≡ true
     → (kind : List ℕ) (s : Service) → service_in rows kind ≡ Some s → take 3 kind ≡ digits_of s
 digits_in [] all kind s is = absurd (cc)
 digits_in (row ∷ rows) all kind s is =
-    go (digits_in rows all.1 kind s) (bytes_eq kind row.0) refl is
+    let parts = and_parts (has_digits row) (list_all has_digits rows) all in
+    go (bytes_same (take 3 row.0) (digits_of row.1) parts.0) (digits_in rows parts.1 kind s)
+    (bytes_eq kind row.0) refl is
   where
-    go : (service_in rows kind ≡ Some s → take 3 kind ≡ digits_of s)
+    go : take 3 row.0 ≡ digits_of row.1
+        → (service_in rows kind ≡ Some s → take 3 kind ≡ digits_of s)
         → (b : Bool) → bytes_eq kind row.0 ≡ b
         → (if b then Some row.1 else service_in rows kind) ≡ Some s → take 3 kind ≡ digits_of s
-    go rest true same is =
+    go here rest true same is =
         let e : row.1 ≡ s = cc in
-        ap (take 3) (bytes_same kind row.0 same) ∙ all.0 ∙ ap digits_of e
-    go rest false other is = rest is
-
-digits_served : HaveDigits served
-digits_served = (
-  refl,
-  (
-    refl,
-    (
-      refl,
-      (
-        refl,
-        (
-          refl,
-          (
-            refl,
-            (
-              refl,
-              (refl, (refl, (refl, (refl, (refl, (refl, (refl, tt))))))),
-            ),
-          ),
-        ),
-      ),
-    ),
-  ),
-)
+        ap (take 3) (bytes_same kind row.0 same) ∙ here ∙ ap digits_of e
+    go here rest false other is = rest is
 
 -- the type's last digit is 0
 pub service_read : (text : List ℕ) (s : Service) → 3 ≤ length text → length text < 4
     → service_of (get_or text 0 0 ∷ get_or text 1 0 ∷ get_or text 2 0 ∷ 48 ∷ []) ≡ Some s
     → text ≡ digits_of s
-service_read (a ∷ b ∷ c ∷ []) s low high = digits_in served digits_served (a ∷ b ∷ c ∷ 48 ∷ []) s
+service_read (a ∷ b ∷ c ∷ []) s low high = digits_in served refl (a ∷ b ∷ c ∷ 48 ∷ []) s
 service_read text s low high = absurd (omega arith)
 
 -- ---- a row is one request's
