@@ -32,7 +32,6 @@ pub fn read_request(alloc: Global, row: &Row) -> Result<Request, Error>
     ensures { IfOk result (λ r. length row.now ≡ 18 → IsRowOf row.now r) }
 {
     let key = read_key(row)?;
-    let essence = message_text_at(alloc, row, 5)?;
     let day = day_at(row, 6)?;
     let status = status_at(row, 7)?;
     let admitted = bit_at(row, 8)?;
@@ -40,10 +39,12 @@ pub fn read_request(alloc: Global, row: &Row) -> Result<Request, Error>
     let follows = reference_if_at(row, 10)?;
     let amount = amount_at(row, 11)?;
     let leg = leg_at(row, 12)?;
-    let card = content_if_at(alloc, row, 13)?;
-    let acquirer = content_if_at(alloc, row, 14)?;
     let hold_days = hold_days_if_at(row, 15)?;
     let hold_end = number_if_at(row, 16)?;
+    // what takes memory comes last, so that few exits have it to let go
+    let essence = message_text_at(alloc, row, 5)?;
+    let card = content_if_at(alloc, row, 13)?;
+    let acquirer = content_if_at(alloc, row, 14)?;
     let reply = message_at(alloc, row, 17)?;
     Ok(Request {
         key,
