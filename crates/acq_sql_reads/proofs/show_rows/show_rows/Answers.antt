@@ -1,4 +1,4 @@
-use Rattle.std.proofs.Common.{[], inl, inr, true, false, refl, subst, sym, ◌∙◌, rules, Err}
+use Rattle.std.proofs.Common.{[], inl, inr, true, false, refl, ◌∙◌, rules, Err}
 use Rattle.sqlite.specs.Values.{bound}
 use Rattle.sqlite.specs.State.{HasCleanDisk}
 use Rattle.sqlite.specs.Held.{state}
