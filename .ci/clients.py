@@ -1,7 +1,7 @@
 #!/usr/bin/env python3
 """clients.py PROGRAM: clients that are slow, silent, deaf or broken, over real sockets, one by one and
 many at once; and others that are to be served beside them."""
-import os, resource, select, shutil, signal, socket, subprocess, sys, tempfile, time
+import os, resource, select, shutil, signal, socket, struct, subprocess, sys, tempfile, time
 
 ECHO = b"\x00\x370800822000000000000004000000000000000101120000000001301"
 REPLY = b"\x00\x39081082200000020000000400000000000000010112000000000100301"
@@ -32,14 +32,19 @@ class Host:
         self.process.wait()
         shutil.rmtree(self.work, ignore_errors=True)
 
-    def connect(self, sent=b"", room=None):
+    def is_at(self, address):
+        """Whether it listens at this address of the machine; it does at one."""
+        with socket.socket() as end:
+            return end.connect_ex((address, self.port)) == 0
+
+    def connect(self, sent=b"", room=None, address="127.0.0.1"):
         for _ in range(200):
             end = socket.socket()
             if room:
                 end.setsockopt(socket.SOL_SOCKET, socket.SO_RCVBUF, room)
             end.settimeout(10)
             try:
-                end.connect(("127.0.0.1", self.port))
+                end.connect((address, self.port))
                 end.sendall(sent)
                 return end
             except ConnectionRefusedError:
@@ -223,6 +228,25 @@ def stopped_and_continued(program):
         return well and host.faults() == []
 
 
+def a_reset(program, *words):
+    """A connection that its client resets, inside a frame or behind one, ends alone."""
+    with Host(program, *words) as host:
+        for sent in (ECHO[:9], ECHO, ECHO + ECHO[:1]):
+            end = host.connect(sent)
+            time.sleep(0.1)
+            end.setsockopt(socket.SOL_SOCKET, socket.SO_LINGER, struct.pack("ii", 1, 0))
+            end.close()
+        well = all(is_served(host.connect()) for _ in range(3))
+        return well and host.process.poll() is None and set(host.faults()) <= {READ, "acqd: 51 Ended"}
+
+
+def another_address(program, *words):
+    """With an address it listens there, and nowhere else; without one at 127.0.0.1 alone."""
+    with Host(program, "--address", "127.0.0.2", *words) as host, Host(program, *words) as usual:
+        well = is_served(host.connect(address="127.0.0.2")) and is_served(usual.connect())
+        return well and not host.is_at("127.0.0.1") and not usual.is_at("127.0.0.2")
+
+
 def main(program):
     tries = [
         (drips,), (drips, "--together", "2"),
@@ -234,6 +258,8 @@ def main(program):
         (nobody_reads_the_faults,), (nobody_reads_the_faults, "--together", "8"),
         (closed_descriptors,), (closed_descriptors, "--together", "8"),
         (stopped_and_continued,),
+        (a_reset,), (a_reset, "--together", "8"),
+        (another_address,), (another_address, "--together", "8"),
     ]
     wrong = [" ".join([it[0].__name__, *it[1:]]) for it in tries if not it[0](program, *it[1:])]
     print(f"{len(tries)} tries with slow, silent, deaf and broken clients: {len(wrong)} went wrong {wrong}")

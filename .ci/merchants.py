@@ -1,4 +1,5 @@
-"""merchants.py PROGRAM: ten thousand events of fifty merchants, and what the day of each comes to.
+"""merchants.py PROGRAM: ten thousand events of fifty merchants, and what the day of each comes to; two
+thousand issuers' ranges, and the issuer of a card of the last.
 
 Each merchant has 34 rounds of a sale, a hold, their approvals, the hold's completion by less and the
 sale's reversal, each event of a round for all merchants before the next; then a reconciliation that
@@ -10,6 +11,7 @@ import sys
 
 MERCHANTS, ROUNDS = range(1, 51), 34
 MOMENT = 1714555800
+RANGES = range(2000)
 
 
 def frame(parts):
@@ -18,6 +20,25 @@ def frame(parts):
 
 def answer(name, reference):
     return f"answer,{MOMENT},{name},{reference},approved,A1B2C3"
+
+
+def card_of(prefix):
+    """A card number of sixteen digits with this prefix, and its check digit."""
+    digits = f"{prefix:08}0000000"
+    doubled = [int(it) * (2 - at % 2) for at, it in enumerate(digits)]
+    return digits + str(-sum(it // 10 + it % 10 for it in doubled) % 10)
+
+
+def range_of(issuer):
+    """The line that adds the range of an issuer, a thousand prefixes."""
+    return f"addrange,{10_000_000 + 1000 * issuer},{10_000_999 + 1000 * issuer},{issuer},7,"
+
+
+def sale_of_the_last():
+    """A sale by a card of the last issuer's range, and the line that asks that issuer."""
+    name, card = "SHOP00000000001", card_of(10_000_999 + 1000 * RANGES[-1])
+    sale = frame(f"0200|7220000000C08000|16|{card}|000000|000000001000|0501093000|999998|TERM0001|{name}|978")
+    return sale, f"ask {name} {2 * ROUNDS + 1:012} {card[:6]}******{card[-4:]} 1000 {RANGES[-1]}"
 
 
 def events_of(merchant, rounds):
@@ -49,21 +70,22 @@ def claim_and_reply(merchant):
 
 def main():
     lines = ["addrange,40000000,49999999,12345,7,", "addrange,50000000,59999999,67890,1,"]
+    lines += [range_of(issuer) for issuer in RANGES]
     for merchant in MERCHANTS:
         lines += [f"enrol,SHOP{merchant:011},978,1,,", f"terminal,SHOP{merchant:011},TERM0001,,,"]
     for rounds in range(ROUNDS):
         for of_all in zip(*(events_of(merchant, rounds) for merchant in MERCHANTS)):
             lines += of_all
     assert len(lines) > 10_000
-    claims = [claim_and_reply(merchant) for merchant in MERCHANTS]
-    lines += [claim for claim, _ in claims]
+    last = [*(claim_and_reply(merchant) for merchant in MERCHANTS), sale_of_the_last()]
+    lines += [event for event, _ in last]
     words = [sys.argv[1], "replay", "--day", "2024-05-01"]
     ran = subprocess.run(words, input="\n".join(lines) + "\n", capture_output=True, text=True, check=False)
     said = ran.stdout.splitlines()
     fits = ran.returncode == 0 and len(said) == len(lines)
-    for (_, reply), found in zip(claims, said[-len(claims) :]):
-        if reply != found:
-            print(f"expected {reply}\nfound    {found}")
+    for (_, expected), found in zip(last, said[-len(last) :]):
+        if expected != found:
+            print(f"expected {expected}\nfound    {found}")
             fits = False
     return 0 if fits else 1
 

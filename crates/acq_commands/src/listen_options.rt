@@ -2,14 +2,15 @@
 
 use crate::patience::Patience;
 use acq_core::Moment;
+use std::net::SocketAddrV4;
 
 /// Connections that are served over a book.
 #[derive(Drop)]
 pub struct ListenOptions {
     /// The path of the book's file.
     pub path: String,
-    /// The port that is listened on.
-    pub port: u16,
+    /// The address and the port that are listened on.
+    pub endpoint: SocketAddrV4,
     /// How many connections are served.
     pub count: u64,
     /// How many of them are served at once.

@@ -27,6 +27,7 @@ found_texts-rows f =
       first_value-rows f (codes "hex"),
       first_value-rows f (codes "issuers"),
       first_value-rows f (codes "port"),
+      first_value-rows f (codes "address"),
       first_value-rows f (codes "count"),
       first_value-rows f (codes "idle"),
       first_value-rows f (codes "frame-within"),

@@ -1,5 +1,6 @@
 -- What the arguments ask for, by the values of their options.
-use Rattle.std.specs.Prelude.{◌≡◌, ◌⊎◌, ◌-◌, ◌^◌, ℕ, Bool, ◌&&◌, nat_le, List, [], ◌++◌, length}
+use Rattle.std.specs.Prelude.{◌≡◌, ◌⊎◌, ◌-◌, ◌^◌, ℕ, Bool, ◌&&◌, nat_le, List, [], ◌∷◌, ◌++◌}
+use Rattle.std.specs.Prelude.{length}
 use Rattle.std.specs.Prelude.{codes}
 use Rattle.std.specs.Prelude.{map, Option, Some, None, unwrap_or, option_map, option_and_then}
 use Rattle.std.specs.Prelude.{ok_or, Result, Ok, Err}
@@ -10,6 +11,11 @@ use Rattle.std.specs.List.{list_all}
 use Rattle.std.specs.Char.{is_ascii_digit}
 use Rattle.std.specs.Str.{bytes_eq}
 use Rattle.std.specs.Str.Parse.{digits_value}
+use Rattle.std.specs.Net.Addr.{ipv4_octets}
+use Rattle.std.specs.Net.Grammar.{IsIpv4Text}
+use Rattle.std.specs.Net.Socket.{v4_ip, v4_port}
+use Rattle.std.specs.declared.net.ipv4_addr.Ipv4Addr.{Ipv4Addr}
+use Rattle.std.specs.declared.net.socket_addr.SocketAddrV4.{SocketAddrV4}
 use Rattle.clap.specs.Words.{Row, Text, HasKind, all_of, fault_of, first_of, first_value}
 use Rattle.clap.specs.Words.{kind_of, matched_of, raw_values, subcommand_of}
 use Rattle.clap.specs.declared.error.kind.ErrorKind.TheVariants.{OutOfMemory}
@@ -41,6 +47,7 @@ name_of_option option.Day = codes "--day"
 name_of_option option.Merchant = codes "--merchant"
 name_of_option option.At = codes "--at"
 name_of_option option.Port = codes "--port"
+name_of_option option.Address = codes "--address"
 name_of_option option.Count = codes "--count"
 name_of_option option.Idle = codes "--idle"
 name_of_option option.FrameWithin = codes "--frame-within"
@@ -61,6 +68,7 @@ pub record OptionTexts : Type 0 where
   pub hex : Option Text
   pub issuers : Option Text
   pub port : Option Text
+  pub address : Option Text
   pub count : Option Text
   pub idle : Option Text
   pub frame_within : Option Text
@@ -84,6 +92,7 @@ option_texts rows = record {
   hex = first_of (codes "hex") rows;
   issuers = first_of (codes "issuers") rows;
   port = first_of (codes "port") rows;
+  address = first_of (codes "address") rows;
   count = first_of (codes "count") rows;
   idle = first_of (codes "idle") rows;
   frame_within = first_of (codes "frame-within") rows;
@@ -108,6 +117,7 @@ found_texts found = record {
   hex = first_value found (codes "hex");
   issuers = first_value found (codes "issuers");
   port = first_value found (codes "port");
+  address = first_value found (codes "address");
   count = first_value found (codes "count");
   idle = first_value found (codes "idle");
   frame_within = first_value found (codes "frame-within");
@@ -205,6 +215,20 @@ MomentIfThere texts read = read ≡ moment_if_there texts.moment
 -- a port
 abbrev pub PortIs : OptionTexts → Result ℕ OptionName → Type 0
 PortIs texts read = read ≡ ok_or (option_and_then port_of_text texts.port) option.Port
+
+-- an IPv4 address, written with dots: without the option 127.0.0.1
+abbrev pub GivesAddress : Option Text → Ipv4Addr → Type 0
+GivesAddress None address = ipv4_octets address ≡ 127 ∷ 0 ∷ 0 ∷ 1 ∷ []
+GivesAddress (Some text) address = IsIpv4Text text address
+
+-- an option is there whose value is no address
+abbrev pub GivesNoAddress : Option Text → Type 0
+GivesNoAddress None = ⊥
+GivesNoAddress (Some text) = (address : Ipv4Addr) → ¬ IsIpv4Text text address
+
+abbrev pub AddressIs : OptionTexts → Result Ipv4Addr OptionName → Type 0
+AddressIs texts (Ok address) = GivesAddress texts.address address
+AddressIs texts (Err name) = (name ≡ option.Address) × GivesNoAddress texts.address
 
 -- so many connections: without the option, as many as can be counted
 abbrev pub count_if_there : Option Text → Result ℕ OptionName
@@ -327,38 +351,52 @@ PatienceFor texts idle = Then (FrameWithinIs texts) (PatienceWith texts idle)
 abbrev pub PatienceIs : OptionTexts → Result Patience OptionName → Type 0
 PatienceIs texts = Then (IdleIs texts) (PatienceFor texts)
 
--- so many connections on this port over this book, with this file of issuers' answers, at this
--- moment, with so much patience for each, so many of them at once
-abbrev pub IsListen : String Global → ℕ → ℕ → Option Text → Option ℕ → Patience → ℕ →
+-- this port at this address
+abbrev pub IsEndpoint : ℕ → Ipv4Addr → Result SocketAddrV4 OptionName → Type 0
+IsEndpoint port address (Ok endpoint) = (v4_ip endpoint ≡ address) × (v4_port endpoint ≡ port)
+IsEndpoint port address (Err name) = ⊥
+
+abbrev pub EndpointAt : OptionTexts → ℕ → Result SocketAddrV4 OptionName → Type 0
+EndpointAt texts port = Then (AddressIs texts) (IsEndpoint port)
+
+-- where connections are taken: the port first, then the address
+abbrev pub EndpointIs : OptionTexts → Result SocketAddrV4 OptionName → Type 0
+EndpointIs texts = Then (PortIs texts) (EndpointAt texts)
+
+-- so many connections here over this book, with this file of issuers' answers, at this moment, with
+-- so much patience for each, so many of them at once
+abbrev pub IsListen : String Global → SocketAddrV4 → ℕ → Option Text → Option ℕ → Patience → ℕ →
     Result Action OptionName → Type 0
-IsListen path port count issuers moment patience together (Ok (Listen asked)) =
-    (asked.path ≡ path) × (asked.port ≡ port) × (asked.count ≡ count)
+IsListen path endpoint count issuers moment patience together (Ok (Listen asked)) =
+    (asked.path ≡ path) × (asked.endpoint ≡ endpoint) × (asked.count ≡ count)
     × (option_map string_bytes asked.issuers ≡ issuers) × (asked.moment ≡ moment)
     × (asked.patience ≡ patience) × (asked.together ≡ together)
-IsListen path port count issuers moment patience together other = ⊥
+IsListen path endpoint count issuers moment patience together other = ⊥
 
-abbrev pub ListenBeside : OptionTexts → String Global → ℕ → ℕ → Option ℕ → Patience →
+abbrev pub ListenBeside : OptionTexts → String Global → SocketAddrV4 → ℕ → Option ℕ → Patience →
     Result Action OptionName → Type 0
-ListenBeside texts path port count moment patience =
-    Then (TogetherIs texts) (IsListen path port count texts.issuers moment patience)
+ListenBeside texts path endpoint count moment patience =
+    Then (TogetherIs texts) (IsListen path endpoint count texts.issuers moment patience)
 
-abbrev pub ListenAt
-    : OptionTexts → String Global → ℕ → ℕ → Option ℕ → Result Action OptionName → Type 0
-ListenAt texts path port count moment =
-    Then (PatienceIs texts) (ListenBeside texts path port count moment)
+abbrev pub ListenAt : OptionTexts → String Global → SocketAddrV4 → ℕ → Option ℕ →
+    Result Action OptionName → Type 0
+ListenAt texts path endpoint count moment =
+    Then (PatienceIs texts) (ListenBeside texts path endpoint count moment)
 
 abbrev pub ListenFor
-    : OptionTexts → String Global → ℕ → ℕ → Result Action OptionName → Type 0
-ListenFor texts path port count = Then (MomentIfThere texts) (ListenAt texts path port count)
+    : OptionTexts → String Global → SocketAddrV4 → ℕ → Result Action OptionName → Type 0
+ListenFor texts path endpoint count =
+    Then (MomentIfThere texts) (ListenAt texts path endpoint count)
 
-abbrev pub ListenOn : OptionTexts → String Global → ℕ → Result Action OptionName → Type 0
-ListenOn texts path port = Then (CountIs texts) (ListenFor texts path port)
+abbrev pub ListenOn
+    : OptionTexts → String Global → SocketAddrV4 → Result Action OptionName → Type 0
+ListenOn texts path endpoint = Then (CountIs texts) (ListenFor texts path endpoint)
 
 abbrev pub ListenIn : OptionTexts → String Global → Result Action OptionName → Type 0
-ListenIn texts path = Then (PortIs texts) (ListenOn texts path)
+ListenIn texts path = Then (EndpointIs texts) (ListenOn texts path)
 
--- what `listen` is asked for: the file first, then the port, how many connections, the moment, how
--- long each may take and how many at once
+-- what `listen` is asked for: the file first, then the port and the address, how many connections,
+-- the moment, how long each may take and how many at once
 abbrev pub AsksListen : OptionTexts → Result Action OptionName → Type 0
 AsksListen texts = Then (FileIs texts) (ListenIn texts)
 

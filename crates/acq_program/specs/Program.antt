@@ -38,11 +38,12 @@ once =
     with_rule (with_rule (with_rule (new_app (codes "once"))
     (option (codes "db"))) (option (codes "issuers"))) (option (codes "at"))
 
--- `listen --db FILE --port P [--count N]`, without its other options
+-- `listen --db FILE --port P [--address ADDRESS] [--count N]`, without its other options
 abbrev pub listen_at_port : App
 listen_at_port =
-    with_rule (with_rule (with_rule (new_app (codes "listen"))
-    (required (codes "db"))) (required (codes "port"))) (option (codes "count"))
+    with_rule (with_rule (with_rule (with_rule (new_app (codes "listen"))
+    (required (codes "db"))) (required (codes "port"))) (option (codes "address")))
+    (option (codes "count"))
 
 -- with `[--issuers FILE] [--at MOMENT] [--idle SECONDS]` behind them
 abbrev pub listen_at_moment : App

@@ -6,7 +6,7 @@ ghost use Rattle.clap.specs.Words.{HasMatchesOf, Text, fault_of, first_value, fo
 ghost use Rattle.acq_program.specs.Program.{program};
 ghost use Rattle.acq_program.specs.Arguments.{AsksHolds, AsksInit, AsksListen};
 ghost use Rattle.acq_program.specs.Arguments.{AsksMigrate, AsksOnce};
-ghost use Rattle.acq_program.specs.Arguments.{AsksPending, DayIfThere};
+ghost use Rattle.acq_program.specs.Arguments.{AddressIs, AsksPending, DayIfThere, EndpointIs};
 ghost use Rattle.acq_program.specs.Arguments.{AsksReplay, AsksReport, CountIs, DayIs, FileIs};
 ghost use Rattle.acq_program.specs.Arguments.{FrameWithinIs, IdleIs, IdleWhenFullIs};
 ghost use Rattle.acq_program.specs.Arguments.{IsNoMemory, LimitIs, MerchantIs};
@@ -31,6 +31,7 @@ use clap::{ArgMatches, Error};
 use day_totals::Day;
 use std::alloc::{AllocError, Global};
 use std::convert::AsStr;
+use std::net::{Ipv4Addr, SocketAddrV4};
 
 /// For how many seconds a connection may be silent, where nothing else is asked for.
 const USUAL_IDLE: u64 = 60;
@@ -64,13 +65,13 @@ fn asked_in(alloc: Global, matches: &ArgMatches) -> Result<Action, UsageFault>
         Some(("once", options)) => once_of(alloc, options),
         Some(("listen", options)) => listen_of(alloc, options),
         Some(("replay", options)) => replay_of(alloc, options),
-        _ => text_asked_in(alloc, matches),
+        _ => reports_asked_in(alloc, matches),
     }
 }
 
 /// The same of the commands that only write texts. They are apart, since a proof of all names at
 /// once takes four times as long.
-fn text_asked_in(alloc: Global, matches: &ArgMatches) -> Result<Action, UsageFault>
+fn reports_asked_in(alloc: Global, matches: &ArgMatches) -> Result<Action, UsageFault>
     ensures { (words : List Text) → fault_of program words ≡ []
         → HasMatchesOf program words matches.now → ReadsArguments words result }
 {
@@ -125,7 +126,7 @@ fn listen_of(alloc: Global, options: &ArgMatches) -> Result<Action, UsageFault>
     ensures { Reads (AsksListen (found_texts (found_of options.now))) result }
 {
     let path = file_option(alloc, options)?;
-    let port = port_option(options)?;
+    let endpoint = endpoint_of(options)?;
     let count = count_option(options)?;
     let moment = moment_if_there(options)?;
     let patience = patience_of(options)?;
@@ -133,7 +134,7 @@ fn listen_of(alloc: Global, options: &ArgMatches) -> Result<Action, UsageFault>
     let issuers = issuers_option(alloc, options)?;
     Ok(Action::Listen(ListenOptions {
         path,
-        port,
+        endpoint,
         count,
         together,
         patience,
@@ -316,6 +317,28 @@ fn port_option(options: &ArgMatches) -> Result<u16, UsageFault>
         .get_str("port")
         .and_then(port_of)
         .ok_or(UsageFault::BadValue(OptionName::Port))
+}
+
+/// The address that is asked for: without the option that of the machine itself.
+fn address_option(options: &ArgMatches) -> Result<Ipv4Addr, UsageFault>
+    ensures { Reads (AddressIs (found_texts (found_of options.now))) result }
+{
+    let Some(text) = options.get_str("address") else {
+        return Ok(Ipv4Addr::new(127, 0, 0, 1));
+    };
+    match text.parse::<Ipv4Addr>() {
+        Ok(address) => Ok(address),
+        Err(_) => Err(UsageFault::BadValue(OptionName::Address)),
+    }
+}
+
+/// The port and the address that are asked for.
+fn endpoint_of(options: &ArgMatches) -> Result<SocketAddrV4, UsageFault>
+    ensures { Reads (EndpointIs (found_texts (found_of options.now))) result }
+{
+    let port = port_option(options)?;
+    let address = address_option(options)?;
+    Ok(SocketAddrV4::new(address, port))
 }
 
 /// How many connections are asked for: without the option, as many as can be counted.

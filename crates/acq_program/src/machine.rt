@@ -7,6 +7,7 @@ use acq_front::Connections;
 use acq_stand_in::StandIn;
 use day_totals::Day;
 use std::alloc::Global;
+use std::net::SocketAddrV4;
 
 /// What a command finds on its machine: files, by their paths, and ports. `B` is the book in a
 /// file.
@@ -47,16 +48,20 @@ pub trait Machine<B: Book + Drop>: Sized {
     fn read_answers(&self, alloc: Global, path: &str) -> Result<StandIn, Fault>
         ensures { IfErr result IsOfAnswers };
 
-    /// Listens at a port. A connection that takes longer than this patience lasts is closed as a
-    /// failed read, or a failed write.
-    fn listen_at(&self, port: u16, patience: Patience) -> Result<Self::Connections, Fault>
+    /// Listens at an address and a port. A connection that takes longer than this patience lasts is
+    /// closed as a failed read, or a failed write.
+    fn listen_at(
+        &self,
+        endpoint: SocketAddrV4,
+        patience: Patience,
+    ) -> Result<Self::Connections, Fault>
         ensures { IfErr result (λ fault. fault ≡ Read) };
 
-    /// Listens at a port, as `listen_at` does, for so many connections at once.
+    /// Listens there, as `listen_at` does, for so many connections at once.
     fn gather_at(
         &self,
         alloc: Global,
-        port: u16,
+        endpoint: SocketAddrV4,
         patience: Patience,
         together: usize,
     ) -> Result<Self::Gathering, Fault>

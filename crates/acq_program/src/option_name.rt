@@ -18,6 +18,8 @@ pub enum OptionName {
     At,
     /// The port that is listened on.
     Port,
+    /// The address that is listened on.
+    Address,
     /// How many connections are served.
     Count,
     /// For how many seconds a connection may be silent.
@@ -46,6 +48,7 @@ impl fmt::Display for OptionName {
             OptionName::Merchant => "--merchant",
             OptionName::At => "--at",
             OptionName::Port => "--port",
+            OptionName::Address => "--address",
             OptionName::Count => "--count",
             OptionName::Idle => "--idle",
             OptionName::FrameWithin => "--frame-within",

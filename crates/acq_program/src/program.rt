@@ -91,8 +91,11 @@ Example: an echo test
 const ABOUT_LISTEN: &str = "Answers the frames of connections over TCP";
 
 const MORE_OF_LISTEN: &str = "\
-Connections are taken on 127.0.0.1 at this port, so that a proxy on the same machine can stand in
-front. The frames of each are answered as `once` answers those on standard input; then the next one
+Connections are taken at this port of 127.0.0.1, so that a proxy on the same machine can stand in
+front; or, with --address, of another address of this machine (0.0.0.0 is all of them), for a proxy
+on another one. Nothing is encrypted: who can reach that address can send messages, and who can read
+the network reads card numbers, so it belongs to a network of the hosts and their proxy alone, or
+behind TLS. The frames of each are answered as `once` answers those on standard input; then the next one
 is served. With --together M, up to M connections are served at once, one message of each in turn, so
 that none waits for another one's bytes. What they change is in the file before the reply goes out; a
 stop at any moment leaves all events so far, and may leave a request without its issuer's answer,
@@ -391,6 +394,13 @@ fn listen_at_port<'a>(alloc: Global) -> Made<'a>
     let command = Ok(command(alloc, "listen", ABOUT_LISTEN, MORE_OF_LISTEN));
     let command = with_required(alloc, command, "db", "FILE", "The file of the book");
     let command = with_required(alloc, command, "port", "P", "The port, 1 to 65535");
+    let command = with_option(
+        alloc,
+        command,
+        "address",
+        "ADDRESS",
+        "The IPv4 address at which connections are taken [default: 127.0.0.1]",
+    );
     with_option(
         alloc,
         command,

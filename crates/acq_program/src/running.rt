@@ -287,7 +287,7 @@ fn listen_over<B: Book + Drop, M: Machine<B> + Drop, C: Clock, I: Issuer + Drop,
     if asked.together > 1 {
         return gather_over(alloc, machine, asked, clock, issuers, faults);
     }
-    let connections = machine.listen_at(asked.port, asked.patience);
+    let connections = machine.listen_at(asked.endpoint, asked.patience);
     let opened = machine.open_book(asked.path.as_str());
     let (book, mut issuer, mut connections) = all_opened(opened, issuers, connections)?;
     closed::<B, M>(listen_on(
@@ -310,7 +310,7 @@ fn gather_over<B: Book + Drop, M: Machine<B> + Drop, C: Clock, I: Issuer + Drop,
     issuers: Result<I, Fault>,
     faults: &mut F,
 ) -> Result<(), Fault> {
-    let gathering = machine.gather_at(alloc, asked.port, asked.patience, asked.together);
+    let gathering = machine.gather_at(alloc, asked.endpoint, asked.patience, asked.together);
     let opened = machine.open_book(asked.path.as_str());
     let (book, mut issuer, mut gathering) = all_opened(opened, issuers, gathering)?;
     closed::<B, M>(listen_together_on(

@@ -18,7 +18,7 @@ use mio::net::{TcpListener, TcpStream};
 use mio::{Events, Interest, Poll, Token};
 use std::alloc::Global;
 use std::io::ErrorKind;
-use std::net::{Ipv4Addr, Net, SocketAddr};
+use std::net::{Net, SocketAddr, SocketAddrV4};
 use std::time::{Duration, Instant};
 use std::{io, time};
 
@@ -41,13 +41,13 @@ pub struct TcpGathering<'a, T> {
 }
 
 impl<'a, T: time::Clock> TcpGathering<'a, T> {
-    /// Listens at a port of this machine, for so many connections at once. One that takes longer
-    /// than this patience lasts is closed.
+    /// Listens at an address and a port, for so many connections at once. One that takes longer than
+    /// this patience lasts is closed.
     pub fn listen<N: Net>(
         net: &N,
         time: &'a T,
         alloc: Global,
-        port: u16,
+        endpoint: SocketAddrV4,
         patience: Patience,
         together: usize,
     ) -> Result<TcpGathering<'a, T>, Fault>
@@ -60,7 +60,7 @@ impl<'a, T: time::Clock> TcpGathering<'a, T> {
             }
         }
         let events = Events::with_capacity(alloc, together)?;
-        let Ok((listener, poll)) = listener_at(net, port, Token(together)) else {
+        let Ok((listener, poll)) = listener_at(net, endpoint, Token(together)) else {
             return Err(Fault::Read);
         };
         Ok(TcpGathering {
@@ -349,8 +349,12 @@ impl<T: time::Clock> Gathering for TcpGathering<'_, T> {
 }
 
 /// A listener at a port of this machine, and what waits for it under this token.
-fn listener_at<N: Net>(net: &N, port: u16, token: Token) -> io::Result<(TcpListener, Poll)> {
-    let mut listener = TcpListener::bind(net, SocketAddr::from((Ipv4Addr::LOCALHOST, port)))?;
+fn listener_at<N: Net>(
+    net: &N,
+    endpoint: SocketAddrV4,
+    token: Token,
+) -> io::Result<(TcpListener, Poll)> {
+    let mut listener = TcpListener::bind(net, SocketAddr::V4(endpoint))?;
     let poll = Poll::new(net)?;
     poll.registry()
         .register(&mut listener, token, Interest::READABLE)?;

@@ -20,7 +20,7 @@ use sqlite_store::FileStore;
 use std::alloc::Global;
 use std::cell::Cell;
 use std::fs::File;
-use std::net::{Ipv4Addr, TcpListener};
+use std::net::{SocketAddrV4, TcpListener};
 
 /// The machine that the program runs on; `D` says what the book's file holds before it is opened.
 #[derive(Drop)]
@@ -87,11 +87,11 @@ impl<'a, D: Start> Machine<SqlBook<FileStore<FileFrom<D>>>> for ThisMachine<'a, 
 
     fn listen_at(
         &self,
-        port: u16,
+        endpoint: SocketAddrV4,
         patience: Patience,
     ) -> Result<TcpConnections<'a, HostRuntime>, Fault> {
         self.listens.set(true);
-        match TcpListener::bind(self.rt, (Ipv4Addr::LOCALHOST, port)) {
+        match TcpListener::bind(self.rt, endpoint) {
             Ok(listener) => Ok(TcpConnections::new(listener, self.rt, patience)),
             Err(_) => Err(Fault::Read),
         }
@@ -100,12 +100,12 @@ impl<'a, D: Start> Machine<SqlBook<FileStore<FileFrom<D>>>> for ThisMachine<'a, 
     fn gather_at(
         &self,
         alloc: Global,
-        port: u16,
+        endpoint: SocketAddrV4,
         patience: Patience,
         together: usize,
     ) -> Result<TcpGathering<'a, HostRuntime>, Fault> {
         self.listens.set(true);
-        TcpGathering::listen(self.rt, self.rt, alloc, port, patience, together)
+        TcpGathering::listen(self.rt, self.rt, alloc, endpoint, patience, together)
     }
 }
 

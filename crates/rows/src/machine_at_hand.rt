@@ -19,6 +19,7 @@ use acq_stand_in::StandIn;
 use day_totals::Day;
 use std::alloc::Global;
 use std::hash::RandomState;
+use std::net::SocketAddrV4;
 
 /// The machine, with a book that has taken its events.
 #[derive(Drop)]
@@ -94,7 +95,11 @@ impl<'a> Machine<ListBook> for MachineAtHand<'a> {
         }
     }
 
-    fn listen_at(&self, _port: u16, _patience: Patience) -> Result<ConnectionsAtHand<'a>, Fault> {
+    fn listen_at(
+        &self,
+        _endpoint: SocketAddrV4,
+        _patience: Patience,
+    ) -> Result<ConnectionsAtHand<'a>, Fault> {
         match &self.terms.connections {
             Some(sent) => Ok(ConnectionsAtHand::new(sent.as_slice())),
             None => Err(Fault::Read),
@@ -104,7 +109,7 @@ impl<'a> Machine<ListBook> for MachineAtHand<'a> {
     fn gather_at(
         &self,
         _alloc: Global,
-        _port: u16,
+        _endpoint: SocketAddrV4,
         _patience: Patience,
         _together: usize,
     ) -> Result<NoGathering, Fault> {

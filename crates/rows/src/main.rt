@@ -7,7 +7,10 @@
 #![tactic(auto)]
 
 mod asked;
+mod book_at_hand;
 mod book_openings;
+mod books_in_files;
+mod calls;
 mod command_file;
 mod command_run;
 mod connections_at_hand;
@@ -15,9 +18,13 @@ mod counted;
 mod escapes;
 mod events_of_another;
 mod expected_text;
+mod files_of;
 mod findings;
+mod in_memory;
+mod in_sql;
 mod machine_at_hand;
 mod machine_terms;
+mod migrated;
 mod no_gathering;
 mod no_progress;
 mod refusal;
@@ -35,12 +42,16 @@ mod store_at_hand;
 mod table_file;
 mod tables;
 
+use acq_sql::SqlBook;
 use command_file::run_commands;
 use findings::Findings;
+use in_memory::InMemory;
+use in_sql::InSql;
 use row_fault::RowFault;
 use running_scenarios::run_scenarios;
 use sqlite::MemStore;
 use sqlite_disk::{Fuse, Memory};
+use sqlite_store::FileStore;
 use std::process::ExitCode;
 use std::{env, fs, io};
 use table_file::run_table;
@@ -102,7 +113,12 @@ fn run_rows(
     findings: &mut Findings,
 ) -> Result<(), RowFault> {
     if name.ends_with(".scenarios") {
-        run_scenarios::<MemStore, Fuse<Memory>, HostRuntime>(rt, rt.alloc(), text, findings)
+        run_scenarios::<
+            SqlBook<MemStore>,
+            SqlBook<FileStore<Fuse<Memory>>>,
+            InSql<FileStore<Fuse<Memory>>, InMemory>,
+            HostRuntime,
+        >(rt, rt.alloc(), text, findings)
     } else if name.ends_with(".commands") {
         run_commands(rt, rt.alloc(), text, findings)
     } else if name.ends_with(".table") {

@@ -2,8 +2,8 @@
 //! a scenario says so, among another merchant's events, over files that stop, or with a book that is
 //! migrated.
 
-ghost use Rattle.std.specs.Prelude.{◌≡◌, false};
-
+use crate::book_at_hand::BookAtHand;
+use crate::books_in_files::BooksInFiles;
 use crate::events_of_another::lot_of_another;
 use crate::findings::Findings;
 use crate::report_asked::ReportAsked;
@@ -13,8 +13,6 @@ use crate::running_stops::run_stopping;
 use crate::scenario::Scenario;
 use crate::scenario_file::ScenarioFile;
 use crate::step::Step;
-use crate::stopping_files::FileAtHand;
-use crate::store_at_hand::StoreAtHand;
 use acq_book::{Book, BookFault, ListBook};
 use acq_commands::{Fault, TextSink};
 use acq_core::Event;
@@ -22,15 +20,13 @@ use acq_host::Host;
 use acq_link::MemorySink;
 use acq_out::write_output;
 use acq_reports::ReportFault;
-use acq_sql::SqlBook;
-use sqlite::{Alter, Connection};
 use std::alloc::Global;
 use std::fmt::Write;
 use std::hash::RandomState;
 use std::random::RandomSource;
 
 /// Runs all scenarios of a file.
-pub fn run_scenarios<S: StoreAtHand, D: FileAtHand, R: RandomSource>(
+pub fn run_scenarios<B: BookAtHand, K: Book + Drop, F: BooksInFiles<K>, R: RandomSource>(
     rt: &R,
     alloc: Global,
     text: &str,
@@ -42,17 +38,17 @@ pub fn run_scenarios<S: StoreAtHand, D: FileAtHand, R: RandomSource>(
     }
     for scenario in file.scenarios.as_slice() {
         let setup = file.setup.steps.as_slice();
-        run_over_books::<S, R>(rt, alloc, setup, scenario, findings)?;
-        run_over_files::<D>(alloc, setup, scenario, findings)?;
+        run_over_books::<B, R>(rt, alloc, setup, scenario, findings)?;
+        run_over_files::<K, F>(alloc, setup, scenario, findings)?;
         if let Some(sales) = scenario.others {
-            run_among::<S, R>(rt, alloc, setup, scenario, sales, findings)?;
+            run_among::<B, R>(rt, alloc, setup, scenario, sales, findings)?;
         }
     }
     Ok(())
 }
 
 /// Runs a scenario over each book.
-fn run_over_books<S: StoreAtHand, R: RandomSource>(
+fn run_over_books<B: BookAtHand, R: RandomSource>(
     rt: &R,
     alloc: Global,
     setup: &[Step],
@@ -71,17 +67,17 @@ fn run_over_books<S: StoreAtHand, R: RandomSource>(
     findings.set_book(", in SQL");
     run_on(
         alloc,
-        host_in_sql(alloc, S::open(alloc)?, scenario)?,
+        new_host::<B>(alloc, scenario)?,
         setup,
         scenario,
         findings,
     )?;
     findings.set_book(", in SQL, taken again before each event");
-    run_again_on(alloc, S::open(alloc)?, setup, scenario, findings)
+    run_again_on::<B>(alloc, setup, scenario, findings)
 }
 
 /// Runs a scenario whose book is migrated, or over files that stop, where it says so.
-fn run_over_files<D: FileAtHand>(
+fn run_over_files<B: Book + Drop, F: BooksInFiles<B>>(
     alloc: Global,
     setup: &[Step],
     scenario: &Scenario,
@@ -90,15 +86,15 @@ fn run_over_files<D: FileAtHand>(
     match (scenario.migrated, scenario.stops) {
         (Some(before), stops) => {
             let least = stops.unwrap_or(0);
-            run_migrated::<D>(alloc, setup, scenario, before, least, findings)
+            run_migrated::<B, F>(alloc, setup, scenario, before, least, findings)
         }
-        (None, Some(least)) => run_stopping::<D>(alloc, setup, scenario, least, findings),
+        (None, Some(least)) => run_stopping::<B, F>(alloc, setup, scenario, least, findings),
         (None, None) => Ok(()),
     }
 }
 
 /// Runs a scenario among another merchant's events, over a book in memory and over one in SQL.
-fn run_among<S: StoreAtHand, R: RandomSource>(
+fn run_among<B: BookAtHand, R: RandomSource>(
     rt: &R,
     alloc: Global,
     setup: &[Step],
@@ -119,7 +115,7 @@ fn run_among<S: StoreAtHand, R: RandomSource>(
     findings.set_book(", in SQL, among another merchant's events");
     run_among_on(
         alloc,
-        host_in_sql(alloc, S::open(alloc)?, scenario)?,
+        new_host::<B>(alloc, scenario)?,
         setup,
         scenario.steps.as_slice(),
         sales,
@@ -132,28 +128,19 @@ fn host_in_memory(alloc: Global, keys: RandomState, scenario: &Scenario) -> Host
     Host::in_memory(alloc, keys, scenario.limit, scenario.first_day)
 }
 
-/// A host over a new book in a database.
-pub(crate) fn host_in_sql<S: Alter + Drop>(
-    alloc: Global,
-    connection: Connection<S>,
-    scenario: &Scenario,
-) -> Result<Host<SqlBook<S>>, RowFault>
-    requires settled { connection.in_transaction ≡ false }
-{
-    match SqlBook::create(alloc, connection, scenario.limit, scenario.first_day) {
+/// A host over a new book.
+fn new_host<B: BookAtHand>(alloc: Global, scenario: &Scenario) -> Result<Host<B>, RowFault> {
+    match B::make(alloc, scenario.limit, scenario.first_day) {
         Ok(book) => Ok(Host::new(alloc, book)),
-        Err(_) => Err(RowFault::Book),
+        Err(fault) => Err(fault),
     }
 }
 
-/// A host over the same database, which is handed back and taken again.
-fn taken_again<S: Alter + Drop>(
-    alloc: Global,
-    host: Host<SqlBook<S>>,
-) -> Result<Host<SqlBook<S>>, RowFault> {
-    match SqlBook::adopt(alloc, host.into_book().release()) {
+/// A host over the same book, which is handed back and taken again.
+fn taken_again<B: BookAtHand>(alloc: Global, host: Host<B>) -> Result<Host<B>, RowFault> {
+    match host.into_book().take_again(alloc) {
         Ok(book) => Ok(Host::new(alloc, book)),
-        Err(_) => Err(RowFault::Book),
+        Err(fault) => Err(fault),
     }
 }
 
@@ -170,17 +157,14 @@ fn run_on<B: Book + Drop>(
     ask(alloc, host, scenario.reports.as_slice(), findings)
 }
 
-/// Runs a scenario over a book in SQL that is handed back and taken again before each event.
-fn run_again_on<S: Alter + Drop>(
+/// Runs a scenario over a new book that is handed back and taken again before each event.
+fn run_again_on<B: BookAtHand>(
     alloc: Global,
-    connection: Connection<S>,
     setup: &[Step],
     scenario: &Scenario,
     findings: &mut Findings,
-) -> Result<(), RowFault>
-    requires settled { connection.in_transaction ≡ false }
-{
-    let mut host = host_in_sql(alloc, connection, scenario)?;
+) -> Result<(), RowFault> {
+    let mut host = new_host::<B>(alloc, scenario)?;
     take_steps(alloc, &mut host, setup, findings)?;
     for step in scenario.steps.as_slice() {
         host = taken_again(alloc, host)?;

@@ -1,20 +1,17 @@
 //! Scenarios over files that stop at each of their calls in turn: what is left of them is each time a
 //! book that holds all events so far, with or without the one in hand, and goes on as written.
 
-ghost use Rattle.std.specs.Prelude.{◌≡◌, false};
-
+use crate::books_in_files::BooksInFiles;
+use crate::calls::{Calls, Stopping};
 use crate::findings::Findings;
 use crate::row_fault::RowFault;
 use crate::running_scenarios::{ask, take_step};
 use crate::scenario::Scenario;
 use crate::step::Step;
-use crate::stopping_files::{Calls, FRAMES, FileAtHand, Stopping, copies_of, new_files, open};
+use crate::stopping_files::StoppingFiles;
 use acq_book::Book;
 use acq_core::Event;
 use acq_host::Host;
-use acq_sql::SqlBook;
-use sqlite::{Alter, Connection};
-use sqlite_disk::Files;
 use std::alloc::Global;
 
 /// The most calls that a file of a scenario may need.
@@ -32,7 +29,7 @@ enum Ended {
 
 /// Runs a scenario over files of which one stops at each of its calls in turn, from the first on at
 /// which there is a book, until a run needs no more of them: at so many calls at least.
-pub fn run_stopping<D: FileAtHand>(
+pub fn run_stopping<B: Book + Drop, F: BooksInFiles<B>>(
     alloc: Global,
     setup: &[Step],
     scenario: &Scenario,
@@ -40,12 +37,12 @@ pub fn run_stopping<D: FileAtHand>(
     findings: &mut Findings,
 ) -> Result<(), RowFault> {
     findings.set_book(", in SQL, over a log that stops");
-    stop_in_turn::<D>(alloc, Stopping::Log, setup, scenario, least, findings)?;
+    stop_in_turn::<B, F>(alloc, Stopping::Log, setup, scenario, least, findings)?;
     findings.set_book(", in SQL, over a database that stops");
-    stop_in_turn::<D>(alloc, Stopping::Database, setup, scenario, least, findings)
+    stop_in_turn::<B, F>(alloc, Stopping::Database, setup, scenario, least, findings)
 }
 
-fn stop_in_turn<D: FileAtHand>(
+fn stop_in_turn<B: Book + Drop, F: BooksInFiles<B>>(
     alloc: Global,
     stopping: Stopping,
     setup: &[Step],
@@ -55,8 +52,8 @@ fn stop_in_turn<D: FileAtHand>(
 ) -> Result<(), RowFault> {
     let mut stops: u64 = 0;
     for calls in 0..MOST_CALLS {
-        let files: Files<D> = new_files(alloc, Calls::until(stopping, calls));
-        match run_until_stop(alloc, files, setup, scenario, findings)? {
+        let files = StoppingFiles::new(alloc, Calls::until(stopping, calls));
+        match run_until_stop::<B, F>(alloc, files, setup, scenario, findings)? {
             Ended::NoBook => {}
             Ended::Stopped => stops = stops.saturating_add(1),
             Ended::Whole if stops < least => return Err(RowFault::FewStops(stops)),
@@ -68,51 +65,28 @@ fn stop_in_turn<D: FileAtHand>(
 
 /// Runs a scenario over new files, and where they stop goes on from what was written to them, and
 /// from what of it was synced.
-fn run_until_stop<D: FileAtHand>(
+fn run_until_stop<B: Book + Drop, F: BooksInFiles<B>>(
     alloc: Global,
-    files: Files<D>,
+    files: StoppingFiles,
     setup: &[Step],
     scenario: &Scenario,
     findings: &mut Findings,
 ) -> Result<Ended, RowFault> {
-    let Some(connection) = open(alloc, files, FRAMES) else {
-        return Ok(Ended::NoBook);
+    let (mut left, taken) = match F::make(alloc, files, scenario.limit, scenario.first_day) {
+        Some(book) => {
+            let mut host = Host::new(alloc, book);
+            let taken = take_until_stop(&mut host, setup, scenario.steps.as_slice());
+            (F::close(host.into_book()), taken)
+        }
+        None => return Ok(Ended::NoBook),
     };
-    let (connection, taken) = taken_over(alloc, connection, setup, scenario);
-    let Some(taken) = taken else {
-        drop(connection);
-        return Ok(Ended::NoBook);
-    };
-    let mut left = connection.into_store().close();
     if taken == setup.len().saturating_add(scenario.steps.len()) {
         return Ok(Ended::Whole);
     }
-    go_on(alloc, &left, setup, scenario, taken, findings)?;
-    left.log.crash();
-    left.db.crash();
-    go_on(alloc, &left, setup, scenario, taken, findings)?;
+    go_on::<B, F>(alloc, &left, setup, scenario, taken, findings)?;
+    left.crash();
+    go_on::<B, F>(alloc, &left, setup, scenario, taken, findings)?;
     Ok(Ended::Stopped)
-}
-
-/// Takes steps over a new book in a database until one fails. Returns the database, and how many
-/// were taken, if there was a book. What is done over a book is said of any database, as a proof
-/// over one in files takes minutes.
-fn taken_over<S: Alter + Drop>(
-    alloc: Global,
-    connection: Connection<S>,
-    setup: &[Step],
-    scenario: &Scenario,
-) -> (Connection<S>, Option<usize>)
-    requires settled { connection.in_transaction ≡ false }
-{
-    match SqlBook::create(alloc, connection, scenario.limit, scenario.first_day) {
-        Ok(book) => {
-            let mut host = Host::new(alloc, book);
-            let taken = take_until_stop(&mut host, setup, scenario.steps.as_slice());
-            (host.into_book().release(), Some(taken))
-        }
-        Err(refusal) => (refusal.connection, None),
-    }
 }
 
 /// Takes steps until one fails, and returns how many were taken.
@@ -129,16 +103,16 @@ fn take_until_stop<B: Book + Drop>(host: &mut Host<B>, setup: &[Step], steps: &[
 
 /// Goes on from what is left in files: from the step at which they stopped, or, where the book has
 /// that one, from the next. A frame that gets a reply gets the same again, and posts nothing twice.
-fn go_on<D: FileAtHand>(
+fn go_on<B: Book + Drop, F: BooksInFiles<B>>(
     alloc: Global,
-    left: &Files<D>,
+    left: &StoppingFiles,
     setup: &[Step],
     scenario: &Scenario,
     taken: usize,
     findings: &mut Findings,
 ) -> Result<(), RowFault> {
     let mut without = findings.of_same_book(alloc);
-    go_on_from(alloc, left, setup, scenario, taken, &mut without)?;
+    go_on_from::<B, F>(alloc, left, setup, scenario, taken, &mut without)?;
     if without.is_empty() {
         return Ok(());
     }
@@ -147,7 +121,7 @@ fn go_on<D: FileAtHand>(
         return findings.take_from(&without);
     }
     let mut with = findings.of_same_book(alloc);
-    go_on_from(
+    go_on_from::<B, F>(
         alloc,
         left,
         setup,
@@ -167,36 +141,18 @@ fn is_frame_with_reply(step: &Step) -> bool {
 }
 
 /// Goes on over copies of what is left in files, behind so many steps.
-fn go_on_from<D: FileAtHand>(
+fn go_on_from<B: Book + Drop, F: BooksInFiles<B>>(
     alloc: Global,
-    left: &Files<D>,
+    left: &StoppingFiles,
     setup: &[Step],
     scenario: &Scenario,
     taken: usize,
     findings: &mut Findings,
 ) -> Result<(), RowFault> {
-    let files = copies_of(alloc, left, Calls::ALL)?;
-    match open(alloc, files, FRAMES) {
-        Some(connection) => go_on_over(alloc, connection, setup, scenario, taken, findings),
-        None => Err(RowFault::Book),
-    }
-}
-
-/// Goes on over the book in a database, behind so many steps.
-fn go_on_over<S: Alter + Drop>(
-    alloc: Global,
-    connection: Connection<S>,
-    setup: &[Step],
-    scenario: &Scenario,
-    taken: usize,
-    findings: &mut Findings,
-) -> Result<(), RowFault>
-    requires settled { connection.in_transaction ≡ false }
-{
-    let Ok(book) = SqlBook::adopt(alloc, connection) else {
-        return Err(RowFault::Book);
+    let mut host = match F::take(alloc, left.copied(alloc, Calls::ALL)?)? {
+        Some(book) => Host::new(alloc, book),
+        None => return Err(RowFault::Book),
     };
-    let mut host = Host::new(alloc, book);
     for step in setup.iter().chain(scenario.steps.as_slice()).skip(taken) {
         take_step(alloc, &mut host, step, findings)?;
     }

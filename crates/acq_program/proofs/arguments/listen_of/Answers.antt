@@ -7,7 +7,7 @@ use Rattle.acq_program.specs.declared.action.Action.TheVariants.{Listen}
 use Rattle.acq_program.specs.declared.usage_fault.UsageFault.{UsageFault}
 use Rattle.acq_program.specs.Arguments.{AsksListen, CountIs, FileIs, IsListen, ListenAt}
 use Rattle.acq_program.specs.Arguments.{ListenBeside, ListenFor, ListenIn, ListenOn}
-use Rattle.acq_program.specs.Arguments.{MomentIfThere, PatienceIs, PortIs, TogetherIs}
+use Rattle.acq_program.specs.Arguments.{EndpointIs, MomentIfThere, PatienceIs, TogetherIs}
 use Rattle.acq_program.specs.Arguments.{found_texts}
 use Rattle.acq_program.proofs.OptionsRead.{first_fails, no_memory, then_rest}
 use Rattle.acq_program.proofs.arguments.listen_of.Goals as goal
@@ -19,16 +19,16 @@ returns-in_err-path c =
     rw (p.1, p.2)
     (first_fails (FileIs texts) (ListenIn texts) c.in_err-path.field-0.0 c.in_err-path.ensures)
 
-pub returns-in_err-port : goal.returns-in_err-port
-returns-in_err-port c =
+pub returns-in_err-endpoint : goal.returns-in_err-endpoint
+returns-in_err-endpoint c =
     let texts = found_texts (found_of c.args.options.now) in
-    let p = err_from_is_err_and c.from_residual-in_err-port.result
-    c.from_residual-in_err-port.ensures.1 in
+    let p = err_from_is_err_and c.from_residual-in_err-endpoint.result
+    c.from_residual-in_err-endpoint.ensures.1 in
     rw (p.1, p.2)
     (then_rest (FileIs texts) (ListenIn texts) c.in_ok-path.path
-    (Err c.in_err-port.field-0.0) c.in_ok-path.ensures
-    (first_fails (PortIs texts) (ListenOn texts c.in_ok-path.path) c.in_err-port.field-0.0
-    c.in_err-port.ensures))
+    (Err c.in_err-endpoint.field-0.0) c.in_ok-path.ensures
+    (first_fails (EndpointIs texts) (ListenOn texts c.in_ok-path.path) c.in_err-endpoint.field-0.0
+    c.in_err-endpoint.ensures))
 
 pub returns-in_err-count : goal.returns-in_err-count
 returns-in_err-count c =
@@ -38,9 +38,9 @@ returns-in_err-count c =
     rw (p.1, p.2)
     (then_rest (FileIs texts) (ListenIn texts) c.in_ok-path.path
     (Err c.in_err-count.field-0.0) c.in_ok-path.ensures
-    (then_rest (PortIs texts) (ListenOn texts c.in_ok-path.path) c.in_ok-port.port
-    (Err c.in_err-count.field-0.0) c.in_ok-port.ensures
-    (first_fails (CountIs texts) (ListenFor texts c.in_ok-path.path c.in_ok-port.port)
+    (then_rest (EndpointIs texts) (ListenOn texts c.in_ok-path.path) c.in_ok-endpoint.endpoint
+    (Err c.in_err-count.field-0.0) c.in_ok-endpoint.ensures
+    (first_fails (CountIs texts) (ListenFor texts c.in_ok-path.path c.in_ok-endpoint.endpoint)
     c.in_err-count.field-0.0 c.in_err-count.ensures)))
 
 pub returns-in_err-moment : goal.returns-in_err-moment
@@ -51,12 +51,12 @@ returns-in_err-moment c =
     rw (p.1, p.2)
     (then_rest (FileIs texts) (ListenIn texts) c.in_ok-path.path (Err c.in_err-moment.field-0.0)
     c.in_ok-path.ensures
-    (then_rest (PortIs texts) (ListenOn texts c.in_ok-path.path) c.in_ok-port.port
-    (Err c.in_err-moment.field-0.0) c.in_ok-port.ensures
-    (then_rest (CountIs texts) (ListenFor texts c.in_ok-path.path c.in_ok-port.port)
+    (then_rest (EndpointIs texts) (ListenOn texts c.in_ok-path.path) c.in_ok-endpoint.endpoint
+    (Err c.in_err-moment.field-0.0) c.in_ok-endpoint.ensures
+    (then_rest (CountIs texts) (ListenFor texts c.in_ok-path.path c.in_ok-endpoint.endpoint)
     c.in_ok-count.count (Err c.in_err-moment.field-0.0) c.in_ok-count.ensures
     (first_fails (MomentIfThere texts)
-    (ListenAt texts c.in_ok-path.path c.in_ok-port.port c.in_ok-count.count)
+    (ListenAt texts c.in_ok-path.path c.in_ok-endpoint.endpoint c.in_ok-count.count)
     c.in_err-moment.field-0.0 c.in_err-moment.ensures))))
 
 pub returns-in_err-patience : goal.returns-in_err-patience
@@ -67,15 +67,15 @@ returns-in_err-patience c =
     rw (p.1, p.2)
     (then_rest (FileIs texts) (ListenIn texts) c.in_ok-path.path
     (Err c.in_err-patience.field-0.0) c.in_ok-path.ensures
-    (then_rest (PortIs texts) (ListenOn texts c.in_ok-path.path) c.in_ok-port.port
-    (Err c.in_err-patience.field-0.0) c.in_ok-port.ensures
-    (then_rest (CountIs texts) (ListenFor texts c.in_ok-path.path c.in_ok-port.port)
+    (then_rest (EndpointIs texts) (ListenOn texts c.in_ok-path.path) c.in_ok-endpoint.endpoint
+    (Err c.in_err-patience.field-0.0) c.in_ok-endpoint.ensures
+    (then_rest (CountIs texts) (ListenFor texts c.in_ok-path.path c.in_ok-endpoint.endpoint)
     c.in_ok-count.count (Err c.in_err-patience.field-0.0) c.in_ok-count.ensures
     (then_rest (MomentIfThere texts)
-    (ListenAt texts c.in_ok-path.path c.in_ok-port.port c.in_ok-count.count)
+    (ListenAt texts c.in_ok-path.path c.in_ok-endpoint.endpoint c.in_ok-count.count)
     c.in_ok-moment.moment (Err c.in_err-patience.field-0.0) c.in_ok-moment.ensures
     (first_fails (PatienceIs texts)
-    (ListenBeside texts c.in_ok-path.path c.in_ok-port.port c.in_ok-count.count
+    (ListenBeside texts c.in_ok-path.path c.in_ok-endpoint.endpoint c.in_ok-count.count
     c.in_ok-moment.moment)
     c.in_err-patience.field-0.0 c.in_err-patience.ensures)))))
 
@@ -87,19 +87,19 @@ returns-in_err-together c =
     rw (p.1, p.2)
     (then_rest (FileIs texts) (ListenIn texts) c.in_ok-path.path (Err c.in_err-together.field-0.0)
     c.in_ok-path.ensures
-    (then_rest (PortIs texts) (ListenOn texts c.in_ok-path.path) c.in_ok-port.port
-    (Err c.in_err-together.field-0.0) c.in_ok-port.ensures
-    (then_rest (CountIs texts) (ListenFor texts c.in_ok-path.path c.in_ok-port.port)
+    (then_rest (EndpointIs texts) (ListenOn texts c.in_ok-path.path) c.in_ok-endpoint.endpoint
+    (Err c.in_err-together.field-0.0) c.in_ok-endpoint.ensures
+    (then_rest (CountIs texts) (ListenFor texts c.in_ok-path.path c.in_ok-endpoint.endpoint)
     c.in_ok-count.count (Err c.in_err-together.field-0.0) c.in_ok-count.ensures
     (then_rest (MomentIfThere texts)
-    (ListenAt texts c.in_ok-path.path c.in_ok-port.port c.in_ok-count.count)
+    (ListenAt texts c.in_ok-path.path c.in_ok-endpoint.endpoint c.in_ok-count.count)
     c.in_ok-moment.moment (Err c.in_err-together.field-0.0) c.in_ok-moment.ensures
     (then_rest (PatienceIs texts)
-    (ListenBeside texts c.in_ok-path.path c.in_ok-port.port c.in_ok-count.count
+    (ListenBeside texts c.in_ok-path.path c.in_ok-endpoint.endpoint c.in_ok-count.count
     c.in_ok-moment.moment) c.in_ok-patience.patience
     (Err c.in_err-together.field-0.0) c.in_ok-patience.ensures
     (first_fails (TogetherIs texts)
-    (IsListen c.in_ok-path.path c.in_ok-port.port c.in_ok-count.count texts.issuers
+    (IsListen c.in_ok-path.path c.in_ok-endpoint.endpoint c.in_ok-count.count texts.issuers
     c.in_ok-moment.moment c.in_ok-patience.patience)
     c.in_err-together.field-0.0 c.in_err-together.ensures))))))
 
@@ -116,7 +116,7 @@ returns c =
     let texts = found_texts (found_of c.args.options.now) in
     let read : Result Action UsageFault = Ok (Listen (record {
       path = c.in_ok-path.path;
-      port = c.in_ok-port.port;
+      endpoint = c.in_ok-endpoint.endpoint;
       count = c.in_ok-count.count;
       together = c.in_ok-together.together;
       patience = c.in_ok-patience.patience;
@@ -124,19 +124,19 @@ returns c =
       moment = c.in_ok-moment.moment;
     })) in
     then_rest (FileIs texts) (ListenIn texts) c.in_ok-path.path read c.in_ok-path.ensures
-    (then_rest (PortIs texts) (ListenOn texts c.in_ok-path.path) c.in_ok-port.port read
-    c.in_ok-port.ensures
-    (then_rest (CountIs texts) (ListenFor texts c.in_ok-path.path c.in_ok-port.port)
+    (then_rest (EndpointIs texts) (ListenOn texts c.in_ok-path.path) c.in_ok-endpoint.endpoint read
+    c.in_ok-endpoint.ensures
+    (then_rest (CountIs texts) (ListenFor texts c.in_ok-path.path c.in_ok-endpoint.endpoint)
     c.in_ok-count.count read c.in_ok-count.ensures
     (then_rest (MomentIfThere texts)
-    (ListenAt texts c.in_ok-path.path c.in_ok-port.port c.in_ok-count.count)
+    (ListenAt texts c.in_ok-path.path c.in_ok-endpoint.endpoint c.in_ok-count.count)
     c.in_ok-moment.moment read c.in_ok-moment.ensures
     (then_rest (PatienceIs texts)
-    (ListenBeside texts c.in_ok-path.path c.in_ok-port.port c.in_ok-count.count
+    (ListenBeside texts c.in_ok-path.path c.in_ok-endpoint.endpoint c.in_ok-count.count
     c.in_ok-moment.moment)
     c.in_ok-patience.patience read c.in_ok-patience.ensures
     (then_rest (TogetherIs texts)
-    (IsListen c.in_ok-path.path c.in_ok-port.port c.in_ok-count.count texts.issuers
+    (IsListen c.in_ok-path.path c.in_ok-endpoint.endpoint c.in_ok-count.count texts.issuers
     c.in_ok-moment.moment c.in_ok-patience.patience)
     c.in_ok-together.together read c.in_ok-together.ensures
     (refl, refl, refl, c.in_ok-issuers.ensures.given, refl, refl, refl))))))

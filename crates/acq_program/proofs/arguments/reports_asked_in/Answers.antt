@@ -10,7 +10,7 @@ use Rattle.acq_program.specs.declared.action.Action.TheVariants.{Show}
 use Rattle.acq_commands.specs.declared.input_form.InputForm.{InputForm}
 use Rattle.acq_commands.specs.declared.report_kind.ReportKind.TheVariants as kinds
 use Rattle.acq_program.proofs.AskedCommands.{named, reads_command}
-use Rattle.acq_program.proofs.arguments.text_asked_in.Goals as goal
+use Rattle.acq_program.proofs.arguments.reports_asked_in.Goals as goal
 
 pub returns-in-Some-clearing-default : goal.returns-in-Some-clearing-default
 returns-in-Some-clearing-default c = λ words well matches.
