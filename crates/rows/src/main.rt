@@ -42,11 +42,9 @@ mod store_at_hand;
 mod table_file;
 mod tables;
 
-use acq_sql::SqlBook;
 use command_file::run_commands;
 use findings::Findings;
 use in_memory::InMemory;
-use in_sql::InSql;
 use row_fault::RowFault;
 use running_scenarios::run_scenarios;
 use sqlite::MemStore;
@@ -113,12 +111,12 @@ fn run_rows(
     findings: &mut Findings,
 ) -> Result<(), RowFault> {
     if name.ends_with(".scenarios") {
-        run_scenarios::<
-            SqlBook<MemStore>,
-            SqlBook<FileStore<Fuse<Memory>>>,
-            InSql<FileStore<Fuse<Memory>>, InMemory>,
-            HostRuntime,
-        >(rt, rt.alloc(), text, findings)
+        run_scenarios::<MemStore, FileStore<Fuse<Memory>>, InMemory, HostRuntime>(
+            rt,
+            rt.alloc(),
+            text,
+            findings,
+        )
     } else if name.ends_with(".commands") {
         run_commands(rt, rt.alloc(), text, findings)
     } else if name.ends_with(".table") {

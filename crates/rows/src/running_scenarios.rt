@@ -5,7 +5,9 @@
 use crate::book_at_hand::BookAtHand;
 use crate::books_in_files::BooksInFiles;
 use crate::events_of_another::lot_of_another;
+use crate::files_of::FilesOf;
 use crate::findings::Findings;
+use crate::in_sql::InSql;
 use crate::report_asked::ReportAsked;
 use crate::row_fault::RowFault;
 use crate::running_migrations::run_migrated;
@@ -13,6 +15,7 @@ use crate::running_stops::run_stopping;
 use crate::scenario::Scenario;
 use crate::scenario_file::ScenarioFile;
 use crate::step::Step;
+use crate::store_at_hand::StoreAtHand;
 use acq_book::{Book, BookFault, ListBook};
 use acq_commands::{Fault, TextSink};
 use acq_core::Event;
@@ -20,13 +23,26 @@ use acq_host::Host;
 use acq_link::MemorySink;
 use acq_out::write_output;
 use acq_reports::ReportFault;
+use acq_sql::SqlBook;
+use sqlite::{Alter, Connection};
 use std::alloc::Global;
 use std::fmt::Write;
 use std::hash::RandomState;
 use std::random::RandomSource;
 
-/// Runs all scenarios of a file.
-pub fn run_scenarios<B: BookAtHand, K: Book + Drop, F: BooksInFiles<K>, R: RandomSource>(
+/// Runs all scenarios of a file, over books in memory and in SQL, and over files that `O` opens as a
+/// store `T`.
+pub fn run_scenarios<S: StoreAtHand, T: Alter + Drop, O: FilesOf<Connection<T>>, R: RandomSource>(
+    rt: &R,
+    alloc: Global,
+    text: &str,
+    findings: &mut Findings,
+) -> Result<(), RowFault> {
+    run_all::<SqlBook<S>, SqlBook<T>, InSql<T, O>, R>(rt, alloc, text, findings)
+}
+
+/// The same over any books.
+fn run_all<B: BookAtHand, K: Book + Drop, F: BooksInFiles<K>, R: RandomSource>(
     rt: &R,
     alloc: Global,
     text: &str,
