@@ -1,11 +1,18 @@
 -- Look-ups, one after another.
-use Rattle.std.proofs.Common.{ℕ, ◌≤◌, Bool, true, inl, inr, ⊎_elim, ◌∙◌, refl, arith}
+use Rattle.std.proofs.Common.{◌≡◌, ℕ, ◌≤◌, Bool, true, inl, inr, ⊎_elim, ◌∙◌, refl, subst, arith}
+use Rattle.std.specs.Prelude.{Result}
 use Rattle.acq_core.specs.Tables.{Tables}
-use Rattle.acq_book.specs.Promise.{HasRisen, LooksBy}
+use Rattle.acq_book.specs.declared.book_fault.BookFault.{BookFault}
+use Rattle.acq_book.specs.Promise.{CountsFault, HasRisen, LooksBy}
 
 -- a count that rose last has risen from where it began
 pub risen_after : {a b c : ℕ} → a ≤ b → b ≤ c → HasRisen b c → HasRisen a c
 risen_after up on risen = grind arith
+
+-- what a call counts after calls that left the count as it was
+pub counts_more : {T : Type 0} (result : Result T BookFault) {a b : ℕ} (c : ℕ) → b ≡ a →
+    CountsFault result b c → CountsFault result a c
+counts_more result c same counts = subst (λ n. CountsFault result n c) same counts
 
 -- a look-up that succeeded, and what was looked up then
 pub looks_more : {S : Type 0} (tables : S → Tables) (is_honest is_open : S → Type 0)

@@ -9,11 +9,12 @@ use Rattle.acq_book.specs.declared.book_fault.BookFault.TheVariants.{Memory, Sto
 abbrev pub HasRisen : ℕ → ℕ → Type 0
 HasRisen old new = (old < new) ⊎ (2 ^ 64 ≤ old + 1)
 
--- a fault of the store is reported only where a call of it failed
-abbrev pub IfStore : {T : Type 0} → Result T BookFault → Type 0 → Type 0
-IfStore (Ok x) failed = Unit {0}
-IfStore (Err Memory) failed = Unit {0}
-IfStore (Err Store) failed = failed
+-- The count of failed calls of the store has risen where a fault of the store is told, and only
+-- there: where the call succeeded, or memory ran out, the count is as it was.
+abbrev pub CountsFault : {T : Type 0} → Result T BookFault → ℕ → ℕ → Type 0
+CountsFault (Ok x) old new = new ≡ old
+CountsFault (Err Memory) old new = new ≡ old
+CountsFault (Err Store) old new = HasRisen old new
 
 -- A look-up or a walk leaves the tables as they are, and adds nothing to what a stop may leave.
 -- Where it succeeded, the book stays open; else only a fault of the store itself shuts it.

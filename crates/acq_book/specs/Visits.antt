@@ -17,3 +17,9 @@ SawAll {Row} {V} sees (row ∷ rows) v w =
 -- it saw some of the first
 abbrev pub SawSome : {Row V : Type 0} → (V → Row → Bool → V → Type 0) → List Row → V → V → Type 0
 SawSome sees rows v w = (n : ℕ) × Saw sees (take n rows) v w
+
+-- It saw rows one at a time, whichever they were: in a walk that succeeded to the last, or to the
+-- first after which it wanted no more; in one that failed only such after which it wanted more.
+abbrev pub SawRows : {Row V : Type 0} → (V → Row → Bool → V → Type 0) → V → V → Bool → Type 0
+SawRows {Row} sees v w true = (rows : List Row) × SawAll sees rows v w
+SawRows {Row} sees v w false = (rows : List Row) × Saw sees rows v w

@@ -8,8 +8,8 @@ ghost use Rattle.acq_book.specs.Lookups.{merchant_at, has_terminal_at, range_at,
 ghost use Rattle.acq_book.specs.Lookups.{request_at, referred_at, admitted_at, used_at, totals_at};
 ghost use Rattle.acq_book.specs.Lookups.{pending_at, last_reconciliation_at};
 ghost use Rattle.acq_book.specs.Lookups.{postings_at, merchants_at, holds_at, waiting_at};
-ghost use Rattle.acq_book.specs.Promise.{HasRisen, IfStore, LooksBy, MakesBy};
-ghost use Rattle.acq_book.specs.Visits.{SawAll, SawSome};
+ghost use Rattle.acq_book.specs.Promise.{CountsFault, LooksBy, MakesBy};
+ghost use Rattle.acq_book.specs.Visits.{SawAll, SawRows, SawSome};
 
 use crate::book_fault::BookFault;
 use crate::visit::Visit;
@@ -52,14 +52,14 @@ pub trait Book {
         ensures value { is_open self.new → IfOk result (λ n. n ≡ (tables self.old).limit) }
         ensures looks { LooksBy tables is_honest is_open may_leave leaves_books
             failures store_faults self.old self.new (is_ok result) }
-        ensures store { IfStore result (HasRisen (failures self.old) (failures self.new)) };
+        ensures store { CountsFault result (failures self.old) (failures self.new) };
 
     /// The business day.
     fn day(&mut self) -> Result<Day, BookFault>
         ensures value { is_open self.new → IfOk result (λ day. day ≡ (tables self.old).day) }
         ensures looks { LooksBy tables is_honest is_open may_leave leaves_books
             failures store_faults self.old self.new (is_ok result) }
-        ensures store { IfStore result (HasRisen (failures self.old) (failures self.new)) };
+        ensures store { CountsFault result (failures self.old) (failures self.new) };
 
     /// The merchant with this name.
     fn merchant(&mut self, id: MerchantId) -> Result<Option<Merchant>, BookFault>
@@ -67,7 +67,7 @@ pub trait Book {
             (λ row. row ≡ merchant_at (tables self.old) id) }
         ensures looks { LooksBy tables is_honest is_open may_leave leaves_books
             failures store_faults self.old self.new (is_ok result) }
-        ensures store { IfStore result (HasRisen (failures self.old) (failures self.new)) };
+        ensures store { CountsFault result (failures self.old) (failures self.new) };
 
     /// Whether the merchant has this terminal.
     fn has_terminal(&mut self, merchant: MerchantId, id: TerminalId) -> Result<bool, BookFault>
@@ -75,7 +75,7 @@ pub trait Book {
             (λ has. has ≡ has_terminal_at (tables self.old) merchant id) }
         ensures looks { LooksBy tables is_honest is_open may_leave leaves_books
             failures store_faults self.old self.new (is_ok result) }
-        ensures store { IfStore result (HasRisen (failures self.old) (failures self.new)) };
+        ensures store { CountsFault result (failures self.old) (failures self.new) };
 
     /// The range that holds a prefix.
     fn range(&mut self, prefix: Prefix) -> Result<Option<Range>, BookFault>
@@ -83,7 +83,7 @@ pub trait Book {
             (λ range. range ≡ range_at (tables self.old) prefix) }
         ensures looks { LooksBy tables is_honest is_open may_leave leaves_books
             failures store_faults self.old self.new (is_ok result) }
-        ensures store { IfStore result (HasRisen (failures self.old) (failures self.new)) };
+        ensures store { CountsFault result (failures self.old) (failures self.new) };
 
     /// Of the ranges that overlap these ends, the one of least low.
     fn overlapping(&mut self, low: u32, high: u32) -> Result<Option<Range>, BookFault>
@@ -91,7 +91,7 @@ pub trait Book {
             (λ range. range ≡ overlapping_at (tables self.old) low high) }
         ensures looks { LooksBy tables is_honest is_open may_leave leaves_books
             failures store_faults self.old self.new (is_ok result) }
-        ensures store { IfStore result (HasRisen (failures self.old) (failures self.new)) };
+        ensures store { CountsFault result (failures self.old) (failures self.new) };
 
     /// The request with this key.
     fn request(&mut self, key: RequestKey) -> Result<Option<Request>, BookFault>
@@ -99,7 +99,7 @@ pub trait Book {
             (λ row. row ≡ request_at (tables self.old) key) }
         ensures looks { LooksBy tables is_honest is_open may_leave leaves_books
             failures store_faults self.old self.new (is_ok result) }
-        ensures store { IfStore result (HasRisen (failures self.old) (failures self.new)) };
+        ensures store { CountsFault result (failures self.old) (failures self.new) };
 
     /// The merchant's request with this reference.
     fn by_reference(
@@ -111,7 +111,7 @@ pub trait Book {
             (λ row. row ≡ referred_at (tables self.old) merchant reference) }
         ensures looks { LooksBy tables is_honest is_open may_leave leaves_books
             failures store_faults self.old self.new (is_ok result) }
-        ensures store { IfStore result (HasRisen (failures self.old) (failures self.new)) };
+        ensures store { CountsFault result (failures self.old) (failures self.new) };
 
     /// How many of the merchant's requests were admitted: so many references it has given.
     fn admitted(&mut self, merchant: MerchantId) -> Result<AdmittedCount, BookFault>
@@ -119,7 +119,7 @@ pub trait Book {
             (λ n. n ≡ admitted_at (tables self.old) merchant) }
         ensures looks { LooksBy tables is_honest is_open may_leave leaves_books
             failures store_faults self.old self.new (is_ok result) }
-        ensures store { IfStore result (HasRisen (failures self.old) (failures self.new)) };
+        ensures store { CountsFault result (failures self.old) (failures self.new) };
 
     /// How many of the merchant's messages count against the limit of a day.
     fn used(&mut self, merchant: MerchantId, day: Day) -> Result<UsedCount, BookFault>
@@ -127,7 +127,7 @@ pub trait Book {
             (λ n. n ≡ used_at (tables self.old) merchant day) }
         ensures looks { LooksBy tables is_honest is_open may_leave leaves_books
             failures store_faults self.old self.new (is_ok result) }
-        ensures store { IfStore result (HasRisen (failures self.old) (failures self.new)) };
+        ensures store { CountsFault result (failures self.old) (failures self.new) };
 
     /// The merchant's totals of a day.
     fn totals(&mut self, merchant: MerchantId, day: Day) -> Result<Totals, BookFault>
@@ -135,14 +135,14 @@ pub trait Book {
             (λ totals. totals ≡ totals_at (tables self.old) merchant day) }
         ensures looks { LooksBy tables is_honest is_open may_leave leaves_books
             failures store_faults self.old self.new (is_ok result) }
-        ensures store { IfStore result (HasRisen (failures self.old) (failures self.new)) };
+        ensures store { CountsFault result (failures self.old) (failures self.new) };
 
     /// How many requests of a day are pending, of all merchants.
     fn pending(&mut self, day: Day) -> Result<u64, BookFault>
         ensures value { is_open self.new → IfOk result (λ n. n ≡ pending_at (tables self.old) day) }
         ensures looks { LooksBy tables is_honest is_open may_leave leaves_books
             failures store_faults self.old self.new (is_ok result) }
-        ensures store { IfStore result (HasRisen (failures self.old) (failures self.new)) };
+        ensures store { CountsFault result (failures self.old) (failures self.new) };
 
     /// The merchant's last reconciliation of a day.
     fn last_reconciliation(
@@ -154,7 +154,7 @@ pub trait Book {
             (λ row. row ≡ last_reconciliation_at (tables self.old) merchant day) }
         ensures looks { LooksBy tables is_honest is_open may_leave leaves_books
             failures store_faults self.old self.new (is_ok result) }
-        ensures store { IfStore result (HasRisen (failures self.old) (failures self.new)) };
+        ensures store { CountsFault result (failures self.old) (failures self.new) };
 
     /// Hands over the postings of a day, each with its number, in order of merchant and number.
     fn walk_postings<V: Visit<(u64, Posting)>>(
@@ -166,9 +166,10 @@ pub trait Book {
             (SawAll V.sees (postings_at (tables self.old) day) visitor.old visitor.new) }
         ensures begun { is_honest self.new → is_open self.old → OnErr result
             (SawSome V.sees (postings_at (tables self.old) day) visitor.old visitor.new) }
+        ensures shown { SawRows V.sees visitor.old visitor.new (is_ok result) }
         ensures looks { LooksBy tables is_honest is_open may_leave leaves_books
             failures store_faults self.old self.new (is_ok result) }
-        ensures store { IfStore result (HasRisen (failures self.old) (failures self.new)) };
+        ensures store { CountsFault result (failures self.old) (failures self.new) };
 
     /// Hands over the merchants, in order of their names.
     fn walk_merchants<V: Visit<Merchant>>(&mut self, visitor: &mut V) -> Result<(), BookFault>
@@ -176,9 +177,10 @@ pub trait Book {
             (SawAll V.sees (merchants_at (tables self.old)) visitor.old visitor.new) }
         ensures begun { is_honest self.new → is_open self.old → OnErr result
             (SawSome V.sees (merchants_at (tables self.old)) visitor.old visitor.new) }
+        ensures shown { SawRows V.sees visitor.old visitor.new (is_ok result) }
         ensures looks { LooksBy tables is_honest is_open may_leave leaves_books
             failures store_faults self.old self.new (is_ok result) }
-        ensures store { IfStore result (HasRisen (failures self.old) (failures self.new)) };
+        ensures store { CountsFault result (failures self.old) (failures self.new) };
 
     /// Hands over a merchant's approved holds, which are neither completed nor reversed, in order
     /// of reference.
@@ -191,9 +193,10 @@ pub trait Book {
             (SawAll V.sees (holds_at (tables self.old) merchant) visitor.old visitor.new) }
         ensures begun { is_honest self.new → is_open self.old → OnErr result
             (SawSome V.sees (holds_at (tables self.old) merchant) visitor.old visitor.new) }
+        ensures shown { SawRows V.sees visitor.old visitor.new (is_ok result) }
         ensures looks { LooksBy tables is_honest is_open may_leave leaves_books
             failures store_faults self.old self.new (is_ok result) }
-        ensures store { IfStore result (HasRisen (failures self.old) (failures self.new)) };
+        ensures store { CountsFault result (failures self.old) (failures self.new) };
 
     /// Hands over the requests of all merchants and days that wait for their issuer's answer, in
     /// the order in which they came.
@@ -202,9 +205,10 @@ pub trait Book {
             (SawAll V.sees (waiting_at (tables self.old)) visitor.old visitor.new) }
         ensures begun { is_honest self.new → is_open self.old → OnErr result
             (SawSome V.sees (waiting_at (tables self.old)) visitor.old visitor.new) }
+        ensures shown { SawRows V.sees visitor.old visitor.new (is_ok result) }
         ensures looks { LooksBy tables is_honest is_open may_leave leaves_books
             failures store_faults self.old self.new (is_ok result) }
-        ensures store { IfStore result (HasRisen (failures self.old) (failures self.new)) };
+        ensures store { CountsFault result (failures self.old) (failures self.new) };
 
     /// Makes all of a change, or none of it. The change fits: its keys are new, and there is room
     /// for it; and it leads to tables that events lead to.
@@ -213,7 +217,7 @@ pub trait Book {
         requires past { is_open self.old → HasPast (after (tables self.old) change.now) }
         ensures makes { MakesBy tables is_honest is_open may_leave leaves_books
             failures store_faults self.old self.new (is_ok result) (after (tables self.old) change.now) }
-        ensures store { IfStore result (HasRisen (failures self.old) (failures self.new)) };
+        ensures store { CountsFault result (failures self.old) (failures self.new) };
 
     /// The store of an open book is honest.
     ghost honest: { (book : Self) → is_open book → is_honest book };

@@ -2,7 +2,7 @@
 
 ghost use Rattle.std.specs.Prelude.{◌≡◌, IfOk};
 ghost use Rattle.std.specs.Option.{option_copied};
-ghost use Rattle.acq_book.specs.Promise.{HasRisen, IfStore};
+ghost use Rattle.acq_book.specs.Promise.{CountsFault};
 
 use crate::book_fault::BookFault;
 use acq_core::{Posting, Request};
@@ -15,7 +15,7 @@ pub(crate) fn found_copied(
     row: Option<&Request>,
 ) -> Result<Option<Request>, BookFault>
     ensures copy { IfOk result (λ copy. copy ≡ option_copied row.entry) }
-    ensures store { IfStore result (HasRisen 0 0) }
+    ensures store { CountsFault result 0 0 }
 {
     match row {
         Some(row) => Ok(Some(row.copied(alloc)?)),
@@ -26,7 +26,7 @@ pub(crate) fn found_copied(
 /// A copy of a range, where one was found.
 pub(crate) fn range_copied(alloc: Global, range: Option<&Range>) -> Result<Option<Range>, BookFault>
     ensures copy { IfOk result (λ copy. copy ≡ option_copied range.entry) }
-    ensures store { IfStore result (HasRisen 0 0) }
+    ensures store { CountsFault result 0 0 }
 {
     match range {
         Some(range) => Ok(Some(range.copied(alloc)?)),

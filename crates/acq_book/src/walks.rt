@@ -1,6 +1,6 @@
 //! Rows in the order of a walk.
 
-ghost use Rattle.std.specs.Prelude.{◌≡◌, ℕ, List, map, IfOk, OnOk, OnErr};
+ghost use Rattle.std.specs.Prelude.{◌≡◌, ℕ, List, map, is_ok, IfOk, OnOk, OnErr};
 ghost use Rattle.std.specs.Map.Iter.{deref};
 ghost use Rattle.std.specs.Ordering.{nat_cmp, is_lt};
 ghost use Rattle.std.specs.Cmp.Lexicographic.{slice_cmp};
@@ -10,8 +10,8 @@ ghost use Rattle.acq_core.specs.declared.request.Request.{Request};
 ghost use Rattle.acq_book.specs.Lookups.{is_posting_before};
 ghost use Rattle.acq_book.specs.Lookups.{is_reference_before};
 ghost use Rattle.acq_book.specs.Order.{in_order};
-ghost use Rattle.acq_book.specs.Promise.{HasRisen, IfStore};
-ghost use Rattle.acq_book.specs.Visits.{SawAll, SawSome};
+ghost use Rattle.acq_book.specs.Promise.{CountsFault};
+ghost use Rattle.acq_book.specs.Visits.{SawAll, SawRows, SawSome};
 
 use crate::book_fault::BookFault;
 use crate::visit::Visit;
@@ -27,7 +27,8 @@ pub(crate) fn show<Row, V: Visit<Row>>(
     ensures seen { (all : List Row) → IfOk rows.entry (λ rows. map deref rows.items ≡ all)
         → OnOk result (SawAll V.sees all visitor.old visitor.new) }
     ensures begun { (all : List Row) → OnErr result (SawSome V.sees all visitor.old visitor.new) }
-    ensures store { IfStore result (HasRisen 0 0) }
+    ensures shown { SawRows V.sees visitor.old visitor.new (is_ok result) }
+    ensures store { CountsFault result 0 0 }
 {
     show_each(rows?.as_slice(), visitor);
     Ok(())

@@ -1,10 +1,9 @@
 -- That what came since a connection's beginning is what was taken and what is held, and so has each
 -- message's frame.
-use Rattle.std.proofs.Common.{◌≡◌, ◌≤◌, ℕ, List, [], ◌++◌, sym, ap, ◌∙◌, append_assoc}
-use Rattle.std.proofs.Common.{append-nil, arith}
+use Rattle.std.proofs.Common.{◌≡◌, ℕ, List, [], ◌++◌, sym, ap, ◌∙◌, append_assoc}
+use Rattle.std.proofs.Common.{append-nil}
 use Rattle.acq_link.specs.Frames.{frame}
 use Rattle.acq_link.specs.FramesAt.{BeginsWithFrame}
-use Rattle.acq_book.specs.Promise.{HasRisen}
 use Rattle.acq_front.specs.Serving.{FrameCame}
 
 -- these bytes were taken since, and those are held
@@ -37,7 +36,3 @@ frame_came old now held message left begins so = (
   so.1,
   (so.0, message, left, begins.fits, ap (λ (l : List ℕ). so.0 ++ l) begins.whole),
 )
-
--- a count that rose since some moment rose since any earlier one
-pub risen_earlier : (a b c : ℕ) → a ≤ b → b ≤ c → HasRisen b c → HasRisen a c
-risen_earlier a b c up on risen = grind (arith, risen)

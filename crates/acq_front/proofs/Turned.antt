@@ -14,10 +14,11 @@ use Rattle.acq_core.specs.declared.output.Output.{Output}
 use Rattle.acq_core.specs.declared.output.Output.TheVariants.{Reply, Ask, Undecodable}
 use Rattle.acq_core.specs.Arrivals.{arrival_of}
 use Rattle.acq_core.specs.Tables.{Tables, step_output, step_tables}
+use Rattle.acq_book.specs.Promise.{CountsFault, HasRisen}
 use Rattle.acq_book.specs.declared.book_fault.BookFault as book
 use Rattle.acq_host.specs.Runs.{IsWellSaid}
 use Rattle.acq_front.specs.declared.front_fault.FrontFault as fault
-use Rattle.acq_front.specs.Faults.{of_book, IfStore}
+use Rattle.acq_front.specs.Faults.{of_book, CountsStore, IfStore, TellsStore}
 use Rattle.acq_front.specs.Stops.{Left, LeavesAll, LeavesSome}
 use Rattle.acq_front.specs.Talk.{Saying, reply_in, replies}
 use Rattle.acq_front.specs.Turns.{is_read, Incoming, TookMessage, TookNone, TookAllButAnswer}
@@ -42,28 +43,48 @@ empty_unfit text empty fit = grind (arith, nat_tests)
 pub long_unfit : (text : List ℕ) → 4096 < length text → fits_frame text ≡ true → ⊥
 long_unfit text long fit = grind (arith, nat_tests)
 
--- what the store's fault says, said otherwise
-pub if_store : {X : Type 0} (r : Result X fault.FrontFault) (P Q : Type 0) → (P → Q) →
-    IfStore r P → IfStore r Q
-if_store (Ok x) P Q f p = tt
-if_store (Err fault.TheVariants.Memory) P Q f p = tt
-if_store (Err fault.TheVariants.Store) P Q f p = f p
-if_store (Err fault.TheVariants.BadLength) P Q f p = tt
-if_store (Err fault.TheVariants.Ended) P Q f p = tt
-if_store (Err (fault.TheVariants.Undecodable x)) P Q f p = tt
-if_store (Err fault.TheVariants.Read) P Q f p = tt
-if_store (Err (fault.TheVariants.Write n)) P Q f p = tt
+-- a fault that is handed on tells the same of the store, and of a longer time in which nothing more
+-- failed
+pub tells_on : (X Y : Type 0) (f : fault.FrontFault) (P Q : Type 0) {a b : ℕ} (c : ℕ) → b ≡ a →
+    (P → Q) → TellsStore {X = X} (Err f) b c P → TellsStore {X = Y} (Err f) a c Q
+tells_on X Y fault.TheVariants.Store P Q c same so (inl risen) =
+    inl (subst (λ (n : ℕ). HasRisen n c) same risen)
+tells_on X Y fault.TheVariants.Store P Q c same so (inr p) = inr (so p)
+tells_on X Y fault.TheVariants.Memory P Q c same so told = told ∙ same
+tells_on X Y fault.TheVariants.BadLength P Q c same so told = told ∙ same
+tells_on X Y fault.TheVariants.Ended P Q c same so told = told ∙ same
+tells_on X Y (fault.TheVariants.Undecodable x) P Q c same so told = told ∙ same
+tells_on X Y fault.TheVariants.Read P Q c same so told = told ∙ same
+tells_on X Y (fault.TheVariants.Write n) P Q c same so told = told ∙ same
 
--- the same of a fault that is handed on
-pub store_on : (X Y : Type 0) (f : fault.FrontFault) (P Q : Type 0) → (P → Q) →
-    IfStore {X = X} (Err f) P → IfStore {X = Y} (Err f) Q
-store_on X Y fault.TheVariants.Memory P Q f p = tt
-store_on X Y fault.TheVariants.Store P Q f p = f p
-store_on X Y fault.TheVariants.BadLength P Q f p = tt
-store_on X Y fault.TheVariants.Ended P Q f p = tt
-store_on X Y (fault.TheVariants.Undecodable x) P Q f p = tt
-store_on X Y fault.TheVariants.Read P Q f p = tt
-store_on X Y (fault.TheVariants.Write n) P Q f p = tt
+-- a fault that counts is one that is told
+pub tells_counted : (X Y : Type 0) (f : fault.FrontFault) (P : Type 0) (a b : ℕ) →
+    CountsStore {X = X} (Err f) a b → TellsStore {X = Y} (Err f) a b P
+tells_counted X Y fault.TheVariants.Store P a b counts = inl counts
+tells_counted X Y fault.TheVariants.Memory P a b counts = counts
+tells_counted X Y fault.TheVariants.BadLength P a b counts = counts
+tells_counted X Y fault.TheVariants.Ended P a b counts = counts
+tells_counted X Y (fault.TheVariants.Undecodable x) P a b counts = counts
+tells_counted X Y fault.TheVariants.Read P a b counts = counts
+tells_counted X Y (fault.TheVariants.Write n) P a b counts = counts
+
+-- what tells the store's fault only so, while no call of it failed
+pub tells_unfit : {X : Type 0} (r : Result X fault.FrontFault) (P Q : Type 0) {a b : ℕ} → b ≡ a →
+    (P → Q) → IfStore r P → TellsStore r a b Q
+tells_unfit (Ok x) P Q same so p = same
+tells_unfit (Err fault.TheVariants.Store) P Q same so p = inr (so p)
+tells_unfit (Err fault.TheVariants.Memory) P Q same so p = same
+tells_unfit (Err fault.TheVariants.BadLength) P Q same so p = same
+tells_unfit (Err fault.TheVariants.Ended) P Q same so p = same
+tells_unfit (Err (fault.TheVariants.Undecodable x)) P Q same so p = same
+tells_unfit (Err fault.TheVariants.Read) P Q same so p = same
+tells_unfit (Err (fault.TheVariants.Write n)) P Q same so p = same
+
+-- a fault of the book, after calls that left the count as it was
+pub counts_book : (X : Type 0) (e : book.BookFault) {a b : ℕ} (c : ℕ) → b ≡ a →
+    CountsFault {T = Unit {0}} (Err e) b c → CountsStore {X = X} (Err (of_book e)) a c
+counts_book X book.TheVariants.Memory c same counts = counts ∙ same
+counts_book X book.TheVariants.Store c same counts = subst (λ (n : ℕ). HasRisen n c) same counts
 
 -- the book refused
 pub book_stops : (may_say : Saying) (e : book.BookFault) (old : Tables) (left : Left)

@@ -1,9 +1,10 @@
 -- The faults' numbers and texts, what faults of the parts are to a connection, and how many reads
 -- and writes failed.
-use Rattle.std.specs.Prelude.{ℕ, List, ◌++◌, codes, Result, Ok, Err}
+use Rattle.std.specs.Prelude.{◌≡◌, ◌⊎◌, ℕ, List, ◌++◌, codes, Result, Ok, Err}
 use Rattle.std.specs.Fmt.{decimal}
 use Rattle.acq_link.specs.declared.deframe_fault.DeframeFault as deframe
 use Rattle.iso_codec.specs.FaultTexts.{number_of_fault, element_of_fault}
+use Rattle.acq_book.specs.Promise.{HasRisen}
 use Rattle.acq_book.specs.declared.book_fault.BookFault as book
 use Rattle.acq_front.specs.declared.front_fault.FrontFault.{FrontFault}
 use Rattle.acq_front.specs.declared.front_fault.FrontFault.TheVariants.{Memory, Store}
@@ -50,6 +51,17 @@ failed_reads other = 0
 abbrev pub failed_writes : {X : Type 0} → Result X FrontFault → ℕ
 failed_writes (Err (Write n)) = 1
 failed_writes other = 0
+
+-- The count of failed calls of the store has risen where the store's fault is told, and only there.
+abbrev pub CountsStore : {X : Type 0} → Result X FrontFault → ℕ → ℕ → Type 0
+CountsStore (Err Store) old new = HasRisen old new
+CountsStore other old new = new ≡ old
+
+-- The store's fault is told where a call of it failed, or where this is so; and unless it is told,
+-- no call of it failed.
+abbrev pub TellsStore : {X : Type 0} → Result X FrontFault → ℕ → ℕ → Type 0 → Type 0
+TellsStore (Err Store) old new other = HasRisen old new ⊎ other
+TellsStore result old new other = new ≡ old
 
 -- this holds where the store's fault is told
 abbrev pub IfStore : {X : Type 0} → Result X FrontFault → Type 0 → Type 0

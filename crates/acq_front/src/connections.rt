@@ -1,10 +1,9 @@
 //! Connections that come one after the other.
 
-ghost use Rattle.std.specs.Prelude.{◌≡◌, ◌⊎◌, ◌+◌, ◌++◌, ℕ, List};
+ghost use Rattle.std.specs.Prelude.{◌≡◌, ◌+◌, ◌++◌, ℕ, List};
 ghost use Rattle.std.specs.List.{All};
-ghost use Rattle.acq_book.specs.Promise.{HasRisen};
 ghost use Rattle.acq_front.specs.Coming.{GivesAll};
-ghost use Rattle.acq_front.specs.Faults.{IfStore, UnlessRefused, failed_reads, failed_writes};
+ghost use Rattle.acq_front.specs.Faults.{TellsStore, UnlessRefused, failed_reads, failed_writes};
 ghost use Rattle.acq_front.specs.Passing.{CameOver, FailsOver, PassesOver};
 ghost use Rattle.acq_front.specs.Serving.{Connection, FrameCame, Serves};
 ghost use Rattle.acq_front.specs.Stops.{left_of};
@@ -62,10 +61,10 @@ pub trait Connections {
         ensures reads { read_failures self.new ≡ read_failures self.old + failed_reads result }
         ensures writes { write_failures self.new ≡ write_failures self.old + failed_writes result }
         // The store's fault comes only where a call of it failed, or gave for a message that came
-        // what no host wrote.
-        ensures store { IfStore result (HasRisen (B.failures host.old) (B.failures host.new)
-            ⊎ (FrameCame (received self.old) (received self.new)
-            × (B.is_honest host.new → B.is_open host.old → ⊥))) };
+        // what no host wrote; and with any other end none failed.
+        ensures store { TellsStore result (B.failures host.old) (B.failures host.new)
+            (FrameCame (received self.old) (received self.new)
+            × (B.is_honest host.new → B.is_open host.old → ⊥)) };
 }
 
 /// Serves the connection that has these two ends to its end. Without them none was had, which is a
@@ -92,9 +91,9 @@ pub fn serve_ends<B: Book + Drop, S: Source + Drop, K: Sink + Drop, C: Clock, I:
         → UnlessRefused result (B.is_open host.new) }
     // A fault of reading or writing comes only where a read or a write of theirs failed.
     ensures fails { FailsOver S.failures K.failures ends.old ends.new result }
-    ensures store { IfStore result (HasRisen (B.failures host.old) (B.failures host.new)
-        ⊎ (CameOver S.received FrameCame ends.old ends.new
-        × (B.is_honest host.new → B.is_open host.old → ⊥))) }
+    ensures store { TellsStore result (B.failures host.old) (B.failures host.new)
+        (CameOver S.received FrameCame ends.old ends.new
+        × (B.is_honest host.new → B.is_open host.old → ⊥)) }
 {
     match ends {
         Some((source, sink)) => serve(alloc, host, source, sink, clock, issuer),

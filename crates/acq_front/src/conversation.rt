@@ -1,11 +1,10 @@
 //! One end of a connection, without its reads and writes.
 
-ghost use Rattle.std.specs.Prelude.{◌≡◌, ◌==◌, ◌⊎◌, ◌+◌, ◌≤◌, ◌<◌, ◌++◌, ℕ, [], length, drop};
+ghost use Rattle.std.specs.Prelude.{◌≡◌, ◌==◌, ◌+◌, ◌≤◌, ◌<◌, ◌++◌, ℕ, [], length, drop};
 ghost use Rattle.acq_link.specs.Deframing.{longest_frame};
 ghost use Rattle.acq_link.specs.FramesAt.{MayBecomeFrame};
-ghost use Rattle.acq_book.specs.Promise.{HasRisen};
 ghost use Rattle.acq_front.specs.Ends.{held_of, unsent_of, hand_of, gone_of, Steps, StopsAt};
-ghost use Rattle.acq_front.specs.Faults.{IfStore, UnlessRefused};
+ghost use Rattle.acq_front.specs.Faults.{TellsStore, UnlessRefused};
 ghost use Rattle.acq_front.specs.Serving.{HoldsFrame};
 ghost use Rattle.acq_front.specs.Stops.{left_of};
 
@@ -115,10 +114,10 @@ impl Conversation {
             → I.may_say issuer.old q v }
         ensures given_later { (m : ℕ) → C.may_give clock.new m → C.may_give clock.old m }
         // The store's fault comes only where a call of it failed, or gave for a message that came
-        // what no host wrote.
-        ensures store { IfStore result (HasRisen (B.failures host.old) (B.failures host.new)
-            ⊎ (HoldsFrame (held_of self.old)
-            × (B.is_honest host.new → B.is_open host.old → ⊥))) }
+        // what no host wrote; and with any other end none failed.
+        ensures store { TellsStore result (B.failures host.old) (B.failures host.new)
+            (HoldsFrame (held_of self.old)
+            × (B.is_honest host.new → B.is_open host.old → ⊥)) }
     {
         self.output.clear();
         let Some(message) = self.input.take_message(alloc)? else {

@@ -1,14 +1,13 @@
 //! Connections whose lines don't wait.
 
-ghost use Rattle.std.specs.Prelude.{◌≡◌, ◌⊎◌, ◌≤◌, ◌+◌, ◌++◌, ℕ, List, [], false, length, take};
+ghost use Rattle.std.specs.Prelude.{◌≡◌, ◌≤◌, ◌+◌, ◌++◌, ℕ, List, [], false, length, take};
 ghost use Rattle.std.specs.Prelude.{drop, Err};
 ghost use Rattle.acq_link.specs.FramesAt.{MayBecomeFrame};
-ghost use Rattle.acq_book.specs.Promise.{HasRisen};
 ghost use Rattle.acq_front.specs.Exchanges.{line_of, held_of, unsent_of, hand_of, gone_of, passed};
 ghost use Rattle.acq_front.specs.Exchanges.{EndsInFirst, EndsWith, Goes, IfWaits, IfWrite};
 ghost use Rattle.acq_front.specs.Exchanges.{late_fault, tells_end};
 ghost use Rattle.acq_front.specs.Ends.{Steps};
-ghost use Rattle.acq_front.specs.Faults.{IfRefused, IfStore, UnlessRefused};
+ghost use Rattle.acq_front.specs.Faults.{IfRefused, IfStore, TellsStore, UnlessRefused};
 ghost use Rattle.acq_front.specs.Faults.{failed_reads, failed_writes};
 ghost use Rattle.acq_front.specs.Serving.{HoldsFrame};
 ghost use Rattle.acq_front.specs.Stops.{left_of};
@@ -88,10 +87,10 @@ impl<L: Line> Exchange<L> {
             → EndsInFirst (L.sent (line_of self.new)) (hand_of self.new) (gone_of self.new) }
         ensures told { IfWrite result (λ n. n ≡ gone_of self.new) }
         // The store's fault comes only where a call of it failed, or gave for a message that came
-        // what no host wrote.
-        ensures store { IfStore result (HasRisen (B.failures host.old) (B.failures host.new)
-            ⊎ (HoldsFrame (held_of self.old)
-            × (B.is_honest host.new → B.is_open host.old → ⊥))) }
+        // what no host wrote; and with any other end none failed.
+        ensures store { TellsStore result (B.failures host.old) (B.failures host.new)
+            (HoldsFrame (held_of self.old)
+            × (B.is_honest host.new → B.is_open host.old → ⊥)) }
         // A round that waits did nothing.
         ensures idle { B.is_honest host.new → B.is_open host.old → IfWaits result
             ((B.tables host.new ≡ B.tables host.old)

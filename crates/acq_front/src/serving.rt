@@ -1,14 +1,13 @@
 //! One connection, from its first byte on.
 
-ghost use Rattle.std.specs.Prelude.{◌≡◌, ◌⊎◌, ◌+◌, ◌≤◌, ◌++◌, ℕ, List, length, true};
+ghost use Rattle.std.specs.Prelude.{◌≡◌, ◌+◌, ◌≤◌, ◌++◌, ℕ, List, length, true};
 ghost use Rattle.std.specs.List.{All};
 ghost use Rattle.acq_link.specs.Frames.{fits_frame, length_bytes};
 ghost use Rattle.acq_link.specs.Moves.{TakesAll};
-ghost use Rattle.acq_book.specs.Promise.{HasRisen};
 ghost use Rattle.acq_front.specs.Coming.{GivesAll};
 ghost use Rattle.acq_front.specs.Talk.{first_moment};
-ghost use Rattle.acq_front.specs.Faults.{AtEnd, IfStore, UnlessRefused, failed_reads};
-ghost use Rattle.acq_front.specs.Faults.{failed_writes};
+ghost use Rattle.acq_front.specs.Faults.{AtEnd, CountsStore, IfStore, TellsStore, UnlessRefused};
+ghost use Rattle.acq_front.specs.Faults.{failed_reads, failed_writes};
 ghost use Rattle.acq_front.specs.Turns.{OfMessage, OfTaking, ReplyFits, Sends, SendsReply};
 ghost use Rattle.acq_front.specs.Turns.{Takes, Turns};
 ghost use Rattle.acq_front.specs.Serving.{Connection, FrameCame, Serves};
@@ -69,10 +68,10 @@ pub fn serve<B: Book + Drop, S: Source, K: Sink, C: Clock, I: Issuer>(
     ensures reads { S.failures source.new ≡ S.failures source.old + failed_reads result }
     ensures writes { K.failures sink.new ≡ K.failures sink.old + failed_writes result }
     // The store's fault comes only where a call of it failed, or gave for a message that came what
-    // no host wrote.
-    ensures store { IfStore result (HasRisen (B.failures host.old) (B.failures host.new)
-        ⊎ (FrameCame (S.received source.old) (S.received source.new)
-        × (B.is_honest host.new → B.is_open host.old → ⊥))) }
+    // no host wrote; and with any other end none failed.
+    ensures store { TellsStore result (B.failures host.old) (B.failures host.new)
+        (FrameCame (S.received source.old) (S.received source.new)
+        × (B.is_honest host.new → B.is_open host.old → ⊥)) }
 {
     let mut input = Deframer::new();
     let mut piece = [0; LONGEST_FRAME];
@@ -119,8 +118,8 @@ pub fn answer_message<B: Book + Drop, K: Sink, C: Clock, I: Issuer>(
     ensures fault { OfMessage result }
     ensures writes { K.failures sink.new ≡ K.failures sink.old + failed_writes result }
     ensures rise { B.failures host.old ≤ B.failures host.new }
-    ensures store { IfStore result (HasRisen (B.failures host.old) (B.failures host.new)
-        ⊎ (B.is_honest host.new → B.is_open host.old → ⊥)) }
+    ensures store { TellsStore result (B.failures host.old) (B.failures host.new)
+        (B.is_honest host.new → B.is_open host.old → ⊥) }
 {
     let said = take_message(message, host, clock, issuer)?;
     send_reply(&said, sink)
@@ -149,7 +148,7 @@ pub(crate) fn take_message<B: Book + Drop, C: Clock, I: Issuer>(
     ensures moments_later { (m : ℕ) → C.may_give clock.new m → C.may_give clock.old m }
     ensures fault { OfTaking result }
     ensures rise { B.failures host.old ≤ B.failures host.new }
-    ensures store { IfStore result (HasRisen (B.failures host.old) (B.failures host.new)) }
+    ensures store { CountsStore result (B.failures host.old) (B.failures host.new) }
 {
     let came = Event::Frame(clock.now(), MessageText::from_vec(message));
     let said = host.take(&came)?;

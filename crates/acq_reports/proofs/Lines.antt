@@ -5,11 +5,11 @@ use Rattle.std.proofs.Common.{append_assoc, append-nil, length-append}
 use Rattle.std.proofs.lemmas.List.{take-append-drop, take-append-le}
 use Rattle.std.proofs.Math.Seq.{take-append_seam, take-append-add}
 use Rattle.std.proofs.lemmas.Grind.{flat_map-append}
-use Rattle.std.specs.Prelude.{Some, None, Result, Ok, Err, OnOk, OnErr}
+use Rattle.std.specs.Prelude.{Some, None, Result, Ok, Err, OnOk, OnErr, is_ok}
 use Rattle.std.specs.List.{flat_map}
 use Rattle.acq_book.specs.declared.book_fault.BookFault.{BookFault}
 use Rattle.acq_book.specs.declared.book_fault.BookFault as book
-use Rattle.acq_book.specs.Visits.{Saw, SawAll, SawSome}
+use Rattle.acq_book.specs.Visits.{Saw, SawAll, SawRows, SawSome}
 use Rattle.acq_reports.specs.declared.report.Report.{Report}
 use Rattle.acq_reports.specs.declared.report_fault.ReportFault.{ReportFault}
 use Rattle.acq_reports.specs.declared.stop.Stop.TheVariants as stop
@@ -269,3 +269,48 @@ module _ {K Row V : Type 0} (sent : K → List ℕ) (failures : K → ℕ) (repo
       → Progress sent failures (flat_map line rows) (report v) (report w) r
   progress rows v w (Ok u) kept all some = walked rows v w kept all
   progress rows v w (Err f) kept all some = begun rows v w f kept some
+
+-- The same of whichever rows were walked, of each of which a visitor puts some text.
+module _ {K Row V : Type 0} (sent : K → List ℕ) (failures : K → ℕ) (report : V → Report K)
+    (sees : V → Row → Bool → V → Type 0)
+    (puts : (v : V) (row : Row) (more : Bool) (w : V) → sees v row more w
+    → (text : List ℕ) × Puts sent failures text (report v) more (report w)) where
+  any_out : (rows : List Row) (v w : V) → Saw sees rows v w
+      → (text : List ℕ) × WentOut sent failures text (report v) (report w)
+  any_out [] v w same = (
+    [],
+    subst (λ u. WentOut sent failures [] (report v) (report u)) same
+        (went_nothing sent failures (report v)),
+  )
+  any_out (row ∷ rows) v w (u, seen, rest) =
+      let one = puts v row true u seen in
+      let more = any_out rows u w rest in (
+        one.0 ++ more.0,
+        went_more sent failures one.0 more.0 (report v) (report u) (report w) one.1 more.1,
+      )
+
+  any_walked : (rows : List Row) (v w : V) → SawAll sees rows v w
+      → (text : List ℕ) × Outcome sent failures text (report v) (report w)
+  any_walked [] v w same = (
+    [],
+    inl (subst (λ u. WentOut sent failures [] (report v) (report u)) same
+        (went_nothing sent failures (report v))),
+  )
+  any_walked (row ∷ rows) v w (inl (u, seen, rest)) =
+      let one = puts v row true u seen in
+      let more = any_walked rows u w rest in (
+        one.0 ++ more.0,
+        outcome_more sent failures one.0 more.0 (report v) (report u) (report w) one.1 more.1,
+      )
+  any_walked (row ∷ rows) v w (inr seen) =
+      let one = puts v row false w seen in (one.0, inr one.1)
+
+  pub progress_any : (v w : V) (r : Result (Unit {0}) BookFault) → SawRows sees v w (is_ok r)
+      → (text : List ℕ) × Progress sent failures text (report v) (report w) r
+  progress_any v w (Ok u) (rows, saw) = any_walked rows v w saw
+  progress_any v w (Err f) (rows, saw) =
+      let out = any_out rows v w saw in (
+        out.0,
+        subst (λ t. Progress sent failures t (report v) (report w) (Err f)) (append-nil out.0)
+            (begins_part sent failures out.0 [] (report v) (report w) f out.1),
+      )

@@ -1,5 +1,5 @@
 -- The faults' numbers and texts, what a fault of the book is, and how many writes failed.
-use Rattle.std.specs.Prelude.{◌⊎◌, ℕ, List, ◌++◌, Bool, true, false, codes, Result, Ok, Err}
+use Rattle.std.specs.Prelude.{◌≡◌, ◌⊎◌, ℕ, List, ◌++◌, Bool, true, false, codes, Result, Ok, Err}
 use Rattle.std.specs.Fmt.{decimal}
 use Rattle.acq_book.specs.declared.book.Book.{Ghosts}
 use Rattle.acq_book.specs.declared.book_fault.BookFault as book
@@ -32,16 +32,29 @@ abbrev pub of_book : book.BookFault → ReportFault
 of_book book.TheVariants.Memory = Memory
 of_book book.TheVariants.Store = Store
 
--- a fault of the store is reported only so
-abbrev pub IfStoreFailed : {T : Type 0} → Result T ReportFault → Type 0 → Type 0
-IfStoreFailed (Err Store) failed = failed
-IfStoreFailed _ failed = Unit {0}
+-- The count of failed calls of the store has risen where a fault of the store is told, and only
+-- there.
+abbrev pub CountsStore : {T : Type 0} → Result T ReportFault → ℕ → ℕ → Type 0
+CountsStore (Err Store) old new = HasRisen old new
+CountsStore _ old new = new ≡ old
 
 -- a call of the store failed, or the book doesn't add up, which no book does that is honest and was
 -- open
 abbrev pub StoreFailed : {S : Type 0} → Ghosts S → S → S → Type 0
 StoreFailed book old new =
     HasRisen (book.failures old) (book.failures new) ⊎ ¬ (book.is_honest new × book.is_open old)
+
+-- A fault of the store is told of a book that doesn't add up, too. Unless it is told, no call of the
+-- store failed.
+abbrev pub TellsStore : {S T : Type 0} → Ghosts S → S → S → Result T ReportFault → Type 0
+TellsStore book old new (Err Store) = StoreFailed book old new
+TellsStore book old new _ = book.failures new ≡ book.failures old
+
+-- where a book tells a fault of its store this holds, and else the count of failed calls stays
+abbrev pub TellsFault : {T : Type 0} → Result T book.BookFault → Type 0 → ℕ → ℕ → Type 0
+TellsFault (Ok x) failed old new = new ≡ old
+TellsFault (Err book.TheVariants.Memory) failed old new = new ≡ old
+TellsFault (Err book.TheVariants.Store) failed old new = failed
 
 -- how many writes failed
 abbrev pub writes_failed : ReportFault → ℕ

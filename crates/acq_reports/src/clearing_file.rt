@@ -2,9 +2,8 @@
 
 ghost use Rattle.std.specs.Prelude.{◌≡◌, ◌+◌, ◌∷◌, [], IfOk};
 ghost use Rattle.acq_book.specs.Calls.{Looks};
-ghost use Rattle.acq_book.specs.Promise.{HasRisen};
 ghost use Rattle.acq_reports.specs.ClearingFile.{clearing_text, posting_line};
-ghost use Rattle.acq_reports.specs.Faults.{IfStoreFailed, StoreFailed, failed_writes, is_settled};
+ghost use Rattle.acq_reports.specs.Faults.{CountsStore, TellsStore, failed_writes, is_settled};
 ghost use Rattle.acq_reports.specs.Marks.{csv_line, leg_name};
 ghost use Rattle.acq_reports.specs.Refusals.{day_refusal};
 ghost use Rattle.acq_reports.specs.Writing.{Reports, Writes};
@@ -45,10 +44,9 @@ pub fn clearing<B: Book, K: Sink>(
     ensures text { B.is_honest book.new → B.is_open book.old → Reports
         (day_refusal (B.tables book.old) day) (clearing_text (B.tables book.old) day)
         (K.sent writer.old) (K.sent writer.new) result }
-    ensures writes { B.is_honest book.new → B.is_open book.old
-        → K.failures writer.new ≡ K.failures writer.old + failed_writes result }
+    ensures writes { K.failures writer.new ≡ K.failures writer.old + failed_writes result }
     ensures looks { Looks B.Book book.old book.new (is_settled result) }
-    ensures store { IfStoreFailed result (StoreFailed B.Book book.old book.new) }
+    ensures store { TellsStore B.Book book.old book.new result }
 {
     check_day(book, day)?;
     let names = merchant_names(alloc, book)?;
@@ -65,8 +63,9 @@ fn write_postings<B: Book, K: Sink>(
 ) -> Result<(), ReportFault>
     ensures text { B.is_honest book.new → B.is_open book.old → Writes K.sent K.failures
         (clearing_text (B.tables book.old) day) writer.old writer.new result }
+    ensures writes { K.failures writer.new ≡ K.failures writer.old + failed_writes result }
     ensures looks { Looks B.Book book.old book.new (is_settled result) }
-    ensures store { IfStoreFailed result (HasRisen (B.failures book.old) (B.failures book.new)) }
+    ensures store { CountsStore result (B.failures book.old) (B.failures book.new) }
 {
     let mut report = Report::new(alloc, writer);
     let walked = if report.put(HEADER) {

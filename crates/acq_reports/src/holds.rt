@@ -2,8 +2,7 @@
 
 ghost use Rattle.std.specs.Prelude.{◌≡◌, ◌+◌, IfOk};
 ghost use Rattle.acq_book.specs.Calls.{Looks};
-ghost use Rattle.acq_book.specs.Promise.{HasRisen};
-ghost use Rattle.acq_reports.specs.Faults.{IfStoreFailed, failed_writes, is_settled};
+ghost use Rattle.acq_reports.specs.Faults.{CountsStore, failed_writes, is_settled};
 ghost use Rattle.acq_reports.specs.Marks.{csv_line};
 ghost use Rattle.acq_reports.specs.OpenHolds.{holds_text, hold_fields, is_before_end};
 ghost use Rattle.acq_reports.specs.Refusals.{merchant_refusal};
@@ -41,10 +40,9 @@ pub fn open_holds<B: Book, K: Sink>(
         (merchant_refusal (B.tables book.old) merchant)
         (holds_text (B.tables book.old) merchant moment)
         (K.sent writer.old) (K.sent writer.new) result }
-    ensures writes { B.is_honest book.new → B.is_open book.old
-        → K.failures writer.new ≡ K.failures writer.old + failed_writes result }
+    ensures writes { K.failures writer.new ≡ K.failures writer.old + failed_writes result }
     ensures looks { Looks B.Book book.old book.new (is_settled result) }
-    ensures store { IfStoreFailed result (HasRisen (B.failures book.old) (B.failures book.new)) }
+    ensures store { CountsStore result (B.failures book.old) (B.failures book.new) }
 {
     check_merchant(book, merchant)?;
     write_holds(alloc, book, merchant, moment, writer)
@@ -60,8 +58,9 @@ fn write_holds<B: Book, K: Sink>(
 ) -> Result<(), ReportFault>
     ensures text { B.is_honest book.new → B.is_open book.old → Writes K.sent K.failures
         (holds_text (B.tables book.old) merchant moment) writer.old writer.new result }
+    ensures writes { K.failures writer.new ≡ K.failures writer.old + failed_writes result }
     ensures looks { Looks B.Book book.old book.new (is_settled result) }
-    ensures store { IfStoreFailed result (HasRisen (B.failures book.old) (B.failures book.new)) }
+    ensures store { CountsStore result (B.failures book.old) (B.failures book.new) }
 {
     let mut holds = OpenHolds {
         report: Report::new(alloc, writer),

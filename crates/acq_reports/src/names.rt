@@ -3,7 +3,7 @@
 ghost use Rattle.std.specs.Prelude.{◌≡◌, ◌++◌, ◌∷◌, [], is_ok, IfOk};
 ghost use Rattle.acq_book.specs.Lookups.{merchants_at};
 ghost use Rattle.acq_book.specs.Calls.{Looks};
-ghost use Rattle.acq_book.specs.Promise.{HasRisen, IfStore};
+ghost use Rattle.acq_book.specs.Promise.{CountsFault};
 ghost use Rattle.acq_reports.specs.SettlementReport.{names_of};
 
 use acq_book::{Book, BookFault, Visit};
@@ -41,7 +41,7 @@ pub(crate) fn merchant_names<B: Book>(
     ensures names { B.is_honest book.new → B.is_open book.old → IfOk result (λ names.
         names.items ≡ names_of (merchants_at (B.tables book.old))) }
     ensures looks { Looks B.Book book.old book.new (is_ok result) }
-    ensures store { IfStore result (HasRisen (B.failures book.old) (B.failures book.new)) }
+    ensures store { CountsFault result (B.failures book.old) (B.failures book.new) }
 {
     let mut seen = Names {
         names: Vec::new(alloc),

@@ -1,8 +1,8 @@
 //! What is asked for that can't be given.
 
+ghost use Rattle.std.specs.Prelude.{◌≡◌};
 ghost use Rattle.acq_book.specs.Calls.{Looks};
-ghost use Rattle.acq_book.specs.Promise.{HasRisen};
-ghost use Rattle.acq_reports.specs.Faults.{IfStoreFailed, is_settled};
+ghost use Rattle.acq_reports.specs.Faults.{CountsStore, failed_writes, is_settled};
 ghost use Rattle.acq_reports.specs.Refusals.{day_refusal, merchant_refusal};
 ghost use Rattle.acq_reports.specs.Writing.{Allows};
 
@@ -15,8 +15,9 @@ use day_totals::Day;
 #[tactic(auto, using(crate::proofs::Chains::looks_more))]
 pub(crate) fn check_day<B: Book>(book: &mut B, day: Day) -> Result<(), ReportFault>
     ensures refuses { B.is_open book.new → Allows (day_refusal (B.tables book.old) day) result }
+    ensures unwritten { failed_writes result ≡ 0 }
     ensures looks { Looks B.Book book.old book.new (is_settled result) }
-    ensures store { IfStoreFailed result (HasRisen (B.failures book.old) (B.failures book.new)) }
+    ensures store { CountsStore result (B.failures book.old) (B.failures book.new) }
 {
     let today = book.day()?;
     if day.number() >= today.number() {
@@ -34,8 +35,9 @@ pub(crate) fn check_day<B: Book>(book: &mut B, day: Day) -> Result<(), ReportFau
 pub(crate) fn check_merchant<B: Book>(book: &mut B, id: MerchantId) -> Result<(), ReportFault>
     ensures refuses { B.is_open book.new
         → Allows (merchant_refusal (B.tables book.old) id) result }
+    ensures unwritten { failed_writes result ≡ 0 }
     ensures looks { Looks B.Book book.old book.new (is_settled result) }
-    ensures store { IfStoreFailed result (HasRisen (B.failures book.old) (B.failures book.new)) }
+    ensures store { CountsStore result (B.failures book.old) (B.failures book.new) }
 {
     match book.merchant(id)? {
         Some(_) => Ok(()),

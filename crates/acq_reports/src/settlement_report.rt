@@ -1,12 +1,12 @@
 //! Settlement reports.
 
-ghost use Rattle.std.specs.Prelude.{◌≡◌, ◌+◌, ◌++◌, is_ok, codes};
+ghost use Rattle.std.specs.Prelude.{◌≡◌, ◌+◌, ◌++◌, ℕ, List, is_ok, codes};
 ghost use Rattle.std.specs.Prelude.{IfOk, OnOk, OnErr};
 ghost use Rattle.std.specs.Fmt.{decimal};
 ghost use Rattle.std.specs.List.{flat_map};
 ghost use Rattle.acq_book.specs.Calls.{Looks};
-ghost use Rattle.acq_book.specs.Promise.{HasRisen, IfStore};
-ghost use Rattle.acq_reports.specs.Faults.{IfStoreFailed, StoreFailed, failed_writes, is_settled};
+ghost use Rattle.acq_book.specs.Promise.{CountsFault};
+ghost use Rattle.acq_reports.specs.Faults.{CountsStore, TellsStore, failed_writes, is_settled};
 ghost use Rattle.acq_reports.specs.Marks.{dotted};
 ghost use Rattle.acq_reports.specs.Refusals.{day_refusal};
 ghost use Rattle.acq_reports.specs.SettlementReport.{settlement_text, report_on, merchant_line};
@@ -51,10 +51,9 @@ pub fn settlement<B: Book, K: Sink>(
     ensures text { B.is_honest book.new → B.is_open book.old → Reports
         (day_refusal (B.tables book.old) day) (settlement_text (B.tables book.old) day)
         (K.sent writer.old) (K.sent writer.new) result }
-    ensures writes { B.is_honest book.new → B.is_open book.old
-        → K.failures writer.new ≡ K.failures writer.old + failed_writes result }
+    ensures writes { K.failures writer.new ≡ K.failures writer.old + failed_writes result }
     ensures looks { Looks B.Book book.old book.new (is_settled result) }
-    ensures store { IfStoreFailed result (StoreFailed B.Book book.old book.new) }
+    ensures store { TellsStore B.Book book.old book.new result }
 {
     check_day(book, day)?;
     let names = merchant_names(alloc, book)?;
@@ -72,8 +71,9 @@ fn write_report<B: Book, K: Sink>(
 ) -> Result<(), ReportFault>
     ensures text { B.is_honest book.new → B.is_open book.old → Writes K.sent K.failures
         (report_on (B.tables book.old) day names.now) writer.old writer.new result }
+    ensures writes { K.failures writer.new ≡ K.failures writer.old + failed_writes result }
     ensures looks { Looks B.Book book.old book.new (is_settled result) }
-    ensures store { IfStoreFailed result (HasRisen (B.failures book.old) (B.failures book.new)) }
+    ensures store { CountsStore result (B.failures book.old) (B.failures book.new) }
 {
     let mut report = Report::new(alloc, writer);
     let written = write_lines(book, day, names, &mut report);
@@ -90,8 +90,10 @@ fn write_lines<B: Book, K: Sink>(
 ) -> Result<(), BookFault>
     ensures text { B.is_honest book.new → B.is_open book.old → PutsReport K.sent K.failures
         (report_on (B.tables book.old) day names.now) report.old report.new result }
+    ensures any { (text : List ℕ)
+        × PutsReport K.sent K.failures text report.old report.new result }
     ensures looks { Looks B.Book book.old book.new (is_ok result) }
-    ensures store { IfStore result (HasRisen (B.failures book.old) (B.failures book.new)) }
+    ensures store { CountsFault result (B.failures book.old) (B.failures book.new) }
 {
     let alloc = report.alloc();
     if !report.put_made(first_text(alloc, day)) {
@@ -118,8 +120,10 @@ fn write_merchants<B: Book, K: Sink>(
     ensures text { B.is_honest book.new → B.is_open book.old → PutsLines K.sent K.failures
         (flat_map (merchant_line (B.tables book.old) day) names.now)
         report.old report.new result }
+    ensures any { (text : List ℕ)
+        × PutsLines K.sent K.failures text report.old report.new result }
     ensures looks { Looks B.Book book.old book.new (is_ok result) }
-    ensures store { IfStore result (HasRisen (B.failures book.old) (B.failures book.new)) }
+    ensures store { CountsFault result (B.failures book.old) (B.failures book.new) }
 {
     for name in names.iter() {
         match write_merchant(book, day, *name, report) {
@@ -141,9 +145,11 @@ fn write_merchant<B: Book, K: Sink>(
 ) -> Result<bool, BookFault>
     ensures put { B.is_open book.new → IfOk result (λ more. Puts K.sent K.failures
         (merchant_line (B.tables book.old) day name) report.old more report.new) }
+    ensures any { (text : List ℕ)
+        × PutsLines K.sent K.failures text report.old report.new result }
     ensures unput { OnErr result (report.new ≡ report.old) }
     ensures looks { Looks B.Book book.old book.new (is_ok result) }
-    ensures store { IfStore result (HasRisen (B.failures book.old) (B.failures book.new)) }
+    ensures store { CountsFault result (B.failures book.old) (B.failures book.new) }
 {
     let totals = book.totals(name, day)?;
     let last = book.last_reconciliation(name, day)?;

@@ -5,9 +5,9 @@ ghost use Rattle.std.specs.HashMap.{get};
 ghost use Rattle.acq_core.specs.declared.posting.Posting as rows;
 ghost use Rattle.acq_book.specs.Calls.{Looks};
 ghost use Rattle.acq_book.specs.Keys.{merchant_eq};
-ghost use Rattle.acq_book.specs.Promise.{HasRisen, IfStore};
+ghost use Rattle.acq_book.specs.Promise.{HasRisen};
 ghost use Rattle.acq_reports.specs.DaySums.{AddUpTo, AreSumsOf, idle_among, sums_at};
-ghost use Rattle.acq_reports.specs.Faults.{StoreFailed};
+ghost use Rattle.acq_reports.specs.Faults.{StoreFailed, TellsFault};
 
 use crate::merchant_sums::MerchantSums;
 use acq_book::{Book, BookFault, Visit};
@@ -97,7 +97,8 @@ pub(crate) fn check_sums<B: Book>(
     enrolled: &[MerchantId],
 ) -> Result<(), BookFault>
     ensures looks { Looks B.Book book.old book.new (is_ok result) }
-    ensures store { IfStore result (StoreFailed B.Book book.old book.new) }
+    ensures store { TellsFault result (StoreFailed B.Book book.old book.new)
+        (B.failures book.old) (B.failures book.new) }
 {
     let mut sums = Sums {
         merchants: Vec::new(alloc),
@@ -121,9 +122,10 @@ fn check_totals<B: Book>(
     by_merchant: &HashMap<MerchantId, MerchantSums>,
 ) -> Result<(), BookFault>
     ensures looks { Looks B.Book book.old book.new (is_ok result) }
-    ensures store { IfStore result (HasRisen (B.failures book.old) (B.failures book.new)
+    ensures store { TellsFault result (HasRisen (B.failures book.old) (B.failures book.new)
         ⊎ ¬ (B.is_honest book.new × B.is_open book.old
-        × AddUpTo (B.tables book.old) day by_merchant.now)) }
+        × AddUpTo (B.tables book.old) day by_merchant.now))
+        (B.failures book.old) (B.failures book.new) }
 {
     for name in names.iter() {
         let totals = book.totals(*name, day)?;

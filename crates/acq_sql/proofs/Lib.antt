@@ -1,2 +1,3 @@
 pub mod BookLooks
 pub mod BookMakes
+pub mod PastRows

@@ -1,7 +1,7 @@
 //! Answers of the database, and what a book says of them.
 
 ghost use Rattle.std.specs.Prelude.{◌≡◌, ◌≤◌, Err, IfErr, IfOk, Ok, is_ok};
-ghost use Rattle.acq_book.specs.Promise.{HasRisen, IfStore};
+ghost use Rattle.acq_book.specs.Promise.{CountsFault};
 ghost use Rattle.acq_sql.specs.Faults.{book_fault_of, failures_after};
 
 use acq_book::BookFault;
@@ -14,7 +14,7 @@ pub(crate) fn counted<T>(failures: &mut u64, answer: Result<T, Error>) -> Result
     ensures fault { IfErr answer (λ e. result ≡ Err (book_fault_of e)) }
     ensures succeeds { is_ok result ≡ is_ok answer }
     ensures count { failures.new ≡ failures_after failures.old result }
-    ensures store { IfStore result (HasRisen failures.old failures.new) }
+    ensures store { CountsFault result failures.old failures.new }
     ensures rise { failures.old ≤ failures.new }
 {
     match answer {

@@ -124,7 +124,7 @@ wrote {before = before} so_far changed write =
     }
 
 -- what the lists come to with what came has room in the running totals
-has_room : (t : Tables) (runs : List Running) (merchant : List ℕ) (day : ℕ) (more : Tally)
+pub has_room : (t : Tables) (runs : List Running) (merchant : List ℕ) (day : ℕ) (more : Tally)
     → Tallies (raised merchant day more runs) t → HasShortDays t
     → FitsTally (plus (tally_in runs merchant day) more)
 has_room t runs merchant day more tallied short =

@@ -5,6 +5,13 @@ pub mod MovedTables
 pub mod RangeMoves
 pub mod VersionMoves
 pub mod Moves
+pub mod TextEnds
+pub mod ReplyLengths
+pub mod TableRules
+pub mod NewRowsTaken
+pub mod RequestsTaken
+pub mod RangesTaken
+pub mod RaisesTaken
 pub mod Refusals
 pub mod Inside
 pub mod Bound

@@ -1,3 +1,4 @@
 pub mod Changed
 pub mod Written
 pub mod Widened
+pub mod Refused

@@ -2,11 +2,13 @@
 
 ghost use Rattle.std.specs.Prelude.{◌≡◌, false, None};
 ghost use Rattle.sqlite.specs.Held.{state};
+ghost use Rattle.acq_core.specs.declared.change.Change.TheVariants as change;
 ghost use Rattle.iso_codec.specs.Message.{IsMessage};
 ghost use Rattle.iso_codec.specs.Reading.{spelling};
 ghost use Rattle.acq_sql_changes.specs.Written.{IsShortEnd};
 ghost use Rattle.acq_sql_changes.specs.Changed.{ChangesWhole, AnyTables};
 ghost use Rattle.acq_sql_changes.specs.Changed.{with_whole_answer};
+ghost use Rattle.acq_sql_changes.specs.Refused.{FailsAmong};
 
 use crate::issuer_answer::IssuerAnswer;
 use crate::writes::answer_request;
@@ -21,9 +23,12 @@ pub fn answer<'x, S: Alter>(
     requires whole { IsMessage answer.now.reply.now }
     requires spelled { answer.now.text.now ≡ spelling answer.now.reply.now }
     requires hold_end { IsShortEnd answer.now.hold_end }
-    ensures { ChangesWhole (state S.Store conn.old) (state S.Store conn.new) result AnyTables
+    ensures whole { ChangesWhole (state S.Store conn.old) (state S.Store conn.new) result AnyTables
         (with_whole_answer answer.now.key answer.now.status answer.now.reply.now
         answer.now.hold_end None) }
+    ensures fails { FailsAmong (state S.Store conn.old) (state S.Store conn.new) result
+        (change.Answered answer.now.key answer.now.status answer.now.reply.now
+        answer.now.hold_end None) AnyTables }
 {
     let mut tx = conn.transaction();
     answer_request(

@@ -2,8 +2,10 @@
 
 ghost use Rattle.std.specs.Prelude.{◌≡◌, false};
 ghost use Rattle.sqlite.specs.Held.{state};
+ghost use Rattle.acq_core.specs.declared.change.Change.TheVariants as change;
 ghost use Rattle.acq_sql_changes.specs.Written.{on_day};
 ghost use Rattle.acq_sql_changes.specs.Changed.{ChangesWhole, AnyTables};
+ghost use Rattle.acq_sql_changes.specs.Refused.{FailsAmong};
 
 use crate::writes::set_day;
 use day_totals::Day;
@@ -12,8 +14,10 @@ use sqlite::{Alter, Connection, Error};
 /// Begins a business day.
 pub fn cut_over<S: Alter>(conn: &mut Connection<S>, day: Day) -> Result<(), Error>
     requires settled { conn.old.in_transaction ≡ false }
-    ensures { ChangesWhole (state S.Store conn.old) (state S.Store conn.new) result AnyTables
+    ensures whole { ChangesWhole (state S.Store conn.old) (state S.Store conn.new) result AnyTables
         (on_day day) }
+    ensures fails { FailsAmong (state S.Store conn.old) (state S.Store conn.new) result
+        (change.SetDay day) AnyTables }
 {
     let mut tx = conn.transaction();
     set_day(&mut tx, day)?;

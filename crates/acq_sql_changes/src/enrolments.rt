@@ -2,8 +2,10 @@
 
 ghost use Rattle.std.specs.Prelude.{◌≡◌, false};
 ghost use Rattle.sqlite.specs.Held.{state};
+ghost use Rattle.acq_core.specs.declared.change.Change.TheVariants as change;
 ghost use Rattle.acq_sql_changes.specs.Written.{with_merchant, with_terminal};
 ghost use Rattle.acq_sql_changes.specs.Changed.{ChangesWhole, AnyTables};
+ghost use Rattle.acq_sql_changes.specs.Refused.{FailsAmong};
 
 use crate::writes::{add_merchant, add_terminal};
 use acq_core::{Merchant, Terminal};
@@ -12,8 +14,10 @@ use sqlite::{Alter, Connection, Error};
 /// Enrols a merchant.
 pub fn enrol<S: Alter>(conn: &mut Connection<S>, merchant: &Merchant) -> Result<(), Error>
     requires settled { conn.old.in_transaction ≡ false }
-    ensures { ChangesWhole (state S.Store conn.old) (state S.Store conn.new) result AnyTables
+    ensures whole { ChangesWhole (state S.Store conn.old) (state S.Store conn.new) result AnyTables
         (with_merchant merchant.now) }
+    ensures fails { FailsAmong (state S.Store conn.old) (state S.Store conn.new) result
+        (change.AddMerchant merchant.now) AnyTables }
 {
     let mut tx = conn.transaction();
     add_merchant(&mut tx, merchant)?;
@@ -23,8 +27,10 @@ pub fn enrol<S: Alter>(conn: &mut Connection<S>, merchant: &Merchant) -> Result<
 /// Adds a terminal.
 pub fn enrol_terminal<S: Alter>(conn: &mut Connection<S>, terminal: &Terminal) -> Result<(), Error>
     requires settled { conn.old.in_transaction ≡ false }
-    ensures { ChangesWhole (state S.Store conn.old) (state S.Store conn.new) result AnyTables
+    ensures whole { ChangesWhole (state S.Store conn.old) (state S.Store conn.new) result AnyTables
         (with_terminal terminal.now) }
+    ensures fails { FailsAmong (state S.Store conn.old) (state S.Store conn.new) result
+        (change.AddTerminal terminal.now) AnyTables }
 {
     let mut tx = conn.transaction();
     add_terminal(&mut tx, terminal)?;

@@ -2,11 +2,13 @@
 
 ghost use Rattle.std.specs.Prelude.{◌≡◌, ◌<◌, ◌^◌, false, None, Some};
 ghost use Rattle.sqlite.specs.Held.{state};
+ghost use Rattle.acq_core.specs.declared.change.Change.TheVariants as change;
 ghost use Rattle.iso_codec.specs.Message.{IsMessage};
 ghost use Rattle.iso_codec.specs.Reading.{spelling};
 ghost use Rattle.acq_sql_changes.specs.Written.{IsShortEnd};
-ghost use Rattle.acq_sql_changes.specs.Changed.{ChangesWhole};
+ghost use Rattle.acq_sql_changes.specs.Changed.{ChangesWhole, AnyTables};
 ghost use Rattle.acq_sql_changes.specs.Changed.{HasRoomFor, HasRoomToFollow, with_follow};
+ghost use Rattle.acq_sql_changes.specs.Refused.{FailsAmong, IsNextPosting};
 
 use crate::tallies::{totals_of_posting, used_by};
 use crate::writes::{add_posting, add_request, follow_request, raise};
@@ -27,8 +29,10 @@ pub fn follow<'x, S: Alter>(
     requires whole { IsMessage request.now.reply }
     requires spelled { reply.now ≡ spelling request.now.reply }
     requires hold_end { IsShortEnd request.now.hold_end }
-    ensures { ChangesWhole (state S.Store conn.old) (state S.Store conn.new) result
+    ensures whole { ChangesWhole (state S.Store conn.old) (state S.Store conn.new) result
         (HasRoomFor request.now) (with_follow request.now original remains None) }
+    ensures fails { FailsAmong (state S.Store conn.old) (state S.Store conn.new) result
+        (change.Follow request.now original remains None) AnyTables }
 {
     let used = used_by(request);
     let none = Totals::zero();
@@ -55,9 +59,12 @@ pub fn follow_and_post<'x, S: Alter>(
     requires spelled { reply.now ≡ spelling request.now.reply }
     requires hold_end { IsShortEnd request.now.hold_end }
     requires number { number < 2 ^ 63 }
-    ensures { ChangesWhole (state S.Store conn.old) (state S.Store conn.new) result
+    ensures whole { ChangesWhole (state S.Store conn.old) (state S.Store conn.new) result
         (HasRoomToFollow request.now number posting.now)
         (with_follow request.now original remains (Some posting.now)) }
+    ensures fails { FailsAmong (state S.Store conn.old) (state S.Store conn.new) result
+        (change.Follow request.now original remains (Some posting.now))
+        (IsNextPosting number posting.now) }
 {
     let used = used_by(request);
     let posted = totals_of_posting(posting);

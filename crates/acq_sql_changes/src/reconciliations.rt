@@ -2,11 +2,13 @@
 
 ghost use Rattle.std.specs.Prelude.{◌≡◌, ◌<◌, ◌^◌, false};
 ghost use Rattle.sqlite.specs.Held.{state};
+ghost use Rattle.acq_core.specs.declared.change.Change.TheVariants as change;
 ghost use Rattle.iso_codec.specs.Message.{IsMessage};
 ghost use Rattle.iso_codec.specs.Reading.{spelling};
 ghost use Rattle.acq_sql_changes.specs.Written.{IsShortEnd};
 ghost use Rattle.acq_sql_changes.specs.Changed.{ChangesWhole};
 ghost use Rattle.acq_sql_changes.specs.Changed.{HasRoomToReconcile, with_reconciled};
+ghost use Rattle.acq_sql_changes.specs.Refused.{FailsAmong, IsNextReconciliation};
 
 use crate::tallies::used_by;
 use crate::writes::{add_reconciliation, add_request, raise};
@@ -28,9 +30,12 @@ pub fn reconcile<'x, S: Alter>(
     requires spelled { reply.now ≡ spelling request.now.reply }
     requires hold_end { IsShortEnd request.now.hold_end }
     requires number { number < 2 ^ 63 }
-    ensures { ChangesWhole (state S.Store conn.old) (state S.Store conn.new) result
+    ensures whole { ChangesWhole (state S.Store conn.old) (state S.Store conn.new) result
         (HasRoomToReconcile request.now number reconciliation.now)
         (with_reconciled request.now reconciliation.now) }
+    ensures fails { FailsAmong (state S.Store conn.old) (state S.Store conn.new) result
+        (change.Reconciled request.now reconciliation.now)
+        (IsNextReconciliation number reconciliation.now) }
 {
     let used = used_by(request);
     let none = Totals::zero();

@@ -2,11 +2,13 @@
 
 ghost use Rattle.std.specs.Prelude.{◌≡◌, false};
 ghost use Rattle.sqlite.specs.Held.{state};
+ghost use Rattle.acq_core.specs.declared.change.Change.TheVariants as change;
 ghost use Rattle.iso_codec.specs.Message.{IsMessage};
 ghost use Rattle.iso_codec.specs.Reading.{spelling};
 ghost use Rattle.acq_sql_changes.specs.Written.{with_request, IsShortEnd};
 ghost use Rattle.acq_sql_changes.specs.Changed.{ChangesWhole};
-ghost use Rattle.acq_sql_changes.specs.Changed.{HasRoomFor};
+ghost use Rattle.acq_sql_changes.specs.Changed.{AnyTables, HasRoomFor};
+ghost use Rattle.acq_sql_changes.specs.Refused.{FailsAmong};
 
 use crate::tallies::used_by;
 use crate::writes::{add_request, raise};
@@ -24,8 +26,10 @@ pub fn record_request<'x, S: Alter>(
     requires whole { IsMessage request.now.reply }
     requires spelled { reply.now ≡ spelling request.now.reply }
     requires hold_end { IsShortEnd request.now.hold_end }
-    ensures { ChangesWhole (state S.Store conn.old) (state S.Store conn.new) result
+    ensures whole { ChangesWhole (state S.Store conn.old) (state S.Store conn.new) result
         (HasRoomFor request.now) (with_request request.now) }
+    ensures fails { FailsAmong (state S.Store conn.old) (state S.Store conn.new) result
+        (change.AddRequest request.now) AnyTables }
 {
     let used = used_by(request);
     let none = Totals::zero();

@@ -1,49 +1,73 @@
 -- When a look-up fails.
-use Rattle.std.proofs.Common.{◌≡◌, ◌≢◌, inl, ℕ, ◌≤◌, true, List, [], ◌∷◌, length}
-use Rattle.std.proofs.Common.{Result, Ok, Err, IfErr, Option, None, Some, refl, sym, ap, ◌∙◌, arith}
-use Rattle.std.proofs.Common.{Bool, find, option_map, slice_get, nat_le}
-use Rattle.std.specs.Prelude.{All}
+use Rattle.std.proofs.Common.{◌≡◌, ◌≢◌, ◌↔◌, inl, inr, ℕ, zero, suc, ◌<◌, ◌≤◌, Bool, true}
+use Rattle.std.proofs.Common.{true≢false}
+use Rattle.std.proofs.Common.{List, [], ◌∷◌, length, find, slice_get, slice_index_or, Option, None}
+use Rattle.std.proofs.Common.{Some, IsSome, SomeIff, option_map, Result, Ok, Err, IfErr, nat_le}
+use Rattle.std.proofs.Common.{refl, sym, ap, ◌∙◌, subst, arith}
+use Rattle.std.specs.Prelude.{All, IfSome}
+use Rattle.std.specs.List.{list_all}
 use Rattle.std.specs.Option.{option_to_list}
 use Rattle.std.specs.Str.{bytes_eq}
+use Rattle.std.proofs.Math.Nat.{min-eq_left}
 use Rattle.std.proofs.lemmas.Bool.{and_parts, leb-true, le-leb}
 use Rattle.std.proofs.lemmas.List.Elements.{All-contains}
 use Rattle.sqlite_value.specs.Order.{Row, column}
 use Rattle.sqlite_value.specs.declared.value.Value.TheVariants.{Text}
 use Rattle.sqlite_value.specs.declared.keys.Key.{Key}
-use Rattle.sqlite_sql.specs.Term.{Term}
+use Rattle.sqlite_sql.specs.Aggregate.{count}
+use Rattle.sqlite_sql.specs.Group.{Aggregate, value_over}
+use Rattle.sqlite_sql.specs.Query.{Query}
+use Rattle.sqlite_sql.specs.Term.{Term, Env}
+use Rattle.sqlite_schema.specs.declared.command.Command.TheVariants.{Select}
+use Rattle.sqlite_rules.specs.Lists.{Has}
+use Rattle.sqlite_rules.proofs.ListLemmas.{has_found, test_has}
 use Rattle.sqlite_typing.specs.Types.{accepts_program}
 use Rattle.sqlite_tied.specs.Compute.{everything}
 use Rattle.sqlite.specs.declared.error.Error.{Error}
+use Rattle.sqlite.specs.declared.error.Error.TheVariants.{SqliteFailure}
+use Rattle.sqlite.specs.declared.error.ErrorCode.TheVariants.{DatabaseCorrupt}
+use Rattle.sqlite.specs.Effect.{Database, RefusesQuery}
 use Rattle.sqlite.specs.Listing.{understood}
-use Rattle.sqlite.specs.State.{State, HasCleanDisk, FailsToQuery}
+use Rattle.sqlite.specs.State.{State, HasCleanDisk, FailsToQuery, Survives}
 use Rattle.row_lemmas.specs.Excused.{IsExcused}
-use Rattle.row_lemmas.specs.Queries.{table_query}
-use Rattle.row_lemmas.specs.Values.{number}
-use Rattle.row_lemmas.proofs.StatementFailures.{tail_of, names_of}
-use Rattle.row_lemmas.proofs.QueriesSucceed.{query_excused}
+use Rattle.row_lemmas.specs.Queries.{table_query, alone, counting}
+use Rattle.row_lemmas.specs.Values.{number, number_or_null}
+use Rattle.row_lemmas.proofs.StatementFailures.{tail_of, names_of, fails_to_show}
+use Rattle.row_lemmas.proofs.QueriesSucceed.{query_succeeds}
+use Rattle.iso_codec.specs.Reading.{spelling}
+use Rattle.iso_codec.proofs.ReadingComputes.{reads_as}
+use Rattle.iso_codec.proofs.SpellingComputes.{spelling_writes}
+use Rattle.iso_codec.proofs.WrittenIsRead.{is_read}
+use Rattle.card_no.specs.declared.range.Range.{Range}
+use Rattle.card_no.specs.Ranges.{are_apart, between, is_valid_range, overlaps}
 use Rattle.day_totals.specs.Day.{IsDayNumber}
-use Rattle.acq_core.specs.declared.merchant.Merchant.{Merchant}
+use Rattle.day_totals.specs.Totals.{DayTotals, AreWithinLimits}
+use Rattle.acq_message.specs.declared.request_key.RequestKey.{RequestKey}
+use Rattle.acq_message.specs.Elements.{same_key}
+use Rattle.acq_message.specs.Numbers.{is_number, is_reference}
 use Rattle.acq_core.specs.declared.reconciliation.Reconciliation.{Reconciliation}
-use Rattle.acq_core.specs.Numbers.{is_limit, is_used_count, greatest_limit}
+use Rattle.acq_core.specs.declared.request.Request.{Request}
+use Rattle.acq_core.specs.Numbers.{is_admitted_count, is_limit, is_used_count, greatest_limit}
 use Rattle.acq_core.specs.Pasts.{HasPast}
-use Rattle.acq_core.specs.Tables.{Tables}
-use Rattle.acq_book.specs.Lookups.{merchant_at}
-use Rattle.acq_history.specs.Rows.{FitsMerchant, HasFittingRows}
+use Rattle.acq_core.specs.Tables.{Tables, requests_of}
+use Rattle.acq_book.specs.Lookups.{admitted_at, merchant_at, overlapping_at, referred_at}
+use Rattle.acq_book.specs.Lookups.{request_at}
+use Rattle.acq_history.specs.Rows.{FitsMerchant, FitsRequest, HasFittingRows}
 use Rattle.acq_history.proofs.BooksAreSound.{books_are_sound}
-use Rattle.acq_history.proofs.Members.{from_In, In-find}
-use Rattle.acq_sql_rows.specs.Rows.{merchant_row}
+use Rattle.acq_history.proofs.Members.{In, from_In, In-filtered, In-find}
+use Rattle.acq_sql_rows.specs.Rows.{version, key_row, merchant_row, request_row, tally_row}
 use Rattle.acq_sql_rows.specs.Tallies.{tally_of}
 use Rattle.acq_sql_rows.specs.Schema.{book_schema}
 use Rattle.acq_sql_rows.specs.Schema as schema
-use Rattle.acq_sql_reads.specs.Failing.{FailsForMemory, FailsOnlyExcused}
-use Rattle.acq_sql_reads.specs.Failing.{IsMerchantRow, IsBalanceRow}
-use Rattle.acq_sql_reads.specs.Failing.{IsTallyRow}
-use Rattle.std.proofs.Common.{◌↔◌, IsSome, SomeIff, subst, true≢false}
-use Rattle.sqlite.specs.declared.error.ErrorCode.TheVariants.{DatabaseCorrupt}
-use Rattle.sqlite.specs.declared.error.Error.TheVariants.{SqliteFailure}
-use Rattle.day_totals.specs.Totals.{DayTotals, AreWithinLimits}
-use Rattle.acq_sql_rows.specs.Rows.{tally_row}
-use Rattle.acq_sql_reads.specs.Looked.{ShowsTally, balance_cells}
+use Rattle.acq_sql_changes.specs.Changed.{IsAtOf}
+use Rattle.acq_sql_reads.specs.Failing.{FailsForMemory, FailsOnlyExcused, IsBalanceRow}
+use Rattle.acq_sql_reads.specs.Failing.{IsMerchantRow, IsRangeRow, IsRequestRow, IsTallyRow}
+use Rattle.acq_sql_reads.specs.Failing.{IsTold}
+use Rattle.acq_sql_reads.specs.Looked.{IsNearest, LooksOnly, ShowsGreatest, ShowsTally}
+use Rattle.acq_sql_reads.specs.Looked.{TellsCount, count_up_to}
+use Rattle.acq_sql_reads.specs.Looked.{balance_cells, range_cells}
+use Rattle.acq_sql_reads.specs.Recorded.{ShowsRequest}
+use Rattle.acq_sql_reads.proofs.Leaves.{at_unchanged, clean_before}
 use Rattle.acq_sql_reads.proofs.RowReads.{first_row}
 use Rattle.acq_sql_reads.specs.Texts as text
 use Rattle.acq_sql_reads.specs.Queries as query
@@ -53,9 +77,9 @@ use Rattle.acq_sql_reads.proofs.TextLemmas as asks
 -- ---- a SELECT
 
 -- it has so many parameters, and nothing behind it
-record IsAlone (text : List ℕ) (many : ℕ) : Type 0 where
-  whole : tail_of (understood book_schema text) ≡ length text
-  given : names_of (understood book_schema text) ≡ many
+pub record IsAlone (text : List ℕ) (many : ℕ) : Type 0 where
+  pub whole : tail_of (understood book_schema text) ≡ length text
+  pub given : names_of (understood book_schema text) ≡ many
 
 business_alone : IsAlone text.business_text 0
 unfolding understood everything book_schema schema.up_to_reconciliations schema.up_to_postings
@@ -87,6 +111,42 @@ unfolding understood everything book_schema schema.up_to_reconciliations schema.
     schema.up_to_book
 reconciliation_alone = record { whole = refl; given = refl }
 
+nearest_alone : IsAlone text.nearest_text 1
+unfolding understood everything book_schema schema.up_to_reconciliations schema.up_to_postings
+    schema.up_to_requests schema.up_to_ranges schema.up_to_terminals schema.up_to_merchants
+    schema.up_to_book
+nearest_alone = record { whole = refl; given = refl }
+
+overlapping_alone : IsAlone text.overlapping_text 2
+unfolding understood everything book_schema schema.up_to_reconciliations schema.up_to_postings
+    schema.up_to_requests schema.up_to_ranges schema.up_to_terminals schema.up_to_merchants
+    schema.up_to_book
+overlapping_alone = record { whole = refl; given = refl }
+
+pending_alone : IsAlone text.pending_text 1
+unfolding understood everything book_schema schema.up_to_reconciliations schema.up_to_postings
+    schema.up_to_requests schema.up_to_ranges schema.up_to_terminals schema.up_to_merchants
+    schema.up_to_book
+pending_alone = record { whole = refl; given = refl }
+
+request_alone : IsAlone text.request_text 5
+unfolding understood everything book_schema schema.up_to_reconciliations schema.up_to_postings
+    schema.up_to_requests schema.up_to_ranges schema.up_to_terminals schema.up_to_merchants
+    schema.up_to_book
+request_alone = record { whole = refl; given = refl }
+
+reference_alone : IsAlone text.reference_text 2
+unfolding understood everything book_schema schema.up_to_reconciliations schema.up_to_postings
+    schema.up_to_requests schema.up_to_ranges schema.up_to_terminals schema.up_to_merchants
+    schema.up_to_book
+reference_alone = record { whole = refl; given = refl }
+
+greatest_alone : IsAlone text.greatest_text 1
+unfolding understood everything book_schema schema.up_to_reconciliations schema.up_to_postings
+    schema.up_to_requests schema.up_to_ranges schema.up_to_terminals schema.up_to_merchants
+    schema.up_to_book
+greatest_alone = record { whole = refl; given = refl }
+
 typed_business : accepts_program book_schema [] query.business_query [] ≡ true
 unfolding book_schema schema.up_to_reconciliations schema.up_to_postings schema.up_to_requests
     schema.up_to_ranges schema.up_to_terminals schema.up_to_merchants schema.up_to_book
@@ -117,10 +177,94 @@ unfolding book_schema schema.up_to_reconciliations schema.up_to_postings schema.
     schema.up_to_ranges schema.up_to_terminals schema.up_to_merchants schema.up_to_book
 typed_reconciliation day merchant = refl
 
+typed_nearest : (prefix : ℕ)
+    → accepts_program book_schema [] query.nearest_query (number prefix ∷ []) ≡ true
+unfolding book_schema schema.up_to_reconciliations schema.up_to_postings schema.up_to_requests
+    schema.up_to_ranges schema.up_to_terminals schema.up_to_merchants schema.up_to_book
+typed_nearest prefix = refl
+
+typed_overlapping : (low high : ℕ)
+    → accepts_program book_schema [] query.overlapping_query (number low ∷ number high ∷ []) ≡ true
+unfolding book_schema schema.up_to_reconciliations schema.up_to_postings schema.up_to_requests
+    schema.up_to_ranges schema.up_to_terminals schema.up_to_merchants schema.up_to_book
+typed_overlapping low high = refl
+
+typed_request : (key : RequestKey)
+    → accepts_program book_schema [] query.request_query (key_row key) ≡ true
+unfolding book_schema schema.up_to_reconciliations schema.up_to_postings schema.up_to_requests
+    schema.up_to_ranges schema.up_to_terminals schema.up_to_merchants schema.up_to_book
+typed_request key = refl
+
+typed_reference : (merchant : List ℕ) (n : ℕ)
+    → accepts_program book_schema [] query.reference_query (Text merchant ∷ number n ∷ []) ≡ true
+unfolding book_schema schema.up_to_reconciliations schema.up_to_postings schema.up_to_requests
+    schema.up_to_ranges schema.up_to_terminals schema.up_to_merchants schema.up_to_book
+typed_reference merchant n = refl
+
+typed_greatest : (merchant : List ℕ)
+    → accepts_program book_schema [] query.greatest_query (Text merchant ∷ []) ≡ true
+unfolding book_schema schema.up_to_reconciliations schema.up_to_postings schema.up_to_requests
+    schema.up_to_ranges schema.up_to_terminals schema.up_to_merchants schema.up_to_book
+typed_greatest merchant = refl
+
+typed_pending : (day : ℕ)
+    → accepts_program book_schema [] query.pending_query (number day ∷ []) ≡ true
+unfolding book_schema schema.up_to_reconciliations schema.up_to_postings schema.up_to_requests
+    schema.up_to_ranges schema.up_to_terminals schema.up_to_merchants schema.up_to_book
+typed_pending day = refl
+
+-- the book's database refuses no query of this kind
+abbrev pub IsNeverRefused : Query → Row → Type 0
+IsNeverRefused q params =
+    (db : Database) (e : Error) → db.schema ≡ book_schema
+    → ¬ RefusesQuery None db (alone q) params e
+
+-- count(*) always tells a number
+counted : (group : List Env) (j : ℕ) (a : Aggregate) → j < 1
+    → slice_index_or counting.aggregates j a ≡ a → value_over group a ≡ None → ⊥
+counted group zero a low at none =
+    let one = subst (λ (b : Aggregate). value_over group b ≡ None) (sym at) none in cc
+counted group (suc j) a low at none = absurd (omega arith)
+
+pending_succeeds : (day : ℕ) → IsNeverRefused query.pending_query (number day ∷ [])
+pending_succeeds day db e has (inl h) =
+    true≢false (sym (typed_pending day)
+    ∙ ap (λ s. accepts_program s [] query.pending_query (number day ∷ [])) (sym has) ∙ h.1)
+pending_succeeds day db e has
+    (inr (inl (is, inl (groups, all, (k, group, low, at, (j, a, below, here, none)))))) =
+    counted group j a below here none
+pending_succeeds day db e has (inr (inl (is, inr (i, d, low, at, none)))) = absurd none
+pending_succeeds day db e has (inr (inr h)) = true≢false (sym h.1)
+
+-- so the query fails only for memory or since the store failed
+pub query_excused : (old new : State) (sql : List ℕ) (params : Row) (q : Query)
+    (names : List (List ℕ)) → Asks sql q names → IsAlone sql (length params)
+    → IsNeverRefused q params → (t : Tables) → IsAtOf version old t → old.step_limit ≡ None
+    → (e : Error) → FailsToQuery sql params old new e → IsExcused old new e
+query_excused old new sql params q names ask lone succeeds t at free e h =
+    elim (fails_to_show sql params old new book_schema at.holds.rows.schema
+    (Select (alone q) names) ask.is ask.plain (omega (arith, lone.whole)) (sym lone.given)
+    at.is_open (alone q) names refl ask.unlisted e h) [
+      | inl why ↦ why
+      | inr refuses ↦ absurd (succeeds old.now e at.holds.rows.schema
+          (subst (λ l. RefusesQuery l old.now (alone q) params e) free refuses))
+    ]
+
 module _ {V : Type 0} (old new : State) (res : Result V Error) where
   -- it failed to show its rows
   abbrev Failed : List ℕ → Row → Type 0
   Failed sql params = HasCleanDisk new → IfErr res (FailsToQuery sql params old new)
+
+  never : (sql : List ℕ) (params : Row) (q : Query) (names : List (List ℕ)) → Asks sql q names
+      → IsAlone sql (length params) → IsNeverRefused q params
+      → Failed sql params → FailsOnlyExcused old new res
+  never sql params q names ask lone succeeds failed clean t at past free =
+      go res (failed clean)
+    where
+      go : (r : Result V Error) → IfErr r (FailsToQuery sql params old new)
+          → IfErr r (IsExcused old new)
+      go (Ok x) h = tt
+      go (Err e) h = query_excused old new sql params q names ask lone succeeds t at free e h
 
   fails : (sql : List ℕ) (params : Row) (t : ℕ) (test project : List Term)
       (order : List (Term × Key)) (limit : Term) (names : List (List ℕ))
@@ -128,11 +272,9 @@ module _ {V : Type 0} (old new : State) (res : Result V Error) where
       → IsAlone sql (length params)
       → accepts_program book_schema [] (table_query t test None project order limit) params ≡ true
       → Failed sql params → FailsOnlyExcused old new res
-  fails sql params t test project order limit names ask lone typed failed clean tables at past
-      free =
-      query_excused t test project order limit book_schema params typed sql old new names res
-      at.holds.rows.schema ask.is ask.plain (omega (arith, lone.whole)) (sym lone.given)
-      ask.unlisted at.is_open free (failed clean)
+  fails sql params t test project order limit names ask lone typed =
+      never sql params _ names ask lone
+      (query_succeeds t test project order limit book_schema params typed)
 
   pub business_fails : Failed text.business_text [] → FailsOnlyExcused old new res
   business_fails =
@@ -163,6 +305,44 @@ module _ {V : Type 0} (old new : State) (res : Result V Error) where
       fails text.reconciliation_text (number day ∷ Text merchant ∷ []) _ _ _ _ _ _
       asks.reconciliation_asks reconciliation_alone (typed_reconciliation day merchant)
 
+  pub nearest_fails : (prefix : ℕ) → Failed text.nearest_text (number prefix ∷ [])
+      → FailsOnlyExcused old new res
+  nearest_fails prefix =
+      fails text.nearest_text (number prefix ∷ []) _ _ _ _ _ _ asks.nearest_asks nearest_alone
+      (typed_nearest prefix)
+
+  pub overlapping_fails : (low high : ℕ)
+      → Failed text.overlapping_text (number low ∷ number high ∷ [])
+      → FailsOnlyExcused old new res
+  overlapping_fails low high =
+      fails text.overlapping_text (number low ∷ number high ∷ []) _ _ _ _ _ _
+      asks.overlapping_asks overlapping_alone (typed_overlapping low high)
+
+  pub request_fails : (key : RequestKey) → Failed text.request_text (key_row key)
+      → FailsOnlyExcused old new res
+  request_fails key =
+      fails text.request_text (key_row key) _ _ _ _ _ _ asks.request_asks request_alone
+      (typed_request key)
+
+  pub reference_fails : (merchant : List ℕ) (n : ℕ)
+      → Failed text.reference_text (Text merchant ∷ number n ∷ [])
+      → FailsOnlyExcused old new res
+  reference_fails merchant n =
+      fails text.reference_text (Text merchant ∷ number n ∷ []) _ _ _ _ _ _
+      asks.reference_asks reference_alone (typed_reference merchant n)
+
+  pub greatest_fails : (merchant : List ℕ) → Failed text.greatest_text (Text merchant ∷ [])
+      → FailsOnlyExcused old new res
+  greatest_fails merchant =
+      fails text.greatest_text (Text merchant ∷ []) _ _ _ _ _ _ asks.greatest_asks greatest_alone
+      (typed_greatest merchant)
+
+  pub pending_fails : (day : ℕ) → Failed text.pending_text (number day ∷ [])
+      → FailsOnlyExcused old new res
+  pending_fails day =
+      never text.pending_text (number day ∷ []) query.pending_query _ asks.pending_asks
+      pending_alone (pending_succeeds day)
+
 -- ---- a row that was found
 
 -- want of memory is excused
@@ -189,6 +369,14 @@ pub one_first : (rows : List Row) (row first : Row) → rows ≡ first ∷ []
 one_first rows row first are some =
     let e : Some row ≡ Some first = some ∙ ap (λ l. slice_get l 0) are in cc
 
+-- the row of one that was found
+pub row_shown : {X : Type 0} (row_of : X → Row) (o : Option X) (rows : List Row) (row : Row)
+    → rows ≡ option_to_list (option_map row_of o) → Some row ≡ slice_get rows 0
+    → (x : X) × (o ≡ Some x) × (row ≡ row_of x)
+row_shown row_of None rows row are some =
+    absurd (let e = some ∙ ap (λ l. slice_get l 0) are in cc)
+row_shown row_of (Some x) rows row are some = (x, refl, one_first rows row (row_of x) are some)
+
 -- what holds of all rows holds of one that was found
 found_fits : {X : Type 0} (P : X → Type 0) (p : X → Bool) (xs : List X) (x : X) → All P xs
     → find p xs ≡ Some x → P x
@@ -201,23 +389,130 @@ limit_fits t (opening, book) =
 pub day_fits : (t : Tables) → HasPast t → IsDayNumber t.day
 day_fits t (opening, book) = (books_are_sound opening t book).numbers.day
 
-rows_fit : (t : Tables) → HasPast t → HasFittingRows t
+pub rows_fit : (t : Tables) → HasPast t → HasFittingRows t
 rows_fit t (opening, book) = (books_are_sound opening t book).rows
 
 pub merchant_fits : (t : Tables) → HasPast t → (id : List ℕ) (rows : List Row) (row : Row)
     → rows ≡ option_to_list (option_map merchant_row (merchant_at t id))
     → Some row ≡ slice_get rows 0 → IsMerchantRow row
-merchant_fits t past id rows row are some = go (merchant_at t id) refl are
-  where
-    go : (o : Option Merchant) → merchant_at t id ≡ o
-        → rows ≡ option_to_list (option_map merchant_row o) → IsMerchantRow row
-    go None found are = absurd (let e = some ∙ ap (λ l. slice_get l 0) are in cc)
-    go (Some m) found are = (
-      m,
-      one_first rows row (merchant_row m) are some,
-      found_fits FitsMerchant (λ row. bytes_eq row.id id) t.merchants m (rows_fit t past).merchants
-          found,
+merchant_fits t past id rows row are some =
+    let it = row_shown merchant_row (merchant_at t id) rows row are some in (
+      it.0,
+      it.2,
+      found_fits FitsMerchant (λ row. bytes_eq row.id id) t.merchants it.0
+          (rows_fit t past).merchants it.1,
     )
+
+-- ---- ranges
+
+pub ranges_apart : (t : Tables) → HasPast t → are_apart t.ranges ≡ true
+ranges_apart t (opening, book) =
+    (and_parts (list_all is_valid_range t.ranges) _ (books_are_sound opening t book).ranges).1
+
+range_valid : (t : Tables) → HasPast t → (r : Range) → Has t.ranges r → is_valid_range r ≡ true
+range_valid t (opening, book) r =
+    test_has is_valid_range t.ranges r
+    (and_parts (list_all is_valid_range t.ranges) _ (books_are_sound opening t book).ranges).0
+
+pub range_shown : (t : Tables) → HasPast t → (prefix : ℕ) (rows : List Row) (row : Row)
+    → IsNearest prefix t.ranges rows → Some row ≡ slice_get rows 0 → IsRangeRow row
+range_shown t past prefix rows row (inl none) some =
+    absurd (let e = some ∙ ap (λ l. slice_get l 0) none.0 in cc)
+range_shown t past prefix rows row (inr (r, one, found, listed)) some =
+    (r, one_first rows row (range_cells r) one some, range_valid t past r listed)
+
+pub overlap_shown : (t : Tables) → HasPast t → (low high : ℕ) (rows : List Row) (row : Row)
+    → rows ≡ option_to_list (option_map range_cells (overlapping_at t low high))
+    → Some row ≡ slice_get rows 0 → IsRangeRow row
+overlap_shown t past low high rows row are some =
+    let it = row_shown range_cells (overlapping_at t low high) rows row are some in (
+      it.0,
+      it.2,
+      range_valid t past it.0
+          (has_found (overlaps (between low high)) t.ranges it.0 it.1).0,
+    )
+
+-- ---- requests
+
+pub request_fits : (t : Tables) → HasPast t → (x : Request) → In x t.requests → FitsRequest x
+request_fits t past x member =
+    All-contains FitsRequest t.requests x (rows_fit t past).requests (from_In x t.requests member)
+
+-- its row is read as the request
+pub request_is_read : (x : Request) → FitsRequest x → IsRequestRow (request_row x)
+request_is_read x fits = (
+  x,
+  (
+    spelling x.reply,
+    refl,
+    reads_as (spelling x.reply) x.reply
+        (is_read (spelling x.reply) x.reply (spelling_writes x.reply fits.reply)),
+  ),
+  fits,
+)
+
+recorded_shown : (o : Option Request) (rows : List Row) (row : Row) → ShowsRequest o rows
+    → Some row ≡ slice_get rows 0 → ((x : Request) → o ≡ Some x → FitsRequest x)
+    → IsRequestRow row
+recorded_shown None rows row are some fits =
+    absurd (let e = some ∙ ap (λ l. slice_get l 0) are in cc)
+recorded_shown (Some x) rows row are some fits =
+    subst IsRequestRow (sym (one_first rows row (request_row x) are.0 some))
+    (request_is_read x (fits x refl))
+
+pub request_shown : (t : Tables) → HasPast t → (key : RequestKey) (rows : List Row) (row : Row)
+    → ShowsRequest (request_at t key) rows → Some row ≡ slice_get rows 0 → IsRequestRow row
+request_shown t past key rows row are some =
+    recorded_shown (request_at t key) rows row are some
+    (λ x found. request_fits t past x (In-find (λ r. same_key r.key key) t.requests x found).0)
+
+pub referred_shown : (t : Tables) → HasPast t → (m : List ℕ) (n : ℕ) (rows : List Row) (row : Row)
+    → ShowsRequest (referred_at t m n) rows → Some row ≡ slice_get rows 0 → IsRequestRow row
+referred_shown t past m n rows row are some =
+    recorded_shown (referred_at t m n) rows row are some
+    (λ x found. request_fits t past x
+    (In-filtered (λ r. bytes_eq r.key.merchant m) x t.requests
+    (In-find (λ r. is_number n r.reference) (requests_of m t.requests) x found).0).0)
+
+-- ---- counts
+
+-- what is told of fewer than the greatest number is their number
+pub count_shown : (many : ℕ) (rows : List Row) (row : Row) → rows ≡ (count many ∷ []) ∷ []
+    → Some row ≡ slice_get rows 0 → IsTold many → column row 0 ≡ number many
+count_shown many rows row are some few =
+    ap (λ l. column l 0) (one_first rows row (count many ∷ []) are some)
+    ∙ ap number (min-eq_left (omega arith))
+
+pub admitted_fits : (t : Tables) → HasPast t → (m : List ℕ)
+    → is_admitted_count (admitted_at t m) ≡ true
+admitted_fits t (opening, book) m = ((books_are_sound opening t book).numbers.merchants m).admitted
+
+-- a count that may be is made
+pub count_made : {T : Type 0} (res : Result T Error) (P : Error → Type 0) (first many : ℕ)
+    (o : Option ℕ) → TellsCount first many o → is_admitted_count many ≡ true
+    → IfErr res (λ e. IfSome o (λ n. first ≤ n) → is_admitted_count (count_up_to first o) ≢ true)
+    → IfErr res P
+count_made (Ok x) P first many o tells fits refuses = tt
+count_made (Err e) P first many o tells fits refuses =
+    absurd (refuses (go o tells.given) (ap is_admitted_count (sym tells.counted) ∙ fits))
+  where
+    go : (o : Option ℕ) → IfSome o (λ n. (first ≤ n) × (is_reference n ≡ true))
+        → IfSome o (λ n. first ≤ n)
+    go None given = tt
+    go (Some n) given = given.0
+
+pub reference_shown : (first many : ℕ) (rows : List Row) (row : Row)
+    → ShowsGreatest first many rows → Some row ≡ slice_get rows 0
+    → (o : Option ℕ) × (row ≡ number_or_null o ∷ []) × IfSome o (λ n. is_reference n ≡ true)
+reference_shown first many rows row (inl none) some =
+    absurd (let e = some ∙ ap (λ l. slice_get l 0) none.0 in cc)
+reference_shown first many rows row (inr (o, one, tells)) some =
+    (o, one_first rows row (number_or_null o ∷ []) one some, go o tells.given)
+  where
+    go : (o : Option ℕ) → IfSome o (λ n. (first ≤ n) × (is_reference n ≡ true))
+        → IfSome o (λ n. is_reference n ≡ true)
+    go None given = tt
+    go (Some n) given = given.1
 
 -- ---- the running totals of a day
 
@@ -277,6 +572,22 @@ made_of_parts made (Err e) counts amounts fault within fit =
 pub balance_shown : (o : Option (ℕ × Reconciliation)) (rows : List Row) (row : Row)
     → rows ≡ option_to_list (option_map balance_cells o) → Some row ≡ slice_get rows 0
     → IsBalanceRow row
-balance_shown None rows row are some =
-    absurd (let e = some ∙ ap (λ l. slice_get l 0) are in cc)
-balance_shown (Some r) rows row are some = (r, one_first rows row (balance_cells r) are some)
+balance_shown o rows row are some =
+    let it = row_shown balance_cells o rows row are some in (it.0, it.2)
+
+-- ---- one look-up after another that succeeded
+
+excused_from : (old mid new : State) (e : Error) → old.faults ≤ mid.faults
+    → IsExcused mid new e → IsExcused old new e
+excused_from old mid new e up (inl memory) = inl memory
+excused_from old mid new e up (inr more) = inr (omega (arith, up, more))
+
+-- the second failed so
+pub fails_then : (old mid new : State) (e : Error) (t : Tables) → LooksOnly old mid true
+    → Survives mid new (λ _. ⊥) → HasCleanDisk new → IsAtOf version old t
+    → old.step_limit ≡ None
+    → (IsAtOf version mid t → mid.step_limit ≡ None → IsExcused mid new e) → IsExcused old new e
+fails_then old mid new e t first stops clean at free second =
+    let before = clean_before old mid new first stops clean in
+    excused_from old mid new e first.stop.counts
+    (second (at_unchanged old mid t (first.same before refl) at) (first.stop.limit ∙ free))

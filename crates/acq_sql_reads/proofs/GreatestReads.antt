@@ -1,9 +1,10 @@
 -- What the look-up of a merchant's greatest reference answers: how many references it has given.
-use Rattle.std.proofs.Common.{◌≡◌, ◌+◌, ◌≤◌, ◌<◌, ℕ, zero, suc, pos, inl, inr, Bool, false}
+use Rattle.std.proofs.Common.{◌≡◌, ◌+◌, ◌≤◌, ◌<◌, ℕ, zero, suc, pos, inl, inr, Bool, true, false}
 use Rattle.std.proofs.Common.{true≢false, List, []}
 use Rattle.std.proofs.Common.{◌∷◌, Option, None, Some, Ok, Err, Result, SomeIff, IfOk, Less, refl}
 use Rattle.std.proofs.Common.{sym, ap, subst}
 use Rattle.std.proofs.Common.{subst₂, ◌∙◌, arith, slice_get}
+use Rattle.std.specs.Prelude.{IfSome}
 use Rattle.std.proofs.lemmas.Result.{IfOk-weaker}
 use Rattle.std.specs.List.{cons_option, range_with_len}
 use Rattle.std.specs.Ordering.{is_gt, ordering_reverse}
@@ -14,6 +15,7 @@ use Rattle.sqlite_value.proofs.OrderLemmas.{then-Equal, value_cmp-Null, value_cm
 use Rattle.sqlite_trees.proofs.ListLemmas.{ascending_weaker}
 use Rattle.sqlite_sql.specs.Query.{Output}
 use Rattle.sqlite_rules.specs.Lists.{Has}
+use Rattle.sqlite_rules.proofs.ListLemmas.{has_filtered}
 use Rattle.sqlite.specs.declared.error.Error.{Error}
 use Rattle.sqlite.specs.State.{State, Shown}
 use Rattle.row_lemmas.specs.Values.{number, number_or_null}
@@ -21,6 +23,7 @@ use Rattle.row_lemmas.proofs.ColumnTests.{text_test, number_at_most, and_true}
 use Rattle.row_lemmas.proofs.ListReads.{shows_ordered}
 use Rattle.row_lemmas.proofs.OrderedRows.{IsFirst, first_element}
 use Rattle.row_lemmas.proofs.QueryRows.{picked}
+use Rattle.acq_message.specs.Numbers.{is_reference}
 use Rattle.acq_core.specs.declared.merchant.Merchant.{Merchant}
 use Rattle.acq_core.specs.declared.request.Request.{Request}
 use Rattle.acq_core.specs.Pasts.{HasPast}
@@ -32,7 +35,9 @@ use Rattle.acq_sql_rows.specs.Schema.{book_schema}
 use Rattle.acq_sql_rows.specs.Rows.{request_row}
 use Rattle.acq_sql_rows.specs.Tallies.{Running}
 use Rattle.acq_sql_rows.specs.Relation.{HoldsRows}
-use Rattle.acq_sql_reads.specs.Looked.{count_up_to, ShowsGreatest}
+use Rattle.acq_sql_reads.specs.Looked.{count_up_to, ShowsGreatest, TellsCount}
+use Rattle.acq_sql_reads.proofs.Failing.{request_fits}
+use Rattle.acq_sql_reads.proofs.HoldReferences.{in_from_has}
 use Rattle.acq_sql_reads.specs.Texts as text
 use Rattle.acq_sql_reads.specs.Queries as query
 use Rattle.acq_sql_reads.proofs.TextLemmas as asks
@@ -129,19 +134,38 @@ own_at_most : (a : Option ℕ) → IsAtMost a a
 own_at_most None = tt
 own_at_most (Some a) = omega arith
 
+-- a reference of one of them is from the first on
+given_from : (first : ℕ) (xs : List Request) (x : Request) → Has xs x
+    → references_in xs ≡ range_with_len first (admitted_in xs)
+    → (o : Option ℕ) → x.reference ≡ o → IfSome o (λ n. is_reference n ≡ true)
+    → IfSome o (λ n. (first ≤ n) × (is_reference n ≡ true))
+given_from first xs x here run None is fits = tt
+given_from first xs x here run (Some n) is fits = (
+  (within first (admitted_in xs) n (subst (λ l. Has l n) run (has_reference xs x n here is))).0,
+  fits,
+)
+
 greatest_shown : (first : ℕ) (xs : List Request) (rows : List Row)
-    → references_in xs ≡ range_with_len first (admitted_in xs) →
-    IsFirst Later xs reference_cells rows
+    → references_in xs ≡ range_with_len first (admitted_in xs)
+    → ((x : Request) → Has xs x → IfSome x.reference (λ n. is_reference n ≡ true))
+    → IsFirst Later xs reference_cells rows
     → ShowsGreatest first (admitted_in xs) rows
-greatest_shown first xs rows run (inl none) = inl (none.0, ap admitted_in none.1)
-greatest_shown first xs rows run (inr (x, here, is, later)) =
+greatest_shown first xs rows run fits (inl none) = inl (none.0, ap admitted_in none.1)
+greatest_shown first xs rows run fits (inr (x, here, is, later)) =
     let most : (y : Request) → Has xs y →
     IsAtMost y.reference x.reference = λ y h. elim (later y h) [
       | inl same ↦ subst (λ (z : Request). IsAtMost z.reference x.reference) (sym same)
           (own_at_most x.reference)
       | inr before ↦ before
     ] in
-    inr (x.reference, is, counted_up_to first xs x here most (admitted_in xs) x.reference refl run)
+    inr (
+      x.reference,
+      is,
+      record {
+        counted = counted_up_to first xs x here most (admitted_in xs) x.reference refl run;
+        given = given_from first xs x here run x.reference refl (fits x here);
+      },
+    )
 
 -- what was read of a number that is given
 pub number_read : {T : Type 0} (r : Result T Error) (o : Option T) (fits : Type 0) (n : T)
@@ -160,14 +184,14 @@ same_reference (Some a) (Some b) h = let e : a ≡ b = cc in ap Some e
 
 pub greatest_read : (first many : ℕ) (rows : List Row) (row : Row) (r : Result (Option ℕ) Error)
     → ShowsGreatest first many rows → Some row ≡ slice_get rows 0
-    → IfOk r (λ o. column row 0 ≡ number_or_null o) → IfOk r (λ o. many ≡ count_up_to first o)
+    → IfOk r (λ o. column row 0 ≡ number_or_null o) → IfOk r (TellsCount first many)
 greatest_read first many rows row r (inl none) some =
     absurd (let e = some ∙ ap (λ l. slice_get l 0) none.0 in cc)
-greatest_read first many rows row r (inr (o, one, is)) some =
+greatest_read first many rows row r (inr (o, one, tells)) some =
     let shown : row ≡ number_or_null o ∷ [] =
     let e : Some row ≡ Some (number_or_null o ∷ []) = some ∙ ap (λ l. slice_get l 0) one in cc in
-    IfOk-weaker r _ _ (λ p here. is ∙ ap (count_up_to first)
-    (same_reference o p (sym (ap (λ l. column l 0) shown) ∙ here)))
+    IfOk-weaker r _ _ (λ p here. subst (TellsCount first many)
+    (same_reference o p (sym (ap (λ l. column l 0) shown) ∙ here)) tells)
 
 pub none_greatest : (first many : ℕ) (rows : List Row) → ShowsGreatest first many rows
     → None ≡ slice_get rows 0 → many ≡ 0
@@ -209,6 +233,12 @@ module _ (m : List ℕ) where
       AreRowsOf (merchant_at t m) (requests_of m t.requests)
   rows_of_merchant t (opening, book) = (books_are_sound opening t book).references m
 
+  references_fit : (t : Tables) → HasPast t → (x : Request) → Has (requests_of m t.requests) x
+      → IfSome x.reference (λ n. is_reference n ≡ true)
+  references_fit t past x here =
+      let member = in_from_has t.requests x (has_filtered mine t.requests x here).0 in
+      (request_fits t past x member).reference
+
   pub greatest_found : (old new : State) (t : Tables) (runs : List Running) (rows : List Row)
       (enrolled : Merchant)
       → HoldsRows old.now t runs → HasPast t → merchant_at t m ≡ Some enrolled
@@ -217,6 +247,7 @@ module _ (m : List ℕ) where
   greatest_found old new t runs rows enrolled has past is shown =
       greatest_shown enrolled.first_reference (requests_of m t.requests) rows
       (subst (λ o. AreRowsOf o (requests_of m t.requests)) is (rows_of_merchant t past))
+      (references_fit t past)
       (greatest_first old new t runs rows has shown)
 
   -- a merchant that isn't enrolled has none

@@ -215,27 +215,29 @@ module _ (m : List ℕ) where
 
   -- ---- a row is one request's
 
-  holds_own : (t : Tables) → AreRecorded t.requests
-      → AreOwn (λ row r. length row ≡ 18 → IsRowOf row r) request_row (holds_at t m)
-  holds_own t recorded y x here read =
+  pub holds_among : (t : Tables) (y : Request) → Has (holds_at t m) y → Has t.requests y
+  holds_among t y here =
       let among = in_order_has by_reference (sorted_total query.holds_query out)
       (λ a b. is_reference_before a.reference b.reference)
       compare same tied (holds t.requests) y here in
       let opened = has_filtered is_open (filter mine t.requests) y among in
-      let listed = (has_filtered mine t.requests y opened.0).0 in
+      (has_filtered mine t.requests y opened.0).0
+
+  holds_own : (t : Tables) → AreRecorded t.requests
+      → AreOwn (λ row r. length row ≡ 18 → IsRowOf row r) request_row (holds_at t m)
+  holds_own t recorded y x here read =
       let it = read refl in
-      same_request x y it.0 it.2 (all_has _ t.requests y recorded listed) (sym it.1)
+      same_request x y it.0 it.2 (all_has _ t.requests y recorded (holds_among t y here)) (sym it.1)
 
   pub holds_list : (old : State) (t : Tables) → Holds old.now t → HasPast t →
       ShowsList text.holds_text
-      (Text m ∷ []) old (λ row r. length row ≡ 18 → IsRowOf row r) (holds_at t m)
+      (Text m ∷ []) old (λ row r. length row ≡ 18 → IsRowOf row r) query.holds_query request_row
+      (holds_at t m)
   holds_list old t kept past =
       record {
-        query = query.holds_query;
         names = _;
         ask = asks.holds_asks;
         has = kept.rows.schema;
-        cells = request_row;
         found = holds_found old t kept.runs kept.rows past;
         own = holds_own t kept.rows.recorded;
       }

@@ -21,3 +21,5 @@ pub mod HoldWalk
 pub mod RowidOrder
 pub mod PendingWalk
 pub mod Failing
+pub mod CardsOfPostings
+pub mod FailingWalks

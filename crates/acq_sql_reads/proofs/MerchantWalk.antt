@@ -11,6 +11,7 @@ use Rattle.sqlite_value.specs.declared.value.Value.TheVariants.{Text}
 use Rattle.sqlite_value.specs.Order.{Row, value_cmp}
 use Rattle.sqlite_value.proofs.OrderLemmas.{then-Equal, value_cmp-Text}
 use Rattle.sqlite_sql.specs.Query.{Output, output_cmp}
+use Rattle.sqlite_rules.specs.Lists.{Has}
 use Rattle.sqlite.specs.State.{State, Shown}
 use Rattle.row_lemmas.proofs.ListReads.{shows_ordered}
 use Rattle.acq_core.specs.declared.merchant.Merchant.{Merchant}
@@ -28,7 +29,7 @@ use Rattle.acq_sql_reads.specs.WalkQueries as query
 use Rattle.acq_sql_reads.proofs.WalkTextLemmas as asks
 use Rattle.acq_sql_reads.proofs.Visiting.{AreOwn}
 use Rattle.acq_sql_reads.proofs.Walking.{ShowsList}
-use Rattle.acq_sql_reads.proofs.Ordering.{sorted_total, ordered_is}
+use Rattle.acq_sql_reads.proofs.Ordering.{in_order_has, sorted_total, ordered_is}
 
 abbrev out : Merchant → Output
 out x = (Text x.id ∷ [], merchant_row x)
@@ -69,6 +70,12 @@ merchants_found old t runs has rows shown =
     filter_all [] = refl
     filter_all (x ∷ xs) = ap (λ l. x ∷ l) (filter_all xs)
 
+pub merchants_among : (t : Tables) (y : Merchant) → Has (merchants_at t) y → Has t.merchants y
+merchants_among t y here =
+    in_order_has by_name (sorted_total query.merchants_query out)
+    (λ a b. is_lt (slice_cmp nat_cmp a.id b.id)) (λ a b. ap is_lt (names_compare a b))
+    (λ a b. bytes_eq b.id a.id) tied t.merchants y here
+
 same_merchant : (a b : Merchant) → merchant_row a ≡ merchant_row b → a ≡ b
 same_merchant a b h =
     let e0 : a.id ≡ b.id = cc in
@@ -82,14 +89,12 @@ merchants_own ys y x here read = same_merchant x y (sym (read refl))
 
 pub merchants_list : (old : State) (t : Tables) → Holds old.now t
     → ShowsList text.merchants_text [] old (λ row m. length row ≡ 3 → row ≡ merchant_row m)
-    (merchants_at t)
+    query.merchants_query merchant_row (merchants_at t)
 merchants_list old t holds =
     record {
-      query = query.merchants_query;
       names = _;
       ask = asks.merchants_asks;
       has = holds.rows.schema;
-      cells = merchant_row;
       found = merchants_found old t holds.runs holds.rows;
       own = merchants_own (merchants_at t);
     }

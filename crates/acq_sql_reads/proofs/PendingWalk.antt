@@ -6,6 +6,7 @@ use Rattle.std.proofs.lemmas.Bool.Decides.{nat_tests}
 use Rattle.sqlite_value.specs.Order.{Row, value_cmp}
 use Rattle.sqlite_value.proofs.OrderLemmas.{then-Equal}
 use Rattle.sqlite_sql.specs.Query.{Output, output_cmp}
+use Rattle.sqlite_rules.specs.Lists.{Has}
 use Rattle.sqlite_rules.proofs.ListLemmas.{all_has, has_filtered}
 use Rattle.sqlite.specs.State.{State, Shown}
 use Rattle.row_lemmas.specs.Values.{number}
@@ -92,22 +93,23 @@ waiting_found old t runs has rows shown =
 
 -- ---- a row is one request's
 
+pub waiting_among : (t : Tables) (y : Request) → Has (waiting_at t) y → Has t.requests y
+waiting_among t y here = (has_filtered waits t.requests y here).0
+
 waiting_own : (t : Tables) → AreRecorded t.requests
     → AreOwn (λ row r. length row ≡ 18 → IsRowOf row r) request_row (waiting_at t)
 waiting_own t recorded y x here read =
-    let listed = (has_filtered waits t.requests y here).0 in
     let it = read refl in
-    same_request x y it.0 it.2 (all_has _ t.requests y recorded listed) (sym it.1)
+    same_request x y it.0 it.2 (all_has _ t.requests y recorded (waiting_among t y here)) (sym it.1)
 
 pub waiting_list : (old : State) (t : Tables) → Holds old.now t
-    → ShowsList text.waiting_text [] old (λ row r. length row ≡ 18 → IsRowOf row r) (waiting_at t)
+    → ShowsList text.waiting_text [] old (λ row r. length row ≡ 18 → IsRowOf row r)
+    query.waiting_query request_row (waiting_at t)
 waiting_list old t holds =
     record {
-      query = query.waiting_query;
       names = _;
       ask = asks.waiting_asks;
       has = holds.rows.schema;
-      cells = request_row;
       found = waiting_found old t holds.runs holds.rows;
       own = waiting_own t holds.rows.recorded;
     }

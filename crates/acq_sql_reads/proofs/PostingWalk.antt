@@ -19,6 +19,7 @@ use Rattle.sqlite_schema.specs.declared.schema.Index.{Index}
 use Rattle.sqlite_schema.specs.Rules.{Fits, agree}
 use Rattle.sqlite_catalog.specs.Listing.{automatic}
 use Rattle.sqlite_rules.specs.Lists.{Has}
+use Rattle.sqlite_rules.proofs.ListLemmas.{has_filtered}
 use Rattle.sqlite.specs.State.{State, Shown}
 use Rattle.row_lemmas.specs.Numbered.{rows_of}
 use Rattle.row_lemmas.specs.Queries.{is_param}
@@ -47,6 +48,7 @@ use Rattle.acq_sql_reads.proofs.WalkTextLemmas as asks
 use Rattle.acq_sql_reads.proofs.Visiting.{AreOwn}
 use Rattle.acq_sql_reads.proofs.Walking.{ShowsList}
 use Rattle.acq_sql_reads.proofs.Ordering.{sorted_total, ordered_is, filter_both, numbers_compare}
+use Rattle.acq_sql_reads.proofs.Ordering.{in_order_has}
 use Rattle.acq_sql_reads.proofs.Ordering.{numbers_tied}
 
 abbrev Numbered : Type 0
@@ -181,6 +183,13 @@ module _ (day : ℕ) where
       (λ a. one_posting a old.now.trees t.postings (fits_of book_schema old.now.trees has.sound)
       has.postings))
 
+  pub postings_among : (t : Tables) (y : Numbered) → Has (postings_at t day) y
+      → Has t.postings y
+  postings_among t y here =
+      let among = in_order_has by_number (sorted_total query.postings_query out) is_posting_before
+      (λ a b. ap is_lt (postings_compare a b)) same_number tied (filter on_day t.postings) y here in
+      (has_filtered on_day t.postings y among).0
+
 -- ---- a row is one posting's
 
 same_posting : (a b : Numbered) → posting_row a ≡ posting_row b → a ≡ b
@@ -215,14 +224,13 @@ postings_own ys y x here read = same_posting x y (sym (read refl))
 
 pub postings_list : (old : State) (t : Tables) (day : ℕ) → Holds old.now t →
     ShowsList text.postings_text
-    (number day ∷ []) old (λ row p. length row ≡ 9 → row ≡ posting_row p) (postings_at t day)
+    (number day ∷ []) old (λ row p. length row ≡ 9 → row ≡ posting_row p) query.postings_query
+    posting_row (postings_at t day)
 postings_list old t day holds =
     record {
-      query = query.postings_query;
       names = _;
       ask = asks.postings_asks;
       has = holds.rows.schema;
-      cells = posting_row;
       found = postings_found day old t holds.runs holds.rows;
       own = postings_own (postings_at t day);
     }

@@ -126,7 +126,7 @@ module _ (prefix : ℕ) where
         | inr (inl before) ↦ absurd (omega (arith, before.1, below, high))
         | inr (inr after) ↦ absurd (omega (arith, after.0, near))
       ] in
-      inr (x, is, go (holds_prefix prefix x) refl only)
+      inr (x, is, go (holds_prefix prefix x) refl only, listed.0)
     where
       go : (b : Bool) → holds_prefix prefix x ≡ b →
           ((y : Range) → Has xs y → holds_prefix prefix y ≡ true → y ≡ x)
@@ -220,7 +220,7 @@ pub no_range : (prefix : ℕ) (xs : List Range) (rows : List Row) → IsNearest 
     None ≡ slice_get rows 0
     → None ≡ range_of_prefix xs prefix
 no_range prefix xs rows (inl none) is = sym none.1
-no_range prefix xs rows (inr (r, one, found)) is =
+no_range prefix xs rows (inr (r, one, found, listed)) is =
     absurd (let e = is ∙ ap (λ l. slice_get l 0) one in cc)
 
 pub range_read : (prefix : ℕ) (xs : List Range) (rows : List Row) (row : Row) (x : Range) →
@@ -229,7 +229,7 @@ pub range_read : (prefix : ℕ) (xs : List Range) (rows : List Row) (row : Row) 
     → if_holds prefix x ≡ range_of_prefix xs prefix
 range_read prefix xs rows row x (inl none) some read =
     absurd (let e = some ∙ ap (λ l. slice_get l 0) none.0 in cc)
-range_read prefix xs rows row x (inr (r, one, found)) some read =
+range_read prefix xs rows row x (inr (r, one, found, listed)) some read =
     let first : row ≡ range_cells r =
     let e : Some row ≡ Some (range_cells r) = some ∙ ap (λ l. slice_get l 0) one in cc in
     ap (if_holds prefix) (same_range x r (sym (read (ap length first)) ∙ first)) ∙ sym found

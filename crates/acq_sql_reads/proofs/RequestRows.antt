@@ -1,27 +1,41 @@
 -- From the columns that were read to the request.
 use Rattle.std.proofs.Common.{◌≡◌, ◌≤◌, ◌<◌, ◌==◌, ℕ, pos, Bool, List, [], ◌∷◌, length, slice_get}
 use Rattle.std.proofs.Common.{slice_index_or, Option, None, Some}
-use Rattle.std.proofs.Common.{Ok, true, false, get_or, take, refl, sym, ap, ◌∙◌, arith}
-use Rattle.std.specs.Prelude.{if◌then◌else◌}
+use Rattle.std.proofs.Common.{Result, Err, IfErr}
+use Rattle.std.proofs.Common.{Ok, true, false, get_or, take, refl, sym, ap, subst, ◌∙◌, arith}
+use Rattle.std.specs.Prelude.{if◌then◌else◌, IfSome, ◌^◌}
 use Rattle.std.specs.List.{list_all}
 use Rattle.std.specs.Str.{bytes_eq}
 use Rattle.std.proofs.lemmas.Bool.{and_parts}
 use Rattle.sqlite_value.specs.declared.value.Value.TheVariants.{Int, Text}
+use Rattle.sqlite_value.specs.declared.value.Value.{Value}
 use Rattle.sqlite_value.specs.Order.{Row, column}
+use Rattle.sqlite.specs.declared.error.Error.{Error}
+use Rattle.sqlite.specs.declared.error.Error.TheVariants.{SqliteFailure}
+use Rattle.sqlite.specs.declared.error.ErrorCode.TheVariants.{DatabaseCorrupt}
 use Rattle.row_lemmas.specs.Values.{number, number_or_null, text_or_null}
 use Rattle.iso_codec.specs.Message.{IsMessage}
 use Rattle.iso_codec.specs.Reading.{reading_of}
 use Rattle.day_totals.specs.Totals.{all_legs}
 use Rattle.day_totals.specs.declared.leg.Leg.{Leg}
-use Rattle.day_totals.specs.declared.leg.Leg.TheVariants.{Credit}
+use Rattle.day_totals.specs.declared.leg.Leg.TheVariants.{Credit, CreditReversal, Debit}
+use Rattle.day_totals.specs.declared.leg.Leg.TheVariants.{DebitReversal}
 use Rattle.acq_message.specs.declared.service.Service.{Service}
+use Rattle.acq_message.specs.declared.service.Service.TheVariants.{Authorization, Financial}
+use Rattle.acq_message.specs.declared.service.Service.TheVariants.{Completion, Reversal}
+use Rattle.acq_message.specs.declared.service.Service.TheVariants.{ReversalAdvice, Reconciliation}
+use Rattle.acq_message.specs.declared.service.Service.TheVariants.{NetworkManagement}
 use Rattle.acq_message.specs.Services.{digits_of, served, service_in, service_of}
 use Rattle.acq_core.specs.declared.request.Request.{Request}
-use Rattle.acq_core.specs.Statuses.{status_number}
+use Rattle.acq_core.specs.declared.status.Status.{Status}
+use Rattle.acq_core.specs.Statuses.{status_number, status_numbered}
+use Rattle.acq_history.specs.Rows.{AreHoldDays}
 use Rattle.acq_sql_rows.specs.Rows.{request_row, leg_number, bit_of}
 use Rattle.acq_sql_rows.specs.ReadBack.{request_at}
 use Rattle.acq_sql_changes.proofs.writes.RunningTotals.{bytes_same}
 use Rattle.acq_sql_reads.specs.Recorded.{request_cells, IsRowOf, HasKey, ShowsRequest}
+use Rattle.acq_sql_reads.specs.Recorded.{NamesNoService}
+use Rattle.acq_sql_reads.specs.Failing.{FailsForMemory}
 use Rattle.acq_sql_rows.proofs.TablesReadBack.{text_back, number_back, bit_back, leg_back}
 use Rattle.acq_core.proofs.Statuses.{status_back}
 use Rattle.acq_sql_rows.proofs.TablesReadBack.{service_back}
@@ -149,3 +163,83 @@ request_is row r reply len key e5 e6 e7 e8 e9 e10 e11 e12 e13 e14 e15 e16 e17 =
       e16,
       e17,
     ) refl
+
+-- ---- a row of a book is read
+
+-- the digits of a service name it
+service_given : (s : Service)
+    → service_of (get_or (digits_of s) 0 0 ∷ get_or (digits_of s) 1 0 ∷ get_or (digits_of s) 2 0
+    ∷ 48 ∷ []) ≡ Some s
+service_given Authorization = refl
+service_given Financial = refl
+service_given Completion = refl
+service_given Reversal = refl
+service_given ReversalAdvice = refl
+service_given Reconciliation = refl
+service_given NetworkManagement = refl
+
+-- they are three
+three_digits : (s : Service) → length (digits_of s) ≡ 3
+three_digits Authorization = refl
+three_digits Financial = refl
+three_digits Completion = refl
+three_digits Reversal = refl
+three_digits ReversalAdvice = refl
+three_digits Reconciliation = refl
+three_digits NetworkManagement = refl
+
+pub none_named : (value : Value) (text : List ℕ) → value ≡ Text text → (length text ≡ 3 → ⊥)
+    → NamesNoService value
+none_named value text is other s named =
+    let same : text ≡ digits_of s = let both = sym is ∙ named in cc in
+    other (ap length same ∙ three_digits s)
+
+pub service_taken : (value : Value) (text : List ℕ) (o : Option Service)
+    (res : Result Service Error) → value ≡ Text text
+    → o ≡ service_of (get_or text 0 0 ∷ get_or text 1 0 ∷ get_or text 2 0 ∷ 48 ∷ [])
+    → IfErr res (λ e. (o ≡ None) × (e ≡ SqliteFailure DatabaseCorrupt))
+    → IfErr res (λ e. NamesNoService value)
+service_taken value text o (Ok x) is given fault = tt
+service_taken value text o (Err e) is given fault = λ s named.
+    let same : text ≡ digits_of s = let both = sym is ∙ named in cc in
+    let none : Some s ≡ None =
+    sym (rw same at given ∙ service_given s) ∙ fault.0 in
+    cc
+
+pub status_taken : (n : ℕ) (s : Status) (o : Option Status) (res : Result Status Error)
+    → n ≡ status_number s → o ≡ status_numbered n
+    → IfErr res (λ e. (o ≡ None) × (e ≡ SqliteFailure DatabaseCorrupt)) → FailsForMemory res
+status_taken n s o (Ok x) is given fault = tt
+status_taken n s o (Err e) is given fault =
+    let none : Some s ≡ None =
+    sym (status_back s) ∙ ap status_numbered (sym is) ∙ sym given ∙ fault.0 in
+    absurd (cc)
+
+pub days_fit : (o : Option ℕ) → IfSome o AreHoldDays → IfSome o (λ n. n < 2 ^ 8)
+days_fit None days = tt
+days_fit (Some n) days = omega (arith, days.1)
+
+pub bit_fits : (b : Bool) → bit_of b < 2
+bit_fits true = omega arith
+bit_fits false = omega arith
+
+pub leg_fits : (l : Leg) → leg_number l < 4
+leg_fits Credit = omega arith
+leg_fits CreditReversal = omega arith
+leg_fits Debit = omega arith
+leg_fits DebitReversal = omega arith
+
+-- of a request's row
+module _ (row : Row) (r : Request) (reply : List ℕ) (is : row ≡ request_cells r reply) where
+  pub key_shown : HasKey row r.key
+  key_shown =
+      record {
+        merchant = ap (λ l. column l 0) is;
+        terminal = ap (λ l. column l 1) is;
+        kind = ap (λ l. column l 2) is;
+        trace = ap (λ l. column l 3) is;
+        stamp = ap (λ l. column l 4) is;
+      }
+
+  pub is_wide : (k : ℕ) → k < 18 → k < length row
+  is_wide k few = subst (λ n. k < n) (sym (ap length is)) few

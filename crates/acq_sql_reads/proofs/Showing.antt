@@ -1,19 +1,25 @@
 -- A query whose rows are handed over one at a time: what a visitor has seen so far, and what is
 -- left of the connection.
+use Rattle.std.proofs.Common.{◌+◌, ◌-◌, ◌^◌, ◌<◌, ◌≤◌, length}
 use Rattle.std.proofs.Common.{◌≡◌, ◌⊎◌, ◌++◌, Bool, inl, inr, true, false, true≢false, ℕ, List, []}
 use Rattle.std.proofs.Common.{◌∷◌}
 use Rattle.std.proofs.Common.{IsErr, IsTrue, Ok, OnOk}
 use Rattle.std.proofs.Common.{refl, sym, subst, ◌∙◌, arith, Result, Err, OnErr}
+use Rattle.std.specs.List.{AllByRecursion}
+use Rattle.std.proofs.lemmas.List.{length-append}
+use Rattle.sqlite_trees.specs.declared.error.StoreError.{StoreError}
+use Rattle.sqlite_trees.specs.declared.error.StoreError.TheVariants.{OutOfMemory, Io, Corrupt}
+use Rattle.sqlite_trees.specs.declared.error.StoreError.TheVariants.{Full, Broken, Unstorable}
 use Rattle.sqlite_trees.specs.declared.store.Store.{Ghosts}
 use Rattle.sqlite_value.specs.Order.{Row}
 use Rattle.sqlite.specs.Listing.{understood, reads_listing, IsSourceOf}
 use Rattle.sqlite.specs.State.{State, HasCleanDisk, IsUnchanged, Shown, Begins, ShowsRows, Survives}
-use Rattle.sqlite.specs.State.{CommitsShowing}
-use Rattle.sqlite.specs.State.{Fails, IsRolledBack, IsStatement}
+use Rattle.sqlite.specs.State.{CommitsShowing, FailsToQuery, FailsToShow, HasCause}
+use Rattle.sqlite.specs.State.{Fails, IsNoStatement, IsNotRun, IsRolledBack, IsStatement}
 use Rattle.sqlite_resolve.specs.declared.compiled.Compiled.{Compiled}
 use Rattle.sqlite.specs.Clock.{timed}
-use Rattle.sqlite.specs.Effect.{Database}
-use Rattle.sqlite.specs.Given.{IsPlain, HasGiven, HasBegun}
+use Rattle.sqlite.specs.Effect.{Database, RefusesToRead}
+use Rattle.sqlite.specs.Given.{FailsToAdvance, IsPlain, HasGiven, HasBegun}
 use Rattle.sqlite.specs.Held.{Held, state}
 use Rattle.sqlite.specs.declared.error.Error.{Error}
 use Rattle.sqlite.proofs.Callers.{given_begin, begun_plain, unchanged_then}
@@ -22,7 +28,7 @@ use Rattle.acq_sql_reads.specs.Looked.{LooksOnly}
 use Rattle.row_lemmas.specs.Selects.{IsSelect}
 use Rattle.acq_sql_reads.proofs.Leaves.{bare, commits_nothing, rolled_back}
 use Rattle.acq_book.specs.Visits.{Saw}
-use Rattle.acq_sql_reads.specs.Shown.{AreRead, SawFirst, SawEach, SawUpTo}
+use Rattle.acq_sql_reads.specs.Shown.{AreFirst, AreRead, SawFirst, SawEach, SawUpTo, ShowsOnly}
 use Rattle.acq_sql_reads.proofs.Visiting.{read_more, saw_more}
 
 pub unchanged_itself : (s : State) → IsTrue s.is_open → IsUnchanged s s
@@ -76,18 +82,71 @@ module _ (sql : List ℕ) (params : Row) (old mid : State) (same : IsUnchanged o
         ),
       )
 
+-- ---- so is a failure
+
+module _ (sql : List ℕ) (params : Row) (old mid new : State) (same : IsUnchanged old mid)
+    (query : IsSelect sql) where
+  no_statement_since : (e : Error) → IsNoStatement mid sql params e → IsNoStatement old sql params e
+  no_statement_since e (inl (fault, is, told)) =
+      inl (
+        fault,
+        subst (λ (d : Database). understood d.schema sql ≡ Err fault) same.0.now_is is,
+        told,
+      )
+  no_statement_since e (inr (c, is, why)) =
+      inr (c, subst (λ (d : Database). understood d.schema sql ≡ Ok c) same.0.now_is is, why)
+
+  module _ (up : old.faults ≤ mid.faults) (limit : mid.step_limit ≡ old.step_limit) where
+    cause_since : (cause : StoreError) → HasCause mid new ⊥ cause → HasCause old new ⊥ cause
+    cause_since OutOfMemory why = tt
+    cause_since Io why = omega (arith, up, why)
+    cause_since Corrupt why = omega (arith, up, why)
+    cause_since Full why = omega (arith, up, why)
+    cause_since Broken why = absurd (true≢false (sym same.0.is_open ∙ why))
+    cause_since Unstorable why = absurd why
+
+    pub fails_since : (e : Error) → FailsToQuery sql params mid new e
+        → FailsToQuery sql params old new e
+    unfolding FailsToQuery IsNotRun statement_since
+    fails_since e (inl (inl (none, still))) =
+        inl (inl (no_statement_since e none, unchanged_then old mid new same still))
+    fails_since e (inl (inr (cause, is, why, back, tells))) =
+        inl (inr (cause, is, cause_since cause why, rolled_back old mid new same back, tells))
+    fails_since e (inr (c, was, shows)) =
+        let it = statement_since sql params old mid same [] c was in
+        let none = (bare sql params old new query c it.is).0 in
+        let full = timed params c.formats was.now in
+        let h = subst (FailsToShow mid new sql c full e) none shows in
+        inr (
+          c,
+          it,
+          subst (FailsToShow old new sql c full e) (sym none) (
+            h.0,
+            subst (λ (d : Database). IsSourceOf (reads_listing d.schema sql) d h.0) same.0.now_is
+                h.1,
+            subst (λ l. RefusesToRead l c.command h.0 full e) limit h.2,
+            unchanged_then old mid new same h.3,
+          ),
+        )
+
 -- ---- the rows so far
+
+all_last : (P : Row → Type 0) (rows : List Row) (row : Row)
+    → AllByRecursion P (rows ++ row ∷ []) → P row
+all_last P [] row all = all.0
+all_last P (r ∷ rows) row all = all_last P rows row all.1
 
 module _ {S T V : Type 0} (g : Ghosts S) (sql : List ℕ) (params : Row) (first : Held S)
     (shows : Row → T → Type 0) (sees : V → T → Bool → V → Type 0) (v : V) where
-  -- the query has given some rows, which were read and seen, and nothing has changed
-  pub record HasShown (h : Held S) (w : V) : Type 0 where
+  -- the query has given so many rows, which were read and seen, and nothing has changed
+  pub record HasShown (h : Held S) (many : ℕ) (w : V) : Type 0 where
     pub rows : List Row
     pub xs : List T
     pub given : HasGiven g sql params h rows
     pub read : AreRead shows rows xs
     pub saw : Saw sees xs v w
     pub same : IsUnchanged (state g first) (state g h)
+    pub counted : length rows ≡ many
 
   -- a query that began has given no row yet
   begun_bare : (h : Held S) → IsSelect sql → HasBegun g sql params first h
@@ -100,20 +159,28 @@ module _ {S T V : Type 0} (g : Ghosts S) (sql : List ℕ) (params : Row) (first 
       let here = bare sql params (state g first) (state g h) query c is in
       begun_plain g sql params first h (subst IsPlain (sym is) here) (inr begun)
 
-  pub shown_none : (h : Held S) → IsSelect sql → HasBegun g sql params first h → HasShown h v
+  pub shown_none : (h : Held S) → IsSelect sql → HasBegun g sql params first h → HasShown h 0 v
   shown_none h plain begun =
       let it = begun_bare h plain begun in
-      record { rows = []; xs = []; given = it.0; read = tt; saw = refl; same = it.1 }
+      record {
+        rows = [];
+        xs = [];
+        given = it.0;
+        read = tt;
+        saw = refl;
+        same = it.1;
+        counted = refl;
+      }
 
   -- so it is while nothing has failed
-  pub record IsShowing (h : Held S) (w : V) : Type 0 where
+  pub record IsShowing (h : Held S) (many : ℕ) (w : V) : Type 0 where
     pub kept : Survives (state g first) (state g h) (CommitsShowing sql params (state g first))
     pub settled : first.in_transaction ≡ false → h.in_transaction ≡ false
-    pub shown : HasCleanDisk (state g h) → IsSelect sql → HasShown h w
+    pub shown : HasCleanDisk (state g h) → IsSelect sql → HasShown h many w
 
 module _ {S T V : Type 0} {g : Ghosts S} {sql : List ℕ} {params : Row} {first : Held S}
-    {shows : Row → T → Type 0} {sees : V → T → Bool → V → Type 0} {v u : V} {h : Held S}
-    (so_far : HasShown g sql params first shows sees v h u) where
+    {shows : Row → T → Type 0} {sees : V → T → Bool → V → Type 0} {v u : V} {h : Held S} {many : ℕ}
+    (so_far : HasShown g sql params first shows sees v h many u) where
   pub shown_each : (next : Held S) → IsSelect sql
       → Shown sql params (state g h) (state g next) so_far.rows →
       SawEach sql params (state g first) shows sees v u
@@ -139,6 +206,36 @@ module _ {S T V : Type 0} {g : Ghosts S} {sql : List ℕ} {params : Row} {first 
         so_far.saw,
       )
 
+  -- the rows so far begin the answer
+  pub begins_so_far : AreFirst sql params (state g first) so_far.rows
+  begins_so_far =
+      inr (
+        so_far.same.0.was_open,
+        begins_since sql params (state g first) (state g h) so_far.same so_far.rows
+            (given_begin g sql params h so_far.rows so_far.given),
+      )
+
+  -- so few begin it
+  pub shown_few : {fits : Row → Type 0} → ShowsOnly sql params (state g first) fits
+      → many < 2 ^ 64 - 1
+  shown_few only =
+      subst (λ n. n < 2 ^ 64 - 1) so_far.counted (only so_far.rows begins_so_far).1
+
+  -- one more that was given is one of them
+  pub shown_fits : {fits : Row → Type 0} (next : Held S)
+      → IsUnchanged (state g h) (state g next) → (row : Row)
+      → HasGiven g sql params next (so_far.rows ++ row ∷ [])
+      → ShowsOnly sql params (state g first) fits → fits row
+  shown_fits {fits} next last row given only =
+      let same = unchanged_then (state g first) (state g h) (state g next) so_far.same last in
+      let rows = so_far.rows ++ row ∷ [] in
+      all_last fits so_far.rows row
+      (only rows (inr (
+        same.0.was_open,
+        begins_since sql params (state g first) (state g next) same rows
+            (given_begin g sql params next rows given),
+      ))).0
+
   module _ (next : Held S) (w : V) (last : IsUnchanged (state g h) (state g next)) (row : Row)
       (x : T)
       (given : HasGiven g sql params next (so_far.rows ++ row ∷ [])) (is : shows row x) where
@@ -148,7 +245,7 @@ module _ {S T V : Type 0} {g : Ghosts S} {sql : List ℕ} {params : Row} {first 
     same : IsUnchanged (state g first) (state g next)
     same = unchanged_then (state g first) (state g h) (state g next) so_far.same last
 
-    pub shown_more : sees u x true w → HasShown g sql params first shows sees v next w
+    pub shown_more : sees u x true w → HasShown g sql params first shows sees v next (many + 1) w
     unfolding rows
     shown_more seen =
         record {
@@ -158,6 +255,7 @@ module _ {S T V : Type 0} {g : Ghosts S} {sql : List ℕ} {params : Row} {first 
           read = read_more shows so_far.rows so_far.xs row x so_far.read is;
           saw = saw_more sees so_far.xs x v u w so_far.saw seen;
           same = same;
+          counted = omega (arith, length-append so_far.rows (row ∷ []), so_far.counted);
         }
 
     pub shown_to_last : sees u x false w → SawUpTo sql params (state g first) shows sees v w
@@ -209,8 +307,8 @@ module _ (sql : List ℕ) (params : Row) (old new : State) (query : IsSelect sql
       }
 
 module _ {S T V : Type 0} {g : Ghosts S} {sql : List ℕ} {params : Row} {first : Held S}
-    {shows : Row → T → Type 0} {sees : V → T → Bool → V → Type 0} {v u : V} {h : Held S}
-    (showing : IsShowing g sql params first shows sees v h u) where
+    {shows : Row → T → Type 0} {sees : V → T → Bool → V → Type 0} {v u : V} {h : Held S} {many : ℕ}
+    (showing : IsShowing g sql params first shows sees v h many u) where
   -- before the next row
   pub looks_still : IsSelect sql → (succeeded : Bool)
       → LooksOnly (state g first) (state g h) succeeded
@@ -232,7 +330,7 @@ module _ {S T V : Type 0} {g : Ghosts S} {sql : List ℕ} {params : Row} {first 
 
     -- what was shown before the next row
     pub shown_before : HasCleanDisk (state g next) → IsSelect sql
-        → HasShown g sql params first shows sees v h u
+        → HasShown g sql params first shows sees v h many u
     shown_before clean plain = showing.shown (omega (arith, moved.clean, clean)) plain
 
     -- after it
@@ -244,6 +342,14 @@ module _ {S T V : Type 0} {g : Ghosts S} {sql : List ℕ} {params : Row} {first 
         (λ clean.
         inl (unchanged_then (state g first) (state g h) (state g next)
         (shown_before clean plain).same (last clean)))
+
+    -- why the store didn't give it
+    pub fails_on : IsSelect sql → (e : Error) → HasCleanDisk (state g next)
+        → FailsToAdvance g h next e → FailsToQuery sql params (state g first) (state g next) e
+    fails_on plain e clean last =
+        let was = shown_before clean plain in
+        fails_since sql params (state g first) (state g h) (state g next) was.same plain
+        showing.kept.counts showing.kept.limit e (last sql params was.rows was.given)
 
     -- where the store didn't give it
     pub looks_failed : IsSelect sql → (e : Error)

@@ -1,10 +1,10 @@
 -- What a visitor has seen, as rows come and when all have come.
 use Rattle.std.proofs.Common.{◌≡◌, ◌++◌, Bool, inl, inr, true, false, List, [], ◌∷◌, length, map}
 use Rattle.std.proofs.Common.{take, refl, sym, ap}
-use Rattle.std.proofs.Common.{ap₂, subst}
+use Rattle.std.proofs.Common.{ap₂, subst, true≢false, IsErr, Result, Ok, Err, is_ok}
 use Rattle.sqlite_value.specs.Order.{Row}
 use Rattle.sqlite_rules.specs.Lists.{Has}
-use Rattle.acq_book.specs.Visits.{Saw, SawAll, SawSome}
+use Rattle.acq_book.specs.Visits.{Saw, SawAll, SawRows, SawSome}
 use Rattle.acq_sql_reads.specs.Shown.{AreRead, SawLast}
 
 -- one more row was read
@@ -39,6 +39,12 @@ module _ {T V : Type 0} (sees : V → T → Bool → V → Type 0) where
       first : (l : List T) → take (length l) (l ++ rest) ≡ l
       first [] = refl
       first (x ∷ l) = ap (λ k. x ∷ k) (first l)
+
+-- what was seen before an error
+pub seen_in_vain : {T V X E : Type 0} (sees : V → T → Bool → V → Type 0) (v w : V)
+    (r : Result X E) → IsErr r → SawRows sees v w false → SawRows sees v w (is_ok r)
+seen_in_vain sees v w (Ok x) is saw = absurd (true≢false (sym is))
+seen_in_vain sees v w (Err e) is saw = saw
 
 -- rows that begin the rows of a list were read as elements that begin it
 module _ {T : Type 0} (shows : Row → T → Type 0) (cells : T → Row) where

@@ -22,27 +22,24 @@ on_err_weaker (Ok x) f is = tt
 on_err_weaker (Err e) f is = f is
 
 -- the query shows the rows of a list in turn, each of which is read as its own element alone
-pub record ShowsList {T : Type 0} (sql : List ℕ) (params : Row) (old : State) (shows : Row → T →
-    Type 0)
-    (ys : List T) : Type 0 where
-  pub query : Query
+pub record ShowsList {T : Type 0} (sql : List ℕ) (params : Row) (old : State)
+    (shows : Row → T → Type 0) (query : Query) (cells : T → Row) (ys : List T) : Type 0 where
   pub names : List (List ℕ)
   pub ask : Asks sql query names
   pub has : old.now.schema ≡ book_schema
-  pub cells : T → Row
   pub found : (rows : List Row) → Shown sql params old old rows → rows ≡ map cells ys
   pub own : AreOwn shows cells ys
 
-module _ {T : Type 0} {sql : List ℕ} {params : Row} {old : State} {shows : Row → T →
-    Type 0} {ys : List T}
-    (list : ShowsList sql params old shows ys) where
+module _ {T : Type 0} {sql : List ℕ} {params : Row} {old : State} {shows : Row → T → Type 0}
+    {query : Query} {cells : T → Row} {ys : List T}
+    (list : ShowsList sql params old shows query cells ys) where
   pub is_plain : IsPlain (understood old.now.schema sql)
   is_plain = subst (λ d. IsPlain (understood d sql)) (sym list.has) list.ask.plain
 
   -- the first rows are those of the list
-  front : (rows : List Row) → AreFirst sql params old rows →
-      (tail : List Row) × (rows ++ tail ≡ map list.cells ys)
-  front rows (inl none) = (map list.cells ys, ap (λ l. l ++ map list.cells ys) none)
+  pub front : (rows : List Row) → AreFirst sql params old rows →
+      (tail : List Row) × (rows ++ tail ≡ map cells ys)
+  front rows (inl none) = (map cells ys, ap (λ l. l ++ map cells ys) none)
   front rows (inr begun) =
       let shown = begins_shown sql params old old rows begun.1 (unchanged_itself old begun.0)
       (λ c db it source.
@@ -56,15 +53,15 @@ module _ {T : Type 0} {sql : List ℕ} {params : Row} {old : State} {shows : Row
     pub saw_first : SawFirst sql params old shows sees v w → SawSome sees ys v w
     saw_first (rows, xs, first, read, saw) =
         let tail = front rows first in
-        let rest = read_front shows list.cells ys rows tail.0 xs list.own tail.1 read in
+        let rest = read_front shows cells ys rows tail.0 xs list.own tail.1 read in
         subst (λ l. SawSome sees l v w) (sym rest.1) (saw_some sees xs rest.0 v w saw)
 
     pub saw_enough : SawEnough sql params old shows sees v w → SawAll sees ys v w
     saw_enough (inl (rows, xs, shown, read, saw)) =
         subst (λ l. SawAll sees l v w)
-        (read_whole shows list.cells ys rows xs list.own (list.found rows shown) read)
+        (read_whole shows cells ys rows xs list.own (list.found rows shown) read)
         (saw_all sees xs v w saw)
     saw_enough (inr (rows, xs, x, first, read, last)) =
         let tail = front rows first in
-        let rest = read_front shows list.cells ys rows tail.0 (xs ++ x ∷ []) list.own tail.1 read in
+        let rest = read_front shows cells ys rows tail.0 (xs ++ x ∷ []) list.own tail.1 read in
         subst (λ l. SawAll sees l v w) (sym rest.1) (saw_last sees xs x rest.0 v w last)

@@ -1,17 +1,19 @@
 -- What a look-up says of the tables, and what it leaves.
-use Rattle.std.specs.Prelude.{◌≡◌, ◌⊎◌, ℕ, ◌+◌, ◌-◌, ◌==◌, Bool, true, false, ◌&&◌, List, []}
+use Rattle.std.specs.Prelude.{◌≡◌, ◌⊎◌, ◌≤◌, ℕ, ◌+◌, ◌-◌, ◌==◌, Bool, true, false, ◌&&◌, List, []}
 use Rattle.std.specs.Prelude.{◌∷◌, map, filter, length, Result, IfOk, IsTrue, Option, Some, None}
-use Rattle.std.specs.Prelude.{if◌then◌else◌}
+use Rattle.std.specs.Prelude.{IfSome, if◌then◌else◌}
 use Rattle.std.specs.List.{range_with_len}
 use Rattle.std.specs.Str.{bytes_eq}
 use Rattle.sqlite_value.specs.declared.value.Value.TheVariants.{Text}
 use Rattle.sqlite_value.specs.Order.{Row}
+use Rattle.sqlite_rules.specs.Lists.{Has}
 use Rattle.sqlite.specs.declared.error.Error.{Error}
 use Rattle.sqlite.specs.State.{State, HasCleanDisk, IsUnchanged, IsRolledBack, Survives}
 use Rattle.row_lemmas.specs.Values.{number, number_or_null}
 use Rattle.card_no.specs.declared.range.Range.{Range}
 use Rattle.card_no.specs.Ranges.{holds_prefix, range_of_prefix}
 use Rattle.day_totals.specs.Totals.{DayTotals}
+use Rattle.acq_message.specs.Numbers.{is_reference}
 use Rattle.acq_core.specs.declared.reconciliation.Reconciliation.{Reconciliation}
 use Rattle.acq_core.specs.Tables.{Tables}
 use Rattle.acq_book.specs.Order.{last_of}
@@ -70,7 +72,7 @@ abbrev pub IsNearest : ℕ → List Range → List Row → Type 0
 IsNearest prefix ranges rows =
     ((rows ≡ []) × (range_of_prefix ranges prefix ≡ None))
     ⊎ ((r : Range) × (rows ≡ range_cells r ∷ [])
-    × (range_of_prefix ranges prefix ≡ if_holds prefix r))
+    × (range_of_prefix ranges prefix ≡ if_holds prefix r) × Has ranges r)
 
 -- ---- reconciliations
 
@@ -109,8 +111,13 @@ abbrev pub count_up_to : ℕ → Option ℕ → ℕ
 count_up_to first None = 0
 count_up_to first (Some greatest) = greatest + 1 - first
 
+-- the greatest of so many references, if one was given, is one from the first on
+pub record TellsCount (first many : ℕ) (o : Option ℕ) : Type 0 where
+  pub counted : many ≡ count_up_to first o
+  pub given : IfSome o (λ n. (first ≤ n) × (is_reference n ≡ true))
+
 -- of so many references from the first on, the row of the greatest; none where there is no request
 abbrev pub ShowsGreatest : ℕ → ℕ → List Row → Type 0
 ShowsGreatest first many rows =
     ((rows ≡ []) × (many ≡ 0))
-    ⊎ ((o : Option ℕ) × (rows ≡ (number_or_null o ∷ []) ∷ []) × (many ≡ count_up_to first o))
+    ⊎ ((o : Option ℕ) × (rows ≡ (number_or_null o ∷ []) ∷ []) × TellsCount first many o)

@@ -1,5 +1,6 @@
 -- The row of a recorded request.
-use Rattle.std.specs.Prelude.{◌≡◌, ℕ, List, [], ◌∷◌, Option, Some, None, Ok}
+use Rattle.std.specs.Prelude.{◌≡◌, ◌≢◌, ℕ, List, [], ◌∷◌, Option, Some, None, Ok}
+use Rattle.sqlite_value.specs.declared.value.Value.{Value}
 use Rattle.sqlite_value.specs.declared.value.Value.TheVariants.{Text}
 use Rattle.sqlite_value.specs.Order.{Row, column}
 use Rattle.row_lemmas.specs.Values.{number, number_or_null, text_or_null}
@@ -7,8 +8,11 @@ use Rattle.iso_codec.specs.Message.{IsMessage}
 use Rattle.iso_codec.specs.Reading.{reading_of}
 use Rattle.acq_message.specs.Services.{digits_of}
 use Rattle.acq_message.specs.declared.request_key.RequestKey.{RequestKey}
+use Rattle.acq_message.specs.declared.service.Service.{Service}
 use Rattle.acq_core.specs.declared.request.Request.{Request}
+use Rattle.acq_core.specs.declared.status.Status.{Status}
 use Rattle.acq_core.specs.Statuses.{status_number}
+use Rattle.acq_history.specs.Rows.{FitsKey}
 use Rattle.acq_sql_rows.specs.Rows.{request_row, leg_number, bit_of}
 
 -- the request's row, with this text for its reply
@@ -32,6 +36,18 @@ pub record HasKey (row : Row) (key : RequestKey) : Type 0 where
   pub kind : column row 2 ≡ Text (digits_of key.service)
   pub trace : column row 3 ≡ Text key.trace
   pub stamp : column row 4 ≡ Text key.transmission
+
+-- no key such as a book has stands there
+abbrev pub HasNoKey : Row → Type 0
+HasNoKey row = (key : RequestKey) → HasKey row key → ¬ FitsKey key
+
+-- the value is not the digits of a service
+abbrev pub NamesNoService : Value → Type 0
+NamesNoService value = (s : Service) → value ≢ Text (digits_of s)
+
+-- the value is the number of a status
+abbrev pub NumbersStatus : Value → Type 0
+NumbersStatus value = (s : Status) × (value ≡ number (status_number s))
 
 -- the request's row, or none
 abbrev pub ShowsRequest : Option Request → List Row → Type 0

@@ -1,8 +1,13 @@
 -- What the rows of a query made of a visitor. `shows row x` says that the row was read as x, and
 -- `sees v x more w` that x made the visitor w of v, and whether it wanted more.
-use Rattle.std.specs.Prelude.{◌≡◌, ◌⊎◌, ℕ, Bool, false, List, [], ◌∷◌, ◌++◌, IsTrue, ⊤}
+use Rattle.std.specs.Prelude.{◌≡◌, ◌⊎◌, ◌<◌, ◌-◌, ◌^◌, ℕ, Bool, false, List, [], ◌∷◌, ◌++◌, length}
+use Rattle.std.specs.Prelude.{IsTrue, ⊤}
+use Rattle.std.specs.List.{AllByRecursion}
 use Rattle.sqlite_value.specs.Order.{Row}
-use Rattle.sqlite.specs.State.{State, Shown, Begins}
+use Rattle.sqlite.specs.declared.error.ErrorCode.TheVariants as code
+use Rattle.sqlite.specs.declared.error.Error.{Error}
+use Rattle.sqlite.specs.declared.error.Error.TheVariants.{SqliteFailure}
+use Rattle.sqlite.specs.State.{State, Shown, Begins, FailsToQuery}
 use Rattle.acq_book.specs.Visits.{Saw}
 
 -- each row was read as the element at its place
@@ -44,3 +49,14 @@ module _ {T V : Type 0} (sql : List ℕ) (params : Row) (old : State)
   -- one or the other
   abbrev pub SawEnough : Type 0
   SawEnough = SawEach ⊎ SawUpTo
+
+-- whatever rows begin the answer, each of them is such, and a 64-bit number counts one more
+abbrev pub ShowsOnly : List ℕ → Row → State → (Row → Type 0) → Type 0
+ShowsOnly sql params old fits =
+    (rows : List Row) → AreFirst sql params old rows
+    → AllByRecursion fits rows × (length rows < 2 ^ 64 - 1)
+
+-- it failed for memory, or as the query does
+abbrev pub FailsToHandOver : List ℕ → Row → State → State → Error → Type 0
+FailsToHandOver sql params old new e =
+    (e ≡ SqliteFailure code.OutOfMemory) ⊎ FailsToQuery sql params old new e

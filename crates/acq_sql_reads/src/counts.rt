@@ -1,16 +1,19 @@
 //! Counts of requests.
 
-ghost use Rattle.std.specs.Prelude.{◌≡◌, ◌∷◌, [], Some, IfOk, is_ok};
+ghost use Rattle.std.specs.Prelude.{◌≡◌, ◌≢◌, ◌≤◌, ◌∷◌, [], true, Some, IfSome, IfOk, IfErr, is_ok};
 ghost use Rattle.sqlite_sql.specs.Aggregate.{count};
 ghost use Rattle.sqlite.specs.State.{HasCleanDisk};
 ghost use Rattle.sqlite.specs.Held.{state};
 ghost use Rattle.acq_core.specs.declared.merchant.Merchant.{Merchant};
 ghost use Rattle.acq_core.specs.Tables.{Tables};
+ghost use Rattle.acq_core.specs.Numbers.{is_admitted_count};
 ghost use Rattle.acq_core.specs.Pasts.{HasPast};
 ghost use Rattle.acq_book.specs.Lookups.{merchant_at, admitted_at, pending_at};
 ghost use Rattle.acq_sql_rows.specs.Relation.{Holds};
 ghost use Rattle.acq_sql_reads.specs.Looked.{Answers, AnswersWhere, LooksOnly};
-ghost use Rattle.acq_sql_reads.specs.Looked.{ShowsGreatest, count_up_to};
+ghost use Rattle.acq_sql_reads.specs.Looked.{ShowsGreatest, TellsCount, count_up_to};
+ghost use Rattle.acq_sql_reads.specs.Failing.{FailsOnlyExcused, FailsOnlyExcusedWhere};
+ghost use Rattle.acq_sql_reads.specs.Failing.{IsEnrolled, IsTold};
 
 use crate::columns::{count_at, read, reference_if_at};
 use crate::enrolments;
@@ -31,6 +34,8 @@ pub fn pending<S: Alter>(conn: &mut Connection<S>, day: Day) -> Result<u64, Erro
     ensures answers { Answers (state S.Store conn.old) (state S.Store conn.new) result
         (λ t. pending_at t day) }
     ensures looks { LooksOnly (state S.Store conn.old) (state S.Store conn.new) (is_ok result) }
+    ensures fails { FailsOnlyExcusedWhere (state S.Store conn.old) (state S.Store conn.new) result
+        (λ t. IsTold (pending_at t day)) }
 {
     let rows = pending_rows(conn, day)?;
     match rows.first() {
@@ -45,6 +50,7 @@ fn pending_rows<S: Alter>(conn: &mut Connection<S>, day: Day) -> Result<Vec<Row>
         → Holds (state S.Store conn.old).now t → IfOk result
         (λ rows. rows.items ≡ (count (pending_at t day) ∷ []) ∷ []) }
     ensures looks { LooksOnly (state S.Store conn.old) (state S.Store conn.new) (is_ok result) }
+    ensures fails { FailsOnlyExcused (state S.Store conn.old) (state S.Store conn.new) result }
 {
     conn.query_all(PENDING, &[day_value(day)])
 }
@@ -57,6 +63,7 @@ pub fn admitted<S: Alter>(
     ensures answers { AnswersWhere (state S.Store conn.old) (state S.Store conn.new) result
         HasPast (λ t. admitted_at t merchant) }
     ensures looks { LooksOnly (state S.Store conn.old) (state S.Store conn.new) (is_ok result) }
+    ensures fails { FailsOnlyExcused (state S.Store conn.old) (state S.Store conn.new) result }
 {
     let Some(enrolled) = enrolments::merchant(conn, merchant)? else {
         return read(AdmittedCount::from_number(0));
@@ -67,7 +74,9 @@ pub fn admitted<S: Alter>(
 
 /// How many references there are from the first up to the greatest, if one was given.
 fn count_from(first: FirstReference, greatest: Option<Reference>) -> Result<AdmittedCount, Error>
-    ensures { IfOk result (λ n. n ≡ count_up_to first greatest) }
+    ensures value { IfOk result (λ n. n ≡ count_up_to first greatest) }
+    ensures fails { IfErr result (λ e. IfSome greatest (λ n. first ≤ n)
+        → is_admitted_count (count_up_to first greatest) ≢ true) }
 {
     let count = match greatest {
         Some(greatest) => read(greatest.number().checked_sub(first.number()))? + 1,
@@ -84,8 +93,10 @@ fn greatest_reference<S: Alter>(
     ensures answers { HasCleanDisk (state S.Store conn.new) → (t : Tables)
         → Holds (state S.Store conn.old).now t → HasPast t → (enrolled : Merchant)
         → merchant_at t merchant ≡ Some enrolled → IfOk result
-        (λ o. admitted_at t merchant ≡ count_up_to enrolled.first_reference o) }
+        (TellsCount enrolled.first_reference (admitted_at t merchant)) }
     ensures looks { LooksOnly (state S.Store conn.old) (state S.Store conn.new) (is_ok result) }
+    ensures fails { FailsOnlyExcusedWhere (state S.Store conn.old) (state S.Store conn.new) result
+        (IsEnrolled merchant) }
 {
     let rows = greatest_rows(conn, merchant)?;
     match rows.first() {
@@ -104,6 +115,7 @@ fn greatest_rows<S: Alter>(
         → merchant_at t merchant ≡ Some enrolled → IfOk result
         (λ rows. ShowsGreatest enrolled.first_reference (admitted_at t merchant) rows.items) }
     ensures looks { LooksOnly (state S.Store conn.old) (state S.Store conn.new) (is_ok result) }
+    ensures fails { FailsOnlyExcused (state S.Store conn.old) (state S.Store conn.new) result }
 {
     let merchant = merchant.to_bytes();
     conn.query_all(GREATEST_REFERENCE, &[ValueRef::Text(&merchant)])

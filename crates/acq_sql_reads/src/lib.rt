@@ -4,7 +4,8 @@
 //! (`specs/Looked.antt`). All but `pending` and `overlapping` read by a key that an index has. Each
 //! walk is one SELECT with ORDER BY, whose rows are read and handed over one at a time, so that no
 //! whole list is held (`specs/Walked.antt`). A row that the host can't have written is reported as
-//! a corrupt database, by a walk after the rows before it.
+//! a corrupt database, by a walk after the rows before it. Over a book whose tables events led to,
+//! each of them fails only for memory or since the store failed (`specs/Failing.antt`).
 #![tactic(auto)]
 
 mod book_row;

@@ -1,10 +1,11 @@
 //! A posting from its row.
 
-ghost use Rattle.std.specs.Prelude.{◌≡◌, length, IfOk};
+ghost use Rattle.std.specs.Prelude.{◌≡◌, ℕ, List, true, length, IfOk};
 ghost use Rattle.sqlite_value.specs.declared.value.Value.TheVariants.{Text};
 ghost use Rattle.sqlite_value.specs.Order.{column};
+ghost use Rattle.card_no.specs.CardNumbers.{is_valid_card};
 ghost use Rattle.acq_sql_rows.specs.Rows.{posting_row};
-ghost use Rattle.acq_sql_reads.specs.Failing.{NeedsText};
+ghost use Rattle.acq_sql_reads.specs.Failing.{FailsForMemory, IsPostingRow, NeedsText};
 
 use crate::columns::{amount_at, day_at, leg_at, merchant_at, read, reference_at, text_at};
 use acq_core::Posting;
@@ -15,7 +16,8 @@ use std::alloc::Global;
 
 /// The posting of a row with the nine columns, and its number.
 pub(crate) fn read_posting(alloc: Global, row: &Row) -> Result<(u64, Posting), Error>
-    ensures { IfOk result (λ p. length row.now ≡ 9 → row.now ≡ posting_row p) }
+    ensures value { IfOk result (λ p. length row.now ≡ 9 → row.now ≡ posting_row p) }
+    ensures fails { IsPostingRow row.now → FailsForMemory result }
 {
     let merchant = merchant_at(row, 0)?;
     let day = day_at(row, 1)?;
@@ -45,6 +47,8 @@ pub(crate) fn read_posting(alloc: Global, row: &Row) -> Result<(u64, Posting), E
 /// would be cleared.
 fn card_at(alloc: Global, row: &Row, at: usize) -> Result<ElementContent, Error>
     ensures value { IfOk result (λ content. column row.now at ≡ Text content) }
+    ensures fails { (text : List ℕ) → column row.now at ≡ Text text → is_valid_card text ≡ true
+        → FailsForMemory result }
     ensures memory { NeedsText (column row.now at) result }
 {
     let text = text_at(row, at)?;

@@ -10,6 +10,7 @@ ghost use Rattle.acq_book.specs.Lookups.{range_at, overlapping_at};
 ghost use Rattle.acq_sql_rows.specs.Relation.{Holds};
 ghost use Rattle.acq_sql_reads.specs.Looked.{Answers, AnswersWhere, LooksOnly, IsNearest};
 ghost use Rattle.acq_sql_reads.specs.Looked.{range_cells};
+ghost use Rattle.acq_sql_reads.specs.Failing.{FailsForMemory, FailsOnlyExcused, IsRangeRow};
 
 use crate::columns::{hold_days_at, issuer_at};
 use acq_sql_rows::short_value;
@@ -32,6 +33,7 @@ pub fn range<S: Alter>(
     ensures answers { AnswersWhere (state S.Store conn.old) (state S.Store conn.new) result
         (λ t. are_apart t.ranges ≡ true) (λ t. range_at t prefix) }
     ensures looks { LooksOnly (state S.Store conn.old) (state S.Store conn.new) (is_ok result) }
+    ensures fails { FailsOnlyExcused (state S.Store conn.old) (state S.Store conn.new) result }
 {
     let rows = nearest_rows(conn, prefix)?;
     let Some(row) = rows.first() else {
@@ -51,6 +53,7 @@ fn nearest_rows<S: Alter>(conn: &mut Connection<S>, prefix: Prefix) -> Result<Ve
         → Holds (state S.Store conn.old).now t → are_apart t.ranges ≡ true → IfOk result
         (λ rows. IsNearest prefix t.ranges rows.items) }
     ensures looks { LooksOnly (state S.Store conn.old) (state S.Store conn.new) (is_ok result) }
+    ensures fails { FailsOnlyExcused (state S.Store conn.old) (state S.Store conn.new) result }
 {
     conn.query_all(NEAREST, &[short_value(prefix.number())])
 }
@@ -65,6 +68,7 @@ pub fn overlapping<S: Alter>(
     ensures answers { Answers (state S.Store conn.old) (state S.Store conn.new) result
         (λ t. overlapping_at t low high) }
     ensures looks { LooksOnly (state S.Store conn.old) (state S.Store conn.new) (is_ok result) }
+    ensures fails { FailsOnlyExcused (state S.Store conn.old) (state S.Store conn.new) result }
 {
     let rows = overlapping_rows(conn, low, high)?;
     match rows.first() {
@@ -83,12 +87,14 @@ fn overlapping_rows<S: Alter>(
         → Holds (state S.Store conn.old).now t → IfOk result
         (λ rows. rows.items ≡ option_to_list (option_map range_cells (overlapping_at t low high))) }
     ensures looks { LooksOnly (state S.Store conn.old) (state S.Store conn.new) (is_ok result) }
+    ensures fails { FailsOnlyExcused (state S.Store conn.old) (state S.Store conn.new) result }
 {
     conn.query_all(OVERLAPPING, &[short_value(low), short_value(high)])
 }
 
 fn read_range(alloc: Global, row: &Row) -> Result<Range, Error>
-    ensures { IfOk result (λ r. length row.now ≡ 4 → row.now ≡ range_cells r) }
+    ensures value { IfOk result (λ r. length row.now ≡ 4 → row.now ≡ range_cells r) }
+    ensures fails { IsRangeRow row.now → FailsForMemory result }
 {
     Ok(Range {
         low: row.get(0)?,

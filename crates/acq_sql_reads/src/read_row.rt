@@ -4,6 +4,8 @@ ghost use Rattle.std.specs.Prelude.{◌≡◌, length, IfOk};
 ghost use Rattle.sqlite_value.specs.Order.{Row as Cells};
 ghost use Rattle.acq_sql_rows.specs.Rows.{merchant_row, posting_row};
 ghost use Rattle.acq_sql_reads.specs.Recorded.{IsRowOf};
+ghost use Rattle.acq_sql_reads.specs.Failing.{FailsForMemory, IsMerchantRow, IsPostingRow};
+ghost use Rattle.acq_sql_reads.specs.Failing.{IsRequestRow};
 
 use crate::posting_row::read_posting;
 use crate::{read_merchant, read_request};
@@ -16,9 +18,13 @@ pub(crate) trait ReadRow<T> {
     /// The row is this one's.
     ghost shows: { Cells → T → Type 0 };
 
+    /// The row is such as a book has.
+    ghost fits: { Cells → Type 0 };
+
     /// Whose row it is, or the fault of one that the host hasn't written.
     fn read(&self, row: &Row) -> Result<T, Error>
-        ensures { IfOk result (shows row.now) };
+        ensures value { IfOk result (shows row.now) }
+        ensures fails { fits row.now → FailsForMemory result };
 }
 
 /// Merchants.
@@ -27,6 +33,8 @@ pub(crate) struct MerchantRows;
 
 impl ReadRow<Merchant> for MerchantRows {
     ghost shows = { λ row m. length row ≡ 3 → row ≡ merchant_row m };
+
+    ghost fits = { IsMerchantRow };
 
     fn read(&self, row: &Row) -> Result<Merchant, Error> {
         read_merchant(row)
@@ -42,6 +50,8 @@ pub(crate) struct PostingRows {
 impl ReadRow<(u64, Posting)> for PostingRows {
     ghost shows = { λ row p. length row ≡ 9 → row ≡ posting_row p };
 
+    ghost fits = { IsPostingRow };
+
     fn read(&self, row: &Row) -> Result<(u64, Posting), Error> {
         read_posting(self.alloc, row)
     }
@@ -55,6 +65,8 @@ pub(crate) struct RequestRows {
 
 impl ReadRow<Request> for RequestRows {
     ghost shows = { λ row r. length row ≡ 18 → IsRowOf row r };
+
+    ghost fits = { IsRequestRow };
 
     fn read(&self, row: &Row) -> Result<Request, Error> {
         read_request(self.alloc, row)

@@ -12,8 +12,9 @@ ghost use Rattle.iso_codec.specs.Faults.{NeedsMemory};
 ghost use Rattle.iso_codec.specs.Reading.{reading_of};
 ghost use Rattle.acq_message.specs.Services.{digits_of};
 ghost use Rattle.acq_core.specs.Statuses.{status_number};
-ghost use Rattle.acq_sql_reads.specs.Recorded.{HasKey, IsRowOf};
-ghost use Rattle.acq_sql_reads.specs.Failing.{FailsForMemory, NeedsText};
+ghost use Rattle.acq_sql_reads.specs.Recorded.{HasKey, HasNoKey, IsRowOf};
+ghost use Rattle.acq_sql_reads.specs.Recorded.{NamesNoService, NumbersStatus};
+ghost use Rattle.acq_sql_reads.specs.Failing.{FailsForMemory, IsRequestRow, NeedsText};
 
 use crate::columns::{
     amount_at, bit_at, day_at, hold_days_at, leg_at, merchant_at, read, reference_if_at, text_at,
@@ -29,7 +30,8 @@ use std::alloc::Global;
 
 /// The request of a row with the eighteen columns.
 pub fn read_request(alloc: Global, row: &Row) -> Result<Request, Error>
-    ensures { IfOk result (λ r. length row.now ≡ 18 → IsRowOf row.now r) }
+    ensures value { IfOk result (λ r. length row.now ≡ 18 → IsRowOf row.now r) }
+    ensures fails { IsRequestRow row.now → FailsForMemory result }
 {
     let key = read_key(row)?;
     let day = day_at(row, 6)?;
@@ -66,7 +68,8 @@ pub fn read_request(alloc: Global, row: &Row) -> Result<Request, Error>
 
 /// The key in the first five columns.
 fn read_key(row: &Row) -> Result<RequestKey, Error>
-    ensures { IfOk result (λ key. HasKey row.now key) }
+    ensures value { IfOk result (λ key. HasKey row.now key) }
+    ensures fails { IfErr result (λ e. HasNoKey row.now) }
 {
     Ok(RequestKey {
         merchant: merchant_at(row, 0)?,
@@ -78,7 +81,8 @@ fn read_key(row: &Row) -> Result<RequestKey, Error>
 }
 
 fn service_at(row: &Row, at: usize) -> Result<Service, Error>
-    ensures { IfOk result (λ service. column row.now at ≡ Text (digits_of service)) }
+    ensures value { IfOk result (λ service. column row.now at ≡ Text (digits_of service)) }
+    ensures fails { IfErr result (λ e. NamesNoService (column row.now at)) }
 {
     let text = text_at(row, at)?;
     let [a, b, c] = text else {
@@ -99,7 +103,8 @@ fn message_text_at(alloc: Global, row: &Row, at: usize) -> Result<MessageText, E
 }
 
 fn status_at(row: &Row, at: usize) -> Result<Status, Error>
-    ensures { IfOk result (λ status. column row.now at ≡ number (status_number status)) }
+    ensures value { IfOk result (λ status. column row.now at ≡ number (status_number status)) }
+    ensures fails { NumbersStatus (column row.now at) → FailsForMemory result }
 {
     read(Status::from_number(row.get(at)?))
 }

@@ -9,6 +9,7 @@ ghost use Rattle.acq_book.specs.Lookups.{request_at, referred_at};
 ghost use Rattle.acq_sql_rows.specs.Relation.{Holds};
 ghost use Rattle.acq_sql_reads.specs.Looked.{Answers, AnswersWhere, LooksOnly};
 ghost use Rattle.acq_sql_reads.specs.Recorded.{ShowsRequest};
+ghost use Rattle.acq_sql_reads.specs.Failing.{FailsOnlyExcused};
 
 use crate::request_row::read_request;
 use acq_core::Request;
@@ -36,6 +37,7 @@ pub fn request<S: Alter>(
     ensures answers { Answers (state S.Store conn.old) (state S.Store conn.new) result
         (λ t. request_at t key) }
     ensures looks { LooksOnly (state S.Store conn.old) (state S.Store conn.new) (is_ok result) }
+    ensures fails { FailsOnlyExcused (state S.Store conn.old) (state S.Store conn.new) result }
 {
     let rows = request_rows(conn, key)?;
     match rows.first() {
@@ -50,6 +52,7 @@ fn request_rows<S: Alter>(conn: &mut Connection<S>, key: RequestKey) -> Result<V
         → Holds (state S.Store conn.old).now t → IfOk result
         (λ rows. ShowsRequest (request_at t key) rows.items) }
     ensures looks { LooksOnly (state S.Store conn.old) (state S.Store conn.new) (is_ok result) }
+    ensures fails { FailsOnlyExcused (state S.Store conn.old) (state S.Store conn.new) result }
 {
     let merchant = key.merchant.to_bytes();
     let terminal = key.terminal.to_bytes();
@@ -78,6 +81,7 @@ pub fn by_reference<S: Alter>(
     ensures answers { AnswersWhere (state S.Store conn.old) (state S.Store conn.new) result
         HasPast (λ t. referred_at t merchant reference) }
     ensures looks { LooksOnly (state S.Store conn.old) (state S.Store conn.new) (is_ok result) }
+    ensures fails { FailsOnlyExcused (state S.Store conn.old) (state S.Store conn.new) result }
 {
     let rows = reference_rows(conn, merchant, reference)?;
     match rows.first() {
@@ -96,6 +100,7 @@ fn reference_rows<S: Alter>(
         → Holds (state S.Store conn.old).now t → HasPast t → IfOk result
         (λ rows. ShowsRequest (referred_at t merchant reference) rows.items) }
     ensures looks { LooksOnly (state S.Store conn.old) (state S.Store conn.new) (is_ok result) }
+    ensures fails { FailsOnlyExcused (state S.Store conn.old) (state S.Store conn.new) result }
 {
     let merchant = merchant.to_bytes();
     conn.query_all(

@@ -4,6 +4,8 @@ ghost use Rattle.std.specs.Prelude.{is_ok};
 ghost use Rattle.sqlite.specs.Held.{state};
 ghost use Rattle.acq_core.specs.Pasts.{HasPast};
 ghost use Rattle.acq_book.specs.Lookups.{holds_at, merchants_at, postings_at, waiting_at};
+ghost use Rattle.acq_book.specs.Visits.{SawRows};
+ghost use Rattle.acq_sql_reads.specs.Failing.{CanBeWalked, FailsOnlyExcusedWhere};
 ghost use Rattle.acq_sql_reads.specs.Looked.{LooksOnly};
 ghost use Rattle.acq_sql_reads.specs.Walked.{WalksAll, WalksSome, WalksAllWhere, WalksSomeWhere};
 
@@ -43,7 +45,10 @@ pub fn walk_postings<S: Alter, V: Visit<(u64, Posting)>>(
         V.sees (λ t. postings_at t day) visitor.old visitor.new }
     ensures begun { WalksSome (state S.Store conn.old) (state S.Store conn.new) result
         V.sees (λ t. postings_at t day) visitor.old visitor.new }
+    ensures shown { SawRows V.sees visitor.old visitor.new (is_ok result) }
     ensures looks { LooksOnly (state S.Store conn.old) (state S.Store conn.new) (is_ok result) }
+    ensures fails { FailsOnlyExcusedWhere (state S.Store conn.old) (state S.Store conn.new) result
+        (λ t. CanBeWalked (postings_at t day)) }
 {
     show_rows(
         conn,
@@ -63,7 +68,10 @@ pub fn walk_merchants<S: Alter, V: Visit<Merchant>>(
         V.sees merchants_at visitor.old visitor.new }
     ensures begun { WalksSome (state S.Store conn.old) (state S.Store conn.new) result
         V.sees merchants_at visitor.old visitor.new }
+    ensures shown { SawRows V.sees visitor.old visitor.new (is_ok result) }
     ensures looks { LooksOnly (state S.Store conn.old) (state S.Store conn.new) (is_ok result) }
+    ensures fails { FailsOnlyExcusedWhere (state S.Store conn.old) (state S.Store conn.new) result
+        (λ t. CanBeWalked (merchants_at t)) }
 {
     show_rows(conn, MERCHANTS, &[], &MerchantRows, visitor)
 }
@@ -80,7 +88,10 @@ pub fn walk_holds<S: Alter, V: Visit<Request>>(
         V.sees HasPast (λ t. holds_at t merchant) visitor.old visitor.new }
     ensures begun { WalksSomeWhere (state S.Store conn.old) (state S.Store conn.new) result
         V.sees HasPast (λ t. holds_at t merchant) visitor.old visitor.new }
+    ensures shown { SawRows V.sees visitor.old visitor.new (is_ok result) }
     ensures looks { LooksOnly (state S.Store conn.old) (state S.Store conn.new) (is_ok result) }
+    ensures fails { FailsOnlyExcusedWhere (state S.Store conn.old) (state S.Store conn.new) result
+        (λ t. CanBeWalked (holds_at t merchant)) }
 {
     let merchant = merchant.to_bytes();
     show_rows(
@@ -103,7 +114,10 @@ pub fn walk_pending<S: Alter, V: Visit<Request>>(
         V.sees waiting_at visitor.old visitor.new }
     ensures begun { WalksSome (state S.Store conn.old) (state S.Store conn.new) result
         V.sees waiting_at visitor.old visitor.new }
+    ensures shown { SawRows V.sees visitor.old visitor.new (is_ok result) }
     ensures looks { LooksOnly (state S.Store conn.old) (state S.Store conn.new) (is_ok result) }
+    ensures fails { FailsOnlyExcusedWhere (state S.Store conn.old) (state S.Store conn.new) result
+        (λ t. CanBeWalked (waiting_at t)) }
 {
     show_rows(conn, WAITING, &[], &RequestRows { alloc }, visitor)
 }

@@ -1,11 +1,10 @@
 //! Answers to the requests that wait for one.
 
-ghost use Rattle.std.specs.Prelude.{◌≡◌, ◌∷◌, [], codes, unwrap_or, IfOk};
+ghost use Rattle.std.specs.Prelude.{◌≡◌, ◌+◌, ◌∷◌, [], codes, unwrap_or, IfOk};
 ghost use Rattle.std.specs.Fmt.{decimal};
 ghost use Rattle.day_totals.specs.Digits.{zero_padded};
 ghost use Rattle.acq_book.specs.Calls.{Looks};
-ghost use Rattle.acq_book.specs.Promise.{HasRisen};
-ghost use Rattle.acq_reports.specs.Faults.{IfStoreFailed, is_settled};
+ghost use Rattle.acq_reports.specs.Faults.{CountsStore, failed_writes, is_settled};
 ghost use Rattle.acq_reports.specs.Marks.{csv_line};
 ghost use Rattle.acq_reports.specs.Writing.{Writes};
 ghost use Rattle.acq_stand_in.specs.Pending.{answer_fields, is_of_day, pending_text};
@@ -36,8 +35,9 @@ pub fn answers_to_pending<B: Book, K: Sink>(
 ) -> Result<(), ReportFault>
     ensures text { B.is_honest book.new → B.is_open book.old → Writes K.sent K.failures
         (pending_text issuers.now moment day (B.tables book.old)) writer.old writer.new result }
+    ensures writes { K.failures writer.new ≡ K.failures writer.old + failed_writes result }
     ensures looks { Looks B.Book book.old book.new (is_settled result) }
-    ensures store { IfStoreFailed result (HasRisen (B.failures book.old) (B.failures book.new)) }
+    ensures store { CountsStore result (B.failures book.old) (B.failures book.new) }
 {
     let mut answers = PendingAnswers {
         report: Report::new(alloc, writer),

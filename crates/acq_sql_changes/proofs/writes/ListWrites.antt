@@ -66,24 +66,39 @@ recorded_changed p u keeps (r ∷ rows) all = (
 
 -- ---- the parts of a key
 
-all_five : (a b c d e : Bool) → (a && (b && (c && (d && (e && true))))) ≡ (a && b && c && d && e)
+pub all_five : (a b c d e : Bool)
+    → (a && (b && (c && (d && (e && true))))) ≡ (a && b && c && d && e)
 all_five true true true true e = and_true e
 all_five true true true false e = refl
 all_five true true false d e = refl
 all_five true false c d e = refl
 all_five false b c d e = refl
 
+-- the row of the request with this key passes
+pub key_test : (key : RequestKey) (more : Row) (id : ℕ) (x : Request)
+    → picked key_is (key_row key ++ more) (Int (pos id) ∷ request_row x) ≡ same_key x.key key
+key_test key more id x =
+    rw (
+      text_test x.key.merchant key.merchant,
+      text_test x.key.terminal key.terminal,
+      text_test (digits_of x.key.service) (digits_of key.service),
+      text_test x.key.trace key.trace,
+      text_test x.key.transmission key.transmission,
+    ) (all_five (bytes_eq x.key.merchant key.merchant) (bytes_eq x.key.terminal key.terminal)
+    (same_service x.key.service key.service) (bytes_eq x.key.trace key.trace)
+    (bytes_eq x.key.transmission key.transmission))
+
 -- ---- the rows as the columns take them
 
-laid_merchant : (m : Merchant) →
+pub laid_merchant : (m : Merchant) →
     cast_row at.the_merchants (Null ∷ merchant_row m) ≡ Null ∷ merchant_row m
 laid_merchant m = rw (cast_null, cast_int (pos m.first_reference))
 
-laid_terminal : (x : Terminal) →
+pub laid_terminal : (x : Terminal) →
     cast_row at.the_terminals (Null ∷ terminal_row x) ≡ Null ∷ terminal_row x
 laid_terminal x = rw cast_null
 
-laid_posting : (p : ℕ × Posting) →
+pub laid_posting : (p : ℕ × Posting) →
     cast_row at.the_postings (Null ∷ posting_row p) ≡ Null ∷ posting_row p
 laid_posting p =
     rw (
@@ -95,7 +110,7 @@ laid_posting p =
       cast_int (pos p.1.reference),
     )
 
-laid_reconciliation : (r : ℕ × Reconciliation)
+pub laid_reconciliation : (r : ℕ × Reconciliation)
     → cast_row at.the_reconciliations (Null ∷ reconciliation_row r) ≡ Null ∷ reconciliation_row r
 laid_reconciliation r =
     rw (
@@ -105,7 +120,7 @@ laid_reconciliation r =
       cast_int (pos (bit_of r.1.in_balance)),
     )
 
-laid_request : (r : Request) →
+pub laid_request : (r : Request) →
     cast_row at.the_requests (Null ∷ request_row r) ≡ Null ∷ request_row r
 laid_request r =
     rw (
@@ -123,7 +138,7 @@ laid_request r =
       cast_number r.hold_end,
     )
 
-laid_number : (id : ℕ) (r : Request)
+pub laid_number : (id : ℕ) (r : Request)
     → cast_row at.the_requests (Int (pos id) ∷ request_row r) ≡ Int (pos id) ∷ request_row r
 laid_number id r =
     rw (
@@ -286,19 +301,6 @@ module _ (limit : Option ℕ) (mode : Mode) (old new : Database) (text : List �
   -- ---- UPDATE of the request with a key
 
   module _ (key : RequestKey) where
-    key_test : (more : Row) (id : ℕ) (x : Request)
-        → picked key_is (key_row key ++ more) (Int (pos id) ∷ request_row x) ≡ same_key x.key key
-    key_test more id x =
-        rw (
-          text_test x.key.merchant key.merchant,
-          text_test x.key.terminal key.terminal,
-          text_test (digits_of x.key.service) (digits_of key.service),
-          text_test x.key.trace key.trace,
-          text_test x.key.transmission key.transmission,
-        ) (all_five (bytes_eq x.key.merchant key.merchant) (bytes_eq x.key.terminal key.terminal)
-        (same_service x.key.service key.service) (bytes_eq x.key.trace key.trace)
-        (bytes_eq x.key.transmission key.transmission))
-
     pub request_answered : (status : Status) (reply : IsoMessage) (hold_end : Option ℕ) →
         IsMessage reply
         → Does limit mode
@@ -317,7 +319,7 @@ module _ (limit : Option ℕ) (mode : Mode) (old new : Database) (text : List �
         let changed = numbered_updated request_row book_schema mode.keys old.trees new.trees
         at.the_requests t.requests
         has.requests key_is (drop 1 answer_query.project) params w.1.0 (w.1.1.answer Null)
-        (λ x. same_key x.key key) u (λ id x here among. key_test more id x)
+        (λ x. same_key x.key key) u (λ id x here among. key_test key more id x)
         (λ id x here among is. laid_number id (u x)) w.1.2 in
         at.turned old new t runs has w.0 sound requests_tree _
         (at.others_of mode.keys old.trees new.trees _ w.1.2) changed
@@ -339,7 +341,7 @@ module _ (limit : Option ℕ) (mode : Mode) (old new : Database) (text : List �
         let changed = numbered_updated request_row book_schema mode.keys old.trees new.trees
         at.the_requests t.requests
         has.requests key_is (drop 1 follow_query.project) params w.1.0 (w.1.1.answer Null)
-        (λ x. same_key x.key key) u (λ id x here among. key_test more id x)
+        (λ x. same_key x.key key) u (λ id x here among. key_test key more id x)
         (λ id x here among is. laid_number id (u x)) w.1.2 in
         at.turned old new t runs has w.0 sound requests_tree _
         (at.others_of mode.keys old.trees new.trees _ w.1.2) changed (with_remains key remains t)

@@ -1,5 +1,7 @@
--- What the statements that widen the ranges do to the rows, and that they never stop.
-use Rattle.std.proofs.Common.{◌≡◌, ℕ, true, List, [], None, Option, Ok, Err, refl, sym, subst}
+-- What the statements that widen the ranges do to the rows, and that they never stop; and that
+-- setting the day never does.
+use Rattle.std.proofs.Common.{◌≡◌, ℕ, true, List, [], ◌∷◌, None, Option, Ok, Err, refl, sym}
+use Rattle.std.proofs.Common.{subst}
 use Rattle.sqlite_value.specs.Order.{Row}
 use Rattle.sqlite_trees.specs.View.{IsShaped}
 use Rattle.sqlite_trees.specs.declared.store.Shape.TheVariants as shape
@@ -23,6 +25,7 @@ use Rattle.acq_sql_rows.specs.Tallies.{Running}
 use Rattle.acq_sql_rows.specs.Rows.{version, range_rows, turned_rows}
 use Rattle.acq_sql_rows.specs.Queries.{widened_columns, turned_columns, version_columns}
 use Rattle.acq_sql_rows.specs.Queries.{widen_ranges_query, turn_ranges_query, set_version_query}
+use Rattle.acq_sql_rows.specs.Queries.{set_day_query}
 use Rattle.acq_sql_rows.specs.Relation.{HoldsRows, HoldsRowsOf, HoldsTurnedOf}
 use Rattle.acq_sql_changes.specs.Widened.{HasRangesUnder}
 use Rattle.acq_sql_changes.proofs.writes.TableTurns as at
@@ -31,6 +34,8 @@ use Rattle.acq_sql_changes.proofs.writes.RangeWrites.{ranges_shaped}
 use Rattle.acq_sql_changes.proofs.writes.RangeMoves.{turned_shaped, still_rising, widen_moves}
 use Rattle.acq_sql_changes.proofs.writes.RangeMoves.{turn_moves}
 use Rattle.acq_sql_changes.proofs.writes.VersionMoves.{book_rows, book_shaped, version_moves}
+use Rattle.acq_sql_changes.proofs.writes.VersionMoves.{day_columns, day_moves}
+use Rattle.row_lemmas.specs.Values.{number}
 
 abbrev pub widening : Command
 widening = Update 3 (alone widen_ranges_query)
@@ -144,3 +149,21 @@ module _ (mode : Mode) (old : Database) (text : List ℕ) (number : ℕ) (t : Ta
         move_succeeds book_schema moved.plain 0 at.the_book at.book_placed mode old has.schema
         book_is text [] version_columns book_target set moved.book_listed
         (fits_of book_schema old.trees has.sound) moved.book_unguarded typed_setting
+
+typed_day : (day : ℕ) → accepts_program book_schema [] set_day_query (number day ∷ []) ≡ true
+unfolding book_schema schema.up_to_reconciliations schema.up_to_postings schema.up_to_requests
+    schema.up_to_ranges schema.up_to_terminals schema.up_to_merchants schema.up_to_book
+typed_day day = refl
+
+pub day_succeeds : (mode : Mode) (old : Database) (text : List ℕ) (t : Tables)
+    (runs : List Running) → HoldsRows old t runs → (day : ℕ) (stop : Option Error)
+    → ¬ Does None mode (number day ∷ []) old text None (Update 0 (alone set_day_query)) (Err stop)
+day_succeeds mode old text t runs has day =
+    let shaped = subst (IsShaped shape.Table) (sym has.book) (book_shaped version t.limit t.day) in
+    let target = book_rows version t.limit day in
+    let move = subst
+    (λ rows. IsMove book_schema (bare at.the_book) day_columns (number day ∷ []) rows target)
+    (sym has.book) (day_moves t.limit t.day day) in
+    move_succeeds book_schema moved.plain 0 at.the_book at.book_placed mode old has.schema shaped
+    text (number day ∷ []) day_columns target move moved.book_listed
+    (fits_of book_schema old.trees has.sound) moved.book_unguarded (typed_day day)

@@ -48,7 +48,8 @@ use Rattle.acq_sql_changes.proofs.writes.RunningTotals.{bytes_same, number_same,
 use Rattle.acq_sql_changes.proofs.writes.RunningTotals.{raised_apart, found_first}
 use Rattle.acq_sql_changes.proofs.writes.TableTurns as at
 
-laid_running : (r : Running) → cast_row at.the_running (Null ∷ running_row r) ≡ Null ∷ running_row r
+pub laid_running : (r : Running)
+    → cast_row at.the_running (Null ∷ running_row r) ≡ Null ∷ running_row r
 laid_running r =
     rw (
       cast_null,
@@ -64,7 +65,7 @@ laid_running r =
       cast_int (pos r.tally.totals.debit_reversals.amount),
     )
 
-laid_at : (id : ℤ) (r : Running) →
+pub laid_at : (id : ℤ) (r : Running) →
     cast_row at.the_running (Int id ∷ running_row r) ≡ Int id ∷ running_row r
 laid_at id r =
     rw (
@@ -86,7 +87,7 @@ or_false true = refl
 or_false false = refl
 
 -- the row that is there has the key of the new one
-conflict_test : (new id : ℤ) (r x : Running)
+pub conflict_test : (new id : ℤ) (r x : Running)
     → conflicts (Some (1 ∷ 2 ∷ [])) book_schema.indexes (bare at.the_running)
     (Int new ∷ running_row r) (Int id ∷ running_row x)
     ≡ is_for r.merchant r.day x
@@ -95,7 +96,7 @@ unfolding book_schema schema.up_to_reconciliations schema.up_to_postings schema.
 conflict_test new id r x =
     rw (text_test x.merchant r.merchant, number_test x.day r.day, and_true, or_false) refl
 
-none_find : {X : Type 0} (p : X → Bool) (xs : List X) → ((x : X) → Has xs x → p x ≡ false) →
+pub none_find : {X : Type 0} (p : X → Bool) (xs : List X) → ((x : X) → Has xs x → p x ≡ false) →
     find p xs ≡ None
 none_find p [] none = refl
 none_find p (x ∷ xs) none = rw (none x (inl refl)) (none_find p xs (λ y h. none y (inr h)))
@@ -104,7 +105,7 @@ module _ (merchant : List ℕ) (day : ℕ) (more : Tally) where
   abbrev pub it : Running
   it = record { merchant = merchant; day = day; tally = more }
 
-  abbrev raise : Running → Running
+  abbrev pub raise : Running → Running
   raise y = record y { tally = plus y.tally more }
 
   abbrev hits : ℤ → Row → Bool
@@ -115,7 +116,7 @@ module _ (merchant : List ℕ) (day : ℕ) (more : Tally) where
       → hits new r ≡ is_for merchant day x
   hit_of new id x r is = ap (hits new) is ∙ conflict_test new (pos id) it x
 
-  never_two : (x y : Running) → is_for y.merchant y.day x ≡ false → is_for merchant day x ≡ true
+  pub never_two : (x y : Running) → is_for y.merchant y.day x ≡ false → is_for merchant day x ≡ true
       → is_for merchant day y ≡ true → ⊥
   never_two x y apart one two =
       let parts = and_parts _ _ two in
@@ -139,6 +140,34 @@ module _ (merchant : List ℕ) (day : ℕ) (more : Tally) where
       (sym (hit_of new y.0 y.1 r y.3) ∙ h))
   one_hit new n (x ∷ xs) r s apart (inr later) (inr too) h k =
       one_hit new (suc n) xs r s apart.1 later too h k
+
+  -- the day of the row that is there has room
+  pub fits_there : (runs : List Running) → AreApart runs
+      → FitsTally (plus (tally_in runs merchant day) more) → (y : Running) → Has runs y
+      → is_for merchant day y ≡ true → FitsTally (plus y.tally more)
+  fits_there runs apart room y h is =
+      subst (λ o. FitsTally (plus (or_no_tally o) more))
+      (found_first merchant day more runs y apart h is) room
+
+  -- what the row that is there becomes
+  pub shows : (rest : Row) (id : ℕ) (y : Running) → FitsTally (plus y.tally more)
+      → shown_of (drop 1 raise_query.project) (running_row it ++ rest)
+      (Int (pos id) ∷ running_row y)
+      ≡ Int (pos id) ∷ running_row (raise y)
+  shows rest id y fit =
+      let a = y.tally.totals in
+      let b = more.totals in
+      rw (
+        number_sum y.tally.used more.used fit.used,
+        number_sum a.credits.count b.credits.count fit.credits.0,
+        number_sum a.credit_reversals.count b.credit_reversals.count fit.credit_reversals.0,
+        number_sum a.debits.count b.debits.count fit.debits.0,
+        number_sum a.debit_reversals.count b.debit_reversals.count fit.debit_reversals.0,
+        number_sum a.credits.amount b.credits.amount fit.credits.1,
+        number_sum a.credit_reversals.amount b.credit_reversals.amount fit.credit_reversals.1,
+        number_sum a.debits.amount b.debits.amount fit.debits.1,
+        number_sum a.debit_reversals.amount b.debit_reversals.amount fit.debit_reversals.1,
+      ) refl
 
   module _ (limit : Option ℕ) (mode : Mode) (old new : Database) (text : List ℕ) (noted : Noted)
       (t : Tables)
@@ -218,30 +247,6 @@ module _ (merchant : List ℕ) (day : ℕ) (more : Tally) where
               absurd (true≢false
               (sym (number_itself k) ∙ sym (p_of k x) ∙ sym (ap p one) ∙ p_of id y ∙ e))
 
-      fits : (y : Running) → Has runs y → is_for merchant day y ≡ true →
-          FitsTally (plus y.tally more)
-      fits y h is =
-          subst (λ o. FitsTally (plus (or_no_tally o) more))
-          (found_first merchant day more runs y has.apart h is) room
-
-      shows : (id : ℕ) (y : Running) → FitsTally (plus y.tally more)
-          → shown_of (drop 1 raise_query.project) given (Int (pos id) ∷ running_row y)
-          ≡ Int (pos id) ∷ running_row (raise y)
-      shows id y fit =
-          let a = y.tally.totals in
-          let b = more.totals in
-          rw (
-            number_sum y.tally.used more.used fit.used,
-            number_sum a.credits.count b.credits.count fit.credits.0,
-            number_sum a.credit_reversals.count b.credit_reversals.count fit.credit_reversals.0,
-            number_sum a.debits.count b.debits.count fit.debits.0,
-            number_sum a.debit_reversals.count b.debit_reversals.count fit.debit_reversals.0,
-            number_sum a.credits.amount b.credits.amount fit.credits.1,
-            number_sum a.credit_reversals.amount b.credit_reversals.amount fit.credit_reversals.1,
-            number_sum a.debits.amount b.debits.amount fit.debits.1,
-            number_sum a.debit_reversals.amount b.debit_reversals.amount fit.debit_reversals.1,
-          ) refl
-
       changed : (answers : List Row)
           → Answers (record { schema = book_schema; trees = old.trees })
           (alone raise_query) given answers
@@ -254,7 +259,9 @@ module _ (merchant : List ℕ) (day : ℕ) (more : Tally) where
           raise_query.filter (drop 1 raise_query.project) given answers (answer.answer Null)
           (is_for merchant day) raise
           (λ id y h among. same_test id y h)
-          (λ id y h among is. ap (cast_row (bare at.the_running)) (shows id y (fits y among is))
+          (λ id y h among is. ap (cast_row (bare at.the_running))
+          (shows (Int (pos k) ∷ shown (bare at.the_running) row) id y
+          (fits_there runs has.apart room y among is))
           ∙ laid_at (pos id) (raise y))
           applied
 

@@ -47,12 +47,12 @@ use Rattle.acq_sql_changes.proofs.writes.MovedTables.{ranges_narrow}
 -- ---- ranges of a profile
 
 -- the ends are prefixes, and the issuer is short
-record IsNarrow (profile : PrefixProfile) (r : Range) : Type 0 where
-  ends : r.low ≤ r.high
-  high : r.high ≤ profile.greatest
-  issuer : length r.issuer ≤ 11
+pub record IsNarrow (profile : PrefixProfile) (r : Range) : Type 0 where
+  pub ends : r.low ≤ r.high
+  pub high : r.high ≤ profile.greatest
+  pub issuer : length r.issuer ≤ 11
 
-narrow_of : (profile : PrefixProfile) (r : Range) → is_valid_range_under profile r ≡ true
+pub narrow_of : (profile : PrefixProfile) (r : Range) → is_valid_range_under profile r ≡ true
     → IsNarrow profile r
 narrow_of profile r valid =
     record {
@@ -171,7 +171,7 @@ turned_shaped xs up = (
 abbrev IsSound : Row → Type 0
 IsSound = IsSoundRow book_schema (bare the_ranges)
 
-short_range : (r : Range) → length r.issuer ≤ 11 → AreShort (range_row r)
+pub short_range : (r : Range) → length r.issuer ≤ 11 → AreShort (range_row r)
 short_range r few = (tt, (tt, (tt, (omega (arith, few), (tt, tt)))))
 
 short_turned : (r : Range) → length r.issuer ≤ 11 → AreShort (turned_row r)
@@ -201,7 +201,7 @@ turned_sound r low few =
 
 -- ---- both statements are moves
 
-low_of : (r : Range) → IsNarrow eight_digits r → r.low < 2 ^ 63
+pub low_of : (r : Range) → IsNarrow eight_digits r → r.low < 2 ^ 63
 low_of r narrow = omega (arith, narrow.ends, narrow.high)
 
 pub still_rising : (xs : List Range) → AreRising xs → AreRising (widened_ranges xs)

@@ -116,7 +116,7 @@ ranges_shaped xs up = (
       (all_of (λ (r : Range). true ≡ true) (λ r. refl) xs),
 )
 
-laid_range : (r : Range) → cast_row at.the_ranges (range_row r) ≡ range_row r
+pub laid_range : (r : Range) → cast_row at.the_ranges (range_row r) ≡ range_row r
 laid_range r =
     rw (cast_int (pos r.low), cast_null, cast_int (pos r.high), cast_int (pos r.hold_days))
 

@@ -22,7 +22,7 @@ use Rattle.acq_sql_rows.specs.Tallies.{raised, raised_at}
 pub bytes_same : (a b : List ℕ) → bytes_eq a b ≡ true → a ≡ b
 bytes_same a b h = (bytes_eq-Decides a b).0 h
 
-bytes_itself : (a : List ℕ) → bytes_eq a a ≡ true
+pub bytes_itself : (a : List ℕ) → bytes_eq a a ≡ true
 bytes_itself a = (bytes_eq-Decides a a).1 refl
 
 pub number_same : (a b : ℕ) → (a == b) ≡ true → a ≡ b
@@ -47,7 +47,7 @@ bytes_back a b = go (bytes_eq a b) (bytes_eq b a) refl refl
 number_back : (a b : ℕ) → (a == b) ≡ (b == a)
 number_back a b = grind (arith, nat_tests)
 
-find_none : {X : Type 0} (p : X → Bool) (xs : List X) (x : X) → find p xs ≡ None → Has xs x →
+pub find_none : {X : Type 0} (p : X → Bool) (xs : List X) (x : X) → find p xs ≡ None → Has xs x →
     p x ≡ false
 find_none p [] x none h = absurd h
 find_none p (y ∷ xs) x none h = go (p y) refl none h (find_none p xs x)

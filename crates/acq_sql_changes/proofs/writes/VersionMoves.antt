@@ -1,4 +1,4 @@
--- What setting the version makes of the book's row.
+-- What setting the version, or the day, makes of the book's row.
 use Rattle.std.proofs.Common.{◌≡◌, inl, inr, ℕ, pos, List, [], ◌∷◌, refl, sym, ap, subst, ◌∙◌}
 use Rattle.std.proofs.Common.{arith}
 use Rattle.std.specs.List.Sorted.{IsPermutation}
@@ -16,7 +16,10 @@ use Rattle.row_lemmas.proofs.ShortRows.{not_oversized}
 use Rattle.row_lemmas.proofs.StatementEffects.{bare}
 use Rattle.row_lemmas.proofs.MovesSucceed.{IsSoundRow, IsMove}
 use Rattle.acq_sql_rows.specs.Schema.{book_schema}
+use Rattle.row_lemmas.specs.Values.{number}
 use Rattle.acq_sql_rows.specs.Rows.{version, book_row, book_row_of}
+use Rattle.row_lemmas.specs.Queries.{column, param}
+use Rattle.sqlite_sql.specs.Term.{Term}
 use Rattle.acq_sql_rows.specs.Queries.{version_columns}
 use Rattle.acq_sql_changes.proofs.writes.TableTurns.{the_book}
 use Rattle.acq_sql_changes.proofs.writes.MovedTables.{book_narrow}
@@ -63,4 +66,34 @@ version_moves number limit day =
       same =
           subst (λ r. IsPermutation (r ∷ []) (book_rows version limit day))
           (sym (row_set number limit day)) (IsPermutation-refl _);
+    }
+
+-- ---- the day
+
+abbrev pub day_columns : List Term
+day_columns = column 0 ∷ column 1 ∷ column 2 ∷ param 0 ∷ []
+
+abbrev on : ℕ → Row → Row
+on day r = cast_row (bare the_book) (shown_of day_columns (number day ∷ []) r)
+
+row_on : (limit earlier day : ℕ)
+    → on day (Int (pos 1) ∷ book_row limit earlier) ≡ Int (pos 1) ∷ book_row limit day
+row_on limit earlier day =
+    rw (cast_int (pos 1), cast_int (pos version), cast_int (pos limit), cast_int (pos day)) refl
+
+pub day_moves : (limit earlier day : ℕ)
+    → IsMove book_schema (bare the_book) day_columns (number day ∷ [])
+    (book_rows version limit earlier) (book_rows version limit day)
+day_moves limit earlier day =
+    record {
+      sound = λ r h. elim h [
+        | inl is ↦
+            subst (IsSoundRow book_schema (bare the_book))
+            (sym (ap (on day) is ∙ row_on limit earlier day)) (book_sound limit day)
+        | inr none ↦ absurd none
+      ];
+      up = (book_shaped version limit day).0;
+      same =
+          subst (λ r. IsPermutation (r ∷ []) (book_rows version limit day))
+          (sym (row_on limit earlier day)) (IsPermutation-refl _);
     }

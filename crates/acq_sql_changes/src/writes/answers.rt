@@ -4,6 +4,8 @@ ghost use Rattle.std.specs.Prelude.{◌≡◌};
 ghost use Rattle.sqlite.specs.Held.{state};
 ghost use Rattle.acq_sql_changes.specs.Written.{WritesInside, Changes};
 ghost use Rattle.acq_sql_changes.specs.Written.{with_answer, with_remains, IsShortEnd};
+ghost use Rattle.acq_sql_changes.specs.Widened.{IsNeverRefused};
+ghost use Rattle.acq_sql_changes.specs.Refused.{HasTables, HasShortRequests};
 ghost use Rattle.iso_codec.specs.Message.{IsMessage};
 ghost use Rattle.iso_codec.specs.Reading.{spelling};
 
@@ -28,6 +30,8 @@ pub fn answer_request<'x, S: Alter>(
     ensures same_reference { tx.new.conn.ghost_name ≡ tx.old.conn.ghost_name }
     ensures writes { WritesInside (state S.Store tx.old.conn.now) (state S.Store tx.new.conn.now)
         result (Changes (with_answer key status reply.now hold_end)) }
+    ensures fails { IsNeverRefused (state S.Store tx.old.conn.now)
+        (state S.Store tx.new.conn.now) result (HasTables HasShortRequests) }
 {
     let merchant = key.merchant.to_bytes();
     let terminal = key.terminal.to_bytes();
@@ -58,6 +62,8 @@ pub fn follow_request<S: Alter>(
     ensures same_reference { tx.new.conn.ghost_name ≡ tx.old.conn.ghost_name }
     ensures writes { WritesInside (state S.Store tx.old.conn.now) (state S.Store tx.new.conn.now)
         result (Changes (with_remains key remains)) }
+    ensures fails { IsNeverRefused (state S.Store tx.old.conn.now)
+        (state S.Store tx.new.conn.now) result (HasTables HasShortRequests) }
 {
     let merchant = key.merchant.to_bytes();
     let terminal = key.terminal.to_bytes();

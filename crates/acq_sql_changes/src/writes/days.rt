@@ -4,6 +4,9 @@ ghost use Rattle.std.specs.Prelude.{◌≡◌, ◌<◌, ◌^◌};
 ghost use Rattle.sqlite.specs.Held.{state};
 ghost use Rattle.acq_sql_changes.specs.Written.{WritesInside, Changes};
 ghost use Rattle.acq_sql_changes.specs.Written.{on_day, with_reconciliation};
+ghost use Rattle.acq_sql_changes.specs.Changed.{AnyTables};
+ghost use Rattle.acq_sql_changes.specs.Widened.{IsNeverRefused};
+ghost use Rattle.acq_sql_changes.specs.Refused.{HasTables, TakesReconciliation};
 
 use acq_core::Reconciliation;
 use acq_sql_rows::{bit_value, day_value, number_value, texts};
@@ -16,6 +19,8 @@ pub fn set_day<S: Alter>(tx: &mut Transaction<'_, S>, day: Day) -> Result<usize,
     ensures same_reference { tx.new.conn.ghost_name ≡ tx.old.conn.ghost_name }
     ensures writes { WritesInside (state S.Store tx.old.conn.now) (state S.Store tx.new.conn.now)
         result (Changes (on_day day)) }
+    ensures fails { IsNeverRefused (state S.Store tx.old.conn.now)
+        (state S.Store tx.new.conn.now) result (HasTables AnyTables) }
 {
     tx.execute(texts::SET_DAY, &[day_value(day)])
 }
@@ -30,6 +35,9 @@ pub fn add_reconciliation<S: Alter>(
     ensures same_reference { tx.new.conn.ghost_name ≡ tx.old.conn.ghost_name }
     ensures writes { WritesInside (state S.Store tx.old.conn.now) (state S.Store tx.new.conn.now)
         result (Changes (with_reconciliation number reconciliation.now)) }
+    ensures fails { IsNeverRefused (state S.Store tx.old.conn.now)
+        (state S.Store tx.new.conn.now) result
+        (HasTables (TakesReconciliation number reconciliation.now)) }
 {
     let merchant = reconciliation.merchant.to_bytes();
     tx.execute(

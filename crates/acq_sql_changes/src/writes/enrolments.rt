@@ -4,6 +4,8 @@ ghost use Rattle.std.specs.Prelude.{◌≡◌};
 ghost use Rattle.sqlite.specs.Held.{state};
 ghost use Rattle.acq_sql_changes.specs.Written.{WritesInside, Changes};
 ghost use Rattle.acq_sql_changes.specs.Written.{with_merchant, with_terminal};
+ghost use Rattle.acq_sql_changes.specs.Widened.{IsNeverRefused};
+ghost use Rattle.acq_sql_changes.specs.Refused.{HasTables, TakesMerchant, TakesTerminal};
 
 use acq_core::{Merchant, Terminal};
 use acq_sql_rows::{first_reference_value, texts};
@@ -18,6 +20,8 @@ pub fn add_merchant<S: Alter>(
     ensures same_reference { tx.new.conn.ghost_name ≡ tx.old.conn.ghost_name }
     ensures writes { WritesInside (state S.Store tx.old.conn.now) (state S.Store tx.new.conn.now)
         result (Changes (with_merchant merchant.now)) }
+    ensures fails { IsNeverRefused (state S.Store tx.old.conn.now)
+        (state S.Store tx.new.conn.now) result (HasTables (TakesMerchant merchant.now)) }
 {
     let id = merchant.id.to_bytes();
     let currency = merchant.currency.to_bytes();
@@ -39,6 +43,8 @@ pub fn add_terminal<S: Alter>(
     ensures same_reference { tx.new.conn.ghost_name ≡ tx.old.conn.ghost_name }
     ensures writes { WritesInside (state S.Store tx.old.conn.now) (state S.Store tx.new.conn.now)
         result (Changes (with_terminal terminal.now)) }
+    ensures fails { IsNeverRefused (state S.Store tx.old.conn.now)
+        (state S.Store tx.new.conn.now) result (HasTables (TakesTerminal terminal.now)) }
 {
     let merchant = terminal.merchant.to_bytes();
     let id = terminal.id.to_bytes();

@@ -4,6 +4,8 @@ ghost use Rattle.std.specs.Prelude.{◌≡◌, ◌<◌, ◌^◌};
 ghost use Rattle.sqlite.specs.Held.{state};
 ghost use Rattle.acq_sql_changes.specs.Written.{WritesInside, Changes};
 ghost use Rattle.acq_sql_changes.specs.Written.{with_posting};
+ghost use Rattle.acq_sql_changes.specs.Widened.{IsNeverRefused};
+ghost use Rattle.acq_sql_changes.specs.Refused.{HasTables, TakesPosting};
 
 use acq_core::Posting;
 use acq_sql_rows::{amount_value, day_value, leg_value, number_value, reference_value, texts};
@@ -20,6 +22,8 @@ pub fn add_posting<S: Alter>(
     ensures same_reference { tx.new.conn.ghost_name ≡ tx.old.conn.ghost_name }
     ensures writes { WritesInside (state S.Store tx.old.conn.now) (state S.Store tx.new.conn.now)
         result (Changes (with_posting number posting.now)) }
+    ensures fails { IsNeverRefused (state S.Store tx.old.conn.now)
+        (state S.Store tx.new.conn.now) result (HasTables (TakesPosting number posting.now)) }
 {
     let merchant = posting.merchant.to_bytes();
     let terminal = posting.terminal.to_bytes();

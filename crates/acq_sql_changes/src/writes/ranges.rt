@@ -4,6 +4,9 @@ ghost use Rattle.std.specs.Prelude.{◌≡◌};
 ghost use Rattle.sqlite.specs.Held.{state};
 ghost use Rattle.acq_sql_changes.specs.Written.{WritesInside, Changes};
 ghost use Rattle.acq_sql_changes.specs.Written.{with_added_range, with_dropped_range};
+ghost use Rattle.acq_sql_changes.specs.Changed.{AnyTables};
+ghost use Rattle.acq_sql_changes.specs.Widened.{IsNeverRefused};
+ghost use Rattle.acq_sql_changes.specs.Refused.{HasTables, TakesRange};
 
 use acq_sql_rows::{short_value, texts};
 use card_no::Range;
@@ -15,6 +18,8 @@ pub fn add_range<S: Alter>(tx: &mut Transaction<'_, S>, range: &Range) -> Result
     ensures same_reference { tx.new.conn.ghost_name ≡ tx.old.conn.ghost_name }
     ensures writes { WritesInside (state S.Store tx.old.conn.now) (state S.Store tx.new.conn.now)
         result (Changes (with_added_range range.now)) }
+    ensures fails { IsNeverRefused (state S.Store tx.old.conn.now)
+        (state S.Store tx.new.conn.now) result (HasTables (TakesRange range.now)) }
 {
     tx.execute(
         texts::ADD_RANGE,
@@ -36,6 +41,8 @@ pub fn drop_range<S: Alter>(
     ensures same_reference { tx.new.conn.ghost_name ≡ tx.old.conn.ghost_name }
     ensures writes { WritesInside (state S.Store tx.old.conn.now) (state S.Store tx.new.conn.now)
         result (Changes (with_dropped_range low high)) }
+    ensures fails { IsNeverRefused (state S.Store tx.old.conn.now)
+        (state S.Store tx.new.conn.now) result (HasTables AnyTables) }
 {
     tx.execute(texts::DROP_RANGE, &[short_value(low), short_value(high)])
 }

@@ -7,6 +7,8 @@ ghost use Rattle.row_lemmas.specs.Values.{number};
 ghost use Rattle.day_totals.specs.Totals.{total_for};
 ghost use Rattle.acq_sql_changes.specs.Written.{WritesInside, Raises};
 ghost use Rattle.acq_sql_changes.specs.Written.{tally_from};
+ghost use Rattle.acq_sql_changes.specs.Widened.{IsNeverRefused};
+ghost use Rattle.acq_sql_changes.specs.Refused.{HasRuns, TakesMore};
 
 use acq_core::MerchantId;
 use acq_sql_rows::{day_value, number_value, texts};
@@ -27,6 +29,9 @@ pub fn raise<S: Alter>(
     ensures same_reference { tx.new.conn.ghost_name ≡ tx.old.conn.ghost_name }
     ensures writes { WritesInside (state S.Store tx.old.conn.now) (state S.Store tx.new.conn.now)
         result (Raises merchant day (tally_from used posted.now)) }
+    ensures fails { IsNeverRefused (state S.Store tx.old.conn.now)
+        (state S.Store tx.new.conn.now) result
+        (HasRuns (TakesMore merchant day (tally_from used posted.now))) }
 {
     let merchant = merchant.to_bytes();
     tx.execute(

@@ -1,8 +1,8 @@
-use Rattle.std.proofs.Common.{[], sym, append-nil, inl, inr}
+use Rattle.std.proofs.Common.{[], sym, append-nil}
 use Rattle.std.proofs.lemmas.Result.{err_from_is_err_and}
 use Rattle.acq_core.specs.declared.output.Output.{Output}
 use Rattle.acq_front.specs.Stops.{left_of}
-use Rattle.acq_front.proofs.Turned.{if_store, store_on, take_stops, was_sent}
+use Rattle.acq_front.proofs.Turned.{take_stops, tells_counted, tells_unfit, was_sent}
 use Rattle.acq_front.proofs.serving.answer_message.Goals as goal
 
 pub returns-in_err-said-clause-turns : goal.returns-in_err-said-clause-turns
@@ -22,7 +22,7 @@ returns-in_err-said-clause-turns g c = λ h o.
 pub returns-in_err-said-clause-store : goal.returns-in_err-said-clause-store
 returns-in_err-said-clause-store g c =
     let p = err_from_is_err_and c.from_residual.result c.from_residual.ensures.1 in
-    rw (p.1, p.2) (store_on Output (Unit {0}) c.in_err-said.field-0.0 _ _ (λ risen. inl risen)
+    rw (p.1, p.2) (tells_counted Output (Unit {0}) c.in_err-said.field-0.0 _ _ _
     c.in_err-said.ensures.store)
 
 pub returns-clause-turns : goal.returns-clause-turns
@@ -43,6 +43,5 @@ returns-clause-turns g c = λ h o.
 
 pub returns-clause-store : goal.returns-clause-store
 returns-clause-store g c =
-    if_store c.send_reply.result _ _
-    (λ unfit. inr (λ h o. unfit ((c.in_ok-said.ensures.takes h o).5.fits)))
-    c.send_reply.ensures.store
+    tells_unfit c.send_reply.result _ _ c.in_ok-said.ensures.store
+    (λ unfit h o. unfit ((c.in_ok-said.ensures.takes h o).5.fits)) c.send_reply.ensures.store

@@ -1,4 +1,4 @@
-use Rattle.std.proofs.Common.{[], inl, inr, Ok, Err, ◌≡◌, ◌++◌, List, ℕ, take, refl, sym, ap, ◌∙◌, append-nil}
+use Rattle.std.proofs.Common.{[], Ok, Err, ◌≡◌, ◌++◌, List, ℕ, take, refl, sym, ap, ◌∙◌, append-nil}
 use Rattle.std.proofs.Common.{arith, ◌+◌}
 use Rattle.std.proofs.lemmas.Result.{err_from_is_err_and}
 use Rattle.std.proofs.lemmas.List.{take-append-le}
@@ -12,8 +12,7 @@ use Rattle.acq_front.proofs.GivenInOrder.{gives_none, gives_append, gives_along,
 use Rattle.acq_front.proofs.StreamRead.{consumes_none, consumes_append, received_more}
 use Rattle.acq_front.proofs.StreamRead.{received_none, empty_of, not_empty_of}
 use Rattle.acq_front.proofs.FramesCame.{none_came, piece_came, frame_taken, frame_came}
-use Rattle.acq_front.proofs.FramesCame.{risen_earlier}
-use Rattle.acq_front.proofs.Turned.{store_on}
+use Rattle.acq_front.proofs.Turned.{tells_on}
 use Rattle.acq_front.proofs.StopsLeave.{none_stop}
 use Rattle.acq_front.proofs.FaultsApart.{stream_unended, stream_unread, stream_unwritten}
 use Rattle.acq_front.proofs.FaultsApart.{stream_unstored, message_unended, message_unread}
@@ -98,15 +97,13 @@ returns-in_err-answer_message-clause-store g c =
     c.from_residual-in_err-answer_message.ensures.1 in
     let e = c.in_err-answer_message.ensures in
     let began = rw c.in-Some.is at c.in_ok-message.ensures.some in
-    rw (p.1, p.2) (store_on (Unit {0}) (Unit {0}) c.in_err-answer_message.field-0.0 _ _
-    (λ why. elim why [
-      | inl risen ↦ inl (risen_earlier _ _ _ c.loop-message.invariant.7 e.rise risen)
-      | inr shut ↦ inr (
-        frame_came (g.S.Source.received c.args.source.now) _ c.loop-message.input
-            c.in-Some.message.items c.take_message.new.self began c.loop-message.invariant.8,
-        (λ h o. shut h (c.loop-message.invariant.0 (e.was_honest h) o).7),
-      )
-    ])
+    rw (p.1, p.2) (tells_on (Unit {0}) (Unit {0}) c.in_err-answer_message.field-0.0 _ _ _
+    c.loop-message.invariant.7
+    (λ shut. (
+      frame_came (g.S.Source.received c.args.source.now) _ c.loop-message.input
+          c.in-Some.message.items c.take_message.new.self began c.loop-message.invariant.8,
+      (λ h o. shut h (c.loop-message.invariant.0 (e.was_honest h) o).7),
+    ))
     e.store)
 
 pub loop-message-preserved-in-Some : goal.loop-message-preserved-in-Some
@@ -142,7 +139,7 @@ loop-message-preserved-in-Some g c =
       (λ q v said. c.loop-message.invariant.5 q v (c.in_ok-answer_message.ensures.later q v said)),
       (λ m given. c.loop-message.invariant.6 m
           (c.in_ok-answer_message.ensures.moments_later m given)),
-      omega (arith, c.in_ok-answer_message.ensures.rise, c.loop-message.invariant.7),
+      c.in_ok-answer_message.ensures.store ∙ c.loop-message.invariant.7,
       frame_taken (g.S.Source.received c.args.source.now) _ c.loop-message.input
           c.in-Some.message.items c.take_message.new.self
           (rw c.in-Some.is at c.in_ok-message.ensures.some) c.loop-message.invariant.8,
@@ -258,7 +255,8 @@ returns-in_err-message-clause-writes g c =
 pub returns-in_err-message-clause-store : goal.returns-in_err-message-clause-store
 returns-in_err-message-clause-store g c =
     let p = err_from_is_err_and c.from_residual.result c.from_residual.ensures.1 in
-    rw (p.1, p.2) (stream_unstored (Unit {0}) _ c.in_err-message.field-0.0)
+    rw (p.1, p.2) (stream_unstored (Unit {0}) _ c.in_err-message.field-0.0 _ _
+    c.loop-message.invariant.7)
 
 pub returns-in_err-answer_message-clause-stays_open :
     goal.returns-in_err-answer_message-clause-stays_open
@@ -319,4 +317,10 @@ pub returns-in_err-n-clause-store : goal.returns-in_err-n-clause-store
 returns-in_err-n-clause-store g c =
     let p = err_from_is_err_and c.from_residual-in_err-n.result c.from_residual-in_err-n.ensures.1
     in
-    rw (p.1, p.2) tt
+    rw (p.1, p.2) c.loop-message.invariant.7
+
+pub returns-then-is_empty-clause-store : goal.returns-then-is_empty-clause-store
+returns-then-is_empty-clause-store g c = c.loop-message.invariant.7
+
+pub returns-else-is_empty-clause-store : goal.returns-else-is_empty-clause-store
+returns-else-is_empty-clause-store g c = c.loop-message.invariant.7

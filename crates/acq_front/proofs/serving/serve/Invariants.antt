@@ -1,5 +1,5 @@
 -- what the connection is so far, and what every call keeps
-use Rattle.std.proofs.Common.{◌≡◌, ◌≤◌, ◌+◌, ◌*◌, ◌++◌, List, ℕ, length}
+use Rattle.std.proofs.Common.{◌≡◌, ◌+◌, ◌*◌, ◌++◌, List, ℕ, length}
 use Rattle.std.specs.List.{All}
 use Rattle.std.specs.Io.KnownBytes.{Consumes}
 use Rattle.acq_core.specs.declared.query.Query.{Query}
@@ -31,7 +31,7 @@ invariant-loop-message g l = (g.B.Book.is_honest l.host → g.B.Book.is_open l.f
     × ((q : Query) (v : Verdict) → g.I.Issuer.may_say l.issuer q v →
     g.I.Issuer.may_say l.fn.issuer q v)
     × ((m : ℕ) → g.C.Clock.may_give l.clock m → g.C.Clock.may_give l.fn.clock m)
-    × (g.B.Book.failures l.fn.host ≤ g.B.Book.failures l.host)
+    × (g.B.Book.failures l.host ≡ g.B.Book.failures l.fn.host)
     × ((taken : List ℕ)
     × (g.S.Source.received l.source ≡ g.S.Source.received l.fn.source ++ (taken ++ l.input)))
 

@@ -3,9 +3,11 @@ use Rattle.std.proofs.lemmas.Result.{err_from_is_err_and}
 use Rattle.std.proofs.lemmas.List.Elements.{All-nil, All-cons}
 use Rattle.acq_front.proofs.GivenInOrder.{gives_none, gives_one, gives_append, two_moments}
 use Rattle.acq_core.specs.declared.event.Event.TheVariants.{Frame, Answer}
+use Rattle.acq_core.specs.declared.output.Output.{Output}
 use Rattle.acq_front.specs.Stops.{left_of}
 use Rattle.acq_front.proofs.StopsLeave.{taken_stop, refused_stop}
-use Rattle.acq_front.proofs.Turned.{reply_fits, book_stops, message_refused, unread, plain_said}
+use Rattle.acq_front.proofs.Turned.{book_stops, counts_book, message_refused, plain_said}
+use Rattle.acq_front.proofs.Turned.{reply_fits, unread}
 use Rattle.acq_front.proofs.Turned.{answer_refused, answer_said}
 use Rattle.acq_front.proofs.serving.take_message.Goals as goal
 
@@ -125,3 +127,25 @@ returns-in_default-clause-takes g c = λ h o.
           c.in_default.not-Undecodable
           (reply_fits c.in_ok-said.said (c.in_ok-said.ensures.reply h o)),
     )
+
+pub returns-in_err-said-clause-store : goal.returns-in_err-said-clause-store
+returns-in_err-said-clause-store g c =
+    let p = err_from_is_err_and c.from_residual.result c.from_residual.ensures.1 in
+    rw (p.1, p.2) (counts_book Output c.in_err-said.field-0.0 _ refl c.in_err-said.ensures.store)
+
+pub returns-in-Undecodable-clause-store : goal.returns-in-Undecodable-clause-store
+returns-in-Undecodable-clause-store g c = c.in_ok-said.ensures.store
+
+pub returns-in_err-said-in-Ask-clause-store : goal.returns-in_err-said-in-Ask-clause-store
+returns-in_err-said-in-Ask-clause-store g c =
+    let p = err_from_is_err_and c.from_residual-in_err-said-in-Ask.result
+    c.from_residual-in_err-said-in-Ask.ensures.1 in
+    rw (p.1, p.2) (counts_book Output c.in_err-said-in-Ask.field-0.0 _ c.in_ok-said.ensures.store
+    c.in_err-said-in-Ask.ensures.store)
+
+pub returns-in_ok-said-in-Ask-clause-store : goal.returns-in_ok-said-in-Ask-clause-store
+returns-in_ok-said-in-Ask-clause-store g c =
+    c.in_ok-said-in-Ask.ensures.store ∙ c.in_ok-said.ensures.store
+
+pub returns-in_default-clause-store : goal.returns-in_default-clause-store
+returns-in_default-clause-store g c = c.in_ok-said.ensures.store

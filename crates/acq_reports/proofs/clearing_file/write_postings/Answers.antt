@@ -1,9 +1,10 @@
-use Rattle.std.proofs.Common.{◌++◌, sym, ◌∙◌}
+use Rattle.std.proofs.Common.{ℕ, List, [], ◌++◌, sym, ◌∙◌}
 use Rattle.std.specs.List.{flat_map}
 use Rattle.acq_book.specs.Lookups.{postings_at}
 use Rattle.acq_reports.specs.ClearingFile.{posting_line, clearing_header}
 use Rattle.acq_reports.specs.Writing.{Puts}
-use Rattle.acq_reports.proofs.Lines.{Progress, finished, progress, progress_more, progress_stopped}
+use Rattle.acq_reports.proofs.Lines.{Progress, finished, progress, progress_any, progress_more}
+use Rattle.acq_reports.proofs.Lines.{progress_stopped}
 use Rattle.acq_reports.proofs.clearing_file.write_postings.Goals.{then-put, else-put}
 use Rattle.acq_reports.proofs.clearing_file.write_postings.Goals as goal
 
@@ -39,3 +40,34 @@ returns-clause-text g c = λ honest opened.
     c.end.result
     start.ensures.written start.ensures.stop start.ensures.writer
     (λ same. c.writer-1.given.1 (sym start.ensures.same_writer ∙ same)) c.end.ensures rest
+
+-- a failed write is told whichever rows were walked
+pub returns-clause-writes : goal.returns-clause-writes
+returns-clause-writes g c =
+    let sent = g.K.Sink.sent in
+    let failures = g.K.Sink.failures in
+    let start = c.new-report in
+    let out : (lines : List ℕ) × Progress sent failures (clearing_header ++ lines) start.result
+    c.if-put.report c.if-put.walked =
+    elim c.if-put.branch [
+      | then-put w ↦
+          let walked = w.walk_postings-walked in
+          let any = progress_any sent failures (λ r. r)
+          (λ old row more new. Puts sent failures (posting_line row) old more new)
+          (λ v row more u seen. (posting_line row, seen))
+          c.put.new.self walked.new.visitor walked.result walked.ensures.shown in (
+            any.0,
+            rw (w.report-is, w.walked-is) (progress_more sent failures clearing_header any.0
+                start.result c.put.new.self walked.new.visitor walked.result w.if-put.ensures
+                any.1),
+          )
+      | else-put w ↦ (
+        [],
+        rw (w.report-is, w.walked-is) (progress_stopped sent failures clearing_header []
+            start.result c.put.new.self w.if-put.ensures.0 w.if-put.ensures.1),
+      )
+    ] in
+    (finished sent failures (clearing_header ++ out.0) start.result
+    c.if-put.report c.if-put.walked c.args.writer.now _ c.end.result
+    start.ensures.written start.ensures.stop start.ensures.writer
+    (λ same. c.writer-1.given.1 (sym start.ensures.same_writer ∙ same)) c.end.ensures out.1).1

@@ -1,9 +1,10 @@
-use Rattle.std.proofs.Common.{◌≡◌, ◌++◌, sym, ◌∙◌, refl, subst}
+use Rattle.std.proofs.Common.{◌≡◌, ℕ, List, [], ◌++◌, sym, ◌∙◌, refl, subst}
 use Rattle.std.specs.List.{flat_map}
 use Rattle.acq_book.specs.Lookups.{holds_at}
 use Rattle.acq_reports.specs.OpenHolds.{hold_line, holds_header}
 use Rattle.acq_reports.specs.Writing.{Puts}
-use Rattle.acq_reports.proofs.Lines.{Progress, finished, progress, progress_more, progress_stopped}
+use Rattle.acq_reports.proofs.Lines.{Progress, finished, progress, progress_any, progress_more}
+use Rattle.acq_reports.proofs.Lines.{progress_stopped}
 use Rattle.acq_reports.proofs.holds.write_holds.Goals.{then-put, else-put}
 use Rattle.acq_reports.proofs.holds.write_holds.Goals as goal
 
@@ -44,3 +45,36 @@ returns-clause-text g c = λ honest opened.
     _ c.end.result
     start.ensures.written start.ensures.stop start.ensures.writer
     (λ same. c.writer-1.given.1 (sym start.ensures.same_writer ∙ same)) c.end.ensures rest
+
+-- a failed write is told whichever rows were walked
+pub returns-clause-writes : goal.returns-clause-writes
+returns-clause-writes g c =
+    let sent = g.K.Sink.sent in
+    let failures = g.K.Sink.failures in
+    let start = c.new in
+    let out : (lines : List ℕ) × Progress sent failures (holds_header ++ lines) start.result
+    c.if-put.holds.report c.if-put.walked =
+    elim c.if-put.branch [
+      | then-put w ↦
+          let walked = w.walk_holds-walked in
+          let any = progress_any sent failures (λ v. v.report)
+          (λ old row more new. Puts sent failures (hold_line old.moment row) old.report more
+          new.report
+          × (new.moment ≡ old.moment))
+          (λ v row more u seen. (hold_line v.moment row, seen.0))
+          _ walked.new.visitor walked.result walked.ensures.shown in (
+            any.0,
+            rw (w.holds-is, w.walked-is) (progress_more sent failures holds_header any.0
+                start.result c.put.new.self walked.new.visitor.report walked.result
+                w.if-put.ensures any.1),
+          )
+      | else-put w ↦ (
+        [],
+        rw (w.holds-is, w.walked-is) (progress_stopped sent failures holds_header []
+            start.result c.put.new.self w.if-put.ensures.0 w.if-put.ensures.1),
+      )
+    ] in
+    (finished sent failures (holds_header ++ out.0) start.result
+    c.if-put.holds.report c.if-put.walked c.args.writer.now _ c.end.result
+    start.ensures.written start.ensures.stop start.ensures.writer
+    (λ same. c.writer-1.given.1 (sym start.ensures.same_writer ∙ same)) c.end.ensures out.1).1

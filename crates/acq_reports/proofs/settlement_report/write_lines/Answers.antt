@@ -1,4 +1,4 @@
-use Rattle.std.proofs.Common.{length, subst}
+use Rattle.std.proofs.Common.{[], ◌++◌, inr, length, subst}
 use Rattle.std.specs.List.{flat_map}
 use Rattle.acq_reports.specs.SettlementReport.{merchant_line, first_line, last_line}
 use Rattle.acq_reports.specs.Writing.{Puts}
@@ -54,3 +54,55 @@ returns-in-Err-clause-text g c = λ honest opened.
     c.args.report.now c.put_made.new.self c.write_merchants.new.report c.in-Err.fault
     (c.if-not-put_made.ensures (first_line day) c.first_text.ensures)
     (c.in-Err.ensures.text honest opened)
+
+-- the same whichever lines they were
+pub returns-then-not-put_made-clause-any : goal.returns-then-not-put_made-clause-any
+returns-then-not-put_made-clause-any g c =
+    let day = c.args.day in (
+      first_line day,
+      inr (c.if-not-put_made.ensures (first_line day) c.first_text.ensures),
+    )
+
+pub returns-in-Ok-true-clause-any : goal.returns-in-Ok-true-clause-any
+returns-in-Ok-true-clause-any g c =
+    let sent = g.K.Sink.sent in
+    let failures = g.K.Sink.failures in
+    let first = first_line c.args.day in
+    let last = last_line (length c.args.names.now) in
+    let lines = c.in-Ok-true.ensures.any in
+    let through =
+    subst (λ more. Puts sent failures lines.0 c.put_made.new.self more
+    c.write_merchants.new.report)
+    c.in-Ok-true.field-0-test lines.1 in (
+      first ++ (lines.0 ++ last),
+      put_last sent failures first lines.0 last c.args.report.now c.put_made.new.self
+          c.write_merchants.new.report c.put_made-in-Ok-true.new.self c.put_made-in-Ok-true.result
+          (c.if-not-put_made.ensures first c.first_text.ensures) through
+          (c.put_made-in-Ok-true.ensures last c.last_text.ensures),
+    )
+
+pub returns-in-Ok-false-clause-any : goal.returns-in-Ok-false-clause-any
+returns-in-Ok-false-clause-any g c =
+    let sent = g.K.Sink.sent in
+    let failures = g.K.Sink.failures in
+    let first = first_line c.args.day in
+    let lines = c.in-Ok-false.ensures.any in
+    let stopped =
+    subst (λ more. Puts sent failures lines.0 c.put_made.new.self more
+    c.write_merchants.new.report)
+    c.in-Ok-false.field-0-test lines.1 in (
+      first ++ (lines.0 ++ []),
+      stopped_between sent failures first lines.0 [] c.args.report.now c.put_made.new.self
+          c.write_merchants.new.report (c.if-not-put_made.ensures first c.first_text.ensures)
+          stopped,
+    )
+
+pub returns-in-Err-clause-any : goal.returns-in-Err-clause-any
+returns-in-Err-clause-any g c =
+    let first = first_line c.args.day in
+    let lines = c.in-Err.ensures.any in (
+      first ++ (lines.0 ++ []),
+      failed_between g.K.Sink.sent g.K.Sink.failures first lines.0 [] c.args.report.now
+          c.put_made.new.self c.write_merchants.new.report c.in-Err.fault
+          (c.if-not-put_made.ensures first c.first_text.ensures) lines.1,
+    )

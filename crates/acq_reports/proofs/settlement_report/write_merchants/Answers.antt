@@ -1,7 +1,8 @@
-use Rattle.std.proofs.Common.{true, refl, subst}
+use Rattle.std.proofs.Common.{true, [], ◌+◌, ◌++◌, length, Err, rules, refl, subst, ◌∙◌}
 use Rattle.acq_reports.specs.SettlementReport.{merchant_line}
 use Rattle.acq_reports.specs.Writing.{Puts}
 use Rattle.acq_reports.proofs.Chains.{looks_more}
+use Rattle.acq_reports.proofs.Lines.{progress_more, went_more, went_nothing, went_stopped}
 use Rattle.acq_reports.proofs.Settling.{went_here, stopped_here, failed_here}
 use Rattle.acq_reports.proofs.settlement_report.write_merchants.Goals as goal
 
@@ -59,4 +60,44 @@ loop-name-preserved g c =
           loop.name-index c.name-item.result c.loop-name-test.true c.name-item.is c.args.report.now
           loop.report
           c.write_merchant.new.report (loop.invariant.1 before opened) (rw (same) at went)),
+      c.in-Ok-true.ensures.store ∙ loop.invariant.2,
+      (let one = c.in-Ok-true.ensures.any in (
+        loop.invariant.3.0 ++ one.0,
+        went_more sent failures loop.invariant.3.0 one.0 c.args.report.now loop.report
+            c.write_merchant.new.report loop.invariant.3.1
+            (subst (λ more. Puts sent failures one.0 loop.report more c.write_merchant.new.report)
+            c.in-Ok-true.field-0-test one.1),
+      )),
     )
+
+-- the same whichever lines they were
+pub loop-name-init : goal.loop-name-init
+loop-name-init g c = (search rules, search rules, refl, ([], went_nothing _ _ _))
+
+pub returns-in-Ok-false-clause-any : goal.returns-in-Ok-false-clause-any
+returns-in-Ok-false-clause-any g c =
+    let sent = g.K.Sink.sent in
+    let failures = g.K.Sink.failures in
+    let so = c.loop-name.invariant.3 in
+    let one = c.in-Ok-false.ensures.any in
+    let stopped = subst (λ more. Puts sent failures one.0 c.loop-name.report more
+    c.write_merchant.new.report) c.in-Ok-false.field-0-test one.1 in (
+      so.0 ++ one.0,
+      (
+        length so.0 + stopped.0,
+        went_stopped sent failures so.0 one.0 c.args.report.now c.loop-name.report
+            c.write_merchant.new.report stopped.0 so.1 stopped.1,
+      ),
+    )
+
+pub returns-in-Err-clause-any : goal.returns-in-Err-clause-any
+returns-in-Err-clause-any g c =
+    let so = c.loop-name.invariant.3 in
+    let one = c.in-Err.ensures.any in (
+      so.0 ++ one.0,
+      progress_more g.K.Sink.sent g.K.Sink.failures so.0 one.0 c.args.report.now
+          c.loop-name.report c.write_merchant.new.report (Err c.in-Err.fault) so.1 one.1,
+    )
+
+pub returns-clause-any : goal.returns-clause-any
+returns-clause-any g c = c.loop-name.invariant.3

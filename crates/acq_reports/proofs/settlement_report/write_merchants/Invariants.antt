@@ -1,5 +1,6 @@
--- the lines so far went out, and the book is as it was
-use Rattle.std.proofs.Common.{true, take}
+-- the lines so far went out, whichever they were, the book is as it was, and no call of its store
+-- failed
+use Rattle.std.proofs.Common.{◌≡◌, ℕ, List, true, take}
 use Rattle.std.specs.List.{flat_map}
 use Rattle.acq_book.specs.Calls.{Looks}
 use Rattle.acq_reports.specs.SettlementReport.{merchant_line}
@@ -14,3 +15,5 @@ invariant-loop-name g l =
     → WentOut g.K.Sink.sent g.K.Sink.failures
     (flat_map (merchant_line (g.B.Book.tables l.fn.book) l.day) (take l.name-index l.names))
     l.fn.report l.report)
+    × (g.B.Book.failures l.book ≡ g.B.Book.failures l.fn.book)
+    × ((text : List ℕ) × WentOut g.K.Sink.sent g.K.Sink.failures text l.fn.report l.report)

@@ -4,7 +4,7 @@ use Rattle.acq_book.specs.Lookups.{postings_at}
 use Rattle.acq_reports.specs.DaySums.{AddUpTo}
 use Rattle.acq_reports.specs.Faults.{StoreFailed}
 use Rattle.acq_reports.proofs.Adding.{add_up, all_added, none_yet}
-use Rattle.acq_reports.proofs.Chains.{stored, unequal_later}
+use Rattle.acq_reports.proofs.Chains.{told_since, unequal_later}
 use Rattle.acq_reports.proofs.sums.check_sums.Goals as goal
 
 pub returns-clause-store : goal.returns-clause-store
@@ -17,7 +17,7 @@ returns-clause-store g c =
     let seen = c.walk_postings.new.visitor in
     let after = c.check_totals.new.book in
     let sums = c.add_idle.new.self.by_merchant in
-    stored _ (StoreFailed book start after)
+    told_since _ (StoreFailed book start after) (book.failures after)
     (unequal_later book start between after _ walk.looks c.check_totals.ensures.looks
     (AddUpTo (book.tables between) day sums)
     (λ honest opened.
@@ -27,4 +27,4 @@ returns-clause-store g c =
     subst (λ (t : Tables). AddUpTo t day sums) (sym (walk.looks.same opened_still))
     (subst (λ s. AddUpTo (book.tables start) day s) (sym c.in_ok-add_idle.ensures.sums)
     (add_up (book.tables start) day seen.by_merchant added))))
-    c.check_totals.result c.check_totals.ensures.store
+    walk.store c.check_totals.result c.check_totals.ensures.store

@@ -6,6 +6,7 @@ use Rattle.acq_sql_reads.specs.Texts.{greatest_text}
 use Rattle.acq_sql_reads.proofs.TextLemmas.{greatest_asks}
 use Rattle.acq_sql_reads.proofs.Leaves.{looks}
 use Rattle.acq_sql_reads.proofs.GreatestReads.{greatest_found}
+use Rattle.acq_sql_reads.proofs.Failing.{greatest_fails}
 use Rattle.acq_sql_reads.proofs.counts.greatest_rows.Goals as goal
 
 pub returns-clause-answers : goal.returns-clause-answers
@@ -23,3 +24,8 @@ returns-clause-looks g c =
     greatest_asks.begins (λ rows. rows.items) c.query_all.result c.query_all.ensures.ok
     c.query_all.ensures.err c.query_all.ensures.mode
     c.query_all.ensures.survives
+
+pub returns-clause-fails : goal.returns-clause-fails
+returns-clause-fails g c =
+    greatest_fails (state g.S.Store c.args.conn.now) (state g.S.Store c.query_all.new.self)
+    c.query_all.result c.to_bytes-merchant.result c.query_all.ensures.err

@@ -7,6 +7,7 @@ use Rattle.acq_sql_reads.specs.Texts.{pending_text}
 use Rattle.acq_sql_reads.proofs.TextLemmas.{pending_asks}
 use Rattle.acq_sql_reads.proofs.Leaves.{looks}
 use Rattle.acq_sql_reads.proofs.CountReads.{pending_found}
+use Rattle.acq_sql_reads.proofs.Failing.{pending_fails}
 use Rattle.acq_sql_reads.proofs.counts.pending_rows.Goals as goal
 
 pub returns-clause-answers : goal.returns-clause-answers
@@ -24,3 +25,9 @@ returns-clause-looks g c =
     pending_asks.begins (λ rows. rows.items) c.query_all.result c.query_all.ensures.ok
     c.query_all.ensures.err c.query_all.ensures.mode
     c.query_all.ensures.survives
+
+pub returns-clause-fails : goal.returns-clause-fails
+returns-clause-fails g c =
+    pending_fails (state g.S.Store c.args.conn.now) (state g.S.Store c.query_all.new.self)
+    c.query_all.result c.args.day
+    (rw c.day_value.ensures at c.query_all.ensures.err)

@@ -24,8 +24,8 @@ posting_is : (row : Row) (p : ℕ × Posting) → length row ≡ 9
 posting_is row p len e0 e1 e2 e3 e4 e5 e6 e7 e8 =
     nine_columns row len ∙ rw (e0, e1, e2, e3, e4, e5, e6, e7, e8) refl
 
-pub returns : goal.returns
-returns c len =
+pub returns-clause-value : goal.returns-clause-value
+returns-clause-value c len =
     posting_is c.args.row.now (
       c.in_ok-number.number,
       record {

@@ -7,6 +7,7 @@ use Rattle.acq_sql_reads.specs.Texts.{nearest_text}
 use Rattle.acq_sql_reads.proofs.TextLemmas.{nearest_asks}
 use Rattle.acq_sql_reads.proofs.Leaves.{looks}
 use Rattle.acq_sql_reads.proofs.RangeReads.{nearest_found}
+use Rattle.acq_sql_reads.proofs.Failing.{nearest_fails}
 use Rattle.acq_sql_reads.proofs.ranges.nearest_rows.Goals as goal
 
 pub returns-clause-answers : goal.returns-clause-answers
@@ -25,3 +26,9 @@ returns-clause-looks g c =
     nearest_asks.begins (λ rows. rows.items) c.query_all.result c.query_all.ensures.ok
     c.query_all.ensures.err c.query_all.ensures.mode
     c.query_all.ensures.survives
+
+pub returns-clause-fails : goal.returns-clause-fails
+returns-clause-fails g c =
+    nearest_fails (state g.S.Store c.args.conn.now) (state g.S.Store c.query_all.new.self)
+    c.query_all.result c.args.prefix
+    (rw (c.short_value.ensures, c.number.ensures.value) at c.query_all.ensures.err)

@@ -7,6 +7,7 @@ use Rattle.acq_sql_reads.specs.Texts.{overlapping_text}
 use Rattle.acq_sql_reads.proofs.TextLemmas.{overlapping_asks}
 use Rattle.acq_sql_reads.proofs.Leaves.{looks}
 use Rattle.acq_sql_reads.proofs.RangeReads.{overlapping_found}
+use Rattle.acq_sql_reads.proofs.Failing.{overlapping_fails}
 use Rattle.acq_sql_reads.proofs.ranges.overlapping_rows.Goals as goal
 
 pub returns-clause-answers : goal.returns-clause-answers
@@ -26,3 +27,9 @@ returns-clause-looks g c =
     overlapping_asks.begins (λ rows. rows.items) c.query_all.result c.query_all.ensures.ok
     c.query_all.ensures.err c.query_all.ensures.mode
     c.query_all.ensures.survives
+
+pub returns-clause-fails : goal.returns-clause-fails
+returns-clause-fails g c =
+    overlapping_fails (state g.S.Store c.args.conn.now) (state g.S.Store c.query_all.new.self)
+    c.query_all.result c.args.low c.args.high
+    (rw (c.short_value.ensures, c.short_value-2.ensures) at c.query_all.ensures.err)

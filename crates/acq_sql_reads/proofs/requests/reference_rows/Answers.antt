@@ -8,6 +8,7 @@ use Rattle.acq_sql_reads.specs.Texts.{reference_text}
 use Rattle.acq_sql_reads.proofs.TextLemmas.{reference_asks}
 use Rattle.acq_sql_reads.proofs.Leaves.{looks}
 use Rattle.acq_sql_reads.proofs.RequestReads.{reference_found}
+use Rattle.acq_sql_reads.proofs.Failing.{reference_fails}
 use Rattle.acq_sql_reads.proofs.requests.reference_rows.Goals as goal
 
 pub returns-clause-answers : goal.returns-clause-answers
@@ -27,3 +28,9 @@ returns-clause-looks g c =
     reference_asks.begins (λ rows. rows.items) c.query_all.result c.query_all.ensures.ok
     c.query_all.ensures.err c.query_all.ensures.mode
     c.query_all.ensures.survives
+
+pub returns-clause-fails : goal.returns-clause-fails
+returns-clause-fails g c =
+    reference_fails (state g.S.Store c.args.conn.now) (state g.S.Store c.query_all.new.self)
+    c.query_all.result c.args.merchant c.args.reference
+    (rw (c.to_bytes-merchant.ensures.value, c.reference_value.ensures) at c.query_all.ensures.err)

@@ -6,6 +6,7 @@ use Rattle.acq_sql_reads.specs.Texts.{request_text}
 use Rattle.acq_sql_reads.proofs.TextLemmas.{request_asks}
 use Rattle.acq_sql_reads.proofs.Leaves.{looks}
 use Rattle.acq_sql_reads.proofs.RequestReads.{request_found}
+use Rattle.acq_sql_reads.proofs.Failing.{request_fails}
 use Rattle.acq_sql_reads.proofs.requests.request_rows.Goals as goal
 
 pub returns-clause-answers : goal.returns-clause-answers
@@ -32,3 +33,15 @@ returns-clause-looks g c =
     request_asks.begins (λ rows. rows.items) c.query_all.result c.query_all.ensures.ok
     c.query_all.ensures.err c.query_all.ensures.mode
     c.query_all.ensures.survives
+
+pub returns-clause-fails : goal.returns-clause-fails
+returns-clause-fails g c =
+    request_fails (state g.S.Store c.args.conn.now) (state g.S.Store c.query_all.new.self)
+    c.query_all.result c.args.key
+    (rw (
+      c.to_bytes-merchant.ensures.value,
+      c.to_bytes-terminal.ensures.value,
+      c.digits-kind.ensures,
+      c.to_bytes-trace.ensures.value,
+      c.to_bytes-stamp.ensures.value,
+    ) at c.query_all.ensures.err)

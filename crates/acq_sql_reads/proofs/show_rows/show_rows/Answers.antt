@@ -1,4 +1,6 @@
-use Rattle.std.proofs.Common.{[], inl, inr, true, false, refl, ◌∙◌, rules, Err}
+use Rattle.std.proofs.Common.{[], ◌∷◌, ◌++◌, inl, inr, true, false, refl, ◌∙◌}
+use Rattle.std.proofs.Common.{arith, rules, Err}
+use Rattle.std.proofs.lemmas.Result.{err_from_is_err_and}
 use Rattle.sqlite.specs.Values.{bound}
 use Rattle.sqlite.specs.State.{HasCleanDisk}
 use Rattle.sqlite.specs.Held.{state}
@@ -8,6 +10,8 @@ use Rattle.acq_sql_reads.proofs.Showing.{shown_none, shown_more, shown_to_last, 
 use Rattle.acq_sql_reads.proofs.Showing.{shown_first, shown_before}
 use Rattle.acq_sql_reads.proofs.Showing.{kept_on, settled_on, looks_still, looks_on, looks_failed}
 use Rattle.acq_sql_reads.proofs.Showing.{none_from_err, on_err}
+use Rattle.acq_sql_reads.proofs.Showing.{fails_on, shown_few, shown_fits}
+use Rattle.acq_sql_reads.proofs.Visiting.{saw_all, saw_last, saw_more, seen_in_vain}
 use Rattle.acq_sql_reads.proofs.show_rows.show_rows.Goals as goal
 
 pub returns-in_err-rows-clause-looks : goal.returns-in_err-rows-clause-looks
@@ -34,6 +38,7 @@ rows-init g c =
             g.R.ReadRow.shows g.V.Visit.sees c.args.visitor.now c.in_ok-rows.rows.conn.now plain
             (made.begun clean);
       },
+      ([], refl),
     )
 
 pub returns-in_err-row-clause-begun : goal.returns-in_err-row-clause-begun
@@ -96,7 +101,7 @@ returns-then-not-row-clause-seen g c clean plain =
     inr (shown_to_last was next c.row.new.self (rw c.in_ok-row.was at (moved.same late))
     c.in-Some.row.now
     c.in_ok-shown.shown (gave c.args.sql.now (bound c.args.params.now) was.rows was.given)
-    c.in_ok-shown.ensures
+    c.in_ok-shown.ensures.value
     c.if-not-row.ensures)
 
 pub returns-then-not-row-clause-looks : goal.returns-then-not-row-clause-looks
@@ -121,8 +126,13 @@ rows-preserved g c =
             shown_more was next c.row.new.self (rw c.in_ok-row.was at (moved.same late))
             c.in-Some.row.now
             c.in_ok-shown.shown (gave c.args.sql.now (bound c.args.params.now) was.rows was.given)
-            c.in_ok-shown.ensures c.if-not-row.ensures;
+            c.in_ok-shown.ensures.value c.if-not-row.ensures;
       },
+      (
+        c.rows.invariant.2.0 ++ c.in_ok-shown.shown ∷ [],
+        saw_more g.V.Visit.sees c.rows.invariant.2.0 c.in_ok-shown.shown c.args.visitor.now
+            c.rows.visitor c.row.new.self c.rows.invariant.2.1 c.if-not-row.ensures,
+      ),
     )
 
 pub returns-clause-begun : goal.returns-clause-begun
@@ -159,3 +169,74 @@ returns-then-not-row-clause-begun g c clean plain = tt
 
 pub returns-clause-seen : goal.returns-clause-seen
 returns-clause-seen g c clean plain = tt
+
+pub returns-in_err-rows-clause-fails : goal.returns-in_err-rows-clause-fails
+returns-in_err-rows-clause-fails g c clean plain only =
+    let p = err_from_is_err_and c.from_residual.result c.from_residual.ensures.1 in
+    let refused = rw c.in_err-rows.was at c.query.follows.holds-at-none in
+    rw (p.1, p.2) (inr (refused.err clean))
+
+pub returns-in_err-row-clause-fails : goal.returns-in_err-row-clause-fails
+returns-in_err-row-clause-fails g c clean plain only =
+    let p = err_from_is_err_and c.from_residual-in_err-row.result
+    c.from_residual-in_err-row.ensures.1 in
+    let moved = c.next.follows.holds-at-none in
+    let next = c.next.follows.lender-at-none.conn.now in
+    let late : HasCleanDisk (state g.S.Store next) = search rules in
+    let why = fails_on c.rows.invariant.1 next moved.survives moved.mode plain
+    c.in_err-row.field-0.0 late (rw c.in_err-row.was at (moved.err late)) in
+    rw (p.1, p.2) (inr (search rules))
+
+pub returns-in_err-shown-clause-fails : goal.returns-in_err-shown-clause-fails
+returns-in_err-shown-clause-fails g c clean plain only =
+    let p = err_from_is_err_and c.from_residual-in_err-shown.result
+    c.from_residual-in_err-shown.ensures.1 in
+    let moved = c.next.follows.holds-at-none in
+    let next = c.next.follows.lender-at-none.conn.now in
+    let late : HasCleanDisk (state g.S.Store next) = search rules in
+    let was = shown_before c.rows.invariant.1 next moved.survives moved.mode late plain in
+    let gave = rw (c.in_ok-row.was, c.in-Some.is) at (moved.ok late) in
+    rw (p.1, p.2) (inl (c.in_err-shown.ensures.fails
+    (shown_fits was next (rw c.in_ok-row.was at (moved.same late)) c.in-Some.row.now
+    (gave c.args.sql.now (bound c.args.params.now) was.rows was.given) only)))
+
+pub returns-clause-fails : goal.returns-clause-fails
+returns-clause-fails g c clean plain only =
+    let late : HasCleanDisk (state g.S.Store c.rows.rows.conn.now) = search rules in
+    let few = shown_few (c.rows.invariant.1.shown late plain) only in
+    absurd (omega (arith, few))
+
+-- what the visitor saw, whatever the store gave
+pub returns-in_err-rows-clause-shown : goal.returns-in_err-rows-clause-shown
+returns-in_err-rows-clause-shown g c =
+    seen_in_vain g.V.Visit.sees c.args.visitor.now c.args.visitor.now c.from_residual.result
+    c.from_residual.ensures.0 ([], refl)
+
+pub returns-in_err-row-clause-shown : goal.returns-in_err-row-clause-shown
+returns-in_err-row-clause-shown g c =
+    seen_in_vain g.V.Visit.sees c.args.visitor.now c.rows.visitor
+    c.from_residual-in_err-row.result c.from_residual-in_err-row.ensures.0 c.rows.invariant.2
+
+pub returns-in_default-clause-shown : goal.returns-in_default-clause-shown
+returns-in_default-clause-shown g c = (
+  c.rows.invariant.2.0,
+  saw_all g.V.Visit.sees c.rows.invariant.2.0 c.args.visitor.now c.rows.visitor
+      c.rows.invariant.2.1,
+)
+
+pub returns-in_err-shown-clause-shown : goal.returns-in_err-shown-clause-shown
+returns-in_err-shown-clause-shown g c =
+    seen_in_vain g.V.Visit.sees c.args.visitor.now c.rows.visitor
+    c.from_residual-in_err-shown.result c.from_residual-in_err-shown.ensures.0 c.rows.invariant.2
+
+pub returns-then-not-row-clause-shown : goal.returns-then-not-row-clause-shown
+returns-then-not-row-clause-shown g c =
+    let so = c.rows.invariant.2 in
+    let last = c.in_ok-shown.shown in (
+      (so.0 ++ last ∷ []) ++ [],
+      saw_last g.V.Visit.sees so.0 last [] c.args.visitor.now c.row.new.self
+          (c.rows.visitor, so.1, c.if-not-row.ensures),
+    )
+
+pub returns-clause-shown : goal.returns-clause-shown
+returns-clause-shown g c = c.rows.invariant.2

@@ -3,6 +3,7 @@ use Rattle.indexmap.proofs.MapLemmas.{OnOk-map}
 use Rattle.acq_sql_reads.proofs.WalkTextLemmas.{holds_asks}
 use Rattle.acq_sql_reads.proofs.Walking.{on_err_weaker, saw_first, saw_enough}
 use Rattle.acq_sql_reads.proofs.HoldWalk.{holds_list}
+use Rattle.acq_sql_reads.proofs.FailingWalks.{holds_excused}
 use Rattle.acq_sql_reads.proofs.walks.walk_holds.Goals as goal
 
 pub returns-clause-seen : goal.returns-clause-seen
@@ -21,3 +22,12 @@ returns-clause-begun g c clean t holds past =
 
 pub returns-clause-looks : goal.returns-clause-looks
 returns-clause-looks g c = c.show_rows.ensures.looks holds_asks.begins
+
+pub returns-clause-fails : goal.returns-clause-fails
+returns-clause-fails g c clean t at past free =
+    holds_excused (state g.S.Store c.args.conn.now) (state g.S.Store c.show_rows.new.conn)
+    c.show_rows.result t at past.0 free c.args.merchant past.1
+    (rw c.to_bytes-merchant.ensures.value at (c.show_rows.ensures.fails clean holds_asks.begins))
+
+pub returns-clause-shown : goal.returns-clause-shown
+returns-clause-shown g c = c.show_rows.ensures.shown

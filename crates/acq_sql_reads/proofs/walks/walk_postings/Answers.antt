@@ -3,6 +3,7 @@ use Rattle.indexmap.proofs.MapLemmas.{OnOk-map}
 use Rattle.acq_sql_reads.proofs.WalkTextLemmas.{postings_asks}
 use Rattle.acq_sql_reads.proofs.Walking.{on_err_weaker, saw_first, saw_enough}
 use Rattle.acq_sql_reads.proofs.PostingWalk.{postings_list}
+use Rattle.acq_sql_reads.proofs.FailingWalks.{postings_excused}
 use Rattle.acq_sql_reads.proofs.walks.walk_postings.Goals as goal
 
 pub returns-clause-seen : goal.returns-clause-seen
@@ -21,3 +22,12 @@ returns-clause-begun g c clean t holds =
 
 pub returns-clause-looks : goal.returns-clause-looks
 returns-clause-looks g c = c.show_rows.ensures.looks postings_asks.begins
+
+pub returns-clause-fails : goal.returns-clause-fails
+returns-clause-fails g c clean t at past free =
+    postings_excused (state g.S.Store c.args.conn.now) (state g.S.Store c.show_rows.new.conn)
+    c.show_rows.result t at past.0 free c.args.day past.1
+    (rw c.day_value.ensures at (c.show_rows.ensures.fails clean postings_asks.begins))
+
+pub returns-clause-shown : goal.returns-clause-shown
+returns-clause-shown g c = c.show_rows.ensures.shown

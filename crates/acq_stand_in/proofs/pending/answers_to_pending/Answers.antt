@@ -1,7 +1,7 @@
 use Rattle.std.proofs.Common.{◌≡◌, ◌∙◌, refl, subst, sym}
 use Rattle.acq_book.specs.Lookups.{waiting_at}
 use Rattle.acq_reports.specs.Writing.{Puts}
-use Rattle.acq_reports.proofs.Lines.{Progress, finished, progress}
+use Rattle.acq_reports.proofs.Lines.{Progress, finished, progress, progress_any}
 use Rattle.acq_stand_in.specs.Pending.{answer_line, is_of_day, line_on_day, pending_text}
 use Rattle.acq_stand_in.proofs.LinesOfDay.{lines_of_some}
 use Rattle.acq_stand_in.proofs.pending.answers_to_pending.Goals as goal
@@ -44,3 +44,21 @@ returns-clause-text g c = λ honest opened.
     (subst
     (λ text. Progress sent failures text start.result walked.new.visitor.report walked.result)
     (lines_of_some (is_of_day day) (answer_line issuers.now moment) rows) lines)
+
+-- a failed write is told whichever rows were walked
+pub returns-clause-writes : goal.returns-clause-writes
+returns-clause-writes g c =
+    let sent = g.K.Sink.sent in
+    let failures = g.K.Sink.failures in
+    let start = c.new in
+    let walked = c.walk_pending-walked in
+    let any = progress_any sent failures (λ v. v.report)
+    (λ old row more new. Puts sent failures (line_on_day old.issuers.now old.moment old.day row)
+    old.report more new.report
+    × (new.issuers ≡ old.issuers) × (new.moment ≡ old.moment) × (new.day ≡ old.day))
+    (λ v row more u seen. (line_on_day v.issuers.now v.moment v.day row, seen.0))
+    _ walked.new.visitor walked.result walked.ensures.shown in
+    (finished sent failures any.0 start.result walked.new.visitor.report walked.result
+    c.args.writer.now _ c.end.result
+    start.ensures.written start.ensures.stop start.ensures.writer
+    (λ same. c.writer-1.given.1 (sym start.ensures.same_writer ∙ same)) c.end.ensures any.1).1

@@ -1,4 +1,4 @@
-use Rattle.std.proofs.Common.{[], inl, inr, Err, refl, ◌∙◌, ap}
+use Rattle.std.proofs.Common.{[], Err, refl, ◌∙◌, ap}
 use Rattle.std.proofs.lemmas.Result.{err_from_is_err_and}
 use Rattle.acq_core.specs.declared.output.Output.{Output}
 use Rattle.acq_link.specs.Frames.{has_bad_length}
@@ -9,7 +9,7 @@ use Rattle.acq_front.specs.Stops.{left_of}
 use Rattle.acq_front.proofs.FaultsApart.{stream_unstored}
 use Rattle.acq_front.proofs.Rounds.{unless_refused}
 use Rattle.acq_front.proofs.StopsLeave.{none_stop}
-use Rattle.acq_front.proofs.Turned.{store_on, was_held}
+use Rattle.acq_front.proofs.Turned.{tells_counted, tells_unfit, was_held}
 use Rattle.acq_front.proofs.Turning.{no_message, taking_ends, stream_stops, taking_stops}
 use Rattle.acq_front.proofs.conversation.Conversation.turn.Goals as goal
 
@@ -33,8 +33,9 @@ returns-in_err-hold-clause-store g c =
     let p = err_from_is_err_and c.from_residual-in_err-hold.result
     c.from_residual-in_err-hold.ensures.1 in
     let begins = rw c.in-Some.is at c.in_ok-message.ensures.some in
-    rw (p.1, p.2) (store_on (Unit {0}) Turn c.in_err-hold.field-0.0 _ _
-    (λ unfit. inr (
+    rw (p.1, p.2) (tells_unfit {X = Turn} (Err c.in_err-hold.field-0.0) _ _
+    c.in_ok-said.ensures.store
+    (λ unfit. (
       ([], c.in-Some.message.items, c.take_message.new.self, begins.fits, begins.whole),
       (λ h o. unfit (c.in_ok-said.ensures.takes h o).5.fits),
     ))
@@ -69,7 +70,7 @@ returns-in_err-message-clause-stays_open g c = λ h o. unless_refused c.from_res
 pub returns-in_err-message-clause-store : goal.returns-in_err-message-clause-store
 returns-in_err-message-clause-store g c =
     let p = err_from_is_err_and c.from_residual.result c.from_residual.ensures.1 in
-    rw (p.1, p.2) (stream_unstored Turn _ c.in_err-message.field-0.0)
+    rw (p.1, p.2) (stream_unstored Turn _ c.in_err-message.field-0.0 _ _ refl)
 
 pub returns-in_err-said-clause-steps : goal.returns-in_err-said-clause-steps
 returns-in_err-said-clause-steps g c = λ h o.
@@ -102,7 +103,7 @@ pub returns-in_err-said-clause-store : goal.returns-in_err-said-clause-store
 returns-in_err-said-clause-store g c =
     let p = err_from_is_err_and c.from_residual-in_err-said.result
     c.from_residual-in_err-said.ensures.1 in
-    rw (p.1, p.2) (store_on Output Turn c.in_err-said.field-0.0 _ _ (λ risen. inl risen)
+    rw (p.1, p.2) (tells_counted Output Turn c.in_err-said.field-0.0 _ _ _
     c.in_err-said.ensures.store)
 
 pub returns-in_err-hold-clause-stops : goal.returns-in_err-hold-clause-stops

@@ -12,7 +12,7 @@ use Rattle.acq_front.specs.Exchanges.{held_of, unsent_of, hand_of, gone_of}
 use Rattle.acq_front.proofs.StopsLeave.{none_stop}
 use Rattle.acq_front.proofs.Rounds.{first_none, none_left, reads_on, stops, stops_apart, stops_ends}
 use Rattle.acq_front.proofs.Rounds.{if_refused, takes_on, unless_refused, unrefused, writes_on}
-use Rattle.acq_front.proofs.Turned.{store_on}
+use Rattle.acq_front.proofs.Turned.{tells_on, tells_unfit}
 use Rattle.acq_front.proofs.exchange.Exchange.round.Goals as goal
 
 pub returns-then-not-is_empty-clause-goes : goal.returns-then-not-is_empty-clause-goes
@@ -157,10 +157,25 @@ returns-in_err-turn-clause-told g c =
 pub returns-in_err-turn-clause-store : goal.returns-in_err-turn-clause-store
 returns-in_err-turn-clause-store g c =
     let p = err_from_is_err_and c.from_residual.result c.from_residual.ensures.1 in
-    rw (p.1, p.2) (store_on Turn Round c.in_err-turn.field-0.0 _ _ (λ why. why)
+    rw (p.1, p.2) (tells_on Turn Round c.in_err-turn.field-0.0 _ _ _ refl (λ why. why)
     c.in_err-turn.ensures.store)
 
 pub returns-in_err-turn-clause-stays_open : goal.returns-in_err-turn-clause-stays_open
 returns-in_err-turn-clause-stays_open g c = λ h o.
     let p = err_from_is_err_and c.from_residual.result c.from_residual.ensures.1 in
     rw (p.1, p.2) (c.in_err-turn.ensures.stays_open h o)
+
+pub returns-then-not-is_empty-clause-store : goal.returns-then-not-is_empty-clause-store
+returns-then-not-is_empty-clause-store g c =
+    tells_unfit c.send.result ⊥ _ refl (λ no. absurd no) c.send.ensures.store
+
+pub returns-in-Took-clause-store : goal.returns-in-Took-clause-store
+returns-in-Took-clause-store g c =
+    let took : c.turn.result ≡ Ok Took = search rules in
+    rw (took) at c.turn.ensures.store
+
+pub returns-in-Waits-clause-store : goal.returns-in-Waits-clause-store
+returns-in-Waits-clause-store g c =
+    let waits : c.turn.result ≡ Ok Waits = search rules in
+    tells_unfit c.receive.result ⊥ _ (rw (waits) at c.turn.ensures.store) (λ no. absurd no)
+    c.receive.ensures.store

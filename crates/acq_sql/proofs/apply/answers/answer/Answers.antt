@@ -7,10 +7,10 @@ returns-in-Some g c =
     let found = c.in_ok-number-in-Some.ensures in
     rw c.in-Some.is
     (whole_from found.looks (λ clean t holds suits. (suits.0, found.answers clean t holds))
-    c.answer_and_post.ensures)
+    c.answer_and_post.ensures.whole)
 
 pub returns : goal.returns
-returns g c = rw c.in-None.is (whole_for (λ t suits. tt) c.answer.ensures)
+returns g c = rw c.in-None.is (whole_for (λ t suits. tt) c.answer.ensures.whole)
 
 pub returns-in_err-check_hold_end : goal.returns-in_err-check_hold_end
 returns-in_err-check_hold_end g c =

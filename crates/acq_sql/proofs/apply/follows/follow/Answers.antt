@@ -8,11 +8,11 @@ returns-in-Some g c =
     rw c.in-Some.is
     (whole_from found.looks
     (λ clean t holds suits. (suits.0.0.used, (suits.0.1, found.answers clean t holds), suits.0.2))
-    c.follow_and_post.ensures)
+    c.follow_and_post.ensures.whole)
 
 pub returns : goal.returns
 returns g c =
-    rw c.in-None.is (whole_for (λ t suits. suits.0.0.used) c.follow.ensures)
+    rw c.in-None.is (whole_for (λ t suits. suits.0.0.used) c.follow.ensures.whole)
 
 pub returns-in_err-check_hold_end : goal.returns-in_err-check_hold_end
 returns-in_err-check_hold_end g c =

@@ -7,7 +7,7 @@ returns g c =
     let found = c.in_ok-number.ensures in
     whole_from found.looks
     (λ clean t holds suits. (suits.0.used, found.answers clean t holds suits.1))
-    c.reconcile.ensures
+    c.reconcile.ensures.whole
 
 pub returns-in_err-check_hold_end : goal.returns-in_err-check_hold_end
 returns-in_err-check_hold_end g c =

@@ -3,7 +3,7 @@ use Rattle.acq_sql.proofs.apply.LooksFirst.{refuses, whole_for}
 use Rattle.acq_sql.proofs.apply.requests.add_request.Goals as goal
 
 pub returns : goal.returns
-returns g c = whole_for (λ t suits. suits.0.used) c.record_request.ensures
+returns g c = whole_for (λ t suits. suits.0.used) c.record_request.ensures.whole
 
 pub returns-in_err-check_hold_end : goal.returns-in_err-check_hold_end
 returns-in_err-check_hold_end g c =

@@ -1,3 +1,5 @@
+use Rattle.std.proofs.Common.{subst, sym}
+use Rattle.acq_book.specs.Visits.{SawRows}
 use Rattle.acq_sql.specs.Opened.{tables}
 use Rattle.acq_sql.proofs.BookLooks.{held_by, looks_of, relay_err, relay_ok}
 use Rattle.acq_sql.proofs.sql_book.SqlBookBook.walk_pending.Goals as goal
@@ -20,3 +22,8 @@ returns-clause-looks g c =
     (record { connection = c.walk_pending-walked.new.conn; failures = c.counted.new.failures })
     c.self.view_is c.walk_pending-walked.result c.counted.result c.walk_pending-walked.ensures.looks
     c.self.invariant c.settled.ensures c.counted.ensures.succeeds c.counted.ensures.rise
+
+pub returns-clause-shown : goal.returns-clause-shown
+returns-clause-shown g c =
+    subst (SawRows g.V.Visit.sees c.args.visitor.now c.walk_pending-walked.new.visitor)
+    (sym c.counted.ensures.succeeds) c.walk_pending-walked.ensures.shown

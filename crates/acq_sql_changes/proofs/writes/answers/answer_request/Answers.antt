@@ -1,12 +1,12 @@
 use Rattle.acq_sql_changes.proofs.writes.Bound.{bound_number}
 use Rattle.acq_sql_changes.proofs.writes.Inside.{answer_inside}
+use Rattle.acq_sql_changes.proofs.writes.Refusals.{answer_excused}
 use Rattle.acq_sql_changes.proofs.writes.answers.answer_request.Goals as goal
 
-pub returns-clause-writes : goal.returns-clause-writes
-returns-clause-writes g c =
-    answer_inside _ _ c.execute.result c.execute.ensures.survives
-    c.args.key c.args.status c.args.reply.now c.args.hold_end c.requires.whole
-    (rw (
+pub returns : goal.returns
+returns g c =
+    let ran =
+    rw (
       c.to_bytes-merchant.ensures.value,
       c.to_bytes-terminal.ensures.value,
       c.digits-kind.ensures,
@@ -16,4 +16,16 @@ returns-clause-writes g c =
       c.hold_end_value.ensures,
       c.requires.spelled,
       bound_number c.args.hold_end,
-    ) at c.execute.ensures.runs)
+    ) at c.execute.ensures.runs in
+    record {
+      same_reference = c.execute.ensures.same_reference;
+      writes = answer_inside _ _ c.execute.result c.execute.ensures.survives
+          c.args.key c.args.status c.args.reply.now c.args.hold_end c.requires.whole ran;
+      fails = answer_excused _ _ c.execute.result c.args.key c.args.status c.args.reply.now
+          c.args.hold_end (record {
+            merchant = c.to_bytes-merchant.ensures.valid;
+            terminal = c.to_bytes-terminal.ensures.valid;
+            trace = c.to_bytes-trace.ensures.valid;
+            transmission = c.to_bytes-stamp.ensures.valid;
+          }) c.requires.whole ran;
+    }

@@ -1,12 +1,19 @@
 use Rattle.acq_sql_changes.proofs.writes.Inside.{merchant_inside}
+use Rattle.acq_sql_changes.proofs.writes.Refusals.{merchant_excused}
 use Rattle.acq_sql_changes.proofs.writes.enrolments.add_merchant.Goals as goal
 
-pub returns-clause-writes : goal.returns-clause-writes
-returns-clause-writes g c =
-    merchant_inside _ _ c.execute.result c.execute.ensures.survives
-    c.args.merchant.now
-    (rw (
+pub returns : goal.returns
+returns g c =
+    let ran =
+    rw (
       c.to_bytes-id.ensures.value,
       c.to_bytes-currency.ensures.value,
       c.first_reference_value.ensures,
-    ) at c.execute.ensures.runs)
+    ) at c.execute.ensures.runs in
+    record {
+      same_reference = c.execute.ensures.same_reference;
+      writes = merchant_inside _ _ c.execute.result c.execute.ensures.survives
+          c.args.merchant.now ran;
+      fails = merchant_excused _ _ c.execute.result c.args.merchant.now c.to_bytes-id.ensures.valid
+          c.to_bytes-currency.ensures.valid ran;
+    }

@@ -1,11 +1,19 @@
 use Rattle.acq_sql_changes.proofs.writes.Inside.{terminal_inside}
+use Rattle.acq_sql_changes.proofs.writes.Refusals.{terminal_excused}
 use Rattle.acq_sql_changes.proofs.writes.enrolments.add_terminal.Goals as goal
 
-pub returns-clause-writes : goal.returns-clause-writes
-returns-clause-writes g c =
-    terminal_inside _ _ c.execute.result c.execute.ensures.survives
-    c.args.terminal.now
-    (rw (
+pub returns : goal.returns
+returns g c =
+    let ran =
+    rw (
       c.to_bytes-merchant.ensures.value,
       c.to_bytes-id.ensures.value,
-    ) at c.execute.ensures.runs)
+    ) at c.execute.ensures.runs in
+    record {
+      same_reference = c.execute.ensures.same_reference;
+      writes = terminal_inside _ _ c.execute.result c.execute.ensures.survives
+          c.args.terminal.now ran;
+      fails = terminal_excused _ _ c.execute.result c.args.terminal.now
+          c.to_bytes-merchant.ensures.valid
+          c.to_bytes-id.ensures.valid ran;
+    }

@@ -1,11 +1,11 @@
 use Rattle.acq_sql_changes.proofs.writes.Inside.{posting_inside}
+use Rattle.acq_sql_changes.proofs.writes.Refusals.{posting_excused}
 use Rattle.acq_sql_changes.proofs.writes.postings.add_posting.Goals as goal
 
-pub returns-clause-writes : goal.returns-clause-writes
-returns-clause-writes g c =
-    posting_inside _ _ c.execute.result c.execute.ensures.survives
-    c.args.number c.args.posting.now
-    (rw (
+pub returns : goal.returns
+returns g c =
+    let ran =
+    rw (
       c.to_bytes-merchant.ensures.value,
       c.to_bytes-terminal.ensures.value,
       c.to_bytes-trace.ensures.value,
@@ -15,4 +15,12 @@ returns-clause-writes g c =
       c.amount_value.ensures,
       c.reference_value.ensures,
       c.as_bytes.ensures,
-    ) at c.execute.ensures.runs)
+    ) at c.execute.ensures.runs in
+    record {
+      same_reference = c.execute.ensures.same_reference;
+      writes = posting_inside _ _ c.execute.result c.execute.ensures.survives
+          c.args.number c.args.posting.now ran;
+      fails = posting_excused _ _ c.execute.result c.args.number c.args.posting.now
+          c.to_bytes-merchant.ensures.valid c.to_bytes-terminal.ensures.valid
+          c.to_bytes-trace.ensures.valid ran;
+    }

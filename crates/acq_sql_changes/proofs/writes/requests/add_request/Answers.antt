@@ -1,13 +1,13 @@
 use Rattle.acq_sql_changes.proofs.writes.Bound.{bound_number, bound_text}
 use Rattle.acq_sql_changes.proofs.writes.Inside.{request_inside}
+use Rattle.acq_sql_changes.proofs.writes.Refusals.{request_excused}
 use Rattle.acq_sql_changes.proofs.writes.requests.add_request.Goals as goal
 
-pub returns-clause-writes : goal.returns-clause-writes
-returns-clause-writes g c =
+pub returns : goal.returns
+returns g c =
     let r = c.args.request.now in
-    request_inside _ _ c.execute.result c.execute.ensures.survives
-    r c.requires.whole
-    (rw (
+    let ran =
+    rw (
       c.to_bytes-merchant.ensures.value,
       c.to_bytes-terminal.ensures.value,
       c.digits-kind.ensures,
@@ -32,4 +32,15 @@ returns-clause-writes g c =
       bound_text r.acquirer,
       bound_number r.hold_days,
       bound_number r.hold_end,
-    ) at c.execute.ensures.runs)
+    ) at c.execute.ensures.runs in
+    record {
+      same_reference = c.execute.ensures.same_reference;
+      writes = request_inside _ _ c.execute.result c.execute.ensures.survives r c.requires.whole
+          ran;
+      fails = request_excused _ _ c.execute.result r (record {
+        merchant = c.to_bytes-merchant.ensures.valid;
+        terminal = c.to_bytes-terminal.ensures.valid;
+        trace = c.to_bytes-trace.ensures.valid;
+        transmission = c.to_bytes-stamp.ensures.valid;
+      }) c.requires.whole ran;
+    }

@@ -1,12 +1,12 @@
 use Rattle.acq_sql_changes.specs.Written.{tally_from}
 use Rattle.acq_sql_changes.proofs.writes.Inside.{raised_inside}
+use Rattle.acq_sql_changes.proofs.writes.Refusals.{raise_excused}
 use Rattle.acq_sql_changes.proofs.writes.running.raise.Goals as goal
 
-pub returns-clause-writes : goal.returns-clause-writes
-returns-clause-writes g c =
-    raised_inside _ _ c.execute.result c.execute.ensures.survives
-    c.args.merchant c.args.day (tally_from c.args.used c.args.posted.now)
-    (rw (
+pub returns : goal.returns
+returns g c =
+    let ran =
+    rw (
       c.to_bytes-merchant.ensures.value,
       c.day_value.ensures,
       c.number_value.ensures,
@@ -18,4 +18,11 @@ returns-clause-writes g c =
       c.sum_value-2.ensures,
       c.sum_value-3.ensures,
       c.sum_value-4.ensures,
-    ) at c.execute.ensures.runs)
+    ) at c.execute.ensures.runs in
+    record {
+      same_reference = c.execute.ensures.same_reference;
+      writes = raised_inside _ _ c.execute.result c.execute.ensures.survives
+          c.args.merchant c.args.day (tally_from c.args.used c.args.posted.now) ran;
+      fails = raise_excused _ _ c.execute.result c.args.merchant c.args.day
+          (tally_from c.args.used c.args.posted.now) c.to_bytes-merchant.ensures.valid ran;
+    }

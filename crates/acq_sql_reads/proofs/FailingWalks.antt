@@ -1,0 +1,210 @@
+-- When a walk fails.
+use Rattle.std.proofs.Common.{◌≡◌, ◌++◌, inl, inr, ℕ, true, List, [], ◌∷◌}
+use Rattle.std.proofs.Common.{length, map, None, Result, Ok, Err, IfErr, refl, sym, ap, subst}
+use Rattle.std.proofs.Common.{arith}
+use Rattle.std.specs.Prelude.{All}
+use Rattle.std.specs.List.{AllByRecursion}
+use Rattle.std.proofs.lemmas.List.{length-append, length-map}
+use Rattle.std.proofs.lemmas.List.Elements.{All-contains}
+use Rattle.sqlite_value.specs.declared.value.Value.TheVariants.{Text}
+use Rattle.sqlite_value.specs.Order.{Row}
+use Rattle.sqlite_sql.specs.Query.{Query}
+use Rattle.sqlite_typing.specs.Types.{accepts_program}
+use Rattle.sqlite_tied.specs.Compute.{everything}
+use Rattle.sqlite_rules.specs.Lists.{Has}
+use Rattle.sqlite.specs.declared.error.Error.{Error}
+use Rattle.sqlite.specs.Listing.{understood}
+use Rattle.sqlite.specs.State.{State}
+use Rattle.row_lemmas.specs.Excused.{IsExcused}
+use Rattle.row_lemmas.specs.Values.{number}
+use Rattle.row_lemmas.proofs.QueriesSucceed.{query_succeeds}
+use Rattle.card_no.specs.CardNumbers.{is_valid_card}
+use Rattle.acq_core.specs.declared.merchant.Merchant.{Merchant}
+use Rattle.acq_core.specs.declared.posting.Posting.{Posting}
+use Rattle.acq_core.specs.declared.request.Request.{Request}
+use Rattle.acq_core.specs.Pasts.{HasPast}
+use Rattle.acq_core.specs.Tables.{Tables}
+use Rattle.acq_book.specs.Lookups.{holds_at, merchants_at, postings_at, waiting_at}
+use Rattle.acq_history.specs.Rows.{FitsMerchant, FitsPosting}
+use Rattle.acq_history.proofs.Members.{In, from_In}
+use Rattle.acq_sql_rows.specs.Rows.{version, merchant_row, posting_row, request_row}
+use Rattle.acq_sql_rows.specs.Schema.{book_schema}
+use Rattle.acq_sql_rows.specs.Schema as schema
+use Rattle.acq_sql_changes.specs.Changed.{IsAtOf}
+use Rattle.acq_sql_reads.specs.Failing.{CanBeWalked, IsMerchantRow, IsPostingRow, IsRequestRow}
+use Rattle.acq_sql_reads.specs.Shown.{FailsToHandOver, ShowsOnly}
+use Rattle.acq_sql_reads.specs.WalkTexts as text
+use Rattle.acq_sql_reads.specs.WalkQueries as query
+use Rattle.acq_sql_reads.proofs.CardsOfPostings.{cards_valid}
+use Rattle.acq_sql_reads.proofs.Failing.{IsAlone, IsNeverRefused, query_excused, request_fits}
+use Rattle.acq_sql_reads.proofs.Failing.{request_is_read, rows_fit}
+use Rattle.acq_sql_reads.proofs.HoldWalk.{holds_among, holds_list}
+use Rattle.acq_sql_reads.proofs.MerchantWalk.{merchants_among, merchants_list}
+use Rattle.acq_sql_reads.proofs.PendingWalk.{waiting_among, waiting_list}
+use Rattle.acq_sql_reads.proofs.PostingWalk.{postings_among, postings_list}
+use Rattle.acq_sql_reads.proofs.Walking.{ShowsList, front}
+
+-- ---- its query
+
+postings_alone : IsAlone text.postings_text 1
+unfolding understood everything book_schema schema.up_to_reconciliations schema.up_to_postings
+    schema.up_to_requests schema.up_to_ranges schema.up_to_terminals schema.up_to_merchants
+    schema.up_to_book
+postings_alone = record { whole = refl; given = refl }
+
+merchants_alone : IsAlone text.merchants_text 0
+unfolding understood everything book_schema schema.up_to_reconciliations schema.up_to_postings
+    schema.up_to_requests schema.up_to_ranges schema.up_to_terminals schema.up_to_merchants
+    schema.up_to_book
+merchants_alone = record { whole = refl; given = refl }
+
+holds_alone : IsAlone text.holds_text 1
+unfolding understood everything book_schema schema.up_to_reconciliations schema.up_to_postings
+    schema.up_to_requests schema.up_to_ranges schema.up_to_terminals schema.up_to_merchants
+    schema.up_to_book
+holds_alone = record { whole = refl; given = refl }
+
+waiting_alone : IsAlone text.waiting_text 0
+unfolding understood everything book_schema schema.up_to_reconciliations schema.up_to_postings
+    schema.up_to_requests schema.up_to_ranges schema.up_to_terminals schema.up_to_merchants
+    schema.up_to_book
+waiting_alone = record { whole = refl; given = refl }
+
+typed_postings : (day : ℕ)
+    → accepts_program book_schema [] query.postings_query (number day ∷ []) ≡ true
+unfolding book_schema schema.up_to_reconciliations schema.up_to_postings schema.up_to_requests
+    schema.up_to_ranges schema.up_to_terminals schema.up_to_merchants schema.up_to_book
+typed_postings day = refl
+
+typed_merchants : accepts_program book_schema [] query.merchants_query [] ≡ true
+unfolding book_schema schema.up_to_reconciliations schema.up_to_postings schema.up_to_requests
+    schema.up_to_ranges schema.up_to_terminals schema.up_to_merchants schema.up_to_book
+typed_merchants = refl
+
+typed_holds : (m : List ℕ)
+    → accepts_program book_schema [] query.holds_query (Text m ∷ []) ≡ true
+unfolding book_schema schema.up_to_reconciliations schema.up_to_postings schema.up_to_requests
+    schema.up_to_ranges schema.up_to_terminals schema.up_to_merchants schema.up_to_book
+typed_holds m = refl
+
+typed_waiting : accepts_program book_schema [] query.waiting_query [] ≡ true
+unfolding book_schema schema.up_to_reconciliations schema.up_to_postings schema.up_to_requests
+    schema.up_to_ranges schema.up_to_terminals schema.up_to_merchants schema.up_to_book
+typed_waiting = refl
+
+-- ---- its rows
+
+-- a member of a list is one of it
+in_from : {X : Type 0} (xs : List X) (x : X) → Has xs x → In x xs
+in_from [] x here = absurd here
+in_from (y ∷ xs) x (inl is) = inl (sym is)
+in_from (y ∷ xs) x (inr there) = inr (in_from xs x there)
+
+fits_each : {X : Type 0} (P : X → Type 0) (xs : List X) (x : X) → All P xs → Has xs x → P x
+fits_each P xs x all here = All-contains P xs x all (from_In x xs (in_from xs x here))
+
+merchant_fits_row : (t : Tables) → HasPast t → (y : Merchant) → Has (merchants_at t) y
+    → IsMerchantRow (merchant_row y)
+merchant_fits_row t past y here = (
+  y,
+  refl,
+  fits_each FitsMerchant t.merchants y (rows_fit t past).merchants
+      (merchants_among t y here),
+)
+
+posting_fits_row : (t : Tables) → HasPast t → (day : ℕ) (y : ℕ × Posting)
+    → Has (postings_at t day) y → IsPostingRow (posting_row y)
+posting_fits_row t past day y here =
+    let listed = postings_among day t y here in (
+      t.limit,
+      y,
+      refl,
+      fits_each (FitsPosting t.limit) t.postings y (rows_fit t past).postings listed,
+      fits_each (λ p. is_valid_card p.1.card ≡ true) t.postings y (cards_valid t past) listed,
+    )
+
+request_fits_row : (t : Tables) → HasPast t → (y : Request) → Has t.requests y
+    → IsRequestRow (request_row y)
+request_fits_row t past y here =
+    request_is_read y (request_fits t past y (in_from t.requests y here))
+
+all_front : (P : Row → Type 0) (rows tail : List Row) → AllByRecursion P (rows ++ tail)
+    → AllByRecursion P rows
+all_front P [] tail all = tt
+all_front P (row ∷ rows) tail all = (all.0, all_front P rows tail all.1)
+
+module _ {T : Type 0} {sql : List ℕ} {params : Row} {old : State} {shows : Row → T → Type 0}
+    {q : Query} {cells : T → Row} {ys : List T} (list : ShowsList sql params old shows q cells ys)
+    (fits : Row → Type 0) where
+  all_cells : (xs : List T) → ((y : T) → Has xs y → fits (cells y))
+      → AllByRecursion fits (map cells xs)
+  all_cells [] each = tt
+  all_cells (x ∷ xs) each = (each x (inl refl), all_cells xs (λ y h. each y (inr h)))
+
+  -- its query shows those rows only
+  shows_only : ((y : T) → Has ys y → fits (cells y)) → CanBeWalked ys
+      → ShowsOnly sql params old fits
+  shows_only each few rows first =
+      let tail = front list rows first in
+      let all = subst (AllByRecursion fits) (sym tail.1) (all_cells ys each) in
+      let long = length-append rows tail.0 in
+      let same = ap length tail.1 in
+      let many = length-map ys cells in
+      (all_front fits rows tail.0 all, omega (arith, few, long, same, many))
+
+-- ---- the walks
+
+module _ {V : Type 0} (old new : State) (res : Result V Error) (t : Tables)
+    (at : IsAtOf version old t) (past : HasPast t) (free : old.step_limit ≡ None) where
+  -- where its query shows rows such as a book has
+  abbrev Walked : List ℕ → Row → (Row → Type 0) → Type 0
+  Walked sql params fits =
+      ShowsOnly sql params old fits → IfErr res (FailsToHandOver sql params old new)
+
+  walked : {T : Type 0} (sql : List ℕ) (params : Row) {shows : Row → T → Type 0} {q : Query}
+      {cells : T → Row} {ys : List T} (list : ShowsList sql params old shows q cells ys)
+      (fits : Row → Type 0) → IsAlone sql (length params) → IsNeverRefused q params
+      → ((y : T) → Has ys y → fits (cells y)) → CanBeWalked ys
+      → Walked sql params fits → IfErr res (IsExcused old new)
+  walked sql params {q = q} list fits lone succeeds each few failed =
+      go res (failed (shows_only list fits each few))
+    where
+      go : (r : Result V Error) → IfErr r (FailsToHandOver sql params old new)
+          → IfErr r (IsExcused old new)
+      go (Ok x) h = tt
+      go (Err e) (inl memory) = inl memory
+      go (Err e) (inr h) =
+          query_excused old new sql params q list.names list.ask lone succeeds t at free e h
+
+  pub postings_excused : (day : ℕ) → CanBeWalked (postings_at t day)
+      → Walked text.postings_text (number day ∷ []) IsPostingRow → IfErr res (IsExcused old new)
+  postings_excused day =
+      walked text.postings_text (number day ∷ []) (postings_list old t day at.holds) IsPostingRow
+      postings_alone (query_succeeds 9 query.postings_query.filter query.postings_query.project
+      query.postings_query.order query.postings_query.limit book_schema (number day ∷ [])
+      (typed_postings day))
+      (posting_fits_row t past day)
+
+  pub merchants_excused : CanBeWalked (merchants_at t)
+      → Walked text.merchants_text [] IsMerchantRow → IfErr res (IsExcused old new)
+  merchants_excused =
+      walked text.merchants_text [] (merchants_list old t at.holds) IsMerchantRow
+      merchants_alone (query_succeeds 1 query.merchants_query.filter query.merchants_query.project
+      query.merchants_query.order query.merchants_query.limit book_schema [] typed_merchants)
+      (merchant_fits_row t past)
+
+  pub holds_excused : (m : List ℕ) → CanBeWalked (holds_at t m)
+      → Walked text.holds_text (Text m ∷ []) IsRequestRow → IfErr res (IsExcused old new)
+  holds_excused m =
+      walked text.holds_text (Text m ∷ []) (holds_list m old t at.holds past) IsRequestRow
+      holds_alone (query_succeeds 6 query.holds_query.filter query.holds_query.project
+      query.holds_query.order query.holds_query.limit book_schema (Text m ∷ []) (typed_holds m))
+      (λ y here. request_fits_row t past y (holds_among m t y here))
+
+  pub waiting_excused : CanBeWalked (waiting_at t)
+      → Walked text.waiting_text [] IsRequestRow → IfErr res (IsExcused old new)
+  waiting_excused =
+      walked text.waiting_text [] (waiting_list old t at.holds) IsRequestRow
+      waiting_alone (query_succeeds 6 query.waiting_query.filter query.waiting_query.project
+      query.waiting_query.order query.waiting_query.limit book_schema [] typed_waiting)
+      (λ y here. request_fits_row t past y (waiting_among t y here))
