@@ -2,6 +2,7 @@
 use Rattle.std.proofs.Common.{◌≡◌, ◌⊎◌, ℕ, ◌<◌, ◌≤◌, Bool, false, List, [], length, take, get_or}
 use Rattle.std.proofs.Common.{Result, Ok, Err, inl, inr, ⊎_elim, refl, sym, ap, subst, ◌∙◌, arith}
 use Rattle.std.proofs.lemmas.List.{take_all}
+use Rattle.std.specs.Prelude.{IfErr}
 use Rattle.acq_core.specs.declared.event.Event.{Event}
 use Rattle.acq_core.specs.declared.output.Output.{Output}
 use Rattle.acq_core.specs.Arrivals.{arrival_of}
@@ -12,7 +13,7 @@ use Rattle.acq_host.proofs.Runs.{HasTaken, LeavesTables, may_stop_at, leaves_boo
 use Rattle.acq_front.specs.Stops.{left_of, LeavesAll, StopLeaves}
 use Rattle.acq_out.specs.EventLines.{events_of_text}
 use Rattle.acq_commands.specs.DayReports.{Takes, TakesFirst, TakesSome}
-use Rattle.acq_commands.specs.Replay.{Replays, Stops, TakesUpTo}
+use Rattle.acq_commands.specs.Replay.{IsUntaken, Replays, Stops, TakesUpTo}
 use Rattle.acq_commands.specs.Streams.{Course, Stream}
 use Rattle.acq_commands.specs.declared.fault.Fault as fault
 
@@ -57,10 +58,11 @@ module _ {S : Type 0} (book : Ghosts S) (settled : LeavesTables book)
   it = record { left = left_of book; old = a; new = c }
 
   -- none was taken
-  up_to_none : book.is_open a → c ≡ a → TakesUpTo it text
-  up_to_none opened same = record {
+  up_to_none : (r : Result (Unit {0}) fault.Fault) → IsUntaken text r → book.is_open a → c ≡ a →
+      TakesUpTo it text r
+  up_to_none r untaken opened same = record {
     events = [];
-    spelled = inr refl;
+    spelled = inr (refl, untaken);
     taken = 0;
     leads = λ o. ap book.tables same;
     stop = subst (λ (s : S). StopLeaves (left_of book s)
@@ -70,7 +72,7 @@ module _ {S : Type 0} (book : Ghosts S) (settled : LeavesTables book)
 
   up_to_all : (events : List Event) → events_of_text text ≡ Ok events →
       book.tables c ≡ tables_after (book.tables a) events →
-      LeavesAll (left_of book c) (book.tables a) events → TakesUpTo it text
+      LeavesAll (left_of book c) (book.tables a) events → TakesUpTo it text (Ok tt)
   up_to_all events spelled led stop =
       let whole = take_all (length events) events (omega arith) in
       let at = ap (tables_after (book.tables a)) (sym whole) in
@@ -82,8 +84,8 @@ module _ {S : Type 0} (book : Ghosts S) (settled : LeavesTables book)
         stop = record { tables = λ t l. inl (stop.tables t l ∙ at); stored = stop.stored };
       }
 
-  up_to_some : TakesSome it text → TakesUpTo it text
-  up_to_some some = record {
+  up_to_some : (r : Result (Unit {0}) fault.Fault) → TakesSome it text → TakesUpTo it text r
+  up_to_some r some = record {
     events = some.events;
     spelled = inl some.spelled;
     taken = some.first.taken;
@@ -93,7 +95,7 @@ module _ {S : Type 0} (book : Ghosts S) (settled : LeavesTables book)
 
   -- the lines of a text were replayed
   up_to_stop : (sent : Stream) (f : fault.Fault) (events : List Event) →
-      events_of_text text ≡ Ok events → Stops it events sent f → TakesUpTo it text
+      events_of_text text ≡ Ok events → Stops it events sent f → TakesUpTo it text (Err f)
   up_to_stop sent f events spelled stops = record {
     events = events;
     spelled = inl spelled;
@@ -106,11 +108,14 @@ module _ {S : Type 0} (book : Ghosts S) (settled : LeavesTables book)
   }
 
   pub replayed_up_to : book.is_open a → (sent : Stream) (r : Result (Unit {0}) fault.Fault) →
-      Replays it text sent r → TakesUpTo it text
+      Replays it text sent r → TakesUpTo it text r
   replayed_up_to opened sent (Ok u) all = up_to_all all.events all.spelled all.leads all.stop
-  replayed_up_to opened sent (Err (fault.TheVariants.BadLine n)) h = up_to_none opened h.1
-  replayed_up_to opened sent (Err fault.TheVariants.Read) h = up_to_none opened h.0
-  replayed_up_to opened sent (Err fault.TheVariants.Memory) (inl h) = up_to_none opened h.0
+  replayed_up_to opened sent (Err (fault.TheVariants.BadLine n)) h =
+      up_to_none (Err (fault.TheVariants.BadLine n)) h.0 opened h.1
+  replayed_up_to opened sent (Err fault.TheVariants.Read) h =
+      up_to_none (Err fault.TheVariants.Read) tt opened h.0
+  replayed_up_to opened sent (Err fault.TheVariants.Memory) (inl h) =
+      up_to_none (Err fault.TheVariants.Memory) tt opened h.0
   replayed_up_to opened sent (Err fault.TheVariants.Memory) (inr h) =
       up_to_stop sent fault.TheVariants.Memory h.0 h.1 h.2
   replayed_up_to opened sent (Err fault.TheVariants.Store) h =
@@ -121,22 +126,37 @@ module _ {S : Type 0} (book : Ghosts S) (settled : LeavesTables book)
 
   -- its events were taken
   pub taken_up_to : book.is_open a → (r : Result (Unit {0}) fault.Fault) →
-      Takes it text r → TakesUpTo it text
+      Takes it text r → TakesUpTo it text r
   taken_up_to opened (Ok u) all = up_to_all all.events all.spelled all.leads all.stop
-  taken_up_to opened (Err (fault.TheVariants.BadLine n)) h = up_to_none opened h.1
-  taken_up_to opened (Err fault.TheVariants.Read) h = up_to_none opened h
-  taken_up_to opened (Err fault.TheVariants.Memory) (inl h) = up_to_none opened h
-  taken_up_to opened (Err fault.TheVariants.Memory) (inr h) = up_to_some h
-  taken_up_to opened (Err fault.TheVariants.Store) h = up_to_some h
+  taken_up_to opened (Err (fault.TheVariants.BadLine n)) h =
+      up_to_none (Err (fault.TheVariants.BadLine n)) h.0 opened h.1
+  taken_up_to opened (Err fault.TheVariants.Read) h =
+      up_to_none (Err fault.TheVariants.Read) tt opened h
+  taken_up_to opened (Err fault.TheVariants.Memory) (inl h) =
+      up_to_none (Err fault.TheVariants.Memory) tt opened h
+  taken_up_to opened (Err fault.TheVariants.Memory) (inr h) =
+      up_to_some (Err fault.TheVariants.Memory) h
+  taken_up_to opened (Err fault.TheVariants.Store) h = up_to_some (Err fault.TheVariants.Store) h
   taken_up_to opened (Err f) h = absurd h
 
+  -- what was read is so by an end that is that of the reading, where this failed
+  spelled_on : (events : List Event) (taken ended : Result (Unit {0}) fault.Fault)
+      (more : fault.Fault → Type 0) → IfErr taken (λ cause. (ended ≡ Err cause) × more cause) →
+      (events_of_text text ≡ Ok events) ⊎ ((events ≡ []) × IsUntaken text taken) →
+      (events_of_text text ≡ Ok events) ⊎ ((events ≡ []) × IsUntaken text ended)
+  spelled_on events taken ended more stopped (inl is) = inl is
+  spelled_on events (Ok u) ended more stopped (inr none) = absurd none.1
+  spelled_on events (Err f) ended more stopped (inr none) =
+      inr (none.0, subst (IsUntaken text) (sym stopped.0) none.1)
+
   -- and then it was looked at
-  pub looked_up_to : (d : S) (succeeded : Bool) → book.is_honest d →
-      Looks book c d succeeded → TakesUpTo it text →
-      TakesUpTo (record { left = left_of book; old = a; new = d }) text
-  looked_up_to d succeeded honest looks up = record {
+  pub looked_up_to : (d : S) (succeeded : Bool) (taken ended : Result (Unit {0}) fault.Fault)
+      (more : fault.Fault → Type 0) → IfErr taken (λ cause. (ended ≡ Err cause) × more cause) →
+      book.is_honest d → Looks book c d succeeded → TakesUpTo it text taken →
+      TakesUpTo (record { left = left_of book; old = a; new = d }) text ended
+  looked_up_to d succeeded taken ended more stopped honest looks up = record {
     events = up.events;
-    spelled = up.spelled;
+    spelled = spelled_on up.events taken ended more stopped up.spelled;
     taken = up.taken;
     leads = λ o. looks.same o ∙ up.leads (looks.was_open o);
     stop = record {

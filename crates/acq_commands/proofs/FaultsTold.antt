@@ -1,11 +1,14 @@
 -- What the faults of calls are, as a command tells them.
 use Rattle.std.proofs.Common.{◌≡◌, ℕ, ◌+◌, ◌++◌, List, Option, Some, None, Err, refl, sym, ap}
-use Rattle.std.proofs.Common.{◌∙◌, append-nil, arith, inl, inr}
-use Rattle.std.specs.Prelude.{IsErrOf, Result}
+use Rattle.std.proofs.Common.{◌∙◌, append-nil, arith, inl, inr, subst}
+use Rattle.std.specs.Prelude.{IfErr, OnErr, OnOk, Ok, Result}
 use Rattle.std.specs.Io.KnownBytes.{Consumes, IsAtEnd}
-use Rattle.acq_book.specs.Promise.{IfStore}
+use Rattle.acq_book.specs.Promise.{CountsFault, HasRisen}
+use Rattle.acq_book.specs.declared.book.Book.{Ghosts}
 use Rattle.acq_book.specs.declared.book_fault.BookFault as book
 use Rattle.acq_core.specs.declared.output.Output.{Output}
+use Rattle.acq_front.specs.Faults as fronts
+use Rattle.acq_front.specs.declared.front_fault.FrontFault as front
 use Rattle.acq_link.specs.Moves.{TakesAll}
 use Rattle.acq_link.specs.declared.hex_frames.hex_fault.HexFault as hex
 use Rattle.acq_link.specs.declared.input_fault.InputFault as input
@@ -13,9 +16,13 @@ use Rattle.acq_out.specs.OutputLines.{WritesLine}
 use Rattle.acq_out.specs.Reads.{ReadsEvents}
 use Rattle.acq_out.specs.Faults as outs
 use Rattle.acq_out.specs.declared.out_fault.OutFault as out
-use Rattle.acq_commands.specs.DayReports.{StopsTaking, TakesSome}
+use Rattle.acq_reports.specs.Faults as reports
+use Rattle.acq_reports.specs.declared.report_fault.ReportFault as report
+use Rattle.acq_commands.specs.DayReports.{StopsTaking, TakesSome, told}
 use Rattle.acq_commands.specs.Faults.{failed_reads, failed_writes, of_book, of_hex, of_input}
-use Rattle.acq_commands.specs.Faults.{of_out}
+use Rattle.acq_commands.specs.Faults.{of_out, CountsStore, TellsStore}
+use Rattle.acq_commands.specs.Listening.{going_on}
+use Rattle.acq_commands.specs.Once.{told_of}
 use Rattle.acq_commands.specs.Replay.{AfterReading, StopsAt, StopsEvents}
 use Rattle.acq_commands.specs.Streams.{Course, Stream}
 use Rattle.acq_commands.specs.declared.fault.Fault as fault
@@ -87,12 +94,11 @@ events_unwritten text out.TheVariants.Read n h = omega arith
 events_unwritten text (out.TheVariants.Write k) n h = absurd h
 events_unwritten text (out.TheVariants.BadLine k) n h = omega arith
 
-pub events_unstored : (e : out.OutFault) (risen : Type 0) →
-    IsErrOf {T = Unit {0}} (Err (of_out e)) fault.TheVariants.Store → risen
-events_unstored out.TheVariants.Memory risen is = cc
-events_unstored out.TheVariants.Read risen is = cc
-events_unstored (out.TheVariants.Write n) risen is = cc
-events_unstored (out.TheVariants.BadLine n) risen is = cc
+pub events_unstored : (e : out.OutFault) (a b : ℕ) → b ≡ a → CountsStore (Err (of_out e)) a b
+events_unstored out.TheVariants.Memory a b same = same
+events_unstored out.TheVariants.Read a b same = same
+events_unstored (out.TheVariants.Write n) a b same = same
+events_unstored (out.TheVariants.BadLine n) a b same = same
 
 module _ {S : Type 0} (book : Course S) (text : List ℕ) (same : book.new ≡ book.old) where
   pub unreplayed : (sent : Stream) (e : out.OutFault) → ReadsEvents text (Err e) →
@@ -122,11 +128,90 @@ pub book_unwritten : (e : book.BookFault) (n : ℕ) → n ≡ n + failed_writes 
 book_unwritten book.TheVariants.Memory n = omega arith
 book_unwritten book.TheVariants.Store n = omega arith
 
-pub book_stored : (X : Type 0) (e : book.BookFault) (risen : Type 0) →
-    IfStore {T = X} (Err e) risen →
-    IsErrOf {T = Unit {0}} (Err (of_book e)) fault.TheVariants.Store → risen
-book_stored X book.TheVariants.Memory risen h is = cc
-book_stored X book.TheVariants.Store risen h is = h
+pub book_stored : (e : book.BookFault) (a b : ℕ) → CountsFault {T = Unit {0}} (Err e) a b →
+    CountsStore (Err (of_book e)) a b
+book_stored book.TheVariants.Memory a b counts = counts
+book_stored book.TheVariants.Store a b counts = counts
+
+-- what a command counts after events that left the count as it was
+pub counts_later : (result : Result (Unit {0}) fault.Fault) {a b : ℕ} (c : ℕ) → b ≡ a →
+    CountsStore result b c → CountsStore result a c
+counts_later result c same counts = subst (λ n. CountsStore result n c) same counts
+
+-- a fault that counts is one that is told
+pub tells_counted : (result : Result (Unit {0}) fault.Fault) (P : Type 0) (a b : ℕ) →
+    CountsStore result a b → TellsStore result a b P
+tells_counted (Err fault.TheVariants.Store) P a b counts = inl counts
+tells_counted result P a b counts = counts
+
+-- what is told is told with a weaker reason, and of a longer time in which nothing more failed
+pub tells_later : (result : Result (Unit {0}) fault.Fault) (P Q : Type 0) {a b : ℕ} (c : ℕ) →
+    b ≡ a → (P → Q) → TellsStore result b c P → TellsStore result a c Q
+tells_later (Err fault.TheVariants.Store) P Q c same so (inl risen) =
+    inl (subst (λ (n : ℕ). HasRisen n c) same risen)
+tells_later (Err fault.TheVariants.Store) P Q c same so (inr p) = inr (so p)
+tells_later result P Q c same so is = is ∙ same
+
+-- what is told of the store by the reports on a book, and by the events before them
+pub tells_both : {S : Type 0} (it : Ghosts S) (taken result : Result (Unit {0}) fault.Fault)
+    (a b c : S) (asked unsent : Type 0) → asked →
+    CountsStore taken (it.failures a) (it.failures b) →
+    (it.is_honest b → it.is_open a → OnOk taken (it.is_open b)) →
+    (it.is_honest c → it.is_honest b) →
+    IfErr taken (λ cause. (result ≡ Err cause) × unsent) →
+    OnErr taken (c ≡ b) →
+    OnOk taken (TellsStore result (it.failures b) (it.failures c)
+    (it.is_honest c → it.is_open b → ⊥)) →
+    TellsStore result (it.failures a) (it.failures c)
+    (asked × (it.is_honest c → it.is_open a → ⊥))
+tells_both it (Ok u) result a b c asked unsent want counts stays was stopped same tells =
+    tells_later result _ _ (it.failures c) counts
+    (λ no. (want, λ h o. no h (stays (was h) o))) tells
+tells_both it (Err f) result a b c asked unsent want counts stays was stopped same tells =
+    subst (λ r. TellsStore r (it.failures a) (it.failures c)
+    (asked × (it.is_honest c → it.is_open a → ⊥))) (sym stopped.0)
+    (tells_counted (Err f) _ (it.failures a) (it.failures c)
+    (subst (λ s. CountsStore (Err f) (it.failures a) (it.failures s)) (sym same) counts))
+
+-- what a connection's end tells of the store
+pub front_tells : (result : Result (Unit {0}) front.FrontFault) (P : Type 0) (a b : ℕ) →
+    fronts.TellsStore result a b P → TellsStore (told_of result) a b P
+front_tells (Ok u) P a b is = is
+front_tells (Err front.TheVariants.Memory) P a b is = is
+front_tells (Err front.TheVariants.Store) P a b is = is
+front_tells (Err front.TheVariants.BadLength) P a b is = is
+front_tells (Err front.TheVariants.Ended) P a b is = is
+front_tells (Err (front.TheVariants.Undecodable f)) P a b is = is
+front_tells (Err front.TheVariants.Read) P a b is = is
+front_tells (Err (front.TheVariants.Write n)) P a b is = is
+
+-- and what it tells of it where the program goes on after other faults
+pub going_tells : (result : Result (Unit {0}) front.FrontFault) (P Q : Type 0) (a b : ℕ) →
+    (P → Q) → fronts.TellsStore result a b P → TellsStore (going_on result) a b Q
+going_tells (Ok u) P Q a b so is = is
+going_tells (Err front.TheVariants.Store) P Q a b so (inl risen) = inl risen
+going_tells (Err front.TheVariants.Store) P Q a b so (inr p) = inr (so p)
+going_tells (Err front.TheVariants.Memory) P Q a b so is = is
+going_tells (Err front.TheVariants.BadLength) P Q a b so is = is
+going_tells (Err front.TheVariants.Ended) P Q a b so is = is
+going_tells (Err (front.TheVariants.Undecodable f)) P Q a b so is = is
+going_tells (Err front.TheVariants.Read) P Q a b so is = is
+going_tells (Err (front.TheVariants.Write n)) P Q a b so is = is
+
+-- what a report tells of it
+pub report_tells : {S : Type 0} (it : Ghosts S) (a b : S)
+    (result : Result (Unit {0}) report.ReportFault) →
+    reports.TellsStore it a b result →
+    TellsStore (told result) (it.failures a) (it.failures b)
+    (it.is_honest b → it.is_open a → ⊥)
+report_tells it a b (Ok u) tells = tells
+report_tells it a b (Err report.TheVariants.Memory) tells = tells
+report_tells it a b (Err report.TheVariants.Store) (inl risen) = inl risen
+report_tells it a b (Err report.TheVariants.Store) (inr unsound) = inr (λ h o. unsound (h, o))
+report_tells it a b (Err report.TheVariants.NoSuchMerchant) tells = tells
+report_tells it a b (Err (report.TheVariants.Write n)) tells = tells
+report_tells it a b (Err report.TheVariants.DayNotOver) tells = tells
+report_tells it a b (Err (report.TheVariants.StillPending n)) tells = tells
 
 pub some_taken : {S : Type 0} (it : Course S) (text : List ℕ) (e : book.BookFault) →
     TakesSome it text → StopsTaking it text (of_book e)

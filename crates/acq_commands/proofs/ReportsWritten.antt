@@ -1,6 +1,6 @@
 -- Reports, as far as the loop over them has come.
 use Rattle.std.proofs.Common.{◌≡◌, ℕ, zero, suc, ◌+◌, ◌<◌, List, [], ◌∷◌, ◌++◌, take, drop, length}
-use Rattle.std.proofs.Common.{slice_index_or, true}
+use Rattle.std.proofs.Common.{slice_index_or}
 use Rattle.std.proofs.Common.{sym, ap, ◌∙◌, subst, add-one, append_assoc, append-nil, arith}
 use Rattle.std.proofs.lemmas.List.{take-append-drop}
 use Rattle.std.proofs.lemmas.List.Elements.{All-append}
@@ -8,14 +8,9 @@ use Rattle.std.proofs.lemmas.Grind.{flat_map-append}
 use Rattle.std.proofs.Math.Seq.{take-suc}
 use Rattle.std.specs.Prelude.{Err, None}
 use Rattle.acq_core.specs.Tables.{Tables}
-use Rattle.acq_book.specs.declared.book.Book.{Ghosts}
-use Rattle.acq_book.specs.Calls.{Looks}
-use Rattle.acq_reports.proofs.Chains.{failed_later}
-use Rattle.acq_reports.specs.Faults.{IfStoreFailed, StoreFailed, is_settled}
 use Rattle.acq_reports.specs.Refusals.{day_refusal}
 use Rattle.acq_reports.specs.Writing.{Reports}
 use Rattle.acq_reports.specs.declared.report_fault.ReportFault.{ReportFault}
-use Rattle.acq_reports.specs.declared.report_fault.ReportFault.TheVariants.{Store}
 use Rattle.acq_commands.specs.declared.day_report.DayReport.{DayReport}
 use Rattle.acq_commands.specs.DayReports.{AreGiven, StopsReports, report_text, report_texts}
 
@@ -69,11 +64,3 @@ module _ (t : Tables) (reports : List DayReport) (i : ℕ) (r : DayReport)
         subst (λ x. Reports {T = Unit {0}} (day_refusal t r.day) (report_text t r) x after
         (Err cause)) first stopped;
   }
-
--- where a report was stopped by the store, it failed since the first one was begun
-pub stored_later : {S : Type 0} (book : Ghosts S) (a b c : S) (f : ReportFault) →
-    Looks book a b true → Looks book b c (is_settled {T = Unit {0}} (Err f)) →
-    IfStoreFailed {T = Unit {0}} (Err f) (StoreFailed book b c) →
-    IfStoreFailed {T = Unit {0}} (Err f) (StoreFailed book a c)
-stored_later book a b c Store first second failed = failed_later book a b c _ first second failed
-stored_later book a b c f first second failed = tt

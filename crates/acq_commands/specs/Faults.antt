@@ -2,6 +2,7 @@
 use Rattle.std.specs.Prelude.{◌≡◌, ◌⊎◌, ℕ, List, ◌++◌, [], codes, Result, Ok, Err}
 use Rattle.std.specs.Fmt.{decimal}
 use Rattle.iso_codec.specs.FaultTexts.{number_of_fault, element_of_fault}
+use Rattle.acq_book.specs.Promise.{HasRisen}
 use Rattle.acq_book.specs.declared.book_fault.BookFault as book
 use Rattle.acq_front.specs.declared.front_fault.FrontFault as front
 use Rattle.acq_link.specs.declared.hex_frames.hex_fault.HexFault as hex
@@ -128,6 +129,17 @@ of_report (report.TheVariants.StillPending n) = StillPending n
 abbrev pub status_after : Result (Unit {0}) Fault → ℕ
 status_after (Ok u) = 0
 status_after (Err fault) = status_of fault
+
+-- The count of failed calls of the store has risen where the store's fault is told, and only there.
+abbrev pub CountsStore : Result (Unit {0}) Fault → ℕ → ℕ → Type 0
+CountsStore (Err Store) old new = HasRisen old new
+CountsStore result old new = new ≡ old
+
+-- The store's fault is told where a call of it failed, or where this is so; and unless it is told,
+-- no call of it failed.
+abbrev pub TellsStore : Result (Unit {0}) Fault → ℕ → ℕ → Type 0 → Type 0
+TellsStore (Err Store) old new other = HasRisen old new ⊎ other
+TellsStore result old new other = new ≡ old
 
 -- why a report was not written whole, as the command tells it
 abbrev pub IsReporting : Fault → Type 0

@@ -97,11 +97,19 @@ AfterReading (Err fault.TheVariants.Memory) whole = Unit {0}
 AfterReading (Err fault.TheVariants.Read) whole = Unit {0}
 AfterReading other whole = whole
 
--- The book took so many first events of a text, or none where it reads as none. A stop leaves
+-- why no event of a text was taken: it reads as none, or memory or a read failed before it was read
+abbrev pub IsUntaken : List ℕ → Result (Unit {0}) fault.Fault → Type 0
+IsUntaken text (Err (fault.TheVariants.BadLine n)) = events_of_text text ≡ Err n
+IsUntaken text (Err fault.TheVariants.Memory) = Unit {0}
+IsUntaken text (Err fault.TheVariants.Read) = Unit {0}
+IsUntaken text other = ⊥
+
+-- The book took so many first events of a text, or none where it was not taken. A stop leaves
 -- these, or these and the next.
-pub record TakesUpTo {S : Type 0} (book : Course S) (text : List ℕ) : Type 0 where
+pub record TakesUpTo {S : Type 0} (book : Course S) (text : List ℕ)
+    (ended : Result (Unit {0}) fault.Fault) : Type 0 where
   pub events : List Event
-  pub spelled : (events_of_text text ≡ Ok events) ⊎ (events ≡ [])
+  pub spelled : (events_of_text text ≡ Ok events) ⊎ ((events ≡ []) × IsUntaken text ended)
   pub taken : ℕ
   pub leads : (left_after book).is_open →
       (left_after book).tables ≡ after_first taken (tables_before book) events

@@ -1,10 +1,10 @@
 //! What commands do with the book of a file.
 
-ghost use Rattle.std.specs.Prelude.{◌≡◌, ◌++◌, ℕ, List, IfErr};
+ghost use Rattle.std.specs.Prelude.{◌≡◌, ◌++◌, ℕ, List, [], IfErr};
 ghost use Rattle.acq_core.specs.Pasts.{HasPast};
 ghost use Rattle.acq_front.specs.Stops.{left_of};
 ghost use Rattle.acq_link.specs.Moves.{TakesAll};
-ghost use Rattle.acq_commands.specs.Faults.{IsReporting};
+ghost use Rattle.acq_commands.specs.Faults.{IsReporting, TellsStore};
 ghost use Rattle.acq_commands.specs.Replay.{AfterReading, TakesUpTo};
 
 use crate::book_report::BookReport;
@@ -35,10 +35,15 @@ pub fn replay_on<B: Book + Drop, S: Source, K: Sink, P: Progress>(
     // What the book took of the events that were read, and what a stop may leave.
     ensures takes { B.is_honest result.0 → B.is_open book → (text : List ℕ)
         × (S.received input.new ≡ S.received input.old ++ text)
-        × TakesUpTo (record { left = left_of B.Book; old = book; new = result.0 }) text }
+        × TakesUpTo (record { left = left_of B.Book; old = book; new = result.0 }) text
+        result.1 }
     // Unless memory ran out or a read failed, the whole input was read.
     ensures whole { AfterReading result.1
         (TakesAll (S.remaining input.old) (S.received input.old) (S.received input.new)) }
+    // The store's fault comes where a call of it failed, or where a book that reports are asked of
+    // doesn't add up; and with any other end no call failed.
+    ensures store { TellsStore result.1 (B.failures book) (B.failures result.0)
+        ((reports.now ≡ [] → ⊥) × (B.is_honest result.0 → B.is_open book → ⊥)) }
 {
     let mut host = Host::new(alloc, book);
     if reports.is_empty() {

@@ -1,12 +1,13 @@
 //! Reports on days, one after the other.
 
-ghost use Rattle.std.specs.Prelude.{◌≡◌, ◌+◌, Bool, Err, IfErr, OnOk, Result};
+ghost use Rattle.std.specs.Prelude.{◌≡◌, ◌+◌, Bool, Err, IfErr, OnErr, OnOk, Result};
 ghost use Rattle.acq_book.specs.Calls.{Looks};
-ghost use Rattle.acq_reports.specs.Faults.{IfStoreFailed, StoreFailed, failed_writes, is_settled};
+ghost use Rattle.acq_reports.specs.Faults.{TellsStore, failed_writes, is_settled};
 ghost use Rattle.acq_reports.specs.Refusals.{day_refusal};
 ghost use Rattle.acq_reports.specs.Writing.{Reports};
 ghost use Rattle.acq_reports.specs.declared.report_fault.ReportFault as report_fault;
 ghost use Rattle.acq_commands.specs.DayReports.{WritesReports, report_text, told};
+ghost use Rattle.acq_commands.specs.Faults as faults;
 
 use crate::day_report::DayReport;
 use crate::fault::Fault;
@@ -27,10 +28,9 @@ pub fn write_reports<B: Book, K: Sink>(
     ensures texts { B.is_honest book.new → B.is_open book.old
         → WritesReports (B.tables book.old) reports.now (K.sent output.old) (K.sent output.new)
         result }
-    ensures writes { B.is_honest book.new → B.is_open book.old
-        → K.failures output.new ≡ K.failures output.old + failed_writes result }
+    ensures writes { K.failures output.new ≡ K.failures output.old + failed_writes result }
     ensures looks { Looks B.Book book.old book.new (is_settled result) }
-    ensures store { IfStoreFailed result (StoreFailed B.Book book.old book.new) }
+    ensures store { TellsStore B.Book book.old book.new result }
 {
     for report in reports.iter() {
         write_report(alloc, book, *report, output)?;
@@ -48,10 +48,9 @@ fn write_report<B: Book, K: Sink>(
     ensures text { B.is_honest book.new → B.is_open book.old → Reports
         (day_refusal (B.tables book.old) report.day) (report_text (B.tables book.old) report)
         (K.sent output.old) (K.sent output.new) result }
-    ensures writes { B.is_honest book.new → B.is_open book.old
-        → K.failures output.new ≡ K.failures output.old + failed_writes result }
+    ensures writes { K.failures output.new ≡ K.failures output.old + failed_writes result }
     ensures looks { Looks B.Book book.old book.new (is_settled result) }
-    ensures store { IfStoreFailed result (StoreFailed B.Book book.old book.new) }
+    ensures store { TellsStore B.Book book.old book.new result }
 {
     match report.kind {
         ReportKind::Clearing => clearing(alloc, book, report.day, output),
@@ -69,7 +68,10 @@ pub(crate) fn report_if_taken<B: Book, K: Sink>(
 ) -> Result<(), Fault>
     ensures stopped { IfErr taken (λ cause. (result ≡ Err cause)
         × (K.sent output.new ≡ K.sent output.old)) }
+    ensures unasked { OnErr taken (book.new ≡ book.old) }
     ensures looks { (succeeded : Bool) × Looks B.Book book.old book.new succeeded }
+    ensures store { OnOk taken (faults.TellsStore result (B.failures book.old) (B.failures book.new)
+        (B.is_honest book.new → B.is_open book.old → ⊥)) }
     ensures written { OnOk taken (B.is_honest book.new → B.is_open book.old
         → (written : Result (Unit {0}) report_fault.ReportFault) × (result ≡ told written)
         × WritesReports (B.tables book.old) reports.now (K.sent output.old) (K.sent output.new)

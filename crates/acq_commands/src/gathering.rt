@@ -1,6 +1,7 @@
 //! Connections that are served at once.
 
 ghost use Rattle.acq_front.specs.Stops.{left_of};
+ghost use Rattle.acq_commands.specs.Faults.{TellsStore};
 ghost use Rattle.acq_commands.specs.Listening.{ReachesBy};
 
 use crate::fault::Fault;
@@ -26,5 +27,9 @@ pub trait Gathering {
         // The host took events, whichever they were, and nothing else happened to its tables; and
         // what a stop may leave.
         ensures reaches { B.is_honest host.new → B.is_open host.old
-            → ReachesBy (B.tables host.old) (left_of B.Book host.new) result };
+            → ReachesBy (B.tables host.old) (left_of B.Book host.new) result }
+        // The store's fault comes only where a call of it failed, or gave what no host wrote; and
+        // with any other end none failed.
+        ensures store { TellsStore result (B.failures host.old) (B.failures host.new)
+            (B.is_honest host.new → B.is_open host.old → ⊥) };
 }

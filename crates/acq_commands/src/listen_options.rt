@@ -21,4 +21,6 @@ pub struct ListenOptions {
     pub issuers: Option<String>,
     /// The moment at which all frames come; without one it is the clock's.
     pub moment: Option<Moment>,
+    /// The path of the socket's file at which control connections come; without one none do.
+    pub control: Option<String>,
 }

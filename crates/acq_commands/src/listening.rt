@@ -3,6 +3,7 @@
 ghost use Rattle.std.specs.Prelude.{◌≡◌, ◌++◌, ℕ, OnOk};
 ghost use Rattle.acq_core.specs.Pasts.{HasPast};
 ghost use Rattle.acq_front.specs.Stops.{left_of};
+ghost use Rattle.acq_commands.specs.Faults.{TellsStore};
 ghost use Rattle.acq_commands.specs.Listening.{ReachesBy, Served, ServesConnections};
 ghost use Rattle.acq_commands.specs.Listening.{ServesOne, going_on, told_line, traffic};
 ghost use Rattle.acq_commands.specs.Listening.{with_served};
@@ -37,6 +38,10 @@ pub fn listen_on<B: Book + Drop, N: Connections, C: Clock, I: Issuer, F: Sink>(
         (traffic N.received N.sent N.read_failures N.write_failures connections.old)
         (traffic N.received N.sent N.read_failures N.write_failures connections.new)
         count result.1 }
+    // The store's fault comes only where a call of it failed, or gave what no host wrote; and with
+    // any other end none failed.
+    ensures store { TellsStore result.1 (B.failures book) (B.failures result.0)
+        (B.is_honest result.0 → B.is_open book → ⊥) }
 {
     let mut host = Host::new(alloc, book);
     let ended = serve_all(alloc, &mut host, connections, count, clock, issuer, faults);
@@ -59,6 +64,8 @@ pub fn listen_together_on<B: Book + Drop, N: Gathering, C: Clock, I: Issuer, F: 
     // The book that is left has what it had, and what the host took; and what a stop may leave.
     ensures reaches { B.is_honest result.0 → B.is_open book
         → ReachesBy (B.tables book) (left_of B.Book result.0) result.1 }
+    ensures store { TellsStore result.1 (B.failures book) (B.failures result.0)
+        (B.is_honest result.0 → B.is_open book → ⊥) }
 {
     let mut host = Host::new(alloc, book);
     let ended = gathering.serve_all(alloc, &mut host, count, clock, issuer, faults);
@@ -81,6 +88,8 @@ fn serve_all<B: Book + Drop, N: Connections, C: Clock, I: Issuer, F: Sink>(
         (traffic N.received N.sent N.read_failures N.write_failures connections.old)
         (traffic N.received N.sent N.read_failures N.write_failures connections.new)
         count result }
+    ensures store { TellsStore result (B.failures host.old) (B.failures host.new)
+        (B.is_honest host.new → B.is_open host.old → ⊥) }
 {
     for _ in 0..count {
         serve_one(alloc, host, connections, clock, issuer, faults)?;
@@ -110,6 +119,8 @@ fn serve_one<B: Book + Drop, N: Connections, C: Clock, I: Issuer, F: Sink>(
     ensures said_later { (q : Query) (v : Verdict) → I.may_say issuer.new q v
         → I.may_say issuer.old q v }
     ensures given_later { (m : ℕ) → C.may_give clock.new m → C.may_give clock.old m }
+    ensures store { TellsStore result (B.failures host.old) (B.failures host.new)
+        (B.is_honest host.new → B.is_open host.old → ⊥) }
 {
     let ended = connections.serve_next(alloc, host, clock, issuer);
     end_connection(ended, faults)

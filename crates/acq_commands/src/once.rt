@@ -2,9 +2,10 @@
 
 ghost use Rattle.std.specs.Prelude.{◌≡◌, ◌+◌, OnOk};
 ghost use Rattle.acq_core.specs.Pasts.{HasPast};
+ghost use Rattle.acq_front.specs.Serving.{FrameCame};
 ghost use Rattle.acq_front.specs.Stops.{left_of};
 ghost use Rattle.acq_link.specs.Moves.{TakesAll};
-ghost use Rattle.acq_commands.specs.Faults.{failed_reads, failed_writes};
+ghost use Rattle.acq_commands.specs.Faults.{TellsStore, failed_reads, failed_writes};
 ghost use Rattle.acq_commands.specs.Once.{ServesInMemory, ServesOnce};
 
 use crate::fault::Fault;
@@ -40,6 +41,11 @@ pub fn once_on<B: Book + Drop, C: Clock, I: Issuer, S: Source, K: Sink>(
     // A fault of reading or writing comes only where a read or a write failed.
     ensures reads { S.failures input.new ≡ S.failures input.old + failed_reads result.1 }
     ensures writes { K.failures output.new ≡ K.failures output.old + failed_writes result.1 }
+    // The store's fault comes only where a call of it failed, or gave for a message that came what
+    // no host wrote; and with any other end none failed.
+    ensures store { TellsStore result.1 (B.failures book) (B.failures result.0)
+        (FrameCame (S.received input.old) (S.received input.new)
+        × (B.is_honest result.0 → B.is_open book → ⊥)) }
 {
     let mut host = Host::new(alloc, book);
     let ended = match serve(alloc, &mut host, input, output, clock, issuer) {

@@ -1,19 +1,18 @@
 //! Event lines in, output lines out.
 
 ghost use Rattle.std.specs.Prelude.{◌≡◌, ◌⊎◌, ◌+◌, ◌++◌, ℕ, List, true, false, Err};
-ghost use Rattle.std.specs.Prelude.{IfErr, IsErrOf, OnOk};
+ghost use Rattle.std.specs.Prelude.{IfErr, OnOk};
 ghost use Rattle.acq_core.specs.Arrivals.{arrival_of};
 ghost use Rattle.acq_core.specs.Tables.{step_output, step_tables, tables_after};
 ghost use Rattle.acq_book.specs.Calls.{Makes};
-ghost use Rattle.acq_book.specs.Promise.{HasRisen};
 ghost use Rattle.acq_book.specs.declared.book_fault.BookFault.{BookFault};
 ghost use Rattle.acq_front.specs.Stops.{LeavesAll, left_of};
 ghost use Rattle.acq_out.specs.OutputLines.{WritesLine, line_of};
 ghost use Rattle.acq_link.specs.Moves.{TakesAll};
 ghost use Rattle.acq_out.specs.declared.out_fault.OutFault.{OutFault};
-ghost use Rattle.acq_commands.specs.Faults.{failed_reads, failed_writes, of_book, of_out};
+ghost use Rattle.acq_commands.specs.Faults.{CountsStore, failed_reads, failed_writes};
+ghost use Rattle.acq_commands.specs.Faults.{of_book, of_out};
 ghost use Rattle.acq_commands.specs.Replay.{AfterReading, Replays, Stops, StopsEvents, lines};
-ghost use Rattle.acq_commands.specs.declared.fault.Fault.TheVariants.{Store};
 
 use crate::fault::Fault;
 use crate::progress::Progress;
@@ -46,11 +45,10 @@ pub fn replay<B: Book + Drop, S: Source, K: Sink, P: Progress>(
     ensures reads_first { TakesAll
         (S.remaining input.old) (S.received input.old) (S.received input.new)
         ⊎ ((host.new ≡ host.old) × (K.sent output.new ≡ K.sent output.old)) }
-    // A fault of reading, writing or the store comes only where a call of it failed.
+    // A fault of reading, writing or the store comes exactly where a call of it failed.
     ensures reads { S.failures input.new ≡ S.failures input.old + failed_reads result }
     ensures writes { K.failures output.new ≡ K.failures output.old + failed_writes result }
-    ensures store { IsErrOf result Store
-        → HasRisen (B.failures host.old) (B.failures host.new) }
+    ensures store { CountsStore result (B.failures host.old) (B.failures host.new) }
 {
     let events = read_events(alloc, input)?;
     take_all(alloc, host, events.as_slice(), output, progress)
@@ -75,8 +73,7 @@ fn take_all<B: Book + Drop, K: Sink, P: Progress>(
         (record { before = K.sent output.old; after = K.sent output.new }) fault) }
     ensures which { IfErr result StopsEvents }
     ensures writes { K.failures output.new ≡ K.failures output.old + failed_writes result }
-    ensures store { IsErrOf result Store
-        → HasRisen (B.failures host.old) (B.failures host.new) }
+    ensures store { CountsStore result (B.failures host.old) (B.failures host.new) }
 {
     progress.begin(events.len());
     for event in events.iter() {
@@ -112,8 +109,7 @@ fn take_next<B: Book + Drop, K: Sink>(
         (K.sent output.old) (K.sent output.new) (Err f)))) }
     ensures which { IfErr result StopsEvents }
     ensures writes { K.failures output.new ≡ K.failures output.old + failed_writes result }
-    ensures store { IsErrOf result Store
-        → HasRisen (B.failures host.old) (B.failures host.new) }
+    ensures store { CountsStore result (B.failures host.old) (B.failures host.new) }
 {
     let said = host.take(event)?;
     let written = write_output(alloc, &said, output);

@@ -1,14 +1,13 @@
 //! Event lines in, and nothing out.
 
-ghost use Rattle.std.specs.Prelude.{◌≡◌, ◌+◌, ◌++◌, ℕ, List, IsErrOf, OnErr, OnOk};
+ghost use Rattle.std.specs.Prelude.{◌≡◌, ◌+◌, ◌++◌, ℕ, List, OnErr, OnOk};
 ghost use Rattle.acq_core.specs.Tables.{tables_after};
-ghost use Rattle.acq_book.specs.Promise.{HasRisen, IfStore};
+ghost use Rattle.acq_book.specs.Promise.{CountsFault};
 ghost use Rattle.acq_front.specs.Stops.{LeavesAll, left_of};
 ghost use Rattle.acq_link.specs.Moves.{TakesAll};
 ghost use Rattle.acq_commands.specs.DayReports.{Takes, TakesFirst};
-ghost use Rattle.acq_commands.specs.Faults.{failed_reads};
+ghost use Rattle.acq_commands.specs.Faults.{CountsStore, failed_reads};
 ghost use Rattle.acq_commands.specs.Replay.{AfterReading};
-ghost use Rattle.acq_commands.specs.declared.fault.Fault.TheVariants.{Store};
 
 use crate::fault::Fault;
 use crate::progress::Progress;
@@ -34,10 +33,11 @@ pub fn take_events<B: Book + Drop, S: Source, P: Progress>(
     // Unless memory ran out or a read failed, the whole input was read.
     ensures whole { AfterReading result
         (TakesAll (S.remaining input.old) (S.received input.old) (S.received input.new)) }
-    // A fault of reading or of the store comes only where a call of it failed.
+    ensures stays_open { B.is_honest host.new → B.is_open host.old
+        → OnOk result (B.is_open host.new) }
+    // A fault of reading or of the store comes exactly where a call of it failed.
     ensures reads { S.failures input.new ≡ S.failures input.old + failed_reads result }
-    ensures store { IsErrOf result Store
-        → HasRisen (B.failures host.old) (B.failures host.new) }
+    ensures store { CountsStore result (B.failures host.old) (B.failures host.new) }
 {
     let events = read_events(alloc, input)?;
     match take_each(host, events.as_slice(), progress) {
@@ -58,7 +58,9 @@ fn take_each<B: Book + Drop, P: Progress>(
         (LeavesAll (left_of B.Book host.new) (B.tables host.old) events.now) }
     ensures stopped { B.is_honest host.new → B.is_open host.old → OnErr result
         (TakesFirst (B.tables host.old) (left_of B.Book host.new) events.now) }
-    ensures store { IfStore result (HasRisen (B.failures host.old) (B.failures host.new)) }
+    ensures stays_open { B.is_honest host.new → B.is_open host.old
+        → OnOk result (B.is_open host.new) }
+    ensures store { CountsFault result (B.failures host.old) (B.failures host.new) }
 {
     progress.begin(events.len());
     for event in events.iter() {

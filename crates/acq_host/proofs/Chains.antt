@@ -1,12 +1,11 @@
 -- Look-ups, one after another, and a change after them.
-use Rattle.std.proofs.Common.{◌≡◌, ◌≤◌, ℕ, Bool, true, Err, inl, inr, ⊎_elim, ◌∙◌, refl, arith}
+use Rattle.std.proofs.Common.{◌≡◌, ℕ, Bool, true, inl, inr, ⊎_elim, ◌∙◌, refl, arith}
 use Rattle.acq_core.specs.Tables.{Tables}
 use Rattle.acq_book.specs.Calls.{Looks}
-use Rattle.acq_book.specs.Promise.{HasRisen, IfStore, LooksBy, MakesBy}
+use Rattle.acq_book.specs.Promise.{LooksBy, MakesBy}
 use Rattle.acq_book.specs.declared.book.Book.{Ghosts}
-use Rattle.acq_book.specs.declared.book_fault.BookFault.{BookFault}
-use Rattle.acq_book.specs.declared.book_fault.BookFault.TheVariants.{Memory, Store}
-pub use Rattle.acq_book.proofs.Chains.{looks_more, risen_after}
+pub use Rattle.acq_book.proofs.Chains.{counts_more, looks_more, risen_after}
+pub use Rattle.acq_reports.proofs.Chains.{counts_on}
 
 -- the same in one word
 pub looks_then : {S : Type 0} (book : Ghosts S) {a b c : S} {succeeded : Bool} →
@@ -50,10 +49,3 @@ makes_after tables is_honest is_open may_leave leaves_books failures store_fault
       rise = omega arith;
       counts = omega arith;
     }
-
--- a fault of the store after look-ups that succeeded is one of all of them
-pub store_after : (X Y : Type 0) (a b c : ℕ) (f : BookFault) → a ≤ b → b ≤ c →
-    IfStore {T = X} (Err f) (HasRisen b c) →
-    IfStore {T = Y} (Err f) (HasRisen a c)
-store_after X Y a b c Memory up on failed = tt
-store_after X Y a b c Store up on failed = grind (arith, failed)

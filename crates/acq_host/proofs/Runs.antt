@@ -59,7 +59,7 @@ pub record HasTaken {S : Type 0} (book : Ghosts S) (old new : S) (events : List 
   pub says : book.is_honest new → book.is_open old → said ≡ outputs (book.tables old) events
   pub leads : book.is_honest new → book.is_open old →
       book.tables new ≡ tables_after (book.tables old) events
-  pub rise : book.failures old ≤ book.failures new
+  pub failed : book.failures new ≡ book.failures old
   pub counts : book.store_faults old ≤ book.store_faults new
 
 -- while a book is open, a stop leaves its tables
@@ -74,7 +74,7 @@ module _ {S : Type 0} (book : Ghosts S) where
     stays_open = λ h o. o;
     says = λ h o. refl;
     leads = λ h o. refl;
-    rise = omega arith;
+    failed = refl;
     counts = omega arith;
   }
 
@@ -84,8 +84,9 @@ module _ {S : Type 0} (book : Ghosts S) where
       Makes book b c true (step_tables (book.tables b) (arrival_of e)) →
       (book.is_honest c → book.is_open b →
       now ≡ said ++ step_output (book.tables b) (arrival_of e) ∷ []) →
+      book.failures c ≡ book.failures b →
       HasTaken book a c (take (at + 1) events) now
-  took_next a b c events at e said now within is first next adds = record {
+  took_next a b c events at e said now within is first next adds failed = record {
     was_honest = λ h. first.was_honest (next.was_honest h);
     stays_open = λ h o. next.stays_open refl h (first.stays_open (next.was_honest h) o);
     says = λ h o.
@@ -100,7 +101,7 @@ module _ {S : Type 0} (book : Ghosts S) where
         next.made refl between (next.stays_open refl h between)
         ∙ (ap (λ t. step_tables t (arrival_of e)) (first.leads before o)
         ∙ sym (after_next (book.tables a) events at e within is));
-    rise = let one = first.rise in let more = next.rise in omega arith;
+    failed = failed ∙ first.failed;
     counts = let one = first.counts in let more = next.counts in omega arith;
   }
 

@@ -8,7 +8,7 @@ ghost use Rattle.acq_core.specs.Tables.{after_any, known_in, step_output};
 ghost use Rattle.acq_core.specs.Pasts.{HasPast};
 ghost use Rattle.acq_book.specs.Fits.{Fits};
 ghost use Rattle.acq_book.specs.Calls.{Looks, Makes};
-ghost use Rattle.acq_book.specs.Promise.{HasRisen, IfStore};
+ghost use Rattle.acq_book.specs.Promise.{CountsFault};
 ghost use Rattle.acq_host.specs.Looked.{IsLooked};
 
 use crate::looking_up::{look_up, nothing_looked};
@@ -27,7 +27,7 @@ pub(crate) fn decide<B: Book>(
     ensures change { B.is_open book.new → IfOk result (λ x. let a = arrival_of event.now in
         x.1 ≡ change_for (known_in (B.tables book.old) a) a) }
     ensures looks { Looks B.Book book.old book.new (is_ok result) }
-    ensures store { IfStore result (HasRisen (B.failures book.old) (B.failures book.new)) }
+    ensures store { CountsFault result (B.failures book.old) (B.failures book.new) }
 {
     let arrival = Arrival::of(alloc, event)?;
     decide_arrival(alloc, book, &arrival)
@@ -46,7 +46,7 @@ fn decide_arrival<B: Book>(
     ensures change { B.is_open book.new → IfOk result (λ x.
         x.1 ≡ change_for (known_in (B.tables book.old) arrival.now) arrival.now) }
     ensures looks { Looks B.Book book.old book.new (is_ok result) }
-    ensures store { IfStore result (HasRisen (B.failures book.old) (B.failures book.new)) }
+    ensures store { CountsFault result (B.failures book.old) (B.failures book.new) }
 {
     let today = book.day()?;
     let limit = book.limit()?;
@@ -71,7 +71,7 @@ fn decide_over<B: Book>(
         → IfOk result (λ x.
         x.1 ≡ change_for (known_in (B.tables book.old) arrival.now) arrival.now) }
     ensures looks { Looks B.Book book.old book.new (is_ok result) }
-    ensures store { IfStore result (HasRisen (B.failures book.old) (B.failures book.new)) }
+    ensures store { CountsFault result (B.failures book.old) (B.failures book.new) }
 {
     look_up(book, arrival, looked)?;
     Ok(arrival.decide(alloc, looked)?)
@@ -83,7 +83,7 @@ pub(crate) fn apply<B: Book>(book: &mut B, change: &Option<Change>) -> Result<()
     requires past { B.is_open book.old → HasPast (after_any (B.tables book.old) change.now) }
     ensures makes { Makes B.Book
         book.old book.new (is_ok result) (after_any (B.tables book.old) change.now) }
-    ensures store { IfStore result (HasRisen (B.failures book.old) (B.failures book.new)) }
+    ensures store { CountsFault result (B.failures book.old) (B.failures book.new) }
 {
     match change {
         Some(change) => book.apply(change),

@@ -1,16 +1,18 @@
 //! A host over a book.
 
-ghost use Rattle.std.specs.Prelude.{◌≡◌, ◌⊎◌, ◌+◌, [], ◌∷◌, ◌++◌, is_ok, take, Err};
+ghost use Rattle.std.specs.Prelude.{◌≡◌, ◌⊎◌, ◌+◌, [], ◌∷◌, ◌++◌, is_ok, take};
 ghost use Rattle.std.specs.Prelude.{IfOk, IfErr, OnOk, OnErr};
 ghost use Rattle.acq_core.specs.Arrivals.{arrival_of};
 ghost use Rattle.acq_core.specs.Tables.{Tables, new_tables, outputs, step_output, step_tables};
 ghost use Rattle.acq_core.specs.Tables.{tables_after};
 ghost use Rattle.acq_book.specs.Calls.{Makes};
-ghost use Rattle.acq_book.specs.Promise.{HasRisen, IfStore};
+ghost use Rattle.acq_book.specs.Promise.{CountsFault, HasRisen};
 ghost use Rattle.acq_host.specs.Clearing.{KeptItsClearing};
 ghost use Rattle.acq_host.specs.Headline.{IsAlone, KeptItsPostings};
 ghost use Rattle.acq_core.specs.Pasts.{HasPast};
-ghost use Rattle.acq_host.specs.Runs.{IsWellSaid, StopsAt, after_first};
+ghost use Rattle.acq_host.specs.Runs.{CountsRun, IsWellSaid, StopsAt, after_first};
+
+mod reporting;
 
 use crate::deciding::{apply, decide};
 use crate::run_fault::RunFault;
@@ -88,7 +90,7 @@ impl<B: Book + Drop> Host<B> {
         // Events lead to what a stop leaves, too.
         ensures left { B.is_honest self.new → B.is_open self.old
             → (t : Tables) → B.may_leave self.new t → HasPast t }
-        ensures store { IfStore result (HasRisen (B.failures self.old) (B.failures self.new)) }
+        ensures store { CountsFault result (B.failures self.old) (B.failures self.new) }
     {
         every_event(event);
         let (output, change) = decide(self.alloc, &mut self.book, event)?;
@@ -137,8 +139,8 @@ impl<B: Book + Drop> Host<B> {
         // Only a fault of the store itself shuts the book.
         ensures shuts { B.is_honest self.new → B.is_open self.old → B.is_open self.new
             ⊎ HasRisen (B.store_faults self.old) (B.store_faults self.new) }
-        ensures store { IfErr result (λ fault. IfStore {T = Unit {0}} (Err fault.fault)
-            (HasRisen (B.failures self.old) (B.failures self.new))) }
+        // The count of failed calls of the store rises exactly where its fault is told.
+        ensures store { CountsRun result (B.failures self.old) (B.failures self.new) }
     {
         let mut said = Vec::new(self.alloc);
         for (at, event) in events.iter().enumerate() {
@@ -163,7 +165,7 @@ impl<B: Book + Drop> Host<B> {
         ensures past { B.is_open self.new → OnOk result (HasPast (B.tables self.new)) }
         ensures left { B.is_honest self.new → B.is_open self.old → HasPast (B.tables self.old)
             → (t : Tables) → B.may_leave self.new t → HasPast t }
-        ensures store { IfStore result (HasRisen (B.failures self.old) (B.failures self.new)) }
+        ensures store { CountsFault result (B.failures self.old) (B.failures self.new) }
     {
         // Once the event is taken nothing may fail, so the place of its output is taken first.
         said.reserve(1)?;

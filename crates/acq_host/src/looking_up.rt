@@ -8,7 +8,7 @@ ghost use Rattle.acq_core.specs.Tables.{Tables, known_in};
 ghost use Rattle.acq_book.specs.Lookups.{merchant_at, has_terminal_at, range_at, overlapping_at};
 ghost use Rattle.acq_book.specs.Lookups.{request_at, referred_at, admitted_at, used_at, totals_at};
 ghost use Rattle.acq_book.specs.Calls.{Looks};
-ghost use Rattle.acq_book.specs.Promise.{HasRisen, IfStore};
+ghost use Rattle.acq_book.specs.Promise.{CountsFault};
 ghost use Rattle.acq_host.specs.Looked.{IsLooked, rows_of};
 
 use acq_book::{Book, BookFault};
@@ -29,7 +29,7 @@ pub(crate) fn look_up<B: Book>(
     ensures known { B.is_open book.new → IsLooked (B.tables book.old) nothing looked.old
         → OnOk result (known_of looked.new ≡ known_in (B.tables book.old) arrival.now) }
     ensures looks { Looks B.Book book.old book.new (is_ok result) }
-    ensures store { IfStore result (HasRisen (B.failures book.old) (B.failures book.new)) }
+    ensures store { CountsFault result (B.failures book.old) (B.failures book.new) }
 {
     let wanted = arrival.wanted(looked.today);
     if is_nothing(&wanted) {
@@ -107,7 +107,7 @@ fn look_up_rows<B: Book>(
     ensures looked { B.is_open book.new → IsLooked (B.tables book.old) nothing looked.old
         → OnOk result (IsLooked (B.tables book.old) (rows_of wanted.now) looked.new) }
     ensures looks { Looks B.Book book.old book.new (is_ok result) }
-    ensures store { IfStore result (HasRisen (B.failures book.old) (B.failures book.new)) }
+    ensures store { CountsFault result (B.failures book.old) (B.failures book.new) }
 {
     let range = range(book, wanted.prefix)?;
     put(&mut looked.range, range);
@@ -131,7 +131,7 @@ fn look_up_of_merchant<B: Book>(
         → IsLooked (B.tables book.old) (rows_of wanted.now) looked.old
         → OnOk result (IsLooked (B.tables book.old) wanted.now looked.new) }
     ensures looks { Looks B.Book book.old book.new (is_ok result) }
-    ensures store { IfStore result (HasRisen (B.failures book.old) (B.failures book.new)) }
+    ensures store { CountsFault result (B.failures book.old) (B.failures book.new) }
 {
     let today = looked.today;
     looked.merchant = merchant(book, wanted.merchant)?;
@@ -157,7 +157,7 @@ fn merchant<B: Book>(book: &mut B, id: Option<MerchantId>) -> Result<Option<Merc
     ensures value { B.is_open book.new → IfOk result (λ row.
         row ≡ option_and_then (merchant_at (B.tables book.old)) id) }
     ensures looks { Looks B.Book book.old book.new (is_ok result) }
-    ensures store { IfStore result (HasRisen (B.failures book.old) (B.failures book.new)) }
+    ensures store { CountsFault result (B.failures book.old) (B.failures book.new) }
 {
     match id {
         Some(id) => book.merchant(id),
@@ -176,7 +176,7 @@ fn has_terminal<B: Book>(
         has ≡ holds_if (has_terminal_at (B.tables book.old) (or_empty merchant))
         (option_and_then (λ m. id) merchant)) }
     ensures looks { Looks B.Book book.old book.new (is_ok result) }
-    ensures store { IfStore result (HasRisen (B.failures book.old) (B.failures book.new)) }
+    ensures store { CountsFault result (B.failures book.old) (B.failures book.new) }
 {
     match (merchant, id) {
         (Some(merchant), Some(id)) => book.has_terminal(merchant, id),
@@ -190,7 +190,7 @@ fn admitted<B: Book>(book: &mut B, merchant: Option<MerchantId>) -> Result<Admit
     ensures value { B.is_open book.new → IfOk result (λ n.
         n ≡ number_if (admitted_at (B.tables book.old) (or_empty merchant)) merchant) }
     ensures looks { Looks B.Book book.old book.new (is_ok result) }
-    ensures store { IfStore result (HasRisen (B.failures book.old) (B.failures book.new)) }
+    ensures store { CountsFault result (B.failures book.old) (B.failures book.new) }
 {
     match merchant {
         Some(merchant) => book.admitted(merchant),
@@ -208,7 +208,7 @@ fn used<B: Book>(
     ensures value { B.is_open book.new → IfOk result (λ n.
         n ≡ number_if (used_at (B.tables book.old) (or_empty merchant) day) merchant) }
     ensures looks { Looks B.Book book.old book.new (is_ok result) }
-    ensures store { IfStore result (HasRisen (B.failures book.old) (B.failures book.new)) }
+    ensures store { CountsFault result (B.failures book.old) (B.failures book.new) }
 {
     match merchant {
         Some(merchant) => book.used(merchant, day),
@@ -227,7 +227,7 @@ fn totals<B: Book>(
         totals ≡ totals_if (totals_at (B.tables book.old) (or_empty merchant))
         (option_and_then (λ m. day) merchant)) }
     ensures looks { Looks B.Book book.old book.new (is_ok result) }
-    ensures store { IfStore result (HasRisen (B.failures book.old) (B.failures book.new)) }
+    ensures store { CountsFault result (B.failures book.old) (B.failures book.new) }
 {
     match (merchant, day) {
         (Some(merchant), Some(day)) => book.totals(merchant, day),
@@ -241,7 +241,7 @@ fn range<B: Book>(book: &mut B, prefix: Option<Prefix>) -> Result<Option<Range>,
     ensures value { B.is_open book.new → IfOk result (λ range.
         range ≡ option_and_then (range_at (B.tables book.old)) prefix) }
     ensures looks { Looks B.Book book.old book.new (is_ok result) }
-    ensures store { IfStore result (HasRisen (B.failures book.old) (B.failures book.new)) }
+    ensures store { CountsFault result (B.failures book.old) (B.failures book.new) }
 {
     match prefix {
         Some(prefix) => book.range(prefix),
@@ -258,7 +258,7 @@ fn overlapping<B: Book>(
     ensures value { B.is_open book.new → IfOk result (λ range.
         range ≡ option_and_then (λ ends. overlapping_at (B.tables book.old) ends.0 ends.1) bounds) }
     ensures looks { Looks B.Book book.old book.new (is_ok result) }
-    ensures store { IfStore result (HasRisen (B.failures book.old) (B.failures book.new)) }
+    ensures store { CountsFault result (B.failures book.old) (B.failures book.new) }
 {
     match bounds {
         Some((low, high)) => book.overlapping(low, high),
@@ -272,7 +272,7 @@ fn request<B: Book>(book: &mut B, key: Option<RequestKey>) -> Result<Option<Requ
     ensures value { B.is_open book.new → IfOk result (λ row.
         row ≡ option_and_then (request_at (B.tables book.old)) key) }
     ensures looks { Looks B.Book book.old book.new (is_ok result) }
-    ensures store { IfStore result (HasRisen (B.failures book.old) (B.failures book.new)) }
+    ensures store { CountsFault result (B.failures book.old) (B.failures book.new) }
 {
     match key {
         Some(key) => book.request(key),
@@ -291,7 +291,7 @@ fn referred<B: Book>(
         row ≡ option_and_then (referred_at (B.tables book.old) (or_empty merchant))
         (option_and_then (λ m. reference) merchant)) }
     ensures looks { Looks B.Book book.old book.new (is_ok result) }
-    ensures store { IfStore result (HasRisen (B.failures book.old) (B.failures book.new)) }
+    ensures store { CountsFault result (B.failures book.old) (B.failures book.new) }
 {
     match (merchant, reference) {
         (Some(merchant), Some(reference)) => book.by_reference(merchant, reference),

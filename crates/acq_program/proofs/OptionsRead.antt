@@ -33,6 +33,7 @@ found_texts-rows f =
       first_value-rows f (codes "frame-within"),
       first_value-rows f (codes "idle-when-full"),
       first_value-rows f (codes "together"),
+      first_value-rows f (codes "control"),
       values_found-rows f (codes "clearing"),
       values_found-rows f (codes "report"),
     ) refl

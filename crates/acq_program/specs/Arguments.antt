@@ -74,6 +74,7 @@ pub record OptionTexts : Type 0 where
   pub frame_within : Option Text
   pub idle_when_full : Option Text
   pub together : Option Text
+  pub control : Option Text
 
 -- all values of an option
 abbrev pub values_of : Text → List Row → List Text
@@ -98,6 +99,7 @@ option_texts rows = record {
   frame_within = first_of (codes "frame-within") rows;
   idle_when_full = first_of (codes "idle-when-full") rows;
   together = first_of (codes "together") rows;
+  control = first_of (codes "control") rows;
 }
 
 -- all values of an option, as they were found
@@ -123,6 +125,7 @@ found_texts found = record {
   frame_within = first_value found (codes "frame-within");
   idle_when_full = first_value found (codes "idle-when-full");
   together = first_value found (codes "together");
+  control = first_value found (codes "control");
 }
 
 -- ---- the value of an option, or the name of the option where it has none in its form
@@ -364,19 +367,20 @@ abbrev pub EndpointIs : OptionTexts → Result SocketAddrV4 OptionName → Type 
 EndpointIs texts = Then (PortIs texts) (EndpointAt texts)
 
 -- so many connections here over this book, with this file of issuers' answers, at this moment, with
--- so much patience for each, so many of them at once
-abbrev pub IsListen : String Global → SocketAddrV4 → ℕ → Option Text → Option ℕ → Patience → ℕ →
+-- so much patience for each, so many of them at once, and control connections at this socket
+abbrev pub IsListen : OptionTexts → String Global → SocketAddrV4 → ℕ → Option ℕ → Patience → ℕ →
     Result Action OptionName → Type 0
-IsListen path endpoint count issuers moment patience together (Ok (Listen asked)) =
+IsListen texts path endpoint count moment patience together (Ok (Listen asked)) =
     (asked.path ≡ path) × (asked.endpoint ≡ endpoint) × (asked.count ≡ count)
-    × (option_map string_bytes asked.issuers ≡ issuers) × (asked.moment ≡ moment)
+    × (option_map string_bytes asked.issuers ≡ texts.issuers) × (asked.moment ≡ moment)
     × (asked.patience ≡ patience) × (asked.together ≡ together)
-IsListen path endpoint count issuers moment patience together other = ⊥
+    × (option_map string_bytes asked.control ≡ texts.control)
+IsListen texts path endpoint count moment patience together other = ⊥
 
 abbrev pub ListenBeside : OptionTexts → String Global → SocketAddrV4 → ℕ → Option ℕ → Patience →
     Result Action OptionName → Type 0
 ListenBeside texts path endpoint count moment patience =
-    Then (TogetherIs texts) (IsListen path endpoint count texts.issuers moment patience)
+    Then (TogetherIs texts) (IsListen texts path endpoint count moment patience)
 
 abbrev pub ListenAt : OptionTexts → String Global → SocketAddrV4 → ℕ → Option ℕ →
     Result Action OptionName → Type 0

@@ -51,12 +51,12 @@ listen_at_moment =
     with_rule (with_rule (with_rule listen_at_port
     (option (codes "issuers"))) (option (codes "at"))) (option (codes "idle"))
 
--- and `[--frame-within SECONDS] [--idle-when-full SECONDS] [--together M]`
+-- and `[--frame-within SECONDS] [--idle-when-full SECONDS] [--together M] [--control PATH]`
 abbrev pub listen : App
 listen =
-    with_rule (with_rule (with_rule listen_at_moment
+    with_rule (with_rule (with_rule (with_rule listen_at_moment
     (option (codes "frame-within"))) (option (codes "idle-when-full")))
-    (option (codes "together"))
+    (option (codes "together"))) (option (codes "control"))
 
 -- `replay [--db FILE] [--limit N] [--day DAY] [--clearing DAY].. [--report DAY]..`
 abbrev pub replay : App

@@ -132,6 +132,7 @@ fn listen_of(alloc: Global, options: &ArgMatches) -> Result<Action, UsageFault>
     let patience = patience_of(options)?;
     let together = together_option(options)?;
     let issuers = issuers_option(alloc, options)?;
+    let control = control_option(alloc, options)?;
     Ok(Action::Listen(ListenOptions {
         path,
         endpoint,
@@ -140,6 +141,7 @@ fn listen_of(alloc: Global, options: &ArgMatches) -> Result<Action, UsageFault>
         patience,
         issuers,
         moment,
+        control,
     }))
 }
 
@@ -238,6 +240,18 @@ fn issuers_option(alloc: Global, options: &ArgMatches) -> Result<Option<String>,
     ensures refused { IfErr result IsNoMemory }
 {
     match options.get_str("issuers") {
+        Some(path) => Ok(Some(String::from_str(alloc, path)?)),
+        None => Ok(None),
+    }
+}
+
+/// The socket's file at which control connections are asked for, if they are.
+fn control_option(alloc: Global, options: &ArgMatches) -> Result<Option<String>, UsageFault>
+    ensures given { IfOk result (λ control. option_map string_bytes control
+        ≡ (found_texts (found_of options.now)).control) }
+    ensures refused { IfErr result IsNoMemory }
+{
+    match options.get_str("control") {
         Some(path) => Ok(Some(String::from_str(alloc, path)?)),
         None => Ok(None),
     }

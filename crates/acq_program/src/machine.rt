@@ -57,13 +57,15 @@ pub trait Machine<B: Book + Drop>: Sized {
     ) -> Result<Self::Connections, Fault>
         ensures { IfErr result (λ fault. fault ≡ Read) };
 
-    /// Listens there, as `listen_at` does, for so many connections at once.
+    /// Listens there, as `listen_at` does, for so many connections at once, and at the socket of
+    /// `control`, if one is asked for, for control connections.
     fn gather_at(
         &self,
         alloc: Global,
         endpoint: SocketAddrV4,
         patience: Patience,
         together: usize,
+        control: Option<&str>,
     ) -> Result<Self::Gathering, Fault>
         ensures { IfErr result IsOfGathering };
 }

@@ -101,6 +101,11 @@ that none waits for another one's bytes. What they change is in the file before 
 stop at any moment leaves all events so far, and may leave a request without its issuer's answer,
 which `acqd pending` then writes.
 
+With --control PATH, control connections are taken at this Unix socket's file, too, which its owner
+alone may open. Each line gets its answer: an event line, where `now` may stand for the moment, the
+line that `replay` writes; `clearing,DAY`, `report,DAY` and `holds,MERCHANT,MOMENT` the line `text N`
+and the N bytes of the text; a bad line or a refused text its fault; and `stop` ends the program.
+
 A connection that is silent for the SECONDS of --idle, or takes nothing of a reply for so long, is
 closed as one whose read or write failed. So is one whose frame takes longer than --frame-within,
 from its first byte to its last; and while all M places are taken and another connection waits, the
@@ -362,12 +367,19 @@ fn listen_command<'a>(alloc: Global) -> Made<'a>
         "SECONDS",
         "How long one may be silent while others wait for a place, as --idle [default: 10]",
     );
-    with_option(
+    let command = with_option(
         alloc,
         command,
         "together",
         "M",
         "How many connections are served at once, 1 to 1024 [default: 1]",
+    );
+    with_option(
+        alloc,
+        command,
+        "control",
+        "PATH",
+        "A Unix socket's file at which control connections are taken, too",
     )
 }
 

@@ -284,7 +284,7 @@ fn listen_over<B: Book + Drop, M: Machine<B> + Drop, C: Clock, I: Issuer + Drop,
     issuers: Result<I, Fault>,
     faults: &mut F,
 ) -> Result<(), Fault> {
-    if asked.together > 1 {
+    if asked.together > 1 || asked.control.is_some() {
         return gather_over(alloc, machine, asked, clock, issuers, faults);
     }
     let connections = machine.listen_at(asked.endpoint, asked.patience);
@@ -310,7 +310,14 @@ fn gather_over<B: Book + Drop, M: Machine<B> + Drop, C: Clock, I: Issuer + Drop,
     issuers: Result<I, Fault>,
     faults: &mut F,
 ) -> Result<(), Fault> {
-    let gathering = machine.gather_at(alloc, asked.endpoint, asked.patience, asked.together);
+    let control = asked.control.as_deref();
+    let gathering = machine.gather_at(
+        alloc,
+        asked.endpoint,
+        asked.patience,
+        asked.together,
+        control,
+    );
     let opened = machine.open_book(asked.path.as_str());
     let (book, mut issuer, mut gathering) = all_opened(opened, issuers, gathering)?;
     closed::<B, M>(listen_together_on(

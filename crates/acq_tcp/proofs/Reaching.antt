@@ -1,6 +1,6 @@
 -- What one part reaches, and the next one from there, both reach.
-use Rattle.std.proofs.Common.{ℕ, List, [], ◌∷◌, ◌++◌, ◌∙◌, ap, sym, refl, inl, inr, arith}
-use Rattle.std.proofs.Common.{Option, Some, None, Result, Ok, Err}
+use Rattle.std.proofs.Common.{◌≡◌, ℕ, List, [], ◌∷◌, ◌++◌, ◌∙◌, ap, sym, refl, inl, inr, arith}
+use Rattle.std.proofs.Common.{Option, Some, None, Result, Ok, Err, length-append}
 use Rattle.acq_core.specs.Tables.{Tables, tables_after}
 use Rattle.acq_core.specs.declared.event.Event.TheVariants.{Frame}
 use Rattle.acq_history.proofs.FinalDays.{tables_after-append}
@@ -8,14 +8,18 @@ use Rattle.acq_commands.specs.Listening.{Reaches, ReachesSome, ReachesBy, going_
 use Rattle.acq_commands.specs.declared.fault.Fault as fault
 use Rattle.acq_front.proofs.StopsLeave.{all_behind, some_behind}
 use Rattle.acq_front.specs.Ends.{Steps}
-use Rattle.acq_front.specs.Exchanges.{Goes, Passed}
+use Rattle.acq_front.specs.Exchanges.{Goes, Passed, late_fault}
 use Rattle.acq_front.specs.Faults as front
 use Rattle.acq_front.specs.Stops.{Left, LeavesAll}
 use Rattle.acq_front.specs.Talk.{Saying}
 use Rattle.acq_front.specs.Turns.{Incoming, Refused}
 use Rattle.acq_front.specs.declared.front_fault.FrontFault as ended
 use Rattle.acq_front.specs.declared.round.Round.{Round}
-use Rattle.acq_tcp.specs.Rounds.{RoundReaches}
+use Rattle.acq_control.specs.Answers.{events_asked}
+use Rattle.acq_control.specs.Ends.{RefusesLine}
+use Rattle.acq_control.specs.Exchanges as control
+use Rattle.acq_control.specs.declared.control_round.ControlRound.{ControlRound}
+use Rattle.acq_tcp.specs.Rounds.{IsNotStores, RoundReaches, RoundTells}
 
 -- nothing was taken
 pub reaches_none : (left : Left) → LeavesAll left left.tables [] → Reaches left.tables left
@@ -130,3 +134,52 @@ program_reaches old left (Err ended.TheVariants.Ended) h = h
 program_reaches old left (Err (ended.TheVariants.Undecodable f)) h = h
 program_reaches old left (Err ended.TheVariants.Read) h = h
 program_reaches old left (Err (ended.TheVariants.Write n)) h = h
+
+-- ---- what is told of the store
+
+-- it took too long
+pub late_unstored : (unsent : List ℕ) (gone : ℕ) → IsNotStores (Some (Err (late_fault unsent gone)))
+late_unstored [] gone = tt
+late_unstored (x ∷ xs) gone = tt
+
+pub tells_late : (r : Option (Result (Unit {0}) ended.FrontFault)) (P : Type 0) {a b : ℕ} → b ≡ a →
+    IsNotStores r → RoundTells r a b P
+tells_late None P same not = same
+tells_late (Some (Ok u)) P same not = same
+tells_late (Some (Err ended.TheVariants.Store)) P same not = absurd not
+tells_late (Some (Err ended.TheVariants.Memory)) P same not = same
+tells_late (Some (Err ended.TheVariants.BadLength)) P same not = same
+tells_late (Some (Err ended.TheVariants.Ended)) P same not = same
+tells_late (Some (Err (ended.TheVariants.Undecodable f))) P same not = same
+tells_late (Some (Err ended.TheVariants.Read)) P same not = same
+tells_late (Some (Err (ended.TheVariants.Write n))) P same not = same
+
+-- ---- control connections
+
+module _ (may_give : ℕ → Type 0) (old : Tables) (left : Left) (before after : control.Passed) where
+  pub control_reaches : control.Goes may_give old left before after → Reaches old left
+  control_reaches (inl on) = record { events = []; tables = on.tables; stop = on.stop }
+  control_reaches (inr asks) =
+      record { events = events_asked asks.asked; tables = asks.tables; stop = asks.stop }
+
+  refused_line : RefusesLine old left → ReachesSome old left
+  refused_line refused = record {
+    events = refused.taken;
+    in_hand = refused.in_hand;
+    at_most_one = omega (arith, refused.at_most_one, length-append refused.taken refused.in_hand);
+    tables = refused.tables;
+    stop = refused.stop;
+  }
+
+  -- and so where the round ended it
+  pub control_ends : (f : ended.FrontFault) →
+      front.UnlessRefused {X = ControlRound} (Err f) (control.Goes may_give old left before after) →
+      control.IfRefused {X = ControlRound} (Err f) (RefusesLine old left) →
+      RoundReaches old left (Some (Err f))
+  control_ends ended.TheVariants.Memory goes refused = refused_line refused
+  control_ends ended.TheVariants.Store goes refused = refused_line refused
+  control_ends ended.TheVariants.BadLength goes refused = control_reaches goes
+  control_ends ended.TheVariants.Ended goes refused = control_reaches goes
+  control_ends (ended.TheVariants.Undecodable f) goes refused = control_reaches goes
+  control_ends ended.TheVariants.Read goes refused = control_reaches goes
+  control_ends (ended.TheVariants.Write n) goes refused = control_reaches goes

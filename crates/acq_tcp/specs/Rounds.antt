@@ -1,6 +1,7 @@
 -- What a host took in the rounds of connections that are served at once.
-use Rattle.std.specs.Prelude.{Option, Some, Result, Err}
+use Rattle.std.specs.Prelude.{◌≡◌, ℕ, Option, Some, None, Result, Err}
 use Rattle.acq_core.specs.Tables.{Tables}
+use Rattle.acq_front.specs.Faults.{TellsStore}
 use Rattle.acq_front.specs.Stops.{Left}
 use Rattle.acq_front.specs.declared.front_fault.FrontFault.{FrontFault}
 use Rattle.acq_front.specs.declared.front_fault.FrontFault.TheVariants.{Memory, Store}
@@ -17,3 +18,13 @@ abbrev pub RoundReaches : Tables → Left → Option (Result (Unit {0}) FrontFau
 RoundReaches old left (Some (Err Memory)) = ReachesSome old left
 RoundReaches old left (Some (Err Store)) = ReachesSome old left
 RoundReaches old left other = Reaches old left
+
+-- what a round tells of the store, by how the connection ended, if it did
+abbrev pub RoundTells : Option (Result (Unit {0}) FrontFault) → ℕ → ℕ → Type 0 → Type 0
+RoundTells None old new other = new ≡ old
+RoundTells (Some ended) old new other = TellsStore ended old new other
+
+-- a connection that ended, if it did, ended for no fault of the store
+abbrev pub IsNotStores : Option (Result (Unit {0}) FrontFault) → Type 0
+IsNotStores (Some (Err Store)) = ⊥
+IsNotStores other = Unit {0}

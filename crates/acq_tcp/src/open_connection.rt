@@ -1,7 +1,8 @@
 //! A connection among others.
 
+ghost use Rattle.std.specs.Prelude.{Err, Some};
 ghost use Rattle.acq_front.specs.Stops.{left_of};
-ghost use Rattle.acq_tcp.specs.Rounds.{RoundReaches, UnlessRefused};
+ghost use Rattle.acq_tcp.specs.Rounds.{IsNotStores, RoundReaches, RoundTells, UnlessRefused};
 
 use crate::parting::{PIECE, Parting};
 use crate::time_limits::{TimeLimits, left_of, shorter};
@@ -83,8 +84,15 @@ impl<'a, T: time::Clock> OpenConnection<'a, T> {
         }
     }
 
-    /// What it is to have waited too long.
-    pub(crate) fn timed_out(&self) -> FrontFault {
+    /// Whether a reply is still to be written.
+    pub(crate) fn is_answering(&self) -> bool {
+        matches!(self.timed_out(), FrontFault::Write(_))
+    }
+
+    /// What it is to have waited too long, which is no fault of the store.
+    pub(crate) fn timed_out(&self) -> FrontFault
+        ensures { IsNotStores (Some (Err result)) }
+    {
         self.exchange.timed_out()
     }
 
@@ -104,6 +112,8 @@ impl<'a, T: time::Clock> OpenConnection<'a, T> {
         ensures stays_open { B.is_honest host.new → B.is_open host.old
             → UnlessRefused result (B.is_open host.new) }
         ensures was_honest { B.is_honest host.new → B.is_honest host.old }
+        ensures store { RoundTells result (B.failures host.old) (B.failures host.new)
+            (B.is_honest host.new → B.is_open host.old → ⊥) }
     {
         if !self.is_ready {
             return self.end_late(now, limits);
@@ -123,11 +133,17 @@ impl<'a, T: time::Clock> OpenConnection<'a, T> {
     }
 
     /// How it ended, if it waited too long.
-    fn end_late(&self, now: Option<Instant>, limits: TimeLimits) -> Option<Result<(), FrontFault>> {
+    fn end_late(&self, now: Option<Instant>, limits: TimeLimits) -> Option<Result<(), FrontFault>>
+        ensures { IsNotStores result }
+    {
         let is_late = self
             .time_left(now, limits)
             .is_some_and(|left| left.is_zero());
-        is_late.then(|| Err(self.timed_out()))
+        if is_late {
+            Some(Err(self.timed_out()))
+        } else {
+            None
+        }
     }
 
     /// Begins to part with it, and returns whether it is still there.

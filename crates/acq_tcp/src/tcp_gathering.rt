@@ -1,10 +1,11 @@
 //! Connections over TCP that are served at once.
 
 ghost use Rattle.std.specs.Prelude.{◌≤◌, IfErr, OnOk};
-ghost use Rattle.acq_commands.specs.Faults.{IsOfGathering};
+ghost use Rattle.acq_commands.specs.Faults.{IsOfGathering, TellsStore};
 ghost use Rattle.acq_commands.specs.Listening.{ReachesBy};
 ghost use Rattle.acq_front.specs.Stops.{left_of};
 
+use crate::control_gathering::{CONTROLS, ControlGathering};
 use crate::open_connection::OpenConnection;
 use crate::parting::ends_in_bad_frame;
 use crate::tcp_connections::PAUSE;
@@ -14,7 +15,7 @@ use acq_commands::{Fault, Gathering, Patience, end_connection};
 use acq_front::{Clock, FrontFault, Issuer};
 use acq_host::Host;
 use acq_link::Sink;
-use mio::net::{TcpListener, TcpStream};
+use mio::net::{TcpListener, TcpStream, UnixListener};
 use mio::{Events, Interest, Poll, Token};
 use std::alloc::Global;
 use std::io::ErrorKind;
@@ -38,11 +39,13 @@ pub struct TcpGathering<'a, T> {
     refused: Option<Instant>,
     /// One that came when all places were taken.
     waiting: Option<TcpStream>,
+    /// Control connections, where they can come.
+    control: Option<ControlGathering>,
 }
 
 impl<'a, T: time::Clock> TcpGathering<'a, T> {
     /// Listens at an address and a port, for so many connections at once. One that takes longer than
-    /// this patience lasts is closed.
+    /// this patience lasts is closed. Beside them control connections come to `control`.
     pub fn listen<N: Net>(
         net: &N,
         time: &'a T,
@@ -50,6 +53,7 @@ impl<'a, T: time::Clock> TcpGathering<'a, T> {
         endpoint: SocketAddrV4,
         patience: Patience,
         together: usize,
+        control: Option<UnixListener>,
     ) -> Result<TcpGathering<'a, T>, Fault>
         ensures { IfErr result IsOfGathering }
     {
@@ -59,10 +63,11 @@ impl<'a, T: time::Clock> TcpGathering<'a, T> {
                 return Err(Fault::Memory);
             }
         }
-        let events = Events::with_capacity(alloc, together)?;
+        let events = Events::with_capacity(alloc, together.saturating_add(CONTROLS))?;
         let Ok((listener, poll)) = listener_at(net, endpoint, Token(together)) else {
             return Err(Fault::Read);
         };
+        let control = control_at(alloc, control, &poll, together)?;
         Ok(TcpGathering {
             listener,
             poll,
@@ -73,6 +78,7 @@ impl<'a, T: time::Clock> TcpGathering<'a, T> {
             may_come: true,
             refused: None,
             waiting: None,
+            control,
         })
     }
 
@@ -173,12 +179,17 @@ impl<'a, T: time::Clock> TcpGathering<'a, T> {
     fn wait(&mut self, takes_more: bool) -> io::Result<()> {
         let longest = self.longest_wait(takes_more && self.waiting.is_none());
         self.poll.poll(&mut self.events, longest)?;
+        let listens = Token(self.places.len());
         for event in self.events.iter() {
-            let Token(place) = event.token();
-            match self.places.get_mut(place) {
-                Some(Some(connection)) => connection.make_ready(),
-                Some(None) => {}
-                None => self.may_come = true,
+            let Token(token) = event.token();
+            if event.token() == listens {
+                self.may_come = true;
+            } else if let Some(place) = self.places.get_mut(token) {
+                if let Some(connection) = place {
+                    connection.make_ready();
+                }
+            } else if let Some(control) = &mut self.control {
+                control.make_ready(token);
             }
         }
         Ok(())
@@ -188,9 +199,12 @@ impl<'a, T: time::Clock> TcpGathering<'a, T> {
     /// taken too long, or, where more are taken, one may be had again.
     fn longest_wait(&self, takes_more: bool) -> Option<Duration> {
         let now = self.now();
-        let mut longest = None;
+        let mut longest = match &self.control {
+            Some(control) => control.time_left(now, self.limits),
+            None => None,
+        };
         if takes_more && self.may_come {
-            longest = self.pause_left(now);
+            longest = shorter(longest, self.pause_left(now));
         }
         for place in self.places.iter() {
             if let Some(connection) = place {
@@ -260,6 +274,8 @@ impl<'a, T: time::Clock> TcpGathering<'a, T> {
         ensures stays_open { B.is_honest host.new → B.is_open host.old
             → OnOk result (B.is_open host.new) }
         ensures was_honest { B.is_honest host.new → B.is_honest host.old }
+        ensures store { TellsStore result (B.failures host.old) (B.failures host.new)
+            (B.is_honest host.new → B.is_open host.old → ⊥) }
     {
         let (now, limits) = (self.now(), self.limits);
         for place in 0..self.places.len() {
@@ -267,6 +283,57 @@ impl<'a, T: time::Clock> TcpGathering<'a, T> {
             give_round(place, alloc, host, clock, issuer, now, limits, faults)?;
         }
         Ok(())
+    }
+
+    /// Whether a control connection asked that the host ends.
+    fn has_stopped(&self) -> bool {
+        match &self.control {
+            Some(control) => control.has_stopped(),
+            None => false,
+        }
+    }
+
+    /// Whether something that was said to a control connection is still to be written.
+    fn is_answering(&self) -> bool {
+        match &self.control {
+            Some(control) => control.is_answering(),
+            None => false,
+        }
+    }
+
+    /// Closes each connection that has its replies.
+    fn close_answered(&mut self) {
+        for place in 0..self.places.len() {
+            if let Some(taken) = self.places.get_mut(place) {
+                if taken.as_ref().is_some_and(|one| !one.is_answering()) {
+                    *taken = None;
+                }
+            }
+        }
+    }
+
+    /// Takes in the control connections that came, and gives each that is ready a round.
+    fn give_control_rounds<B: Book + Drop, C: Clock, F: Sink>(
+        &mut self,
+        alloc: Global,
+        host: &mut Host<B>,
+        clock: &mut C,
+        faults: &mut F,
+    ) -> Result<(), Fault>
+        ensures reaches { B.is_honest host.new → B.is_open host.old
+            → ReachesBy (B.tables host.old) (left_of B.Book host.new) result }
+        ensures stays_open { B.is_honest host.new → B.is_open host.old
+            → OnOk result (B.is_open host.new) }
+        ensures was_honest { B.is_honest host.new → B.is_honest host.old }
+        ensures store { TellsStore result (B.failures host.old) (B.failures host.new)
+            (B.is_honest host.new → B.is_open host.old → ⊥) }
+    {
+        let (now, limits) = (self.now(), self.limits);
+        let Some(control) = &mut self.control else {
+            return Ok(());
+        };
+        control.admit(alloc, self.poll.registry(), now, faults);
+        control.give_rounds(alloc, host, clock, now, limits, faults)
     }
 
     /// Whether no connection has a place.
@@ -301,6 +368,8 @@ fn give_round<'a, T: time::Clock, B: Book + Drop, C: Clock, I: Issuer, F: Sink>(
     ensures stays_open { B.is_honest host.new → B.is_open host.old
         → OnOk result (B.is_open host.new) }
     ensures was_honest { B.is_honest host.new → B.is_honest host.old }
+    ensures store { TellsStore result (B.failures host.old) (B.failures host.new)
+        (B.is_honest host.new → B.is_open host.old → ⊥) }
 {
     let Some(connection) = place else {
         return Ok(());
@@ -334,21 +403,48 @@ impl<T: time::Clock> Gathering for TcpGathering<'_, T> {
     ) -> Result<(), Fault> {
         let mut left = count;
         for _ in 0..u64::MAX {
+            if self.has_stopped() {
+                left = 0;
+                self.close_answered();
+            }
             left -= self.admit(left, faults);
-            if left == 0 && self.is_empty() {
+            if left == 0 && self.is_empty() && !self.is_answering() {
                 break;
             }
             if self.wait(left > 0).is_err() {
                 return Err(Fault::Read);
             }
             self.give_rounds(alloc, host, clock, issuer, faults)?;
+            self.give_control_rounds(alloc, host, clock, faults)?;
             self.make_room(faults);
         }
         Ok(())
     }
 }
 
-/// A listener at a port of this machine, and what waits for it under this token.
+/// Control connections to a listener, if there is one, which waits under the token behind that of
+/// the listener for terminals.
+fn control_at(
+    alloc: Global,
+    listener: Option<UnixListener>,
+    poll: &Poll,
+    together: usize,
+) -> Result<Option<ControlGathering>, Fault>
+    ensures { IfErr result IsOfGathering }
+{
+    let Some(listener) = listener else {
+        return Ok(None);
+    };
+    let (Some(token), Some(first)) = (together.checked_add(1), together.checked_add(2)) else {
+        return Err(Fault::Memory);
+    };
+    match ControlGathering::new(alloc, listener, poll.registry(), Token(token), first) {
+        Ok(control) => Ok(Some(control)),
+        Err(fault) => Err(fault),
+    }
+}
+
+/// A listener at an address and a port of this machine, and what waits for it under this token.
 fn listener_at<N: Net>(
     net: &N,
     endpoint: SocketAddrV4,

@@ -4,6 +4,7 @@
 mod calendar;
 mod clocks;
 mod connections;
+mod control_lines;
 mod counted;
 mod debug_texts;
 mod hosts;

@@ -4,6 +4,7 @@ ghost use Rattle.std.specs.Prelude.{◌≡◌, IfErr};
 ghost use Rattle.acq_program.specs.BookFaults.{IsClosing, IsOpening};
 ghost use Rattle.acqd.specs.BookFiles.{of_opening};
 
+use crate::control_socket::control_socket;
 use crate::open_book::{make_book, migrate_book, open_book};
 use acq_commands::{Fault, Patience};
 use acq_core::Limit;
@@ -103,9 +104,16 @@ impl<'a, D: Start> Machine<SqlBook<FileStore<FileFrom<D>>>> for ThisMachine<'a, 
         endpoint: SocketAddrV4,
         patience: Patience,
         together: usize,
+        control: Option<&str>,
     ) -> Result<TcpGathering<'a, HostRuntime>, Fault> {
         self.listens.set(true);
-        TcpGathering::listen(self.rt, self.rt, alloc, endpoint, patience, together)
+        let control = match control {
+            Some(path) => Some(control_socket(self.rt, path)?),
+            None => None,
+        };
+        TcpGathering::listen(
+            self.rt, self.rt, alloc, endpoint, patience, together, control,
+        )
     }
 }
 

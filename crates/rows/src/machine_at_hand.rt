@@ -112,6 +112,7 @@ impl<'a> Machine<ListBook> for MachineAtHand<'a> {
         _endpoint: SocketAddrV4,
         _patience: Patience,
         _together: usize,
+        _control: Option<&str>,
     ) -> Result<NoGathering, Fault> {
         match &self.terms.connections {
             Some(_) => Ok(NoGathering),

@@ -1,7 +1,10 @@
-use Rattle.std.proofs.Common.{sym, subst}
+use Rattle.std.proofs.Common.{◌≡◌, ◌==◌, [], length, true≢false, sym, ap, subst, ◌∙◌}
+use Rattle.std.specs.Prelude.{OnOk}
 use Rattle.acq_front.specs.Stops.{left_of}
+use Rattle.acq_commands.specs.Faults.{CountsStore, TellsStore}
 use Rattle.acq_commands.specs.Replay.{TakesUpTo}
 use Rattle.acq_commands.proofs.EventsTaken.{replayed_up_to, taken_up_to, looked_up_to}
+use Rattle.acq_commands.proofs.FaultsTold.{tells_both, tells_counted}
 use Rattle.acq_commands.proofs.book_commands.replay_on.Goals as goal
 
 pub returns-then-is_empty-clause-takes : goal.returns-then-is_empty-clause-takes
@@ -15,10 +18,12 @@ returns-then-is_empty-clause-takes g c = λ h o.
       so.0,
       so.1,
       subst (λ s. TakesUpTo
-          (record { left = left_of g.B.Book; old = s; new = c.into_book.result }) so.0)
+          (record { left = left_of g.B.Book; old = s; new = c.into_book.result }) so.0
+          c.replay-ended.result)
           began
           (subst (λ s. TakesUpTo
-          (record { left = left_of g.B.Book; old = c.new-host.result; new = s }) so.0)
+          (record { left = left_of g.B.Book; old = c.new-host.result; new = s }) so.0
+          c.replay-ended.result)
           (sym ended) up),
     )
 
@@ -33,13 +38,45 @@ returns-clause-takes g c = λ h o.
     let up = taken_up_to g.B.Book g.met.B.Book.settled g.met.B.Book.stored c.new-host.result
     c.take_events-taken.new.host so.0 opened c.take_events-taken.result so.2 in
     let then = subst (λ s. TakesUpTo
-    (record { left = left_of g.B.Book; old = c.new-host.result; new = s }) so.0) (sym ended) up in (
+    (record { left = left_of g.B.Book; old = c.new-host.result; new = s }) so.0
+    c.take_events-taken.result) (sym ended) up in (
       so.0,
       so.1,
       subst (λ s. TakesUpTo
           (record { left = left_of g.B.Book; old = s; new = c.report_if_taken-ended.new.book })
-          so.0)
+          so.0 c.report_if_taken-ended.result)
           began
           (looked_up_to g.B.Book g.met.B.Book.settled g.met.B.Book.stored c.new-host.result
-          c.into_book-book.result so.0 c.report_if_taken-ended.new.book looks.0 h looks.1 then),
+          c.into_book-book.result so.0 c.report_if_taken-ended.new.book looks.0
+          c.take_events-taken.result c.report_if_taken-ended.result _
+          c.report_if_taken-ended.ensures.stopped h looks.1 then),
     )
+
+pub returns-then-is_empty-clause-store : goal.returns-then-is_empty-clause-store
+returns-then-is_empty-clause-store g c =
+    let failures = g.B.Book.failures in
+    let ended = c.replay-ended.result in
+    tells_counted ended _ _ _
+    (subst (λ s. CountsStore ended (failures s) (failures c.into_book.result)) c.new-host.ensures
+    (subst (λ s. CountsStore ended (failures c.new-host.result) (failures s))
+    (sym c.into_book.ensures.book) c.replay-ended.ensures.store))
+
+pub returns-clause-store : goal.returns-clause-store
+returns-clause-store g c =
+    let it = g.B.Book in
+    let taken = c.take_events-taken in
+    let ended = c.report_if_taken-ended in
+    let start = c.new-host.result in
+    let back = sym c.into_book-book.ensures.book in
+    subst (λ s. TellsStore ended.result (it.failures s) (it.failures ended.new.book)
+    ((c.args.reports.now ≡ [] → ⊥) × (it.is_honest ended.new.book → it.is_open s → ⊥)))
+    c.new-host.ensures
+    (tells_both it taken.result ended.result start c.into_book-book.result ended.new.book _ _
+    (λ none. true≢false (sym (ap (λ l. length l == 0) none)
+    ∙ (sym c.is_empty.ensures ∙ c.if-is_empty.false)))
+    (subst (λ s. CountsStore taken.result (it.failures start) (it.failures s)) back
+    taken.ensures.store)
+    (subst (λ s. it.is_honest s → it.is_open start → OnOk taken.result (it.is_open s)) back
+    taken.ensures.stays_open)
+    ended.ensures.looks.1.was_honest ended.ensures.stopped ended.ensures.unasked
+    ended.ensures.store)

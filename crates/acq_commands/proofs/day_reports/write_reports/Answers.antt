@@ -4,11 +4,12 @@ use Rattle.std.proofs.lemmas.Result.{err_from_is_err_and}
 use Rattle.std.specs.Prelude.{Err}
 use Rattle.acq_core.specs.Tables.{Tables}
 use Rattle.acq_book.proofs.Chains.{looks_more}
+use Rattle.acq_reports.proofs.Chains.{tells_later}
 use Rattle.acq_reports.specs.Faults.{is_settled}
 use Rattle.acq_reports.specs.Refusals.{day_refusal}
 use Rattle.acq_reports.specs.Writing.{Reports}
 use Rattle.acq_commands.specs.DayReports.{AreGiven, report_text, report_texts}
-use Rattle.acq_commands.proofs.ReportsWritten.{given_next, sent_next, stops_here, stored_later}
+use Rattle.acq_commands.proofs.ReportsWritten.{given_next, sent_next, stops_here}
 use Rattle.acq_commands.proofs.day_reports.write_reports.Goals as goal
 
 pub loop-report-preserved : goal.loop-report-preserved
@@ -27,15 +28,15 @@ loop-report-preserved g c =
           let same = loop.invariant.0.same middle in
           let so = loop.invariant.1 before opened in
           let text = c.in_ok-write_report.ensures.text honest middle in
-          let written = c.in_ok-write_report.ensures.writes honest middle in
           let t = g.B.Book.tables c.args.book.now in (
             given_next t reports i r (omega arith) c.report-item.is so.0
                 (sym (ap (λ u. day_refusal u r.day) same) ∙ text.0),
             sent_next t reports i r (omega arith) c.report-item.is (g.K.Sink.sent c.args.output.now)
                 (g.K.Sink.sent loop.output) (g.K.Sink.sent c.write_report.new.output) so.1
                 (text.1 ∙ ap (λ u. g.K.Sink.sent loop.output ++ report_text u r) same),
-            omega (arith, written, so.2),
           )),
+      omega (arith, c.in_ok-write_report.ensures.writes, loop.invariant.2),
+      c.in_ok-write_report.ensures.store ∙ loop.invariant.3,
     )
 
 pub returns-in_err-write_report-clause-texts : goal.returns-in_err-write_report-clause-texts
@@ -59,14 +60,10 @@ returns-in_err-write_report-clause-texts g c = λ honest opened.
     (loop.invariant.0.same middle) (c.in_err-write_report.ensures.text honest middle)))
 
 pub returns-in_err-write_report-clause-writes : goal.returns-in_err-write_report-clause-writes
-returns-in_err-write_report-clause-writes g c = λ honest opened.
-    let loop = c.loop-report in
-    let before = c.in_err-write_report.ensures.looks.was_honest honest in
-    let middle = loop.invariant.0.stays_open refl before opened in
-    let so = loop.invariant.1 before opened in
-    let written = c.in_err-write_report.ensures.writes honest middle in
+returns-in_err-write_report-clause-writes g c =
     let p = err_from_is_err_and c.from_residual.result c.from_residual.ensures.1 in
-    rw (p.1, p.2) (omega (arith, written, so.2))
+    rw (p.1, p.2)
+    (omega (arith, c.in_err-write_report.ensures.writes, c.loop-report.invariant.2))
 
 pub returns-in_err-write_report-clause-looks : goal.returns-in_err-write_report-clause-looks
 returns-in_err-write_report-clause-looks g c =
@@ -82,9 +79,13 @@ pub returns-in_err-write_report-clause-store : goal.returns-in_err-write_report-
 returns-in_err-write_report-clause-store g c =
     let loop = c.loop-report in
     let p = err_from_is_err_and c.from_residual.result c.from_residual.ensures.1 in
-    rw (p.1, p.2) (stored_later g.B.Book c.args.book.now loop.book c.write_report.new.book
-    c.in_err-write_report.field-0.0 loop.invariant.0 c.in_err-write_report.ensures.looks
+    rw (p.1, p.2) (tells_later g.B.Book c.args.book.now loop.book c.write_report.new.book _
+    loop.invariant.0 c.in_err-write_report.ensures.looks
+    {T = Unit {0}} (Err c.in_err-write_report.field-0.0) loop.invariant.3
     c.in_err-write_report.ensures.store)
+
+pub returns-clause-store : goal.returns-clause-store
+returns-clause-store g c = c.loop-report.invariant.3
 
 pub returns-clause-texts : goal.returns-clause-texts
 returns-clause-texts g c = λ honest opened.

@@ -1,4 +1,5 @@
--- the reports so far went out whole, and the book is as it was
+-- the reports so far went out whole, the book is as it was, and no write and no call of the store
+-- failed
 use Rattle.std.proofs.Common.{◌≡◌, ◌++◌, true, take}
 use Rattle.acq_book.specs.Calls.{Looks}
 use Rattle.acq_commands.specs.DayReports.{AreGiven, report_texts}
@@ -12,5 +13,6 @@ invariant-loop-report g l =
     → AreGiven (g.B.Book.tables l.fn.book) (take l.report-index l.reports)
     × (g.K.Sink.sent l.output
     ≡ g.K.Sink.sent l.fn.output ++ report_texts (g.B.Book.tables l.fn.book)
-    (take l.report-index l.reports))
-    × (g.K.Sink.failures l.output ≡ g.K.Sink.failures l.fn.output))
+    (take l.report-index l.reports)))
+    × (g.K.Sink.failures l.output ≡ g.K.Sink.failures l.fn.output)
+    × (g.B.Book.failures l.book ≡ g.B.Book.failures l.fn.book)

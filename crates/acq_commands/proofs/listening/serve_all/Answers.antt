@@ -1,10 +1,11 @@
-use Rattle.std.proofs.Common.{[], ◌++◌, ◌∷◌, refl, sym, ap, ◌∙◌, arith}
+use Rattle.std.proofs.Common.{[], ◌++◌, ◌∷◌, Err, refl, sym, ap, ◌∙◌, arith}
 use Rattle.std.proofs.lemmas.Result.{err_from_is_err_and}
 use Rattle.std.proofs.lemmas.List.{length_push}
 use Rattle.acq_commands.specs.Listening.{Traffic, with_served}
 use Rattle.acq_front.specs.Stops.{left_of, open_at}
 use Rattle.acq_front.proofs.ServedWeaker.{says_same}
 use Rattle.acq_front.proofs.StopsLeave.{none_stop}
+use Rattle.acq_commands.proofs.FaultsTold.{tells_later}
 use Rattle.acq_commands.proofs.ConnectionsServed.{weaker_one, says_open, one_more, passes_more}
 use Rattle.acq_commands.proofs.listening.serve_all.Goals as goal
 
@@ -14,6 +15,7 @@ loop-init g c = (
   (λ h. h),
   (λ q v said. said),
   (λ m given. given),
+  refl,
 )
 
 pub loop-preserved : goal.loop-preserved
@@ -42,6 +44,7 @@ loop-preserved g c =
       (λ h. inv.1 (one.was_honest h)),
       (λ q v said. inv.2 q v (one.said_later q v said)),
       (λ m given. inv.3 m (one.given_later m given)),
+      one.store ∙ inv.4,
     )
 
 pub returns-in_err-serve_one : goal.returns-in_err-serve_one
@@ -66,6 +69,12 @@ returns-in_err-serve_one g c = record {
         sym s.3,
         s.2 ∙ ap (λ (t : Traffic). with_served t s.0) so.3,
       );
+  store =
+      let p = err_from_is_err_and c.from_residual.result c.from_residual.ensures.1 in
+      let inv = c.loop.invariant in
+      let one = c.in_err-serve_one.ensures in
+      rw (p.1, p.2) (tells_later (Err c.in_err-serve_one.field-0.0) _ _ _ inv.4
+      (λ no h o. no h (inv.0 (one.was_honest h) o).4) one.store);
 }
 
 pub returns : goal.returns
@@ -78,4 +87,5 @@ returns g c = record {
         none_stop g.B.Book g.met.B.Book.settled g.met.B.Book.stored c.loop.host so.4,
         so.3,
       );
+  store = c.loop.invariant.4;
 }

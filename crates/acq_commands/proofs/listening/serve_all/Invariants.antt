@@ -20,3 +20,4 @@ invariant-loop g l = (g.B.Book.is_honest l.host → g.B.Book.is_open l.fn.host �
     × ((q : Query) (v : Verdict) → g.I.Issuer.may_say l.issuer q v →
     g.I.Issuer.may_say l.fn.issuer q v)
     × ((m : ℕ) → g.C.Clock.may_give l.clock m → g.C.Clock.may_give l.fn.clock m)
+    × (g.B.Book.failures l.host ≡ g.B.Book.failures l.fn.host)

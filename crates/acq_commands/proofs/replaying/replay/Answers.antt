@@ -46,7 +46,7 @@ returns-in_err-events-clause-writes g c =
 pub returns-in_err-events-clause-store : goal.returns-in_err-events-clause-store
 returns-in_err-events-clause-store g c =
     let p = err_from_is_err_and c.from_residual.result c.from_residual.ensures.1 in
-    rw (p.1, p.2) (events_unstored c.in_err-events.field-0.0 _)
+    rw (p.1, p.2) (events_unstored c.in_err-events.field-0.0 _ _ refl)
 
 pub returns-clause-whole : goal.returns-clause-whole
 returns-clause-whole g c = any_end c.take_all.result _ c.in_ok-events.ensures.whole

@@ -1,7 +1,7 @@
 use Rattle.std.proofs.Common.{◌+◌, ◌++◌, ◌∷◌, [], take, length, ⊎_elim, inl, inr}
 use Rattle.std.proofs.Common.{refl, sym, ap, subst, ◌∙◌}
 use Rattle.std.proofs.Common.{append_assoc, append-nil, arith}
-use Rattle.std.specs.Prelude.{Some}
+use Rattle.std.specs.Prelude.{Some, Err}
 use Rattle.std.specs.List.{flat_map}
 use Rattle.std.proofs.lemmas.List.{take_all}
 use Rattle.std.proofs.lemmas.Option.{slice_get_read}
@@ -13,6 +13,7 @@ use Rattle.acq_out.specs.OutputLines.{line_of}
 use Rattle.acq_commands.specs.Replay.{Reaches, lines}
 use Rattle.acq_commands.proofs.LinesWritten.{lines-push, output_next, reaches_line, reaches_untaken}
 use Rattle.acq_commands.proofs.EventsTaken.{all_stop}
+use Rattle.acq_commands.proofs.FaultsTold.{counts_later}
 use Rattle.acq_commands.proofs.replaying.take_all.Goals as goal
 
 pub loop-event-preserved : goal.loop-event-preserved
@@ -27,7 +28,8 @@ loop-event-preserved g c =
         took_next g.B.Book
             c.args.host.now c.loop-event.host c.take_next.new.host c.args.events.now
             c.loop-event.event-index e
-            so.0 (so.0 ++ o ∷ []) (omega arith) c.event-item.is so.1 made (λ _ _. refl),
+            so.0 (so.0 ++ o ∷ []) (omega arith) c.event-item.is so.1 made (λ _ _. refl)
+            c.in_ok-take_next.ensures.store,
         λ h opened.
             let between = so.1.stays_open (made.was_honest h) opened in
             c.in_ok-take_next.ensures.sent h between
@@ -149,3 +151,12 @@ returns-clause-tables g c = λ h opened.
     let so = c.loop-event.invariant.0 in
     let all = take_all c.loop-event.event-index c.args.events.now (omega arith) in
     so.1.leads h opened ∙ ap (tables_after (g.B.Book.tables c.args.host.now)) all
+
+pub returns-in_err-take_next-clause-store : goal.returns-in_err-take_next-clause-store
+returns-in_err-take_next-clause-store g c =
+    let p = err_from_is_err_and c.from_residual.result c.from_residual.ensures.1 in
+    rw (p.1, p.2) (counts_later (Err c.in_err-take_next.field-0.0) _
+    c.loop-event.invariant.0.1.failed c.in_err-take_next.ensures.store)
+
+pub returns-clause-store : goal.returns-clause-store
+returns-clause-store g c = c.loop-event.invariant.0.1.failed

@@ -34,7 +34,7 @@ returns-in_err-said-clause-writes g c =
 pub returns-in_err-said-clause-store : goal.returns-in_err-said-clause-store
 returns-in_err-said-clause-store g c =
     let p = err_from_is_err_and c.from_residual.result c.from_residual.ensures.1 in
-    rw (p.1, p.2) (book_stored Output c.in_err-said.field-0.0 _ c.in_err-said.ensures.store)
+    rw (p.1, p.2) (book_stored c.in_err-said.field-0.0 _ _ c.in_err-said.ensures.store)
 
 pub returns-in-Err-clause-fault : goal.returns-in-Err-clause-fault
 returns-in-Err-clause-fault g c =
@@ -60,4 +60,8 @@ returns-in-Err-clause-writes g c =
     rw c.from.ensures (line_writes c.in-Err.fault _ _ counted)
 
 pub returns-in-Err-clause-store : goal.returns-in-Err-clause-store
-returns-in-Err-clause-store g c = rw c.from.ensures (events_unstored c.in-Err.fault _)
+returns-in-Err-clause-store g c =
+    rw c.from.ensures (events_unstored c.in-Err.fault _ _ c.in_ok-said.ensures.store)
+
+pub returns-in-Ok-clause-store : goal.returns-in-Ok-clause-store
+returns-in-Ok-clause-store g c = c.in_ok-said.ensures.store

@@ -32,7 +32,7 @@ returns-in_err-events-clause-reads g c =
 pub returns-in_err-events-clause-store : goal.returns-in_err-events-clause-store
 returns-in_err-events-clause-store g c =
     let p = err_from_is_err_and c.from_residual.result c.from_residual.ensures.1 in
-    rw (p.1, p.2) (events_unstored c.in_err-events.field-0.0 _)
+    rw (p.1, p.2) (events_unstored c.in_err-events.field-0.0 _ _ refl)
 
 pub returns-in-Ok-clause-takes : goal.returns-in-Ok-clause-takes
 returns-in-Ok-clause-takes g c = λ h o.
@@ -77,4 +77,15 @@ returns-clause-reads g c =
 pub returns-clause-store : goal.returns-clause-store
 returns-clause-store g c =
     let store = (rw c.in-Err.is at c.take_each.ensures.store) in
-    rw c.from.ensures (book_stored (Unit {0}) c.in-Err.fault _ store)
+    rw c.from.ensures (book_stored c.in-Err.fault _ _ store)
+
+pub returns-in-Ok-clause-store : goal.returns-in-Ok-clause-store
+returns-in-Ok-clause-store g c = rw c.in-Ok.is at c.take_each.ensures.store
+
+pub returns-in_err-events-clause-stays_open : goal.returns-in_err-events-clause-stays_open
+returns-in_err-events-clause-stays_open g c = λ h o.
+    let p = err_from_is_err_and c.from_residual.result c.from_residual.ensures.1 in
+    rw p.1 tt
+
+pub returns-in-Ok-clause-stays_open : goal.returns-in-Ok-clause-stays_open
+returns-in-Ok-clause-stays_open g c = rw c.in-Ok.is at c.take_each.ensures.stays_open

@@ -1,10 +1,10 @@
 -- what was looked up is what the tables let the event know
-use Rattle.std.proofs.Common.{◌≡◌, ◌∙◌, false, is_ok, rules, sym, ap, subst}
+use Rattle.std.proofs.Common.{◌≡◌, ◌∙◌, false, is_ok, rules, refl, sym, ap, subst}
 use Rattle.std.specs.Prelude.{OnOk}
 use Rattle.acq_core.specs.Known.{wanted_by}
 use Rattle.acq_book.specs.Calls.{Looks}
 use Rattle.acq_host.specs.Looked.{IsLooked, rows_of}
-use Rattle.acq_host.proofs.Chains.{looks_then}
+use Rattle.acq_host.proofs.Chains.{counts_more, counts_on, looks_then}
 use Rattle.acq_host.proofs.LookedUp.{known_if}
 use Rattle.acq_host.proofs.looking_up.look_up.Goals as goal
 
@@ -32,3 +32,14 @@ returns-clause-known g c = λ o nothing.
     (c.wanted-wanted.ensures ∙ ap (λ day. wanted_by day c.args.arrival.now) nothing.today)
     (subst (λ t. OnOk c.look_up_of_merchant.result (IsLooked t wanted
     c.look_up_of_merchant.new.looked)) same all)
+
+pub returns-in_err-look_up_rows-clause-store : goal.returns-in_err-look_up_rows-clause-store
+returns-in_err-look_up_rows-clause-store g c =
+    counts_on c.from_residual.result c.in_err-look_up_rows.field-0.0 _ c.from_residual.ensures.1
+    refl
+    c.in_err-look_up_rows.ensures.store
+
+pub returns-clause-store : goal.returns-clause-store
+returns-clause-store g c =
+    counts_more c.look_up_of_merchant.result _ c.in_ok-look_up_rows.ensures.store
+    c.look_up_of_merchant.ensures.store

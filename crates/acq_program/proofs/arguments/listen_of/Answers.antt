@@ -99,7 +99,7 @@ returns-in_err-together c =
     c.in_ok-moment.moment) c.in_ok-patience.patience
     (Err c.in_err-together.field-0.0) c.in_ok-patience.ensures
     (first_fails (TogetherIs texts)
-    (IsListen c.in_ok-path.path c.in_ok-endpoint.endpoint c.in_ok-count.count texts.issuers
+    (IsListen texts c.in_ok-path.path c.in_ok-endpoint.endpoint c.in_ok-count.count
     c.in_ok-moment.moment c.in_ok-patience.patience)
     c.in_err-together.field-0.0 c.in_err-together.ensures))))))
 
@@ -110,6 +110,14 @@ returns-in_err-issuers c =
     c.from_residual-in_err-issuers.ensures.1 in
     rw (p.1, p.2)
     (no_memory (AsksListen texts) c.in_err-issuers.field-0.0 c.in_err-issuers.ensures.refused)
+
+pub returns-in_err-control : goal.returns-in_err-control
+returns-in_err-control c =
+    let texts = found_texts (found_of c.args.options.now) in
+    let p = err_from_is_err_and c.from_residual-in_err-control.result
+    c.from_residual-in_err-control.ensures.1 in
+    rw (p.1, p.2)
+    (no_memory (AsksListen texts) c.in_err-control.field-0.0 c.in_err-control.ensures.refused)
 
 pub returns : goal.returns
 returns c =
@@ -122,6 +130,7 @@ returns c =
       patience = c.in_ok-patience.patience;
       issuers = c.in_ok-issuers.issuers;
       moment = c.in_ok-moment.moment;
+      control = c.in_ok-control.control;
     })) in
     then_rest (FileIs texts) (ListenIn texts) c.in_ok-path.path read c.in_ok-path.ensures
     (then_rest (EndpointIs texts) (ListenOn texts c.in_ok-path.path) c.in_ok-endpoint.endpoint read
@@ -136,7 +145,15 @@ returns c =
     c.in_ok-moment.moment)
     c.in_ok-patience.patience read c.in_ok-patience.ensures
     (then_rest (TogetherIs texts)
-    (IsListen c.in_ok-path.path c.in_ok-endpoint.endpoint c.in_ok-count.count texts.issuers
+    (IsListen texts c.in_ok-path.path c.in_ok-endpoint.endpoint c.in_ok-count.count
     c.in_ok-moment.moment c.in_ok-patience.patience)
-    c.in_ok-together.together read c.in_ok-together.ensures
-    (refl, refl, refl, c.in_ok-issuers.ensures.given, refl, refl, refl))))))
+    c.in_ok-together.together read c.in_ok-together.ensures (
+      refl,
+      refl,
+      refl,
+      c.in_ok-issuers.ensures.given,
+      refl,
+      refl,
+      refl,
+      c.in_ok-control.ensures.given,
+    ))))))

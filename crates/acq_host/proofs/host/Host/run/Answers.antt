@@ -1,5 +1,5 @@
 -- what the host took so far, and one event more
-use Rattle.std.proofs.Common.{take, [], inl, refl, sym, ap, ◌∙◌, subst, arith}
+use Rattle.std.proofs.Common.{take, [], Err, inl, refl, sym, ap, ◌∙◌, subst, arith}
 use Rattle.std.proofs.lemmas.List.{take_all}
 use Rattle.acq_core.specs.Tables.{outputs, tables_after}
 use Rattle.acq_core.specs.Pasts.{HasPast}
@@ -7,6 +7,7 @@ use Rattle.acq_host.proofs.PartiesAlone.{is_alone, keeps_postings}
 use Rattle.acq_host.proofs.Closed.{keeps_clearing}
 use Rattle.acq_host.proofs.Runs.{HasTaken, took_none, took_next, may_stop_at}
 use Rattle.acq_host.proofs.Runs.{leaves_books_at, shut_at}
+use Rattle.acq_host.proofs.Chains.{counts_more}
 use Rattle.acq_host.proofs.host.Host.run.Goals as goal
 
 pub loop-at-init : goal.loop-at-init
@@ -21,11 +22,12 @@ loop-at-init g c = record {
 pub loop-at-preserved : goal.loop-at-preserved
 loop-at-preserved g c = record {
   took =
-      took_next g.B.Book c.args.self.now c.loop-at.self c.take_next.new.self c.args.events.now c.loop-at.at
+      took_next g.B.Book c.args.self.now c.loop-at.self c.take_next.new.self c.args.events.now
+      c.loop-at.at
       c.index-events-at.result
       c.loop-at.said.items c.take_next.new.said.items (omega arith) c.index-events-at.is
       c.loop-at.invariant.took
-      c.in_default.ensures.tables c.in_default.ensures.said;
+      c.in_default.ensures.tables c.in_default.ensures.said c.in_default.ensures.store;
   past = c.in_default.ensures.past;
 }
 
@@ -165,3 +167,11 @@ returns-clause-left g c = λ h o t l.
     let opened = c.loop-at.invariant.took.stays_open h o in
     subst HasPast (sym (g.met.B.Book.settled c.loop-at.self opened t l))
     (c.loop-at.invariant.past opened)
+
+pub returns-in-Err-clause-store : goal.returns-in-Err-clause-store
+returns-in-Err-clause-store g c =
+    counts_more {T = Unit {0}} (Err c.in-Err.fault) _ c.loop-at.invariant.took.failed
+    c.in-Err.ensures.store
+
+pub returns-clause-store : goal.returns-clause-store
+returns-clause-store g c = c.loop-at.invariant.took.failed

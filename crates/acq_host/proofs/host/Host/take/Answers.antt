@@ -8,7 +8,7 @@ use Rattle.acq_book.specs.Calls.{Makes}
 use Rattle.acq_core.specs.Pasts.{IsBook, HasPast}
 use Rattle.acq_history.proofs.BooksAreSound.{books_are_sound}
 use Rattle.acq_history.proofs.BooksGoOn.{books_go_on}
-use Rattle.acq_host.proofs.Chains.{makes_after}
+use Rattle.acq_host.proofs.Chains.{counts_on, makes_after}
 use Rattle.acq_host.proofs.Runs.{past_of_left}
 use Rattle.acq_host.proofs.ChangesFit.{changes_fit}
 use Rattle.acq_host.proofs.host.Host.take.Goals as goal
@@ -121,3 +121,20 @@ returns-in_err-output-clause-left g c = λ h o t l.
     let was = c.in_err-output.ensures.looks.leaves h t l in
     subst HasPast (sym (g.met.B.Book.settled c.self.inside.book was_open t was))
     (c.self.invariant was_open)
+
+pub returns-in_err-output-clause-store : goal.returns-in_err-output-clause-store
+returns-in_err-output-clause-store g c =
+    counts_on c.from_residual.result c.in_err-output.field-0.0 _ c.from_residual.ensures.1
+    (ap g.B.Book.failures c.self.view_is) c.in_err-output.ensures.store
+
+pub returns-in_err-made-clause-store : goal.returns-in_err-made-clause-store
+returns-in_err-made-clause-store g c =
+    counts_on c.from_residual-in_err-made.result c.in_err-made.field-0.0 _
+    c.from_residual-in_err-made.ensures.1
+    (c.in_ok-output.ensures.store ∙ ap g.B.Book.failures c.self.view_is)
+    c.in_err-made.ensures.store
+
+pub returns-clause-store : goal.returns-clause-store
+returns-clause-store g c =
+    c.in_ok-made.ensures.store
+    ∙ (c.in_ok-output.ensures.store ∙ ap g.B.Book.failures c.self.view_is)

@@ -1,8 +1,9 @@
 -- what taking the event gave
-use Rattle.std.proofs.Common.{◌≡◌, false, is_ok, rules, sym, subst}
+use Rattle.std.proofs.Common.{◌≡◌, false, is_ok, rules, refl, sym, subst}
 use Rattle.acq_core.specs.Arrivals.{arrival_of}
 use Rattle.acq_core.specs.Tables.{step_tables}
 use Rattle.acq_book.specs.Calls.{Makes}
+use Rattle.acq_host.proofs.Chains.{counts_on}
 use Rattle.acq_host.proofs.host.Host.take_next.Goals as goal
 
 pub returns-clause-said : goal.returns-clause-said
@@ -23,3 +24,11 @@ returns-in_err-output-clause-tables g c =
 
 pub returns-in_err-output-clause-left : goal.returns-in_err-output-clause-left
 returns-in_err-output-clause-left g c = λ h o past. c.in_err-output.ensures.left h o
+
+pub returns-in_err-output-clause-store : goal.returns-in_err-output-clause-store
+returns-in_err-output-clause-store g c =
+    counts_on c.from_residual-in_err-output.result c.in_err-output.field-0.0 _
+    c.from_residual-in_err-output.ensures.1 refl c.in_err-output.ensures.store
+
+pub returns-clause-store : goal.returns-clause-store
+returns-clause-store g c = c.in_ok-output.ensures.store

@@ -1,6 +1,10 @@
+use Rattle.std.proofs.Common.{refl}
 use Rattle.acq_front.specs.Stops.{left_of}
+use Rattle.acq_front.specs.declared.round.Round.{Round}
 use Rattle.acq_front.proofs.StopsLeave.{none_stop}
+use Rattle.acq_front.proofs.Turned.{tells_on}
 use Rattle.acq_tcp.proofs.Reaching.{end_reaches, reached_still, reaches_none, round_reaches}
+use Rattle.acq_tcp.proofs.Reaching.{tells_late}
 use Rattle.acq_tcp.proofs.open_connection.OpenConnection.give_round.Goals as goal
 
 pub returns-in-Ok-Waits-clause-reaches : goal.returns-in-Ok-Waits-clause-reaches
@@ -21,3 +25,16 @@ returns-then-not-self-clause-reaches g c = λ h o.
     reached_still c.end_late.result _ _
     (reaches_none (left_of g.B.Book c.args.host.now)
     (none_stop g.B.Book g.met.B.Book.settled g.met.B.Book.stored c.args.host.now o))
+
+pub returns-then-not-self-clause-store : goal.returns-then-not-self-clause-store
+returns-then-not-self-clause-store g c =
+    tells_late c.end_late.result _ refl c.end_late.ensures
+
+pub returns-in-Ok-Waits-clause-store : goal.returns-in-Ok-Waits-clause-store
+returns-in-Ok-Waits-clause-store g c =
+    tells_late c.end_late-in-Ok-Waits.result _ c.in-Ok-Waits.ensures.store
+    c.end_late-in-Ok-Waits.ensures
+
+pub returns-in-Err-clause-store : goal.returns-in-Err-clause-store
+returns-in-Err-clause-store g c =
+    tells_on Round (Unit {0}) c.in-Err.fault _ _ _ refl (λ p. p.1) c.in-Err.ensures.store

@@ -1,8 +1,9 @@
-use Rattle.std.proofs.Common.{◌∙◌, rules}
+use Rattle.std.proofs.Common.{◌∙◌, Err, refl, rules}
 use Rattle.std.proofs.lemmas.Result.{err_from_is_err_and}
 use Rattle.std.proofs.lemmas.List.{length-set}
 use Rattle.acq_front.specs.Stops.{left_of}
 use Rattle.acq_front.proofs.StopsLeave.{none_stop}
+use Rattle.acq_commands.proofs.FaultsTold.{tells_later}
 use Rattle.acq_tcp.proofs.Reaching.{reached_on, reaches_none, refused_on}
 use Rattle.acq_tcp.proofs.tcp_gathering.TcpGathering.give_rounds.Goals as goal
 
@@ -30,6 +31,7 @@ loop-place-preserved g c =
             one.stays_open h before.1,
           )),
       (λ h. inv.2 (one.was_honest h)),
+      one.store ∙ inv.3,
     )
 
 pub loop-place-init : goal.loop-place-init
@@ -41,4 +43,16 @@ loop-place-init g c = (
     o,
   )),
   (λ h. h),
+  refl,
 )
+
+pub returns-in_err-give_round-clause-store : goal.returns-in_err-give_round-clause-store
+returns-in_err-give_round-clause-store g c =
+    let inv = c.loop-place.invariant in
+    let one = c.in_err-give_round.ensures in
+    let p = err_from_is_err_and c.from_residual.result c.from_residual.ensures.1 in
+    rw (p.1, p.2) (tells_later (Err c.in_err-give_round.field-0.0) _ _ _ inv.3
+    (λ no h o. no h (inv.1 (one.was_honest h) o).1) one.store)
+
+pub returns-clause-store : goal.returns-clause-store
+returns-clause-store g c = c.loop-place.invariant.3

@@ -1,4 +1,4 @@
--- each place stays, and the host took events
+-- each place stays, the host took events, and no call of its store failed
 use Rattle.std.proofs.Common.{◌≡◌, length}
 use Rattle.acq_commands.specs.Listening.{Reaches}
 use Rattle.acq_front.specs.Stops.{left_of}
@@ -9,3 +9,4 @@ invariant-loop-place g l = (length l.self.places.items ≡ l.place-end)
     × (g.B.Book.is_honest l.host → g.B.Book.is_open l.fn.host →
     Reaches (g.B.Book.tables l.fn.host) (left_of g.B.Book l.host) × g.B.Book.is_open l.host)
     × (g.B.Book.is_honest l.host → g.B.Book.is_honest l.fn.host)
+    × (g.B.Book.failures l.host ≡ g.B.Book.failures l.fn.host)

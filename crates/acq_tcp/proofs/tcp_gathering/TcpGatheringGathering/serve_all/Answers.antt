@@ -1,6 +1,8 @@
+use Rattle.std.proofs.Common.{Err, refl, ◌∙◌}
 use Rattle.std.proofs.lemmas.Result.{err_from_is_err_and}
 use Rattle.acq_front.specs.Stops.{left_of}
 use Rattle.acq_front.proofs.StopsLeave.{none_stop}
+use Rattle.acq_commands.proofs.FaultsTold.{tells_later}
 use Rattle.acq_tcp.proofs.Reaching.{reached_on, reaches_none, refused_on}
 use Rattle.acq_tcp.proofs.tcp_gathering.TcpGatheringGathering.serve_all.Goals as goal
 
@@ -15,20 +17,62 @@ returns-in_err-give_rounds g c = record {
       (refused_on (g.B.Book.tables c.args.host.now) (left_of g.B.Book c.loop.host)
       (left_of g.B.Book c.give_rounds.new.host)
       c.in_err-give_rounds.field-0.0 before.0 (one.reaches h before.1));
+  store =
+      let inv = c.loop.invariant in
+      let one = c.in_err-give_rounds.ensures in
+      let p = err_from_is_err_and c.from_residual.result c.from_residual.ensures.1 in
+      rw (p.1, p.2) (tells_later (Err c.in_err-give_rounds.field-0.0) _ _ _ inv.2
+      (λ no h o. no h (inv.0 (one.was_honest h) o).1) one.store);
+}
+
+pub returns-in_err-give_control_rounds : goal.returns-in_err-give_control_rounds
+returns-in_err-give_control_rounds g c = record {
+  reaches = λ h o.
+      let inv = c.loop.invariant in
+      let one = c.in_ok-give_rounds.ensures in
+      let two = c.in_err-give_control_rounds.ensures in
+      let was = two.was_honest h in
+      let before = inv.0 (one.was_honest was) o in
+      let p = err_from_is_err_and c.from_residual-in_err-give_control_rounds.result
+      c.from_residual-in_err-give_control_rounds.ensures.1 in
+      rw (p.1, p.2)
+      (refused_on (g.B.Book.tables c.args.host.now) (left_of g.B.Book c.give_rounds.new.host)
+      (left_of g.B.Book c.give_control_rounds.new.host)
+      c.in_err-give_control_rounds.field-0.0
+      (reached_on (g.B.Book.tables c.args.host.now) (left_of g.B.Book c.loop.host)
+      (left_of g.B.Book c.give_rounds.new.host) before.0 (one.reaches was before.1))
+      (two.reaches h (one.stays_open was before.1)));
+  store =
+      let inv = c.loop.invariant in
+      let one = c.in_ok-give_rounds.ensures in
+      let two = c.in_err-give_control_rounds.ensures in
+      let p = err_from_is_err_and c.from_residual-in_err-give_control_rounds.result
+      c.from_residual-in_err-give_control_rounds.ensures.1 in
+      rw (p.1, p.2) (tells_later (Err c.in_err-give_control_rounds.field-0.0) _ _ _
+      (one.store ∙ inv.2)
+      (λ no h o.
+      let was = two.was_honest h in
+      no h (one.stays_open was (inv.0 (one.was_honest was) o).1)) two.store);
 }
 
 pub loop-preserved : goal.loop-preserved
 loop-preserved g c =
     let inv = c.loop.invariant in
-    let one = c.in_ok-give_rounds.ensures in (
+    let one = c.in_ok-give_rounds.ensures in
+    let two = c.in_ok-give_control_rounds.ensures in (
       (λ h o.
-          let before = inv.0 (one.was_honest h) o in (
-            reached_on (g.B.Book.tables c.args.host.now) (left_of g.B.Book c.loop.host)
-                (left_of g.B.Book c.give_rounds.new.host)
-                before.0 (one.reaches h before.1),
-            one.stays_open h before.1,
+          let was = two.was_honest h in
+          let before = inv.0 (one.was_honest was) o in
+          let mid = one.stays_open was before.1 in (
+            reached_on (g.B.Book.tables c.args.host.now) (left_of g.B.Book c.give_rounds.new.host)
+                (left_of g.B.Book c.give_control_rounds.new.host)
+                (reached_on (g.B.Book.tables c.args.host.now) (left_of g.B.Book c.loop.host)
+                (left_of g.B.Book c.give_rounds.new.host) before.0 (one.reaches was before.1))
+                (two.reaches h mid),
+            two.stays_open h mid,
           )),
-      (λ h. inv.1 (one.was_honest h)),
+      (λ h. inv.1 (one.was_honest (two.was_honest h))),
+      two.store ∙ one.store ∙ inv.2,
     )
 
 pub loop-init : goal.loop-init
@@ -39,4 +83,5 @@ loop-init g c = (
     o,
   )),
   (λ h. h),
+  refl,
 )

@@ -10,4 +10,5 @@ returns g c = record {
     tables = refl;
     stop = none_stop g.B.Book g.met.B.Book.settled g.met.B.Book.stored c.args._host.now o;
   };
+  store = refl;
 }

@@ -1,0 +1,135 @@
+-- What is left where a question was done, or not to the end.
+use Rattle.std.proofs.Common.{◌≡◌, Bool, true, false, [], ◌∷◌, Option, Some, None}
+use Rattle.std.proofs.Common.{inl, refl, arith}
+use Rattle.acq_core.specs.Arrivals.{arrival_of}
+use Rattle.acq_core.specs.Tables.{step_tables}
+use Rattle.acq_book.specs.declared.book.Book.{Ghosts}
+use Rattle.acq_book.specs.Calls.{Looks, Makes}
+use Rattle.acq_host.proofs.Runs.{LeavesTables}
+use Rattle.acq_front.specs.Stops.{LeavesAll, left_of}
+use Rattle.acq_front.proofs.StopsLeave.{refused_stop, taken_stop}
+use Rattle.acq_control.specs.declared.question.Question.{Question}
+use Rattle.acq_control.specs.declared.question.Question.TheVariants as question
+use Rattle.acq_control.specs.Answers.{events_asked, tables_behind}
+use Rattle.acq_control.specs.Doing.{Does, DoesSome}
+use Rattle.acq_control.specs.Ends.{RefusesLine}
+
+-- what every question leaves
+pub record Kept {S : Type 0} (book : Ghosts S) (a c : S) (done : Bool) : Type 0 where
+  pub was_honest : book.is_honest c → book.is_honest a
+  pub stays_open : done ≡ true → book.is_honest c → book.is_open a → book.is_open c
+
+module _ {S : Type 0} (book : Ghosts S) (a c : S) where
+  looked : (done : Bool) → Looks book a c done → Kept book a c done
+  looked done looks = record { was_honest = looks.was_honest; stays_open = looks.stays_open }
+
+  pub does_kept : (asked : Option Question) (done : Bool) → Does book a c asked done →
+      Kept book a c done
+  does_kept (Some (question.Event event)) done makes =
+      record { was_honest = makes.was_honest; stays_open = makes.stays_open }
+  does_kept (Some (question.Report report)) done looks = looked done looks
+  does_kept (Some (question.Holds merchant moment)) done looks = looked done looks
+  does_kept (Some question.Stop) done looks = looked done looks
+  does_kept None done looks = looked done looks
+
+  module _ (honest : book.is_honest c) (opened : book.is_open a) where
+    looked_tables : Looks book a c true → book.tables c ≡ book.tables a
+    looked_tables looks = looks.same (looks.stays_open refl honest opened)
+
+    -- the tables behind it
+    pub done_tables : (asked : Option Question) → Does book a c asked true →
+        book.tables c ≡ tables_behind (book.tables a) asked
+    done_tables (Some (question.Event event)) makes =
+        makes.made refl opened (makes.stays_open refl honest opened)
+    done_tables (Some (question.Report report)) looks = looked_tables looks
+    done_tables (Some (question.Holds merchant moment)) looks = looked_tables looks
+    done_tables (Some question.Stop) looks = looked_tables looks
+    done_tables None looks = looked_tables looks
+
+    module _ (settled : LeavesTables book) (stored : (s : S) → book.is_open s → book.leaves_books s)
+      where
+        looked_stop : (done : Bool) → Looks book a c done →
+            LeavesAll (left_of book c) (book.tables a) []
+        looked_stop done looks = record {
+          tables = λ t l. settled a opened t (looks.leaves honest t l);
+          stored = looks.books honest (stored a opened);
+        }
+
+        -- what a stop leaves of it
+        pub done_stop : (asked : Option Question) → Does book a c asked true →
+            LeavesAll (left_of book c) (book.tables a) (events_asked asked)
+        done_stop (Some (question.Event event)) makes =
+            taken_stop book a c event honest opened makes
+        done_stop (Some (question.Report report)) looks = looked_stop true looks
+        done_stop (Some (question.Holds merchant moment)) looks = looked_stop true looks
+        done_stop (Some question.Stop) looks = looked_stop true looks
+        done_stop None looks = looked_stop true looks
+
+        looked_some : (done : Bool) → Looks book a c done →
+            RefusesLine (book.tables a) (left_of book c)
+        looked_some done looks = record {
+          taken = [];
+          in_hand = [];
+          at_most_one = omega arith;
+          tables = λ is. looks.same is;
+          stop = record {
+            tables = λ t l. inl ((looked_stop done looks).tables t l);
+            stored = (looked_stop done looks).stored;
+          };
+        }
+
+        made_some : (event : _) (done : Bool) →
+            Makes book a c done (step_tables (book.tables a) (arrival_of event)) →
+            RefusesLine (book.tables a) (left_of book c)
+        made_some event true makes = record {
+          taken = event ∷ [];
+          in_hand = [];
+          at_most_one = omega arith;
+          tables = λ is. makes.made refl opened is;
+          stop = record {
+            tables = λ t l. inl (makes.settled refl opened honest t l);
+            stored = makes.books opened honest;
+          };
+        }
+        made_some event false makes = record {
+          taken = [];
+          in_hand = event ∷ [];
+          at_most_one = omega arith;
+          tables = λ is. makes.unmade refl opened is;
+          stop = refused_stop book a c event honest opened settled makes;
+        }
+
+        -- where memory or the store refused a call
+        pub some_done : (asked : Option Question) → DoesSome book a c asked →
+            RefusesLine (book.tables a) (left_of book c)
+        some_done (Some (question.Event event)) some = made_some event some.0 some.1
+        some_done (Some (question.Report report)) some = looked_some some.0 some.1
+        some_done (Some (question.Holds merchant moment)) some = looked_some some.0 some.1
+        some_done (Some question.Stop) some = looked_some some.0 some.1
+        some_done None some = looked_some some.0 some.1
+
+-- nothing was called
+pub untouched : {S : Type 0} (book : Ghosts S) (a : S) (done : Bool) → Looks book a a done
+untouched book a done = record {
+  was_honest = λ h. h;
+  was_open = λ o. o;
+  stays_open = λ s h o. o;
+  shuts = λ h o. inl o;
+  same = λ o. refl;
+  leaves = λ h t l. l;
+  books = λ h b. b;
+  rise = omega arith;
+  counts = omega arith;
+}
+
+-- nothing was in hand
+pub none_refused : {S : Type 0} (book : Ghosts S) (a : S) → book.is_open a → LeavesTables book →
+    ((s : S) → book.is_open s → book.leaves_books s) →
+    RefusesLine (book.tables a) (left_of book a)
+none_refused book a opened settled stored = record {
+  taken = [];
+  in_hand = [];
+  at_most_one = omega arith;
+  tables = λ is. refl;
+  stop = record { tables = λ t l. inl (settled a opened t l); stored = stored a opened };
+}

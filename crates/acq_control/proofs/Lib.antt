@@ -1,0 +1,5 @@
+mod FirstLine
+pub mod Following
+mod Doing
+mod Turning
+mod Rounds

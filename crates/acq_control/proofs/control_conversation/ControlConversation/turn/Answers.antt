@@ -1,0 +1,39 @@
+use Rattle.std.proofs.Common.{arith}
+use Rattle.std.proofs.lemmas.Result.{err_from_is_err_and}
+use Rattle.acq_control.proofs.Doing.{none_refused, some_done}
+use Rattle.acq_control.proofs.Turning.{line_taken}
+use Rattle.acq_control.proofs.control_conversation.ControlConversation.turn.Goals as goal
+
+pub returns-in_err-line-clause-steps : goal.returns-in_err-line-clause-steps
+returns-in_err-line-clause-steps g c = λ h o.
+    let p = err_from_is_err_and c.from_residual.result c.from_residual.ensures.1 in
+    rw p.1 (none_refused g.B.Book c.args.host.now o g.met.B.Book.settled g.met.B.Book.stored)
+
+pub returns-in_default-checked_add-clause-steps : goal.returns-in_default-checked_add-clause-steps
+returns-in_default-checked_add-clause-steps g c = λ h o.
+    none_refused g.B.Book c.args.host.now o g.met.B.Book.settled g.met.B.Book.stored
+
+pub returns-in_err-asked-clause-steps : goal.returns-in_err-asked-clause-steps
+returns-in_err-asked-clause-steps g c = λ h o.
+    let p = err_from_is_err_and c.from_residual-in_err-asked.result
+    c.from_residual-in_err-asked.ensures.1 in
+    rw p.1 (none_refused g.B.Book c.args.host.now o g.met.B.Book.settled g.met.B.Book.stored)
+
+pub returns-in_err-answer-clause-steps : goal.returns-in_err-answer-clause-steps
+returns-in_err-answer-clause-steps g c = λ h o.
+    let p = err_from_is_err_and c.from_residual-in_err-answer.result
+    c.from_residual-in_err-answer.ensures.1 in
+    rw p.1
+    (some_done g.B.Book c.args.host.now c.answer_to.new.host h o g.met.B.Book.settled
+    g.met.B.Book.stored c.in_ok-asked.asked c.in_err-answer.ensures.refused)
+
+pub returns-clause-steps : goal.returns-clause-steps
+returns-clause-steps g c = λ h o.
+    let begins = rw c.in-Some.is at c.in_ok-line.ensures.some in
+    let asks = rw c.as_slice.ensures.value at c.in_ok-asked.ensures in
+    rw c.after.ensures
+    (line_taken (g.C.Clock.may_give c.args.clock.now) g.B.Book c.args.host.now
+    c.answer_to.new.host h o g.met.B.Book.settled g.met.B.Book.stored _ _
+    c.in-Some.line.items c.now.result c.in_ok-asked.asked c.is_stop-stops.result begins
+    c.now.ensures.given asks c.in_ok-answer.ensures.does (c.in_ok-answer.ensures.answers h o)
+    (omega (arith, c.in-Some-checked_add.ensures)) c.is_stop-stops.ensures)

@@ -1,0 +1,43 @@
+-- What a host says to the questions of a control connection.
+use Rattle.std.specs.Prelude.{ℕ, List, [], ◌∷◌, ◌++◌, codes, length, Option, Some, None}
+use Rattle.std.specs.Fmt.{decimal}
+use Rattle.acq_core.specs.declared.event.Event.{Event}
+use Rattle.acq_core.specs.Arrivals.{arrival_of}
+use Rattle.acq_core.specs.Tables.{Tables, step_output, tables_after}
+use Rattle.acq_out.specs.OutputLines.{line_of}
+use Rattle.acq_reports.specs.OpenHolds.{holds_text}
+use Rattle.acq_reports.specs.Refusals.{day_refusal, merchant_refusal}
+use Rattle.acq_reports.specs.declared.report_fault.ReportFault.{ReportFault}
+use Rattle.acq_commands.specs.DayReports.{report_text}
+use Rattle.acq_commands.specs.Faults.{fault_line, of_report}
+use Rattle.acq_commands.specs.declared.fault.Fault.TheVariants.{BadLine}
+use Rattle.acq_control.specs.declared.question.Question.{Question}
+use Rattle.acq_control.specs.declared.question.Question.TheVariants as question
+
+-- a text: how many bytes it has, and then these
+abbrev pub text_answer : List ℕ → List ℕ
+text_answer text = codes "text " ++ decimal (length text) ++ codes "\n" ++ text
+
+-- a text, or the fault for which it is refused
+abbrev pub text_unless_refused : Option ReportFault → List ℕ → List ℕ
+text_unless_refused None text = text_answer text
+text_unless_refused (Some fault) text = fault_line (of_report fault)
+
+-- what is said to the line of this number, by what it asks
+abbrev pub answer_of : Tables → ℕ → Option Question → List ℕ
+answer_of t number None = fault_line (BadLine number)
+answer_of t number (Some (question.Event event)) = line_of (step_output t (arrival_of event))
+answer_of t number (Some (question.Report asked)) =
+    text_unless_refused (day_refusal t asked.day) (report_text t asked)
+answer_of t number (Some (question.Holds merchant moment)) =
+    text_unless_refused (merchant_refusal t merchant) (holds_text t merchant moment)
+answer_of t number (Some question.Stop) = codes "stopping\n"
+
+-- the event that a question is, if it is one
+abbrev pub events_asked : Option Question → List Event
+events_asked (Some (question.Event event)) = event ∷ []
+events_asked other = []
+
+-- the tables behind a question
+abbrev pub tables_behind : Tables → Option Question → Tables
+tables_behind t asked = tables_after t (events_asked asked)

@@ -1,0 +1,37 @@
+-- What a host does for a question.
+use Rattle.std.specs.Prelude.{◌≡◌, ◌≢◌, Bool, true, Option, Some, Result, Err}
+use Rattle.acq_core.specs.Arrivals.{arrival_of}
+use Rattle.acq_core.specs.Tables.{step_tables}
+use Rattle.acq_book.specs.Calls.{Looks, Makes}
+use Rattle.acq_book.specs.declared.book.Book.{Ghosts}
+use Rattle.acq_book.specs.declared.book_fault.BookFault.{BookFault}
+use Rattle.acq_book.specs.declared.book_fault.BookFault.TheVariants.{Store}
+use Rattle.acq_reports.specs.Faults.{StoreFailed, is_settled}
+use Rattle.acq_reports.specs.declared.report_fault.ReportFault as report
+use Rattle.acq_control.specs.declared.question.Question.{Question}
+use Rattle.acq_control.specs.declared.question.Question.TheVariants as question
+
+-- an event is taken, or is not; for any other question the tables are looked at
+abbrev pub Does : {S : Type 0} → Ghosts S → S → S → Option Question → Bool → Type 0
+Does book old new (Some (question.Event event)) done =
+    Makes book old new done (step_tables (book.tables old) (arrival_of event))
+Does book old new other done = Looks book old new done
+
+-- so it is, and perhaps not to the end
+abbrev pub DoesSome : {S : Type 0} → Ghosts S → S → S → Option Question → Type 0
+DoesSome book old new asked = (done : Bool) × Does book old new asked done
+
+-- neither memory nor the store refused a text
+abbrev pub IsSettled : Result (Unit {0}) report.ReportFault → Type 0
+IsSettled made = is_settled made ≡ true
+
+-- the store's fault is told exactly where the text was refused for it
+abbrev pub TellsAs : Result (Unit {0}) BookFault → Result (Unit {0}) report.ReportFault → Type 0
+TellsAs (Err Store) made = made ≡ Err report.TheVariants.Store
+TellsAs other made = made ≢ Err report.TheVariants.Store
+
+-- A fault of the store is told where a call of it failed, or of a book that doesn't add up. Unless
+-- it is told, no call of the store failed.
+abbrev pub TellsStore : {S T : Type 0} → Ghosts S → S → S → Result T BookFault → Type 0
+TellsStore book old new (Err Store) = StoreFailed book old new
+TellsStore book old new other = book.failures new ≡ book.failures old

@@ -1,0 +1,82 @@
+-- One end of a control connection, a turn at a time.
+use Rattle.std.specs.Prelude.{◌≡◌, ◌+◌, ◌≤◌, ◌++◌, ℕ, Bool, true, false, List, [], length, drop}
+use Rattle.std.specs.Prelude.{Option, Result, Ok, Err, if◌then◌else◌}
+use Rattle.acq_link.specs.MemorySink.{sent_of}
+use Rattle.acq_core.specs.declared.event.Event.{Event}
+use Rattle.acq_core.specs.Tables.{Tables, tables_after}
+use Rattle.acq_front.specs.Stops.{Left, LeavesAll, LeavesSome}
+use Rattle.acq_book.specs.declared.book_fault.BookFault.{BookFault}
+use Rattle.acq_control.specs.Lines.{BeginsWithLine, IsInLine}
+use Rattle.acq_control.specs.Questions.{Asks, is_stop}
+use Rattle.acq_control.specs.Answers.{answer_of, events_asked, tables_behind}
+use Rattle.acq_control.specs.declared.control_conversation.ControlConversation.{ControlConversation}
+use Rattle.acq_control.specs.declared.control_turn.ControlTurn.{ControlTurn}
+use Rattle.acq_control.specs.declared.control_turn.ControlTurn.TheVariants.{Waits, Took, Stops}
+use Rattle.acq_control.specs.declared.question.Question.{Question}
+
+-- what came and belongs to no line yet
+abbrev pub held_of : ControlConversation → List ℕ
+held_of c = c.input
+
+-- what of the answer in hand is still to be written
+abbrev pub unsent_of : ControlConversation → List ℕ
+unsent_of c = drop c.gone (sent_of c.answer)
+
+-- how many bytes of it were written
+abbrev pub gone_of : ControlConversation → ℕ
+gone_of c = c.gone
+
+-- how many lines were taken
+abbrev pub taken_of : ControlConversation → ℕ
+taken_of c = c.taken
+
+-- a line was taken that asks that the host ends, or not
+abbrev pub turn_after : Bool → ControlTurn
+turn_after stops = if stops then Stops else Took
+
+-- one end as it stands
+pub record End : Type 0 where
+  pub held : List ℕ
+  pub unsent : List ℕ
+  pub taken : ℕ
+
+abbrev pub end_of : ControlConversation → End
+end_of c = record { held = held_of c; unsent = unsent_of c; taken = taken_of c }
+
+-- Memory or the store refused a call: an event was taken, or was in hand and was not, or there was
+-- none. A stop leaves the tables behind what was taken, or behind that and what was in hand.
+pub record RefusesLine (old : Tables) (left : Left) : Type 0 where
+  pub taken : List Event
+  pub in_hand : List Event
+  pub at_most_one : length (taken ++ in_hand) ≤ 1
+  pub tables : left.is_open → left.tables ≡ tables_after old taken
+  pub stop : LeavesSome left old taken in_hand
+
+module _ (may_give : ℕ → Type 0) (old : Tables) (left : Left) where
+  -- nothing was taken, and a stop leaves the tables as they are
+  pub record WaitsOn (before after : End) : Type 0 where
+    pub tables : left.tables ≡ old
+    pub stop : LeavesAll left old []
+    pub same : after ≡ before
+
+  -- The next line was taken, at a moment that may be given; what it asks was done, and what is to
+  -- be written is what is said to it.
+  pub record TakesLine (before after : End) (asked : Option Question) : Type 0 where
+    pub line : List ℕ
+    pub begins : BeginsWithLine before.held line after.held
+    pub moment : ℕ
+    pub given : may_give moment
+    pub asks : Asks moment line asked
+    pub tables : left.tables ≡ tables_behind old asked
+    pub stop : LeavesAll left old (events_asked asked)
+    pub answers : after.unsent ≡ answer_of old after.taken asked
+    pub count : after.taken ≡ before.taken + 1
+
+  -- one turn
+  abbrev pub Steps : End → End → Result ControlTurn BookFault → Type 0
+  Steps before after (Ok Waits) = WaitsOn before after × IsInLine before.held
+  Steps before after (Ok Took) =
+      (asked : Option Question) × TakesLine before after asked × (is_stop asked ≡ false)
+  Steps before after (Ok Stops) =
+      (asked : Option Question) × TakesLine before after asked × (is_stop asked ≡ true)
+  Steps before after (Err f) = RefusesLine old left

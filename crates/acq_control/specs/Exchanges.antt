@@ -1,0 +1,80 @@
+-- One control connection to a host that has many, a round at a time.
+use Rattle.std.specs.Prelude.{◌≡◌, ◌⊎◌, ℕ, List, [], ◌∷◌, ◌++◌, Option, Result, Err}
+use Rattle.acq_core.specs.Tables.{Tables}
+use Rattle.acq_front.specs.Stops.{Left, LeavesAll}
+use Rattle.acq_front.specs.declared.front_fault.FrontFault.{FrontFault}
+use Rattle.acq_front.specs.declared.front_fault.FrontFault.TheVariants.{Memory, Store}
+use Rattle.acq_control.specs.Answers.{events_asked, tables_behind}
+use Rattle.acq_control.specs.Log.{Act, FollowsActs, asked_by, behind_acts}
+use Rattle.acq_control.specs.Ends as turns
+use Rattle.acq_control.specs.declared.control_exchange.ControlExchange.{ControlExchange}
+use Rattle.acq_control.specs.declared.question.Question.{Question}
+
+-- what passed over a connection so far
+pub record Passed : Type 0 where
+  -- what came, and what of it belongs to no line yet
+  pub came : List ℕ
+  pub held : List ℕ
+  -- what went out, and what of an answer is still to be written
+  pub went : List ℕ
+  pub unsent : List ℕ
+  -- how many lines were taken
+  pub taken : ℕ
+
+module _ {L : Type 0} where
+  abbrev pub line_of : ControlExchange L → L
+  line_of e = e.line
+
+  abbrev pub held_of : ControlExchange L → List ℕ
+  held_of e = turns.held_of e.conversation
+
+  abbrev pub unsent_of : ControlExchange L → List ℕ
+  unsent_of e = turns.unsent_of e.conversation
+
+  abbrev pub taken_of : ControlExchange L → ℕ
+  taken_of e = turns.taken_of e.conversation
+
+  -- what passed over it, by what its line received and sent
+  abbrev pub passed : (L → List ℕ) → (L → List ℕ) → ControlExchange L → Passed
+  passed received sent e = record {
+    came = received (line_of e);
+    held = held_of e;
+    went = sent (line_of e);
+    unsent = unsent_of e;
+    taken = taken_of e;
+  }
+
+-- what passed over connection k follows what was done for all connections to a host
+abbrev pub FollowsLog : ℕ → Tables → List Act → Passed → Type 0
+FollowsLog k t acts p = FollowsActs k t acts p.came p.went p.held p.unsent p.taken
+
+-- where memory or the store stopped it, this holds
+abbrev pub IfRefused : {X : Type 0} → Result X FrontFault → Type 0 → Type 0
+IfRefused (Err Memory) p = p
+IfRefused (Err Store) p = p
+IfRefused other p = Unit {0}
+
+module _ (may_give : ℕ → Type 0) (old : Tables) (left : Left) where
+  -- Nothing was done; and behind any acts the connection goes on to follow them.
+  pub record MovesOn (before after : Passed) : Type 0 where
+    pub tables : left.tables ≡ old
+    pub stop : LeavesAll left old []
+    pub follows : (k : ℕ) (t : Tables) (acts : List Act) → old ≡ behind_acts t acts →
+        FollowsLog k t acts before → FollowsLog k t acts after
+
+  -- A line was taken, at a moment that may be given, and what it asks was done; and behind any acts
+  -- the connection goes on to follow them and this one.
+  pub record AsksOne (before after : Passed) : Type 0 where
+    pub line : List ℕ
+    pub asked : Option Question
+    pub moment : ℕ
+    pub given : may_give moment
+    pub tables : left.tables ≡ tables_behind old asked
+    pub stop : LeavesAll left old (events_asked asked)
+    pub follows : (k : ℕ) (t : Tables) (acts : List Act) → old ≡ behind_acts t acts →
+        FollowsLog k t acts before →
+        FollowsLog k t (acts ++ asked_by k moment line asked ∷ []) after
+
+  -- a round
+  abbrev pub Goes : Passed → Passed → Type 0
+  Goes before after = MovesOn before after ⊎ AsksOne before after

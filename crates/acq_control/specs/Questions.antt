@@ -1,0 +1,118 @@
+-- What a line of a control connection asks (own profile): an event, as an event line spells it; a
+-- text; or that the host ends. The word `now` stands for the moment at which the line is taken.
+use Rattle.std.specs.Prelude.{◌≡◌, ◌≢◌, ◌==◌, ◌&&◌, ◌+◌, ℕ, nat_eq, Bool, List, [], ◌∷◌, ◌++◌, codes}
+use Rattle.std.specs.Prelude.{true, false, drop, take, length, option_map, Option, Some, None, Ok, if◌then◌else◌}
+use Rattle.std.specs.List.{position, starts_with}
+use Rattle.std.specs.Fmt.{decimal}
+use Rattle.std.specs.Borrow.{Bor}
+use Rattle.std.specs.Str.{IsUtf8, bytes_eq}
+use Rattle.day_totals.specs.Day.{IsNoDateText, date_text_of}
+use Rattle.acq_core.specs.declared.event.Event.{Event}
+use Rattle.acq_out.specs.EventLines.{events_of_text}
+use Rattle.acq_out.specs.Fields.{merchant_of_text, moment_of_text}
+use Rattle.acq_commands.specs.declared.report_kind.ReportKind.{ReportKind}
+use Rattle.acq_commands.specs.declared.report_kind.ReportKind.TheVariants as report
+use Rattle.acq_control.specs.declared.question.Question.{Question}
+use Rattle.acq_control.specs.declared.question.Question.TheVariants as question
+use Rattle.acq_control.specs.declared.question_word.QuestionWord.{QuestionWord}
+use Rattle.acq_control.specs.declared.question_word.QuestionWord.TheVariants as word
+
+abbrev pub begins_with : List ℕ → List ℕ → Bool
+begins_with line text = starts_with nat_eq line text
+
+-- which question a line asks
+abbrev pub word_of : List ℕ → QuestionWord
+word_of line =
+    if bytes_eq line (codes "stop") then word.Stop
+    else if begins_with line (codes "clearing,") then word.Clearing
+    else if begins_with line (codes "report,") then word.Report
+    else if begins_with line (codes "holds,") then word.Holds
+    else word.Event
+
+-- ---- events
+
+-- whether `now` stands behind a line's first word
+abbrev pub says_now : List ℕ → List ℕ → Bool
+says_now line first =
+    begins_with line first && begins_with (drop (length first) line) (codes "now,")
+
+-- the first word of an event line that has `now` for its moment
+abbrev pub word_before_now : List ℕ → Option (List ℕ)
+word_before_now line =
+    if says_now line (codes "frame,") then Some (codes "frame,")
+    else if says_now line (codes "answer,") then Some (codes "answer,")
+    else if says_now line (codes "cutover,") then Some (codes "cutover,")
+    else None
+
+-- so it is of a word that is lent
+abbrev pub IsWordBeforeNow : List ℕ → Option (Bor (List ℕ)) → Type 0
+IsWordBeforeNow line found = option_map (λ b. b.now) found ≡ word_before_now line
+
+-- a line with the moment in place of the three bytes behind its first word
+abbrev pub with_moment : ℕ → List ℕ → Option (List ℕ) → List ℕ
+with_moment now line None = line
+with_moment now line (Some first) = first ++ decimal now ++ drop (length first + 3) line
+
+-- an event line with the moment in place of `now`
+abbrev pub at_moment : ℕ → List ℕ → List ℕ
+at_moment now line = with_moment now line (word_before_now line)
+
+-- a list is this one event, or not one
+abbrev pub IsOnlyOne : List Event → Option Question → Type 0
+IsOnlyOne events (Some (question.Event event)) = events ≡ event ∷ []
+IsOnlyOne events None = (event : Event) → events ≢ event ∷ []
+IsOnlyOne events (Some other) = ⊥
+
+-- the line spells one event, or not one
+abbrev pub AsksEvent : ℕ → List ℕ → Option Question → Type 0
+AsksEvent now line (Some (question.Event event)) =
+    events_of_text (at_moment now line) ≡ Ok (event ∷ [])
+AsksEvent now line None =
+    (event : Event) → events_of_text (at_moment now line) ≢ Ok (event ∷ [])
+AsksEvent now line (Some other) = ⊥
+
+-- ---- texts
+
+-- the text is the date of a day, or of none, as what isn't UTF-8 is
+abbrev pub AsksReport : ReportKind → List ℕ → Option Question → Type 0
+AsksReport kind text (Some (question.Report asked)) =
+    (asked.kind ≡ kind) × (text ≡ date_text_of asked.day)
+AsksReport kind text None = IsUtf8 text → IsNoDateText text
+AsksReport kind text (Some other) = ⊥
+
+-- a moment, or now
+abbrev pub moment_at : ℕ → List ℕ → Option ℕ
+moment_at now text = if bytes_eq text (codes "now") then Some now else moment_of_text text
+
+-- a merchant and a moment, where both are there
+abbrev pub holds_at : Option (List ℕ) → Option ℕ → Option Question
+holds_at (Some merchant) (Some moment) = Some (question.Holds merchant moment)
+holds_at _ _ = None
+
+-- the same of the texts before and behind a comma
+abbrev pub holds_about : ℕ → List ℕ → Option ℕ → Option Question
+holds_about now text None = None
+holds_about now text (Some comma) =
+    holds_at (merchant_of_text (take comma text)) (moment_at now (drop (comma + 1) text))
+
+abbrev pub holds_of : ℕ → List ℕ → Option Question
+holds_of now text = holds_about now text (position (λ byte. byte == 44) text)
+
+-- ---- any line
+
+-- whether the host's end is asked
+abbrev pub is_stop : Option Question → Bool
+is_stop (Some question.Stop) = true
+is_stop other = false
+
+-- what a line of this word asks; nothing, where it is out of its form
+abbrev pub AsksBy : QuestionWord → ℕ → List ℕ → Option Question → Type 0
+AsksBy word.Stop now line asked = asked ≡ Some question.Stop
+AsksBy word.Clearing now line asked = AsksReport report.Clearing (drop 9 line) asked
+AsksBy word.Report now line asked = AsksReport report.Settlement (drop 7 line) asked
+AsksBy word.Holds now line asked = asked ≡ holds_of now (drop 6 line)
+AsksBy word.Event now line asked = AsksEvent now line asked
+
+-- what a line asks that is taken at this moment
+abbrev pub Asks : ℕ → List ℕ → Option Question → Type 0
+Asks now line asked = AsksBy (word_of line) now line asked

@@ -1,0 +1,146 @@
+//! One end of a control connection, without its reads and writes.
+
+ghost use Rattle.std.specs.Prelude.{◌≡◌, ◌==◌, ◌+◌, ◌≤◌, ◌++◌, ℕ, [], length, drop, OnOk};
+ghost use Rattle.acq_front.specs.Stops.{left_of};
+ghost use Rattle.acq_control.specs.Doing.{TellsStore};
+ghost use Rattle.acq_control.specs.Lines.{longest_line};
+ghost use Rattle.acq_control.specs.Questions.{is_stop};
+
+use crate::answering::answer_to;
+use crate::control_turn::ControlTurn;
+use crate::line_buffer::LineBuffer;
+use crate::question::Question;
+use crate::reading::question_of;
+use acq_book::{Book, BookFault};
+use acq_front::Clock;
+use acq_host::Host;
+use acq_link::MemorySink;
+use std::alloc::Global;
+
+/// One end of a control connection: what came and belongs to no line yet, and what of an answer is
+/// still to be written. It takes memory for one line and what is said to it.
+#[derive(Drop)]
+pub struct ControlConversation {
+    input: LineBuffer,
+    answer: MemorySink,
+    /// How many bytes of the answer were written.
+    gone: usize,
+    /// How many lines were taken.
+    taken: u64,
+    ghost within: { gone ≤ length answer.bytes.items },
+}
+
+impl ControlConversation {
+    ghost use Rattle.acq_control.specs.Ends.{Steps, end_of, gone_of, held_of, taken_of};
+    ghost use Rattle.acq_control.specs.Ends.{unsent_of};
+
+    /// Nothing came yet, and nothing is to be written.
+    pub fn new(alloc: Global) -> ControlConversation
+        ensures held { held_of result ≡ [] }
+        ensures unsent { unsent_of result ≡ [] }
+        ensures taken { taken_of result ≡ 0 }
+    {
+        ControlConversation {
+            input: LineBuffer::new(),
+            answer: MemorySink::new(alloc),
+            gone: 0,
+            taken: 0,
+        }
+    }
+
+    /// How many bytes it has room for. None is left where it holds the beginning of a line that is
+    /// too long.
+    pub fn room(&self) -> usize
+        ensures { result + length (held_of self.now) ≡ longest_line }
+    {
+        self.input.room()
+    }
+
+    /// Takes in the next piece of what comes.
+    pub fn feed(&mut self, piece: &[u8])
+        requires { length (held_of self.old) + length piece.now ≤ longest_line }
+        ensures held { held_of self.new ≡ held_of self.old ++ piece.now }
+        ensures unsent { unsent_of self.new ≡ unsent_of self.old }
+        ensures taken { taken_of self.new ≡ taken_of self.old }
+    {
+        self.input.feed(piece);
+    }
+
+    /// Whether it holds nothing that belongs to no line yet.
+    pub fn is_between_lines(&self) -> bool
+        ensures { result ≡ (length (held_of self.now) == 0) }
+    {
+        self.input.is_empty()
+    }
+
+    /// How many lines were taken.
+    pub fn taken(&self) -> u64
+        ensures { result ≡ taken_of self.now }
+    {
+        self.taken
+    }
+
+    /// What is to be written before the next turn.
+    pub fn unsent(&self) -> &[u8]
+        ensures { result.now ≡ unsent_of self.now }
+    {
+        &self.answer.as_bytes()[self.gone..]
+    }
+
+    /// How many bytes of it were written.
+    pub fn gone(&self) -> usize
+        ensures { result ≡ gone_of self.now }
+    {
+        self.gone
+    }
+
+    /// So many bytes of it were written.
+    pub fn advance(&mut self, n: usize)
+        requires { n ≤ length (unsent_of self.old) }
+        ensures held { held_of self.new ≡ held_of self.old }
+        ensures unsent { unsent_of self.new ≡ drop n (unsent_of self.old) }
+        ensures taken { taken_of self.new ≡ taken_of self.old }
+    {
+        self.gone += n;
+    }
+
+    /// Has the host do what the next line asks, if one is whole; what is said to it is then to be
+    /// written.
+    pub fn turn<B: Book + Drop, C: Clock>(
+        &mut self,
+        alloc: Global,
+        host: &mut Host<B>,
+        clock: &mut C,
+    ) -> Result<ControlTurn, BookFault>
+        requires { unsent_of self.old ≡ [] }
+        ensures steps { B.is_honest host.new → B.is_open host.old
+            → Steps (C.may_give clock.old) (B.tables host.old) (left_of B.Book host.new)
+            (end_of self.old) (end_of self.new) result }
+        ensures was_honest { B.is_honest host.new → B.is_honest host.old }
+        ensures stays_open { B.is_honest host.new → B.is_open host.old
+            → OnOk result (B.is_open host.new) }
+        ensures given_later { (m : ℕ) → C.may_give clock.new m → C.may_give clock.old m }
+        ensures store { TellsStore B.Book host.old host.new result }
+    {
+        let Some(line) = self.input.take_line(alloc)? else {
+            return Ok(ControlTurn::Waits);
+        };
+        let Some(number) = self.taken.checked_add(1) else {
+            return Err(BookFault::Memory);
+        };
+        let asked = question_of(alloc, line.as_slice(), clock.now())?;
+        let stops = is_stop(&asked);
+        let answer = answer_to(alloc, host, number, asked)?;
+        self.taken = number;
+        self.gone = 0;
+        self.answer = answer;
+        Ok(ControlTurn::after(stops))
+    }
+}
+
+/// Whether a line asks that the host ends.
+fn is_stop(asked: &Option<Question>) -> bool
+    ensures { result ≡ is_stop asked.now }
+{
+    matches!(asked, Some(Question::Stop))
+}

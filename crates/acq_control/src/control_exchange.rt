@@ -1,0 +1,148 @@
+//! Control connections whose lines don't wait.
+
+ghost use Rattle.std.specs.Prelude.{◌≡◌, ◌+◌, ◌++◌, ℕ, List, [], take, drop};
+ghost use Rattle.acq_front.specs.Faults.{IfStore, TellsStore, UnlessRefused};
+ghost use Rattle.acq_front.specs.Faults.{failed_reads, failed_writes};
+ghost use Rattle.acq_front.specs.Stops.{left_of};
+ghost use Rattle.acq_control.specs.Exchanges.{Goes, IfRefused, line_of, passed};
+ghost use Rattle.acq_control.specs.Exchanges.{held_of, taken_of, unsent_of};
+ghost use Rattle.acq_control.specs.Ends.{RefusesLine};
+
+use crate::control_conversation::ControlConversation;
+use crate::control_round::ControlRound;
+use crate::control_turn::ControlTurn;
+use acq_book::Book;
+use acq_front::{Clock, FrontFault, Line};
+use acq_host::Host;
+use std::alloc::Global;
+
+/// The most bytes that are read at once.
+const PIECE: usize = 4096;
+
+/// A control connection: a conversation over a line that doesn't wait. It takes memory for one line
+/// and what is said to it.
+#[derive(Drop)]
+pub struct ControlExchange<L> {
+    line: L,
+    conversation: ControlConversation,
+}
+
+impl<L: Line> ControlExchange<L> {
+    /// A connection from its first byte on.
+    pub fn new(alloc: Global, line: L) -> ControlExchange<L>
+        ensures line { line_of result ≡ line }
+        ensures held { held_of result ≡ [] }
+        ensures unsent { unsent_of result ≡ [] }
+        ensures taken { taken_of result ≡ 0 }
+    {
+        ControlExchange {
+            line,
+            conversation: ControlConversation::new(alloc),
+        }
+    }
+
+    /// Its line.
+    pub fn line(&self) -> &L
+        ensures { result.now ≡ line_of self.now }
+    {
+        &self.line
+    }
+
+    /// Whether something is still to be written.
+    pub fn is_answering(&self) -> bool {
+        !self.conversation.unsent().is_empty()
+    }
+
+    /// One round: writes on what is to be written; or else has the host do what the next line asks;
+    /// or, where none is whole, reads on. A line that is too long ends it (`BadLength`).
+    pub fn round<B: Book + Drop, C: Clock>(
+        &mut self,
+        alloc: Global,
+        host: &mut Host<B>,
+        clock: &mut C,
+    ) -> Result<ControlRound, FrontFault>
+        ensures goes { B.is_honest host.new → B.is_open host.old → UnlessRefused result
+            (Goes (C.may_give clock.old) (B.tables host.old) (left_of B.Book host.new)
+            (passed L.received L.sent self.old) (passed L.received L.sent self.new)) }
+        // Where memory or the store refused a call, an event was in hand or none.
+        ensures refused { B.is_honest host.new → B.is_open host.old → IfRefused result
+            (RefusesLine (B.tables host.old) (left_of B.Book host.new)) }
+        // A fault of reading or writing is told exactly where a read or a write failed.
+        ensures reads { L.read_failures (line_of self.new)
+            ≡ L.read_failures (line_of self.old) + failed_reads result }
+        ensures writes { L.write_failures (line_of self.new)
+            ≡ L.write_failures (line_of self.old) + failed_writes result }
+        // The store's fault comes only where a call of it failed, or of a book that doesn't add up;
+        // and with any other end none failed.
+        ensures store { TellsStore result (B.failures host.old) (B.failures host.new)
+            (¬ (B.is_honest host.new × B.is_open host.old)) }
+        ensures was_honest { B.is_honest host.new → B.is_honest host.old }
+        ensures stays_open { B.is_honest host.new → B.is_open host.old
+            → UnlessRefused result (B.is_open host.new) }
+        ensures given_later { (m : ℕ) → C.may_give clock.new m → C.may_give clock.old m }
+    {
+        if !self.conversation.unsent().is_empty() {
+            return self.send();
+        }
+        match self.conversation.turn(alloc, host, clock)? {
+            ControlTurn::Took => Ok(ControlRound::GoesOn),
+            ControlTurn::Stops => Ok(ControlRound::Stops),
+            ControlTurn::Waits => self.receive(),
+        }
+    }
+
+    /// Writes on.
+    fn send(&mut self) -> Result<ControlRound, FrontFault>
+        ensures received { L.received (line_of self.new) ≡ L.received (line_of self.old) }
+        ensures held { held_of self.new ≡ held_of self.old }
+        ensures taken { taken_of self.new ≡ taken_of self.old }
+        ensures sent { (n : ℕ) × (unsent_of self.new ≡ drop n (unsent_of self.old))
+            × (L.sent (line_of self.new) ≡ L.sent (line_of self.old)
+            ++ take n (unsent_of self.old)) }
+        ensures reads { L.read_failures (line_of self.new)
+            ≡ L.read_failures (line_of self.old) + failed_reads result }
+        ensures writes { L.write_failures (line_of self.new)
+            ≡ L.write_failures (line_of self.old) + failed_writes result }
+        ensures store { IfStore result ⊥ }
+        ensures unrefused { IfRefused result ⊥ }
+    {
+        match self.line.write(self.conversation.unsent()) {
+            Ok(None) => Ok(ControlRound::Waits),
+            Ok(Some(n)) => {
+                self.conversation.advance(n);
+                Ok(ControlRound::GoesOn)
+            }
+            Err(_) => Err(FrontFault::Write(self.conversation.gone() as u64)),
+        }
+    }
+
+    /// Reads on.
+    fn receive(&mut self) -> Result<ControlRound, FrontFault>
+        ensures received { (piece : List ℕ) × (held_of self.new ≡ held_of self.old ++ piece)
+            × (L.received (line_of self.new) ≡ L.received (line_of self.old) ++ piece) }
+        ensures unsent { unsent_of self.new ≡ unsent_of self.old }
+        ensures taken { taken_of self.new ≡ taken_of self.old }
+        ensures sent { L.sent (line_of self.new) ≡ L.sent (line_of self.old) }
+        ensures reads { L.read_failures (line_of self.new)
+            ≡ L.read_failures (line_of self.old) + failed_reads result }
+        ensures writes { L.write_failures (line_of self.new)
+            ≡ L.write_failures (line_of self.old) + failed_writes result }
+        ensures store { IfStore result ⊥ }
+        ensures unrefused { IfRefused result ⊥ }
+    {
+        let mut buffer = [0; PIECE];
+        let room = self.conversation.room().min(PIECE);
+        if room == 0 {
+            return Err(FrontFault::BadLength);
+        }
+        match self.line.read(&mut buffer[..room])? {
+            None => Ok(ControlRound::Waits),
+            Some(0) if self.conversation.is_between_lines() => Ok(ControlRound::Ended),
+            Some(0) => Err(FrontFault::Ended),
+            Some(n) => {
+                self.conversation.feed(&buffer[..n]);
+                Ok(ControlRound::GoesOn)
+            }
+        }
+    }
+}

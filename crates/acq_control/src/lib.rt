@@ -1,0 +1,26 @@
+//! Control connections to a host that serves terminals: lines in, which ask for an event, a text or
+//! the host's end, and what is said to each out.
+//!
+//! A [`ControlConversation`] is one end of such a connection without its reads and writes, as
+//! `Conversation` is one of a terminal's: it is fed with what comes, has the host do what the lines
+//! ask turn by turn, and holds what is to be written. A [`ControlExchange`] is one over a line whose
+//! reads and writes don't wait. What they have to do with one host, among terminals, stands in
+//! `specs/Log.antt` and [`laws`].
+#![tactic(auto)]
+
+mod answering;
+mod control_conversation;
+mod control_exchange;
+mod control_round;
+mod control_turn;
+pub mod laws;
+mod line_buffer;
+mod question;
+mod question_word;
+mod reading;
+
+pub use control_conversation::ControlConversation;
+pub use control_exchange::ControlExchange;
+pub use control_round::ControlRound;
+pub use control_turn::ControlTurn;
+pub use question::Question;

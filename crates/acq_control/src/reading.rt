@@ -1,0 +1,140 @@
+//! What lines ask.
+
+ghost use Rattle.std.specs.Prelude.{◌≡◌, ◌==◌, IfOk, Option};
+ghost use Rattle.std.specs.List.{position};
+ghost use Rattle.acq_control.specs.Questions.{Asks, AsksEvent, AsksReport};
+ghost use Rattle.acq_control.specs.Questions.{at_moment, holds_of, moment_at, says_now};
+ghost use Rattle.acq_control.specs.Questions as spec;
+
+use crate::question::Question;
+use crate::question_word::QuestionWord;
+use acq_commands::{DayReport, ReportKind};
+use acq_core::{Event, Moment};
+use acq_link::SliceSource;
+use acq_out::{OutFault, merchant_of, moment_of, read_events};
+use day_totals::Day;
+use itoa::Buffer;
+use std::alloc::{AllocError, Global};
+use std::str;
+
+/// The word that stands for the moment.
+const NOW: &[u8] = b"now";
+
+/// What a line asks that is taken at this moment, or `None` where it is out of its form (own
+/// profile; `specs/Questions.antt`).
+pub(crate) fn question_of(
+    alloc: Global,
+    line: &[u8],
+    now: Moment,
+) -> Result<Option<Question>, AllocError>
+    ensures { IfOk result (λ asked. Asks now line.now asked) }
+{
+    match QuestionWord::of(line) {
+        QuestionWord::Stop => Ok(Some(Question::Stop)),
+        QuestionWord::Clearing => Ok(report_on(ReportKind::Clearing, &line[9..])),
+        QuestionWord::Report => Ok(report_on(ReportKind::Settlement, &line[7..])),
+        QuestionWord::Holds => Ok(holds_of(&line[6..], now)),
+        QuestionWord::Event => event_of(alloc, line, now),
+    }
+}
+
+/// A report on the day whose date this is.
+fn report_on(kind: ReportKind, date: &[u8]) -> Option<Question>
+    ensures { AsksReport kind date.now result }
+{
+    let Ok(date) = str::from_utf8(date) else {
+        return None;
+    };
+    let day = Day::read(date)?;
+    Some(Question::Report(DayReport { kind, day }))
+}
+
+/// The open holds of the merchant before the first comma, at the moment behind it.
+fn holds_of(text: &[u8], now: Moment) -> Option<Question>
+    ensures { result ≡ holds_of now text.now }
+{
+    let comma = comma_in(text)?;
+    let merchant = merchant_of(&text[..comma])?;
+    let moment = moment_at(&text[comma + 1..], now)?;
+    Some(Question::Holds(merchant, moment))
+}
+
+/// Where the first comma stands, if one does.
+fn comma_in(text: &[u8]) -> Option<usize>
+    ensures { result ≡ position (λ byte. byte == 44) text.now }
+{
+    text.iter().position(|byte| *byte == b',')
+}
+
+/// A moment, or now.
+fn moment_at(text: &[u8], now: Moment) -> Option<Moment>
+    ensures { result ≡ moment_at now text.now }
+{
+    if text == NOW {
+        Some(now)
+    } else {
+        moment_of(text)
+    }
+}
+
+/// The event that a line spells, with the moment in place of `now`.
+fn event_of(alloc: Global, line: &[u8], now: Moment) -> Result<Option<Question>, AllocError>
+    ensures { IfOk result (λ asked. AsksEvent now line.now asked) }
+{
+    let text = at_moment(alloc, line, now)?;
+    let mut input = SliceSource::new(text.as_slice());
+    match read_events(alloc, &mut input) {
+        Ok(events) => Ok(only_one(events)),
+        Err(OutFault::BadLine(_)) => Ok(None),
+        // Nothing is read but memory, so this is memory alone.
+        Err(_) => Err(AllocError),
+    }
+}
+
+/// The one event of a list, or nothing where it isn't one.
+fn only_one(mut events: Vec<Event>) -> Option<Question>
+    ensures { spec.IsOnlyOne events.items result }
+{
+    if events.len() != 1 {
+        return None;
+    }
+    Some(Question::Event(events.pop()?))
+}
+
+/// An event line with the moment in place of `now`.
+fn at_moment(alloc: Global, line: &[u8], now: Moment) -> Result<Vec<u8>, AllocError>
+    ensures { IfOk result (λ text. text.items ≡ at_moment now line.now) }
+{
+    let mut text = Vec::new(alloc);
+    match word_before_now(line) {
+        None => text.extend_from_slice(line)?,
+        Some(first) => {
+            text.extend_from_slice(first)?;
+            text.extend_from_slice(Buffer::new().format(now.seconds()).as_bytes())?;
+            text.extend_from_slice(&line[first.len() + NOW.len()..])?;
+        }
+    }
+    Ok(text)
+}
+
+/// The first word of an event line that has `now` for its moment.
+fn word_before_now(line: &[u8]) -> Option<&'static [u8]>
+    ensures { spec.IsWordBeforeNow line.now result }
+{
+    if says_now(line, b"frame,") {
+        Some(b"frame,")
+    } else if says_now(line, b"answer,") {
+        Some(b"answer,")
+    } else if says_now(line, b"cutover,") {
+        Some(b"cutover,")
+    } else {
+        None
+    }
+}
+
+/// Whether `now` stands behind a line's first word.
+fn says_now(line: &[u8], first: &[u8]) -> bool
+    ensures { result ≡ says_now line.now first.now }
+{
+    line.starts_with(first) && line[first.len()..].starts_with(b"now,")
+}

@@ -1,0 +1,64 @@
+//! Reports on the book of a host, while it takes events.
+
+ghost use Rattle.std.specs.Prelude.{◌≡◌, ◌+◌};
+ghost use Rattle.acq_book.specs.Calls.{Looks};
+ghost use Rattle.acq_reports.specs.ClearingFile.{clearing_text};
+ghost use Rattle.acq_reports.specs.Faults.{CountsStore, TellsStore, failed_writes, is_settled};
+ghost use Rattle.acq_reports.specs.OpenHolds.{holds_text};
+ghost use Rattle.acq_reports.specs.Refusals.{day_refusal, merchant_refusal};
+ghost use Rattle.acq_reports.specs.SettlementReport.{settlement_text};
+ghost use Rattle.acq_reports.specs.Writing.{Reports};
+
+use crate::host::Host;
+use acq_book::Book;
+use acq_core::{MerchantId, Moment};
+use acq_link::Sink;
+use acq_reports::{ReportFault, clearing, open_holds, settlement};
+use day_totals::Day;
+
+impl<B: Book + Drop> Host<B> {
+    /// Writes the clearing file of a day that is over, as `clearing` does.
+    pub fn write_clearing<K: Sink>(&mut self, day: Day, writer: &mut K) -> Result<(), ReportFault>
+        ensures text { B.is_honest self.new → B.is_open self.old → Reports
+            (day_refusal (B.tables self.old) day) (clearing_text (B.tables self.old) day)
+            (K.sent writer.old) (K.sent writer.new) result }
+        ensures writes { K.failures writer.new
+            ≡ K.failures writer.old + failed_writes result }
+        ensures looks { Looks B.Book self.old self.new (is_settled result) }
+        ensures store { TellsStore B.Book self.old self.new result }
+    {
+        clearing(self.alloc, &mut self.book, day, writer)
+    }
+
+    /// Writes the settlement report of a day that is over, as `settlement` does.
+    pub fn write_settlement<K: Sink>(&mut self, day: Day, writer: &mut K) -> Result<(), ReportFault>
+        ensures text { B.is_honest self.new → B.is_open self.old → Reports
+            (day_refusal (B.tables self.old) day) (settlement_text (B.tables self.old) day)
+            (K.sent writer.old) (K.sent writer.new) result }
+        ensures writes { K.failures writer.new
+            ≡ K.failures writer.old + failed_writes result }
+        ensures looks { Looks B.Book self.old self.new (is_settled result) }
+        ensures store { TellsStore B.Book self.old self.new result }
+    {
+        settlement(self.alloc, &mut self.book, day, writer)
+    }
+
+    /// Writes a merchant's open holds, as `open_holds` does.
+    pub fn write_holds<K: Sink>(
+        &mut self,
+        merchant: MerchantId,
+        moment: Moment,
+        writer: &mut K,
+    ) -> Result<(), ReportFault>
+        ensures text { B.is_honest self.new → B.is_open self.old → Reports
+            (merchant_refusal (B.tables self.old) merchant)
+            (holds_text (B.tables self.old) merchant moment)
+            (K.sent writer.old) (K.sent writer.new) result }
+        ensures writes { K.failures writer.new
+            ≡ K.failures writer.old + failed_writes result }
+        ensures looks { Looks B.Book self.old self.new (is_settled result) }
+        ensures store { CountsStore result (B.failures self.old) (B.failures self.new) }
+    {
+        open_holds(self.alloc, &mut self.book, merchant, moment, writer)
+    }
+}

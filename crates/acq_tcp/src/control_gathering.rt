@@ -1,0 +1,211 @@
+//! Control connections that are served beside those of terminals.
+
+ghost use Rattle.std.specs.Prelude.{IfErr, OnOk};
+ghost use Rattle.acq_commands.specs.Faults.{IsOfGathering, TellsStore};
+ghost use Rattle.acq_commands.specs.Listening.{ReachesBy};
+ghost use Rattle.acq_front.specs.Stops.{left_of};
+
+use crate::open_control::OpenControl;
+use crate::time_limits::{TimeLimits, shorter};
+use acq_book::Book;
+use acq_commands::{Fault, end_connection};
+use acq_front::{Clock, FrontFault};
+use acq_host::Host;
+use acq_link::Sink;
+use mio::net::UnixListener;
+use mio::{Interest, Registry, Token};
+use std::alloc::Global;
+use std::io::{self, ErrorKind};
+use std::time::{Duration, Instant};
+
+/// How many control connections are served at once.
+pub(crate) const CONTROLS: usize = 8;
+
+/// Control connections that come in at a socket's file and are served at once, each in its turn.
+#[derive(Drop)]
+pub(crate) struct ControlGathering {
+    listener: UnixListener,
+    /// The token of the first place; those of the others stand behind it.
+    first: usize,
+    places: Vec<Option<OpenControl>>,
+    /// Whether connections may be there that weren't taken yet.
+    may_come: bool,
+    /// Whether one asked that the host ends.
+    has_stopped: bool,
+}
+
+impl ControlGathering {
+    /// The connections of this listener, which waits under this token, and they under the first and
+    /// those behind it.
+    pub(crate) fn new(
+        alloc: Global,
+        mut listener: UnixListener,
+        registry: &Registry,
+        token: Token,
+        first: usize,
+    ) -> Result<ControlGathering, Fault>
+        ensures { IfErr result IsOfGathering }
+    {
+        let mut places = Vec::with_capacity(alloc, CONTROLS)?;
+        for _ in 0..CONTROLS {
+            if places.push(None).is_err() {
+                return Err(Fault::Memory);
+            }
+        }
+        let waits = registry.register(&mut listener, token, Interest::READABLE);
+        if waits.is_err() {
+            return Err(Fault::Read);
+        }
+        Ok(ControlGathering {
+            listener,
+            first,
+            places,
+            may_come: true,
+            has_stopped: false,
+        })
+    }
+
+    /// Whether one asked that the host ends.
+    pub(crate) fn has_stopped(&self) -> bool {
+        self.has_stopped
+    }
+
+    /// Whether something that was said to one is still to be written.
+    pub(crate) fn is_answering(&self) -> bool {
+        self.places.iter().any(|place| place.as_ref().is_some_and(|one| one.is_answering()))
+    }
+
+    /// Takes in the connections that came, while there are places. One that can't be had is told.
+    pub(crate) fn admit<F: Sink>(
+        &mut self,
+        alloc: Global,
+        registry: &Registry,
+        now: Option<Instant>,
+        faults: &mut F,
+    ) {
+        for place in 0..self.places.len() {
+            if !self.may_come {
+                return;
+            }
+            if let Some(None) = self.places.get(place) {
+                if self.fill(alloc, registry, place, now).is_err() {
+                    let _ = end_connection(Err(FrontFault::Read), faults);
+                }
+            }
+        }
+    }
+
+    /// Gives a place to the next connection that came, if one did.
+    fn fill(
+        &mut self,
+        alloc: Global,
+        registry: &Registry,
+        place: usize,
+        now: Option<Instant>,
+    ) -> io::Result<()> {
+        let mut stream = match self.listener.accept() {
+            Ok((stream, _)) => stream,
+            Err(fault) => {
+                self.may_come = false;
+                return if fault.kind() == ErrorKind::WouldBlock {
+                    Ok(())
+                } else {
+                    Err(fault)
+                };
+            }
+        };
+        registry.register(
+            &mut stream,
+            Token(self.first.saturating_add(place)),
+            Interest::READABLE | Interest::WRITABLE,
+        )?;
+        if let Some(empty) = self.places.get_mut(place) {
+            *empty = Some(OpenControl::new(alloc, stream, now));
+        }
+        Ok(())
+    }
+
+    /// The system says that there may be something to do under this token.
+    pub(crate) fn make_ready(&mut self, token: usize) {
+        let Some(place) = token.checked_sub(self.first) else {
+            self.may_come = true;
+            return;
+        };
+        if let Some(Some(connection)) = self.places.get_mut(place) {
+            connection.make_ready();
+        }
+    }
+
+    /// How long none of them has to be looked at: not at all where one is ready.
+    pub(crate) fn time_left(&self, now: Option<Instant>, limits: TimeLimits) -> Option<Duration> {
+        let mut longest = None;
+        for place in self.places.iter() {
+            if let Some(connection) = place {
+                if connection.is_ready() {
+                    return Some(Duration::ZERO);
+                }
+                longest = shorter(longest, connection.time_left(now, limits));
+            }
+        }
+        longest
+    }
+
+    /// Gives each connection that is ready a round.
+    pub(crate) fn give_rounds<B: Book + Drop, C: Clock, F: Sink>(
+        &mut self,
+        alloc: Global,
+        host: &mut Host<B>,
+        clock: &mut C,
+        now: Option<Instant>,
+        limits: TimeLimits,
+        faults: &mut F,
+    ) -> Result<(), Fault>
+        ensures reaches { B.is_honest host.new → B.is_open host.old
+            → ReachesBy (B.tables host.old) (left_of B.Book host.new) result }
+        ensures stays_open { B.is_honest host.new → B.is_open host.old
+            → OnOk result (B.is_open host.new) }
+        ensures was_honest { B.is_honest host.new → B.is_honest host.old }
+        ensures store { TellsStore result (B.failures host.old) (B.failures host.new)
+            (B.is_honest host.new → B.is_open host.old → ⊥) }
+    {
+        for place in 0..self.places.len() {
+            let (place, stopped) = (&mut self.places[place], &mut self.has_stopped);
+            give_round(place, stopped, alloc, host, clock, now, limits, faults)?;
+        }
+        Ok(())
+    }
+}
+
+/// Gives the connection in a place a round, notes whether it asked that the host ends, and frees the
+/// place at its end.
+fn give_round<B: Book + Drop, C: Clock, F: Sink>(
+    place: &mut Option<OpenControl>,
+    stopped: &mut bool,
+    alloc: Global,
+    host: &mut Host<B>,
+    clock: &mut C,
+    now: Option<Instant>,
+    limits: TimeLimits,
+    faults: &mut F,
+) -> Result<(), Fault>
+    ensures reaches { B.is_honest host.new → B.is_open host.old
+        → ReachesBy (B.tables host.old) (left_of B.Book host.new) result }
+    ensures stays_open { B.is_honest host.new → B.is_open host.old
+        → OnOk result (B.is_open host.new) }
+    ensures was_honest { B.is_honest host.new → B.is_honest host.old }
+    ensures store { TellsStore result (B.failures host.old) (B.failures host.new)
+        (B.is_honest host.new → B.is_open host.old → ⊥) }
+{
+    let Some(connection) = place else {
+        return Ok(());
+    };
+    let ended = connection.give_round(alloc, host, clock, now, limits);
+    *stopped = *stopped || connection.has_stopped();
+    match ended {
+        None => Ok(()),
+        Some(ended) => {
+            *place = None;
+            end_connection(ended, faults)
+        }
+    }
+}

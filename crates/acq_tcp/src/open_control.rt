@@ -1,0 +1,115 @@
+//! A control connection among others.
+
+ghost use Rattle.acq_front.specs.Stops.{left_of};
+ghost use Rattle.acq_tcp.specs.Rounds.{IsNotStores, RoundReaches, RoundTells, UnlessRefused};
+
+use crate::time_limits::{TimeLimits, left_of};
+use acq_book::Book;
+use acq_control::{ControlExchange, ControlRound};
+use acq_front::{Clock, FrontFault, StreamLine};
+use acq_host::Host;
+use mio::net::UnixStream;
+use std::alloc::Global;
+use std::time::{Duration, Instant};
+
+/// A control connection among others.
+#[derive(Drop)]
+pub(crate) struct OpenControl {
+    exchange: ControlExchange<StreamLine<UnixStream>>,
+    /// Whether a round may find something to do.
+    is_ready: bool,
+    /// When something last happened.
+    last_moved: Option<Instant>,
+    /// Whether it asked that the host ends.
+    has_stopped: bool,
+}
+
+impl OpenControl {
+    /// A connection that came at this time, where the time is known.
+    pub(crate) fn new(alloc: Global, stream: UnixStream, now: Option<Instant>) -> OpenControl {
+        OpenControl {
+            exchange: ControlExchange::new(alloc, StreamLine::new(stream)),
+            is_ready: true,
+            last_moved: now,
+            has_stopped: false,
+        }
+    }
+
+    /// Whether it asked that the host ends.
+    pub(crate) fn has_stopped(&self) -> bool {
+        self.has_stopped
+    }
+
+    /// Whether a round may find something to do.
+    pub(crate) fn is_ready(&self) -> bool {
+        self.is_ready
+    }
+
+    /// The system says that a round may find something to do.
+    pub(crate) fn make_ready(&mut self) {
+        self.is_ready = true;
+    }
+
+    /// Whether something that was said is still to be written.
+    pub(crate) fn is_answering(&self) -> bool {
+        self.exchange.is_answering()
+    }
+
+    /// For how long it may stay as it is; `None` is for ever.
+    pub(crate) fn time_left(&self, now: Option<Instant>, limits: TimeLimits) -> Option<Duration> {
+        limits.idle.map(|idle| left_of(idle, self.last_moved, now))
+    }
+
+    /// Gives it a round, if it is ready, and returns how it ended, if it did. One that is silent too
+    /// long ended with a failed read.
+    pub(crate) fn give_round<B: Book + Drop, C: Clock>(
+        &mut self,
+        alloc: Global,
+        host: &mut Host<B>,
+        clock: &mut C,
+        now: Option<Instant>,
+        limits: TimeLimits,
+    ) -> Option<Result<(), FrontFault>>
+        ensures reaches { B.is_honest host.new → B.is_open host.old
+            → RoundReaches (B.tables host.old) (left_of B.Book host.new) result }
+        ensures stays_open { B.is_honest host.new → B.is_open host.old
+            → UnlessRefused result (B.is_open host.new) }
+        ensures was_honest { B.is_honest host.new → B.is_honest host.old }
+        ensures store { RoundTells result (B.failures host.old) (B.failures host.new)
+            (B.is_honest host.new → B.is_open host.old → ⊥) }
+    {
+        if !self.is_ready {
+            return self.end_late(now, limits);
+        }
+        match self.exchange.round(alloc, host, clock) {
+            Ok(ControlRound::GoesOn) => {
+                self.last_moved = now;
+                None
+            }
+            Ok(ControlRound::Stops) => {
+                self.has_stopped = true;
+                None
+            }
+            Ok(ControlRound::Waits) => {
+                self.is_ready = false;
+                self.end_late(now, limits)
+            }
+            Ok(ControlRound::Ended) => Some(Ok(())),
+            Err(fault) => Some(Err(fault)),
+        }
+    }
+
+    /// How it ended, if it was silent too long.
+    fn end_late(&self, now: Option<Instant>, limits: TimeLimits) -> Option<Result<(), FrontFault>>
+        ensures { IsNotStores result }
+    {
+        let is_late = self
+            .time_left(now, limits)
+            .is_some_and(|left| left.is_zero());
+        if is_late {
+            Some(Err(FrontFault::Read))
+        } else {
+            None
+        }
+    }
+}
