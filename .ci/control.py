@@ -1,5 +1,5 @@
 #!/usr/bin/env python3
-"""control.py PROGRAM: a control socket beside sixteen terminals, over real sockets.
+"""control.py PROGRAM: a control socket beside sixty-four terminals, over real sockets.
 
 Terminals send sales, cut anywhere, while two control connections cut the day over, enrol a merchant,
 answer and ask for texts. Each terminal is to get what `once` gives on its frames alone, with the cutover
@@ -9,7 +9,7 @@ file alone is the book. The socket's file is its owner's alone; one that a host 
 which a host listens is told as 53."""
 import os, random, select, shutil, signal, socket, stat, subprocess, sys, tempfile, time
 
-TERMINALS, MOMENT = 16, "1714555800"
+TERMINALS, MOMENT = 64, "1714555800"
 
 
 def frame(text):
@@ -41,18 +41,19 @@ def new_book(program, path):
     run([program, "replay", "--db", path], "".join(f"{it}\n" for it in lines).encode())
 
 
-def alone(program, work, k):
-    """What a host of its own gives on a terminal's frames, for each place that the cutover may have."""
-    frames, given, book = frames_of(k), [], f"{work}/alone.db"
-    for cut in range(len(frames) + 1):
-        for path in (book, f"{book}-wal"):
+def alone(program, work):
+    """What each terminal is told where no other one talks, for each place that the cutover may have."""
+    given = [[] for _ in range(TERMINALS)]
+    once = [program, "once", "--db", f"{work}/alone.db", "--issuers", f"{work}/issuers.csv", "--at", MOMENT]
+    for cut in range(len(frames_of(0)) + 1):
+        for path in (f"{work}/alone.db", f"{work}/alone.db-wal"):
             if os.path.exists(path):
                 os.remove(path)
-        new_book(program, book)
-        once = [program, "once", "--db", book, "--issuers", f"{work}/issuers.csv", "--at", MOMENT]
-        before = run(once, b"".join(frames[:cut]))
-        run([program, "replay", "--db", book], b"cutover,1714608000,,,,\n")
-        given.append(before + run(once, b"".join(frames[cut:])))
+        new_book(program, f"{work}/alone.db")
+        before = [run(once, b"".join(frames_of(k)[:cut])) for k in range(TERMINALS)]
+        run([program, "replay", "--db", f"{work}/alone.db"], b"cutover,1714608000,,,,\n")
+        for k in range(TERMINALS):
+            given[k].append(before[k] + run(once, b"".join(frames_of(k)[cut:])))
     return given
 
 
@@ -108,7 +109,7 @@ class Control:
 
 
 def listen(program, work, book, port, control):
-    words = ["listen", "--db", f"{work}/{book}.db", "--port", str(port), "--together", "32", "--control", control,
+    words = ["listen", "--db", f"{work}/{book}.db", "--port", str(port), "--together", str(TERMINALS), "--control", control,
              "--issuers", f"{work}/issuers.csv", "--at", MOMENT]
     return subprocess.Popen([program, *words], stdout=subprocess.PIPE, stderr=subprocess.PIPE)
 
@@ -158,6 +159,7 @@ def main(program):
     try:
         with open(f"{work}/issuers.csv", "w") as it:
             it.write("4111111111111111,approved,A1B2C3\n")
+        wants = alone(program, work)
         new_book(program, f"{work}/book.db")
         control, chance = f"{work}/host.control", random.Random(8583)
         host = listen(program, work, "book", free_port(), control)
@@ -175,7 +177,7 @@ def main(program):
         host = listen(program, work, "book", port, control)
         one, other = Control(control, chance), Control(control, chance)
         got = talk(port, one, other, chance, wanted)
-        wrongly = [k for k in range(TERMINALS) if got[k] not in alone(program, work, k)]
+        wrongly = [k for k in range(TERMINALS) if got[k] not in wants[k]]
         wanted("terminals answered wrongly", wrongly, [])
         texts = {word: one.ask(f"{word},2024-05-01") for word in ("clearing", "report")}
         other.send("stop")
