@@ -4,7 +4,8 @@
 Terminals send sales, cut anywhere, while two control connections cut the day over, enrol a merchant,
 answer and ask for texts. Each terminal is to get what `once` gives on its frames alone, with the cutover
 at some place between them; each control connection gets a line for each of its lines, or a text; the texts
-are those that the commands write of the book afterwards. Then `stop` ends the host with status 0, and its
+of the day that is over, asked for while sales of the next one go on and again behind them, are those that
+the commands write of the book afterwards. Then `stop` ends the host with status 0, and its
 file alone is the book. The socket's file is its owner's alone; one that a host left is replaced, one at
 which a host listens is told as 53."""
 import os, random, select, shutil, signal, socket, stat, subprocess, sys, tempfile, time
@@ -130,7 +131,7 @@ def talk(port, one, other, chance, wanted):
             (other, "enrol,NEW", "acqd: 62 BadLine 3"), (one, "answer,now,NEW,1,none,", "refused 34"),
             (one, "cutover,now,,,,", "done"), (other, "holds,NOBODY,now", "acqd: 37 NoSuchMerchant"),
             (other, "holds,NEW,now", b"reference,card,amount,until\n")]
-    turns = 0
+    early, turns = {}, 0
     while any(left.values()) or asks:
         for end in chance.sample(ends, 4):
             n = chance.choice([1, 3, 50, 300])
@@ -140,13 +141,15 @@ def talk(port, one, other, chance, wanted):
         if asks and turns % 7 == 0:
             asked, line, want = asks.pop(0)
             wanted(line, asked.ask(line), want)
+        if not asks and turns % 7 == 0 and any(left.values()):
+            early = {word: one.ask(f"{word},2024-05-01") for word in ("clearing", "report")}
         for end in select.select(ends, [], [], 0)[0]:
             got[end] += end.recv(65536)
     for end in ends:
         end.shutdown(socket.SHUT_WR)
         while came := end.recv(65536):
             got[end] += came
-    return [got[end] for end in ends]
+    return [got[end] for end in ends], early
 
 
 def main(program):
@@ -176,10 +179,11 @@ def main(program):
         port = free_port()
         host = listen(program, work, "book", port, control)
         one, other = Control(control, chance), Control(control, chance)
-        got = talk(port, one, other, chance, wanted)
+        got, early = talk(port, one, other, chance, wanted)
         wrongly = [k for k in range(TERMINALS) if got[k] not in wants[k]]
         wanted("terminals answered wrongly", wrongly, [])
         texts = {word: one.ask(f"{word},2024-05-01") for word in ("clearing", "report")}
+        wanted("texts while sales go on", early, texts)
         other.send("stop")
         wanted("stop", other.answer(), "stopping")
         out, faults = host.communicate(timeout=60)
