@@ -1,6 +1,6 @@
 -- What each look-up and each walk gives: a filter of the tables' lists.
 use Rattle.std.specs.Prelude.{ℕ, ◌==◌, nat_lt, Bool, true, false, ◌&&◌, List, filter, find}
-use Rattle.std.specs.Prelude.{Option, Some, None, option_map}
+use Rattle.std.specs.Prelude.{Option, Some, None, option_map, length}
 use Rattle.std.specs.List.{list_any}
 use Rattle.std.specs.Str.{bytes_eq}
 use Rattle.std.specs.Ordering.{nat_cmp, ordering_then, is_lt}
@@ -32,6 +32,10 @@ abbrev pub has_terminal_at : Tables → List ℕ → List ℕ → Bool
 has_terminal_at t m id =
     list_any (λ row. bytes_eq row.merchant m && bytes_eq row.id id) t.terminals
 
+-- how many terminals there are, of all merchants
+abbrev pub terminal_count_at : Tables → ℕ
+terminal_count_at t = length t.terminals
+
 -- the range that holds a prefix
 abbrev pub range_at : Tables → ℕ → Option Range
 range_at t prefix = range_of_prefix t.ranges prefix
@@ -39,6 +43,10 @@ range_at t prefix = range_of_prefix t.ranges prefix
 -- of the ranges that overlap these ends, the one of least low
 abbrev pub overlapping_at : Tables → ℕ → ℕ → Option Range
 overlapping_at t low high = overlapped_by (between low high) t.ranges
+
+-- how many ranges there are
+abbrev pub range_count_at : Tables → ℕ
+range_count_at t = length t.ranges
 
 -- the request with this key
 abbrev pub request_at : Tables → RequestKey → Option Request

@@ -4,7 +4,8 @@ ghost use Rattle.std.specs.Prelude.{◌≡◌, ℕ, IfOk, OnOk, OnErr, is_ok};
 ghost use Rattle.acq_core.specs.Tables.{Tables, after};
 ghost use Rattle.acq_core.specs.Pasts.{HasPast};
 ghost use Rattle.acq_book.specs.Fits.{Fits};
-ghost use Rattle.acq_book.specs.Lookups.{merchant_at, has_terminal_at, range_at, overlapping_at};
+ghost use Rattle.acq_book.specs.Lookups.{merchant_at, has_terminal_at, terminal_count_at};
+ghost use Rattle.acq_book.specs.Lookups.{range_at, overlapping_at, range_count_at};
 ghost use Rattle.acq_book.specs.Lookups.{request_at, referred_at, admitted_at, used_at, totals_at};
 ghost use Rattle.acq_book.specs.Lookups.{pending_at, last_reconciliation_at};
 ghost use Rattle.acq_book.specs.Lookups.{postings_at, merchants_at, holds_at, waiting_at};
@@ -77,6 +78,14 @@ pub trait Book {
             failures store_faults self.old self.new (is_ok result) }
         ensures store { CountsFault result (failures self.old) (failures self.new) };
 
+    /// How many terminals there are, of all merchants.
+    fn terminal_count(&mut self) -> Result<u64, BookFault>
+        ensures value { is_open self.new → IfOk result
+            (λ n. n ≡ terminal_count_at (tables self.old)) }
+        ensures looks { LooksBy tables is_honest is_open may_leave leaves_books
+            failures store_faults self.old self.new (is_ok result) }
+        ensures store { CountsFault result (failures self.old) (failures self.new) };
+
     /// The range that holds a prefix.
     fn range(&mut self, prefix: Prefix) -> Result<Option<Range>, BookFault>
         ensures value { is_open self.new → IfOk result
@@ -89,6 +98,14 @@ pub trait Book {
     fn overlapping(&mut self, low: u32, high: u32) -> Result<Option<Range>, BookFault>
         ensures value { is_open self.new → IfOk result
             (λ range. range ≡ overlapping_at (tables self.old) low high) }
+        ensures looks { LooksBy tables is_honest is_open may_leave leaves_books
+            failures store_faults self.old self.new (is_ok result) }
+        ensures store { CountsFault result (failures self.old) (failures self.new) };
+
+    /// How many ranges there are.
+    fn range_count(&mut self) -> Result<u64, BookFault>
+        ensures value { is_open self.new → IfOk result
+            (λ n. n ≡ range_count_at (tables self.old)) }
         ensures looks { LooksBy tables is_honest is_open may_leave leaves_books
             failures store_faults self.old self.new (is_ok result) }
         ensures store { CountsFault result (failures self.old) (failures self.new) };

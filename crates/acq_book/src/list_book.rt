@@ -261,12 +261,20 @@ impl Book for ListBook {
         Ok(self.terminals.has(merchant, id))
     }
 
+    fn terminal_count(&mut self) -> Result<u64, BookFault> {
+        Ok(self.terminals.count())
+    }
+
     fn range(&mut self, prefix: Prefix) -> Result<Option<Range>, BookFault> {
         range_copied(self.alloc, self.ranges.find(prefix))
     }
 
     fn overlapping(&mut self, low: u32, high: u32) -> Result<Option<Range>, BookFault> {
         range_copied(self.alloc, self.ranges.overlapping(low, high))
+    }
+
+    fn range_count(&mut self) -> Result<u64, BookFault> {
+        Ok(self.ranges.as_slice().len() as u64)
     }
 
     fn request(&mut self, key: RequestKey) -> Result<Option<Request>, BookFault> {

@@ -258,6 +258,12 @@ impl<S: Alter> Book for SqlBook<S> {
         counted(&mut self.failures, answer)
     }
 
+    fn terminal_count(&mut self) -> Result<u64, BookFault> {
+        self.settled();
+        let answer = acq_sql_reads::terminal_count(&mut self.connection);
+        counted(&mut self.failures, answer)
+    }
+
     fn range(&mut self, prefix: Prefix) -> Result<Option<Range>, BookFault> {
         self.settled();
         let answer = acq_sql_reads::range(&mut self.connection, self.alloc, prefix);
@@ -267,6 +273,12 @@ impl<S: Alter> Book for SqlBook<S> {
     fn overlapping(&mut self, low: u32, high: u32) -> Result<Option<Range>, BookFault> {
         self.settled();
         let answer = acq_sql_reads::overlapping(&mut self.connection, self.alloc, low, high);
+        counted(&mut self.failures, answer)
+    }
+
+    fn range_count(&mut self) -> Result<u64, BookFault> {
+        self.settled();
+        let answer = acq_sql_reads::range_count(&mut self.connection);
         counted(&mut self.failures, answer)
     }
 

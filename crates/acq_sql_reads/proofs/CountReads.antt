@@ -1,24 +1,29 @@
--- How many requests are pending.
+-- How many requests are pending, and how many terminals and ranges there are.
 use Rattle.std.proofs.Common.{◌≡◌, ◌==◌, ◌&&◌, ◌+◌, ℕ, pos, Bool, true, false, cond, List, [], ◌∷◌}
-use Rattle.std.proofs.Common.{filter, length}
+use Rattle.std.proofs.Common.{filter, length, suc}
 use Rattle.std.proofs.Common.{refl, ap, ◌∙◌, arith}
-use Rattle.sqlite_value.specs.declared.value.Value.TheVariants.{Int}
+use Rattle.sqlite_value.specs.declared.value.Value.TheVariants.{Int, Null}
 use Rattle.sqlite_value.specs.Order.{Row}
 use Rattle.sqlite_sql.specs.Aggregate.{count}
+use Rattle.sqlite_schema.specs.declared.command.Command.TheVariants.{Select}
 use Rattle.sqlite.specs.State.{State, Shown}
+use Rattle.sqlite.proofs.Callers.{reads_as}
+use Rattle.row_lemmas.specs.Queries.{alone}
 use Rattle.row_lemmas.specs.Values.{number}
 use Rattle.row_lemmas.proofs.ColumnTests.{number_test, and_true}
 use Rattle.row_lemmas.proofs.QueryRows.{picked}
+use Rattle.row_lemmas.proofs.CountedRows.{rows_counted}
+use Rattle.row_lemmas.proofs.Elements.{length-map}
 use Rattle.row_lemmas.proofs.ListReads.{shows_count}
 use Rattle.acq_core.specs.declared.request.Request.{Request}
 use Rattle.acq_core.specs.declared.status.Status.{Status}
 use Rattle.acq_core.specs.Tables.{Tables, is_pending}
 use Rattle.acq_core.specs.Tables as tables
 use Rattle.acq_core.proofs.Statuses.{alike}
-use Rattle.acq_book.specs.Lookups.{pending_at}
+use Rattle.acq_book.specs.Lookups.{pending_at, terminal_count_at, range_count_at}
 use Rattle.acq_sql_rows.specs.Schema.{book_schema}
 use Rattle.acq_core.specs.Statuses.{status_number}
-use Rattle.acq_sql_rows.specs.Rows.{request_row}
+use Rattle.acq_sql_rows.specs.Rows.{range_row, request_row, terminal_row}
 use Rattle.acq_sql_rows.specs.Tallies.{Running}
 use Rattle.acq_sql_rows.specs.Relation.{HoldsRows}
 use Rattle.acq_sql_reads.specs.Texts as text
@@ -62,3 +67,31 @@ module _ (day : ℕ) where
       text.pending_text
       (number day ∷ []) _ ask.plain ask.unlisted rows shown query.pending_on [] waits tested ask.is
       ∙ ap (λ n. (count n ∷ []) ∷ []) (counted waits t.requests)
+
+-- ---- whole tables
+
+every : {X : Type 0} (xs : List X) → length (filter (λ x. true) xs) ≡ length xs
+every [] = refl
+every (x ∷ xs) = ap suc (every xs)
+
+pub terminals_counted : (old new : State) (t : Tables) (runs : List Running) (rows : List Row)
+    → HoldsRows old.now t runs → Shown text.terminal_count_text [] old new rows
+    → rows ≡ (count (terminal_count_at t) ∷ []) ∷ []
+terminals_counted old new t runs rows has shown =
+    let ask = asks.terminal_count_asks in
+    shows_count terminal_row book_schema 3 t.terminals old new has.schema has.terminals
+    text.terminal_count_text [] _ ask.plain ask.unlisted rows shown [] [] (λ x. true)
+    (λ id x. refl) ask.is
+    ∙ ap (λ n. (count n ∷ []) ∷ []) (every t.terminals)
+
+-- their rowids are keys of their own
+pub ranges_counted : (old new : State) (t : Tables) (runs : List Running) (rows : List Row)
+    → HoldsRows old.now t runs → Shown text.range_count_text [] old new rows
+    → rows ≡ (count (range_count_at t) ∷ []) ∷ []
+ranges_counted old new t runs rows has shown =
+    let ask = asks.range_count_asks in
+    let read = reads_as text.range_count_text [] old new book_schema has.schema
+    (Select (alone query.range_count_query) _) ask.is ask.plain ask.unlisted rows shown in
+    rows_counted 5 [] old.now.trees [] rows (read.answer Null)
+    ∙ ap (λ n. (count n ∷ []) ∷ [])
+    (every (old.now.trees 5) ∙ (ap length has.ranges ∙ length-map range_row t.ranges))

@@ -129,6 +129,18 @@ unfolding understood everything book_schema schema.up_to_reconciliations schema.
     schema.up_to_book
 pending_alone = record { whole = refl; given = refl }
 
+terminal_count_alone : IsAlone text.terminal_count_text 0
+unfolding understood everything book_schema schema.up_to_reconciliations schema.up_to_postings
+    schema.up_to_requests schema.up_to_ranges schema.up_to_terminals schema.up_to_merchants
+    schema.up_to_book
+terminal_count_alone = record { whole = refl; given = refl }
+
+range_count_alone : IsAlone text.range_count_text 0
+unfolding understood everything book_schema schema.up_to_reconciliations schema.up_to_postings
+    schema.up_to_requests schema.up_to_ranges schema.up_to_terminals schema.up_to_merchants
+    schema.up_to_book
+range_count_alone = record { whole = refl; given = refl }
+
 request_alone : IsAlone text.request_text 5
 unfolding understood everything book_schema schema.up_to_reconciliations schema.up_to_postings
     schema.up_to_requests schema.up_to_ranges schema.up_to_terminals schema.up_to_merchants
@@ -213,6 +225,16 @@ unfolding book_schema schema.up_to_reconciliations schema.up_to_postings schema.
     schema.up_to_ranges schema.up_to_terminals schema.up_to_merchants schema.up_to_book
 typed_pending day = refl
 
+typed_terminal_count : accepts_program book_schema [] query.terminal_count_query [] ≡ true
+unfolding book_schema schema.up_to_reconciliations schema.up_to_postings schema.up_to_requests
+    schema.up_to_ranges schema.up_to_terminals schema.up_to_merchants schema.up_to_book
+typed_terminal_count = refl
+
+typed_range_count : accepts_program book_schema [] query.range_count_query [] ≡ true
+unfolding book_schema schema.up_to_reconciliations schema.up_to_postings schema.up_to_requests
+    schema.up_to_ranges schema.up_to_terminals schema.up_to_merchants schema.up_to_book
+typed_range_count = refl
+
 -- the book's database refuses no query of this kind
 abbrev pub IsNeverRefused : Query → Row → Type 0
 IsNeverRefused q params =
@@ -226,15 +248,18 @@ counted group zero a low at none =
     let one = subst (λ (b : Aggregate). value_over group b ≡ None) (sym at) none in cc
 counted group (suc j) a low at none = absurd (omega arith)
 
-pending_succeeds : (day : ℕ) → IsNeverRefused query.pending_query (number day ∷ [])
-pending_succeeds day db e has (inl h) =
-    true≢false (sym (typed_pending day)
-    ∙ ap (λ s. accepts_program s [] query.pending_query (number day ∷ [])) (sym has) ∙ h.1)
-pending_succeeds day db e has
+count_succeeds : (tree : ℕ) (test : List Term) (params : Row)
+    → accepts_program book_schema [] (query.count_query tree test) params ≡ true
+    → IsNeverRefused (query.count_query tree test) params
+count_succeeds tree test params typed db e has (inl h) =
+    true≢false (sym typed
+    ∙ ap (λ s. accepts_program s [] (query.count_query tree test) params) (sym has) ∙ h.1)
+count_succeeds tree test params typed db e has
     (inr (inl (is, inl (groups, all, (k, group, low, at, (j, a, below, here, none)))))) =
     counted group j a below here none
-pending_succeeds day db e has (inr (inl (is, inr (i, d, low, at, none)))) = absurd none
-pending_succeeds day db e has (inr (inr h)) = true≢false (sym h.1)
+count_succeeds tree test params typed db e has (inr (inl (is, inr (i, d, low, at, none)))) =
+    absurd none
+count_succeeds tree test params typed db e has (inr (inr h)) = true≢false (sym h.1)
 
 -- so the query fails only for memory or since the store failed
 pub query_excused : (old new : State) (sql : List ℕ) (params : Row) (q : Query)
@@ -341,7 +366,17 @@ module _ {V : Type 0} (old new : State) (res : Result V Error) where
       → FailsOnlyExcused old new res
   pending_fails day =
       never text.pending_text (number day ∷ []) query.pending_query _ asks.pending_asks
-      pending_alone (pending_succeeds day)
+      pending_alone (count_succeeds 6 query.pending_on (number day ∷ []) (typed_pending day))
+
+  pub terminal_count_fails : Failed text.terminal_count_text [] → FailsOnlyExcused old new res
+  terminal_count_fails =
+      never text.terminal_count_text [] query.terminal_count_query _ asks.terminal_count_asks
+      terminal_count_alone (count_succeeds 3 [] [] typed_terminal_count)
+
+  pub range_count_fails : Failed text.range_count_text [] → FailsOnlyExcused old new res
+  range_count_fails =
+      never text.range_count_text [] query.range_count_query _ asks.range_count_asks
+      range_count_alone (count_succeeds 5 [] [] typed_range_count)
 
 -- ---- a row that was found
 

@@ -73,6 +73,20 @@ unfolding understood everything book_schema schema.up_to_reconciliations schema.
     schema.up_to_book
 pending_asks = record { is = refl; plain = (refl, refl); unlisted = refl; begins = refl }
 
+pub terminal_count_asks :
+    Asks text.terminal_count_text query.terminal_count_query (codes "count(*)" ∷ [])
+unfolding understood everything book_schema schema.up_to_reconciliations schema.up_to_postings
+    schema.up_to_requests schema.up_to_ranges schema.up_to_terminals schema.up_to_merchants
+    schema.up_to_book
+terminal_count_asks = record { is = refl; plain = (refl, refl); unlisted = refl; begins = refl }
+
+pub range_count_asks :
+    Asks text.range_count_text query.range_count_query (codes "count(*)" ∷ [])
+unfolding understood everything book_schema schema.up_to_reconciliations schema.up_to_postings
+    schema.up_to_requests schema.up_to_ranges schema.up_to_terminals schema.up_to_merchants
+    schema.up_to_book
+range_count_asks = record { is = refl; plain = (refl, refl); unlisted = refl; begins = refl }
+
 pub reconciliation_asks :
     Asks text.reconciliation_text query.reconciliation_query
     (codes "number" ∷ codes "in_balance" ∷ [])

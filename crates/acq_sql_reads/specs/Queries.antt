@@ -1,5 +1,5 @@
 -- What the look-ups mean: which columns of which rows they show.
-use Rattle.std.specs.Prelude.{List, [], ◌∷◌, pos, None, Some}
+use Rattle.std.specs.Prelude.{ℕ, List, [], ◌∷◌, pos, None, Some}
 use Rattle.sqlite_value.specs.declared.keys.Collation.TheVariants.{Binary}
 use Rattle.sqlite_value.specs.declared.value.Value.TheVariants.{Int}
 use Rattle.sqlite_sql.specs.declared.ops.BinaryOp.TheVariants.{Compare}
@@ -26,6 +26,13 @@ terminal_query = plain_query 3 two_are (columns 1 2) []
 abbrev pub running_query : Query
 running_query = plain_query 13 two_are (columns 3 9) []
 
+-- how many rows of a table pass
+abbrev pub count_query : ℕ → List Term → Query
+count_query tree filter = table_query tree filter (Some counting) (column 0 ∷ []) [] no_limit
+
+abbrev pub terminal_count_query : Query
+terminal_count_query = count_query 3 []
+
 -- ---- ranges: low is the rowid
 
 abbrev pub one : Term
@@ -47,6 +54,9 @@ overlapping_query =
     table_query 5 (at_most (param 0) (column 2) ∷ at_most (column 0) (param 1) ∷ []) None
     range_columns ((column 0, rising) ∷ []) one
 
+abbrev pub range_count_query : Query
+range_count_query = count_query 5 []
+
 -- ---- requests
 
 -- status 1 is that of a pending request
@@ -54,7 +64,7 @@ abbrev pub pending_on : List Term
 pending_on = op2 (Compare Eq Binary) (column 8) one ∷ is_param 7 0 ∷ []
 
 abbrev pub pending_query : Query
-pending_query = table_query 6 pending_on (Some counting) (column 0 ∷ []) [] no_limit
+pending_query = count_query 6 pending_on
 
 abbrev pub request_query : Query
 request_query = plain_query 6 key_is (columns 1 18) []

@@ -4,7 +4,8 @@ use Rattle.acq_sql_reads.specs.declared.book_row.TheConstants.{LIMIT_AND_DAY}
 use Rattle.acq_sql_reads.specs.declared.enrolments.TheConstants.{MERCHANT, TERMINAL}
 use Rattle.acq_sql_reads.specs.declared.running.TheConstants.{TOTALS_AND_USED}
 use Rattle.acq_sql_reads.specs.declared.ranges.TheConstants.{NEAREST, OVERLAPPING}
-use Rattle.acq_sql_reads.specs.declared.counts.TheConstants.{PENDING, GREATEST_REFERENCE}
+use Rattle.acq_sql_reads.specs.declared.counts.TheConstants.{PENDING, TERMINAL_COUNT, RANGE_COUNT}
+use Rattle.acq_sql_reads.specs.declared.counts.TheConstants.{GREATEST_REFERENCE}
 use Rattle.acq_sql_reads.specs.declared.reconciliations.TheConstants.{LAST_RECONCILIATION}
 use Rattle.acq_sql_reads.specs.declared.requests.TheConstants.{BY_KEY, BY_REFERENCE}
 
@@ -28,6 +29,12 @@ overlapping_text = OVERLAPPING.now
 
 abbrev pub pending_text : List ℕ
 pending_text = PENDING.now
+
+abbrev pub terminal_count_text : List ℕ
+terminal_count_text = TERMINAL_COUNT.now
+
+abbrev pub range_count_text : List ℕ
+range_count_text = RANGE_COUNT.now
 
 abbrev pub reconciliation_text : List ℕ
 reconciliation_text = LAST_RECONCILIATION.now

@@ -1,6 +1,7 @@
-//! Counts of requests.
+//! Counts of requests, terminals and ranges.
 
-ghost use Rattle.std.specs.Prelude.{◌≡◌, ◌≢◌, ◌≤◌, ◌∷◌, [], true, Some, IfSome, IfOk, IfErr, is_ok};
+ghost use Rattle.std.specs.Prelude.{◌≡◌, ◌≢◌, ◌≤◌, ◌∷◌, [], ℕ, true, Some};
+ghost use Rattle.std.specs.Prelude.{IfSome, IfOk, IfErr, is_ok};
 ghost use Rattle.sqlite_sql.specs.Aggregate.{count};
 ghost use Rattle.sqlite.specs.State.{HasCleanDisk};
 ghost use Rattle.sqlite.specs.Held.{state};
@@ -9,11 +10,12 @@ ghost use Rattle.acq_core.specs.Tables.{Tables};
 ghost use Rattle.acq_core.specs.Numbers.{is_admitted_count};
 ghost use Rattle.acq_core.specs.Pasts.{HasPast};
 ghost use Rattle.acq_book.specs.Lookups.{merchant_at, admitted_at, pending_at};
+ghost use Rattle.acq_book.specs.Lookups.{terminal_count_at, range_count_at};
 ghost use Rattle.acq_sql_rows.specs.Relation.{Holds};
 ghost use Rattle.acq_sql_reads.specs.Looked.{Answers, AnswersWhere, LooksOnly};
 ghost use Rattle.acq_sql_reads.specs.Looked.{ShowsGreatest, TellsCount, count_up_to};
 ghost use Rattle.acq_sql_reads.specs.Failing.{FailsOnlyExcused, FailsOnlyExcusedWhere};
-ghost use Rattle.acq_sql_reads.specs.Failing.{IsEnrolled, IsTold};
+ghost use Rattle.acq_sql_reads.specs.Failing.{FailsForMemory, IsEnrolled, IsTold};
 
 use crate::columns::{count_at, read, reference_if_at};
 use crate::enrolments;
@@ -25,6 +27,10 @@ use sqlite::types::ValueRef;
 use sqlite::{Alter, Connection, Error, ErrorCode, Row};
 
 const PENDING: &str = "SELECT count(*) FROM requests WHERE status = 1 AND day = ?1";
+
+const TERMINAL_COUNT: &str = "SELECT count(*) FROM terminals";
+
+const RANGE_COUNT: &str = "SELECT count(*) FROM ranges";
 
 const GREATEST_REFERENCE: &str = "SELECT reference FROM requests WHERE merchant = ?1 \
     ORDER BY reference DESC LIMIT 1";
@@ -38,10 +44,7 @@ pub fn pending<S: Alter>(conn: &mut Connection<S>, day: Day) -> Result<u64, Erro
         (λ t. IsTold (pending_at t day)) }
 {
     let rows = pending_rows(conn, day)?;
-    match rows.first() {
-        Some(row) => count_at(row, 0),
-        None => Err(Error::SqliteFailure(ErrorCode::DatabaseCorrupt)),
-    }
+    count_of(rows.as_slice())
 }
 
 /// One row with the count.
@@ -53,6 +56,64 @@ fn pending_rows<S: Alter>(conn: &mut Connection<S>, day: Day) -> Result<Vec<Row>
     ensures fails { FailsOnlyExcused (state S.Store conn.old) (state S.Store conn.new) result }
 {
     conn.query_all(PENDING, &[day_value(day)])
+}
+
+/// How many terminals there are, of all merchants.
+pub fn terminal_count<S: Alter>(conn: &mut Connection<S>) -> Result<u64, Error>
+    ensures answers { Answers (state S.Store conn.old) (state S.Store conn.new) result
+        (λ t. terminal_count_at t) }
+    ensures looks { LooksOnly (state S.Store conn.old) (state S.Store conn.new) (is_ok result) }
+    ensures fails { FailsOnlyExcusedWhere (state S.Store conn.old) (state S.Store conn.new) result
+        (λ t. IsTold (terminal_count_at t)) }
+{
+    let rows = terminal_count_rows(conn)?;
+    count_of(rows.as_slice())
+}
+
+/// One row with the count.
+fn terminal_count_rows<S: Alter>(conn: &mut Connection<S>) -> Result<Vec<Row>, Error>
+    ensures answers { HasCleanDisk (state S.Store conn.new) → (t : Tables)
+        → Holds (state S.Store conn.old).now t → IfOk result
+        (λ rows. rows.items ≡ (count (terminal_count_at t) ∷ []) ∷ []) }
+    ensures looks { LooksOnly (state S.Store conn.old) (state S.Store conn.new) (is_ok result) }
+    ensures fails { FailsOnlyExcused (state S.Store conn.old) (state S.Store conn.new) result }
+{
+    conn.query_all(TERMINAL_COUNT, &[])
+}
+
+/// How many ranges there are.
+pub fn range_count<S: Alter>(conn: &mut Connection<S>) -> Result<u64, Error>
+    ensures answers { Answers (state S.Store conn.old) (state S.Store conn.new) result
+        (λ t. range_count_at t) }
+    ensures looks { LooksOnly (state S.Store conn.old) (state S.Store conn.new) (is_ok result) }
+    ensures fails { FailsOnlyExcusedWhere (state S.Store conn.old) (state S.Store conn.new) result
+        (λ t. IsTold (range_count_at t)) }
+{
+    let rows = range_count_rows(conn)?;
+    count_of(rows.as_slice())
+}
+
+/// One row with the count.
+fn range_count_rows<S: Alter>(conn: &mut Connection<S>) -> Result<Vec<Row>, Error>
+    ensures answers { HasCleanDisk (state S.Store conn.new) → (t : Tables)
+        → Holds (state S.Store conn.old).now t → IfOk result
+        (λ rows. rows.items ≡ (count (range_count_at t) ∷ []) ∷ []) }
+    ensures looks { LooksOnly (state S.Store conn.old) (state S.Store conn.new) (is_ok result) }
+    ensures fails { FailsOnlyExcused (state S.Store conn.old) (state S.Store conn.new) result }
+{
+    conn.query_all(RANGE_COUNT, &[])
+}
+
+/// The count that the one row of count(*) tells.
+fn count_of(rows: &[Row]) -> Result<u64, Error>
+    ensures value { IfOk result (λ n. (many : ℕ) → rows.now ≡ (count many ∷ []) ∷ [] → n ≡ many) }
+    ensures fails { (many : ℕ) → rows.now ≡ (count many ∷ []) ∷ [] → IsTold many
+        → FailsForMemory result }
+{
+    match rows.first() {
+        Some(row) => count_at(row, 0),
+        None => Err(Error::SqliteFailure(ErrorCode::DatabaseCorrupt)),
+    }
 }
 
 /// How many of the merchant's requests were admitted: so many references it has given.

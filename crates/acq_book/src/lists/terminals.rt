@@ -1,6 +1,7 @@
 //! Terminals at merchants.
 
-ghost use Rattle.std.specs.Prelude.{◌≡◌, ◌+◌, ◌<◌, ◌≤◌, ◌++◌, ◌∷◌, [], ◌&&◌, false, None, OnOk};
+ghost use Rattle.std.specs.Prelude.{◌≡◌, ◌+◌, ◌<◌, ◌≤◌, ◌++◌, ◌∷◌, [], ◌&&◌, false, None};
+ghost use Rattle.std.specs.Prelude.{length, OnOk};
 ghost use Rattle.std.specs.List.{list_any};
 ghost use Rattle.std.specs.Str.{bytes_eq};
 ghost use Rattle.indexmap.specs.IndexMap.{get, spare};
@@ -51,6 +52,13 @@ impl Terminals {
             ≡ list_any (λ row. bytes_eq row.merchant merchant && bytes_eq row.id id) self.now.rows }
     {
         self.rows.contains_key(&MerchantTerminal { merchant, id })
+    }
+
+    /// How many terminals there are, of all merchants.
+    pub fn count(&self) -> u64
+        ensures { result ≡ length self.now.rows }
+    {
+        self.rows.len() as u64
     }
 
     /// Makes room for one more.
