@@ -54,6 +54,13 @@ impl<L: Line> Exchange<L> {
         &self.line
     }
 
+    /// What of a reply is still to be written, as a frame's bytes.
+    pub fn unsent(&self) -> &[u8]
+        ensures { result.now ≡ unsent_of self.now }
+    {
+        self.conversation.unsent()
+    }
+
     /// One round: writes on what is to be written; or else has the host take the next message, with
     /// its issuer's answer where one is asked; or, where none is whole, reads on.
     pub fn round<B: Book + Drop, C: Clock, I: Issuer>(

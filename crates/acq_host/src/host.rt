@@ -12,6 +12,7 @@ ghost use Rattle.acq_host.specs.Headline.{IsAlone, KeptItsPostings};
 ghost use Rattle.acq_core.specs.Pasts.{HasPast};
 ghost use Rattle.acq_host.specs.Runs.{CountsRun, IsWellSaid, StopsAt, after_first};
 
+mod looking;
 mod reporting;
 
 use crate::deciding::{apply, decide};

@@ -1,12 +1,14 @@
 //! The host: it takes events, one whole after the other, over any book.
 #![tactic(auto)]
 
+mod book_text;
 mod deciding;
 mod host;
 mod laws;
 mod looking_up;
 mod run_fault;
 
+pub use book_text::BookText;
 pub use host::Host;
 pub use laws::{repeats_are_quiet, same_in_two_runs};
 pub use run_fault::RunFault;

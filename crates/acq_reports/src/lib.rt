@@ -27,6 +27,7 @@ mod sums;
 
 pub use clearing_file::clearing;
 pub use holds::open_holds;
+pub use names::merchant_names;
 pub use records::{content_bytes, record_text, reference_text};
 pub use report::Report;
 pub use report_fault::ReportFault;

@@ -34,10 +34,7 @@ impl Visit<Merchant> for Names {
 }
 
 /// The names of all merchants, in order of their bytes.
-pub(crate) fn merchant_names<B: Book>(
-    alloc: Global,
-    book: &mut B,
-) -> Result<Vec<MerchantId>, BookFault>
+pub fn merchant_names<B: Book>(alloc: Global, book: &mut B) -> Result<Vec<MerchantId>, BookFault>
     ensures names { B.is_honest book.new → B.is_open book.old → IfOk result (λ names.
         names.items ≡ names_of (merchants_at (B.tables book.old))) }
     ensures looks { Looks B.Book book.old book.new (is_ok result) }

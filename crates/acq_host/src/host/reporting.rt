@@ -1,6 +1,6 @@
 //! Reports on the book of a host, while it takes events.
 
-ghost use Rattle.std.specs.Prelude.{◌≡◌, ◌+◌};
+ghost use Rattle.std.specs.Prelude.{◌≡◌, ◌+◌, None};
 ghost use Rattle.acq_book.specs.Calls.{Looks};
 ghost use Rattle.acq_reports.specs.ClearingFile.{clearing_text};
 ghost use Rattle.acq_reports.specs.Faults.{CountsStore, TellsStore, failed_writes, is_settled};
@@ -9,6 +9,7 @@ ghost use Rattle.acq_reports.specs.Refusals.{day_refusal, merchant_refusal};
 ghost use Rattle.acq_reports.specs.SettlementReport.{settlement_text};
 ghost use Rattle.acq_reports.specs.Writing.{Reports};
 
+use crate::book_text::BookText;
 use crate::host::Host;
 use acq_book::Book;
 use acq_core::{MerchantId, Moment};
@@ -60,5 +61,20 @@ impl<B: Book + Drop> Host<B> {
         ensures store { CountsStore result (B.failures self.old) (B.failures self.new) }
     {
         open_holds(self.alloc, &mut self.book, merchant, moment, writer)
+    }
+    /// Writes another text of the book.
+    pub fn write_text<X: BookText, K: Sink>(
+        &mut self,
+        asked: &X,
+        writer: &mut K,
+    ) -> Result<(), ReportFault>
+        ensures text { B.is_honest self.new → B.is_open self.old → Reports None
+            (X.text asked.now (B.tables self.old)) (K.sent writer.old) (K.sent writer.new) result }
+        ensures writes { K.failures writer.new
+            ≡ K.failures writer.old + failed_writes result }
+        ensures looks { Looks B.Book self.old self.new (is_settled result) }
+        ensures store { CountsStore result (B.failures self.old) (B.failures self.new) }
+    {
+        asked.write(self.alloc, &mut self.book, writer)
     }
 }

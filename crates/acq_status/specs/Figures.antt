@@ -1,0 +1,91 @@
+-- What a status tells of a book.
+use Rattle.std.specs.Prelude.{ℕ, ◌+◌, ◌-◌, List, [], ◌∷◌, length, map, Option, Some, None}
+use Rattle.std.specs.Prelude.{option_map}
+use Rattle.std.specs.Option.{option_map_or}
+use Rattle.std.specs.List.{range_with_len, sum_by}
+use Rattle.acq_core.specs.declared.request.Request.{Request}
+use Rattle.acq_core.specs.Tables.{Tables}
+use Rattle.acq_book.specs.Lookups.{merchants_at, pending_at, range_count_at, terminal_count_at}
+use Rattle.acq_book.specs.Lookups.{used_at, waiting_at}
+use Rattle.acq_reports.specs.SettlementReport.{names_of}
+use Rattle.acq_status.specs.declared.book_figures.BookFigures.{BookFigures}
+use Rattle.acq_status.specs.declared.first_waiting.Waiting.{Waiting}
+use Rattle.acq_status.specs.declared.pending_day.PendingDay.{PendingDay}
+
+-- how many messages of these merchants count against the limit of a day
+abbrev pub requests_of : Tables → ℕ → List (List ℕ) → ℕ
+requests_of t day names = sum_by (λ name. used_at t name day) names
+
+-- those of all merchants
+abbrev pub requests_on : Tables → ℕ → ℕ
+requests_on t day = requests_of t day (names_of (merchants_at t))
+
+-- the first of some rows, if there is one
+abbrev pub first_of : {X : Type 0} → List X → Option X
+first_of [] = None
+first_of (x ∷ xs) = Some x
+
+-- what is told of a request that waits
+abbrev pub waiting_of : Request → Waiting
+waiting_of row = record { day = row.day; sent = row.key.transmission }
+
+-- the request that has waited the longest for its issuer's answer
+abbrev pub first_waiting : Tables → Option Request
+first_waiting t = first_of (waiting_at t)
+
+-- the days from one to another, both among them
+abbrev pub days_between : ℕ → ℕ → List ℕ
+days_between from to = range_with_len from (to + 1 - from)
+
+-- a day, and how many of its requests are pending
+abbrev pub pending_on : Tables → ℕ → PendingDay
+pending_on t day = record { day = day; requests = pending_at t day }
+
+abbrev pub pending_between : Tables → ℕ → ℕ → List PendingDay
+pending_between t from to = map (pending_on t) (days_between from to)
+
+-- so it is from the day of the first that waits to a day, or of that day where none waits
+abbrev pub pending_to : Tables → ℕ → List PendingDay
+pending_to t today =
+    pending_between t (option_map_or (λ row. row.day) (first_waiting t) today) today
+
+-- when the first that waits was sent
+abbrev pub oldest_pending_at : Tables → Option (List ℕ)
+oldest_pending_at t = option_map (λ row. row.key.transmission) (first_waiting t)
+
+pub record Figures : Type 0 where
+  pub day : ℕ
+  pub limit : ℕ
+  pub merchants : ℕ
+  pub terminals : ℕ
+  pub ranges : ℕ
+  pub requests_today : ℕ
+  pub pending : List PendingDay
+  pub oldest_pending : Option (List ℕ)
+
+abbrev pub figures_at : Tables → Figures
+figures_at t =
+    record {
+      day = t.day;
+      limit = t.limit;
+      merchants = length (merchants_at t);
+      terminals = terminal_count_at t;
+      ranges = range_count_at t;
+      requests_today = requests_on t t.day;
+      pending = pending_to t t.day;
+      oldest_pending = oldest_pending_at t;
+    }
+
+-- figures that were looked up, without where they lie in memory
+abbrev pub figures_of : BookFigures → Figures
+figures_of f =
+    record {
+      day = f.day;
+      limit = f.limit;
+      merchants = f.merchants;
+      terminals = f.terminals;
+      ranges = f.ranges;
+      requests_today = f.requests_today;
+      pending = f.pending.items;
+      oldest_pending = f.oldest_pending;
+    }

@@ -1,0 +1,5 @@
+pub mod Figures
+pub mod Visitors
+pub mod Names
+pub mod Texts
+pub mod Worked
