@@ -23,4 +23,6 @@ pub struct ListenOptions {
     pub moment: Option<Moment>,
     /// The path of the socket's file at which control connections come; without one none do.
     pub control: Option<String>,
+    /// The path of the file that takes a log for operators; without one none is written.
+    pub log: Option<String>,
 }

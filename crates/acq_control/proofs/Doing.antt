@@ -29,6 +29,8 @@ module _ {S : Type 0} (book : Ghosts S) (a c : S) where
       record { was_honest = makes.was_honest; stays_open = makes.stays_open }
   does_kept (Some (question.Report report)) done looks = looked done looks
   does_kept (Some (question.Holds merchant moment)) done looks = looked done looks
+  does_kept (Some (question.Pending day moment)) done looks = looked done looks
+  does_kept (Some (question.Status form serving moment)) done looks = looked done looks
   does_kept (Some question.Stop) done looks = looked done looks
   does_kept None done looks = looked done looks
 
@@ -43,6 +45,8 @@ module _ {S : Type 0} (book : Ghosts S) (a c : S) where
         makes.made refl opened (makes.stays_open refl honest opened)
     done_tables (Some (question.Report report)) looks = looked_tables looks
     done_tables (Some (question.Holds merchant moment)) looks = looked_tables looks
+    done_tables (Some (question.Pending day moment)) looks = looked_tables looks
+    done_tables (Some (question.Status form serving moment)) looks = looked_tables looks
     done_tables (Some question.Stop) looks = looked_tables looks
     done_tables None looks = looked_tables looks
 
@@ -62,6 +66,8 @@ module _ {S : Type 0} (book : Ghosts S) (a c : S) where
             taken_stop book a c event honest opened makes
         done_stop (Some (question.Report report)) looks = looked_stop true looks
         done_stop (Some (question.Holds merchant moment)) looks = looked_stop true looks
+        done_stop (Some (question.Pending day moment)) looks = looked_stop true looks
+        done_stop (Some (question.Status form serving moment)) looks = looked_stop true looks
         done_stop (Some question.Stop) looks = looked_stop true looks
         done_stop None looks = looked_stop true looks
 
@@ -105,6 +111,8 @@ module _ {S : Type 0} (book : Ghosts S) (a c : S) where
         some_done (Some (question.Event event)) some = made_some event some.0 some.1
         some_done (Some (question.Report report)) some = looked_some some.0 some.1
         some_done (Some (question.Holds merchant moment)) some = looked_some some.0 some.1
+        some_done (Some (question.Pending day moment)) some = looked_some some.0 some.1
+        some_done (Some (question.Status form serving moment)) some = looked_some some.0 some.1
         some_done (Some question.Stop) some = looked_some some.0 some.1
         some_done None some = looked_some some.0 some.1
 

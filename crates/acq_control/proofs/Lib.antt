@@ -3,3 +3,7 @@ pub mod Following
 mod Doing
 mod Turning
 mod Rounds
+mod AnswersRead
+mod Told
+mod Talks
+mod SaidAnswers

@@ -1,18 +1,26 @@
 -- How one round goes.
-use Rattle.std.proofs.Common.{ℕ, List, [], Option, inr, ap, ◌∙◌}
+use Rattle.std.proofs.Common.{◌≡◌, ◌≢◌, ℕ, Bool, List, [], Option, Result, Ok, Err, ap, ◌∙◌}
+use Rattle.std.proofs.Common.{◌++◌, take, drop, inl, refl}
 use Rattle.acq_core.specs.Tables.{Tables}
-use Rattle.acq_front.specs.Stops.{Left}
+use Rattle.acq_front.specs.Stops.{Left, LeavesAll}
+use Rattle.acq_status.specs.declared.serving.Serving.{Serving}
 use Rattle.acq_control.specs.declared.question.Question.{Question}
 use Rattle.acq_control.specs.Answers.{answer_of}
 use Rattle.acq_control.specs.Ends.{End, TakesLine}
-use Rattle.acq_control.specs.Exchanges.{Goes}
-use Rattle.acq_control.proofs.Following.{follows_asked}
+use Rattle.acq_front.specs.Faults.{UnlessRefused}
+use Rattle.acq_front.specs.declared.front_fault.FrontFault as fault
+use Rattle.acq_control.specs.Exchanges.{AsksOne, Goes, MovesOn, Passed}
+use Rattle.acq_control.specs.declared.control_round.ControlRound.{ControlRound}
+use Rattle.acq_control.specs.declared.control_round.ControlRound.TheVariants.{Ended, GoesOn, Stops}
+use Rattle.acq_control.specs.declared.control_round.ControlRound.TheVariants.{Waits}
+use Rattle.acq_control.specs.Questions.{is_stop}
+use Rattle.acq_control.proofs.Following.{follows_asked, follows_written}
 
-module _ (may_give : ℕ → Type 0) (old : Tables) (left : Left) where
+module _ (may_give : ℕ → Type 0) (serving : Serving) (old : Tables) (left : Left) where
   -- a line was taken
-  pub takes_on : (came went : List ℕ) (before after : End) (asked : Option Question) →
-      TakesLine may_give old left before after asked →
-      Goes may_give old left
+  pub takes_on : (came went : List ℕ) (before after : End) (asked : Option Question) (stops : Bool) →
+      TakesLine may_give serving old left before after asked → is_stop asked ≡ stops →
+      AsksOne may_give serving old left stops
       (record {
         came = came;
         held = before.held;
@@ -27,15 +35,51 @@ module _ (may_give : ℕ → Type 0) (old : Tables) (left : Left) where
         unsent = after.unsent;
         taken = after.taken;
       })
-  takes_on came went before after asked took = inr (record {
+  takes_on came went before after asked stops took is_so = record {
     line = took.line;
     asked = asked;
     moment = took.moment;
     given = took.given;
+    shows = took.shows;
+    ends_host = is_so;
     tables = took.tables;
     stop = took.stop;
     follows = λ k t acts is f.
         follows_asked k t acts came went before.held after.held after.unsent took.line before.taken
         after.taken took.moment asked f took.begins took.asks took.count
         (took.answers ∙ ap (λ (t : Tables). answer_of t after.taken asked) is);
-  })
+  }
+
+  -- some of an answer was written
+  pub writes_on : (came went held unsent : List ℕ) (taken n : ℕ) → left.tables ≡ old →
+      LeavesAll left old [] →
+      MovesOn may_give serving old left
+      (record { came = came; held = held; went = went; unsent = unsent; taken = taken })
+      (record {
+        came = came;
+        held = held;
+        went = went ++ take n unsent;
+        unsent = drop n unsent;
+        taken = taken;
+      })
+  writes_on came went held unsent taken n same stop = record {
+    tables = same;
+    stop = stop;
+    follows = λ k t acts is f. follows_written k t acts came went held unsent taken n f;
+  }
+
+  -- nothing was done, and no host's end is told
+  pub moved_on : (before after : Passed) (r : Result ControlRound fault.FrontFault) → r ≢ Ok Stops →
+      MovesOn may_give serving old left before after →
+      UnlessRefused r (Goes may_give serving old left before after r)
+  moved_on before after (Ok GoesOn) not on = inl on
+  moved_on before after (Ok Stops) not on = absurd (not refl)
+  moved_on before after (Ok Waits) not on = on
+  moved_on before after (Ok Ended) not on = on
+  moved_on before after (Err fault.TheVariants.Memory) not on = tt
+  moved_on before after (Err fault.TheVariants.Store) not on = tt
+  moved_on before after (Err fault.TheVariants.BadLength) not on = on
+  moved_on before after (Err fault.TheVariants.Ended) not on = on
+  moved_on before after (Err (fault.TheVariants.Undecodable f)) not on = on
+  moved_on before after (Err fault.TheVariants.Read) not on = on
+  moved_on before after (Err (fault.TheVariants.Write n)) not on = on

@@ -8,6 +8,9 @@ use Rattle.acq_out.specs.OutputLines.{line_of}
 use Rattle.acq_reports.specs.OpenHolds.{holds_text}
 use Rattle.acq_reports.specs.Refusals.{day_refusal, merchant_refusal}
 use Rattle.acq_reports.specs.declared.report_fault.ReportFault.{ReportFault}
+use Rattle.acq_status.specs.Figures.{figures_at}
+use Rattle.acq_status.specs.Texts.{text_in}
+use Rattle.acq_stand_in.specs.Pending.{pending_text}
 use Rattle.acq_commands.specs.DayReports.{report_text}
 use Rattle.acq_commands.specs.Faults.{fault_line, of_report}
 use Rattle.acq_commands.specs.declared.fault.Fault.TheVariants.{BadLine}
@@ -31,6 +34,10 @@ answer_of t number (Some (question.Report asked)) =
     text_unless_refused (day_refusal t asked.day) (report_text t asked)
 answer_of t number (Some (question.Holds merchant moment)) =
     text_unless_refused (merchant_refusal t merchant) (holds_text t merchant moment)
+answer_of t number (Some (question.Pending day moment)) =
+    text_answer (pending_text [] moment (Some day) t)
+answer_of t number (Some (question.Status form serving moment)) =
+    text_answer (text_in form (figures_at t) (Some serving) moment)
 answer_of t number (Some question.Stop) = codes "stopping\n"
 
 -- the event that a question is, if it is one

@@ -7,7 +7,8 @@ use Rattle.acq_core.specs.Tables.{Tables, tables_after}
 use Rattle.acq_front.specs.Stops.{Left, LeavesAll, LeavesSome}
 use Rattle.acq_book.specs.declared.book_fault.BookFault.{BookFault}
 use Rattle.acq_control.specs.Lines.{BeginsWithLine, IsInLine}
-use Rattle.acq_control.specs.Questions.{Asks, is_stop}
+use Rattle.acq_status.specs.declared.serving.Serving.{Serving}
+use Rattle.acq_control.specs.Questions.{Asks, Shows, is_stop}
 use Rattle.acq_control.specs.Answers.{answer_of, events_asked, tables_behind}
 use Rattle.acq_control.specs.declared.control_conversation.ControlConversation.{ControlConversation}
 use Rattle.acq_control.specs.declared.control_turn.ControlTurn.{ControlTurn}
@@ -52,7 +53,7 @@ pub record RefusesLine (old : Tables) (left : Left) : Type 0 where
   pub tables : left.is_open → left.tables ≡ tables_after old taken
   pub stop : LeavesSome left old taken in_hand
 
-module _ (may_give : ℕ → Type 0) (old : Tables) (left : Left) where
+module _ (may_give : ℕ → Type 0) (serving : Serving) (old : Tables) (left : Left) where
   -- nothing was taken, and a stop leaves the tables as they are
   pub record WaitsOn (before after : End) : Type 0 where
     pub tables : left.tables ≡ old
@@ -67,6 +68,7 @@ module _ (may_give : ℕ → Type 0) (old : Tables) (left : Left) where
     pub moment : ℕ
     pub given : may_give moment
     pub asks : Asks moment line asked
+    pub shows : Shows serving asked
     pub tables : left.tables ≡ tables_behind old asked
     pub stop : LeavesAll left old (events_asked asked)
     pub answers : after.unsent ≡ answer_of old after.taken asked

@@ -1,13 +1,21 @@
 -- One control connection to a host that has many, a round at a time.
-use Rattle.std.specs.Prelude.{◌≡◌, ◌⊎◌, ℕ, List, [], ◌∷◌, ◌++◌, Option, Result, Err}
+use Rattle.std.specs.Prelude.{◌≡◌, ◌≢◌, ◌⊎◌, ◌+◌, ◌<◌, ℕ, Bool, true, false, List, [], ◌∷◌, ◌++◌}
+use Rattle.std.specs.Prelude.{length, Option, Result, Ok, Err}
 use Rattle.acq_core.specs.Tables.{Tables}
 use Rattle.acq_front.specs.Stops.{Left, LeavesAll}
 use Rattle.acq_front.specs.declared.front_fault.FrontFault.{FrontFault}
 use Rattle.acq_front.specs.declared.front_fault.FrontFault.TheVariants.{Memory, Store}
+use Rattle.acq_front.specs.declared.front_fault.FrontFault.TheVariants as fault
+use Rattle.acq_status.specs.declared.serving.Serving.{Serving}
+use Rattle.acq_control.specs.Lines.{IsInLine, longest_line}
+use Rattle.acq_control.specs.Questions.{Shows, is_stop}
 use Rattle.acq_control.specs.Answers.{events_asked, tables_behind}
 use Rattle.acq_control.specs.Log.{Act, FollowsActs, asked_by, behind_acts}
 use Rattle.acq_control.specs.Ends as turns
 use Rattle.acq_control.specs.declared.control_exchange.ControlExchange.{ControlExchange}
+use Rattle.acq_control.specs.declared.control_round.ControlRound.{ControlRound}
+use Rattle.acq_control.specs.declared.control_round.ControlRound.TheVariants.{Ended, GoesOn, Stops}
+use Rattle.acq_control.specs.declared.control_round.ControlRound.TheVariants.{Waits}
 use Rattle.acq_control.specs.declared.question.Question.{Question}
 
 -- what passed over a connection so far
@@ -48,13 +56,40 @@ module _ {L : Type 0} where
 abbrev pub FollowsLog : ℕ → Tables → List Act → Passed → Type 0
 FollowsLog k t acts p = FollowsActs k t acts p.came p.went p.held p.unsent p.taken
 
+-- whether a round tells that the input ended
+abbrev pub tells_end : Result ControlRound FrontFault → Bool
+tells_end (Ok Ended) = true
+tells_end (Err fault.Ended) = true
+tells_end other = false
+
+-- Where the connection ended: at its own end nothing is held, and nothing is still to be written;
+-- else the beginning of a line is held, which fills all the room that there is, or behind which the
+-- input ended.
+abbrev pub EndsWith : List ℕ → List ℕ → Result ControlRound FrontFault → Type 0
+EndsWith held unsent (Ok Ended) = (held ≡ []) × (unsent ≡ [])
+EndsWith held unsent (Err fault.BadLength) = IsInLine held × (length held ≡ longest_line)
+EndsWith held unsent (Err fault.Ended) = IsInLine held × (held ≢ [])
+EndsWith held unsent (Err (fault.Undecodable f)) = ⊥
+EndsWith held unsent other = Unit {0}
+
+-- how much passed: bytes in, bytes out, and lines
+abbrev pub amount_passed : Passed → ℕ
+amount_passed p = length p.came + length p.went + p.taken
+
+-- a round that goes on did something, and one that waits did nothing
+abbrev pub Moves : Passed → Passed → Result ControlRound FrontFault → Type 0
+Moves before after (Ok GoesOn) = amount_passed before < amount_passed after
+Moves before after (Ok Stops) = amount_passed before < amount_passed after
+Moves before after (Ok Waits) = after ≡ before
+Moves before after other = Unit {0}
+
 -- where memory or the store stopped it, this holds
 abbrev pub IfRefused : {X : Type 0} → Result X FrontFault → Type 0 → Type 0
 IfRefused (Err Memory) p = p
 IfRefused (Err Store) p = p
 IfRefused other p = Unit {0}
 
-module _ (may_give : ℕ → Type 0) (old : Tables) (left : Left) where
+module _ (may_give : ℕ → Type 0) (serving : Serving) (old : Tables) (left : Left) where
   -- Nothing was done; and behind any acts the connection goes on to follow them.
   pub record MovesOn (before after : Passed) : Type 0 where
     pub tables : left.tables ≡ old
@@ -62,19 +97,23 @@ module _ (may_give : ℕ → Type 0) (old : Tables) (left : Left) where
     pub follows : (k : ℕ) (t : Tables) (acts : List Act) → old ≡ behind_acts t acts →
         FollowsLog k t acts before → FollowsLog k t acts after
 
-  -- A line was taken, at a moment that may be given, and what it asks was done; and behind any acts
-  -- the connection goes on to follow them and this one.
-  pub record AsksOne (before after : Passed) : Type 0 where
+  -- A line was taken, at a moment that may be given, and what it asks was done, which is the host's
+  -- end or not; and behind any acts the connection goes on to follow them and this one.
+  pub record AsksOne (stops : Bool) (before after : Passed) : Type 0 where
     pub line : List ℕ
     pub asked : Option Question
     pub moment : ℕ
     pub given : may_give moment
+    pub shows : Shows serving asked
+    pub ends_host : is_stop asked ≡ stops
     pub tables : left.tables ≡ tables_behind old asked
     pub stop : LeavesAll left old (events_asked asked)
     pub follows : (k : ℕ) (t : Tables) (acts : List Act) → old ≡ behind_acts t acts →
         FollowsLog k t acts before →
         FollowsLog k t (acts ++ asked_by k moment line asked ∷ []) after
 
-  -- a round
-  abbrev pub Goes : Passed → Passed → Type 0
-  Goes before after = MovesOn before after ⊎ AsksOne before after
+  -- a round, by what it tells
+  abbrev pub Goes : Passed → Passed → Result ControlRound FrontFault → Type 0
+  Goes before after (Ok GoesOn) = MovesOn before after ⊎ AsksOne false before after
+  Goes before after (Ok Stops) = AsksOne true before after
+  Goes before after other = MovesOn before after

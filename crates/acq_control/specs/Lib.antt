@@ -5,3 +5,7 @@ pub mod Doing
 pub mod Log
 pub mod Ends
 pub mod Exchanges
+pub mod HostAnswers
+pub mod SaidAnswers
+pub mod InputLines
+pub mod Telling

@@ -1,7 +1,8 @@
 -- What a line of a control connection asks (own profile): an event, as an event line spells it; a
 -- text; or that the host ends. The word `now` stands for the moment at which the line is taken.
-use Rattle.std.specs.Prelude.{◌≡◌, ◌≢◌, ◌==◌, ◌&&◌, ◌+◌, ℕ, nat_eq, Bool, List, [], ◌∷◌, ◌++◌, codes}
-use Rattle.std.specs.Prelude.{true, false, drop, take, length, option_map, Option, Some, None, Ok, if◌then◌else◌}
+use Rattle.std.specs.Prelude.{◌≡◌, ◌≢◌, ◌==◌, ◌&&◌, ◌+◌, ℕ, nat_eq, Bool, true, false, List, []}
+use Rattle.std.specs.Prelude.{◌∷◌, ◌++◌, codes, drop, take, length, option_map, Option, Some, None}
+use Rattle.std.specs.Prelude.{Ok, if◌then◌else◌}
 use Rattle.std.specs.List.{position, starts_with}
 use Rattle.std.specs.Fmt.{decimal}
 use Rattle.std.specs.Borrow.{Bor}
@@ -12,6 +13,9 @@ use Rattle.acq_out.specs.EventLines.{events_of_text}
 use Rattle.acq_out.specs.Fields.{merchant_of_text, moment_of_text}
 use Rattle.acq_commands.specs.declared.report_kind.ReportKind.{ReportKind}
 use Rattle.acq_commands.specs.declared.report_kind.ReportKind.TheVariants as report
+use Rattle.acq_status.specs.declared.serving.Serving.{Serving}
+use Rattle.acq_status.specs.declared.status_form.StatusForm.{StatusForm}
+use Rattle.acq_status.specs.declared.status_form.StatusForm.TheVariants as form
 use Rattle.acq_control.specs.declared.question.Question.{Question}
 use Rattle.acq_control.specs.declared.question.Question.TheVariants as question
 use Rattle.acq_control.specs.declared.question_word.QuestionWord.{QuestionWord}
@@ -27,7 +31,18 @@ word_of line =
     else if begins_with line (codes "clearing,") then word.Clearing
     else if begins_with line (codes "report,") then word.Report
     else if begins_with line (codes "holds,") then word.Holds
+    else if begins_with line (codes "pending,") then word.Pending
+    else if bytes_eq line (codes "status") then word.Status
+    else if bytes_eq line (codes "metrics") then word.Metrics
     else word.Event
+
+-- how many bytes it has with the comma behind it, if one is
+abbrev pub word_length : QuestionWord → ℕ
+word_length word.Clearing = 9
+word_length word.Pending = 8
+word_length word.Report = 7
+word_length word.Holds = 6
+word_length other = 0
 
 -- ---- events
 
@@ -80,6 +95,24 @@ AsksReport kind text (Some (question.Report asked)) =
 AsksReport kind text None = IsUtf8 text → IsNoDateText text
 AsksReport kind text (Some other) = ⊥
 
+-- so it is of a day's answers, which are given at a moment
+abbrev pub AsksPending : ℕ → List ℕ → Option Question → Type 0
+AsksPending now text (Some (question.Pending day moment)) =
+    (moment ≡ now) × (text ≡ date_text_of day)
+AsksPending now text None = IsUtf8 text → IsNoDateText text
+AsksPending now text (Some other) = ⊥
+
+-- figures in this form, whatever is served, at a moment
+abbrev pub AsksStatus : StatusForm → ℕ → Option Question → Type 0
+AsksStatus form now (Some (question.Status asked serving moment)) =
+    (asked ≡ form) × (moment ≡ now)
+AsksStatus form now other = ⊥
+
+-- if figures are asked, they are of what is served just then
+abbrev pub Shows : Serving → Option Question → Type 0
+Shows serving (Some (question.Status form shown moment)) = shown ≡ serving
+Shows serving other = Unit {0}
+
 -- a moment, or now
 abbrev pub moment_at : ℕ → List ℕ → Option ℕ
 moment_at now text = if bytes_eq text (codes "now") then Some now else moment_of_text text
@@ -111,6 +144,9 @@ AsksBy word.Stop now line asked = asked ≡ Some question.Stop
 AsksBy word.Clearing now line asked = AsksReport report.Clearing (drop 9 line) asked
 AsksBy word.Report now line asked = AsksReport report.Settlement (drop 7 line) asked
 AsksBy word.Holds now line asked = asked ≡ holds_of now (drop 6 line)
+AsksBy word.Pending now line asked = AsksPending now (drop 8 line) asked
+AsksBy word.Status now line asked = AsksStatus form.Lines now asked
+AsksBy word.Metrics now line asked = AsksStatus form.Metrics now asked
 AsksBy word.Event now line asked = AsksEvent now line asked
 
 -- what a line asks that is taken at this moment

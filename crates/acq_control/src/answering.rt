@@ -1,7 +1,7 @@
 //! What a host says to questions.
 
 ghost use Rattle.std.specs.Prelude.{◌≡◌, ◌++◌, [], Bool, IfErr, IfOk, List, OnErr, OnOk};
-ghost use Rattle.std.specs.Prelude.{Option, codes, true, ℕ};
+ghost use Rattle.std.specs.Prelude.{Option, Some, codes, true, ℕ};
 ghost use Rattle.acq_link.specs.MemorySink.{sent_of};
 ghost use Rattle.acq_core.specs.Arrivals.{arrival_of};
 ghost use Rattle.acq_core.specs.Tables.{step_output};
@@ -14,18 +14,23 @@ ghost use Rattle.acq_reports.specs.Writing.{Reports};
 ghost use Rattle.acq_reports.specs.declared.report_fault.ReportFault as report_fault;
 ghost use Rattle.acq_commands.specs.DayReports.{report_text};
 ghost use Rattle.acq_commands.specs.Faults.{fault_line};
+ghost use Rattle.acq_stand_in.specs.Pending.{pending_text};
 ghost use Rattle.acq_control.specs.Answers.{answer_of, text_answer, text_unless_refused};
 ghost use Rattle.acq_control.specs.Doing.{Does, DoesSome, IsSettled, TellsAs, TellsStore};
 ghost use Rattle.acq_control.specs.declared.question.Question.TheVariants as question;
 
+use crate::pending_text::PendingText;
 use crate::question::Question;
+use crate::status_text::StatusText;
 use acq_book::{Book, BookFault};
 use acq_commands::{DayReport, Fault, ReportKind, write_fault_line};
 use acq_core::{Event, MerchantId, Moment};
-use acq_host::Host;
+use acq_host::{BookText, Host};
 use acq_link::{MemorySink, write_out};
 use acq_out::write_output;
 use acq_reports::ReportFault;
+use acq_stand_in::StandIn;
+use day_totals::Day;
 use itoa::Buffer;
 use std::alloc::Global;
 
@@ -71,6 +76,15 @@ fn put_answer<B: Book + Drop>(
         Some(Question::Report(report)) => put_report(alloc, host, *report, answer),
         Some(Question::Holds(merchant, moment)) => {
             put_holds(alloc, host, *merchant, *moment, answer)
+        }
+        Some(Question::Pending(day, moment)) => put_pending(alloc, host, *day, *moment, answer),
+        Some(Question::Status(form, serving, moment)) => {
+            let asked = StatusText {
+                form: *form,
+                serving: *serving,
+                moment: *moment,
+            };
+            put_asked(alloc, host, &asked, answer)
         }
         Some(Question::Stop) => put(b"stopping\n", answer),
     }
@@ -138,6 +152,48 @@ fn put_holds<B: Book + Drop>(
 {
     let mut text = MemorySink::new(alloc);
     let made = host.write_holds(merchant, moment, &mut text);
+    put_text(made, text.as_bytes(), answer)
+}
+
+/// Puts the answers to what waits of a day.
+fn put_pending<B: Book + Drop>(
+    alloc: Global,
+    host: &mut Host<B>,
+    day: Day,
+    moment: Moment,
+    answer: &mut MemorySink,
+) -> Result<(), BookFault>
+    ensures answers { B.is_honest host.new → B.is_open host.old → OnOk result (sent_of answer.new
+        ≡ sent_of answer.old
+        ++ text_answer (pending_text [] moment (Some day) (B.tables host.old))) }
+    ensures does { OnOk result (Looks B.Book host.old host.new true) }
+    ensures refused { OnErr result ((done : Bool) × Looks B.Book host.old host.new done) }
+    ensures store { TellsStore B.Book host.old host.new result }
+{
+    let nobody = StandIn::silent(alloc);
+    let asked = PendingText {
+        issuers: &nobody,
+        day,
+        moment,
+    };
+    put_asked(alloc, host, &asked, answer)
+}
+
+/// Puts a text that is never refused.
+fn put_asked<B: Book + Drop, X: BookText>(
+    alloc: Global,
+    host: &mut Host<B>,
+    asked: &X,
+    answer: &mut MemorySink,
+) -> Result<(), BookFault>
+    ensures answers { B.is_honest host.new → B.is_open host.old → OnOk result (sent_of answer.new
+        ≡ sent_of answer.old ++ text_answer (X.text asked.now (B.tables host.old))) }
+    ensures does { OnOk result (Looks B.Book host.old host.new true) }
+    ensures refused { OnErr result ((done : Bool) × Looks B.Book host.old host.new done) }
+    ensures store { TellsStore B.Book host.old host.new result }
+{
+    let mut text = MemorySink::new(alloc);
+    let made = host.write_text(asked, &mut text);
     put_text(made, text.as_bytes(), answer)
 }
 

@@ -1,10 +1,11 @@
 //! One end of a control connection, without its reads and writes.
 
-ghost use Rattle.std.specs.Prelude.{◌≡◌, ◌==◌, ◌+◌, ◌≤◌, ◌++◌, ℕ, [], length, drop, OnOk};
+ghost use Rattle.std.specs.Prelude.{◌≡◌, ◌==◌, ◌+◌, ◌≤◌, ◌++◌, ℕ, [], length, drop, Ok, OnOk};
 ghost use Rattle.acq_front.specs.Stops.{left_of};
 ghost use Rattle.acq_control.specs.Doing.{TellsStore};
-ghost use Rattle.acq_control.specs.Lines.{longest_line};
+ghost use Rattle.acq_control.specs.Lines.{IsInLine, longest_line};
 ghost use Rattle.acq_control.specs.Questions.{is_stop};
+ghost use Rattle.acq_control.specs.declared.control_turn.ControlTurn.TheVariants.{Waits};
 
 use crate::answering::answer_to;
 use crate::control_turn::ControlTurn;
@@ -15,6 +16,7 @@ use acq_book::{Book, BookFault};
 use acq_front::Clock;
 use acq_host::Host;
 use acq_link::MemorySink;
+use acq_status::Serving;
 use std::alloc::Global;
 
 /// One end of a control connection: what came and belongs to no line yet, and what of an answer is
@@ -66,6 +68,13 @@ impl ControlConversation {
         self.input.feed(piece);
     }
 
+    /// What came and belongs to no line yet that was taken.
+    pub fn held(&self) -> &[u8]
+        ensures { result.now ≡ held_of self.now }
+    {
+        self.input.as_slice()
+    }
+
     /// Whether it holds nothing that belongs to no line yet.
     pub fn is_between_lines(&self) -> bool
         ensures { result ≡ (length (held_of self.now) == 0) }
@@ -104,18 +113,22 @@ impl ControlConversation {
         self.gone += n;
     }
 
-    /// Has the host do what the next line asks, if one is whole; what is said to it is then to be
-    /// written.
+    /// Has the host do what the next line asks, if one is whole, while so much is served; what is
+    /// said to it is then to be written.
     pub fn turn<B: Book + Drop, C: Clock>(
         &mut self,
         alloc: Global,
         host: &mut Host<B>,
         clock: &mut C,
+        serving: Serving,
     ) -> Result<ControlTurn, BookFault>
         requires { unsent_of self.old ≡ [] }
         ensures steps { B.is_honest host.new → B.is_open host.old
-            → Steps (C.may_give clock.old) (B.tables host.old) (left_of B.Book host.new)
+            → Steps (C.may_give clock.old) serving (B.tables host.old) (left_of B.Book host.new)
             (end_of self.old) (end_of self.new) result }
+        // It waits where no line is whole, and is then as it was.
+        ensures waits { result ≡ Ok Waits
+            → IsInLine (held_of self.old) × (end_of self.new ≡ end_of self.old) }
         ensures was_honest { B.is_honest host.new → B.is_honest host.old }
         ensures stays_open { B.is_honest host.new → B.is_open host.old
             → OnOk result (B.is_open host.new) }
@@ -128,7 +141,7 @@ impl ControlConversation {
         let Some(number) = self.taken.checked_add(1) else {
             return Err(BookFault::Memory);
         };
-        let asked = question_of(alloc, line.as_slice(), clock.now())?;
+        let asked = question_of(alloc, line.as_slice(), clock.now(), serving)?;
         let stops = is_stop(&asked);
         let answer = answer_to(alloc, host, number, asked)?;
         self.taken = number;

@@ -1,12 +1,16 @@
 //! Control connections whose lines don't wait.
 
-ghost use Rattle.std.specs.Prelude.{◌≡◌, ◌+◌, ◌++◌, ℕ, List, [], take, drop};
+ghost use Rattle.std.specs.Prelude.{◌≡◌, ◌≢◌, ◌==◌, ◌+◌, ◌++◌, ℕ, List, [], false, length, not};
+ghost use Rattle.std.specs.Prelude.{take, drop, Ok};
 ghost use Rattle.acq_front.specs.Faults.{IfStore, TellsStore, UnlessRefused};
 ghost use Rattle.acq_front.specs.Faults.{failed_reads, failed_writes};
 ghost use Rattle.acq_front.specs.Stops.{left_of};
-ghost use Rattle.acq_control.specs.Exchanges.{Goes, IfRefused, line_of, passed};
+ghost use Rattle.acq_control.specs.Lines.{IsInLine};
+ghost use Rattle.acq_control.specs.Exchanges.{EndsWith, Goes, IfRefused, Moves, line_of, passed};
+ghost use Rattle.acq_control.specs.Exchanges.{tells_end};
 ghost use Rattle.acq_control.specs.Exchanges.{held_of, taken_of, unsent_of};
 ghost use Rattle.acq_control.specs.Ends.{RefusesLine};
+ghost use Rattle.acq_control.specs.declared.control_round.ControlRound.TheVariants.{Stops};
 
 use crate::control_conversation::ControlConversation;
 use crate::control_round::ControlRound;
@@ -14,6 +18,7 @@ use crate::control_turn::ControlTurn;
 use acq_book::Book;
 use acq_front::{Clock, FrontFault, Line};
 use acq_host::Host;
+use acq_status::Serving;
 use std::alloc::Global;
 
 /// The most bytes that are read at once.
@@ -48,8 +53,24 @@ impl<L: Line> ControlExchange<L> {
         &self.line
     }
 
+    /// What came and belongs to no line yet that was taken: the line that is taken next in front.
+    pub fn held(&self) -> &[u8]
+        ensures { result.now ≡ held_of self.now }
+    {
+        self.conversation.held()
+    }
+
+    /// What of an answer is still to be written.
+    pub fn unsent(&self) -> &[u8]
+        ensures { result.now ≡ unsent_of self.now }
+    {
+        self.conversation.unsent()
+    }
+
     /// Whether something is still to be written.
-    pub fn is_answering(&self) -> bool {
+    pub fn is_answering(&self) -> bool
+        ensures { result ≡ not (length (unsent_of self.now) == 0) }
+    {
         !self.conversation.unsent().is_empty()
     }
 
@@ -60,10 +81,18 @@ impl<L: Line> ControlExchange<L> {
         alloc: Global,
         host: &mut Host<B>,
         clock: &mut C,
+        serving: Serving,
     ) -> Result<ControlRound, FrontFault>
         ensures goes { B.is_honest host.new → B.is_open host.old → UnlessRefused result
-            (Goes (C.may_give clock.old) (B.tables host.old) (left_of B.Book host.new)
-            (passed L.received L.sent self.old) (passed L.received L.sent self.new)) }
+            (Goes (C.may_give clock.old) serving (B.tables host.old) (left_of B.Book host.new)
+            (passed L.received L.sent self.old) (passed L.received L.sent self.new) result) }
+        // It did something, unless it waits.
+        ensures moves { B.is_honest host.new → B.is_open host.old
+            → Moves (passed L.received L.sent self.old) (passed L.received L.sent self.new) result }
+        // The end is told exactly where the line ended, and with it what was left.
+        ensures ends { EndsWith (held_of self.new) (unsent_of self.new) result }
+        ensures line_ends { L.has_ended (line_of self.old) ≡ false
+            → L.has_ended (line_of self.new) ≡ tells_end result }
         // Where memory or the store refused a call, an event was in hand or none.
         ensures refused { B.is_honest host.new → B.is_open host.old → IfRefused result
             (RefusesLine (B.tables host.old) (left_of B.Book host.new)) }
@@ -84,7 +113,7 @@ impl<L: Line> ControlExchange<L> {
         if !self.conversation.unsent().is_empty() {
             return self.send();
         }
-        match self.conversation.turn(alloc, host, clock)? {
+        match self.conversation.turn(alloc, host, clock, serving)? {
             ControlTurn::Took => Ok(ControlRound::GoesOn),
             ControlTurn::Stops => Ok(ControlRound::Stops),
             ControlTurn::Waits => self.receive(),
@@ -93,12 +122,19 @@ impl<L: Line> ControlExchange<L> {
 
     /// Writes on.
     fn send(&mut self) -> Result<ControlRound, FrontFault>
+        requires { unsent_of self.old ≢ [] }
         ensures received { L.received (line_of self.new) ≡ L.received (line_of self.old) }
         ensures held { held_of self.new ≡ held_of self.old }
         ensures taken { taken_of self.new ≡ taken_of self.old }
         ensures sent { (n : ℕ) × (unsent_of self.new ≡ drop n (unsent_of self.old))
             × (L.sent (line_of self.new) ≡ L.sent (line_of self.old)
             ++ take n (unsent_of self.old)) }
+        ensures moves { Moves (passed L.received L.sent self.old)
+            (passed L.received L.sent self.new) result }
+        ensures ends { EndsWith (held_of self.new) (unsent_of self.new) result }
+        ensures line_ends { L.has_ended (line_of self.new) ≡ L.has_ended (line_of self.old) }
+        ensures no_end { tells_end result ≡ false }
+        ensures no_stop { result ≢ Ok Stops }
         ensures reads { L.read_failures (line_of self.new)
             ≡ L.read_failures (line_of self.old) + failed_reads result }
         ensures writes { L.write_failures (line_of self.new)
@@ -118,11 +154,19 @@ impl<L: Line> ControlExchange<L> {
 
     /// Reads on.
     fn receive(&mut self) -> Result<ControlRound, FrontFault>
+        requires within { IsInLine (held_of self.old) }
+        requires written { unsent_of self.old ≡ [] }
         ensures received { (piece : List ℕ) × (held_of self.new ≡ held_of self.old ++ piece)
             × (L.received (line_of self.new) ≡ L.received (line_of self.old) ++ piece) }
         ensures unsent { unsent_of self.new ≡ unsent_of self.old }
         ensures taken { taken_of self.new ≡ taken_of self.old }
         ensures sent { L.sent (line_of self.new) ≡ L.sent (line_of self.old) }
+        ensures moves { Moves (passed L.received L.sent self.old)
+            (passed L.received L.sent self.new) result }
+        ensures ends { EndsWith (held_of self.new) (unsent_of self.new) result }
+        ensures line_ends { L.has_ended (line_of self.old) ≡ false
+            → L.has_ended (line_of self.new) ≡ tells_end result }
+        ensures no_stop { result ≢ Ok Stops }
         ensures reads { L.read_failures (line_of self.new)
             ≡ L.read_failures (line_of self.old) + failed_reads result }
         ensures writes { L.write_failures (line_of self.new)

@@ -6,21 +6,32 @@
 //! ask turn by turn, and holds what is to be written. A [`ControlExchange`] is one over a line whose
 //! reads and writes don't wait. What they have to do with one host, among terminals, stands in
 //! `specs/Log.antt` and [`laws`].
+//!
+//! [`tell`] is the other side of such a connection: the lines of an input in, and what the host
+//! says to them out.
 #![tactic(auto)]
 
+mod answer_kind;
 mod answering;
 mod control_conversation;
 mod control_exchange;
 mod control_round;
 mod control_turn;
+mod host_answer;
+mod input_lines;
 pub mod laws;
 mod line_buffer;
+mod pending_text;
 mod question;
 mod question_word;
 mod reading;
+mod status_text;
+mod telling;
+pub mod telling_laws;
 
 pub use control_conversation::ControlConversation;
 pub use control_exchange::ControlExchange;
 pub use control_round::ControlRound;
 pub use control_turn::ControlTurn;
 pub use question::Question;
+pub use telling::tell;

@@ -1,7 +1,7 @@
 //! Lines out of a stream that comes in pieces.
 
 ghost use Rattle.std.specs.Prelude.{◌≡◌, ◌==◌, ◌+◌, ◌-◌, ◌≤◌, ◌++◌, [], length, drop, take};
-ghost use Rattle.std.specs.Prelude.{IfNone, IfOk, IfSome, OnErr};
+ghost use Rattle.std.specs.Prelude.{IfNone, IfOk, IfSome, OnErr, OnOk};
 ghost use Rattle.std.specs.List.{position};
 ghost use Rattle.acq_control.specs.Lines.{BeginsWithLine, IsInLine, longest_line};
 
@@ -51,6 +51,13 @@ impl LineBuffer {
         self.start == self.end
     }
 
+    /// What it holds.
+    pub(crate) fn as_slice(&self) -> &[u8]
+        ensures { result.now ≡ self.now }
+    {
+        &self.bytes[self.start..self.end]
+    }
+
     /// How many bytes it has room for.
     pub(crate) fn room(&self) -> usize
         ensures { result + length self.now ≡ longest_line }
@@ -88,10 +95,21 @@ impl LineBuffer {
         self.start += end + 1;
         Ok(Some(line))
     }
+
+    /// Takes out all that it holds. After an `Err` nothing has changed.
+    pub(crate) fn take_rest(&mut self, alloc: Global) -> Result<Vec<u8>, AllocError>
+        ensures all { IfOk result (λ rest. rest.items ≡ self.old) }
+        ensures none { OnOk result (self.new ≡ []) }
+        ensures kept { OnErr result (self.new ≡ self.old) }
+    {
+        let rest = Vec::from_slice(alloc, &self.bytes[self.start..self.end])?;
+        self.start = self.end;
+        Ok(rest)
+    }
 }
 
 /// Where the first line feed stands, if one does.
-fn line_end(text: &[u8]) -> Option<usize>
+pub(crate) fn line_end(text: &[u8]) -> Option<usize>
     ensures { result ≡ position (λ byte. byte == 10) text.now }
 {
     text.iter().position(|byte| *byte == b'\n')

@@ -2,6 +2,8 @@
 
 use acq_commands::DayReport;
 use acq_core::{Event, MerchantId, Moment};
+use acq_status::{Serving, StatusForm};
+use day_totals::Day;
 
 /// What a line of a control connection asks.
 #[derive(Drop)]
@@ -12,6 +14,11 @@ pub enum Question {
     Report(DayReport),
     /// The open holds of a merchant at a moment.
     Holds(MerchantId, Moment),
+    /// Answers without a verdict to the requests of a day that wait for their issuer, given at a
+    /// moment.
+    Pending(Day, Moment),
+    /// Figures of the book, and of what is served, at a moment.
+    Status(StatusForm, Serving, Moment),
     /// That the host ends.
     Stop,
 }

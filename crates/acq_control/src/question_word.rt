@@ -1,7 +1,7 @@
 //! Which question a line asks.
 
-ghost use Rattle.std.specs.Prelude.{◌≡◌};
-ghost use Rattle.acq_control.specs.Questions.{word_of};
+ghost use Rattle.std.specs.Prelude.{◌≡◌, ◌≤◌, length};
+ghost use Rattle.acq_control.specs.Questions.{word_length, word_of};
 
 /// Which question a line asks, by how it begins.
 #[derive(Clone, Copy, Drop)]
@@ -10,13 +10,17 @@ pub(crate) enum QuestionWord {
     Clearing,
     Report,
     Holds,
+    Pending,
+    Status,
+    Metrics,
     Event,
 }
 
 impl QuestionWord {
     /// Which question this line asks.
     pub(crate) fn of(line: &[u8]) -> QuestionWord
-        ensures { result ≡ word_of line.now }
+        ensures word { result ≡ word_of line.now }
+        ensures within { word_length result ≤ length line.now }
     {
         if line == b"stop".as_slice() {
             QuestionWord::Stop
@@ -26,8 +30,26 @@ impl QuestionWord {
             QuestionWord::Report
         } else if line.starts_with(b"holds,") {
             QuestionWord::Holds
+        } else if line.starts_with(b"pending,") {
+            QuestionWord::Pending
+        } else if line == b"status".as_slice() {
+            QuestionWord::Status
+        } else if line == b"metrics".as_slice() {
+            QuestionWord::Metrics
         } else {
             QuestionWord::Event
+        }
+    }
+    /// How many bytes it has with the comma behind it, if one is.
+    pub(crate) fn length(self) -> usize
+        ensures { result ≡ word_length self }
+    {
+        match self {
+            QuestionWord::Clearing => 9,
+            QuestionWord::Pending => 8,
+            QuestionWord::Report => 7,
+            QuestionWord::Holds => 6,
+            _ => 0,
         }
     }
 }

@@ -2,9 +2,10 @@
 
 ghost use Rattle.std.specs.Prelude.{◌≡◌, ◌==◌, IfOk, Option};
 ghost use Rattle.std.specs.List.{position};
-ghost use Rattle.acq_control.specs.Questions.{Asks, AsksEvent, AsksReport};
+ghost use Rattle.acq_control.specs.Questions.{Asks, AsksEvent, AsksPending, AsksReport, Shows};
 ghost use Rattle.acq_control.specs.Questions.{at_moment, holds_of, moment_at, says_now};
 ghost use Rattle.acq_control.specs.Questions as spec;
+ghost use Rattle.acq_status.specs.declared.serving.Serving.{Serving};
 
 use crate::question::Question;
 use crate::question_word::QuestionWord;
@@ -12,6 +13,7 @@ use acq_commands::{DayReport, ReportKind};
 use acq_core::{Event, Moment};
 use acq_link::SliceSource;
 use acq_out::{OutFault, merchant_of, moment_of, read_events};
+use acq_status::{Serving, StatusForm};
 use day_totals::Day;
 use itoa::Buffer;
 use std::alloc::{AllocError, Global};
@@ -20,20 +22,27 @@ use std::str;
 /// The word that stands for the moment.
 const NOW: &[u8] = b"now";
 
-/// What a line asks that is taken at this moment, or `None` where it is out of its form (own
-/// profile; `specs/Questions.antt`).
+/// What a line asks that is taken at this moment, while so much is served, or `None` where it is out
+/// of its form (own profile; `specs/Questions.antt`).
 pub(crate) fn question_of(
     alloc: Global,
     line: &[u8],
     now: Moment,
+    serving: Serving,
 ) -> Result<Option<Question>, AllocError>
-    ensures { IfOk result (λ asked. Asks now line.now asked) }
+    ensures asks { IfOk result (λ asked. Asks now line.now asked) }
+    ensures shows { IfOk result (Shows serving) }
 {
-    match QuestionWord::of(line) {
+    let word = QuestionWord::of(line);
+    let rest = &line[word.length()..];
+    match word {
         QuestionWord::Stop => Ok(Some(Question::Stop)),
-        QuestionWord::Clearing => Ok(report_on(ReportKind::Clearing, &line[9..])),
-        QuestionWord::Report => Ok(report_on(ReportKind::Settlement, &line[7..])),
-        QuestionWord::Holds => Ok(holds_of(&line[6..], now)),
+        QuestionWord::Clearing => Ok(report_on(ReportKind::Clearing, rest)),
+        QuestionWord::Report => Ok(report_on(ReportKind::Settlement, rest)),
+        QuestionWord::Holds => Ok(holds_of(rest, now)),
+        QuestionWord::Pending => Ok(pending_on(rest, now)),
+        QuestionWord::Status => Ok(Some(Question::Status(StatusForm::Lines, serving, now))),
+        QuestionWord::Metrics => Ok(Some(Question::Status(StatusForm::Metrics, serving, now))),
         QuestionWord::Event => event_of(alloc, line, now),
     }
 }
@@ -49,9 +58,20 @@ fn report_on(kind: ReportKind, date: &[u8]) -> Option<Question>
     Some(Question::Report(DayReport { kind, day }))
 }
 
+/// The answers to what waits of the day whose date this is.
+fn pending_on(date: &[u8], now: Moment) -> Option<Question>
+    ensures { AsksPending now date.now result }
+{
+    let Ok(date) = str::from_utf8(date) else {
+        return None;
+    };
+    Some(Question::Pending(Day::read(date)?, now))
+}
+
 /// The open holds of the merchant before the first comma, at the moment behind it.
 fn holds_of(text: &[u8], now: Moment) -> Option<Question>
-    ensures { result ≡ holds_of now text.now }
+    ensures holds { result ≡ holds_of now text.now }
+    ensures shows { (serving : Serving) → Shows serving result }
 {
     let comma = comma_in(text)?;
     let merchant = merchant_of(&text[..comma])?;

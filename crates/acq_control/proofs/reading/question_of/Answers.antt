@@ -1,18 +1,39 @@
-use Rattle.std.proofs.Common.{◌≡◌, ◌-◌, ℕ, List, length, take, drop, sym, ◌∙◌, length-drop, arith}
+use Rattle.std.proofs.Common.{◌≡◌, ◌-◌, ℕ, List, length, take, drop, ap, sym, ◌∙◌, length-drop, arith}
 use Rattle.std.proofs.lemmas.List.{take_all}
-use Rattle.acq_control.specs.Questions.{word_of}
+use Rattle.acq_control.specs.Questions.{word_length, word_of}
 use Rattle.acq_control.specs.declared.question_word.QuestionWord.TheVariants as word
 use Rattle.acq_control.proofs.reading.question_of.Goals as goal
 
 behind : (n : ℕ) (line : List ℕ) → take (length line - n) (drop n line) ≡ drop n line
 behind n line = take_all (length line - n) (drop n line) (omega (arith, length-drop n line))
 
-pub returns-in-Report : goal.returns-in-Report
-returns-in-Report c =
-    let is : word_of c.args.line.now ≡ word.Report = sym c.of.ensures ∙ c.in-Report.is in
-    rw is (rw (behind 7 c.args.line.now) at c.report_on-in-Report.ensures)
+pub returns-in-Clearing-clause-asks : goal.returns-in-Clearing-clause-asks
+returns-in-Clearing-clause-asks c =
+    let line = c.args.line.now in
+    let n : c.length.result ≡ 9 = c.length.ensures ∙ ap word_length c.in-Clearing.is in
+    let is : word_of line ≡ word.Clearing = sym c.of-word.ensures.word ∙ c.in-Clearing.is in
+    rw is (rw (n, behind 9 line) at c.report_on.ensures)
 
-pub returns-in-Holds : goal.returns-in-Holds
-returns-in-Holds c =
-    let is : word_of c.args.line.now ≡ word.Holds = sym c.of.ensures ∙ c.in-Holds.is in
-    rw is (rw (behind 6 c.args.line.now) at c.holds_of.ensures)
+pub returns-in-Report-clause-asks : goal.returns-in-Report-clause-asks
+returns-in-Report-clause-asks c =
+    let line = c.args.line.now in
+    let n : c.length.result ≡ 7 = c.length.ensures ∙ ap word_length c.in-Report.is in
+    let is : word_of line ≡ word.Report = sym c.of-word.ensures.word ∙ c.in-Report.is in
+    rw is (rw (n, behind 7 line) at c.report_on-in-Report.ensures)
+
+pub returns-in-Holds-clause-asks : goal.returns-in-Holds-clause-asks
+returns-in-Holds-clause-asks c =
+    let line = c.args.line.now in
+    let n : c.length.result ≡ 6 = c.length.ensures ∙ ap word_length c.in-Holds.is in
+    let is : word_of line ≡ word.Holds = sym c.of-word.ensures.word ∙ c.in-Holds.is in
+    rw is (rw (n, behind 6 line) at c.holds_of.ensures.holds)
+
+pub returns-in-Pending-clause-asks : goal.returns-in-Pending-clause-asks
+returns-in-Pending-clause-asks c =
+    let line = c.args.line.now in
+    let n : c.length.result ≡ 8 = c.length.ensures ∙ ap word_length c.in-Pending.is in
+    let is : word_of line ≡ word.Pending = sym c.of-word.ensures.word ∙ c.in-Pending.is in
+    rw is (rw (n, behind 8 line) at c.pending_on.ensures)
+
+pub returns-in-Holds-clause-shows : goal.returns-in-Holds-clause-shows
+returns-in-Holds-clause-shows c = c.holds_of.ensures.shows c.args.serving

@@ -30,10 +30,10 @@ returns-in_err-answer-clause-steps g c = λ h o.
 pub returns-clause-steps : goal.returns-clause-steps
 returns-clause-steps g c = λ h o.
     let begins = rw c.in-Some.is at c.in_ok-line.ensures.some in
-    let asks = rw c.as_slice.ensures.value at c.in_ok-asked.ensures in
+    let asks = rw c.as_slice.ensures.value at c.in_ok-asked.ensures.asks in
     rw c.after.ensures
-    (line_taken (g.C.Clock.may_give c.args.clock.now) g.B.Book c.args.host.now
+    (line_taken (g.C.Clock.may_give c.args.clock.now) c.args.serving g.B.Book c.args.host.now
     c.answer_to.new.host h o g.met.B.Book.settled g.met.B.Book.stored _ _
     c.in-Some.line.items c.now.result c.in_ok-asked.asked c.is_stop-stops.result begins
-    c.now.ensures.given asks c.in_ok-answer.ensures.does (c.in_ok-answer.ensures.answers h o)
+    c.now.ensures.given asks c.in_ok-asked.ensures.shows c.in_ok-answer.ensures.does (c.in_ok-answer.ensures.answers h o)
     (omega (arith, c.in-Some-checked_add.ensures)) c.is_stop-stops.ensures)

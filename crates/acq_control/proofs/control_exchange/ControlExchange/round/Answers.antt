@@ -1,13 +1,15 @@
-use Rattle.std.proofs.Common.{◌≡◌, Ok, subst, rules}
+use Rattle.std.proofs.Common.{◌≡◌, ◌∙◌, Ok, true, false, inr, ap, refl, subst, sym, rules}
 use Rattle.std.specs.Prelude.{Result}
 use Rattle.acq_book.specs.declared.book_fault.BookFault.{BookFault}
 use Rattle.acq_front.specs.Stops.{left_of}
 use Rattle.acq_front.proofs.Rounds.{none_left}
+use Rattle.acq_front.proofs.StopsLeave.{none_stop}
 use Rattle.acq_control.specs.declared.control_turn.ControlTurn.{ControlTurn}
-use Rattle.acq_control.specs.declared.control_turn.ControlTurn.TheVariants.{Stops, Took}
-use Rattle.acq_control.specs.Ends.{Steps, end_of}
-use Rattle.acq_control.specs.Exchanges.{unsent_of}
-use Rattle.acq_control.proofs.Rounds.{takes_on}
+use Rattle.acq_control.specs.declared.control_turn.ControlTurn.TheVariants.{Stops, Took, Waits}
+use Rattle.acq_control.specs.Ends.{End, Steps, end_of}
+use Rattle.acq_control.specs.Lines.{IsInLine}
+use Rattle.acq_control.specs.Exchanges.{held_of, passed, taken_of, unsent_of}
+use Rattle.acq_control.proofs.Rounds.{moved_on, takes_on, writes_on}
 use Rattle.acq_control.proofs.control_exchange.ControlExchange.round.Goals as goal
 
 pub returns-in-Took-clause-goes : goal.returns-in-Took-clause-goes
@@ -19,10 +21,11 @@ returns-in-Took-clause-goes g c = λ h o.
     let none = none_left c.unsent.result.now (unsent_of it) c.is_empty.result c.is_empty.ensures
     c.if-not-is_empty.false c.unsent.ensures in
     let took : c.turn.result ≡ Ok Took = search rules in
-    let steps = subst (λ (r : Result ControlTurn BookFault). Steps give tables left
+    let steps = subst (λ (r : Result ControlTurn BookFault). Steps give c.args.serving tables left
     (end_of it.conversation) (end_of c.turn.new.self) r) took (c.turn.ensures.steps h o) in
-    rw none (takes_on give tables left (g.L.Line.received it.line) (g.L.Line.sent it.line)
-    (end_of it.conversation) (end_of c.turn.new.self) steps.0 steps.1)
+    rw none (inr (takes_on give c.args.serving tables left (g.L.Line.received it.line)
+    (g.L.Line.sent it.line) (end_of it.conversation) (end_of c.turn.new.self) steps.0 false steps.1
+    steps.2))
 
 pub returns-in-Stops-clause-goes : goal.returns-in-Stops-clause-goes
 returns-in-Stops-clause-goes g c = λ h o.
@@ -33,7 +36,36 @@ returns-in-Stops-clause-goes g c = λ h o.
     let none = none_left c.unsent.result.now (unsent_of it) c.is_empty.result c.is_empty.ensures
     c.if-not-is_empty.false c.unsent.ensures in
     let stops : c.turn.result ≡ Ok Stops = search rules in
-    let steps = subst (λ (r : Result ControlTurn BookFault). Steps give tables left
+    let steps = subst (λ (r : Result ControlTurn BookFault). Steps give c.args.serving tables left
     (end_of it.conversation) (end_of c.turn.new.self) r) stops (c.turn.ensures.steps h o) in
-    rw none (takes_on give tables left (g.L.Line.received it.line) (g.L.Line.sent it.line)
-    (end_of it.conversation) (end_of c.turn.new.self) steps.0 steps.1)
+    rw none (takes_on give c.args.serving tables left (g.L.Line.received it.line)
+    (g.L.Line.sent it.line) (end_of it.conversation) (end_of c.turn.new.self) steps.0 true steps.1
+    steps.2)
+
+pub receive-requires-clause-within : goal.receive-requires-clause-within
+receive-requires-clause-within g c =
+    let waits : c.turn.result ≡ Ok Waits = search rules in
+    let same = c.turn.ensures.waits waits in
+    subst (λ (e : End). IsInLine e.held) (sym same.1) same.0
+
+pub receive-requires-clause-written : goal.receive-requires-clause-written
+receive-requires-clause-written g c =
+    let it = c.args.self.now in
+    let none = none_left c.unsent.result.now (unsent_of it) c.is_empty.result c.is_empty.ensures
+    c.if-not-is_empty.false c.unsent.ensures in
+    let waits : c.turn.result ≡ Ok Waits = search rules in
+    ap (λ (e : End). e.unsent) (c.turn.ensures.waits waits).1 ∙ none
+
+pub returns-then-not-is_empty-clause-goes : goal.returns-then-not-is_empty-clause-goes
+returns-then-not-is_empty-clause-goes g c = λ h o.
+    let give = g.C.Clock.may_give c.args.clock.now in
+    let tables = g.B.Book.tables c.args.host.now in
+    let left = left_of g.B.Book c.args.host.now in
+    let it = c.args.self.now in
+    let sent = c.send.ensures.sent in
+    moved_on give c.args.serving tables left (passed g.L.Line.received g.L.Line.sent it)
+    (passed g.L.Line.received g.L.Line.sent c.send.new.self) c.send.result c.send.ensures.no_stop
+    (rw (c.send.ensures.received, c.send.ensures.held, c.send.ensures.taken, sent.1, sent.2)
+    (writes_on give c.args.serving tables left (g.L.Line.received it.line) (g.L.Line.sent it.line)
+    (held_of it) (unsent_of it) (taken_of it) sent.0 refl
+    (none_stop g.B.Book g.met.B.Book.settled g.met.B.Book.stored c.args.host.now o)))
