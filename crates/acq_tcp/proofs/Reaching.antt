@@ -1,16 +1,23 @@
 -- What one part reaches, and the next one from there, both reach.
 use Rattle.std.proofs.Common.{◌≡◌, ℕ, List, [], ◌∷◌, ◌++◌, ◌∙◌, ap, sym, refl, inl, inr, arith}
-use Rattle.std.proofs.Common.{Option, Some, None, Result, Ok, Err, length-append}
+use Rattle.std.proofs.Common.{Option, Some, None, Result, Ok, Err, Bool, true, false}
+use Rattle.std.proofs.Common.{length-append}
+use Rattle.acq_book.specs.Calls.{Looks}
+use Rattle.acq_book.specs.Promise.{CountsFault}
+use Rattle.acq_book.specs.declared.book.Book.{Ghosts}
+use Rattle.acq_book.specs.declared.book_fault.BookFault as book_fault
 use Rattle.acq_core.specs.Tables.{Tables, tables_after}
 use Rattle.acq_core.specs.declared.event.Event.TheVariants.{Frame}
 use Rattle.acq_history.proofs.FinalDays.{tables_after-append}
+use Rattle.acq_host.proofs.Runs.{LeavesTables}
+use Rattle.acq_commands.specs.Faults.{TellsStore, of_book}
 use Rattle.acq_commands.specs.Listening.{Reaches, ReachesSome, ReachesBy, going_on}
 use Rattle.acq_commands.specs.declared.fault.Fault as fault
 use Rattle.acq_front.proofs.StopsLeave.{all_behind, some_behind}
 use Rattle.acq_front.specs.Ends.{Steps}
 use Rattle.acq_front.specs.Exchanges.{Goes, Passed, late_fault}
 use Rattle.acq_front.specs.Faults as front
-use Rattle.acq_front.specs.Stops.{Left, LeavesAll}
+use Rattle.acq_front.specs.Stops.{Left, LeavesAll, left_of}
 use Rattle.acq_front.specs.Talk.{Saying}
 use Rattle.acq_front.specs.Turns.{Incoming, Refused}
 use Rattle.acq_front.specs.declared.front_fault.FrontFault as ended
@@ -18,7 +25,9 @@ use Rattle.acq_front.specs.declared.round.Round.{Round}
 use Rattle.acq_control.specs.Answers.{events_asked}
 use Rattle.acq_control.specs.Ends.{RefusesLine}
 use Rattle.acq_control.specs.Exchanges as control
+use Rattle.acq_status.specs.declared.serving.Serving.{Serving}
 use Rattle.acq_control.specs.declared.control_round.ControlRound.{ControlRound}
+use Rattle.acq_control.specs.declared.control_round.ControlRound.TheVariants as control_round
 use Rattle.acq_tcp.specs.Rounds.{IsNotStores, RoundReaches, RoundTells}
 
 -- nothing was taken
@@ -123,6 +132,47 @@ module _ (may_give : ℕ → Type 0) (may_say : Saying) (old : Tables) (left : L
     end_reaches held rest unsent ended.TheVariants.Read h none = round_reaches h
     end_reaches held rest unsent (ended.TheVariants.Write n) h none = round_reaches h
 
+-- ---- the tables were looked at
+
+module _ {S : Type 0} (it : Ghosts S) (a c : S) (honest : it.is_honest c) (opened : it.is_open a)
+    (settled : LeavesTables it) (stored : (s : S) → it.is_open s → it.leaves_books s) where
+  looked_stop : (done : Bool) → Looks it a c done → LeavesAll (left_of it c) (it.tables a) []
+  looked_stop done looks = record {
+    tables = λ t l. settled a opened t (looks.leaves honest t l);
+    stored = looks.books honest (stored a opened);
+  }
+
+  pub looked_all : Looks it a c true → Reaches (it.tables a) (left_of it c)
+  looked_all looks = record {
+    events = [];
+    tables = looks.same (looks.stays_open refl honest opened);
+    stop = looked_stop true looks;
+  }
+
+  looked_some : (done : Bool) → Looks it a c done → ReachesSome (it.tables a) (left_of it c)
+  looked_some done looks = record {
+    events = [];
+    in_hand = [];
+    at_most_one = omega arith;
+    tables = λ is. looks.same is;
+    stop = record {
+      tables = λ t l. inl ((looked_stop done looks).tables t l);
+      stored = (looked_stop done looks).stored;
+    };
+  }
+
+  -- and the look was refused
+  pub looked_refused : (f : book_fault.BookFault) (done : Bool) → Looks it a c done →
+      ReachesBy (it.tables a) (left_of it c) (Err (of_book f))
+  looked_refused book_fault.TheVariants.Memory done looks = looked_some done looks
+  looked_refused book_fault.TheVariants.Store done looks = looked_some done looks
+
+-- what a look that was refused tells of the store
+pub tells_looked : (T : Type 0) (f : book_fault.BookFault) (a c : ℕ) (P : Type 0) →
+    CountsFault {T = T} (Err f) a c → TellsStore (Err (of_book f)) a c P
+tells_looked T book_fault.TheVariants.Memory a c P counts = counts
+tells_looked T book_fault.TheVariants.Store a c P counts = inl counts
+
 -- what the end of a connection is for the program
 pub program_reaches : (old : Tables) (left : Left) (r : Result (Unit {0}) ended.FrontFault) →
     RoundReaches old left (Some r) → ReachesBy old left (going_on r)
@@ -156,11 +206,23 @@ tells_late (Some (Err (ended.TheVariants.Write n))) P same not = same
 
 -- ---- control connections
 
-module _ (may_give : ℕ → Type 0) (old : Tables) (left : Left) (before after : control.Passed) where
-  pub control_reaches : control.Goes may_give old left before after → Reaches old left
-  control_reaches (inl on) = record { events = []; tables = on.tables; stop = on.stop }
-  control_reaches (inr asks) =
-      record { events = events_asked asks.asked; tables = asks.tables; stop = asks.stop }
+module _ (may_give : ℕ → Type 0) (serving : Serving) (old : Tables) (left : Left)
+    (before after : control.Passed) where
+  moved : control.MovesOn may_give serving old left before after → Reaches old left
+  moved on = record { events = []; tables = on.tables; stop = on.stop }
+
+  asked : (stops : Bool) → control.AsksOne may_give serving old left stops before after →
+      Reaches old left
+  asked stops one =
+      record { events = events_asked one.asked; tables = one.tables; stop = one.stop }
+
+  pub control_reaches : (round : ControlRound) →
+      control.Goes may_give serving old left before after (Ok round) → Reaches old left
+  control_reaches control_round.GoesOn (inl on) = moved on
+  control_reaches control_round.GoesOn (inr one) = asked false one
+  control_reaches control_round.Stops one = asked true one
+  control_reaches control_round.Waits on = moved on
+  control_reaches control_round.Ended on = moved on
 
   refused_line : RefusesLine old left → ReachesSome old left
   refused_line refused = record {
@@ -173,13 +235,14 @@ module _ (may_give : ℕ → Type 0) (old : Tables) (left : Left) (before after 
 
   -- and so where the round ended it
   pub control_ends : (f : ended.FrontFault) →
-      front.UnlessRefused {X = ControlRound} (Err f) (control.Goes may_give old left before after) →
+      front.UnlessRefused {X = ControlRound} (Err f)
+      (control.Goes may_give serving old left before after (Err f)) →
       control.IfRefused {X = ControlRound} (Err f) (RefusesLine old left) →
       RoundReaches old left (Some (Err f))
   control_ends ended.TheVariants.Memory goes refused = refused_line refused
   control_ends ended.TheVariants.Store goes refused = refused_line refused
-  control_ends ended.TheVariants.BadLength goes refused = control_reaches goes
-  control_ends ended.TheVariants.Ended goes refused = control_reaches goes
-  control_ends (ended.TheVariants.Undecodable f) goes refused = control_reaches goes
-  control_ends ended.TheVariants.Read goes refused = control_reaches goes
-  control_ends (ended.TheVariants.Write n) goes refused = control_reaches goes
+  control_ends ended.TheVariants.BadLength goes refused = moved goes
+  control_ends ended.TheVariants.Ended goes refused = moved goes
+  control_ends (ended.TheVariants.Undecodable f) goes refused = moved goes
+  control_ends ended.TheVariants.Read goes refused = moved goes
+  control_ends (ended.TheVariants.Write n) goes refused = moved goes

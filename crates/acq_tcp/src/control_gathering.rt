@@ -5,7 +5,10 @@ ghost use Rattle.acq_commands.specs.Faults.{IsOfGathering, TellsStore};
 ghost use Rattle.acq_commands.specs.Listening.{ReachesBy};
 ghost use Rattle.acq_front.specs.Stops.{left_of};
 
+use crate::journal::Journal;
+use crate::line_word::line_word;
 use crate::open_control::OpenControl;
+use crate::places::Places;
 use crate::time_limits::{TimeLimits, shorter};
 use acq_book::Book;
 use acq_commands::{Fault, end_connection};
@@ -16,6 +19,7 @@ use mio::net::UnixListener;
 use mio::{Interest, Registry, Token};
 use std::alloc::Global;
 use std::io::{self, ErrorKind};
+use std::time;
 use std::time::{Duration, Instant};
 
 /// How many control connections are served at once.
@@ -76,10 +80,11 @@ impl ControlGathering {
     }
 
     /// Takes in the connections that came, while there are places. One that can't be had is told.
-    pub(crate) fn admit<F: Sink>(
+    pub(crate) fn admit<T: time::Clock, W: Sink, F: Sink>(
         &mut self,
         alloc: Global,
         registry: &Registry,
+        journal: &mut Journal<'_, T, W>,
         now: Option<Instant>,
         faults: &mut F,
     ) {
@@ -88,7 +93,7 @@ impl ControlGathering {
                 return;
             }
             if let Some(None) = self.places.get(place) {
-                if self.fill(alloc, registry, place, now).is_err() {
+                if self.fill(alloc, registry, journal, place, now).is_err() {
                     let _ = end_connection(Err(FrontFault::Read), faults);
                 }
             }
@@ -96,10 +101,11 @@ impl ControlGathering {
     }
 
     /// Gives a place to the next connection that came, if one did.
-    fn fill(
+    fn fill<T: time::Clock, W: Sink>(
         &mut self,
         alloc: Global,
         registry: &Registry,
+        journal: &mut Journal<'_, T, W>,
         place: usize,
         now: Option<Instant>,
     ) -> io::Result<()> {
@@ -120,7 +126,7 @@ impl ControlGathering {
             Interest::READABLE | Interest::WRITABLE,
         )?;
         if let Some(empty) = self.places.get_mut(place) {
-            *empty = Some(OpenControl::new(alloc, stream, now));
+            *empty = Some(OpenControl::new(alloc, journal.control(), stream, now));
         }
         Ok(())
     }
@@ -150,12 +156,14 @@ impl ControlGathering {
         longest
     }
 
-    /// Gives each connection that is ready a round.
-    pub(crate) fn give_rounds<B: Book + Drop, C: Clock, F: Sink>(
+    /// Gives each connection that is ready a round, while so many places of terminals are free.
+    pub(crate) fn give_rounds<B: Book + Drop, C: Clock, T: time::Clock, W: Sink, F: Sink>(
         &mut self,
         alloc: Global,
         host: &mut Host<B>,
         clock: &mut C,
+        journal: &mut Journal<'_, T, W>,
+        places: Places,
         now: Option<Instant>,
         limits: TimeLimits,
         faults: &mut F,
@@ -170,7 +178,9 @@ impl ControlGathering {
     {
         for place in 0..self.places.len() {
             let (place, stopped) = (&mut self.places[place], &mut self.has_stopped);
-            give_round(place, stopped, alloc, host, clock, now, limits, faults)?;
+            give_round(
+                place, stopped, alloc, host, clock, journal, places, now, limits, faults,
+            )?;
         }
         Ok(())
     }
@@ -178,12 +188,14 @@ impl ControlGathering {
 
 /// Gives the connection in a place a round, notes whether it asked that the host ends, and frees the
 /// place at its end.
-fn give_round<B: Book + Drop, C: Clock, F: Sink>(
+fn give_round<B: Book + Drop, C: Clock, T: time::Clock, W: Sink, F: Sink>(
     place: &mut Option<OpenControl>,
     stopped: &mut bool,
     alloc: Global,
     host: &mut Host<B>,
     clock: &mut C,
+    journal: &mut Journal<'_, T, W>,
+    places: Places,
     now: Option<Instant>,
     limits: TimeLimits,
     faults: &mut F,
@@ -199,13 +211,53 @@ fn give_round<B: Book + Drop, C: Clock, F: Sink>(
     let Some(connection) = place else {
         return Ok(());
     };
-    let ended = connection.give_round(alloc, host, clock, now, limits);
+    let next = NextLine::of(connection, journal);
+    let serving = journal.serving(places, now);
+    let ended = connection.give_round(alloc, host, clock, serving, now, limits);
+    next.note(connection, journal, now);
     *stopped = *stopped || connection.has_stopped();
     match ended {
         None => Ok(()),
         Some(ended) => {
+            journal.closed(connection.name(), &ended, !connection.is_ready());
             *place = None;
             end_connection(ended, faults)
+        }
+    }
+}
+
+/// The line that a connection may take in a round.
+#[derive(Clone, Copy)]
+struct NextLine {
+    /// What it begins with; `None` where an answer is still to be written.
+    word: Option<&'static str>,
+    began: Option<Instant>,
+}
+
+impl NextLine {
+    /// That of a round that begins now.
+    fn of<T: time::Clock, W: Sink>(
+        connection: &OpenControl,
+        journal: &Journal<'_, T, W>,
+    ) -> NextLine {
+        NextLine {
+            word: (!connection.is_answering()).then(|| line_word(connection.held())),
+            began: journal.time_for_log(),
+        }
+    }
+
+    /// Notes the line behind the round, where it was taken.
+    fn note<T: time::Clock, W: Sink>(
+        &self,
+        connection: &OpenControl,
+        journal: &mut Journal<'_, T, W>,
+        now: Option<Instant>,
+    ) {
+        if let Some(word) = self.word {
+            if connection.is_answering() {
+                let answer = connection.unsent();
+                journal.answered(connection.name(), word, answer, self.began, now);
+            }
         }
     }
 }

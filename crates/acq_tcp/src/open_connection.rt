@@ -4,6 +4,7 @@ ghost use Rattle.std.specs.Prelude.{Err, Some};
 ghost use Rattle.acq_front.specs.Stops.{left_of};
 ghost use Rattle.acq_tcp.specs.Rounds.{IsNotStores, RoundReaches, RoundTells, UnlessRefused};
 
+use crate::connection_name::ConnectionName;
 use crate::parting::{PIECE, Parting};
 use crate::time_limits::{TimeLimits, left_of, shorter};
 use crate::timed_stream::TimedStream;
@@ -19,6 +20,7 @@ use std::time::{Duration, Instant};
 /// A connection among others.
 #[derive(Drop)]
 pub(crate) struct OpenConnection<'a, T> {
+    name: ConnectionName,
     exchange: Exchange<StreamLine<TimedStream<'a, T>>>,
     /// Whether a round may find something to do.
     is_ready: bool,
@@ -29,19 +31,31 @@ pub(crate) struct OpenConnection<'a, T> {
 }
 
 impl<'a, T: time::Clock> OpenConnection<'a, T> {
-    /// A connection that came at this time, where the time is known.
+    /// A connection of this name that came at this time, where the time is known.
     pub(crate) fn new(
+        name: ConnectionName,
         stream: TcpStream,
         time: &'a T,
         now: Option<Instant>,
     ) -> OpenConnection<'a, T> {
         let line = StreamLine::new(TimedStream::new(stream, time));
         OpenConnection {
+            name,
             exchange: Exchange::new(line),
             is_ready: true,
             last_moved: now,
             parting: None,
         }
+    }
+
+    /// What it is called.
+    pub(crate) fn name(&self) -> ConnectionName {
+        self.name
+    }
+
+    /// What of a reply is still to be written, as a frame's bytes.
+    pub(crate) fn unsent(&self) -> &[u8] {
+        self.exchange.unsent()
     }
 
     /// Whether a round may find something to do.
@@ -86,7 +100,7 @@ impl<'a, T: time::Clock> OpenConnection<'a, T> {
 
     /// Whether a reply is still to be written.
     pub(crate) fn is_answering(&self) -> bool {
-        matches!(self.timed_out(), FrontFault::Write(_))
+        !self.unsent().is_empty()
     }
 
     /// What it is to have waited too long, which is no fault of the store.

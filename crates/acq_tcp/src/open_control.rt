@@ -3,11 +3,13 @@
 ghost use Rattle.acq_front.specs.Stops.{left_of};
 ghost use Rattle.acq_tcp.specs.Rounds.{IsNotStores, RoundReaches, RoundTells, UnlessRefused};
 
+use crate::connection_name::ConnectionName;
 use crate::time_limits::{TimeLimits, left_of};
 use acq_book::Book;
 use acq_control::{ControlExchange, ControlRound};
 use acq_front::{Clock, FrontFault, StreamLine};
 use acq_host::Host;
+use acq_status::Serving;
 use mio::net::UnixStream;
 use std::alloc::Global;
 use std::time::{Duration, Instant};
@@ -15,6 +17,7 @@ use std::time::{Duration, Instant};
 /// A control connection among others.
 #[derive(Drop)]
 pub(crate) struct OpenControl {
+    name: ConnectionName,
     exchange: ControlExchange<StreamLine<UnixStream>>,
     /// Whether a round may find something to do.
     is_ready: bool,
@@ -25,14 +28,35 @@ pub(crate) struct OpenControl {
 }
 
 impl OpenControl {
-    /// A connection that came at this time, where the time is known.
-    pub(crate) fn new(alloc: Global, stream: UnixStream, now: Option<Instant>) -> OpenControl {
+    /// A connection of this name that came at this time, where the time is known.
+    pub(crate) fn new(
+        alloc: Global,
+        name: ConnectionName,
+        stream: UnixStream,
+        now: Option<Instant>,
+    ) -> OpenControl {
         OpenControl {
+            name,
             exchange: ControlExchange::new(alloc, StreamLine::new(stream)),
             is_ready: true,
             last_moved: now,
             has_stopped: false,
         }
+    }
+
+    /// What it is called.
+    pub(crate) fn name(&self) -> ConnectionName {
+        self.name
+    }
+
+    /// What came and belongs to no line yet that was taken.
+    pub(crate) fn held(&self) -> &[u8] {
+        self.exchange.held()
+    }
+
+    /// What of an answer is still to be written.
+    pub(crate) fn unsent(&self) -> &[u8] {
+        self.exchange.unsent()
     }
 
     /// Whether it asked that the host ends.
@@ -60,13 +84,14 @@ impl OpenControl {
         limits.idle.map(|idle| left_of(idle, self.last_moved, now))
     }
 
-    /// Gives it a round, if it is ready, and returns how it ended, if it did. One that is silent too
-    /// long ended with a failed read.
+    /// Gives it a round, if it is ready, while so much is served, and returns how it ended, if it
+    /// did. One that is silent too long ended with a failed read.
     pub(crate) fn give_round<B: Book + Drop, C: Clock>(
         &mut self,
         alloc: Global,
         host: &mut Host<B>,
         clock: &mut C,
+        serving: Serving,
         now: Option<Instant>,
         limits: TimeLimits,
     ) -> Option<Result<(), FrontFault>>
@@ -81,7 +106,7 @@ impl OpenControl {
         if !self.is_ready {
             return self.end_late(now, limits);
         }
-        match self.exchange.round(alloc, host, clock) {
+        match self.exchange.round(alloc, host, clock, serving) {
             Ok(ControlRound::GoesOn) => {
                 self.last_moved = now;
                 None

@@ -6,8 +6,11 @@ ghost use Rattle.acq_commands.specs.Listening.{ReachesBy};
 ghost use Rattle.acq_front.specs.Stops.{left_of};
 
 use crate::control_gathering::{CONTROLS, ControlGathering};
+use crate::host_log::HostLog;
+use crate::journal::Journal;
 use crate::open_connection::OpenConnection;
 use crate::parting::ends_in_bad_frame;
+use crate::places::Places;
 use crate::tcp_connections::PAUSE;
 use crate::time_limits::{TimeLimits, left_of, shorter};
 use acq_book::Book;
@@ -26,7 +29,7 @@ use std::{io, time};
 /// Connections that come in at a port and are served at once. Each has a place, and each that is
 /// ready gets a round in turn, so that none waits for another one's bytes.
 #[derive(Drop)]
-pub struct TcpGathering<'a, T> {
+pub struct TcpGathering<'a, T, W> {
     listener: TcpListener,
     poll: Poll,
     events: Events,
@@ -38,14 +41,16 @@ pub struct TcpGathering<'a, T> {
     /// When one last couldn't be had.
     refused: Option<Instant>,
     /// One that came when all places were taken.
-    waiting: Option<TcpStream>,
+    waiting: Option<(TcpStream, SocketAddr)>,
     /// Control connections, where they can come.
     control: Option<ControlGathering>,
+    journal: Journal<'a, T, W>,
 }
 
-impl<'a, T: time::Clock> TcpGathering<'a, T> {
+impl<'a, T: time::Clock, W: Sink + Drop> TcpGathering<'a, T, W> {
     /// Listens at an address and a port, for so many connections at once. One that takes longer than
-    /// this patience lasts is closed. Beside them control connections come to `control`.
+    /// this patience lasts is closed. Beside them control connections come to `control`. What is
+    /// served is told to the log, where there is one.
     pub fn listen<N: Net>(
         net: &N,
         time: &'a T,
@@ -54,7 +59,8 @@ impl<'a, T: time::Clock> TcpGathering<'a, T> {
         patience: Patience,
         together: usize,
         control: Option<UnixListener>,
-    ) -> Result<TcpGathering<'a, T>, Fault>
+        log: Option<HostLog<W>>,
+    ) -> Result<TcpGathering<'a, T, W>, Fault>
         ensures { IfErr result IsOfGathering }
     {
         let mut places = Vec::with_capacity(alloc, together)?;
@@ -79,12 +85,27 @@ impl<'a, T: time::Clock> TcpGathering<'a, T> {
             refused: None,
             waiting: None,
             control,
+            journal: Journal::new(time, log),
         })
     }
 
     /// The address that it listens at.
     pub fn local_addr(&self) -> io::Result<SocketAddr> {
         self.listener.local_addr()
+    }
+
+    /// How many places there are, and how many are free.
+    fn places(&self) -> Places {
+        let mut open = 0_u64;
+        for place in self.places.iter() {
+            if place.is_none() {
+                open = open.saturating_add(1);
+            }
+        }
+        Places {
+            all: self.places.len() as u64,
+            open,
+        }
     }
 
     /// The time, where the system tells it.
@@ -131,10 +152,10 @@ impl<'a, T: time::Clock> TcpGathering<'a, T> {
     /// whether there is one.
     fn fill(&mut self, place: usize, now: Option<Instant>) -> io::Result<bool> {
         let next = match self.waiting.take() {
-            Some(stream) => Some(stream),
+            Some(next) => Some(next),
             None => self.accept(now)?,
         };
-        let Some(mut stream) = next else {
+        let Some((mut stream, peer)) = next else {
             return Ok(false);
         };
         stream.set_nodelay(true)?;
@@ -144,19 +165,21 @@ impl<'a, T: time::Clock> TcpGathering<'a, T> {
             Interest::READABLE | Interest::WRITABLE,
         )?;
         if let Some(empty) = self.places.get_mut(place) {
-            *empty = Some(OpenConnection::new(stream, self.time, now));
+            let name = self.journal.terminal(peer);
+            *empty = Some(OpenConnection::new(name, stream, self.time, now));
         }
         Ok(true)
     }
 
-    /// The next connection that came, if one did. Behind one that couldn't be had it pauses.
-    fn accept(&mut self, now: Option<Instant>) -> io::Result<Option<TcpStream>> {
+    /// The next connection that came, and whence, if one did. Behind one that couldn't be had it
+    /// pauses.
+    fn accept(&mut self, now: Option<Instant>) -> io::Result<Option<(TcpStream, SocketAddr)>> {
         if !self.may_come || self.pause_left(now).is_some_and(|left| !left.is_zero()) {
             return Ok(None);
         }
         self.refused = None;
         match self.listener.accept() {
-            Ok((stream, _)) => Ok(Some(stream)),
+            Ok(next) => Ok(Some(next)),
             Err(fault) if fault.kind() == ErrorKind::WouldBlock => {
                 self.may_come = false;
                 Ok(None)
@@ -235,7 +258,9 @@ impl<'a, T: time::Clock> TcpGathering<'a, T> {
         };
         if let Some(taken) = self.places.get_mut(place) {
             if let Some(connection) = taken.take() {
-                let _ = end_connection(Err(connection.timed_out()), faults);
+                let ended = Err(connection.timed_out());
+                self.journal.closed(connection.name(), &ended, true);
+                let _ = end_connection(ended, faults);
             }
         }
     }
@@ -279,8 +304,10 @@ impl<'a, T: time::Clock> TcpGathering<'a, T> {
     {
         let (now, limits) = (self.now(), self.limits);
         for place in 0..self.places.len() {
-            let place = &mut self.places[place];
-            give_round(place, alloc, host, clock, issuer, now, limits, faults)?;
+            let (place, journal) = (&mut self.places[place], &mut self.journal);
+            give_round(
+                place, alloc, host, clock, issuer, journal, now, limits, faults,
+            )?;
         }
         Ok(())
     }
@@ -305,9 +332,7 @@ impl<'a, T: time::Clock> TcpGathering<'a, T> {
     fn close_answered(&mut self) {
         for place in 0..self.places.len() {
             if let Some(taken) = self.places.get_mut(place) {
-                if taken.as_ref().is_some_and(|one| !one.is_answering()) {
-                    *taken = None;
-                }
+                close_if_answered(taken, &mut self.journal);
             }
         }
     }
@@ -328,12 +353,36 @@ impl<'a, T: time::Clock> TcpGathering<'a, T> {
         ensures store { TellsStore result (B.failures host.old) (B.failures host.new)
             (B.is_honest host.new → B.is_open host.old → ⊥) }
     {
-        let (now, limits) = (self.now(), self.limits);
+        let (now, limits, places) = (self.now(), self.limits, self.places());
         let Some(control) = &mut self.control else {
             return Ok(());
         };
-        control.admit(alloc, self.poll.registry(), now, faults);
-        control.give_rounds(alloc, host, clock, now, limits, faults)
+        let journal = &mut self.journal;
+        control.admit(alloc, self.poll.registry(), journal, now, faults);
+        control.give_rounds(alloc, host, clock, journal, places, now, limits, faults)
+    }
+
+    /// Tells the log, where there is one, that it listens, and on which business day.
+    fn begin<B: Book + Drop>(&mut self, host: &mut Host<B>) -> Result<(), Fault>
+        ensures reaches { B.is_honest host.new → B.is_open host.old
+            → ReachesBy (B.tables host.old) (left_of B.Book host.new) result }
+        ensures stays_open { B.is_honest host.new → B.is_open host.old
+            → OnOk result (B.is_open host.new) }
+        ensures was_honest { B.is_honest host.new → B.is_honest host.old }
+        ensures store { TellsStore result (B.failures host.old) (B.failures host.new)
+            (B.is_honest host.new → B.is_open host.old → ⊥) }
+    {
+        if !self.journal.has_log() {
+            return Ok(());
+        }
+        match host.day() {
+            Ok(day) => {
+                let address = self.local_addr().ok();
+                self.journal.listening(address, day);
+                Ok(())
+            }
+            Err(fault) => Err(Fault::from(fault)),
+        }
     }
 
     /// Whether no connection has a place.
@@ -353,12 +402,13 @@ fn is_before(one: Option<Instant>, other: Option<Instant>) -> bool {
 
 /// Gives the connection in a place a round, and frees the place at its end, or behind a bad frame
 /// once it is parted with.
-fn give_round<'a, T: time::Clock, B: Book + Drop, C: Clock, I: Issuer, F: Sink>(
+fn give_round<'a, T: time::Clock, B: Book + Drop, C: Clock, I: Issuer, W: Sink, F: Sink>(
     place: &mut Option<OpenConnection<'a, T>>,
     alloc: Global,
     host: &mut Host<B>,
     clock: &mut C,
     issuer: &mut I,
+    journal: &mut Journal<'a, T, W>,
     now: Option<Instant>,
     limits: TimeLimits,
     faults: &mut F,
@@ -380,10 +430,16 @@ fn give_round<'a, T: time::Clock, B: Book + Drop, C: Clock, I: Issuer, F: Sink>(
         }
         return Ok(());
     }
-    match connection.give_round(alloc, host, clock, issuer, now, limits) {
+    let (was_answering, began) = (connection.is_answering(), journal.time_for_log());
+    let ended = connection.give_round(alloc, host, clock, issuer, now, limits);
+    if !was_answering && connection.is_answering() {
+        journal.replied(connection.name(), connection.unsent(), began, now);
+    }
+    match ended {
         None => Ok(()),
         Some(ended) => {
-            if !ends_in_bad_frame(&ended) || !connection.part(now) {
+            journal.closed(connection.name(), &ended, !connection.is_ready());
+            if !has_bad_frame(&ended, journal) || !connection.part(now) {
                 *place = None;
             }
             end_connection(ended, faults)
@@ -391,7 +447,36 @@ fn give_round<'a, T: time::Clock, B: Book + Drop, C: Clock, I: Issuer, F: Sink>(
     }
 }
 
-impl<T: time::Clock> Gathering for TcpGathering<'_, T> {
+/// Whether a connection ended with a fault of its frames, which is counted.
+fn has_bad_frame<T: time::Clock, W: Sink>(
+    ended: &Result<(), FrontFault>,
+    journal: &mut Journal<'_, T, W>,
+) -> bool {
+    let is_bad = ends_in_bad_frame(ended);
+    if is_bad {
+        journal.refused_frame();
+    }
+    is_bad
+}
+
+/// Closes the connection in a place, if it has its replies.
+fn close_if_answered<'a, T: time::Clock, W: Sink>(
+    place: &mut Option<OpenConnection<'a, T>>,
+    journal: &mut Journal<'a, T, W>,
+) {
+    let Some(connection) = place else {
+        return;
+    };
+    if connection.is_answering() {
+        return;
+    }
+    if !connection.is_parting() {
+        journal.closed(connection.name(), &Ok(()), false);
+    }
+    *place = None;
+}
+
+impl<T: time::Clock, W: Sink + Drop> Gathering for TcpGathering<'_, T, W> {
     fn serve_all<B: Book + Drop, C: Clock, I: Issuer, F: Sink>(
         &mut self,
         alloc: Global,
@@ -401,6 +486,7 @@ impl<T: time::Clock> Gathering for TcpGathering<'_, T> {
         issuer: &mut I,
         faults: &mut F,
     ) -> Result<(), Fault> {
+        self.begin(host)?;
         let mut left = count;
         for _ in 0..u64::MAX {
             if self.has_stopped() {

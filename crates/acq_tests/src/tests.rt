@@ -4,9 +4,9 @@
 mod calendar;
 mod clocks;
 mod connections;
-mod control_lines;
 mod counted;
 mod debug_texts;
+mod host_log;
 mod hosts;
 mod issuers_files;
 mod lines;

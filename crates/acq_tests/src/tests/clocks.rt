@@ -9,7 +9,7 @@ use std::{io, time};
 
 /// A clock that shows so many seconds since 1970-01-01 00:00:00, or can't be read.
 #[derive(Drop)]
-struct Shown(Option<u64>);
+pub(super) struct Shown(pub(super) Option<u64>);
 
 impl time::Clock for Shown {
     fn monotonic(&self) -> io::Result<Duration> {

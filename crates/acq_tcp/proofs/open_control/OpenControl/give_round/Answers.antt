@@ -3,6 +3,8 @@ use Rattle.acq_front.specs.Stops.{left_of}
 use Rattle.acq_front.proofs.StopsLeave.{none_stop}
 use Rattle.acq_front.proofs.Turned.{tells_on}
 use Rattle.acq_control.specs.declared.control_round.ControlRound.{ControlRound}
+use Rattle.acq_control.specs.declared.control_round.ControlRound.TheVariants.{Ended, GoesOn, Stops}
+use Rattle.acq_control.specs.declared.control_round.ControlRound.TheVariants.{Waits}
 use Rattle.acq_tcp.proofs.Reaching.{control_ends, control_reaches, reached_still, reaches_none}
 use Rattle.acq_tcp.proofs.Reaching.{tells_late}
 use Rattle.acq_tcp.proofs.open_control.OpenControl.give_round.Goals as goal
@@ -19,19 +21,19 @@ returns-then-not-self-clause-store g c =
 
 pub returns-in-Ok-GoesOn-clause-reaches : goal.returns-in-Ok-GoesOn-clause-reaches
 returns-in-Ok-GoesOn-clause-reaches g c = λ h o.
-    control_reaches (g.C.Clock.may_give c.args.clock.now) (g.B.Book.tables c.args.host.now)
-    (left_of g.B.Book c.round.new.host) _ _ (c.in-Ok-GoesOn.ensures.goes h o)
+    control_reaches (g.C.Clock.may_give c.args.clock.now) c.args.serving (g.B.Book.tables c.args.host.now)
+    (left_of g.B.Book c.round.new.host) _ _ GoesOn (rw c.in-Ok-GoesOn.field-0-is at (c.in-Ok-GoesOn.ensures.goes h o))
 
 pub returns-in-Ok-Stops-clause-reaches : goal.returns-in-Ok-Stops-clause-reaches
 returns-in-Ok-Stops-clause-reaches g c = λ h o.
-    control_reaches (g.C.Clock.may_give c.args.clock.now) (g.B.Book.tables c.args.host.now)
-    (left_of g.B.Book c.round.new.host) _ _ (c.in-Ok-Stops.ensures.goes h o)
+    control_reaches (g.C.Clock.may_give c.args.clock.now) c.args.serving (g.B.Book.tables c.args.host.now)
+    (left_of g.B.Book c.round.new.host) _ _ Stops (rw c.in-Ok-Stops.field-0-is at (c.in-Ok-Stops.ensures.goes h o))
 
 pub returns-in-Ok-Waits-clause-reaches : goal.returns-in-Ok-Waits-clause-reaches
 returns-in-Ok-Waits-clause-reaches g c = λ h o.
     reached_still c.end_late-in-Ok-Waits.result _ _
-    (control_reaches (g.C.Clock.may_give c.args.clock.now) (g.B.Book.tables c.args.host.now)
-    (left_of g.B.Book c.round.new.host) _ _ (c.in-Ok-Waits.ensures.goes h o))
+    (control_reaches (g.C.Clock.may_give c.args.clock.now) c.args.serving (g.B.Book.tables c.args.host.now)
+    (left_of g.B.Book c.round.new.host) _ _ Waits (rw c.in-Ok-Waits.field-0-is at (c.in-Ok-Waits.ensures.goes h o)))
 
 pub returns-in-Ok-Waits-clause-store : goal.returns-in-Ok-Waits-clause-store
 returns-in-Ok-Waits-clause-store g c =
@@ -40,12 +42,12 @@ returns-in-Ok-Waits-clause-store g c =
 
 pub returns-in-Ok-Ended-clause-reaches : goal.returns-in-Ok-Ended-clause-reaches
 returns-in-Ok-Ended-clause-reaches g c = λ h o.
-    control_reaches (g.C.Clock.may_give c.args.clock.now) (g.B.Book.tables c.args.host.now)
-    (left_of g.B.Book c.round.new.host) _ _ (c.in-Ok-Ended.ensures.goes h o)
+    control_reaches (g.C.Clock.may_give c.args.clock.now) c.args.serving (g.B.Book.tables c.args.host.now)
+    (left_of g.B.Book c.round.new.host) _ _ Ended (rw c.in-Ok-Ended.field-0-is at (c.in-Ok-Ended.ensures.goes h o))
 
 pub returns-in-Err-clause-reaches : goal.returns-in-Err-clause-reaches
 returns-in-Err-clause-reaches g c = λ h o.
-    control_ends (g.C.Clock.may_give c.args.clock.now) (g.B.Book.tables c.args.host.now)
+    control_ends (g.C.Clock.may_give c.args.clock.now) c.args.serving (g.B.Book.tables c.args.host.now)
     (left_of g.B.Book c.round.new.host) _ _ c.in-Err.fault (c.in-Err.ensures.goes h o)
     (c.in-Err.ensures.refused h o)
 

@@ -1,10 +1,19 @@
-use Rattle.std.proofs.Common.{Err, refl, ◌∙◌}
+use Rattle.std.proofs.Common.{Err, ◌∙◌}
 use Rattle.std.proofs.lemmas.Result.{err_from_is_err_and}
 use Rattle.acq_front.specs.Stops.{left_of}
-use Rattle.acq_front.proofs.StopsLeave.{none_stop}
 use Rattle.acq_commands.proofs.FaultsTold.{tells_later}
-use Rattle.acq_tcp.proofs.Reaching.{reached_on, reaches_none, refused_on}
+use Rattle.acq_tcp.proofs.Reaching.{reached_on, refused_on}
 use Rattle.acq_tcp.proofs.tcp_gathering.TcpGatheringGathering.serve_all.Goals as goal
+
+pub returns-in_err-begin : goal.returns-in_err-begin
+returns-in_err-begin g c = record {
+  reaches = λ h o.
+      let p = err_from_is_err_and c.from_residual.result c.from_residual.ensures.1 in
+      rw (p.1, p.2) (c.in_err-begin.ensures.reaches h o);
+  store =
+      let p = err_from_is_err_and c.from_residual.result c.from_residual.ensures.1 in
+      rw (p.1, p.2) c.in_err-begin.ensures.store;
+}
 
 pub returns-in_err-give_rounds : goal.returns-in_err-give_rounds
 returns-in_err-give_rounds g c = record {
@@ -12,7 +21,7 @@ returns-in_err-give_rounds g c = record {
       let inv = c.loop.invariant in
       let one = c.in_err-give_rounds.ensures in
       let before = inv.0 (one.was_honest h) o in
-      let p = err_from_is_err_and c.from_residual.result c.from_residual.ensures.1 in
+      let p = err_from_is_err_and c.from_residual-in_err-give_rounds.result c.from_residual-in_err-give_rounds.ensures.1 in
       rw (p.1, p.2)
       (refused_on (g.B.Book.tables c.args.host.now) (left_of g.B.Book c.loop.host)
       (left_of g.B.Book c.give_rounds.new.host)
@@ -20,7 +29,7 @@ returns-in_err-give_rounds g c = record {
   store =
       let inv = c.loop.invariant in
       let one = c.in_err-give_rounds.ensures in
-      let p = err_from_is_err_and c.from_residual.result c.from_residual.ensures.1 in
+      let p = err_from_is_err_and c.from_residual-in_err-give_rounds.result c.from_residual-in_err-give_rounds.ensures.1 in
       rw (p.1, p.2) (tells_later (Err c.in_err-give_rounds.field-0.0) _ _ _ inv.2
       (λ no h o. no h (inv.0 (one.was_honest h) o).1) one.store);
 }
@@ -76,12 +85,6 @@ loop-preserved g c =
     )
 
 pub loop-init : goal.loop-init
-loop-init g c = (
-  (λ h o. (
-    reaches_none (left_of g.B.Book c.args.host.now)
-        (none_stop g.B.Book g.met.B.Book.settled g.met.B.Book.stored c.args.host.now o),
-    o,
-  )),
-  (λ h. h),
-  refl,
-)
+loop-init g c =
+    let one = c.in_ok-begin.ensures in
+    ((λ h o. (one.reaches h o, one.stays_open h o)), one.was_honest, one.store)
