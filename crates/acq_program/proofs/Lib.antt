@@ -4,3 +4,4 @@ pub mod AskedCommands
 pub mod OptionsRead
 pub mod ProgramIsSimple
 pub mod WantedReports
+mod Ends

@@ -34,6 +34,8 @@ found_texts-rows f =
       first_value-rows f (codes "idle-when-full"),
       first_value-rows f (codes "together"),
       first_value-rows f (codes "control"),
+      first_value-rows f (codes "log"),
+      first_value-rows f (codes "path"),
       values_found-rows f (codes "clearing"),
       values_found-rows f (codes "report"),
     ) refl

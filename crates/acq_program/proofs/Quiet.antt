@@ -1,15 +1,15 @@
 -- What is told where all is well.
-use Rattle.std.proofs.Common.{◌≡◌, List, ℕ, Ok, Err, ◌∙◌, inl, inr, arith}
+use Rattle.std.proofs.Common.{◌≡◌, List, ℕ, Ok, Err, ap, ◌∙◌, inl, inr, arith}
 use Rattle.std.specs.Prelude.{Result, OnOk}
 use Rattle.acq_program.specs.Arguments.{AsksFor}
 use Rattle.acq_program.specs.declared.action.Action.{Action}
 use Rattle.acq_program.specs.declared.action.Action.TheVariants.{Init, Migrate, Once, Listen}
 use Rattle.acq_program.specs.declared.action.Action.TheVariants.{Replay, Report, Holds, Show}
-use Rattle.acq_program.specs.declared.action.Action.TheVariants.{Pending}
-use Rattle.acq_commands.specs.Faults.{status_after, status_of}
+use Rattle.acq_program.specs.declared.action.Action.TheVariants.{Pending, Status, Tell}
+use Rattle.acq_commands.specs.Faults.{status_of}
 use Rattle.acq_commands.specs.declared.fault.Fault.{Fault}
 use Rattle.acq_commands.specs.declared.fault.Fault.TheVariants as fault
-use Rattle.acq_program.specs.Runs.{IsQuiet, Tells}
+use Rattle.acq_program.specs.Runs.{IsQuiet, Tells, status_in}
 
 -- a fault's status is not 0
 not_well : (f : Fault) → status_of f ≡ 0 → ⊥
@@ -28,15 +28,18 @@ not_well fault.DayNotOver h = omega (arith, h)
 not_well (fault.StillPending n) h = omega (arith, h)
 not_well (fault.BadLine n) h = omega (arith, h)
 
-where_well : (ended : Result (Unit {0}) Fault) (P : Type 0) → OnOk ended P →
-    status_after ended ≡ 0 → P
-where_well (Ok u) P p h = p
+where_well : (ended : Result ℕ Fault) (P : Type 0) → OnOk ended P → status_in ended ≡ 0 → P
+where_well (Ok status) P p h = p
 where_well (Err f) P p h = absurd (not_well f h)
 
-pub still_quiet : (words : List (List ℕ)) (action : Action) (ended : Result (Unit {0}) Fault)
+ends_well : (ended : Result ℕ Fault) → status_in ended ≡ 0 → ended ≡ Ok 0
+ends_well (Ok status) h = ap Ok h
+ends_well (Err f) h = absurd (not_well f h)
+
+pub still_quiet : (words : List (List ℕ)) (action : Action) (ended : Result ℕ Fault)
     (told mid after : List ℕ) →
-    AsksFor words (Ok action) → Tells action told mid → OnOk ended (after ≡ mid) →
-    status_after ended ≡ 0 →
+    AsksFor words (Ok action) → Tells action told mid ended → OnOk ended (after ≡ mid) →
+    status_in ended ≡ 0 →
     IsQuiet words told after
 still_quiet words (Init new) ended told mid after asks same quiet well =
     inl (where_well ended (after ≡ mid) quiet well ∙ same)
@@ -55,3 +58,7 @@ still_quiet words (Pending asked) ended told mid after asks same quiet well =
     inl (where_well ended (after ≡ mid) quiet well ∙ same)
 still_quiet words (Show form) ended told mid after asks same quiet well =
     inl (where_well ended (after ≡ mid) quiet well ∙ same)
+still_quiet words (Status asked) ended told mid after asks same quiet well =
+    inl (where_well ended (after ≡ mid) quiet well ∙ same)
+still_quiet words (Tell path) ended told mid after asks same quiet well =
+    inl (where_well ended (after ≡ mid) quiet well ∙ same (ends_well ended well))

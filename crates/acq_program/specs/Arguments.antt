@@ -27,7 +27,7 @@ use Rattle.acq_program.specs.Program.{program}
 use Rattle.acq_program.specs.declared.action.Action.{Action}
 use Rattle.acq_program.specs.declared.action.Action.TheVariants.{Init, Migrate, Once, Listen}
 use Rattle.acq_program.specs.declared.action.Action.TheVariants.{Replay, Report, Holds, Show}
-use Rattle.acq_program.specs.declared.action.Action.TheVariants.{Pending}
+use Rattle.acq_program.specs.declared.action.Action.TheVariants.{Pending, Status, Tell}
 use Rattle.acq_commands.specs.declared.day_report.DayReport.{DayReport}
 use Rattle.acq_commands.specs.declared.input_form.InputForm.{InputForm}
 use Rattle.acq_commands.specs.declared.input_form.InputForm.TheVariants as form
@@ -53,6 +53,7 @@ name_of_option option.Idle = codes "--idle"
 name_of_option option.FrameWithin = codes "--frame-within"
 name_of_option option.IdleWhenFull = codes "--idle-when-full"
 name_of_option option.Together = codes "--together"
+name_of_option option.Path = codes "PATH"
 name_of_option (option.Report kinds.Clearing) = codes "--clearing"
 name_of_option (option.Report kinds.Settlement) = codes "--report"
 
@@ -75,6 +76,8 @@ pub record OptionTexts : Type 0 where
   pub idle_when_full : Option Text
   pub together : Option Text
   pub control : Option Text
+  pub log : Option Text
+  pub path : Option Text
 
 -- all values of an option
 abbrev pub values_of : Text → List Row → List Text
@@ -100,6 +103,8 @@ option_texts rows = record {
   idle_when_full = first_of (codes "idle-when-full") rows;
   together = first_of (codes "together") rows;
   control = first_of (codes "control") rows;
+  log = first_of (codes "log") rows;
+  path = first_of (codes "path") rows;
 }
 
 -- all values of an option, as they were found
@@ -126,6 +131,8 @@ found_texts found = record {
   idle_when_full = first_value found (codes "idle-when-full");
   together = first_value found (codes "together");
   control = first_value found (codes "control");
+  log = first_value found (codes "log");
+  path = first_value found (codes "path");
 }
 
 -- ---- the value of an option, or the name of the option where it has none in its form
@@ -367,7 +374,8 @@ abbrev pub EndpointIs : OptionTexts → Result SocketAddrV4 OptionName → Type 
 EndpointIs texts = Then (PortIs texts) (EndpointAt texts)
 
 -- so many connections here over this book, with this file of issuers' answers, at this moment, with
--- so much patience for each, so many of them at once, and control connections at this socket
+-- so much patience for each, so many of them at once, control connections at this socket, and a log
+-- in this file
 abbrev pub IsListen : OptionTexts → String Global → SocketAddrV4 → ℕ → Option ℕ → Patience → ℕ →
     Result Action OptionName → Type 0
 IsListen texts path endpoint count moment patience together (Ok (Listen asked)) =
@@ -375,6 +383,7 @@ IsListen texts path endpoint count moment patience together (Ok (Listen asked)) 
     × (option_map string_bytes asked.issuers ≡ texts.issuers) × (asked.moment ≡ moment)
     × (asked.patience ≡ patience) × (asked.together ≡ together)
     × (option_map string_bytes asked.control ≡ texts.control)
+    × (option_map string_bytes asked.log ≡ texts.log)
 IsListen texts path endpoint count moment patience together other = ⊥
 
 abbrev pub ListenBeside : OptionTexts → String Global → SocketAddrV4 → ℕ → Option ℕ → Patience →
@@ -481,6 +490,30 @@ PendingIn texts path = Then (DayIfThere texts) (PendingOn texts path)
 abbrev pub AsksPending : OptionTexts → Result Action OptionName → Type 0
 AsksPending texts = Then (FileIs texts) (PendingIn texts)
 
+-- the path of a socket's file
+abbrev pub PathIs : OptionTexts → Result (String Global) OptionName → Type 0
+PathIs texts (Ok path) = texts.path ≡ Some (string_bytes path)
+PathIs texts (Err name) = (name ≡ option.Path) × (texts.path ≡ None)
+
+-- the host at this path
+abbrev pub IsTell : String Global → Result Action OptionName → Type 0
+IsTell path read = read ≡ Ok (Tell path)
+
+-- what `tell` is asked for
+abbrev pub AsksTell : OptionTexts → Result Action OptionName → Type 0
+AsksTell texts = Then (PathIs texts) IsTell
+
+-- the figures of the book in this file at this moment
+abbrev pub IsStatus : String Global → Option ℕ → Result Action OptionName → Type 0
+IsStatus path moment read = read ≡ Ok (Status (record { path = path; moment = moment }))
+
+abbrev pub StatusIn : OptionTexts → String Global → Result Action OptionName → Type 0
+StatusIn texts path = Then (MomentIfThere texts) (IsStatus path)
+
+-- what `status` is asked for: the file first, then the moment
+abbrev pub AsksStatus : OptionTexts → Result Action OptionName → Type 0
+AsksStatus texts = Then (FileIs texts) (StatusIn texts)
+
 abbrev pub AsksShow : OptionTexts → Result Action OptionName → Type 0
 AsksShow texts read = read ≡ Ok (Show (form_of_flag texts.hex))
 
@@ -506,6 +539,8 @@ Asks (Some command) asked =
     ⊎ Names (codes "listen") AsksListen command asked
     ⊎ Names (codes "migrate") AsksMigrate command asked
     ⊎ Names (codes "pending") AsksPending command asked
+    ⊎ Names (codes "tell") AsksTell command asked
+    ⊎ Names (codes "status") AsksStatus command asked
 
 -- nothing is wrong with the words by clap's rules, and they ask for this
 abbrev pub AsksFor : List Text → Result Action OptionName → Type 0

@@ -1,4 +1,5 @@
 pub mod BookFaults
+pub mod Telling
 pub mod Runs
 pub mod Arguments
 pub mod Program

@@ -18,6 +18,10 @@ option name = option_with_value name Set
 abbrev pub required : Text → Rule
 required name = record (option name) { required = true }
 
+-- a value by its place alone, `VALUE`, which has to be there
+abbrev pub place : Text → Rule
+place name = record (new_rule name) { action = Some Set; value_names = 1; required = true }
+
 -- an option without a value, `--name`
 abbrev pub flag : Text → Rule
 flag name = record (new_rule name) { long = Some name; action = Some SetTrue }
@@ -51,12 +55,17 @@ listen_at_moment =
     with_rule (with_rule (with_rule listen_at_port
     (option (codes "issuers"))) (option (codes "at"))) (option (codes "idle"))
 
--- and `[--frame-within SECONDS] [--idle-when-full SECONDS] [--together M] [--control PATH]`
+-- and `[--frame-within SECONDS] [--idle-when-full SECONDS] [--together M]`
+abbrev pub listen_together : App
+listen_together =
+    with_rule (with_rule (with_rule listen_at_moment
+    (option (codes "frame-within"))) (option (codes "idle-when-full")))
+    (option (codes "together"))
+
+-- and `[--control PATH] [--log FILE]`
 abbrev pub listen : App
 listen =
-    with_rule (with_rule (with_rule (with_rule listen_at_moment
-    (option (codes "frame-within"))) (option (codes "idle-when-full")))
-    (option (codes "together"))) (option (codes "control"))
+    with_rule (with_rule listen_together (option (codes "control"))) (option (codes "log"))
 
 -- `replay [--db FILE] [--limit N] [--day DAY] [--clearing DAY].. [--report DAY]..`
 abbrev pub replay : App
@@ -87,6 +96,15 @@ pending =
 abbrev pub show : App
 show = with_rule (new_app (codes "show")) (flag (codes "hex"))
 
+-- `tell PATH`
+abbrev pub tell : App
+tell = with_rule (new_app (codes "tell")) (place (codes "path"))
+
+-- `status --db FILE [--at MOMENT]`
+abbrev pub status : App
+status =
+    with_rule (with_rule (new_app (codes "status")) (required (codes "db"))) (option (codes "at"))
+
 -- the program: it has a version, and one of its commands must be named
 abbrev pub acqd : App
 acqd =
@@ -100,9 +118,13 @@ making =
     with_subcommand (with_subcommand (with_subcommand (with_subcommand
     (with_subcommand acqd init.top) migrate.top) once.top) listen.top) replay.top
 
--- the program and its commands
-abbrev pub program : App
-program =
+-- and with those that only write texts
+abbrev pub writing : App
+writing =
     with_subcommand (with_subcommand (with_subcommand (with_subcommand (with_subcommand making
     (on_a_day (codes "clearing")).top) (on_a_day (codes "report")).top) holds.top) pending.top)
     show.top
+
+-- the program and its commands, the last of which talk to a host, or tell how it is
+abbrev pub program : App
+program = with_subcommand (with_subcommand writing tell.top) status.top

@@ -5,18 +5,19 @@ use Rattle.acq_link.specs.Moves.{TakesAll}
 use Rattle.acq_program.specs.declared.action.Action.{Action}
 use Rattle.acq_program.specs.declared.action.Action.TheVariants.{Init, Migrate, Once, Listen}
 use Rattle.acq_program.specs.declared.action.Action.TheVariants.{Replay, Report, Holds, Show}
-use Rattle.acq_program.specs.declared.action.Action.TheVariants.{Pending}
+use Rattle.acq_program.specs.declared.action.Action.TheVariants.{Pending, Status, Tell}
 use Rattle.acq_program.specs.declared.option_name.OptionName.{OptionName}
 use Rattle.acq_program.specs.Arguments.{AsksFor}
 use Rattle.acq_front.specs.Talk.{Saying, says_nothing}
 use Rattle.acq_commands.specs.declared.fault.Fault.{Fault}
 use Rattle.acq_commands.specs.declared.listen_options.ListenOptions.{ListenOptions}
 use Rattle.acq_commands.specs.declared.once_options.OnceOptions.{OnceOptions}
-use Rattle.acq_commands.specs.Faults.{status_after}
+use Rattle.acq_commands.specs.Faults.{status_of}
 use Rattle.acq_commands.specs.Once.{ServesInMemory}
 use Rattle.acq_commands.specs.Runs.{RunsReplay}
 use Rattle.acq_commands.specs.Show.{RunsShow}
 use Rattle.acq_commands.specs.Streams.{Stream}
+use Rattle.acq_program.specs.Telling.{TellsHost}
 use Rattle.acq_stand_in.specs.Answers.{says_by}
 use Rattle.acq_stand_in.specs.declared.card_answer.CardAnswer.{CardAnswer}
 
@@ -53,45 +54,80 @@ abbrev pub ServesAsked : OnceOptions → (received sent : Stream) → Result (Un
 ServesAsked asked received sent ended = ServesBy asked.issuers asked received sent ended
 
 -- Where all is well, the whole input was read, where it is known what was to come.
-abbrev pub ReadsWhole : Option (List ℕ) → List ℕ → List ℕ → Result (Unit {0}) Fault → Type 0
+abbrev pub ReadsWhole : {X : Type 0} → Option (List ℕ) → List ℕ → List ℕ → Result X Fault → Type 0
 ReadsWhole remaining received received_after ended =
     OnOk ended (TakesAll remaining received received_after)
 
+-- how a command ended that has no status of its own: with 0 where all is well
+abbrev pub EndsPlainly : (Result (Unit {0}) Fault → Type 0) → Result ℕ Fault → Type 0
+EndsPlainly P (Ok status) = (status ≡ 0) × P (Ok tt)
+EndsPlainly P (Err fault) = P (Err fault)
+
+-- the end of such a command
+abbrev pub plain_end : Result (Unit {0}) Fault → Result ℕ Fault
+plain_end (Ok u) = Ok 0
+plain_end (Err fault) = Err fault
+
+-- the status, or that of the fault that stopped it
+abbrev pub status_in : Result ℕ Fault → ℕ
+status_in (Ok status) = status
+status_in (Err fault) = status_of fault
+
 -- What was asked is done.
-abbrev pub Does : Action → Option (List ℕ) → (received sent : Stream)
-    → Result (Unit {0}) Fault → Type 0
-Does (Init new) remaining received sent ended = IsUntouched received sent
-Does (Migrate path) remaining received sent ended = IsUntouched received sent
-Does (Once asked) remaining received sent ended =
-    ServesAsked asked received sent ended
-    × ReadsWhole remaining received.before received.after ended
-Does (Listen asked) remaining received sent ended = IsUntouched received sent
-Does (Replay options) remaining received sent ended =
-    RunsReplay options received sent ended
-    × ReadsWhole remaining received.before received.after ended
-Does (Report options) remaining received sent ended = received.after ≡ received.before
-Does (Holds options) remaining received sent ended = received.after ≡ received.before
-Does (Pending asked) remaining received sent ended = received.after ≡ received.before
-Does (Show form) remaining received sent ended =
-    RunsShow form received sent ended
+abbrev pub Does : Action → Option (List ℕ) → (received sent told : Stream)
+    → Result ℕ Fault → Type 0
+Does (Init new) remaining received sent told ended =
+    EndsPlainly (λ _. IsUntouched received sent) ended
+Does (Migrate path) remaining received sent told ended =
+    EndsPlainly (λ _. IsUntouched received sent) ended
+Does (Once asked) remaining received sent told ended =
+    EndsPlainly (λ plain. ServesAsked asked received sent plain
+    × ReadsWhole remaining received.before received.after plain) ended
+Does (Listen asked) remaining received sent told ended =
+    EndsPlainly (λ _. IsUntouched received sent) ended
+Does (Replay options) remaining received sent told ended =
+    EndsPlainly (λ plain. RunsReplay options received sent plain
+    × ReadsWhole remaining received.before received.after plain) ended
+Does (Report options) remaining received sent told ended =
+    EndsPlainly (λ _. received.after ≡ received.before) ended
+Does (Holds options) remaining received sent told ended =
+    EndsPlainly (λ _. received.after ≡ received.before) ended
+Does (Pending asked) remaining received sent told ended =
+    EndsPlainly (λ _. received.after ≡ received.before) ended
+Does (Status asked) remaining received sent told ended =
+    EndsPlainly (λ _. received.after ≡ received.before) ended
+Does (Show form) remaining received sent told ended =
+    EndsPlainly (λ plain. RunsShow form received sent plain
+    × ReadsWhole remaining received.before received.after plain) ended
+Does (Tell path) remaining received sent told ended =
+    TellsHost received sent told ended
     × ReadsWhole remaining received.before received.after ended
 
--- faults are told in between only where connections are served
-abbrev pub Tells : Action → List ℕ → List ℕ → Type 0
-Tells (Listen asked) told told_after = Unit {0}
-Tells other told told_after = told_after ≡ told
+-- faults are told in between only where connections are served, or where a host told them
+abbrev pub Tells : Action → List ℕ → List ℕ → Result ℕ Fault → Type 0
+Tells (Listen asked) told told_after ended = Unit {0}
+Tells (Tell path) told told_after ended = ended ≡ Ok 0 → told_after ≡ told
+Tells other told told_after ended = told_after ≡ told
 
 -- Where all is well, no fault was told, but those of connections.
 abbrev pub IsQuiet : List (List ℕ) → List ℕ → List ℕ → Type 0
 IsQuiet words told told_after =
     (told_after ≡ told) ⊎ ((asked : ListenOptions) × AsksFor words (Ok (Listen asked)))
 
--- What the words ask for is done, and the status is that of how it ended; or an option's value is
--- out of its form, or there was no memory for the words, and nothing is done.
-abbrev pub Runs : List (List ℕ) → Option (List ℕ) → (received sent : Stream) → ℕ → Type 0
-Runs words remaining received sent status =
-    ((action : Action) × (ended : Result (Unit {0}) Fault) × AsksFor words (Ok action)
-    × Does action remaining received sent ended × (status ≡ status_after ended))
+-- What an action asks for is done, and the status is that of how it ended; where no fault stops it,
+-- none is told behind it.
+abbrev pub RunsAction : Action → Option (List ℕ) → (received sent told : Stream) → ℕ → Type 0
+RunsAction action remaining received sent told status =
+    (ended : Result ℕ Fault) × (told_by : List ℕ)
+    × Does action remaining received sent (record { before = told.before; after = told_by }) ended
+    × OnOk ended (told.after ≡ told_by) × (status ≡ status_in ended)
+
+-- What the words ask for is done; or an option's value is out of its form, or there was no memory
+-- for the words, and nothing is done.
+abbrev pub Runs : List (List ℕ) → Option (List ℕ) → (received sent told : Stream) → ℕ → Type 0
+Runs words remaining received sent told status =
+    ((action : Action) × AsksFor words (Ok action)
+    × RunsAction action remaining received sent told status)
     ⊎ ((option : OptionName) × AsksFor words (Err option) × IsUntouched received sent
     × (status ≡ 2))
     ⊎ (IsUntouched received sent × (status ≡ 3))

@@ -7,10 +7,11 @@ ghost use Rattle.acq_program.specs.Program.{program};
 ghost use Rattle.acq_program.specs.Arguments.{AsksHolds, AsksInit, AsksListen};
 ghost use Rattle.acq_program.specs.Arguments.{AsksMigrate, AsksOnce};
 ghost use Rattle.acq_program.specs.Arguments.{AddressIs, AsksPending, DayIfThere, EndpointIs};
-ghost use Rattle.acq_program.specs.Arguments.{AsksReplay, AsksReport, CountIs, DayIs, FileIs};
-ghost use Rattle.acq_program.specs.Arguments.{FrameWithinIs, IdleIs, IdleWhenFullIs};
+ghost use Rattle.acq_program.specs.Arguments.{AsksReplay, AsksReport, AsksStatus, AsksTell};
+ghost use Rattle.acq_program.specs.Arguments.{CountIs, DayIs};
+ghost use Rattle.acq_program.specs.Arguments.{FileIs, FrameWithinIs, IdleIs, IdleWhenFullIs};
 ghost use Rattle.acq_program.specs.Arguments.{IsNoMemory, LimitIs, MerchantIs};
-ghost use Rattle.acq_program.specs.Arguments.{MomentIfThere, MomentIs, PatienceIs, PortIs, Reads};
+ghost use Rattle.acq_program.specs.Arguments.{MomentIfThere, MomentIs, PathIs, PatienceIs, PortIs, Reads};
 ghost use Rattle.acq_program.specs.Arguments.{ReadsArguments, TogetherIs, form_of_flag};
 ghost use Rattle.acq_program.specs.Arguments.{found_texts};
 
@@ -19,6 +20,7 @@ use crate::option_name::OptionName;
 use crate::options::{count_of, limit_of, port_of, seconds_of, together_of};
 use crate::pending_options::PendingOptions;
 use crate::program::program;
+use crate::status_options::StatusOptions;
 use crate::usage_fault::UsageFault;
 use crate::wanted_reports::add_reports;
 use acq_commands::{
@@ -81,6 +83,18 @@ fn reports_asked_in(alloc: Global, matches: &ArgMatches) -> Result<Action, Usage
         Some(("holds", options)) => holds_of(alloc, options),
         Some(("pending", options)) => pending_of(alloc, options),
         Some(("show", options)) => Ok(Action::Show(form_of(options))),
+        _ => talks_asked_in(alloc, matches),
+    }
+}
+
+/// The same of the commands that talk to a host, or tell how it is.
+fn talks_asked_in(alloc: Global, matches: &ArgMatches) -> Result<Action, UsageFault>
+    ensures { (words : List Text) → fault_of program words ≡ []
+        → HasMatchesOf program words matches.now → ReadsArguments words result }
+{
+    match matches.subcommand() {
+        Some(("tell", options)) => tell_of(alloc, options),
+        Some(("status", options)) => status_of(alloc, options),
         _ => Err(Error::from(AllocError).into()),
     }
 }
@@ -133,6 +147,7 @@ fn listen_of(alloc: Global, options: &ArgMatches) -> Result<Action, UsageFault>
     let together = together_option(options)?;
     let issuers = issuers_option(alloc, options)?;
     let control = control_option(alloc, options)?;
+    let log = log_option(alloc, options)?;
     Ok(Action::Listen(ListenOptions {
         path,
         endpoint,
@@ -142,6 +157,7 @@ fn listen_of(alloc: Global, options: &ArgMatches) -> Result<Action, UsageFault>
         issuers,
         moment,
         control,
+        log,
     }))
 }
 
@@ -211,6 +227,23 @@ fn pending_of(alloc: Global, options: &ArgMatches) -> Result<Action, UsageFault>
     }))
 }
 
+/// What `tell` is asked for.
+fn tell_of(alloc: Global, options: &ArgMatches) -> Result<Action, UsageFault>
+    ensures { Reads (AsksTell (found_texts (found_of options.now))) result }
+{
+    let path = path_value(alloc, options)?;
+    Ok(Action::Tell(path))
+}
+
+/// What `status` is asked for.
+fn status_of(alloc: Global, options: &ArgMatches) -> Result<Action, UsageFault>
+    ensures { Reads (AsksStatus (found_texts (found_of options.now))) result }
+{
+    let path = file_option(alloc, options)?;
+    let moment = moment_if_there(options)?;
+    Ok(Action::Status(StatusOptions { path, moment }))
+}
+
 /// The path of the book's file.
 fn file_option(alloc: Global, options: &ArgMatches) -> Result<String, UsageFault>
     ensures { Reads (FileIs (found_texts (found_of options.now))) result }
@@ -254,6 +287,28 @@ fn control_option(alloc: Global, options: &ArgMatches) -> Result<Option<String>,
     match options.get_str("control") {
         Some(path) => Ok(Some(String::from_str(alloc, path)?)),
         None => Ok(None),
+    }
+}
+
+/// The path of the file that takes a log, if one is asked for.
+fn log_option(alloc: Global, options: &ArgMatches) -> Result<Option<String>, UsageFault>
+    ensures given { IfOk result (λ log. option_map string_bytes log
+        ≡ (found_texts (found_of options.now)).log) }
+    ensures refused { IfErr result IsNoMemory }
+{
+    match options.get_str("log") {
+        Some(path) => Ok(Some(String::from_str(alloc, path)?)),
+        None => Ok(None),
+    }
+}
+
+/// The path of a socket's file.
+fn path_value(alloc: Global, options: &ArgMatches) -> Result<String, UsageFault>
+    ensures { Reads (PathIs (found_texts (found_of options.now))) result }
+{
+    match options.get_str("path") {
+        Some(path) => Ok(String::from_str(alloc, path)?),
+        None => Err(UsageFault::BadValue(OptionName::Path)),
     }
 }
 

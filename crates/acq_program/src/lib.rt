@@ -13,6 +13,9 @@ mod pending;
 mod pending_options;
 mod program;
 mod running;
+mod status;
+mod status_options;
+mod telling;
 mod usage_fault;
 mod wanted_reports;
 
@@ -22,4 +25,5 @@ pub use machine::Machine;
 pub use option_name::OptionName;
 pub use pending_options::PendingOptions;
 pub use running::{command, memory_fault, read_fault, utf8_fault};
+pub use status_options::StatusOptions;
 pub use usage_fault::UsageFault;

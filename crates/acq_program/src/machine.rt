@@ -4,6 +4,7 @@ use acq_book::Book;
 use acq_commands::{Fault, Gathering, Patience};
 use acq_core::Limit;
 use acq_front::Connections;
+use acq_link::{Sink, Source};
 use acq_stand_in::StandIn;
 use day_totals::Day;
 use std::alloc::Global;
@@ -23,6 +24,12 @@ pub trait Machine<B: Book + Drop>: Sized {
 
     /// Connections that come in at a port and are served at once.
     type Gathering: Gathering + Drop;
+
+    /// Where lines to a host go.
+    type Lines: Sink + Drop;
+
+    /// What a host answers.
+    type Answers: Source + Drop;
 
     /// Opens the book in the file at a path. Where there is none, nothing is made.
     fn open_book(self, path: &str) -> Result<B, Fault>
@@ -58,7 +65,8 @@ pub trait Machine<B: Book + Drop>: Sized {
         ensures { IfErr result (λ fault. fault ≡ Read) };
 
     /// Listens there, as `listen_at` does, for so many connections at once, and at the socket of
-    /// `control`, if one is asked for, for control connections.
+    /// `control`, if one is asked for, for control connections. The file of `log`, if one is asked
+    /// for, takes a log for operators.
     fn gather_at(
         &self,
         alloc: Global,
@@ -66,6 +74,11 @@ pub trait Machine<B: Book + Drop>: Sized {
         patience: Patience,
         together: usize,
         control: Option<&str>,
+        log: Option<&str>,
     ) -> Result<Self::Gathering, Fault>
         ensures { IfErr result IsOfGathering };
+
+    /// Connects to the host that takes control connections at a path.
+    fn connect_at(&self, path: &str) -> Result<(Self::Lines, Self::Answers), Fault>
+        ensures { IfErr result (λ fault. fault ≡ Read) };
 }

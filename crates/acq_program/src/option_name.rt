@@ -30,6 +30,8 @@ pub enum OptionName {
     IdleWhenFull,
     /// How many connections are served at once.
     Together,
+    /// The path of a socket's file.
+    Path,
     /// A day of which a report is asked for.
     Report(ReportKind),
 }
@@ -54,6 +56,7 @@ impl fmt::Display for OptionName {
             OptionName::FrameWithin => "--frame-within",
             OptionName::IdleWhenFull => "--idle-when-full",
             OptionName::Together => "--together",
+            OptionName::Path => "PATH",
             OptionName::Report(ReportKind::Clearing) => "--clearing",
             OptionName::Report(ReportKind::Settlement) => "--report",
         })

@@ -5,11 +5,13 @@ ghost use Rattle.clap.specs.Words.{App, app_of, new_app, rule_of, with_rule, wit
 ghost use Rattle.clap.specs.declared.builder.action.ArgAction.TheVariants.{Append};
 ghost use Rattle.acq_program.specs.Commands.{Makes};
 ghost use Rattle.acq_program.specs.Program.{acqd, holds, init, listen, listen_at_moment};
-ghost use Rattle.acq_program.specs.Program.{listen_at_port, making};
+ghost use Rattle.acq_program.specs.Program.{listen_at_port, listen_together, making, place};
 ghost use Rattle.acq_program.specs.Program.{migrate, on_a_day, once, option};
 ghost use Rattle.acq_program.specs.Program.{pending};
 ghost use Rattle.acq_program.specs.Program.{option_with_value, program, replay, required, show};
+ghost use Rattle.acq_program.specs.Program.{status, tell, writing};
 
+use acq_status::VERSION;
 use clap::{Arg, ArgAction, Command};
 use std::alloc::{AllocError, Global};
 
@@ -105,6 +107,8 @@ With --control PATH, control connections are taken at this Unix socket's file, t
 alone may open. Each line gets its answer: an event line, where `now` may stand for the moment, the
 line that `replay` writes; `clearing,DAY`, `report,DAY` and `holds,MERCHANT,MOMENT` the line `text N`
 and the N bytes of the text; a bad line or a refused text its fault; and `stop` ends the program.
+`acqd tell PATH` sends such lines. With --log FILE, what operators want to see is put behind what
+this file holds, in lines; one that isn't there is made for its owner alone.
 
 A connection that is silent for the SECONDS of --idle, or takes nothing of a reply for so long, is
 closed as one whose read or write failed. So is one whose frame takes longer than --frame-within,
@@ -266,6 +270,50 @@ fault is one line on standard error, and what was written before it stands:
 Example: what comes back for an echo test
   acqd once < examples/echo.frame | acqd show";
 
+const ABOUT_TELL: &str = "Sends the lines on standard input to a host, and writes its answers";
+
+const MORE_OF_TELL: &str = "\
+PATH is the socket's file at which `acqd listen --control PATH` takes control connections. Each line
+is sent once the answer to the one before it is whole: an event line, where `now` may stand for the
+moment; `clearing,DAY`, `report,DAY`, `holds,MERCHANT,MOMENT`, `pending,DAY`, `status` or `metrics`;
+or `stop`. An answer's line goes to standard output as it comes, and of a text its bytes alone. A
+fault's line goes to standard error, and the lines behind it are sent all the same.
+
+The status is 0 where no answer was a fault's line, 1 for a fault, 2 for wrong usage, 3 where memory
+ran out. A fault of its own is one line on standard error, and no further line is sent:
+  acqd: 1 Memory
+  acqd: 50 BadLength               a line has 16,384 bytes or more, and isn't sent; or a text came
+                                   without its length
+  acqd: 51 Ended                   the host ended the connection before an answer was whole
+  acqd: 53 Read                    nobody listens at PATH, or a read failed
+  acqd: 54 Write BYTES             a write failed after so many bytes of a line, or of an answer
+
+Example:
+  printf 'cutover,now,,,,\n' | acqd tell host.control
+  printf 'clearing,2024-05-01\n' | acqd tell host.control > clearing.csv";
+
+const ABOUT_STATUS: &str = "Writes the figures of the book in a file";
+
+const MORE_OF_STATUS: &str = "\
+The figures go to standard output, a line for each, its key and its value: the business day and its
+limit; how many merchants, terminals and ranges there are; how many messages of the day count
+against the limit; how many requests of each day wait for their issuer's answer, and for how many
+seconds the first of them. Nothing in the book is changed. A host that runs is asked `status` by
+`acqd tell`.
+
+MOMENT counts seconds since 1970-01-01 00:00:00 UTC.
+
+The status is 0 where all is well, 1 for a fault, 2 for wrong usage, 3 where memory ran out or the
+file failed. A fault is one line on standard error:
+  acqd: 1 Memory
+  acqd: 2 Store                    the file can't be opened or read
+  acqd: 40 NotABook                the file holds no book
+  acqd: 41 OtherVersion VERSION    the file holds a book of this other version
+  acqd: 54 Write BYTES             a write failed after so many bytes of the text
+
+Example:
+  acqd status --db book.db";
+
 const FILE_OR_MEMORY: &str = "The file of the book [default: a new book in memory]";
 
 const ISSUERS: &str = "The file of issuers' answers [default: no issuer can be reached]";
@@ -281,6 +329,15 @@ type Made<'a> = Result<Command<'a>, AllocError>;
 
 pub(crate) fn program<'a>(alloc: Global) -> Result<Command<'a>, AllocError>
     ensures { Makes result program }
+{
+    let made = own_texts(alloc);
+    let made = with_command(made, tell_command(alloc));
+    with_command(made, status_command(alloc))
+}
+
+/// The program with the commands that make a book, take what comes in, or only write texts.
+fn own_texts<'a>(alloc: Global) -> Made<'a>
+    ensures { Makes result writing }
 {
     let made = own_books(alloc);
     let made = with_command(made, day_command(alloc, "clearing", ABOUT_CLEARING));
@@ -306,7 +363,7 @@ fn top<'a>(alloc: Global) -> Command<'a>
     ensures { app_of result ≡ acqd }
 {
     Command::new(alloc, "acqd")
-        .version("0.1.0")
+        .version(VERSION)
         .about(ABOUT)
         .subcommand_required(true)
         .arg_required_else_help(false)
@@ -352,6 +409,27 @@ fn once_command<'a>(alloc: Global) -> Made<'a>
 fn listen_command<'a>(alloc: Global) -> Made<'a>
     ensures { Makes result listen }
 {
+    let command = listen_together(alloc);
+    let command = with_option(
+        alloc,
+        command,
+        "control",
+        "PATH",
+        "A Unix socket's file at which control connections are taken, too",
+    );
+    with_option(
+        alloc,
+        command,
+        "log",
+        "FILE",
+        "A file that takes a log for operators, behind what it holds",
+    )
+}
+
+/// `listen` without its control connections and its log.
+fn listen_together<'a>(alloc: Global) -> Made<'a>
+    ensures { Makes result listen_together }
+{
     let command = listen_at_moment(alloc);
     let command = with_option(
         alloc,
@@ -367,19 +445,12 @@ fn listen_command<'a>(alloc: Global) -> Made<'a>
         "SECONDS",
         "How long one may be silent while others wait for a place, as --idle [default: 10]",
     );
-    let command = with_option(
+    with_option(
         alloc,
         command,
         "together",
         "M",
         "How many connections are served at once, 1 to 1024 [default: 1]",
-    );
-    with_option(
-        alloc,
-        command,
-        "control",
-        "PATH",
-        "A Unix socket's file at which control connections are taken, too",
     )
 }
 
@@ -517,6 +588,27 @@ fn show_command<'a>(alloc: Global) -> Made<'a>
     command(alloc, "show", ABOUT_SHOW, MORE_OF_SHOW).arg(hex)
 }
 
+fn tell_command<'a>(alloc: Global) -> Made<'a>
+    ensures { Makes result tell }
+{
+    let command = Ok(command(alloc, "tell", ABOUT_TELL, MORE_OF_TELL));
+    with_place(alloc, command, "path", "PATH", "The socket's file")
+}
+
+fn status_command<'a>(alloc: Global) -> Made<'a>
+    ensures { Makes result status }
+{
+    let command = Ok(command(alloc, "status", ABOUT_STATUS, MORE_OF_STATUS));
+    let command = with_required(alloc, command, "db", "FILE", "The file of the book");
+    with_option(
+        alloc,
+        command,
+        "at",
+        "MOMENT",
+        "The moment of the figures, 946684800 to 4102444799 [default: the clock's]",
+    )
+}
+
 /// A command without options, with its help.
 fn command<'a>(alloc: Global, name: &'a str, about: &'a str, more: &'a str) -> Command<'a>
     ensures { app_of result ≡ new_app name.now }
@@ -578,6 +670,24 @@ fn with_days<'a>(alloc: Global, command: Made<'a>, name: &'a str, help: &'a str)
 {
     let arg = option_with_value(alloc, name, "YYYY-MM-DD", help, ArgAction::Append);
     with_arg(command, arg)
+}
+
+/// A command with one more value, which has to be there and has no option before it.
+fn with_place<'a>(
+    alloc: Global,
+    command: Made<'a>,
+    name: &'a str,
+    value: &'a str,
+    help: &'a str,
+) -> Made<'a>
+    ensures { (a : App) → Makes command.entry a
+        → Makes result (with_rule a (place name.now)) }
+{
+    let arg = Arg::new(alloc, name)
+        .value_name(value)
+        .help(help)
+        .action(ArgAction::Set);
+    with_arg(command, arg.required(true))
 }
 
 /// A command with one more option.

@@ -5,13 +5,15 @@ ghost use Rattle.clap.specs.Words.{fault_of, kind_of};
 ghost use Rattle.clap.specs.declared.error.kind.ErrorKind.TheVariants.{OutOfMemory};
 ghost use Rattle.acq_program.specs.Program.{program};
 ghost use Rattle.acq_program.specs.BookFaults.{IsClosing, IsOpening};
-ghost use Rattle.acq_commands.specs.Faults.{status_after};
 ghost use Rattle.acq_commands.specs.Runs.{RunsReplay};
-ghost use Rattle.acq_program.specs.Runs.{Does, IsQuiet, IsUntouched, MayCome, ReadsWhole, Runs};
-ghost use Rattle.acq_program.specs.Runs.{ServesAsked, ServesIn, Tells};
+ghost use Rattle.acq_program.specs.Runs.{Does, IsQuiet, IsUntouched, MayCome};
+ghost use Rattle.acq_program.specs.Runs.{ReadsWhole, Runs, ServesAsked, ServesIn, Tells};
+ghost use Rattle.acq_program.specs.Runs.{plain_end, status_in};
 
 use crate::machine::Machine;
 use crate::pending::answer_pending;
+use crate::status::tell_status;
+use crate::telling::tell_host;
 use crate::{Action, UsageFault, action_of};
 use acq_book::Book;
 use acq_commands::{
@@ -31,10 +33,11 @@ use std::hash::RandomState;
 const USAGE: u8 = 2;
 
 /// Runs the command that the arguments name, the program's own name first, and returns the status:
-/// 0 where all is well, 1 for a fault, 2 for wrong usage, 3 where memory ran out. A fault, or what
-/// is wrong with the arguments, is written to `faults`; help goes to `output`. A book in memory
-/// finds its rows by hash, under `keys`; files and ports are those of `machine`. The moments at
-/// which frames come are told by `clock`. How far a long run is goes to `progress`.
+/// 0 where all is well, 1 for a fault, its own or one that a host told, 2 for wrong usage, 3 where
+/// memory ran out. A fault, or what is wrong with the arguments, is written to `faults`; help goes
+/// to `output`. A book in memory finds its rows by hash, under `keys`; files and ports are those of
+/// `machine`. The moments at which frames come are told by `clock`. How far a long run is goes to
+/// `progress`.
 pub fn command<
     W: AsStr,
     B: Book + Drop,
@@ -60,7 +63,8 @@ pub fn command<
     ensures ran { fault_of program (map W.text args.now) ≡ []
         → Runs (map W.text args.now) (S.remaining input.old)
         (record { before = S.received input.old; after = S.received input.new })
-        (record { before = K.sent output.old; after = K.sent output.new }) result }
+        (record { before = K.sent output.old; after = K.sent output.new })
+        (record { before = F.sent faults.old; after = F.sent faults.new }) result }
     // Else nothing was read.
     ensures unread { ¬ (fault_of program (map W.text args.now) ≡ [])
         → S.received input.new ≡ S.received input.old }
@@ -86,7 +90,7 @@ pub fn command<
     }
 }
 
-/// Does what is asked.
+/// Does what is asked, and returns the status where no fault stops it.
 fn run<B: Book + Drop, M: Machine<B> + Drop, C: Clock, S: Source, K: Sink, F: Sink, P: Progress>(
     alloc: Global,
     keys: RandomState,
@@ -97,24 +101,39 @@ fn run<B: Book + Drop, M: Machine<B> + Drop, C: Clock, S: Source, K: Sink, F: Si
     output: &mut K,
     faults: &mut F,
     progress: &mut P,
-) -> Result<(), Fault>
+) -> Result<u8, Fault>
     ensures done { Does action (S.remaining input.old)
         (record { before = S.received input.old; after = S.received input.new })
-        (record { before = K.sent output.old; after = K.sent output.new }) result }
-    ensures told { Tells action (F.sent faults.old) (F.sent faults.new) }
+        (record { before = K.sent output.old; after = K.sent output.new })
+        (record { before = F.sent faults.old; after = F.sent faults.new }) result }
+    ensures told { Tells action (F.sent faults.old) (F.sent faults.new) result }
+    ensures status { IfOk result (λ status. status ≤ 1) }
 {
     match action {
-        Action::Init(new) => init(machine, &new),
-        Action::Migrate(path) => migrate(machine, &path),
-        Action::Once(asked) => once(alloc, keys, machine, &asked, clock, input, output),
-        Action::Listen(asked) => listen(alloc, machine, &asked, clock, faults),
-        Action::Replay(options) => {
-            replay(alloc, keys, machine, &options, input, output, progress)
-        }
-        Action::Report(options) => report(alloc, machine, &options, output),
-        Action::Holds(options) => holds(alloc, machine, &options, output),
-        Action::Pending(asked) => answer_pending(alloc, machine, &asked, clock, output),
-        Action::Show(form) => show(alloc, form, input, output),
+        Action::Init(new) => plainly(init(machine, &new)),
+        Action::Migrate(path) => plainly(migrate(machine, &path)),
+        Action::Once(asked) => { plainly(once(alloc, keys, machine, &asked, clock, input, output)) }
+        Action::Listen(asked) => plainly(listen(alloc, machine, &asked, clock, faults)),
+        Action::Replay(options) => plainly(replay(
+            alloc, keys, machine, &options, input, output, progress,
+        )),
+        Action::Report(options) => plainly(report(alloc, machine, &options, output)),
+        Action::Holds(options) => plainly(holds(alloc, machine, &options, output)),
+        Action::Pending(asked) => plainly(answer_pending(alloc, machine, &asked, clock, output)),
+        Action::Show(form) => plainly(show(alloc, form, input, output)),
+        Action::Status(asked) => plainly(tell_status(alloc, machine, &asked, clock, output)),
+        Action::Tell(path) => tell_host(alloc, machine, &path, input, output, faults),
+    }
+}
+
+/// How a command ended that has no status of its own: with 0 where all is well.
+fn plainly(ended: Result<(), Fault>) -> Result<u8, Fault>
+    ensures same { result ≡ plain_end ended }
+    ensures status { IfOk result (λ status. status ≤ 1) }
+{
+    match ended {
+        Ok(()) => Ok(0),
+        Err(fault) => Err(fault),
     }
 }
 
@@ -284,7 +303,7 @@ fn listen_over<B: Book + Drop, M: Machine<B> + Drop, C: Clock, I: Issuer + Drop,
     issuers: Result<I, Fault>,
     faults: &mut F,
 ) -> Result<(), Fault> {
-    if asked.together > 1 || asked.control.is_some() {
+    if asked.together > 1 || asked.control.is_some() || asked.log.is_some() {
         return gather_over(alloc, machine, asked, clock, issuers, faults);
     }
     let connections = machine.listen_at(asked.endpoint, asked.patience);
@@ -311,12 +330,14 @@ fn gather_over<B: Book + Drop, M: Machine<B> + Drop, C: Clock, I: Issuer + Drop,
     faults: &mut F,
 ) -> Result<(), Fault> {
     let control = asked.control.as_deref();
+    let log = asked.log.as_deref();
     let gathering = machine.gather_at(
         alloc,
         asked.endpoint,
         asked.patience,
         asked.together,
         control,
+        log,
     );
     let opened = machine.open_book(asked.path.as_str());
     let (book, mut issuer, mut gathering) = all_opened(opened, issuers, gathering)?;
@@ -466,12 +487,12 @@ pub fn utf8_fault<F: Sink>(place: usize, faults: &mut F) -> u8
 }
 
 /// Writes a fault, and returns the status.
-fn finish<F: Sink>(ended: Result<(), Fault>, faults: &mut F) -> u8
-    ensures status { result ≡ status_after ended }
+fn finish<F: Sink>(ended: Result<u8, Fault>, faults: &mut F) -> u8
+    ensures status { result ≡ status_in ended }
     ensures quiet { OnOk ended (F.sent faults.new ≡ F.sent faults.old) }
 {
     match ended {
-        Ok(()) => 0,
+        Ok(status) => status,
         Err(fault) => {
             let _ = writeln!(TextSink::new(faults), "acqd: {fault}");
             fault.status()

@@ -5,14 +5,15 @@ ghost use Rattle.acq_program.specs.BookFaults.{IsClosing, IsOpening};
 ghost use Rattle.acqd.specs.BookFiles.{of_opening};
 
 use crate::control_socket::control_socket;
+use crate::log_file::log_file;
 use crate::open_book::{make_book, migrate_book, open_book};
 use acq_commands::{Fault, Patience};
 use acq_core::Limit;
-use acq_link::ReadSource;
+use acq_link::{ReadSource, WriteSink};
 use acq_program::Machine;
 use acq_sql::{OpeningFault, SqlBook};
 use acq_stand_in::StandIn;
-use acq_tcp::{TcpConnections, TcpGathering};
+use acq_tcp::{HostLog, TcpConnections, TcpGathering};
 use day_totals::Day;
 use sqlite::{Error, ErrorCode};
 use sqlite_disk::Start;
@@ -21,7 +22,9 @@ use sqlite_store::FileStore;
 use std::alloc::Global;
 use std::cell::Cell;
 use std::fs::File;
+use std::io;
 use std::net::{SocketAddrV4, TcpListener};
+use std::os::unix::net::UnixStream;
 
 /// The machine that the program runs on; `D` says what the book's file holds before it is opened.
 #[derive(Drop)]
@@ -42,7 +45,11 @@ impl<'a, D: Start> ThisMachine<'a, D> {
 impl<'a, D: Start> Machine<SqlBook<FileStore<FileFrom<D>>>> for ThisMachine<'a, D> {
     type Connections = TcpConnections<'a, HostRuntime>;
 
-    type Gathering = TcpGathering<'a, HostRuntime>;
+    type Gathering = TcpGathering<'a, HostRuntime, WriteSink<File>>;
+
+    type Lines = WriteSink<UnixStream>;
+
+    type Answers = ReadSource<UnixStream>;
 
     fn open_book(self, path: &str) -> Result<SqlBook<FileStore<FileFrom<D>>>, Fault> {
         match open_book(self.rt, path, self.start) {
@@ -105,16 +112,38 @@ impl<'a, D: Start> Machine<SqlBook<FileStore<FileFrom<D>>>> for ThisMachine<'a, 
         patience: Patience,
         together: usize,
         control: Option<&str>,
-    ) -> Result<TcpGathering<'a, HostRuntime>, Fault> {
+        log: Option<&str>,
+    ) -> Result<TcpGathering<'a, HostRuntime, WriteSink<File>>, Fault> {
         self.listens.set(true);
+        let log = match log {
+            Some(path) => Some(HostLog::new(alloc, WriteSink::new(log_file(self.rt, path)?))),
+            None => None,
+        };
         let control = match control {
             Some(path) => Some(control_socket(self.rt, path)?),
             None => None,
         };
         TcpGathering::listen(
-            self.rt, self.rt, alloc, endpoint, patience, together, control,
+            self.rt, self.rt, alloc, endpoint, patience, together, control, log,
         )
     }
+
+    fn connect_at(
+        &self,
+        path: &str,
+    ) -> Result<(WriteSink<UnixStream>, ReadSource<UnixStream>), Fault> {
+        match both_ends(self.rt, path) {
+            Ok((lines, answers)) => Ok((WriteSink::new(lines), ReadSource::new(answers))),
+            Err(_) => Err(Fault::Read),
+        }
+    }
+}
+
+/// A connection to the socket at a path, to write to and to read from.
+fn both_ends(rt: &HostRuntime, path: &str) -> io::Result<(UnixStream, UnixStream)> {
+    let lines = UnixStream::connect(rt, path)?;
+    let answers = lines.try_clone()?;
+    Ok((lines, answers))
 }
 
 /// The refusal of a book, as the command tells it.

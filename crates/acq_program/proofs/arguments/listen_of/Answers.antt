@@ -119,6 +119,14 @@ returns-in_err-control c =
     rw (p.1, p.2)
     (no_memory (AsksListen texts) c.in_err-control.field-0.0 c.in_err-control.ensures.refused)
 
+pub returns-in_err-log : goal.returns-in_err-log
+returns-in_err-log c =
+    let texts = found_texts (found_of c.args.options.now) in
+    let p = err_from_is_err_and c.from_residual-in_err-log.result
+    c.from_residual-in_err-log.ensures.1 in
+    rw (p.1, p.2)
+    (no_memory (AsksListen texts) c.in_err-log.field-0.0 c.in_err-log.ensures.refused)
+
 pub returns : goal.returns
 returns c =
     let texts = found_texts (found_of c.args.options.now) in
@@ -131,6 +139,7 @@ returns c =
       issuers = c.in_ok-issuers.issuers;
       moment = c.in_ok-moment.moment;
       control = c.in_ok-control.control;
+      log = c.in_ok-log.log;
     })) in
     then_rest (FileIs texts) (ListenIn texts) c.in_ok-path.path read c.in_ok-path.ensures
     (then_rest (EndpointIs texts) (ListenOn texts c.in_ok-path.path) c.in_ok-endpoint.endpoint read
@@ -156,4 +165,5 @@ returns c =
       refl,
       refl,
       c.in_ok-control.ensures.given,
+      c.in_ok-log.ensures.given,
     ))))))

@@ -62,7 +62,7 @@ returns-in-Some-pending-default c = λ words well matches.
     let it = c.in-Some-pending-default in
     let found = found_of it.options.now in
     reads_command (codes "pending") AsksPending
-    (λ command asked h. inr (inr (inr (inr (inr (inr (inr (inr (inr h))))))))) words found
+    (λ command asked h. inr (inr (inr (inr (inr (inr (inr (inr (inr (inl h)))))))))) words found
     well
     (named c.args.matches.now program words (codes "pending") (rows_of found) refl
     matches (ap Some (sym it.is-pending) ∙ it.ensures.name)

@@ -1,0 +1,39 @@
+//! Lines of the input to a host.
+
+ghost use Rattle.std.specs.Prelude.{◌≡◌, ◌≤◌, IfOk, Ok};
+ghost use Rattle.acq_program.specs.Runs.{ReadsWhole};
+ghost use Rattle.acq_program.specs.Telling.{TellsHost};
+
+use crate::machine::Machine;
+use acq_book::Book;
+use acq_commands::Fault;
+use acq_control::tell;
+use acq_link::{Sink, Source};
+use std::alloc::Global;
+
+/// Sends the lines of the input to the host at a path, writes what it answers, and returns the
+/// status: 1 where an answer was a fault's line.
+pub(crate) fn tell_host<B: Book + Drop, M: Machine<B> + Drop, S: Source, K: Sink, F: Sink>(
+    alloc: Global,
+    machine: M,
+    path: &String,
+    input: &mut S,
+    output: &mut K,
+    faults: &mut F,
+) -> Result<u8, Fault>
+    ensures tells { TellsHost
+        (record { before = S.received input.old; after = S.received input.new })
+        (record { before = K.sent output.old; after = K.sent output.new })
+        (record { before = F.sent faults.old; after = F.sent faults.new }) result }
+    ensures whole { ReadsWhole
+        (S.remaining input.old) (S.received input.old) (S.received input.new) result }
+    ensures quiet { result ≡ Ok 0 → F.sent faults.new ≡ F.sent faults.old }
+    ensures status { IfOk result (λ status. status ≤ 1) }
+{
+    let (mut lines, mut answers) = machine.connect_at(path.as_str())?;
+    match tell(alloc, input, &mut lines, &mut answers, output, faults) {
+        Ok(true) => Ok(1),
+        Ok(false) => Ok(0),
+        Err(fault) => Err(fault),
+    }
+}
