@@ -1,12 +1,14 @@
 //! What is asked of a book.
 
 use acq_book::Book;
+use acq_commands::TextSink;
 use acq_core::{MerchantId, Moment};
 use acq_link::Sink;
 use acq_reports::{ReportFault, clearing, open_holds, settlement};
 use acq_stand_in::{StandIn, answers_to_pending};
 use day_totals::Day;
 use std::alloc::Global;
+use std::fmt::Write;
 
 /// What is asked of a book.
 #[derive(Clone, Copy)]
@@ -21,11 +23,13 @@ pub enum Asked {
     Pending(Moment),
     /// Those to the requests of a day.
     PendingOn(Moment, Day),
+    /// How many terminals and ranges there are.
+    Counts,
 }
 
 impl Asked {
     /// What these words ask for: `clearing DAY`, `report DAY`, `holds MOMENT MERCHANT`, `pending
-    /// MOMENT` or `pending MOMENT DAY`.
+    /// MOMENT`, `pending MOMENT DAY` or `counts`.
     pub fn read(word: &str, rest: &str) -> Option<Asked> {
         match word {
             "clearing" => Some(Asked::Clearing(Day::read(rest)?)),
@@ -44,6 +48,7 @@ impl Asked {
                 )),
                 None => Some(Asked::Pending(Moment::from_seconds(rest.parse().ok()?)?)),
             },
+            "counts" => Some(Asked::Counts),
             _ => None,
         }
     }
@@ -66,6 +71,19 @@ impl Asked {
                 let silent = StandIn::silent(alloc);
                 answers_to_pending(alloc, book, &silent, Some(day), moment, text)
             }
+            Asked::Counts => write_counts(book, text),
         }
+    }
+}
+
+/// Writes how many terminals and ranges there are. A write that fails is one for which memory ran
+/// out.
+fn write_counts<B: Book, K: Sink>(book: &mut B, text: &mut K) -> Result<(), ReportFault> {
+    let terminals = book.terminal_count()?;
+    let ranges = book.range_count()?;
+    let mut line = TextSink::new(text);
+    match writeln!(line, "{terminals} terminals, {ranges} ranges") {
+        Ok(()) => Ok(()),
+        Err(_) => Err(ReportFault::Memory),
     }
 }

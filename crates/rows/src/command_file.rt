@@ -11,10 +11,12 @@
 //! has taken; `@book` a book, and `@book EVENT` a further event of it; `@refused NUMBER` a book
 //! that is refused with this fault, and `@refused 41 VERSION` one of another version; `@issuers` a
 //! file of issuers' answers, and `@issuers RECORD` a record of it; `@port` a port, and
-//! `@connection` a connection, which sends what `@frame` and `@bytes` behind it say. `@piece COUNT`
-//! says how many bytes a read gives and a write takes, `@read COUNT` that the read after so many
-//! fails, and `@writes frame`, `@writes line` or `@writes text` that it runs again with each write
-//! failing, where the fault's line counts bytes so.
+//! `@connection` a connection, which sends what `@frame` and `@bytes` behind it say; `@host` a host
+//! that takes control connections, `@host LINE` a line that it answers, and `@host bytes BYTES`
+//! bytes that no line ends. `@piece COUNT` says how many bytes a read gives and a write takes,
+//! `@read COUNT` that the read after so many fails, and `@writes frame`, `@writes line` or
+//! `@writes text` that it runs again with each write failing, where the fault's line counts bytes
+//! so.
 
 use crate::command_run::CommandRun;
 use crate::counted::Counted;
@@ -83,6 +85,7 @@ fn new_run(alloc: Global) -> CommandRun {
             book: Err(Refusal::Store),
             answers: None,
             connections: None,
+            host: None,
         },
         args: Vec::new(alloc),
         input: Vec::new(alloc),
@@ -169,6 +172,7 @@ impl Reader {
             }
             "issuers" => self.take_answers(rest, line),
             "port" | "connection" | "frame" | "bytes" => self.take_connection(word, rest, line),
+            "host" => self.take_host(rest, line),
             _ => self.take_streams(word, rest, line),
         }
     }
@@ -206,6 +210,16 @@ impl Reader {
             ("connection", _) => Ok(connections.push(Vec::new(self.alloc))?),
             (_, Some(sent)) => put(self.alloc, word, rest, line, sent),
             (_, None) => Err(RowFault::Malformed(line)),
+        }
+    }
+
+    /// Takes a host, or a line that it answers.
+    fn take_host(&mut self, rest: &str, line: usize) -> Result<(), RowFault> {
+        let said = self.run.machine.host.get_or_insert(Vec::new(self.alloc));
+        match rest.strip_prefix("bytes ") {
+            Some(rest) => put_bytes(rest, line, said),
+            None if rest.is_empty() => Ok(()),
+            None => put(self.alloc, "", rest, line, said),
         }
     }
 

@@ -21,9 +21,13 @@ use std::alloc::Global;
 use std::hash::RandomState;
 use std::net::SocketAddrV4;
 
+/// How many bytes of a line a host takes at once, and how many of an answer it gives.
+const ANSWER_PIECE: usize = 5;
+
 /// The machine, with a book that has taken its events.
 #[derive(Drop)]
 pub struct MachineAtHand<'a> {
+    alloc: Global,
     host: Result<Host<ListBook>, Refusal>,
     terms: &'a MachineTerms,
 }
@@ -44,7 +48,7 @@ impl<'a> MachineAtHand<'a> {
             }
             Err(refusal) => Err(*refusal),
         };
-        Ok(MachineAtHand { host, terms })
+        Ok(MachineAtHand { alloc, host, terms })
     }
 }
 
@@ -65,6 +69,10 @@ impl<'a> Machine<ListBook> for MachineAtHand<'a> {
     type Connections = ConnectionsAtHand<'a>;
 
     type Gathering = NoGathering;
+
+    type Lines = MemorySink;
+
+    type Answers = SliceSource<'a>;
 
     fn open_book(self, _path: &str) -> Result<ListBook, Fault> {
         match self.host {
@@ -113,9 +121,20 @@ impl<'a> Machine<ListBook> for MachineAtHand<'a> {
         _patience: Patience,
         _together: usize,
         _control: Option<&str>,
+        _log: Option<&str>,
     ) -> Result<NoGathering, Fault> {
         match &self.terms.connections {
             Some(_) => Ok(NoGathering),
+            None => Err(Fault::Read),
+        }
+    }
+
+    fn connect_at(&self, _path: &str) -> Result<(MemorySink, SliceSource<'a>), Fault> {
+        match &self.terms.host {
+            Some(said) => Ok((
+                MemorySink::in_pieces(self.alloc, ANSWER_PIECE),
+                SliceSource::in_pieces(said.as_slice(), ANSWER_PIECE),
+            )),
             None => Err(Fault::Read),
         }
     }

@@ -11,4 +11,6 @@ pub struct MachineTerms {
     pub answers: Option<Vec<u8>>,
     /// What each connection sends, where the port can be had.
     pub connections: Option<Vec<Vec<u8>>>,
+    /// What a host answers that takes control connections, where there is one.
+    pub host: Option<Vec<u8>>,
 }

@@ -2,10 +2,10 @@
 //!
 //! A line is `scenario NAME`, `limit COUNT`, `day DAY`, `at MOMENT`, `others COUNT`, `stops COUNT`,
 //! `migrated`, an event, or what is asked of the book at the end: `clearing DAY`, `report DAY`,
-//! `holds MOMENT MERCHANT`, `pending MOMENT` or `pending MOMENT DAY`. An event is a line of `acqd
-//! replay`, or `frame PARTS` for a message that comes at the moment at hand. What the host says, or
-//! what the text is, stands behind four spaces on the lines below; `?` where it isn't compared. What
-//! stands before the first scenario is the setup of each.
+//! `holds MOMENT MERCHANT`, `pending MOMENT`, `pending MOMENT DAY` or `counts`. An event is a line
+//! of `acqd replay`, or `frame PARTS` for a message that comes at the moment at hand. What the host
+//! says, or what the text is, stands behind four spaces on the lines below; `?` where it isn't
+//! compared. What stands before the first scenario is the setup of each.
 
 use crate::asked::Asked;
 use crate::escapes::{put_bytes, put_hex};
@@ -92,7 +92,7 @@ impl Reader {
                 .take_term(word, rest)
                 .ok_or(RowFault::Malformed(line)),
             "at" => self.take_moment(rest),
-            "clearing" | "report" | "holds" | "pending" => {
+            "clearing" | "report" | "holds" | "pending" | "counts" => {
                 let asked = Asked::read(word, rest).ok_or(RowFault::Malformed(line))?;
                 self.take_report(line, asked)
             }
