@@ -60,7 +60,7 @@ def at_once(work, count, watched):
     more = ["--control", control, "--log", f"{work}/host.log"] if watched else []
     host = subprocess.Popen([program, "listen", "--db", book, "--port", str(port), "--together", str(TERMINALS),
                              "--count", str(TERMINALS), "--issuers", f"{work}/issuers.csv", "--at", MOMENT, *more])
-    ends, took, asked = [connect(port) for _ in range(TERMINALS)], [], 0
+    ends, took, asked, told = [connect(port) for _ in range(TERMINALS)], [], 0, 0
     left = [count // TERMINALS] * TERMINALS
     sent, came = [0.0] * TERMINALS, [b""] * TERMINALS
     watch = selectors.DefaultSelector()
@@ -81,9 +81,10 @@ def at_once(work, count, watched):
         if watched and time.perf_counter() >= status_at:
             status_at += 1
             asks.sendall(b"status\n")
+            asked += 1
         for key, _ in watch.select(1):
             if key.data is None:
-                asked += asks.recv(65536).count(b"version")
+                told += asks.recv(65536).count(b"version")
                 continue
             k = key.data
             came[k] += ends[k].recv(65536)
@@ -100,6 +101,8 @@ def at_once(work, count, watched):
     seconds = time.perf_counter() - start
     for end in ends:
         end.close()
+    while told < asked:
+        told += asks.recv(65536).count(b"version")
     if watched:
         asks.close()
     host.wait()
