@@ -1,6 +1,6 @@
 -- What a change asks of the tables that it is to be made in.
-use Rattle.std.specs.Prelude.{◌≡◌, ◌+◌, true, false, Option, None, IfSome}
-use Rattle.std.specs.Prelude.{is_some}
+use Rattle.std.specs.Prelude.{◌≡◌, ◌+◌, true, false, Option, None, Some}
+use Rattle.std.specs.Prelude.{IfSome, is_some}
 use Rattle.card_no.specs.RangeChanges.{add_fault, remove_fault}
 use Rattle.day_totals.specs.Totals.{IsWithinLimits, with_leg_amount}
 use Rattle.acq_core.specs.declared.request.Request.{Request}
@@ -44,3 +44,9 @@ Fits t (change.Answered key status reply hold_end posting) = HasRoom t posting
 Fits t (change.Follow row original remains posting) =
     IsNew t row × HasRoom t posting × IfSome posting (IsPostedBy row)
 Fits t (change.Reconciled row reconciliation) = IsNew t row
+
+-- the request that it answers is there
+abbrev pub HasItsRequest : Tables → Change → Type 0
+HasItsRequest t (change.Answered key status reply hold_end posting) =
+    (row : Request) × (request_at t key ≡ Some row)
+HasItsRequest t change = Unit

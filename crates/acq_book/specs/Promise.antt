@@ -16,6 +16,12 @@ CountsFault (Ok x) old new = new ≡ old
 CountsFault (Err Memory) old new = new ≡ old
 CountsFault (Err Store) old new = HasRisen old new
 
+-- a fault of the store is told only where the store itself has met one more, as it counts them
+abbrev pub BlamesStore : {T : Type 0} → Result T BookFault → ℕ → ℕ → Type 0
+BlamesStore (Ok x) old new = Unit
+BlamesStore (Err Memory) old new = Unit
+BlamesStore (Err Store) old new = HasRisen old new
+
 -- A look-up or a walk leaves the tables as they are, and adds nothing to what a stop may leave.
 -- Where it succeeded, the book stays open; else only a fault of the store itself shuts it.
 pub record LooksBy {S : Type 0} (tables : S → Tables) (is_honest is_open : S → Type 0)

@@ -3,13 +3,13 @@
 ghost use Rattle.std.specs.Prelude.{◌≡◌, ℕ, IfOk, OnOk, OnErr, is_ok};
 ghost use Rattle.acq_core.specs.Tables.{Tables, after};
 ghost use Rattle.acq_core.specs.Pasts.{HasPast};
-ghost use Rattle.acq_book.specs.Fits.{Fits};
+ghost use Rattle.acq_book.specs.Fits.{Fits, HasItsRequest};
 ghost use Rattle.acq_book.specs.Lookups.{merchant_at, has_terminal_at, terminal_count_at};
 ghost use Rattle.acq_book.specs.Lookups.{range_at, overlapping_at, range_count_at};
 ghost use Rattle.acq_book.specs.Lookups.{request_at, referred_at, admitted_at, used_at, totals_at};
 ghost use Rattle.acq_book.specs.Lookups.{pending_at, last_reconciliation_at};
 ghost use Rattle.acq_book.specs.Lookups.{postings_at, merchants_at, holds_at, waiting_at};
-ghost use Rattle.acq_book.specs.Promise.{CountsFault, LooksBy, MakesBy};
+ghost use Rattle.acq_book.specs.Promise.{BlamesStore, CountsFault, LooksBy, MakesBy};
 ghost use Rattle.acq_book.specs.Visits.{SawAll, SawRows, SawSome};
 
 use crate::book_fault::BookFault;
@@ -48,19 +48,28 @@ pub trait Book {
     /// How many faults the store itself has met, as it counts them.
     ghost store_faults: { Self → ℕ };
 
+    /// Nothing but memory and a fault of the store itself is in the way of its calls.
+    ghost has_room: { Self → Type 0 };
+
     /// How many messages of a merchant a day admits.
     fn limit(&mut self) -> Result<Limit, BookFault>
         ensures value { is_open self.new → IfOk result (λ n. n ≡ (tables self.old).limit) }
         ensures looks { LooksBy tables is_honest is_open may_leave leaves_books
             failures store_faults self.old self.new (is_ok result) }
-        ensures store { CountsFault result (failures self.old) (failures self.new) };
+        ensures store { CountsFault result (failures self.old) (failures self.new) }
+        ensures blames { is_honest self.new → is_open self.old → has_room self.old
+            → BlamesStore result (store_faults self.old) (store_faults self.new) }
+        ensures room { is_open self.new → has_room self.old → has_room self.new };
 
     /// The business day.
     fn day(&mut self) -> Result<Day, BookFault>
         ensures value { is_open self.new → IfOk result (λ day. day ≡ (tables self.old).day) }
         ensures looks { LooksBy tables is_honest is_open may_leave leaves_books
             failures store_faults self.old self.new (is_ok result) }
-        ensures store { CountsFault result (failures self.old) (failures self.new) };
+        ensures store { CountsFault result (failures self.old) (failures self.new) }
+        ensures blames { is_honest self.new → is_open self.old → has_room self.old
+            → BlamesStore result (store_faults self.old) (store_faults self.new) }
+        ensures room { is_open self.new → has_room self.old → has_room self.new };
 
     /// The merchant with this name.
     fn merchant(&mut self, id: MerchantId) -> Result<Option<Merchant>, BookFault>
@@ -68,7 +77,10 @@ pub trait Book {
             (λ row. row ≡ merchant_at (tables self.old) id) }
         ensures looks { LooksBy tables is_honest is_open may_leave leaves_books
             failures store_faults self.old self.new (is_ok result) }
-        ensures store { CountsFault result (failures self.old) (failures self.new) };
+        ensures store { CountsFault result (failures self.old) (failures self.new) }
+        ensures blames { is_honest self.new → is_open self.old → has_room self.old
+            → BlamesStore result (store_faults self.old) (store_faults self.new) }
+        ensures room { is_open self.new → has_room self.old → has_room self.new };
 
     /// Whether the merchant has this terminal.
     fn has_terminal(&mut self, merchant: MerchantId, id: TerminalId) -> Result<bool, BookFault>
@@ -76,7 +88,10 @@ pub trait Book {
             (λ has. has ≡ has_terminal_at (tables self.old) merchant id) }
         ensures looks { LooksBy tables is_honest is_open may_leave leaves_books
             failures store_faults self.old self.new (is_ok result) }
-        ensures store { CountsFault result (failures self.old) (failures self.new) };
+        ensures store { CountsFault result (failures self.old) (failures self.new) }
+        ensures blames { is_honest self.new → is_open self.old → has_room self.old
+            → BlamesStore result (store_faults self.old) (store_faults self.new) }
+        ensures room { is_open self.new → has_room self.old → has_room self.new };
 
     /// How many terminals there are, of all merchants.
     fn terminal_count(&mut self) -> Result<u64, BookFault>
@@ -84,7 +99,10 @@ pub trait Book {
             (λ n. n ≡ terminal_count_at (tables self.old)) }
         ensures looks { LooksBy tables is_honest is_open may_leave leaves_books
             failures store_faults self.old self.new (is_ok result) }
-        ensures store { CountsFault result (failures self.old) (failures self.new) };
+        ensures store { CountsFault result (failures self.old) (failures self.new) }
+        ensures blames { is_honest self.new → is_open self.old → has_room self.old
+            → BlamesStore result (store_faults self.old) (store_faults self.new) }
+        ensures room { is_open self.new → has_room self.old → has_room self.new };
 
     /// The range that holds a prefix.
     fn range(&mut self, prefix: Prefix) -> Result<Option<Range>, BookFault>
@@ -92,7 +110,10 @@ pub trait Book {
             (λ range. range ≡ range_at (tables self.old) prefix) }
         ensures looks { LooksBy tables is_honest is_open may_leave leaves_books
             failures store_faults self.old self.new (is_ok result) }
-        ensures store { CountsFault result (failures self.old) (failures self.new) };
+        ensures store { CountsFault result (failures self.old) (failures self.new) }
+        ensures blames { is_honest self.new → is_open self.old → has_room self.old
+            → BlamesStore result (store_faults self.old) (store_faults self.new) }
+        ensures room { is_open self.new → has_room self.old → has_room self.new };
 
     /// Of the ranges that overlap these ends, the one of least low.
     fn overlapping(&mut self, low: u32, high: u32) -> Result<Option<Range>, BookFault>
@@ -100,7 +121,10 @@ pub trait Book {
             (λ range. range ≡ overlapping_at (tables self.old) low high) }
         ensures looks { LooksBy tables is_honest is_open may_leave leaves_books
             failures store_faults self.old self.new (is_ok result) }
-        ensures store { CountsFault result (failures self.old) (failures self.new) };
+        ensures store { CountsFault result (failures self.old) (failures self.new) }
+        ensures blames { is_honest self.new → is_open self.old → has_room self.old
+            → BlamesStore result (store_faults self.old) (store_faults self.new) }
+        ensures room { is_open self.new → has_room self.old → has_room self.new };
 
     /// How many ranges there are.
     fn range_count(&mut self) -> Result<u64, BookFault>
@@ -108,7 +132,10 @@ pub trait Book {
             (λ n. n ≡ range_count_at (tables self.old)) }
         ensures looks { LooksBy tables is_honest is_open may_leave leaves_books
             failures store_faults self.old self.new (is_ok result) }
-        ensures store { CountsFault result (failures self.old) (failures self.new) };
+        ensures store { CountsFault result (failures self.old) (failures self.new) }
+        ensures blames { is_honest self.new → is_open self.old → has_room self.old
+            → BlamesStore result (store_faults self.old) (store_faults self.new) }
+        ensures room { is_open self.new → has_room self.old → has_room self.new };
 
     /// The request with this key.
     fn request(&mut self, key: RequestKey) -> Result<Option<Request>, BookFault>
@@ -116,7 +143,10 @@ pub trait Book {
             (λ row. row ≡ request_at (tables self.old) key) }
         ensures looks { LooksBy tables is_honest is_open may_leave leaves_books
             failures store_faults self.old self.new (is_ok result) }
-        ensures store { CountsFault result (failures self.old) (failures self.new) };
+        ensures store { CountsFault result (failures self.old) (failures self.new) }
+        ensures blames { is_honest self.new → is_open self.old → has_room self.old
+            → BlamesStore result (store_faults self.old) (store_faults self.new) }
+        ensures room { is_open self.new → has_room self.old → has_room self.new };
 
     /// The merchant's request with this reference.
     fn by_reference(
@@ -128,7 +158,10 @@ pub trait Book {
             (λ row. row ≡ referred_at (tables self.old) merchant reference) }
         ensures looks { LooksBy tables is_honest is_open may_leave leaves_books
             failures store_faults self.old self.new (is_ok result) }
-        ensures store { CountsFault result (failures self.old) (failures self.new) };
+        ensures store { CountsFault result (failures self.old) (failures self.new) }
+        ensures blames { is_honest self.new → is_open self.old → has_room self.old
+            → BlamesStore result (store_faults self.old) (store_faults self.new) }
+        ensures room { is_open self.new → has_room self.old → has_room self.new };
 
     /// How many of the merchant's requests were admitted: so many references it has given.
     fn admitted(&mut self, merchant: MerchantId) -> Result<AdmittedCount, BookFault>
@@ -136,7 +169,10 @@ pub trait Book {
             (λ n. n ≡ admitted_at (tables self.old) merchant) }
         ensures looks { LooksBy tables is_honest is_open may_leave leaves_books
             failures store_faults self.old self.new (is_ok result) }
-        ensures store { CountsFault result (failures self.old) (failures self.new) };
+        ensures store { CountsFault result (failures self.old) (failures self.new) }
+        ensures blames { is_honest self.new → is_open self.old → has_room self.old
+            → BlamesStore result (store_faults self.old) (store_faults self.new) }
+        ensures room { is_open self.new → has_room self.old → has_room self.new };
 
     /// How many of the merchant's messages count against the limit of a day.
     fn used(&mut self, merchant: MerchantId, day: Day) -> Result<UsedCount, BookFault>
@@ -144,7 +180,10 @@ pub trait Book {
             (λ n. n ≡ used_at (tables self.old) merchant day) }
         ensures looks { LooksBy tables is_honest is_open may_leave leaves_books
             failures store_faults self.old self.new (is_ok result) }
-        ensures store { CountsFault result (failures self.old) (failures self.new) };
+        ensures store { CountsFault result (failures self.old) (failures self.new) }
+        ensures blames { is_honest self.new → is_open self.old → has_room self.old
+            → BlamesStore result (store_faults self.old) (store_faults self.new) }
+        ensures room { is_open self.new → has_room self.old → has_room self.new };
 
     /// The merchant's totals of a day.
     fn totals(&mut self, merchant: MerchantId, day: Day) -> Result<Totals, BookFault>
@@ -152,14 +191,20 @@ pub trait Book {
             (λ totals. totals ≡ totals_at (tables self.old) merchant day) }
         ensures looks { LooksBy tables is_honest is_open may_leave leaves_books
             failures store_faults self.old self.new (is_ok result) }
-        ensures store { CountsFault result (failures self.old) (failures self.new) };
+        ensures store { CountsFault result (failures self.old) (failures self.new) }
+        ensures blames { is_honest self.new → is_open self.old → has_room self.old
+            → BlamesStore result (store_faults self.old) (store_faults self.new) }
+        ensures room { is_open self.new → has_room self.old → has_room self.new };
 
     /// How many requests of a day are pending, of all merchants.
     fn pending(&mut self, day: Day) -> Result<u64, BookFault>
         ensures value { is_open self.new → IfOk result (λ n. n ≡ pending_at (tables self.old) day) }
         ensures looks { LooksBy tables is_honest is_open may_leave leaves_books
             failures store_faults self.old self.new (is_ok result) }
-        ensures store { CountsFault result (failures self.old) (failures self.new) };
+        ensures store { CountsFault result (failures self.old) (failures self.new) }
+        ensures blames { is_honest self.new → is_open self.old → has_room self.old
+            → BlamesStore result (store_faults self.old) (store_faults self.new) }
+        ensures room { is_open self.new → has_room self.old → has_room self.new };
 
     /// The merchant's last reconciliation of a day.
     fn last_reconciliation(
@@ -171,7 +216,10 @@ pub trait Book {
             (λ row. row ≡ last_reconciliation_at (tables self.old) merchant day) }
         ensures looks { LooksBy tables is_honest is_open may_leave leaves_books
             failures store_faults self.old self.new (is_ok result) }
-        ensures store { CountsFault result (failures self.old) (failures self.new) };
+        ensures store { CountsFault result (failures self.old) (failures self.new) }
+        ensures blames { is_honest self.new → is_open self.old → has_room self.old
+            → BlamesStore result (store_faults self.old) (store_faults self.new) }
+        ensures room { is_open self.new → has_room self.old → has_room self.new };
 
     /// Hands over the postings of a day, each with its number, in order of merchant and number.
     fn walk_postings<V: Visit<(u64, Posting)>>(
@@ -186,7 +234,10 @@ pub trait Book {
         ensures shown { SawRows V.sees visitor.old visitor.new (is_ok result) }
         ensures looks { LooksBy tables is_honest is_open may_leave leaves_books
             failures store_faults self.old self.new (is_ok result) }
-        ensures store { CountsFault result (failures self.old) (failures self.new) };
+        ensures store { CountsFault result (failures self.old) (failures self.new) }
+        ensures blames { is_honest self.new → is_open self.old → has_room self.old
+            → BlamesStore result (store_faults self.old) (store_faults self.new) }
+        ensures room { is_open self.new → has_room self.old → has_room self.new };
 
     /// Hands over the merchants, in order of their names.
     fn walk_merchants<V: Visit<Merchant>>(&mut self, visitor: &mut V) -> Result<(), BookFault>
@@ -197,7 +248,10 @@ pub trait Book {
         ensures shown { SawRows V.sees visitor.old visitor.new (is_ok result) }
         ensures looks { LooksBy tables is_honest is_open may_leave leaves_books
             failures store_faults self.old self.new (is_ok result) }
-        ensures store { CountsFault result (failures self.old) (failures self.new) };
+        ensures store { CountsFault result (failures self.old) (failures self.new) }
+        ensures blames { is_honest self.new → is_open self.old → has_room self.old
+            → BlamesStore result (store_faults self.old) (store_faults self.new) }
+        ensures room { is_open self.new → has_room self.old → has_room self.new };
 
     /// Hands over a merchant's approved holds, which are neither completed nor reversed, in order
     /// of reference.
@@ -213,7 +267,10 @@ pub trait Book {
         ensures shown { SawRows V.sees visitor.old visitor.new (is_ok result) }
         ensures looks { LooksBy tables is_honest is_open may_leave leaves_books
             failures store_faults self.old self.new (is_ok result) }
-        ensures store { CountsFault result (failures self.old) (failures self.new) };
+        ensures store { CountsFault result (failures self.old) (failures self.new) }
+        ensures blames { is_honest self.new → is_open self.old → has_room self.old
+            → BlamesStore result (store_faults self.old) (store_faults self.new) }
+        ensures room { is_open self.new → has_room self.old → has_room self.new };
 
     /// Hands over the requests of all merchants and days that wait for their issuer's answer, in
     /// the order in which they came.
@@ -225,7 +282,10 @@ pub trait Book {
         ensures shown { SawRows V.sees visitor.old visitor.new (is_ok result) }
         ensures looks { LooksBy tables is_honest is_open may_leave leaves_books
             failures store_faults self.old self.new (is_ok result) }
-        ensures store { CountsFault result (failures self.old) (failures self.new) };
+        ensures store { CountsFault result (failures self.old) (failures self.new) }
+        ensures blames { is_honest self.new → is_open self.old → has_room self.old
+            → BlamesStore result (store_faults self.old) (store_faults self.new) }
+        ensures room { is_open self.new → has_room self.old → has_room self.new };
 
     /// Makes all of a change, or none of it. The change fits: its keys are new, and there is room
     /// for it; and it leads to tables that events lead to.
@@ -234,7 +294,10 @@ pub trait Book {
         requires past { is_open self.old → HasPast (after (tables self.old) change.now) }
         ensures makes { MakesBy tables is_honest is_open may_leave leaves_books
             failures store_faults self.old self.new (is_ok result) (after (tables self.old) change.now) }
-        ensures store { CountsFault result (failures self.old) (failures self.new) };
+        ensures store { CountsFault result (failures self.old) (failures self.new) }
+        ensures blames { is_honest self.new → is_open self.old → has_room self.old
+            → HasItsRequest (tables self.old) change.now
+            → BlamesStore result (store_faults self.old) (store_faults self.new) };
 
     /// The store of an open book is honest.
     ghost honest: { (book : Self) → is_open book → is_honest book };

@@ -239,6 +239,8 @@ impl Book for ListBook {
 
     ghost store_faults = { λ t. 0 };
 
+    ghost has_room = { λ t. Unit {0} };
+
     ghost honest = { λ t is. is };
 
     ghost settled = { λ t is left same. same };

@@ -19,11 +19,12 @@ use Rattle.acq_book.specs.Promise.{HasRisen, LooksBy}
 use Rattle.acq_sql_rows.specs.Relation.{Holds}
 use Rattle.acq_sql_rows.specs.ReadBack.{tables_of}
 use Rattle.acq_sql_changes.specs.Changed.{IsAt}
+use Rattle.acq_sql_changes.specs.Refused.{HasNumbersLeft}
 use Rattle.acq_sql_reads.specs.Looked.{LooksOnly}
 use Rattle.acq_sql_reads.proofs.Leaves.{at_unchanged, kept}
 use Rattle.acq_sql.specs.Kept.{Kept}
 use Rattle.acq_sql.specs.Opened.{tables, is_honest, is_open, may_leave}
-use Rattle.acq_sql.specs.Opened.{leaves_books, store_faults}
+use Rattle.acq_sql.specs.Opened.{leaves_books, store_faults, has_room}
 
 -- ---- what a book answers of what its database answered
 
@@ -126,6 +127,12 @@ module _ {S : Type 0} (g : Ghosts S) (old new : Kept S) (succeeded : Bool)
         past = subst (λ (d : Database). HasPast (tables_of d)) same o.past;
       }
 
+  -- room is left as it was
+  room_at : is_open g new → has_room g old → has_room g new
+  room_at o room =
+      let same = sym (now_kept o.clean o.at.is_open) in
+      (looks.stop.limit ∙ room.0, subst HasNumbersLeft same room.1)
+
   -- what a look-up over the connection leaves, a look-up of the book leaves
   pub looks_at : old.failures ≤ new.failures
       → LooksBy (tables g) (is_honest g) (is_open g) (may_leave g) (leaves_books g)
@@ -193,6 +200,16 @@ looks_of g old seen new is answer result looks out settled same rise =
     (looks_at g old new (is_ok result)
     (subst (LooksOnly (state g old.connection) (state g new.connection)) (sym same) looks) out
     (subst (IsSettled g) (sym is) settled) rise)
+
+-- and the room of such a book
+pub room_of : {S T : Type 0} (g : Ghosts S) (old seen new : Kept S) → old ≡ seen
+    → (answer : Result T Error)
+    → LooksOnly (state g old.connection) (state g new.connection) (is_ok answer)
+    → old.connection.in_transaction ≡ false → IsSettled g seen
+    → is_open g new → has_room g seen → has_room g new
+room_of g old seen new is answer looks out settled o room =
+    room_at g old new (is_ok answer) looks out (subst (IsSettled g) (sym is) settled) o
+    (subst (has_room g) (sym is) room)
 
 -- where the answer of a look-up was passed on as it failed
 pub failed_too : {T U V E F G : Type 0} {e : F} (answer : Result T E) (told : Result U F)

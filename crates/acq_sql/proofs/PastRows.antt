@@ -17,13 +17,17 @@ use Rattle.acq_core.specs.Changes.{change_for}
 use Rattle.acq_core.specs.Pasts.{HasPast}
 use Rattle.acq_core.specs.Tables.{Tables, new_tables, known_in, after, after_any, count}
 use Rattle.acq_core.specs.Tables.{postings_before, with_next_posting, reconciliations_before}
-use Rattle.acq_core.specs.Tables.{with_next_reconciliation}
+use Rattle.acq_core.specs.Tables.{with_next_reconciliation, with_changed, answered_row}
+use Rattle.acq_core.specs.Tables.{followed_row}
+use Rattle.acq_book.specs.Fits.{Fits, HasItsRequest}
 use Rattle.acq_history.specs.CardData.{KeepsNoSensitiveData, may_be_acquirer}
-use Rattle.acq_history.specs.Rows.{FitsPosting}
+use Rattle.acq_history.specs.Rows.{FitsPosting, FitsRequest, greatest_hold_end}
 use Rattle.acq_history.proofs.BooksAreSound.{books_are_sound}
-use Rattle.acq_history.proofs.Members.{In, In-push, from_In}
+use Rattle.acq_history.proofs.Members.{In, In-push, In-find, In-last, In-map, from_In}
 use Rattle.acq_history.proofs.Runs.{kept}
-use Rattle.acq_sql_changes.specs.Refused.{HasBookRows, HasShortTexts, IsShortText}
+use Rattle.acq_sql_changes.specs.Refused.{HasBookRows, HasShortTexts, IsShortText, Takes}
+use Rattle.acq_sql_changes.specs.Written.{IsShortEnd}
+use Rattle.acq_sql.specs.Applied.{HasShortEnd}
 use Rattle.acq_sql_changes.proofs.writes.ReplyLengths.{spelling_few}
 use Rattle.acq_sql_changes.proofs.writes.RunningTotals.{bytes_itself, number_itself}
 
@@ -178,3 +182,46 @@ book_rows t (opening, book) =
           each_of (λ row. row.0 ≤ reconciliations_before t.reconciliations row.1)
           t.reconciliations numbers.reconciliations;
     }
+
+-- ---- the end of a hold that a change writes
+
+short_end : (end : Option ℕ) → IfSome end (λ n. n ≤ greatest_hold_end) → IsShortEnd end
+short_end None fits = tt
+short_end (Some n) fits = omega arith
+
+-- each request of tables with a past fits its columns
+fitting : (t : Tables) → HasPast t → (row : Request) → In row t.requests → FitsRequest row
+fitting t (opening, book) row there =
+    All-contains FitsRequest t.requests row (books_are_sound opening t book).rows.requests
+    (from_In row t.requests there)
+
+-- where the request that a change answers is there, and the tables after it have a past, a column
+-- can keep the end of the hold that it writes
+pub past_ends : (t : Tables) (c : Change) → HasPast (after t c) → HasItsRequest t c → HasShortEnd c
+past_ends t (change.AddRequest row) past there =
+    short_end row.hold_end
+    (fitting (after t (change.AddRequest row)) past row (In-last row t.requests)).hold_end
+past_ends t (change.Answered key status reply hold_end posting) past there =
+    let found = In-find _ t.requests there.0 there.1 in
+    let now = change.Answered key status reply hold_end posting in
+    let fits = fitting (after t now) past _ (In-map _ there.0 t.requests found.0) in
+    let own = answered_row status reply hold_end there.0 in
+    short_end hold_end (subst (λ b. FitsRequest (cond b own there.0)) found.1 fits).hold_end
+past_ends t (change.Follow row original remains posting) past there =
+    short_end row.hold_end
+    (fitting (after t (change.Follow row original remains posting)) past row
+    (In-last row (with_changed original (followed_row remains) t.requests))).hold_end
+past_ends t (change.Reconciled row reconciliation) past there =
+    short_end row.hold_end
+    (fitting (after t (change.Reconciled row reconciliation)) past row
+    (In-last row t.requests)).hold_end
+past_ends t (change.AddMerchant merchant) past there = tt
+past_ends t (change.AddTerminal terminal) past there = tt
+past_ends t (change.AddRange range) past there = tt
+past_ends t (change.DropRange low high) past there = tt
+past_ends t (change.SetDay day) past there = tt
+
+-- a change that fits tables with a past, and leads to such, takes
+pub past_takes : (t : Tables) (c : Change) → Fits t c → HasPast t → HasPast (after t c) → Takes c t
+past_takes t c fits past later =
+    record { fits = fits; before = book_rows t past; later = book_rows (after t c) later }

@@ -1,2 +1,3 @@
 pub mod PostedByLegs
 pub mod LooksFirst
+pub mod ChangesFail

@@ -3,10 +3,12 @@ use Rattle.std.specs.Prelude.{Result}
 use Rattle.sqlite.specs.declared.error.Error.{Error}
 use Rattle.sqlite.specs.State.{State}
 use Rattle.acq_core.specs.declared.change.Change.{Change}
+use Rattle.acq_core.specs.declared.change.Change.TheVariants as change
 use Rattle.acq_core.specs.Pasts.{HasPast}
 use Rattle.acq_core.specs.Tables.{Tables, after}
 use Rattle.acq_book.specs.Fits.{Fits}
 use Rattle.acq_sql_changes.specs.Changed.{ChangesWhole}
+use Rattle.acq_sql_changes.specs.Written.{IsShortEnd}
 
 -- the change fits the tables, and these are a book's
 abbrev pub Suits : Change → Tables → Type 0
@@ -15,3 +17,11 @@ Suits change t = Fits t change × HasPast t
 -- where the change suits, it is made whole or not at all
 abbrev pub Applies : {T : Type 0} → State → State → Result T Error → Change → Type 0
 Applies old new result change = ChangesWhole old new result (Suits change) (λ t. after t change)
+
+-- a column can keep the end of the hold that the change writes
+abbrev pub HasShortEnd : Change → Type 0
+HasShortEnd (change.AddRequest row) = IsShortEnd row.hold_end
+HasShortEnd (change.Answered key status reply hold_end posting) = IsShortEnd hold_end
+HasShortEnd (change.Follow row original remains posting) = IsShortEnd row.hold_end
+HasShortEnd (change.Reconciled row reconciliation) = IsShortEnd row.hold_end
+HasShortEnd change = Unit

@@ -1,5 +1,5 @@
 -- What a book in SQL says of its connection.
-use Rattle.std.specs.Prelude.{◌≡◌, ℕ}
+use Rattle.std.specs.Prelude.{◌≡◌, ℕ, None}
 use Rattle.sqlite_trees.specs.Tree.{Trees}
 use Rattle.sqlite_trees.specs.declared.store.Store.{Ghosts}
 use Rattle.sqlite.specs.State.{State, HasCleanDisk}
@@ -9,6 +9,7 @@ use Rattle.acq_core.specs.Tables.{Tables}
 use Rattle.acq_sql_rows.specs.Schema.{book_schema}
 use Rattle.acq_sql_rows.specs.ReadBack.{tables_of}
 use Rattle.acq_sql_changes.specs.Changed.{IsAt, HoldsAfter}
+use Rattle.acq_sql_changes.specs.Refused.{HasNumbersLeft}
 use Rattle.acq_sql.specs.Kept.{Kept}
 
 -- the tables that trees of a book stand for
@@ -45,6 +46,12 @@ module _ {S : Type 0} (g : Ghosts S) where
   leaves_books book =
       (trees : Trees) → (state g book.connection).may_leave trees
       → HoldsAfter (tables_left trees) trees
+
+  -- no limit of steps is set, and each tree has a number left for one more row
+  abbrev pub has_room : Kept S → Type 0
+  has_room book =
+      ((state g book.connection).step_limit ≡ None)
+      × HasNumbersLeft (state g book.connection).now
 
   -- how many times the disk has failed or refused
   abbrev pub store_faults : Kept S → ℕ

@@ -209,6 +209,8 @@ impl<S: Alter> Book for SqlBook<S> {
 
     ghost store_faults = { opened.store_faults S.Store };
 
+    ghost has_room = { opened.has_room S.Store };
+
     ghost honest = { λ book is. is.clean };
 
     // In a law the store is known by its members alone.

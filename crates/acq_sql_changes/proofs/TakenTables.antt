@@ -57,7 +57,7 @@ numbered_length n [] = refl
 numbered_length n (row ∷ rows) = ap suc (numbered_length (suc n) rows)
 
 -- as many rows as elements
-number_left : {X : Type 0} (row_of : X → Row) (rows : List Row) (xs : List X)
+pub number_left : {X : Type 0} (row_of : X → Row) (rows : List Row) (xs : List X)
     → rows ≡ rows_of row_of xs → HasNumberLeft rows → HasNumberLeft xs
 number_left row_of rows xs held left =
     let same = ap length held ∙ numbered_length 1 (map row_of xs) ∙ length-map row_of xs in

@@ -5,7 +5,9 @@ ghost use Rattle.sqlite.specs.Held.{state};
 ghost use Rattle.iso_codec.specs.Message.{IsMessage};
 ghost use Rattle.iso_codec.specs.Reading.{spelling};
 ghost use Rattle.acq_core.specs.declared.change.Change.TheVariants as change;
+ghost use Rattle.acq_core.specs.Pasts.{HasPast};
 ghost use Rattle.acq_sql_changes.specs.Written.{IsShortEnd};
+ghost use Rattle.acq_sql_changes.specs.Refused.{FailsAmong};
 ghost use Rattle.acq_sql.specs.Applied.{Applies};
 
 use crate::apply::numbers::number_of_posting;
@@ -27,8 +29,11 @@ pub fn answer<'x, S: Alter>(
     posting: &'x Option<Posting>,
 ) -> Result<(), Error>
     requires settled { conn.old.in_transaction ≡ false }
-    ensures { Applies (state S.Store conn.old) (state S.Store conn.new) result
+    ensures whole { Applies (state S.Store conn.old) (state S.Store conn.new) result
         (change.Answered key status reply.now hold_end posting.now) }
+    ensures fails { IsShortEnd hold_end
+        → FailsAmong (state S.Store conn.old) (state S.Store conn.new) result
+        (change.Answered key status reply.now hold_end posting.now) HasPast }
 {
     check_hold_end(hold_end)?;
     let text = spelled(alloc, reply)?;

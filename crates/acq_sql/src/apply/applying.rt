@@ -2,7 +2,9 @@
 
 ghost use Rattle.std.specs.Prelude.{◌≡◌, false};
 ghost use Rattle.sqlite.specs.Held.{state};
-ghost use Rattle.acq_sql.specs.Applied.{Applies};
+ghost use Rattle.acq_core.specs.Pasts.{HasPast};
+ghost use Rattle.acq_sql_changes.specs.Refused.{FailsAmong};
+ghost use Rattle.acq_sql.specs.Applied.{Applies, HasShortEnd};
 
 use crate::apply::answers::answer;
 use crate::apply::follows::follow;
@@ -20,7 +22,11 @@ pub fn apply<S: Alter>(
     change: &Change,
 ) -> Result<(), Error>
     requires settled { conn.old.in_transaction ≡ false }
-    ensures { Applies (state S.Store conn.old) (state S.Store conn.new) result change.now }
+    ensures whole { Applies (state S.Store conn.old) (state S.Store conn.new) result change.now }
+    // Where a column can keep the end of its hold, and the change suits, it fails only for memory
+    // or since the store failed.
+    ensures fails { HasShortEnd change.now
+        → FailsAmong (state S.Store conn.old) (state S.Store conn.new) result change.now HasPast }
 {
     match change {
         Change::AddMerchant(merchant) => enrol(conn, merchant),

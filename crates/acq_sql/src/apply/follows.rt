@@ -3,6 +3,9 @@
 ghost use Rattle.std.specs.Prelude.{◌≡◌, false};
 ghost use Rattle.sqlite.specs.Held.{state};
 ghost use Rattle.acq_core.specs.declared.change.Change.TheVariants as change;
+ghost use Rattle.acq_core.specs.Pasts.{HasPast};
+ghost use Rattle.acq_sql_changes.specs.Refused.{FailsAmong};
+ghost use Rattle.acq_sql_changes.specs.Written.{IsShortEnd};
 ghost use Rattle.acq_sql.specs.Applied.{Applies};
 
 use crate::apply::numbers::number_of_posting;
@@ -23,8 +26,11 @@ pub fn follow<'x, S: Alter>(
     posting: &'x Option<Posting>,
 ) -> Result<(), Error>
     requires settled { conn.old.in_transaction ≡ false }
-    ensures { Applies (state S.Store conn.old) (state S.Store conn.new) result
+    ensures whole { Applies (state S.Store conn.old) (state S.Store conn.new) result
         (change.Follow request.now original remains posting.now) }
+    ensures fails { IsShortEnd request.now.hold_end
+        → FailsAmong (state S.Store conn.old) (state S.Store conn.new) result
+        (change.Follow request.now original remains posting.now) HasPast }
 {
     check_hold_end(request.hold_end)?;
     let reply = spelled(alloc, &request.reply)?;

@@ -1,10 +1,13 @@
 //! The numbers that postings and reconciliations get.
 
-ghost use Rattle.std.specs.Prelude.{◌≡◌, ◌+◌, ◌<◌, ◌≤◌, ◌^◌, IfOk, is_ok};
+ghost use Rattle.std.specs.Prelude.{◌≡◌, ◌↔◌, ◌+◌, ◌<◌, ◌≤◌, ◌^◌, Err, IfOk, IsOk, OnErr, is_ok};
+ghost use Rattle.sqlite.specs.declared.error.Error.TheVariants as error;
 ghost use Rattle.sqlite.specs.Held.{state};
 ghost use Rattle.day_totals.specs.Totals.{greatest_count};
 ghost use Rattle.acq_core.specs.Pasts.{HasPast};
 ghost use Rattle.acq_core.specs.Tables.{postings_before, reconciliations_before};
+ghost use Rattle.acq_sql_changes.specs.Refused.{HasNumberLeft};
+ghost use Rattle.acq_sql_reads.specs.Failing.{FailsOnlyExcused, FailsOnlyExcusedWhere};
 ghost use Rattle.acq_sql_reads.specs.Looked.{Answers, AnswersWhere, LooksOnly, number_or_zero};
 
 use acq_core::{Posting, Reconciliation};
@@ -27,6 +30,7 @@ pub fn number_of_posting<S: Alter>(
         (λ t. postings_before t.postings posting.now + 1) }
     ensures few { IfOk result (λ n. n < 2 ^ 63) }
     ensures looks { LooksOnly (state S.Store conn.old) (state S.Store conn.new) (is_ok result) }
+    ensures fails { FailsOnlyExcused (state S.Store conn.old) (state S.Store conn.new) result }
 {
     let totals = totals(conn, posting.merchant, posting.day)?;
     Ok(posted(&totals) + 1)
@@ -54,6 +58,8 @@ pub fn number_of_reconciliation<S: Alter>(
         (λ t. reconciliations_before t.reconciliations reconciliation.now + 1) }
     ensures few { IfOk result (λ n. n < 2 ^ 63) }
     ensures looks { LooksOnly (state S.Store conn.old) (state S.Store conn.new) (is_ok result) }
+    ensures fails { FailsOnlyExcusedWhere (state S.Store conn.old) (state S.Store conn.new) result
+        (λ t. HasNumberLeft t.reconciliations) }
 {
     let last = last_reconciliation(conn, reconciliation.merchant, reconciliation.day)?;
     number_after(last)
@@ -61,7 +67,8 @@ pub fn number_of_reconciliation<S: Alter>(
 
 fn number_after(last: Option<(u64, Reconciliation)>) -> Result<u64, Error>
     ensures value { IfOk result (λ n. n ≡ number_or_zero last + 1) }
-    ensures few { IfOk result (λ n. n < 2 ^ 63) }
+    ensures short { IsOk result ↔ (number_or_zero last + 1 < 2 ^ 63) }
+    ensures err { OnErr result (result ≡ Err (error.IntegralValueOutOfRange 2)) }
 {
     let number = match last {
         Some((number, _)) => number,

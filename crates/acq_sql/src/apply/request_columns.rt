@@ -5,6 +5,7 @@ ghost use Rattle.sqlite.specs.declared.error.Error.TheVariants as error;
 ghost use Rattle.iso_codec.specs.Message.{IsMessage};
 ghost use Rattle.iso_codec.specs.Reading.{spelling};
 ghost use Rattle.acq_sql_changes.specs.Written.{IsShortEnd};
+ghost use Rattle.acq_sql_reads.specs.Failing.{FailsForMemory};
 
 use crate::apply::numbers::GREATEST_INTEGER;
 use iso_codec::{Message, encode};
@@ -21,6 +22,7 @@ const HOLD_END_COLUMN: usize = 16;
 pub fn spelled(alloc: Global, reply: &Message) -> Result<Vec<u8>, Error>
     ensures whole { OnOk result (IsMessage reply.now) }
     ensures spelled { IfOk result (λ text. text.items ≡ spelling reply.now) }
+    ensures fails { FailsForMemory result }
 {
     let mut text = Vec::with_capacity(alloc, USUAL_LENGTH)?;
     encode(alloc, reply, &mut text)?;

@@ -3,6 +3,9 @@
 ghost use Rattle.std.specs.Prelude.{◌≡◌, false};
 ghost use Rattle.sqlite.specs.Held.{state};
 ghost use Rattle.acq_core.specs.declared.change.Change.TheVariants as change;
+ghost use Rattle.acq_core.specs.Pasts.{HasPast};
+ghost use Rattle.acq_sql_changes.specs.Refused.{FailsAmong};
+ghost use Rattle.acq_sql_changes.specs.Written.{IsShortEnd};
 ghost use Rattle.acq_sql.specs.Applied.{Applies};
 
 use crate::apply::numbers::number_of_reconciliation;
@@ -19,8 +22,11 @@ pub fn add_request<'x, S: Alter>(
     request: &'x Request,
 ) -> Result<(), Error>
     requires settled { conn.old.in_transaction ≡ false }
-    ensures { Applies (state S.Store conn.old) (state S.Store conn.new) result
+    ensures whole { Applies (state S.Store conn.old) (state S.Store conn.new) result
         (change.AddRequest request.now) }
+    ensures fails { IsShortEnd request.now.hold_end
+        → FailsAmong (state S.Store conn.old) (state S.Store conn.new) result
+        (change.AddRequest request.now) HasPast }
 {
     check_hold_end(request.hold_end)?;
     let reply = spelled(alloc, &request.reply)?;
@@ -35,8 +41,11 @@ pub fn add_reconciliation<'x, S: Alter>(
     reconciliation: &'x Reconciliation,
 ) -> Result<(), Error>
     requires settled { conn.old.in_transaction ≡ false }
-    ensures { Applies (state S.Store conn.old) (state S.Store conn.new) result
+    ensures whole { Applies (state S.Store conn.old) (state S.Store conn.new) result
         (change.Reconciled request.now reconciliation.now) }
+    ensures fails { IsShortEnd request.now.hold_end
+        → FailsAmong (state S.Store conn.old) (state S.Store conn.new) result
+        (change.Reconciled request.now reconciliation.now) HasPast }
 {
     check_hold_end(request.hold_end)?;
     let reply = spelled(alloc, &request.reply)?;

@@ -1,29 +1,65 @@
+use Rattle.std.proofs.Common.{true≢false, sym}
 use Rattle.sqlite.specs.Held.{state}
+use Rattle.acq_sql_changes.specs.Refused.{IsNextPosting}
+use Rattle.acq_sql_changes.specs.Changed.{AnyTables}
+use Rattle.acq_sql.proofs.apply.ChangesFail.{fails_for, fails_for_memory, fails_from, looks_fail}
 use Rattle.acq_sql.proofs.apply.LooksFirst.{fails_looking, refuses, whole_for, whole_from}
 use Rattle.acq_sql.proofs.apply.follows.follow.Goals as goal
 
-pub returns-in-Some : goal.returns-in-Some
-returns-in-Some g c =
+pub returns-in-Some-clause-whole : goal.returns-in-Some-clause-whole
+returns-in-Some-clause-whole g c =
     let found = c.in_ok-number-in-Some.ensures in
     rw c.in-Some.is
     (whole_from found.looks
     (λ clean t holds suits. (suits.0.0.used, (suits.0.1, found.answers clean t holds), suits.0.2))
     c.follow_and_post.ensures.whole)
 
-pub returns : goal.returns
-returns g c =
+pub returns-clause-whole : goal.returns-clause-whole
+returns-clause-whole g c =
     rw c.in-None.is (whole_for (λ t suits. suits.0.0.used) c.follow.ensures.whole)
 
-pub returns-in_err-check_hold_end : goal.returns-in_err-check_hold_end
-returns-in_err-check_hold_end g c =
+pub returns-in_err-check_hold_end-clause-whole : goal.returns-in_err-check_hold_end-clause-whole
+returns-in_err-check_hold_end-clause-whole g c =
     refuses (state g.S.Store c.args.conn.now) c.requires.settled _ c.from_residual.ensures.0
 
-pub returns-in_err-reply : goal.returns-in_err-reply
-returns-in_err-reply g c =
+pub returns-in_err-reply-clause-whole : goal.returns-in_err-reply-clause-whole
+returns-in_err-reply-clause-whole g c =
     refuses (state g.S.Store c.args.conn.now) c.requires.settled _
     c.from_residual-in_err-reply.ensures.0
 
-pub returns-in_err-number-in-Some : goal.returns-in_err-number-in-Some
-returns-in_err-number-in-Some g c =
+pub returns-in_err-number-in-Some-clause-whole : goal.returns-in_err-number-in-Some-clause-whole
+returns-in_err-number-in-Some-clause-whole g c =
     fails_looking c.in_err-number-in-Some.ensures.looks c.requires.settled _
     c.from_residual-in_err-number-in-Some.ensures.0
+
+pub returns-in-Some-clause-fails : goal.returns-in-Some-clause-fails
+returns-in-Some-clause-fails g c short =
+    let found = c.in_ok-number-in-Some.ensures in
+    rw c.in-Some.is
+    (fails_from c.follow_and_post.result
+    (IsNextPosting c.in_ok-number-in-Some.number c.in-Some.posting) found.looks
+    (λ clean t holds past. found.answers clean t holds) c.follow_and_post.ensures.whole
+    c.follow_and_post.ensures.fails)
+
+pub returns-clause-fails : goal.returns-clause-fails
+returns-clause-fails g c short =
+    rw c.in-None.is
+    (fails_for (state g.S.Store c.args.conn.now) (state g.S.Store c.follow.new.conn) c.follow.result
+    AnyTables (λ t past. tt) c.follow.ensures.fails)
+
+pub returns-in_err-check_hold_end-clause-fails : goal.returns-in_err-check_hold_end-clause-fails
+returns-in_err-check_hold_end-clause-fails g c short =
+    absurd (true≢false (sym (c.in_err-check_hold_end.ensures.short.1 short)))
+
+pub returns-in_err-reply-clause-fails : goal.returns-in_err-reply-clause-fails
+returns-in_err-reply-clause-fails g c short =
+    fails_for_memory (state g.S.Store c.args.conn.now) (state g.S.Store c.args.conn.now)
+    c.in_err-reply.ensures.fails c.from_residual-in_err-reply.result
+    c.from_residual-in_err-reply.ensures
+
+pub returns-in_err-number-in-Some-clause-fails : goal.returns-in_err-number-in-Some-clause-fails
+returns-in_err-number-in-Some-clause-fails g c short =
+    looks_fail (λ t. Unit {0}) c.in_err-number-in-Some.ensures.looks
+    (λ clean t at fits. c.in_err-number-in-Some.ensures.fails clean t at fits.0)
+    (λ left t holds. tt)
+    c.from_residual-in_err-number-in-Some.result c.from_residual-in_err-number-in-Some.ensures

@@ -1,15 +1,34 @@
+use Rattle.std.proofs.Common.{true≢false, sym}
 use Rattle.sqlite.specs.Held.{state}
+use Rattle.acq_sql_changes.specs.Changed.{AnyTables}
+use Rattle.acq_sql.proofs.apply.ChangesFail.{fails_for, fails_for_memory}
 use Rattle.acq_sql.proofs.apply.LooksFirst.{refuses, whole_for}
 use Rattle.acq_sql.proofs.apply.requests.add_request.Goals as goal
 
-pub returns : goal.returns
-returns g c = whole_for (λ t suits. suits.0.used) c.record_request.ensures.whole
+pub returns-clause-whole : goal.returns-clause-whole
+returns-clause-whole g c = whole_for (λ t suits. suits.0.used) c.record_request.ensures.whole
 
-pub returns-in_err-check_hold_end : goal.returns-in_err-check_hold_end
-returns-in_err-check_hold_end g c =
+pub returns-in_err-check_hold_end-clause-whole : goal.returns-in_err-check_hold_end-clause-whole
+returns-in_err-check_hold_end-clause-whole g c =
     refuses (state g.S.Store c.args.conn.now) c.requires.settled _ c.from_residual.ensures.0
 
-pub returns-in_err-reply : goal.returns-in_err-reply
-returns-in_err-reply g c =
+pub returns-in_err-reply-clause-whole : goal.returns-in_err-reply-clause-whole
+returns-in_err-reply-clause-whole g c =
     refuses (state g.S.Store c.args.conn.now) c.requires.settled _
     c.from_residual-in_err-reply.ensures.0
+
+pub returns-clause-fails : goal.returns-clause-fails
+returns-clause-fails g c short =
+    fails_for (state g.S.Store c.args.conn.now)
+    (state g.S.Store c.record_request.new.conn) c.record_request.result AnyTables (λ t past. tt)
+    c.record_request.ensures.fails
+
+pub returns-in_err-check_hold_end-clause-fails : goal.returns-in_err-check_hold_end-clause-fails
+returns-in_err-check_hold_end-clause-fails g c short =
+    absurd (true≢false (sym (c.in_err-check_hold_end.ensures.short.1 short)))
+
+pub returns-in_err-reply-clause-fails : goal.returns-in_err-reply-clause-fails
+returns-in_err-reply-clause-fails g c short =
+    fails_for_memory (state g.S.Store c.args.conn.now) (state g.S.Store c.args.conn.now)
+    c.in_err-reply.ensures.fails c.from_residual-in_err-reply.result
+    c.from_residual-in_err-reply.ensures

@@ -6,6 +6,7 @@ use Rattle.acq_book.specs.Promise.{MakesBy}
 use Rattle.acq_sql.specs.Kept.{Kept}
 use Rattle.acq_sql.specs.Opened.{tables, is_honest, is_open, may_leave}
 use Rattle.acq_sql.specs.Opened.{leaves_books, store_faults}
+use Rattle.acq_sql.proofs.BookBlames.{blames_change}
 use Rattle.acq_sql.proofs.BookMakes.{makes_at}
 use Rattle.acq_sql.proofs.sql_book.SqlBookBook.apply.Goals as goal
 
@@ -27,7 +28,7 @@ returns-clause-makes g c =
     old) change))
     (sym c.counted.ensures.succeeds)
     (makes_at g.S.Store g.met.S.Store.settled old now change c.apply-made.result
-    c.apply-made.ensures
+    c.apply-made.ensures.whole
     (subst (λ (k : Kept _). is_open g.S.Store k → Fits (tables g.S.Store k) change)
     (sym c.self.view_is)
     c.requires.fits)
@@ -35,3 +36,10 @@ returns-clause-makes g c =
     (sym c.self.view_is)
     c.requires.past)
     c.counted.ensures.rise))
+
+pub returns-clause-blames : goal.returns-clause-blames
+returns-clause-blames g c =
+    blames_change g.S.Store _ _
+    (record { connection = c.apply-made.new.conn; failures = c.counted.new.failures })
+    c.self.view_is c.apply-made.result c.counted.result c.args.change.now c.apply-made.ensures.fails
+    c.counted.ensures.same c.counted.ensures.fault c.requires.fits c.requires.past

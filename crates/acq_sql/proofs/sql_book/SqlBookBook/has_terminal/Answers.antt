@@ -1,5 +1,6 @@
 use Rattle.acq_book.specs.Lookups.{has_terminal_at}
-use Rattle.acq_sql.proofs.BookLooks.{looks_of, value_of}
+use Rattle.acq_sql.proofs.BookBlames.{blames_of, has_past}
+use Rattle.acq_sql.proofs.BookLooks.{looks_of, room_of, value_of}
 use Rattle.acq_sql.proofs.sql_book.SqlBookBook.has_terminal.Goals as goal
 
 pub returns-clause-value : goal.returns-clause-value
@@ -19,3 +20,18 @@ returns-clause-looks g c =
     (record { connection = c.has_terminal-answer.new.conn; failures = c.counted.new.failures })
     c.self.view_is c.has_terminal-answer.result c.counted.result c.has_terminal-answer.ensures.looks
     c.self.invariant c.settled.ensures c.counted.ensures.succeeds c.counted.ensures.rise
+
+pub returns-clause-blames : goal.returns-clause-blames
+returns-clause-blames g c =
+    blames_of g.S.Store _ _
+    (record { connection = c.has_terminal-answer.new.conn; failures = c.counted.new.failures })
+    c.self.view_is c.has_terminal-answer.result c.counted.result _
+    c.has_terminal-answer.ensures.fails
+    c.counted.ensures.same c.counted.ensures.fault has_past
+
+pub returns-clause-room : goal.returns-clause-room
+returns-clause-room g c =
+    room_of g.S.Store _ _
+    (record { connection = c.has_terminal-answer.new.conn; failures = c.counted.new.failures })
+    c.self.view_is c.has_terminal-answer.result c.has_terminal-answer.ensures.looks c.self.invariant
+    c.settled.ensures

@@ -1,5 +1,6 @@
 use Rattle.acq_book.specs.Lookups.{pending_at}
-use Rattle.acq_sql.proofs.BookLooks.{looks_of, value_of}
+use Rattle.acq_sql.proofs.BookBlames.{blames_of, pending_told}
+use Rattle.acq_sql.proofs.BookLooks.{looks_of, room_of, value_of}
 use Rattle.acq_sql.proofs.sql_book.SqlBookBook.pending.Goals as goal
 
 pub returns-clause-value : goal.returns-clause-value
@@ -18,3 +19,18 @@ returns-clause-looks g c =
     (record { connection = c.pending-answer.new.conn; failures = c.counted.new.failures })
     c.self.view_is c.pending-answer.result c.counted.result c.pending-answer.ensures.looks
     c.self.invariant c.settled.ensures c.counted.ensures.succeeds c.counted.ensures.rise
+
+pub returns-clause-blames : goal.returns-clause-blames
+returns-clause-blames g c =
+    blames_of g.S.Store _ _
+    (record { connection = c.pending-answer.new.conn; failures = c.counted.new.failures })
+    c.self.view_is c.pending-answer.result c.counted.result _
+    c.pending-answer.ensures.fails
+    c.counted.ensures.same c.counted.ensures.fault (pending_told c.args.day)
+
+pub returns-clause-room : goal.returns-clause-room
+returns-clause-room g c =
+    room_of g.S.Store _ _
+    (record { connection = c.pending-answer.new.conn; failures = c.counted.new.failures })
+    c.self.view_is c.pending-answer.result c.pending-answer.ensures.looks c.self.invariant
+    c.settled.ensures

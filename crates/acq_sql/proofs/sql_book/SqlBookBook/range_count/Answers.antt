@@ -1,5 +1,6 @@
 use Rattle.acq_book.specs.Lookups.{range_count_at}
-use Rattle.acq_sql.proofs.BookLooks.{looks_of, value_of}
+use Rattle.acq_sql.proofs.BookBlames.{blames_of, ranges_told}
+use Rattle.acq_sql.proofs.BookLooks.{looks_of, room_of, value_of}
 use Rattle.acq_sql.proofs.sql_book.SqlBookBook.range_count.Goals as goal
 
 pub returns-clause-value : goal.returns-clause-value
@@ -19,3 +20,18 @@ returns-clause-looks g c =
     c.self.view_is c.range_count-answer.result c.counted.result
     c.range_count-answer.ensures.looks
     c.self.invariant c.settled.ensures c.counted.ensures.succeeds c.counted.ensures.rise
+
+pub returns-clause-blames : goal.returns-clause-blames
+returns-clause-blames g c =
+    blames_of g.S.Store _ _
+    (record { connection = c.range_count-answer.new.conn; failures = c.counted.new.failures })
+    c.self.view_is c.range_count-answer.result c.counted.result _
+    c.range_count-answer.ensures.fails
+    c.counted.ensures.same c.counted.ensures.fault ranges_told
+
+pub returns-clause-room : goal.returns-clause-room
+returns-clause-room g c =
+    room_of g.S.Store _ _
+    (record { connection = c.range_count-answer.new.conn; failures = c.counted.new.failures })
+    c.self.view_is c.range_count-answer.result c.range_count-answer.ensures.looks c.self.invariant
+    c.settled.ensures

@@ -1,5 +1,6 @@
 use Rattle.acq_book.specs.Lookups.{totals_at}
-use Rattle.acq_sql.proofs.BookLooks.{looks_of, value_of}
+use Rattle.acq_sql.proofs.BookBlames.{blames_of, has_past}
+use Rattle.acq_sql.proofs.BookLooks.{looks_of, room_of, value_of}
 use Rattle.acq_sql.proofs.sql_book.SqlBookBook.totals.Goals as goal
 
 pub returns-clause-value : goal.returns-clause-value
@@ -18,3 +19,18 @@ returns-clause-looks g c =
     (record { connection = c.totals-answer.new.conn; failures = c.counted.new.failures })
     c.self.view_is c.totals-answer.result c.counted.result c.totals-answer.ensures.looks
     c.self.invariant c.settled.ensures c.counted.ensures.succeeds c.counted.ensures.rise
+
+pub returns-clause-blames : goal.returns-clause-blames
+returns-clause-blames g c =
+    blames_of g.S.Store _ _
+    (record { connection = c.totals-answer.new.conn; failures = c.counted.new.failures })
+    c.self.view_is c.totals-answer.result c.counted.result _
+    c.totals-answer.ensures.fails
+    c.counted.ensures.same c.counted.ensures.fault has_past
+
+pub returns-clause-room : goal.returns-clause-room
+returns-clause-room g c =
+    room_of g.S.Store _ _
+    (record { connection = c.totals-answer.new.conn; failures = c.counted.new.failures })
+    c.self.view_is c.totals-answer.result c.totals-answer.ensures.looks c.self.invariant
+    c.settled.ensures

@@ -1,7 +1,8 @@
 use Rattle.std.proofs.Common.{subst, sym}
 use Rattle.acq_book.specs.Visits.{SawRows}
 use Rattle.acq_sql.specs.Opened.{tables}
-use Rattle.acq_sql.proofs.BookLooks.{held_by, looks_of, relay_err, relay_ok}
+use Rattle.acq_sql.proofs.BookBlames.{blames_of, holds_walked}
+use Rattle.acq_sql.proofs.BookLooks.{held_by, looks_of, relay_err, relay_ok, room_of}
 use Rattle.acq_sql.proofs.sql_book.SqlBookBook.walk_holds.Goals as goal
 
 pub returns-clause-seen : goal.returns-clause-seen
@@ -27,3 +28,18 @@ pub returns-clause-shown : goal.returns-clause-shown
 returns-clause-shown g c =
     subst (SawRows g.V.Visit.sees c.args.visitor.now c.walk_holds-walked.new.visitor)
     (sym c.counted.ensures.succeeds) c.walk_holds-walked.ensures.shown
+
+pub returns-clause-blames : goal.returns-clause-blames
+returns-clause-blames g c =
+    blames_of g.S.Store _ _
+    (record { connection = c.walk_holds-walked.new.conn; failures = c.counted.new.failures })
+    c.self.view_is c.walk_holds-walked.result c.counted.result _
+    c.walk_holds-walked.ensures.fails
+    c.counted.ensures.same c.counted.ensures.fault (holds_walked c.args.merchant)
+
+pub returns-clause-room : goal.returns-clause-room
+returns-clause-room g c =
+    room_of g.S.Store _ _
+    (record { connection = c.walk_holds-walked.new.conn; failures = c.counted.new.failures })
+    c.self.view_is c.walk_holds-walked.result c.walk_holds-walked.ensures.looks c.self.invariant
+    c.settled.ensures

@@ -1,0 +1,210 @@
+-- A book blames its store only since the store failed.
+use Rattle.std.proofs.Common.{◌≡◌, inl, inr, ℕ, suc, ◌==◌, Bool, true, false, ◌&&◌, cond}
+use Rattle.std.proofs.Common.{List, [], ◌∷◌, length, filter, is_lt, nat_cmp}
+use Rattle.std.proofs.Common.{Result, Ok, Err, IfOk, IfErr, IsErr, refl, sym, ap, subst, ◌∙◌, arith}
+use Rattle.std.specs.Result.{IsErrAnd}
+use Rattle.std.specs.Cmp.Lexicographic.{slice_cmp}
+use Rattle.std.specs.Str.{bytes_eq}
+use Rattle.sqlite_trees.specs.declared.store.Store.{Ghosts}
+use Rattle.sqlite.specs.declared.error.Error.{Error}
+use Rattle.sqlite.specs.State.{State}
+use Rattle.sqlite.specs.Held.{state}
+use Rattle.row_lemmas.specs.Excused.{IsExcused}
+use Rattle.row_lemmas.proofs.Elements.{length-map}
+use Rattle.acq_core.specs.declared.change.Change.{Change}
+use Rattle.acq_core.specs.declared.posting.Posting.{Posting}
+use Rattle.acq_core.specs.declared.request.Request.{Request}
+use Rattle.acq_core.specs.Pasts.{HasPast}
+use Rattle.acq_core.specs.Tables.{Tables, after, requests_of, is_pending, is_approved}
+use Rattle.acq_book.specs.declared.book_fault.BookFault.{BookFault}
+use Rattle.acq_book.specs.declared.book_fault.BookFault.TheVariants.{Memory, Store}
+use Rattle.acq_book.specs.Fits.{Fits, HasItsRequest}
+use Rattle.acq_book.specs.Lookups.{terminal_count_at, range_count_at, pending_at, postings_at}
+use Rattle.acq_book.specs.Lookups.{merchants_at, holds_at, waiting_at, is_posting_before}
+use Rattle.acq_book.specs.Lookups.{is_reference_before, is_authorization}
+use Rattle.acq_book.specs.Order.{put_in_order, in_order}
+use Rattle.acq_book.specs.Promise.{BlamesStore, HasRisen}
+use Rattle.acq_book.proofs.Counting.{count-le, length-filter}
+use Rattle.acq_sql_rows.specs.Rows.{version, merchant_row, terminal_row, range_row, request_row}
+use Rattle.acq_sql_rows.specs.Rows.{posting_row}
+use Rattle.acq_sql_rows.specs.Schema.{merchants_tree, terminals_tree, ranges_tree, requests_tree}
+use Rattle.acq_sql_rows.specs.Schema.{postings_tree}
+use Rattle.acq_sql_changes.specs.Refused.{FailsAmong, HasNumberLeft, HasNumbersLeft, Takes}
+use Rattle.acq_sql_changes.specs.Widened.{FailsExcused}
+use Rattle.acq_sql_changes.proofs.TakenTables.{number_left}
+use Rattle.acq_sql_reads.specs.Failing.{CanBeWalked, IsTold}
+use Rattle.acq_sql.specs.Applied.{HasShortEnd}
+use Rattle.acq_sql.specs.Faults.{book_fault_of}
+use Rattle.acq_sql.specs.Kept.{Kept}
+use Rattle.acq_sql.specs.Opened.{IsOpenAt, tables, is_honest, is_open, has_room, store_faults}
+use Rattle.acq_sql.proofs.BookLooks.{risen_by}
+use Rattle.acq_sql.proofs.PastRows.{past_ends, past_takes}
+
+-- ---- what a book tells of what its database answered
+
+fault_told : (T : Type 0) (f : BookFault) (old new : ℕ) → HasRisen old new
+    → BlamesStore {T = T} (Err f) old new
+fault_told T Memory old new risen = tt
+fault_told T Store old new risen = risen
+
+excused_told : (T : Type 0) (e : Error) (old new : State) → IsExcused old new e
+    → BlamesStore {T = T} (Err (book_fault_of e)) old.faults new.faults
+excused_told T e old new (inl memory) =
+    subst (λ e. BlamesStore {T = T} (Err (book_fault_of e)) old.faults new.faults) (sym memory) tt
+excused_told T e old new (inr more) =
+    fault_told T (book_fault_of e) old.faults new.faults (risen_by more)
+
+told : {T : Type 0} (answer : Result T Error) (result : Result T BookFault) (old new : State)
+    → IfOk answer (λ x. result ≡ Ok x) → IfErr answer (λ e. result ≡ Err (book_fault_of e))
+    → IfErr answer (IsExcused old new) → BlamesStore result old.faults new.faults
+told {T} (Ok x) result old new same fault excused =
+    subst (λ r. BlamesStore r old.faults new.faults) (sym same) tt
+told {T} (Err e) result old new same fault excused =
+    subst (λ r. BlamesStore r old.faults new.faults) (sym fault) (excused_told T e old new excused)
+
+-- a call that fails only for memory or since the store failed, of what an open book with room
+-- holds, is one of the book that blames the store only since it failed
+blames_at : {S T : Type 0} (g : Ghosts S) (old seen new : Kept S) → old ≡ seen
+    → (answer : Result T Error) (result : Result T BookFault) (fits : Tables → Type 0)
+    → (HasNumbersLeft (state g old.connection).now
+    → FailsExcused version (state g old.connection) (state g new.connection) answer fits)
+    → IfOk answer (λ x. result ≡ Ok x) → IfErr answer (λ e. result ≡ Err (book_fault_of e))
+    → is_honest g new → (o : is_open g seen) → has_room g seen → fits (tables g seen)
+    → BlamesStore result (store_faults g seen) (store_faults g new)
+blames_at {S} {T} g old seen new is answer result fits fails same fault clean o room fit =
+    let was = subst (λ (k : Kept S). HasNumbersLeft (state g k.connection).now
+    → FailsExcused version (state g k.connection) (state g new.connection) answer fits) is fails in
+    told answer result (state g seen.connection) (state g new.connection) same fault
+    (was room.1 clean (tables g seen) o.at fit room.0)
+
+-- so it is of a look-up, which may ask more of such tables
+pub blames_of : {S T : Type 0} (g : Ghosts S) (old seen new : Kept S) → old ≡ seen
+    → (answer : Result T Error) (result : Result T BookFault) (fits : Tables → Type 0)
+    → FailsExcused version (state g old.connection) (state g new.connection) answer fits
+    → IfOk answer (λ x. result ≡ Ok x) → IfErr answer (λ e. result ≡ Err (book_fault_of e))
+    → ((s : State) (t : Tables) → IsOpenAt s t → HasNumbersLeft s.now → fits t)
+    → is_honest g new → is_open g seen → has_room g seen
+    → BlamesStore result (store_faults g seen) (store_faults g new)
+blames_of g old seen new is answer result fits fails same fault fit clean o room =
+    blames_at g old seen new is answer result fits (λ left. fails) same fault clean o room
+    (fit (state g seen.connection) (tables g seen) o room.1)
+
+-- and of a change that fits and leads to tables with a past, where the request that it answers is
+-- there
+pub blames_change : {S T : Type 0} (g : Ghosts S) (old seen new : Kept S) → old ≡ seen
+    → (answer : Result T Error) (result : Result T BookFault) (change : Change)
+    → (HasShortEnd change
+    → FailsAmong (state g old.connection) (state g new.connection) answer change HasPast)
+    → IfOk answer (λ x. result ≡ Ok x) → IfErr answer (λ e. result ≡ Err (book_fault_of e))
+    → (is_open g seen → Fits (tables g seen) change)
+    → (is_open g seen → HasPast (after (tables g seen) change))
+    → is_honest g new → is_open g seen → has_room g seen → HasItsRequest (tables g seen) change
+    → BlamesStore result (store_faults g seen) (store_faults g new)
+blames_change g old seen new is answer result change fails same fault fits past clean o room there =
+    let t = tables g seen in
+    let later = past o in
+    blames_at g old seen new is answer result (λ t. Takes change t × HasPast t)
+    (fails (past_ends t change later there)) same fault clean o room
+    (past_takes t change (fits o) o.past later, o.past)
+
+-- a fault that is passed on blames the store no more than before
+pub passed_on : {T U : Type 0} (e : BookFault) (told : Result T BookFault)
+    (result : Result U BookFault) (old new : ℕ) → told ≡ Err e
+    → IsErr result × IsErrAnd result (λ f. f ≡ e) → BlamesStore told old new
+    → BlamesStore result old new
+passed_on e told (Ok x) old new was same blames = tt
+passed_on {T} {U} e told (Err f) old new was same blames =
+    subst (λ f. BlamesStore {T = U} (Err f) old new) (sym same.1)
+    (turned e (subst (λ r. BlamesStore r old new) was blames))
+  where
+    turned : (e : BookFault) → BlamesStore {T = T} (Err e) old new →
+        BlamesStore {T = U} (Err e) old new
+    turned Memory is = tt
+    turned Store is = is
+
+-- ---- lists in order
+
+put_length : {X : Type 0} (before : X → X → Bool) (x : X) (ys : List X)
+    → length (put_in_order before x ys) ≡ suc (length ys)
+put_length before x [] = refl
+put_length before x (y ∷ ys) =
+    elim (before y x) as
+    (λ b. length (cond b (y ∷ put_in_order before x ys) (x ∷ y ∷ ys)) ≡ suc (suc (length ys)))
+    [ true ↦ ap suc (put_length before x ys) | false ↦ refl ]
+
+pub order_length : {X : Type 0} (before : X → X → Bool) (xs : List X)
+    → length (in_order before xs) ≡ length xs
+order_length before [] = refl
+order_length before (x ∷ xs) =
+    put_length before x (in_order before xs) ∙ ap suc (order_length before xs)
+
+-- ---- what an open book with room holds
+
+module _ (s : State) (t : Tables) (o : IsOpenAt s t) (left : HasNumbersLeft s.now) where
+  few_terminals : HasNumberLeft t.terminals
+  few_terminals =
+      number_left terminal_row (s.now.trees terminals_tree) t.terminals o.at.holds.rows.terminals
+      (left terminals_tree)
+
+  few_requests : HasNumberLeft t.requests
+  few_requests =
+      number_left request_row (s.now.trees requests_tree) t.requests o.at.holds.rows.requests
+      (left requests_tree)
+
+  pub has_past : HasPast t
+  has_past = o.past
+
+  pub terminals_told : HasPast t × IsTold (terminal_count_at t)
+  terminals_told = let few = few_terminals in (o.past, omega (arith, few))
+
+  pub ranges_told : HasPast t × IsTold (range_count_at t)
+  ranges_told =
+      let same = ap length o.at.holds.rows.ranges ∙ length-map range_row t.ranges in
+      let few = left ranges_tree in
+      (o.past, omega (arith, same, few))
+
+  pub merchants_walked : HasPast t × CanBeWalked (merchants_at t)
+  merchants_walked =
+      let few =
+      number_left merchant_row (s.now.trees merchants_tree) t.merchants o.at.holds.rows.merchants
+      (left merchants_tree) in
+      let same = order_length (λ a b. is_lt (slice_cmp nat_cmp a.id b.id)) t.merchants in
+      (o.past, omega (arith, few, same))
+
+  pub waiting_walked : HasPast t × CanBeWalked (waiting_at t)
+  waiting_walked =
+      let few = few_requests in
+      let some = length-filter (λ row. is_pending row.status) t.requests in
+      (o.past, omega (arith, few, some))
+
+-- what it holds of a day
+module _ (day : ℕ) (s : State) (t : Tables) (o : IsOpenAt s t) (left : HasNumbersLeft s.now) where
+  pub pending_told : HasPast t × IsTold (pending_at t day)
+  pending_told =
+      let few = few_requests s t o left in
+      let some = count-le (λ row. is_pending row.status && (row.day == day)) t.requests in
+      (o.past, omega (arith, few, some))
+
+  pub postings_walked : HasPast t × CanBeWalked (postings_at t day)
+  postings_walked =
+      let few =
+      number_left posting_row (s.now.trees postings_tree) t.postings o.at.holds.rows.postings
+      (left postings_tree) in
+      let on_day : ℕ × Posting → Bool = λ row. row.1.day == day in
+      let some = length-filter on_day t.postings in
+      let same = order_length is_posting_before (filter on_day t.postings) in
+      (o.past, omega (arith, few, some, same))
+
+-- what it holds of a merchant
+pub holds_walked : (m : List ℕ) (s : State) (t : Tables) → IsOpenAt s t → HasNumbersLeft s.now
+    → HasPast t × CanBeWalked (holds_at t m)
+holds_walked m s t o left =
+    let few = few_requests s t o left in
+    let own = requests_of m t.requests in
+    let mine = length-filter (λ row. bytes_eq row.key.merchant m) t.requests in
+    let is_hold : Request → Bool =
+    λ row. is_authorization row.key.service && is_approved row.status in
+    let some = length-filter is_hold own in
+    let same =
+    order_length (λ a b. is_reference_before a.reference b.reference) (filter is_hold own) in
+    (o.past, omega (arith, few, mine, some, same))
