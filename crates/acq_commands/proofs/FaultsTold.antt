@@ -20,6 +20,7 @@ use Rattle.acq_reports.specs.Faults as reports
 use Rattle.acq_reports.specs.declared.report_fault.ReportFault as report
 use Rattle.acq_commands.specs.DayReports.{StopsTaking, TakesSome, told}
 use Rattle.acq_commands.specs.Faults.{failed_reads, failed_writes, of_book, of_hex, of_input}
+use Rattle.acq_commands.specs.Faults.{IsReporting}
 use Rattle.acq_commands.specs.Faults.{of_out, CountsStore, TellsStore}
 use Rattle.acq_commands.specs.Listening.{going_on}
 use Rattle.acq_commands.specs.Once.{told_of}
@@ -212,6 +213,37 @@ report_tells it a b (Err report.TheVariants.NoSuchMerchant) tells = tells
 report_tells it a b (Err (report.TheVariants.Write n)) tells = tells
 report_tells it a b (Err report.TheVariants.DayNotOver) tells = tells
 report_tells it a b (Err (report.TheVariants.StillPending n)) tells = tells
+
+-- and of writes
+pub report_writes : (result : Result (Unit {0}) report.ReportFault) (old new : ℕ) →
+    new ≡ old + reports.failed_writes result → new ≡ old + failed_writes (told result)
+report_writes (Ok u) old new h = h
+report_writes (Err report.TheVariants.Memory) old new h = h
+report_writes (Err report.TheVariants.Store) old new h = h
+report_writes (Err report.TheVariants.NoSuchMerchant) old new h = h
+report_writes (Err (report.TheVariants.Write n)) old new h = h
+report_writes (Err report.TheVariants.DayNotOver) old new h = h
+report_writes (Err (report.TheVariants.StillPending n)) old new h = h
+
+-- what a report counts
+pub report_counts : (result : Result (Unit {0}) report.ReportFault) (old new : ℕ) →
+    reports.CountsStore result old new → CountsStore (told result) old new
+report_counts (Ok u) old new h = h
+report_counts (Err report.TheVariants.Memory) old new h = h
+report_counts (Err report.TheVariants.Store) old new h = h
+report_counts (Err report.TheVariants.NoSuchMerchant) old new h = h
+report_counts (Err (report.TheVariants.Write n)) old new h = h
+report_counts (Err report.TheVariants.DayNotOver) old new h = h
+report_counts (Err (report.TheVariants.StillPending n)) old new h = h
+
+-- reports read nothing
+pub report_unread : (fault : fault.Fault) → IsReporting fault → failed_reads (Err fault) ≡ 0
+report_unread fault (report.TheVariants.Memory, is) = rw is refl
+report_unread fault (report.TheVariants.Store, is) = rw is refl
+report_unread fault (report.TheVariants.NoSuchMerchant, is) = rw is refl
+report_unread fault (report.TheVariants.Write n, is) = rw is refl
+report_unread fault (report.TheVariants.DayNotOver, is) = rw is refl
+report_unread fault (report.TheVariants.StillPending n, is) = rw is refl
 
 pub some_taken : {S : Type 0} (it : Course S) (text : List ℕ) (e : book.BookFault) →
     TakesSome it text → StopsTaking it text (of_book e)

@@ -1,6 +1,6 @@
 -- Reports on days, one after the other, over any book.
 use Rattle.std.specs.Prelude.{◌≡◌, ◌⊎◌, ℕ, ◌+◌, ◌<◌, List, ◌∷◌, ◌++◌, length, flat_map, None}
-use Rattle.std.specs.Prelude.{Result, Ok, Err}
+use Rattle.std.specs.Prelude.{Option, Result, Ok, Err}
 use Rattle.std.specs.List.{All}
 use Rattle.acq_core.specs.declared.event.Event.{Event}
 use Rattle.acq_core.specs.Tables.{Tables, tables_after}
@@ -17,7 +17,7 @@ use Rattle.acq_commands.specs.declared.report_kind.ReportKind.{ReportKind}
 use Rattle.acq_commands.specs.declared.report_kind.ReportKind.TheVariants.{Clearing, Settlement}
 use Rattle.acq_commands.specs.declared.fault.Fault as fault
 use Rattle.acq_commands.specs.Faults.{of_report}
-use Rattle.acq_commands.specs.Streams.{Course, left_after, tables_before}
+use Rattle.acq_commands.specs.Streams.{Course, Stream, left_after, tables_before}
 
 -- what is written of a day
 abbrev pub text_on : ReportKind → Tables → ℕ → List ℕ
@@ -59,6 +59,13 @@ WritesReports t reports sent sent_after (Err cause) =
 abbrev pub told : Result (Unit {0}) ReportFault → Result (Unit {0}) fault.Fault
 told (Ok u) = Ok u
 told (Err cause) = Err (of_report cause)
+
+-- what of a report went out, or why it was refused, by how the command ended
+abbrev pub TellsReport : Option ReportFault → List ℕ → Stream → Result (Unit {0}) fault.Fault
+    → Type 0
+TellsReport refusal text sent ended =
+    (written : Result (Unit {0}) ReportFault) × (ended ≡ told written)
+    × Reports refusal text sent.before sent.after written
 
 -- ---- the events before them
 

@@ -39,7 +39,7 @@ pub fn write_reports<B: Book, K: Sink>(
 }
 
 /// Writes a report.
-fn write_report<B: Book, K: Sink>(
+pub(crate) fn write_report<B: Book, K: Sink>(
     alloc: Global,
     book: &mut B,
     report: DayReport,
@@ -69,6 +69,7 @@ pub(crate) fn report_if_taken<B: Book, K: Sink>(
     ensures stopped { IfErr taken (λ cause. (result ≡ Err cause)
         × (K.sent output.new ≡ K.sent output.old)) }
     ensures unasked { OnErr taken (book.new ≡ book.old) }
+    ensures unwritten { OnErr taken (K.failures output.new ≡ K.failures output.old) }
     ensures looks { (succeeded : Bool) × Looks B.Book book.old book.new succeeded }
     ensures store { OnOk taken (faults.TellsStore result (B.failures book.old) (B.failures book.new)
         (B.is_honest book.new → B.is_open book.old → ⊥)) }
@@ -76,12 +77,26 @@ pub(crate) fn report_if_taken<B: Book, K: Sink>(
         → (written : Result (Unit {0}) report_fault.ReportFault) × (result ≡ told written)
         × WritesReports (B.tables book.old) reports.now (K.sent output.old) (K.sent output.new)
         written) }
+    ensures writes { OnOk taken
+        (K.failures output.new ≡ K.failures output.old + faults.failed_writes result) }
+    ensures fault { OnOk taken (IfErr result faults.IsReporting) }
 {
     match taken {
-        Ok(()) => match write_reports(alloc, book, reports, output) {
-            Ok(()) => Ok(()),
-            Err(fault) => Err(Fault::from(fault)),
-        },
+        Ok(()) => {
+            let written = write_reports(alloc, book, reports, output);
+            told(written)
+        }
         Err(fault) => Err(fault),
+    }
+}
+
+/// How reports ended, as a command tells it.
+pub(crate) fn told(written: Result<(), ReportFault>) -> Result<(), Fault>
+    ensures same { result ≡ told written }
+    ensures fault { IfErr result faults.IsReporting }
+{
+    match written {
+        Ok(()) => Ok(()),
+        Err(fault) => Err(Fault::from(fault)),
     }
 }

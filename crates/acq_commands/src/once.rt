@@ -8,6 +8,7 @@ ghost use Rattle.acq_link.specs.Moves.{TakesAll};
 ghost use Rattle.acq_commands.specs.Faults.{TellsStore, failed_reads, failed_writes};
 ghost use Rattle.acq_commands.specs.Once.{ServesInMemory, ServesOnce};
 
+use crate::book_commands::end_of;
 use crate::fault::Fault;
 use crate::widest_opening::{first_day_of_all, greatest_limit};
 use acq_book::{Book, ListBook};
@@ -74,7 +75,6 @@ pub fn once_in_memory<C: Clock, I: Issuer, S: Source, K: Sink>(
     ensures writes { K.failures output.new ≡ K.failures output.old + failed_writes result }
 {
     let host = Host::in_memory(alloc, keys, greatest_limit(), first_day_of_all());
-    let (book, ended) = once_on(alloc, host.into_book(), clock, issuer, input, output);
-    drop(book);
-    ended
+    let ran = once_on(alloc, host.into_book(), clock, issuer, input, output);
+    end_of(ran)
 }

@@ -6,7 +6,7 @@ ghost use Rattle.acq_book.specs.Promise.{CountsFault};
 ghost use Rattle.acq_front.specs.Stops.{LeavesAll, left_of};
 ghost use Rattle.acq_link.specs.Moves.{TakesAll};
 ghost use Rattle.acq_commands.specs.DayReports.{Takes, TakesFirst};
-ghost use Rattle.acq_commands.specs.Faults.{CountsStore, failed_reads};
+ghost use Rattle.acq_commands.specs.Faults.{CountsStore, failed_reads, failed_writes};
 ghost use Rattle.acq_commands.specs.Replay.{AfterReading};
 
 use crate::fault::Fault;
@@ -37,6 +37,7 @@ pub fn take_events<B: Book + Drop, S: Source, P: Progress>(
         → OnOk result (B.is_open host.new) }
     // A fault of reading or of the store comes exactly where a call of it failed.
     ensures reads { S.failures input.new ≡ S.failures input.old + failed_reads result }
+    ensures unwritten { failed_writes result ≡ 0 }
     ensures store { CountsStore result (B.failures host.old) (B.failures host.new) }
 {
     let events = read_events(alloc, input)?;

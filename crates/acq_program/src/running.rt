@@ -384,7 +384,9 @@ fn report<B: Book + Drop, M: Machine<B>, K: Sink>(
     output: &mut K,
 ) -> Result<(), Fault> {
     let book = machine.open_book(options.path.as_str())?;
-    report_on(alloc, book, options, output)
+    let (book, ended) = report_on(alloc, book, options, output);
+    drop(book);
+    ended
 }
 
 /// Writes the open holds of a merchant of the book in a file.
@@ -395,7 +397,9 @@ fn holds<B: Book + Drop, M: Machine<B>, K: Sink>(
     output: &mut K,
 ) -> Result<(), Fault> {
     let book = machine.open_book(options.path.as_str())?;
-    holds_of(alloc, book, options, output)
+    let (book, ended) = holds_of(alloc, book, options, output);
+    drop(book);
+    ended
 }
 
 /// Replays an input over the book in a file, or without one over a new book.

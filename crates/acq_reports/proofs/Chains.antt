@@ -9,7 +9,7 @@ use Rattle.std.proofs.lemmas.Result.{err_from_is_err_and}
 use Rattle.acq_reports.specs.Faults.{StoreFailed, TellsFault, TellsStore}
 use Rattle.acq_reports.specs.declared.report_fault.ReportFault.{ReportFault}
 use Rattle.acq_reports.specs.declared.report_fault.ReportFault.TheVariants.{Store}
-pub use Rattle.acq_book.proofs.Chains.{counts_more, looks_more}
+pub use Rattle.acq_book.proofs.Chains.{looks_more}
 
 module _ {S : Type 0} (book : Ghosts S) (a b c : S) (succeeded : Bool)
     (first : Looks book a b true) (second : Looks book b c succeeded) where

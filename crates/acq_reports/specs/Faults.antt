@@ -44,8 +44,8 @@ abbrev pub StoreFailed : {S : Type 0} → Ghosts S → S → S → Type 0
 StoreFailed book old new =
     HasRisen (book.failures old) (book.failures new) ⊎ ¬ (book.is_honest new × book.is_open old)
 
--- A fault of the store is told of a book that doesn't add up, too. Unless it is told, no call of the
--- store failed.
+-- A fault of the store is told of a book that doesn't add up, too. Unless it is told, no call of
+-- the store failed.
 abbrev pub TellsStore : {S T : Type 0} → Ghosts S → S → S → Result T ReportFault → Type 0
 TellsStore book old new (Err Store) = StoreFailed book old new
 TellsStore book old new _ = book.failures new ≡ book.failures old

@@ -62,6 +62,7 @@ impl<B: Book + Drop> Host<B> {
     {
         open_holds(self.alloc, &mut self.book, merchant, moment, writer)
     }
+
     /// Writes another text of the book.
     pub fn write_text<X: BookText, K: Sink>(
         &mut self,

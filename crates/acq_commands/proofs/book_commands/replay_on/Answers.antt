@@ -1,10 +1,14 @@
 use Rattle.std.proofs.Common.{◌≡◌, ◌==◌, [], length, true≢false, sym, ap, subst, ◌∙◌}
 use Rattle.std.specs.Prelude.{OnOk}
 use Rattle.acq_front.specs.Stops.{left_of}
+use Rattle.acq_commands.specs.DayReports.{Takes}
 use Rattle.acq_commands.specs.Faults.{CountsStore, TellsStore}
-use Rattle.acq_commands.specs.Replay.{TakesUpTo}
+use Rattle.acq_commands.specs.Replay.{Replays, TakesUpTo}
+use Rattle.acq_commands.specs.Runs.{EndsWithReports}
+use Rattle.acq_commands.specs.Streams.{Stream}
 use Rattle.acq_commands.proofs.EventsTaken.{replayed_up_to, taken_up_to, looked_up_to}
 use Rattle.acq_commands.proofs.FaultsTold.{tells_both, tells_counted}
+use Rattle.acq_commands.proofs.ReportsEnd.{empty_is, ends_with_reports, reads_behind, writes_behind}
 use Rattle.acq_commands.proofs.book_commands.replay_on.Goals as goal
 
 pub returns-then-is_empty-clause-takes : goal.returns-then-is_empty-clause-takes
@@ -80,3 +84,80 @@ returns-clause-store g c =
     taken.ensures.stays_open)
     ended.ensures.looks.1.was_honest ended.ensures.stopped ended.ensures.unasked
     ended.ensures.store)
+
+-- ---- what went out
+
+pub returns-then-is_empty-clause-lines : goal.returns-then-is_empty-clause-lines
+returns-then-is_empty-clause-lines g c = λ none h o.
+    let began = c.new-host.ensures in
+    let ended = c.into_book.ensures.book in
+    let so = c.replay-ended.ensures.replays (subst g.B.Book.is_honest ended h)
+    (subst g.B.Book.is_open (sym began) o) in
+    let sent : Stream = record {
+      before = g.K.Sink.sent c.args.output.now;
+      after = g.K.Sink.sent c.replay-ended.new.output;
+    } in (
+      so.0,
+      so.1,
+      subst (λ s. Replays (record { left = left_of g.B.Book; old = s; new = c.into_book.result })
+          so.0 sent c.replay-ended.result)
+          began
+          (subst (λ s. Replays
+          (record { left = left_of g.B.Book; old = c.new-host.result; new = s }) so.0 sent
+          c.replay-ended.result)
+          (sym ended) so.2),
+    )
+
+pub returns-then-is_empty-clause-reports : goal.returns-then-is_empty-clause-reports
+returns-then-is_empty-clause-reports g c = λ some.
+    absurd (some (empty_is c.args.reports.now (sym c.is_empty.ensures ∙ c.if-is_empty.true)))
+
+pub returns-clause-lines : goal.returns-clause-lines
+returns-clause-lines g c = λ none.
+    let full = sym (ap (λ l. length l == 0) none) ∙ (sym c.is_empty.ensures ∙ c.if-is_empty.false)
+    in absurd (true≢false full)
+
+pub returns-clause-reports : goal.returns-clause-reports
+returns-clause-reports g c = λ some h o.
+    let it = g.B.Book in
+    let taken = c.take_events-taken in
+    let ended = c.report_if_taken-ended in
+    let start = c.new-host.result in
+    let book = c.into_book-book.result in
+    let began = c.new-host.ensures in
+    let back = c.into_book-book.ensures.book in
+    let looks = ended.ensures.looks in
+    let honest = subst it.is_honest back (looks.1.was_honest h) in
+    let opened = subst it.is_open (sym began) o in
+    let so = taken.ensures.takes honest opened in
+    let sent : Stream = record {
+      before = g.K.Sink.sent c.args.output.now;
+      after = g.K.Sink.sent ended.new.output;
+    } in (
+      so.0,
+      so.1,
+      subst (λ s. EndsWithReports
+          (record { left = left_of it; old = s; new = ended.new.book }) c.args.reports.now so.0 sent
+          ended.result)
+          began
+          (ends_with_reports it start book ended.new.book c.args.reports.now so.0 sent taken.result
+          ended.result
+          (subst (λ s. Takes (record { left = left_of it; old = start; new = s }) so.0
+          taken.result) (sym back) so.2)
+          ended.ensures.stopped ended.ensures.unasked
+          (subst (λ s. OnOk taken.result (it.is_open s)) (sym back)
+          (taken.ensures.stays_open honest opened))
+          ended.ensures.written h),
+    )
+
+pub returns-clause-reads : goal.returns-clause-reads
+returns-clause-reads g c =
+    reads_behind _ c.take_events-taken.result c.report_if_taken-ended.result _ _
+    c.take_events-taken.ensures.reads c.report_if_taken-ended.ensures.stopped
+    c.report_if_taken-ended.ensures.fault
+
+pub returns-clause-writes : goal.returns-clause-writes
+returns-clause-writes g c =
+    writes_behind _ c.take_events-taken.result c.report_if_taken-ended.result _ _
+    c.report_if_taken-ended.ensures.stopped c.take_events-taken.ensures.unwritten
+    c.report_if_taken-ended.ensures.unwritten c.report_if_taken-ended.ensures.writes

@@ -10,5 +10,5 @@ returns-clause-served g c =
     ∙ ap₂ (λ limit day. new_tables (record { limit = limit; first_day = day }))
     c.greatest_limit.ensures
     c.first_day_of_all.ensures in
-    let s = (rw book at c.once_on-book.ensures.served) in
-    (c.once_on-book.result.0, s tt tt)
+    let s = (rw book at c.once_on-ran.ensures.served) in
+    rw c.end_of.ensures (c.once_on-ran.result.0, s tt tt)

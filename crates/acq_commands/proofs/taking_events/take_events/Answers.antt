@@ -1,7 +1,8 @@
 use Rattle.std.proofs.Common.{◌∙◌, refl, sym, ap, Ok, Err, arith}
 use Rattle.std.proofs.lemmas.Result.{err_from_is_err_and}
 use Rattle.acq_front.specs.Stops.{left_of}
-use Rattle.acq_commands.proofs.FaultsTold.{events_reads, events_unstored, events_whole}
+use Rattle.acq_commands.proofs.FaultsTold.{book_unwritten, events_reads, events_unstored}
+use Rattle.acq_commands.proofs.FaultsTold.{events_unwritten, events_whole}
 use Rattle.acq_commands.proofs.FaultsTold.{any_end, book_stored, book_unread, some_taken, untaken}
 use Rattle.acq_commands.proofs.taking_events.take_events.Goals as goal
 
@@ -89,3 +90,14 @@ returns-in_err-events-clause-stays_open g c = λ h o.
 
 pub returns-in-Ok-clause-stays_open : goal.returns-in-Ok-clause-stays_open
 returns-in-Ok-clause-stays_open g c = rw c.in-Ok.is at c.take_each.ensures.stays_open
+
+pub returns-in_err-events-clause-unwritten : goal.returns-in_err-events-clause-unwritten
+returns-in_err-events-clause-unwritten g c =
+    let p = err_from_is_err_and c.from_residual.result c.from_residual.ensures.1 in
+    let came = c.in_err-events.ensures.read in
+    let none = events_unwritten came.0 c.in_err-events.field-0.0 0 came.2 in
+    rw (p.1, p.2) (omega (arith, none))
+
+pub returns-clause-unwritten : goal.returns-clause-unwritten
+returns-clause-unwritten g c =
+    let none = book_unwritten c.in-Err.fault 0 in rw c.from.ensures (omega (arith, none))
