@@ -1,4 +1,5 @@
 mod FirstLine
+mod HeldLines
 pub mod Following
 mod Doing
 mod Turning

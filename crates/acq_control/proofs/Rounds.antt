@@ -1,12 +1,12 @@
 -- How one round goes.
 use Rattle.std.proofs.Common.{◌≡◌, ◌≢◌, ℕ, Bool, List, [], Option, Result, Ok, Err, ap, ◌∙◌}
-use Rattle.std.proofs.Common.{◌++◌, take, drop, inl, refl}
+use Rattle.std.proofs.Common.{◌++◌, take, drop, inl, refl, subst}
 use Rattle.acq_core.specs.Tables.{Tables}
 use Rattle.acq_front.specs.Stops.{Left, LeavesAll}
 use Rattle.acq_status.specs.declared.serving.Serving.{Serving}
 use Rattle.acq_control.specs.declared.question.Question.{Question}
 use Rattle.acq_control.specs.Answers.{answer_of}
-use Rattle.acq_control.specs.Ends.{End, TakesLine}
+use Rattle.acq_control.specs.Ends.{End, TakesLine, WaitsOn}
 use Rattle.acq_front.specs.Faults.{UnlessRefused}
 use Rattle.acq_front.specs.declared.front_fault.FrontFault as fault
 use Rattle.acq_control.specs.Exchanges.{AsksOne, Goes, MovesOn, Passed}
@@ -14,7 +14,8 @@ use Rattle.acq_control.specs.declared.control_round.ControlRound.{ControlRound}
 use Rattle.acq_control.specs.declared.control_round.ControlRound.TheVariants.{Ended, GoesOn, Stops}
 use Rattle.acq_control.specs.declared.control_round.ControlRound.TheVariants.{Waits}
 use Rattle.acq_control.specs.Questions.{is_stop}
-use Rattle.acq_control.proofs.Following.{follows_asked, follows_written}
+use Rattle.acq_control.specs.Held.{Held, HoldsMore}
+use Rattle.acq_control.proofs.Following.{follows_asked, follows_fed, follows_written}
 
 module _ (may_give : ℕ → Type 0) (serving : Serving) (old : Tables) (left : Left) where
   -- a line was taken
@@ -36,7 +37,6 @@ module _ (may_give : ℕ → Type 0) (serving : Serving) (old : Tables) (left : 
         taken = after.taken;
       })
   takes_on came went before after asked stops took is_so = record {
-    line = took.line;
     asked = asked;
     moment = took.moment;
     given = took.given;
@@ -45,13 +45,21 @@ module _ (may_give : ℕ → Type 0) (serving : Serving) (old : Tables) (left : 
     tables = took.tables;
     stop = took.stop;
     follows = λ k t acts is f.
-        follows_asked k t acts came went before.held after.held after.unsent took.line before.taken
-        after.taken took.moment asked f took.begins took.asks took.count
-        (took.answers ∙ ap (λ (t : Tables). answer_of t after.taken asked) is);
+        let front = took.takes f.held f.holds in (
+          front.line,
+          record {
+            held = front.rest;
+            holds = front.holds;
+            follows = follows_asked k t acts came went f.held front.rest after.unsent front.line
+                before.taken after.taken took.moment asked f.follows front.begins front.asks
+                took.count (took.answers ∙ ap (λ (t : Tables). answer_of t after.taken asked) is);
+          },
+        );
   }
 
   -- some of an answer was written
-  pub writes_on : (came went held unsent : List ℕ) (taken n : ℕ) → left.tables ≡ old →
+  pub writes_on : (came went : List ℕ) (held : Held) (unsent : List ℕ) (taken n : ℕ) →
+      left.tables ≡ old →
       LeavesAll left old [] →
       MovesOn may_give serving old left
       (record { came = came; held = held; went = went; unsent = unsent; taken = taken })
@@ -65,8 +73,43 @@ module _ (may_give : ℕ → Type 0) (serving : Serving) (old : Tables) (left : 
   writes_on came went held unsent taken n same stop = record {
     tables = same;
     stop = stop;
-    follows = λ k t acts is f. follows_written k t acts came went held unsent taken n f;
+    follows = λ k t acts is f. record {
+      held = f.held;
+      holds = f.holds;
+      follows = follows_written k t acts came went f.held unsent taken n f.follows;
+    };
   }
+
+  -- no line was whole, and a piece was read
+  pub reads_on : (came went : List ℕ) (before mid : End) (after : Passed) (piece : List ℕ) →
+      WaitsOn may_give serving old left before mid → after.came ≡ came ++ piece →
+      HoldsMore mid.held after.held piece → after.went ≡ went → after.unsent ≡ mid.unsent →
+      after.taken ≡ mid.taken →
+      MovesOn may_give serving old left
+      (record {
+        came = came;
+        held = before.held;
+        went = went;
+        unsent = before.unsent;
+        taken = before.taken;
+      })
+      after
+  reads_on came went before mid after piece waits comes more wrote unsent taken =
+      let then_unsent : after.unsent ≡ before.unsent =
+      unsent ∙ ap (λ (e : End). e.unsent) waits.same in
+      let then_taken : after.taken ≡ before.taken =
+      taken ∙ ap (λ (e : End). e.taken) waits.same in
+      record {
+        tables = waits.tables;
+        stop = waits.stop;
+        follows = λ k t acts is f. record {
+          held = f.held ++ piece;
+          holds = subst (λ (e : End). HoldsMore e.held after.held piece) waits.same more f.held
+              f.holds;
+          follows = rw (comes, wrote, then_unsent, then_taken)
+              (follows_fed k t acts came went f.held before.unsent piece before.taken f.follows);
+        };
+      }
 
   -- nothing was done, and no host's end is told
   pub moved_on : (before after : Passed) (r : Result ControlRound fault.FrontFault) → r ≢ Ok Stops →

@@ -7,6 +7,7 @@ use Rattle.acq_core.specs.Tables.{Tables, tables_after}
 use Rattle.acq_front.specs.Stops.{Left, LeavesAll, LeavesSome}
 use Rattle.acq_book.specs.declared.book_fault.BookFault.{BookFault}
 use Rattle.acq_control.specs.Lines.{BeginsWithLine, IsInLine}
+use Rattle.acq_control.specs.Held.{Held, Holds}
 use Rattle.acq_status.specs.declared.serving.Serving.{Serving}
 use Rattle.acq_control.specs.Questions.{Asks, Shows, is_stop}
 use Rattle.acq_control.specs.Answers.{answer_of, events_asked, tables_behind}
@@ -16,7 +17,7 @@ use Rattle.acq_control.specs.declared.control_turn.ControlTurn.TheVariants.{Wait
 use Rattle.acq_control.specs.declared.question.Question.{Question}
 
 -- what came and belongs to no line yet
-abbrev pub held_of : ControlConversation → List ℕ
+abbrev pub held_of : ControlConversation → Held
 held_of c = c.input
 
 -- what of the answer in hand is still to be written
@@ -37,12 +38,21 @@ turn_after stops = if stops then Stops else Took
 
 -- one end as it stands
 pub record End : Type 0 where
-  pub held : List ℕ
+  pub held : Held
   pub unsent : List ℕ
   pub taken : ℕ
 
 abbrev pub end_of : ControlConversation → End
 end_of c = record { held = held_of c; unsent = unsent_of c; taken = taken_of c }
+
+-- What came begins with a line, which asks this at this moment, and behind it stands what is held.
+pub record BeginsWithAsked (after : Held) (moment : ℕ) (asked : Option Question) (bytes : List ℕ)
+    : Type 0 where
+  pub line : List ℕ
+  pub rest : List ℕ
+  pub begins : BeginsWithLine bytes line rest
+  pub holds : Holds after rest
+  pub asks : Asks moment line asked
 
 -- Memory or the store refused a call: an event was taken, or was in hand and was not, or there was
 -- none. A stop leaves the tables behind what was taken, or behind that and what was in hand.
@@ -60,14 +70,13 @@ module _ (may_give : ℕ → Type 0) (serving : Serving) (old : Tables) (left : 
     pub stop : LeavesAll left old []
     pub same : after ≡ before
 
-  -- The next line was taken, at a moment that may be given; what it asks was done, and what is to
-  -- be written is what is said to it.
+  -- The next line was taken, whatever stood in it that wasn't kept, at a moment that may be given;
+  -- what it asks was done, and what is to be written is what is said to it.
   pub record TakesLine (before after : End) (asked : Option Question) : Type 0 where
-    pub line : List ℕ
-    pub begins : BeginsWithLine before.held line after.held
     pub moment : ℕ
     pub given : may_give moment
-    pub asks : Asks moment line asked
+    pub takes : (bytes : List ℕ) → Holds before.held bytes →
+        BeginsWithAsked after.held moment asked bytes
     pub shows : Shows serving asked
     pub tables : left.tables ≡ tables_behind old asked
     pub stop : LeavesAll left old (events_asked asked)
@@ -76,7 +85,7 @@ module _ (may_give : ℕ → Type 0) (serving : Serving) (old : Tables) (left : 
 
   -- one turn
   abbrev pub Steps : End → End → Result ControlTurn BookFault → Type 0
-  Steps before after (Ok Waits) = WaitsOn before after × IsInLine before.held
+  Steps before after (Ok Waits) = WaitsOn before after × IsInLine before.held.kept
   Steps before after (Ok Took) =
       (asked : Option Question) × TakesLine before after asked × (is_stop asked ≡ false)
   Steps before after (Ok Stops) =

@@ -1,5 +1,5 @@
 -- One control connection to a host that has many, a round at a time.
-use Rattle.std.specs.Prelude.{◌≡◌, ◌≢◌, ◌⊎◌, ◌+◌, ◌<◌, ℕ, Bool, true, false, List, [], ◌∷◌, ◌++◌}
+use Rattle.std.specs.Prelude.{◌≡◌, ◌⊎◌, ◌+◌, ◌<◌, ℕ, Bool, true, false, List, [], ◌∷◌, ◌++◌}
 use Rattle.std.specs.Prelude.{length, Option, Result, Ok, Err}
 use Rattle.acq_core.specs.Tables.{Tables}
 use Rattle.acq_front.specs.Stops.{Left, LeavesAll}
@@ -7,7 +7,8 @@ use Rattle.acq_front.specs.declared.front_fault.FrontFault.{FrontFault}
 use Rattle.acq_front.specs.declared.front_fault.FrontFault.TheVariants.{Memory, Store}
 use Rattle.acq_front.specs.declared.front_fault.FrontFault.TheVariants as fault
 use Rattle.acq_status.specs.declared.serving.Serving.{Serving}
-use Rattle.acq_control.specs.Lines.{IsInLine, longest_line}
+use Rattle.acq_control.specs.Lines.{IsInLine}
+use Rattle.acq_control.specs.Held.{Held, Holds, is_nothing}
 use Rattle.acq_control.specs.Questions.{Shows, is_stop}
 use Rattle.acq_control.specs.Answers.{events_asked, tables_behind}
 use Rattle.acq_control.specs.Log.{Act, FollowsActs, asked_by, behind_acts}
@@ -22,7 +23,7 @@ use Rattle.acq_control.specs.declared.question.Question.{Question}
 pub record Passed : Type 0 where
   -- what came, and what of it belongs to no line yet
   pub came : List ℕ
-  pub held : List ℕ
+  pub held : Held
   -- what went out, and what of an answer is still to be written
   pub went : List ℕ
   pub unsent : List ℕ
@@ -33,7 +34,7 @@ module _ {L : Type 0} where
   abbrev pub line_of : ControlExchange L → L
   line_of e = e.line
 
-  abbrev pub held_of : ControlExchange L → List ℕ
+  abbrev pub held_of : ControlExchange L → Held
   held_of e = turns.held_of e.conversation
 
   abbrev pub unsent_of : ControlExchange L → List ℕ
@@ -52,9 +53,12 @@ module _ {L : Type 0} where
     taken = taken_of e;
   }
 
--- what passed over connection k follows what was done for all connections to a host
-abbrev pub FollowsLog : ℕ → Tables → List Act → Passed → Type 0
-FollowsLog k t acts p = FollowsActs k t acts p.came p.went p.held p.unsent p.taken
+-- What passed over connection k follows what was done for all connections to a host; what came and
+-- belongs to no line yet are bytes that are held.
+pub record FollowsLog (k : ℕ) (t : Tables) (acts : List Act) (p : Passed) : Type 0 where
+  pub held : List ℕ
+  pub holds : Holds p.held held
+  pub follows : FollowsActs k t acts p.came p.went held p.unsent p.taken
 
 -- whether a round tells that the input ended
 abbrev pub tells_end : Result ControlRound FrontFault → Bool
@@ -63,12 +67,11 @@ tells_end (Err fault.Ended) = true
 tells_end other = false
 
 -- Where the connection ended: at its own end nothing is held, and nothing is still to be written;
--- else the beginning of a line is held, which fills all the room that there is, or behind which the
--- input ended.
-abbrev pub EndsWith : List ℕ → List ℕ → Result ControlRound FrontFault → Type 0
-EndsWith held unsent (Ok Ended) = (held ≡ []) × (unsent ≡ [])
-EndsWith held unsent (Err fault.BadLength) = IsInLine held × (length held ≡ longest_line)
-EndsWith held unsent (Err fault.Ended) = IsInLine held × (held ≢ [])
+-- else the beginning of a line is held, behind which the input ended. No line is too long for it.
+abbrev pub EndsWith : Held → List ℕ → Result ControlRound FrontFault → Type 0
+EndsWith held unsent (Ok Ended) = (is_nothing held ≡ true) × (unsent ≡ [])
+EndsWith held unsent (Err fault.BadLength) = ⊥
+EndsWith held unsent (Err fault.Ended) = IsInLine held.kept × (is_nothing held ≡ false)
 EndsWith held unsent (Err (fault.Undecodable f)) = ⊥
 EndsWith held unsent other = Unit {0}
 
@@ -100,7 +103,6 @@ module _ (may_give : ℕ → Type 0) (serving : Serving) (old : Tables) (left : 
   -- A line was taken, at a moment that may be given, and what it asks was done, which is the host's
   -- end or not; and behind any acts the connection goes on to follow them and this one.
   pub record AsksOne (stops : Bool) (before after : Passed) : Type 0 where
-    pub line : List ℕ
     pub asked : Option Question
     pub moment : ℕ
     pub given : may_give moment
@@ -110,7 +112,7 @@ module _ (may_give : ℕ → Type 0) (serving : Serving) (old : Tables) (left : 
     pub stop : LeavesAll left old (events_asked asked)
     pub follows : (k : ℕ) (t : Tables) (acts : List Act) → old ≡ behind_acts t acts →
         FollowsLog k t acts before →
-        FollowsLog k t (acts ++ asked_by k moment line asked ∷ []) after
+        (line : List ℕ) × FollowsLog k t (acts ++ asked_by k moment line asked ∷ []) after
 
   -- a round, by what it tells
   abbrev pub Goes : Passed → Passed → Result ControlRound FrontFault → Type 0

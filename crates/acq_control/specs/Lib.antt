@@ -1,4 +1,5 @@
 pub mod Lines
+pub mod Held
 pub mod Questions
 pub mod Answers
 pub mod Doing

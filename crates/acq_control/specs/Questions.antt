@@ -1,8 +1,8 @@
 -- What a line of a control connection asks (own profile): an event, as an event line spells it; a
 -- text; or that the host ends. The word `now` stands for the moment at which the line is taken.
-use Rattle.std.specs.Prelude.{◌≡◌, ◌≢◌, ◌==◌, ◌&&◌, ◌+◌, ℕ, nat_eq, Bool, true, false, List, []}
-use Rattle.std.specs.Prelude.{◌∷◌, ◌++◌, codes, drop, take, length, option_map, Option, Some, None}
-use Rattle.std.specs.Prelude.{Ok, if◌then◌else◌}
+use Rattle.std.specs.Prelude.{◌≡◌, ◌≢◌, ◌==◌, ◌&&◌, ◌+◌, ◌<◌, ◌≤◌, ℕ, nat_eq, Bool, true, false}
+use Rattle.std.specs.Prelude.{List, [], ◌∷◌, ◌++◌, codes, drop, take, length, option_map, Option}
+use Rattle.std.specs.Prelude.{Some, None, Ok, if◌then◌else◌}
 use Rattle.std.specs.List.{position, starts_with}
 use Rattle.std.specs.Fmt.{decimal}
 use Rattle.std.specs.Borrow.{Bor}
@@ -16,6 +16,7 @@ use Rattle.acq_commands.specs.declared.report_kind.ReportKind.TheVariants as rep
 use Rattle.acq_status.specs.declared.serving.Serving.{Serving}
 use Rattle.acq_status.specs.declared.status_form.StatusForm.{StatusForm}
 use Rattle.acq_status.specs.declared.status_form.StatusForm.TheVariants as form
+use Rattle.acq_control.specs.Lines.{longest_line}
 use Rattle.acq_control.specs.declared.question.Question.{Question}
 use Rattle.acq_control.specs.declared.question.Question.TheVariants as question
 use Rattle.acq_control.specs.declared.question_word.QuestionWord.{QuestionWord}
@@ -149,6 +150,11 @@ AsksBy word.Status now line asked = AsksStatus form.Lines now asked
 AsksBy word.Metrics now line asked = AsksStatus form.Metrics now asked
 AsksBy word.Event now line asked = AsksEvent now line asked
 
--- what a line asks that is taken at this moment
-abbrev pub Asks : ℕ → List ℕ → Option Question → Type 0
-Asks now line asked = AsksBy (word_of line) now line asked
+-- what a line asks that isn't too long
+abbrev pub AsksShort : ℕ → List ℕ → Option Question → Type 0
+AsksShort now line asked = AsksBy (word_of line) now line asked
+
+-- what a line asks that is taken at this moment; one that is too long asks nothing
+pub record Asks (now : ℕ) (line : List ℕ) (asked : Option Question) : Type 0 where
+  pub long : longest_line ≤ length line → asked ≡ None
+  pub short : length line < longest_line → AsksShort now line asked

@@ -1,17 +1,18 @@
 //! One end of a control connection, without its reads and writes.
 
-ghost use Rattle.std.specs.Prelude.{◌≡◌, ◌==◌, ◌+◌, ◌≤◌, ◌++◌, ℕ, [], length, drop, Ok, OnOk};
+ghost use Rattle.std.specs.Prelude.{◌≡◌, ◌+◌, ◌<◌, ◌≤◌, ℕ, [], length, drop, Ok, OnOk};
 ghost use Rattle.acq_front.specs.Stops.{left_of};
 ghost use Rattle.acq_control.specs.Doing.{TellsStore};
 ghost use Rattle.acq_control.specs.Lines.{IsInLine, longest_line};
+ghost use Rattle.acq_control.specs.Held.{HoldsMore, front_of, is_nothing, nothing};
 ghost use Rattle.acq_control.specs.Questions.{is_stop};
 ghost use Rattle.acq_control.specs.declared.control_turn.ControlTurn.TheVariants.{Waits};
 
 use crate::answering::answer_to;
+use crate::control_input::ControlInput;
 use crate::control_turn::ControlTurn;
-use crate::line_buffer::LineBuffer;
 use crate::question::Question;
-use crate::reading::question_of;
+use crate::reading::question_in;
 use acq_book::{Book, BookFault};
 use acq_front::Clock;
 use acq_host::Host;
@@ -20,10 +21,11 @@ use acq_status::Serving;
 use std::alloc::Global;
 
 /// One end of a control connection: what came and belongs to no line yet, and what of an answer is
-/// still to be written. It takes memory for one line and what is said to it.
+/// still to be written. It takes memory for one line and what is said to it; of a line that is too
+/// long it keeps no more than that, and takes it where it ends.
 #[derive(Drop)]
 pub struct ControlConversation {
-    input: LineBuffer,
+    input: ControlInput,
     answer: MemorySink,
     /// How many bytes of the answer were written.
     gone: usize,
@@ -38,48 +40,49 @@ impl ControlConversation {
 
     /// Nothing came yet, and nothing is to be written.
     pub fn new(alloc: Global) -> ControlConversation
-        ensures held { held_of result ≡ [] }
+        ensures held { held_of result ≡ nothing }
         ensures unsent { unsent_of result ≡ [] }
         ensures taken { taken_of result ≡ 0 }
     {
         ControlConversation {
-            input: LineBuffer::new(),
+            input: ControlInput::new(),
             answer: MemorySink::new(alloc),
             gone: 0,
             taken: 0,
         }
     }
 
-    /// How many bytes it has room for. None is left where it holds the beginning of a line that is
-    /// too long.
+    /// How many bytes it has room for: some, where no line is whole.
     pub fn room(&self) -> usize
-        ensures { result + length (held_of self.now) ≡ longest_line }
+        ensures room { result + length (held_of self.now).kept ≡ longest_line }
+        ensures some { IsInLine (held_of self.now).kept → 0 < result }
     {
         self.input.room()
     }
 
     /// Takes in the next piece of what comes.
     pub fn feed(&mut self, piece: &[u8])
-        requires { length (held_of self.old) + length piece.now ≤ longest_line }
-        ensures held { held_of self.new ≡ held_of self.old ++ piece.now }
+        requires { length (held_of self.old).kept + length piece.now ≤ longest_line }
+        ensures held { HoldsMore (held_of self.old) (held_of self.new) piece.now }
         ensures unsent { unsent_of self.new ≡ unsent_of self.old }
         ensures taken { taken_of self.new ≡ taken_of self.old }
     {
         self.input.feed(piece);
     }
 
-    /// What came and belongs to no line yet that was taken.
-    pub fn held(&self) -> &[u8]
-        ensures { result.now ≡ held_of self.now }
+    /// What it keeps of the line that is taken next, from its beginning on: nothing where that was
+    /// dropped, since the line is too long.
+    pub fn front(&self) -> &[u8]
+        ensures { result.now ≡ front_of (held_of self.now) }
     {
-        self.input.as_slice()
+        self.input.front()
     }
 
     /// Whether it holds nothing that belongs to no line yet.
     pub fn is_between_lines(&self) -> bool
-        ensures { result ≡ (length (held_of self.now) == 0) }
+        ensures { result ≡ is_nothing (held_of self.now) }
     {
-        self.input.is_empty()
+        self.input.is_nothing()
     }
 
     /// How many lines were taken.
@@ -128,7 +131,7 @@ impl ControlConversation {
             (end_of self.old) (end_of self.new) result }
         // It waits where no line is whole, and is then as it was.
         ensures waits { result ≡ Ok Waits
-            → IsInLine (held_of self.old) × (end_of self.new ≡ end_of self.old) }
+            → IsInLine (held_of self.old).kept × (end_of self.new ≡ end_of self.old) }
         ensures was_honest { B.is_honest host.new → B.is_honest host.old }
         ensures stays_open { B.is_honest host.new → B.is_open host.old
             → OnOk result (B.is_open host.new) }
@@ -141,7 +144,7 @@ impl ControlConversation {
         let Some(number) = self.taken.checked_add(1) else {
             return Err(BookFault::Memory);
         };
-        let asked = question_of(alloc, line.as_slice(), clock.now(), serving)?;
+        let asked = question_in(alloc, &line, clock.now(), serving)?;
         let stops = is_stop(&asked);
         let answer = answer_to(alloc, host, number, asked)?;
         self.taken = number;

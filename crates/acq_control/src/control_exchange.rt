@@ -6,6 +6,7 @@ ghost use Rattle.acq_front.specs.Faults.{IfStore, TellsStore, UnlessRefused};
 ghost use Rattle.acq_front.specs.Faults.{failed_reads, failed_writes};
 ghost use Rattle.acq_front.specs.Stops.{left_of};
 ghost use Rattle.acq_control.specs.Lines.{IsInLine};
+ghost use Rattle.acq_control.specs.Held.{HoldsMore, front_of, nothing};
 ghost use Rattle.acq_control.specs.Exchanges.{EndsWith, Goes, IfRefused, Moves, line_of, passed};
 ghost use Rattle.acq_control.specs.Exchanges.{tells_end};
 ghost use Rattle.acq_control.specs.Exchanges.{held_of, taken_of, unsent_of};
@@ -36,7 +37,7 @@ impl<L: Line> ControlExchange<L> {
     /// A connection from its first byte on.
     pub fn new(alloc: Global, line: L) -> ControlExchange<L>
         ensures line { line_of result ≡ line }
-        ensures held { held_of result ≡ [] }
+        ensures held { held_of result ≡ nothing }
         ensures unsent { unsent_of result ≡ [] }
         ensures taken { taken_of result ≡ 0 }
     {
@@ -53,11 +54,12 @@ impl<L: Line> ControlExchange<L> {
         &self.line
     }
 
-    /// What came and belongs to no line yet that was taken: the line that is taken next in front.
-    pub fn held(&self) -> &[u8]
-        ensures { result.now ≡ held_of self.now }
+    /// What it keeps of the line that is taken next, from its beginning on: nothing where that was
+    /// dropped, since the line is too long.
+    pub fn front(&self) -> &[u8]
+        ensures { result.now ≡ front_of (held_of self.now) }
     {
-        self.conversation.held()
+        self.conversation.front()
     }
 
     /// What of an answer is still to be written.
@@ -75,7 +77,8 @@ impl<L: Line> ControlExchange<L> {
     }
 
     /// One round: writes on what is to be written; or else has the host do what the next line asks;
-    /// or, where none is whole, reads on. A line that is too long ends it (`BadLength`).
+    /// or, where none is whole, reads on. A line that is too long asks nothing, and is answered as
+    /// any other bad line is, once it ended.
     pub fn round<B: Book + Drop, C: Clock>(
         &mut self,
         alloc: Global,
@@ -154,10 +157,11 @@ impl<L: Line> ControlExchange<L> {
 
     /// Reads on.
     fn receive(&mut self) -> Result<ControlRound, FrontFault>
-        requires within { IsInLine (held_of self.old) }
+        requires within { IsInLine (held_of self.old).kept }
         requires written { unsent_of self.old ≡ [] }
-        ensures received { (piece : List ℕ) × (held_of self.new ≡ held_of self.old ++ piece)
-            × (L.received (line_of self.new) ≡ L.received (line_of self.old) ++ piece) }
+        ensures received { (piece : List ℕ)
+            × (L.received (line_of self.new) ≡ L.received (line_of self.old) ++ piece)
+            × HoldsMore (held_of self.old) (held_of self.new) piece }
         ensures unsent { unsent_of self.new ≡ unsent_of self.old }
         ensures taken { taken_of self.new ≡ taken_of self.old }
         ensures sent { L.sent (line_of self.new) ≡ L.sent (line_of self.old) }
@@ -176,9 +180,6 @@ impl<L: Line> ControlExchange<L> {
     {
         let mut buffer = [0; PIECE];
         let room = self.conversation.room().min(PIECE);
-        if room == 0 {
-            return Err(FrontFault::BadLength);
-        }
         match self.line.read(&mut buffer[..room])? {
             None => Ok(ControlRound::Waits),
             Some(0) if self.conversation.is_between_lines() => Ok(ControlRound::Ended),

@@ -15,8 +15,10 @@ mod answer_kind;
 mod answering;
 mod control_conversation;
 mod control_exchange;
+mod control_input;
 mod control_round;
 mod control_turn;
+pub mod held_laws;
 mod host_answer;
 mod input_lines;
 pub mod laws;
@@ -26,6 +28,7 @@ mod question;
 mod question_word;
 mod reading;
 mod status_text;
+mod taken_line;
 mod telling;
 pub mod telling_laws;
 

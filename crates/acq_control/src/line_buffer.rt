@@ -2,8 +2,8 @@
 
 ghost use Rattle.std.specs.Prelude.{◌≡◌, ◌==◌, ◌+◌, ◌-◌, ◌≤◌, ◌++◌, [], length, drop, take};
 ghost use Rattle.std.specs.Prelude.{IfNone, IfOk, IfSome, OnErr, OnOk};
-ghost use Rattle.std.specs.List.{position};
-ghost use Rattle.acq_control.specs.Lines.{BeginsWithLine, IsInLine, longest_line};
+ghost use Rattle.std.specs.List.{list_all, position};
+ghost use Rattle.acq_control.specs.Lines.{BeginsWithLine, IsInLine, is_in_line, longest_line};
 
 use std::alloc::{AllocError, Global};
 use std::marker::Model;
@@ -51,6 +51,13 @@ impl LineBuffer {
         self.start == self.end
     }
 
+    /// Whether no line of it is whole.
+    pub(crate) fn is_in_line(&self) -> bool
+        ensures { result ≡ list_all is_in_line self.now }
+    {
+        self.as_slice().iter().all(|byte| *byte != b'\n')
+    }
+
     /// What it holds.
     pub(crate) fn as_slice(&self) -> &[u8]
         ensures { result.now ≡ self.now }
@@ -78,6 +85,13 @@ impl LineBuffer {
         self.end = end;
     }
 
+    /// Drops all that it holds.
+    pub(crate) fn clear(&mut self)
+        ensures { self.new ≡ [] }
+    {
+        self.start = self.end;
+    }
+
     /// Takes out the line in front, if it is whole, without its line feed. After an `Err` nothing
     /// has changed.
     pub(crate) fn take_line(&mut self, alloc: Global) -> Result<Option<Vec<u8>>, AllocError>
@@ -86,6 +100,7 @@ impl LineBuffer {
         ensures none { IfOk result (λ o. IfNone o
             ((self.new ≡ self.old) × IsInLine self.old)) }
         ensures kept { OnErr result (self.new ≡ self.old) }
+        ensures within { length self.old ≤ longest_line }
     {
         let held = &self.bytes[self.start..self.end];
         let Some(end) = line_end(held) else {

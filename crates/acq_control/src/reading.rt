@@ -1,14 +1,16 @@
 //! What lines ask.
 
-ghost use Rattle.std.specs.Prelude.{◌≡◌, ◌==◌, IfOk, Option};
+ghost use Rattle.std.specs.Prelude.{◌≡◌, ◌==◌, ℕ, IfOk, List, Option};
 ghost use Rattle.std.specs.List.{position};
-ghost use Rattle.acq_control.specs.Questions.{Asks, AsksEvent, AsksPending, AsksReport, Shows};
-ghost use Rattle.acq_control.specs.Questions.{at_moment, holds_of, moment_at, says_now};
+ghost use Rattle.acq_control.specs.Questions.{Asks, AsksEvent, AsksPending, AsksReport, AsksShort};
+ghost use Rattle.acq_control.specs.Questions.{Shows, at_moment, holds_of, moment_at, says_now};
+ghost use Rattle.acq_control.specs.Held.{IsTaken};
 ghost use Rattle.acq_control.specs.Questions as spec;
 ghost use Rattle.acq_status.specs.declared.serving.Serving.{Serving};
 
 use crate::question::Question;
 use crate::question_word::QuestionWord;
+use crate::taken_line::TakenLine;
 use acq_commands::{DayReport, ReportKind};
 use acq_core::{Event, Moment};
 use acq_link::SliceSource;
@@ -22,15 +24,32 @@ use std::str;
 /// The word that stands for the moment.
 const NOW: &[u8] = b"now";
 
-/// What a line asks that is taken at this moment, while so much is served, or `None` where it is out
-/// of its form (own profile; `specs/Questions.antt`).
-pub(crate) fn question_of(
+/// What a line asks that is taken at this moment, while so much is served, or `None` where it is
+/// out of its form or too long (own profile; `specs/Questions.antt`).
+pub(crate) fn question_in(
+    alloc: Global,
+    taken: &TakenLine,
+    now: Moment,
+    serving: Serving,
+) -> Result<Option<Question>, AllocError>
+    ensures asks { IfOk result (λ asked. (line : List ℕ)
+        → IsTaken taken.now line → Asks now line asked) }
+    ensures shows { IfOk result (Shows serving) }
+{
+    match taken {
+        TakenLine::Whole(line) => question_of(alloc, line.as_slice(), now, serving),
+        TakenLine::TooLong => Ok(None),
+    }
+}
+
+/// The same of a line that isn't too long.
+fn question_of(
     alloc: Global,
     line: &[u8],
     now: Moment,
     serving: Serving,
 ) -> Result<Option<Question>, AllocError>
-    ensures asks { IfOk result (λ asked. Asks now line.now asked) }
+    ensures asks { IfOk result (λ asked. AsksShort now line.now asked) }
     ensures shows { IfOk result (Shows serving) }
 {
     let word = QuestionWord::of(line);

@@ -241,7 +241,7 @@ impl NextLine {
         journal: &Journal<'_, T, W>,
     ) -> NextLine {
         NextLine {
-            word: (!connection.is_answering()).then(|| line_word(connection.held())),
+            word: (!connection.is_answering()).then(|| line_word(connection.front())),
             began: journal.time_for_log(),
         }
     }

@@ -218,7 +218,6 @@ fn reason_of(fault: FrontFault, name: ConnectionName, is_late: bool) -> &'static
     match fault {
         FrontFault::Memory => "memory ran out",
         FrontFault::Store => "the store failed",
-        FrontFault::BadLength if is_control => "a line is too long",
         FrontFault::BadLength => "a frame's length is 0 or above 4096",
         FrontFault::Ended if is_control => "the input ended inside a line",
         FrontFault::Ended => "the input ended inside a frame",

@@ -49,9 +49,10 @@ impl OpenControl {
         self.name
     }
 
-    /// What came and belongs to no line yet that was taken.
-    pub(crate) fn held(&self) -> &[u8] {
-        self.exchange.held()
+    /// What it keeps of the line that is taken next, from its beginning on: nothing where the line
+    /// is too long.
+    pub(crate) fn front(&self) -> &[u8] {
+        self.exchange.front()
     }
 
     /// What of an answer is still to be written.

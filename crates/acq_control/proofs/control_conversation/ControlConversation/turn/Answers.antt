@@ -1,7 +1,7 @@
 use Rattle.std.proofs.Common.{arith}
 use Rattle.std.proofs.lemmas.Result.{err_from_is_err_and}
 use Rattle.acq_control.proofs.Doing.{none_refused, some_done}
-use Rattle.acq_control.proofs.Turning.{line_taken}
+use Rattle.acq_control.proofs.Turning.{line_taken, taken_asks}
 use Rattle.acq_control.proofs.control_conversation.ControlConversation.turn.Goals as goal
 
 pub returns-in_err-line-clause-steps : goal.returns-in_err-line-clause-steps
@@ -29,11 +29,12 @@ returns-in_err-answer-clause-steps g c = λ h o.
 
 pub returns-clause-steps : goal.returns-clause-steps
 returns-clause-steps g c = λ h o.
-    let begins = rw c.in-Some.is at c.in_ok-line.ensures.some in
-    let asks = rw c.as_slice.ensures.value at c.in_ok-asked.ensures.asks in
+    let some = rw c.in-Some.is at c.in_ok-line.ensures.some in
+    let takes = taken_asks _ _ c.in-Some.line c.now.result c.in_ok-asked.asked some
+    c.in_ok-asked.ensures.asks in
     rw c.after.ensures
     (line_taken (g.C.Clock.may_give c.args.clock.now) c.args.serving g.B.Book c.args.host.now
     c.answer_to.new.host h o g.met.B.Book.settled g.met.B.Book.stored _ _
-    c.in-Some.line.items c.now.result c.in_ok-asked.asked c.is_stop-stops.result begins
-    c.now.ensures.given asks c.in_ok-asked.ensures.shows c.in_ok-answer.ensures.does (c.in_ok-answer.ensures.answers h o)
+    c.now.result c.in_ok-asked.asked c.is_stop-stops.result takes c.now.ensures.given
+    c.in_ok-asked.ensures.shows c.in_ok-answer.ensures.does (c.in_ok-answer.ensures.answers h o)
     (omega (arith, c.in-Some-checked_add.ensures)) c.is_stop-stops.ensures)

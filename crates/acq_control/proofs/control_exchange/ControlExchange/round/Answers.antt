@@ -9,7 +9,7 @@ use Rattle.acq_control.specs.declared.control_turn.ControlTurn.TheVariants.{Stop
 use Rattle.acq_control.specs.Ends.{End, Steps, end_of}
 use Rattle.acq_control.specs.Lines.{IsInLine}
 use Rattle.acq_control.specs.Exchanges.{held_of, passed, taken_of, unsent_of}
-use Rattle.acq_control.proofs.Rounds.{moved_on, takes_on, writes_on}
+use Rattle.acq_control.proofs.Rounds.{moved_on, reads_on, takes_on, writes_on}
 use Rattle.acq_control.proofs.control_exchange.ControlExchange.round.Goals as goal
 
 pub returns-in-Took-clause-goes : goal.returns-in-Took-clause-goes
@@ -46,7 +46,7 @@ pub receive-requires-clause-within : goal.receive-requires-clause-within
 receive-requires-clause-within g c =
     let waits : c.turn.result ≡ Ok Waits = search rules in
     let same = c.turn.ensures.waits waits in
-    subst (λ (e : End). IsInLine e.held) (sym same.1) same.0
+    subst (λ (e : End). IsInLine e.held.kept) (sym same.1) same.0
 
 pub receive-requires-clause-written : goal.receive-requires-clause-written
 receive-requires-clause-written g c =
@@ -55,6 +55,24 @@ receive-requires-clause-written g c =
     c.if-not-is_empty.false c.unsent.ensures in
     let waits : c.turn.result ≡ Ok Waits = search rules in
     ap (λ (e : End). e.unsent) (c.turn.ensures.waits waits).1 ∙ none
+
+pub returns-in-Waits-clause-goes : goal.returns-in-Waits-clause-goes
+returns-in-Waits-clause-goes g c = λ h o.
+    let give = g.C.Clock.may_give c.args.clock.now in
+    let tables = g.B.Book.tables c.args.host.now in
+    let left = left_of g.B.Book c.turn.new.host in
+    let it = c.args.self.now in
+    let waits : c.turn.result ≡ Ok Waits = search rules in
+    let steps = subst (λ (r : Result ControlTurn BookFault). Steps give c.args.serving tables left
+    (end_of it.conversation) (end_of c.turn.new.self) r) waits (c.turn.ensures.steps h o) in
+    let came = c.receive.ensures.received in
+    moved_on give c.args.serving tables left (passed g.L.Line.received g.L.Line.sent it)
+    (passed g.L.Line.received g.L.Line.sent c.receive.new.self) c.receive.result
+    c.receive.ensures.no_stop
+    (reads_on give c.args.serving tables left (g.L.Line.received it.line) (g.L.Line.sent it.line)
+    (end_of it.conversation) (end_of c.turn.new.self)
+    (passed g.L.Line.received g.L.Line.sent c.receive.new.self) came.0 steps.0 came.1 came.2
+    c.receive.ensures.sent c.receive.ensures.unsent c.receive.ensures.taken)
 
 pub returns-then-not-is_empty-clause-goes : goal.returns-then-not-is_empty-clause-goes
 returns-then-not-is_empty-clause-goes g c = λ h o.
