@@ -26,56 +26,56 @@ pub enum Figure {
 impl Figure {
     /// Its key in a status. Behind `acqd_` it is its name as a metric: units are base units, and
     /// counters end in `_total` (Prometheus, metric and label naming).
-    pub(crate) fn key(self) -> &'static [u8]
+    pub(crate) fn key(self) -> &'static str
         ensures { result.now ≡ key_of self }
     {
         match self {
-            Figure::BusinessDay => b"business_day_timestamp_seconds",
-            Figure::Limit => b"limit",
-            Figure::Merchants => b"merchants",
-            Figure::Terminals => b"terminals",
-            Figure::Ranges => b"ranges",
-            Figure::RequestsToday => b"requests_today",
-            Figure::Pending => b"pending",
-            Figure::OldestPendingAge => b"oldest_pending_age_seconds",
-            Figure::Places => b"places",
-            Figure::OpenPlaces => b"open_places",
-            Figure::Connections => b"connections_total",
-            Figure::Events => b"events_total",
-            Figure::RefusedFrames => b"refused_frames_total",
-            Figure::LastEventAge => b"last_event_age_seconds",
+            Figure::BusinessDay => "business_day_timestamp_seconds",
+            Figure::Limit => "limit",
+            Figure::Merchants => "merchants",
+            Figure::Terminals => "terminals",
+            Figure::Ranges => "ranges",
+            Figure::RequestsToday => "requests_today",
+            Figure::Pending => "pending",
+            Figure::OldestPendingAge => "oldest_pending_age_seconds",
+            Figure::Places => "places",
+            Figure::OpenPlaces => "open_places",
+            Figure::Connections => "connections_total",
+            Figure::Events => "events_total",
+            Figure::RefusedFrames => "refused_frames_total",
+            Figure::LastEventAge => "last_event_age_seconds",
         }
     }
 
     /// What it says, in words.
-    pub(crate) fn help(self) -> &'static [u8]
+    pub(crate) fn help(self) -> &'static str
         ensures { result.now ≡ help_of self }
     {
         match self {
-            Figure::BusinessDay => b"When the date of the business day begins.",
-            Figure::Limit => b"Messages of a merchant that a business day admits.",
-            Figure::Merchants => b"Enrolled merchants.",
-            Figure::Terminals => b"Enrolled terminals.",
-            Figure::Ranges => b"Ranges of card numbers.",
-            Figure::RequestsToday => b"Messages of the business day that count against its limits.",
-            Figure::Pending => b"Requests of a business day that wait for their issuer.",
-            Figure::OldestPendingAge => b"Time since the first of these was sent.",
-            Figure::Places => b"Terminals that can be connected at once.",
-            Figure::OpenPlaces => b"Places for terminals that are free.",
-            Figure::Connections => b"Connections of terminals that were taken in.",
-            Figure::Events => b"Messages and lines that were answered.",
-            Figure::RefusedFrames => b"Connections that ended for a frame that was refused.",
-            Figure::LastEventAge => b"Time since a message or a line was last answered.",
+            Figure::BusinessDay => "When the date of the business day begins.",
+            Figure::Limit => "Messages of a merchant that a business day admits.",
+            Figure::Merchants => "Enrolled merchants.",
+            Figure::Terminals => "Enrolled terminals.",
+            Figure::Ranges => "Ranges of card numbers.",
+            Figure::RequestsToday => "Messages of the business day that count against its limits.",
+            Figure::Pending => "Requests of a business day that wait for their issuer.",
+            Figure::OldestPendingAge => "Time since the first of these was sent.",
+            Figure::Places => "Terminals that can be connected at once.",
+            Figure::OpenPlaces => "Places for terminals that are free.",
+            Figure::Connections => "Connections of terminals that were taken in.",
+            Figure::Events => "Messages and lines that were answered.",
+            Figure::RefusedFrames => "Connections that ended for a frame that was refused.",
+            Figure::LastEventAge => "Time since a message or a line was last answered.",
         }
     }
 
     /// Prometheus's word for what its value does.
-    pub(crate) fn kind(self) -> &'static [u8]
+    pub(crate) fn kind(self) -> &'static str
         ensures { result.now ≡ kind_of self }
     {
         match self {
-            Figure::Connections | Figure::Events | Figure::RefusedFrames => b"counter",
-            _ => b"gauge",
+            Figure::Connections | Figure::Events | Figure::RefusedFrames => "counter",
+            _ => "gauge",
         }
     }
 }

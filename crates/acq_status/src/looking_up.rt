@@ -1,6 +1,7 @@
 //! Figures of a book, looked up.
 
-ghost use Rattle.std.specs.Prelude.{◌≡◌, is_ok, length, IfOk};
+ghost use Rattle.std.specs.Prelude.{◌≡◌, ◌∷◌, [], is_ok, length, IfErr, IfOk};
+ghost use Rattle.acq_book.specs.declared.book_fault.BookFault.TheVariants.{Memory};
 ghost use Rattle.acq_book.specs.Calls.{Looks};
 ghost use Rattle.acq_book.specs.Lookups.{merchants_at, range_count_at, terminal_count_at};
 ghost use Rattle.acq_book.specs.Promise.{CountsFault};
@@ -102,7 +103,7 @@ struct WaitingDays {
     oldest: Option<Transmission>,
 }
 
-#[tactic(auto, using(acq_book::proofs::Chains::looks_more))]
+#[tactic(auto, using(acq_book::proofs::Chains::looks_more, crate::proofs::NoneWaits::none_waits))]
 fn waiting_in<B: Book>(alloc: Global, book: &mut B, today: Day) -> Result<WaitingDays, BookFault>
     ensures pending { B.is_honest book.new → B.is_open book.old → IfOk result (λ waiting.
         waiting.pending.items ≡ pending_to (B.tables book.old) today) }
@@ -117,9 +118,21 @@ fn waiting_in<B: Book>(alloc: Global, book: &mut B, today: Day) -> Result<Waitin
             oldest: Some(first.sent),
         }),
         None => Ok(WaitingDays {
-            pending: pending_between(alloc, book, today, today)?,
+            pending: none_pending(alloc, today)?,
             oldest: None,
         }),
+    }
+}
+
+/// No request is pending of this day: where none waits, none has to be counted.
+fn none_pending(alloc: Global, day: Day) -> Result<Vec<PendingDay>, BookFault>
+    ensures pending { IfOk result (λ pending.
+        pending.items ≡ record { day = day; requests = 0 } ∷ []) }
+    ensures memory { IfErr result (λ fault. fault ≡ Memory) }
+{
+    match vec![in alloc; PendingDay { day, requests: 0 }] {
+        Ok(pending) => Ok(pending),
+        Err(_) => Err(BookFault::Memory),
     }
 }
 

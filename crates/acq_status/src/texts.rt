@@ -95,7 +95,7 @@ fn put_status_lines(text: &mut Vec<u8>, readings: &[Reading]) -> Result<(), Allo
 fn put_status_line(text: &mut Vec<u8>, reading: Reading) -> Result<(), AllocError>
     ensures { OnOk result (text.new.items ≡ text.old.items ++ status_line reading) }
 {
-    text.extend_from_slice(reading.figure.key())?;
+    text.extend_from_slice(reading.figure.key().as_bytes())?;
     text.extend_from_slice(b" ")?;
     put_value(text, reading.value)
 }
@@ -140,8 +140,8 @@ fn put_metric(text: &mut Vec<u8>, reading: Reading) -> Result<(), AllocError>
 fn put_about(text: &mut Vec<u8>, figure: Figure) -> Result<(), AllocError>
     ensures { OnOk result (text.new.items ≡ text.old.items ++ about figure) }
 {
-    put_about_line(text, b"# HELP acqd_", figure, figure.help())?;
-    put_about_line(text, b"# TYPE acqd_", figure, figure.kind())
+    put_about_line(text, b"# HELP acqd_", figure, figure.help().as_bytes())?;
+    put_about_line(text, b"# TYPE acqd_", figure, figure.kind().as_bytes())
 }
 
 fn put_about_line(
@@ -163,7 +163,7 @@ fn put_key(text: &mut Vec<u8>, before: &[u8], figure: Figure) -> Result<(), Allo
         ≡ text.old.items ++ (before.now ++ key_of figure ++ codes " ")) }
 {
     text.extend_from_slice(before)?;
-    text.extend_from_slice(figure.key())?;
+    text.extend_from_slice(figure.key().as_bytes())?;
     text.extend_from_slice(b" ")
 }
 
