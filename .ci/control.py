@@ -8,9 +8,11 @@ of the day that is over, asked for while sales of the next one go on and again b
 the commands write of the book afterwards. Then `stop` ends the host with status 0, and its
 file alone is the book. The socket's file is its owner's alone; one that a host left is replaced, one at
 which a host listens is told as 53. The host's log has a line for each connection, reply and line of a
-control connection, and no card number; it is its owner's alone, too, and one that can't be opened is told.
+control connection, and no card number; it is its owner's alone, too, and one that can't be opened is told; where it is standard error, nothing waits for who
+reads that.
 `acqd tell` gets the answers as they come, of a text its bytes alone, and tells where nobody listens, or a host
-ends inside an answer. Then the rows of `control.lines` are played, each line cut anywhere."""
+ends inside an answer. Then the rows of `control.lines` are played, each line cut anywhere, beside a connection that
+ends inside a line that is too long."""
 import os, random, re, select, shlex, shutil, signal, socket, stat, subprocess, sys, tempfile, threading, time
 from collections import Counter
 
@@ -105,7 +107,7 @@ class Control:
         self.words.append(line.split(",")[0])
         sent = line.encode() + b"\n"
         while sent:
-            n = self.chance.choice([1, 2, 5, 40])
+            n = self.chance.choice([1, 2, 5, 40] if len(line) < 1000 else [1, 40, 1000, 5000])
             self.end.sendall(sent[:n])
             sent = sent[n:]
 
@@ -153,9 +155,9 @@ def tell_half_a_host(program, path, answers):
         return *told, got
 
 
-def listen(program, work, book, port, control, together=TERMINALS):
+def listen(program, work, book, port, control, together=TERMINALS, log=None):
     words = ["listen", "--db", f"{work}/{book}.db", "--port", str(port), "--together", str(together), "--control", control,
-             "--log", f"{control}.log", "--at", MOMENT]
+             "--log", log or f"{control}.log", "--at", MOMENT]
     if together == TERMINALS:
         words += ["--issuers", f"{work}/issuers.csv"]
     return subprocess.Popen([program, *words], stdout=subprocess.PIPE, stderr=subprocess.PIPE)
@@ -232,6 +234,24 @@ def look_into_log(text, port, got, controls, told, wanted):
     wanted("faults of lines", {it["fault"] for it in asked if "fault" in it}, {"37", "60", "62"})
 
 
+def log_to_standard_error(program, work, chance, wanted):
+    """Lines go to standard error, as many as it takes at once: no line of a control connection waits for who reads it."""
+    control, count = f"{work}/other.control", 2000
+    host = listen(program, work, "other", free_port(), control, log="-")
+    try:
+        asked = Control(control, chance)
+        wanted("answers where nobody reads the log", Counter(asked.ask("stop," if k else "holds,NOBODY,now") for k in range(count)),
+               Counter({"acqd: 37 NoSuchMerchant": 1} | {f"acqd: 62 BadLine {k + 1}": 1 for k in range(1, count)}))
+        asked.ask("stop")
+        lines = host.communicate(timeout=60)[1].decode().splitlines()
+        wanted("lines of the log on standard error", (" event=listening " in lines[0], 100 < len(lines) < count,
+               [it for it in lines if not it.startswith("time=20")]), (True, True, []))
+        wanted("the end of a host with its log on standard error", host.returncode, 0)
+    finally:
+        host.kill()
+        host.communicate()
+
+
 def copy_of(host, book, copy):
     """A copy of the book of a host, which holds still for it."""
     host.send_signal(signal.SIGSTOP)
@@ -259,6 +279,8 @@ def rows_of(path):
     """The lines of a file of rows, each with what is wanted of its answer: a line, or a pattern of a text."""
     rows, was_blank = [], False
     for line in open(path).read().splitlines():
+        if not line.startswith((" ", "#")):
+            line = re.sub("{([0-9]+) ([^}]+)}", lambda it: it[2] * int(it[1]), line)
         if line.startswith("    "):
             want = line[4:]
             if was_blank:
@@ -280,17 +302,26 @@ def play_rows(program, work, path, chance, wanted):
     control = f"{work}/rows.control"
     host = listen(program, work, "rows", free_port(), control, 2)
     try:
-        asked = Control(control, chance)
-        for line, want in rows_of(path):
+        cut, asked = Control(control, chance), Control(control, chance)
+        cut.end.sendall(b"stop" * 10000)
+        cut.end.shutdown(socket.SHUT_WR)
+        wanted("the end inside a line that is too long", cut.end.recv(1), b"")
+        rows = rows_of(path)
+        for line, want in rows:
             got = asked.ask(line)
             if isinstance(want, bytes) and isinstance(got, bytes):
                 if re.fullmatch(b"[0-9]+".join(re.escape(part) for part in want.split(b"*")), got):
                     continue
             wanted(line, got, want)
         out, faults = host.communicate(timeout=60)
-        wanted("the end of the rows", (host.returncode, out, faults), (0, b"", b""))
+        wanted("the end of the rows", (host.returncode, out, faults), (0, b"", b"acqd: 51 Ended\n"))
         with open(f"{control}.log") as it:
-            wanted("digits of a card in the rows' log", re.findall("[0-9]{16}", it.read()), [])
+            text = it.read()
+        wanted("digits of a card in the rows' log", re.findall("[0-9]{16}", text), [])
+        words = re.findall("event=line .*word=([a-z]+)", text)
+        wanted("words in the rows' log", len(words), len(rows))
+        long = [word for (line, _), word in zip(rows, words) if len(line) >= 16383]
+        wanted("words of long lines in the rows' log", long, ["frame"] + ["other"] * 5)
     finally:
         host.kill()
         host.communicate()
@@ -334,6 +365,7 @@ def main(program):
         _, faults = ended.communicate(timeout=60)
         wanted("a host at a socket that is taken", (ended.returncode, faults), (1, b"acqd: 53 Read\n"))
         wanted("another answer", first.ask("enrol,NEW"), "acqd: 62 BadLine 2")
+        log_to_standard_error(program, work, chance, wanted)
         host.send_signal(signal.SIGKILL)
         host.communicate()
         wanted("nobody there any more", tell(program, control, b"stop\n"), (1, b"", b"acqd: 53 Read\n"))

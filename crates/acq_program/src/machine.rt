@@ -65,8 +65,8 @@ pub trait Machine<B: Book + Drop>: Sized {
         ensures { IfErr result (λ fault. fault ≡ Read) };
 
     /// Listens there, as `listen_at` does, for so many connections at once, and at the socket of
-    /// `control`, if one is asked for, for control connections. The file of `log`, if one is asked
-    /// for, takes a log for operators.
+    /// `control`, if one is asked for, for control connections. The file of `log`, or for `-`
+    /// standard error, takes a log for operators, if one is asked for.
     fn gather_at(
         &self,
         alloc: Global,

@@ -97,27 +97,28 @@ Connections are taken at this port of 127.0.0.1, so that a proxy on the same mac
 front; or, with --address, of another address of this machine (0.0.0.0 is all of them), for a proxy
 on another one. Nothing is encrypted: who can reach that address can send messages, and who can read
 the network reads card numbers, so it belongs to a network of the hosts and their proxy alone, or
-behind TLS. The frames of each are answered as `once` answers those on standard input; then the next one
-is served. With --together M, up to M connections are served at once, one message of each in turn, so
-that none waits for another one's bytes. What they change is in the file before the reply goes out; a
-stop at any moment leaves all events so far, and may leave a request without its issuer's answer,
-which `acqd pending` then writes.
+behind TLS. The frames of each are answered as `once` answers those on standard input; then the next
+one is served. With --together M, up to M connections are served at once, one message of each in
+turn, so that none waits for another one's bytes. What they change is in the file before the reply
+goes out; a stop at any moment leaves all events so far, and may leave a request without its
+issuer's answer, which `acqd pending` then writes.
 
 With --control PATH, control connections are taken at this Unix socket's file, too, which its owner
 alone may open. Each line gets its answer: an event line, where `now` may stand for the moment, the
-line that `replay` writes; `clearing,DAY`, `report,DAY` and `holds,MERCHANT,MOMENT` the line `text N`
-and the N bytes of the text; a bad line or a refused text its fault; and `stop` ends the program.
-`acqd tell PATH` sends such lines. With --log FILE, what operators want to see is put behind what
-this file holds, in lines; one that isn't there is made for its owner alone.
+line that `replay` writes; `clearing,DAY`, `report,DAY`, `pending,DAY`, `holds,MERCHANT,MOMENT`,
+`status` and `metrics` the line `text N` and the N bytes of the text; a bad line or a refused text
+its fault; and `stop` ends the program. `acqd tell PATH` sends such lines. With --log FILE, what
+operators want to see is put behind what this file holds, in lines; one that isn't there is made for
+its owner alone. With --log - the lines go to standard error.
 
 A connection that is silent for the SECONDS of --idle, or takes nothing of a reply for so long, is
 closed as one whose read or write failed. So is one whose frame takes longer than --frame-within,
 from its first byte to its last; and while all M places are taken and another connection waits, the
 one that is silent the longest, once that is longer than --idle-when-full. A connection's fault is
 one line on standard error, and the next one is served. A line that can't go out at once is dropped,
-and the next one that goes out says how many were. 1 and 2 end the program. The status is 0 where all
-connections were served, 1 for another fault, 2 for wrong usage, 3 where memory ran out or the file
-failed:
+and the next one that goes out says how many were. 1 and 2 end the program. The status is 0 where
+all connections were served, 1 for another fault, 2 for wrong usage, 3 where memory ran out or the
+file failed:
   acqd: 1 Memory
   acqd: 2 Store                    the file can't be opened, read or written
   acqd: 23 BadLine RECORD          this record of the issuers' file is out of its form
@@ -228,8 +229,8 @@ between leaves it so: its repeats get nothing, and its day can't be cleared. For
 of all days or of one, a line goes to standard output that `acqd replay` takes as it stands, in the
 order in which the requests came:
   answer,MOMENT,MERCHANT,REFERENCE,VERDICT,TEXT
-Nothing in the book is changed until these lines are replayed. Put them into a file, and no pipe: one
-program has a book at a time.
+Nothing in the book is changed until these lines are replayed. Put them into a file, and no pipe:
+one program has a book at a time.
 
 With --issuers the verdict is what this file says of the request's card, as for `once`. Without it,
 and for a card that isn't there, it is `none`: the reply is then code 91, and nothing is posted.
@@ -422,7 +423,7 @@ fn listen_command<'a>(alloc: Global) -> Made<'a>
         command,
         "log",
         "FILE",
-        "A file that takes a log for operators, behind what it holds",
+        "A file that takes a log for operators; - is standard error",
     )
 }
 

@@ -6,7 +6,7 @@ ghost use Rattle.std.specs.Prelude.{◌≤◌};
 
 mod book_files;
 mod control_socket;
-mod log_file;
+mod log_output;
 mod open_book;
 mod standard_descriptors;
 mod standard_error;

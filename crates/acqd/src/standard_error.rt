@@ -10,7 +10,7 @@ use std::rt::Stderr;
 
 /// Standard error, which can be asked whether a line would wait.
 #[derive(Drop)]
-pub(crate) struct StandardError {
+pub struct StandardError {
     stream: Stderr,
 }
 

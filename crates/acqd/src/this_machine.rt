@@ -5,7 +5,7 @@ ghost use Rattle.acq_program.specs.BookFaults.{IsClosing, IsOpening};
 ghost use Rattle.acqd.specs.BookFiles.{of_opening};
 
 use crate::control_socket::control_socket;
-use crate::log_file::log_file;
+use crate::log_output::LogOutput;
 use crate::open_book::{make_book, migrate_book, open_book};
 use acq_commands::{Fault, Patience};
 use acq_core::Limit;
@@ -45,7 +45,7 @@ impl<'a, D: Start> ThisMachine<'a, D> {
 impl<'a, D: Start> Machine<SqlBook<FileStore<FileFrom<D>>>> for ThisMachine<'a, D> {
     type Connections = TcpConnections<'a, HostRuntime>;
 
-    type Gathering = TcpGathering<'a, HostRuntime, WriteSink<File>>;
+    type Gathering = TcpGathering<'a, HostRuntime, WriteSink<LogOutput>>;
 
     type Lines = WriteSink<UnixStream>;
 
@@ -113,10 +113,13 @@ impl<'a, D: Start> Machine<SqlBook<FileStore<FileFrom<D>>>> for ThisMachine<'a, 
         together: usize,
         control: Option<&str>,
         log: Option<&str>,
-    ) -> Result<TcpGathering<'a, HostRuntime, WriteSink<File>>, Fault> {
+    ) -> Result<TcpGathering<'a, HostRuntime, WriteSink<LogOutput>>, Fault> {
         self.listens.set(true);
         let log = match log {
-            Some(path) => Some(HostLog::new(alloc, WriteSink::new(log_file(self.rt, path)?))),
+            Some(path) => {
+                let output = LogOutput::open(self.rt, path)?;
+                Some(HostLog::new(alloc, WriteSink::new(output)))
+            }
             None => None,
         };
         let control = match control {
