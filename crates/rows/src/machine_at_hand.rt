@@ -9,7 +9,7 @@ use crate::no_gathering::NoGathering;
 use crate::no_progress::NoProgress;
 use crate::refusal::Refusal;
 use crate::row_fault::RowFault;
-use acq_book::{Book, ListBook};
+use acq_book::Book;
 use acq_commands::{Fault, Patience, replay};
 use acq_core::Limit;
 use acq_host::Host;
@@ -18,34 +18,29 @@ use acq_program::Machine;
 use acq_stand_in::StandIn;
 use day_totals::Day;
 use std::alloc::Global;
-use std::hash::RandomState;
 use std::net::SocketAddrV4;
 
 /// How many bytes of a line a host takes at once, and how many of an answer it gives.
 const ANSWER_PIECE: usize = 5;
 
-/// The machine, with a book that has taken its events.
+/// The machine, with a book that has taken its events. It is said of any book: a proof over that in
+/// memory takes a minute at each place that lets one go.
 #[derive(Drop)]
-pub struct MachineAtHand<'a> {
+pub struct MachineAtHand<'a, B: Book + Drop> {
     alloc: Global,
-    host: Result<Host<ListBook>, Refusal>,
+    host: Result<Host<B>, Refusal>,
     terms: &'a MachineTerms,
 }
 
-impl<'a> MachineAtHand<'a> {
-    /// A machine with what these terms say; the book's first day is this one.
+impl<'a, B: Book + Drop> MachineAtHand<'a, B> {
+    /// A machine with what these terms say, whose book is that of this host.
     pub fn new(
         alloc: Global,
-        keys: RandomState,
-        limit: Limit,
-        first_day: Day,
+        host: Host<B>,
         terms: &'a MachineTerms,
-    ) -> Result<MachineAtHand<'a>, RowFault> {
+    ) -> Result<MachineAtHand<'a, B>, RowFault> {
         let host = match &terms.book {
-            Ok(events) => {
-                let host = Host::in_memory(alloc, keys, limit, first_day);
-                Ok(host_after(alloc, host, events.as_slice())?)
-            }
+            Ok(events) => Ok(host_after(alloc, host, events.as_slice())?),
             Err(refusal) => Err(*refusal),
         };
         Ok(MachineAtHand { alloc, host, terms })
@@ -65,7 +60,7 @@ fn host_after<B: Book + Drop>(
     }
 }
 
-impl<'a> Machine<ListBook> for MachineAtHand<'a> {
+impl<'a, B: Book + Drop> Machine<B> for MachineAtHand<'a, B> {
     type Connections = ConnectionsAtHand<'a>;
 
     type Gathering = NoGathering;
@@ -74,22 +69,22 @@ impl<'a> Machine<ListBook> for MachineAtHand<'a> {
 
     type Answers = SliceSource<'a>;
 
-    fn open_book(self, _path: &str) -> Result<ListBook, Fault> {
+    fn open_book(self, _path: &str) -> Result<B, Fault> {
         match self.host {
             Ok(host) => Ok(host.into_book()),
             Err(refusal) => Err(refusal.fault()),
         }
     }
 
-    fn make_book(self, path: &str, _limit: Limit, _first_day: Day) -> Result<ListBook, Fault> {
+    fn make_book(self, path: &str, _limit: Limit, _first_day: Day) -> Result<B, Fault> {
         self.open_book(path)
     }
 
-    fn migrate_book(self, path: &str) -> Result<ListBook, Fault> {
+    fn migrate_book(self, path: &str) -> Result<B, Fault> {
         self.open_book(path)
     }
 
-    fn close_book(book: ListBook) -> Result<(), Fault>
+    fn close_book(book: B) -> Result<(), Fault>
         ensures { IfErr result IsClosing }
     {
         drop(book);

@@ -7,8 +7,10 @@ use crate::findings::Findings;
 use crate::machine_at_hand::MachineAtHand;
 use crate::no_progress::NoProgress;
 use crate::row_fault::RowFault;
+use acq_book::Book;
 use acq_core::Limit;
 use acq_front::SliceClock;
+use acq_host::Host;
 use acq_link::{MemorySink, SliceSource};
 use acq_program::command;
 use day_totals::Day;
@@ -63,16 +65,28 @@ fn ran(
     rt: &impl RandomSource,
     alloc: Global,
     run: &CommandRun,
-    mut output: MemorySink,
+    output: MemorySink,
 ) -> Result<Came, RowFault> {
     let (Some(limit), Some(first_day)) = (Limit::from_number(999_999), Day::from_number(8887))
     else {
         return Err(RowFault::Book);
     };
     let (books_keys, keys) = (RandomState::new(rt)?, RandomState::new(rt)?);
+    let host = Host::in_memory(alloc, books_keys, limit, first_day);
+    ran_over(alloc, host, keys, run, output)
+}
+
+/// The same, over the book of a host.
+fn ran_over<B: Book + Drop>(
+    alloc: Global,
+    host: Host<B>,
+    keys: RandomState,
+    run: &CommandRun,
+    mut output: MemorySink,
+) -> Result<Came, RowFault> {
     let mut source = source_of(run);
     let mut faults = MemorySink::new(alloc);
-    let machine = MachineAtHand::new(alloc, books_keys, limit, first_day, &run.machine)?;
+    let machine = MachineAtHand::new(alloc, host, &run.machine)?;
     let status = command(
         alloc,
         keys,

@@ -3,9 +3,11 @@
 
 use super::counted::{Counted, OneFrame};
 use super::hosts::{new_host, served};
+use acq_book::Book;
 use acq_core::Verdict;
 use acq_front::{FrontFault, SliceClock, SliceIssuer, serve};
-use acq_link::{MemorySink, ReadSource, SliceSource, WriteSink};
+use acq_host::Host;
+use acq_link::{MemorySink, ReadSource, Sink, SliceSource, Source, WriteSink};
 use std::alloc::Global;
 use std::cell::Cell;
 use std::random::RandomSource;
@@ -62,12 +64,33 @@ fn served_with_repeat(
     let verdicts = [approval()?];
     let repeat = both(alloc, "\x00\x620201", SALE.get(6..).ok_or("a sale")?)?;
     let mut repeated = SliceSource::new(repeat.as_slice());
-    let mut host = new_host(rt, alloc)?;
+    let host = new_host(rt, alloc)?;
     let mut issuer = SliceIssuer::new(&verdicts);
-    let ended = served(&mut host, alloc, &mut source, sink, &mut issuer);
-    let later = served(&mut host, alloc, &mut repeated, again, &mut issuer);
-    drop(host);
+    let (ended, later) = both_served(
+        host,
+        alloc,
+        &mut source,
+        sink,
+        &mut repeated,
+        again,
+        &mut issuer,
+    );
     Ok((ended, later))
+}
+
+/// How two connections to a host end, one after the other.
+fn both_served<B: Book + Drop>(
+    mut host: Host<B>,
+    alloc: Global,
+    source: &mut SliceSource<'_>,
+    sink: &mut MemorySink,
+    repeated: &mut SliceSource<'_>,
+    again: &mut MemorySink,
+    issuer: &mut SliceIssuer<'_>,
+) -> (Result<(), FrontFault>, Result<(), FrontFault>) {
+    let ended = served(&mut host, alloc, source, sink, issuer);
+    let later = served(&mut host, alloc, repeated, again, issuer);
+    (ended, later)
 }
 
 /// The source gives a frame, and goes on only if its reply is out.
@@ -79,17 +102,21 @@ fn a_reply_is_out_before_more_is_read(rt: HostRuntime) -> Result<(), Fail> {
     let mut sink = WriteSink::new(Counted::new(&out));
     let mut clock = SliceClock::new(&[]);
     let mut issuer = SliceIssuer::new(&[]);
-    let mut host = new_host(&rt, alloc)?;
-    let ended = serve(
-        alloc,
-        &mut host,
-        &mut source,
-        &mut sink,
-        &mut clock,
-        &mut issuer,
-    );
-    drop(host);
+    let host = new_host(&rt, alloc)?;
+    let ended = served_whole(host, alloc, &mut source, &mut sink, &mut clock, &mut issuer);
     assert_eq!(rt; ended, Ok(()));
     assert_eq!(rt; out.get(), ECHO_REPLY.len());
     Ok(())
+}
+
+/// Serves a connection, and lets the host go.
+fn served_whole<B: Book + Drop, S: Source, K: Sink>(
+    mut host: Host<B>,
+    alloc: Global,
+    source: &mut S,
+    sink: &mut K,
+    clock: &mut SliceClock<'_>,
+    issuer: &mut SliceIssuer<'_>,
+) -> Result<(), FrontFault> {
+    serve(alloc, &mut host, source, sink, clock, issuer)
 }

@@ -3,7 +3,7 @@
 use super::connections::{APPROVED, SALE};
 use super::hosts::new_host;
 use acq_book::Book;
-use acq_commands::listen_on;
+use acq_commands::{Fault, listen_on};
 use acq_core::{Moment, Verdict};
 use acq_front::{
     Clock, Connections, FixedClock, FrontFault, Issuer, LaterEnd, SliceIssuer, serve_ends,
@@ -130,7 +130,7 @@ fn a_repeat_after_a_cut_reply(rt: HostRuntime) -> Result<(), Fail> {
     let approved = [Verdict::approved(b"A1B2C3").ok_or("an id")?];
     let mut clock = FixedClock::new(morning()?);
     let mut faults = MemorySink::new(alloc);
-    let (book, ended) = listen_on(
+    end_of(listen_on(
         alloc,
         new_host(&rt, alloc)?.into_book(),
         &mut connections,
@@ -138,10 +138,14 @@ fn a_repeat_after_a_cut_reply(rt: HostRuntime) -> Result<(), Fail> {
         &mut clock,
         &mut SliceIssuer::new(&approved),
         &mut faults,
-    );
-    drop(book);
-    ended?;
+    ))?;
     assert_eq!(rt; faults.as_bytes(), b"acqd: 54 Write 10\n".as_slice());
     assert_eq!(rt; taken.into_inner().as_slice(), want.as_slice());
     Ok(())
+}
+
+/// How a run over a book ended, which is let go.
+fn end_of<B: Book + Drop>(ran: (B, Result<(), Fault>)) -> Result<(), Fault> {
+    let (_, ended) = ran;
+    ended
 }

@@ -89,14 +89,37 @@ fn served_days(
     let cutover = Event::Cutover(Moment::from_seconds(MORNING).ok_or("a moment")?);
     let verdicts = verdicts()?;
     let mut issuer = SliceIssuer::new(&verdicts);
-    let mut host = new_host(rt, alloc)?;
-    let ended = served(&mut host, alloc, source, sink, &mut issuer);
-    let is_again = is_served(&mut host, alloc, days[0], &mut said[0], &mut issuer);
-    let is_over = host.take(&cutover).is_ok();
-    let is_later = is_served(&mut host, alloc, days[1], &mut said[1], &mut issuer);
-    drop(host);
-    assert!(rt; is_again && is_over && is_later);
+    let host = new_host(rt, alloc)?;
+    let (ended, is_well) = days_served(
+        host,
+        alloc,
+        &cutover,
+        days,
+        source,
+        sink,
+        said,
+        &mut issuer,
+    );
+    assert!(rt; is_well);
     Ok(ended)
+}
+
+/// How the connection ends, and whether the later ones end well.
+fn days_served<B: Book + Drop>(
+    mut host: Host<B>,
+    alloc: Global,
+    cutover: &Event,
+    days: [&Talk; 2],
+    source: &mut SliceSource<'_>,
+    sink: &mut MemorySink,
+    said: &mut [MemorySink; 2],
+    issuer: &mut SliceIssuer<'_>,
+) -> (Result<(), FrontFault>, bool) {
+    let ended = served(&mut host, alloc, source, sink, issuer);
+    let is_again = is_served(&mut host, alloc, days[0], &mut said[0], issuer);
+    let is_over = host.take(cutover).is_ok();
+    let is_later = is_served(&mut host, alloc, days[1], &mut said[1], issuer);
+    (ended, is_again && is_over && is_later)
 }
 
 /// Serves a day on a connection, and says whether it went well.
