@@ -97,9 +97,9 @@ module _ (old mid new : State) (so_far : IsWithin old mid) {T : Type 0} (result 
       survives_then old mid new _ _ (λ _. ⊥) (λ _ db none. none) (λ _ db none. none) so_far.stop
       write.stop
 
-module _ {old mid new : State} {count : ℕ} {Leads : Database → Database → Type 0} where
+module _ {old mid new : State} {done : Unit {0}} {Leads : Database → Database → Type 0} where
   -- one that succeeded leaves it open
-  pub within_still : IsWithin old mid → WritesInside mid new (Ok count) Leads → IsWithin old new
+  pub within_still : IsWithin old mid → WritesInside mid new (Ok done) Leads → IsWithin old new
   within_still so_far write =
       let shows = λ (clean : HasCleanDisk new). write.inside clean
       (so_far.inside (clean_before _ _ _ so_far _ _ write clean)) in
@@ -111,8 +111,8 @@ module _ {old mid new : State} {count : ℕ} {Leads : Database → Database → 
       }
 
 -- with one write more
-pub wrote : {old mid new : State} {before : Tables → Tables} {count : ℕ} → Wrote old mid before
-    → (changed : Tables → Tables) → WritesInside mid new (Ok count) (Changes changed)
+pub wrote : {old mid new : State} {before : Tables → Tables} {done : Unit {0}} → Wrote old mid before
+    → (changed : Tables → Tables) → WritesInside mid new (Ok done) (Changes changed)
     → Wrote old new (λ t. changed (before t))
 wrote {before = before} so_far changed write =
     record {
@@ -168,9 +168,9 @@ makes wrote same =
     }
 
 -- where what came is raised last
-pub makes_raised : {old mid last : State} {before : Tables → Tables} {count : ℕ}
+pub makes_raised : {old mid last : State} {before : Tables → Tables} {done : Unit {0}}
     → Wrote old mid before → (merchant : List ℕ) (day : ℕ) (more : Tally)
-    → WritesInside mid last (Ok count) (Raises merchant day more)
+    → WritesInside mid last (Ok done) (Raises merchant day more)
     → (fits : Tables → Type 0) (changed : Tables → Tables)
     → ((t : Tables) → fits t → ComesToMore t (before t) merchant day more)
     → ((t : Tables) → fits t → HasShortDays t → HasShortDays (before t))

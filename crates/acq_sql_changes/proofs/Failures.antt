@@ -1,5 +1,5 @@
 -- Why a change fails: where a write of its transaction is refused, or its commit fails.
-use Rattle.std.proofs.Common.{◌≡◌, inl, inr, ℕ, true≢false, sym, subst, ◌∙◌}
+use Rattle.std.proofs.Common.{◌≡◌, inl, inr, true≢false, sym, subst, ◌∙◌}
 use Rattle.std.proofs.Common.{arith, Ok, Err, Result, IsErr}
 use Rattle.std.specs.Result.{IsErrAnd}
 use Rattle.std.proofs.lemmas.Result.{IfErr-weaker}
@@ -34,8 +34,8 @@ pub record IsTaken (change : Change) (fits : Tables → Type 0) (db : Database) 
 module _ {S : Type 0} (g : store.Ghosts S) {old mid last : State} {before : Tables → Tables}
     {e : Error} {Leads : Database → Database → Type 0} {end after : Held S} where
   write_fails : (change : Change) (fits : Tables → Type 0) (needs : Database → Type 0)
-      → Wrote old mid before → WritesInside {T = ℕ} mid last (Err e) Leads
-      → IsNeverRefused {T = ℕ} mid last (Err e) needs
+      → Wrote old mid before → WritesInside {T = Unit {0}} mid last (Err e) Leads
+      → IsNeverRefused {T = Unit {0}} mid last (Err e) needs
       → ((t : Tables) (taken : IsTaken change fits old.now t)
       → HoldsRows mid.now (before t) taken.holds.runs → needs mid.now)
       → end ≡ after → Survives last (state g end) (λ _. ⊥)
@@ -101,8 +101,8 @@ module _ {S : Type 0} (g : store.Ghosts S) (change : Change) (fits : Tables → 
   -- where a write failed that is never refused of such databases
   pub drops : {old mid last : State} {before : Tables → Tables} {e : Error}
       {Leads : Database → Database → Type 0} {end after : Held S} → Wrote old mid before
-      → WritesInside {T = ℕ} mid last (Err e) Leads
-      → (needs : Database → Type 0) → IsNeverRefused {T = ℕ} mid last (Err e) needs
+      → WritesInside {T = Unit {0}} mid last (Err e) Leads
+      → (needs : Database → Type 0) → IsNeverRefused {T = Unit {0}} mid last (Err e) needs
       → ((t : Tables) (taken : IsTaken change fits old.now t)
       → HoldsRows mid.now (before t) taken.holds.runs → needs mid.now)
       → end ≡ after → Dropped g last end → (result : Result (Unit {0}) Error)

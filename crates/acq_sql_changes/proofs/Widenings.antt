@@ -51,9 +51,9 @@ starts g number old begin is =
           subst (λ d. HoldsRowsOf number d t runs) (sym (same_rows g old begin is)) h;
     }
 
-module _ {number : ℕ} {old mid new : State} {count : ℕ} where
+module _ {number : ℕ} {old mid new : State} {done : Unit {0}} where
   pub has_turned : Reached number old mid (Untouched number)
-      → WritesInside mid new (Ok count) WidensRanges → Reached number old new (Turned number)
+      → WritesInside mid new (Ok done) WidensRanges → Reached number old new (Turned number)
   has_turned so_far write =
       record {
         within = within_still so_far.within write;
@@ -64,7 +64,7 @@ module _ {number : ℕ} {old mid new : State} {count : ℕ} where
       }
 
   pub has_widened : Reached number old mid (Turned number)
-      → WritesInside mid new (Ok count) TurnsRanges → Reached number old new (Widened number)
+      → WritesInside mid new (Ok done) TurnsRanges → Reached number old new (Widened number)
   has_widened so_far write =
       record {
         within = within_still so_far.within write;
@@ -76,7 +76,7 @@ module _ {number : ℕ} {old mid new : State} {count : ℕ} where
 
   -- ranges are in no running total
   pub makes_widened : Reached number old mid (Widened number)
-      → WritesInside mid new (Ok count) SetsVersion
+      → WritesInside mid new (Ok done) SetsVersion
       → MakesOf number old new (HasRangesUnder six_digits) widened_tables
   makes_widened so_far write =
       record {
@@ -96,9 +96,9 @@ module _ {number : ℕ} {old mid new : State} {count : ℕ} where
 
 module _ {number : ℕ} {old mid last end : State} {stage : Stage} {e : Error}
     {Leads : Database → Database → Type 0} (so_far : Reached number old mid stage)
-    (write : WritesInside {T = ℕ} mid last (Err e) Leads) (dropped : Survives last end (λ _. ⊥))
+    (write : WritesInside {T = Unit {0}} mid last (Err e) Leads) (dropped : Survives last end (λ _. ⊥))
   where
-    excused_at : (fits : Database → Type 0) → IsNeverRefused {T = ℕ} mid last (Err e) fits
+    excused_at : (fits : Database → Type 0) → IsNeverRefused {T = Unit {0}} mid last (Err e) fits
         → ((t : Tables) (runs : List Running) → HasRangesUnder six_digits t → stage t runs mid.now
         → fits mid.now) → FailsExcused number {T = Unit {0}} old end (Err e)
         (HasRangesUnder six_digits)
@@ -113,16 +113,16 @@ module _ {number : ℕ} {old mid last end : State} {stage : Stage} {e : Error}
 module _ {number : ℕ} {old mid last end : State} {e : Error}
     {Leads : Database → Database → Type 0} where
   pub turning_gives_up : Reached number old mid (Turned number)
-      → WritesInside {T = ℕ} mid last (Err e) Leads → Survives last end (λ _. ⊥)
-      → IsNeverRefused {T = ℕ} mid last (Err e) (HasTurnedRangesOf eight_digits)
+      → WritesInside {T = Unit {0}} mid last (Err e) Leads → Survives last end (λ _. ⊥)
+      → IsNeverRefused {T = Unit {0}} mid last (Err e) (HasTurnedRangesOf eight_digits)
       → FailsExcused number {T = Unit {0}} old end (Err e) (HasRangesUnder six_digits)
   turning_gives_up so_far write dropped never =
       excused_at so_far write dropped (HasTurnedRangesOf eight_digits) never
       (λ t runs six h. (number, widened_tables t, runs, all_valid t.ranges six, h))
 
   pub setting_gives_up : Reached number old mid (Widened number)
-      → WritesInside {T = ℕ} mid last (Err e) Leads → Survives last end (λ _. ⊥)
-      → IsNeverRefused {T = ℕ} mid last (Err e) (HasRangesOf eight_digits)
+      → WritesInside {T = Unit {0}} mid last (Err e) Leads → Survives last end (λ _. ⊥)
+      → IsNeverRefused {T = Unit {0}} mid last (Err e) (HasRangesOf eight_digits)
       → FailsExcused number {T = Unit {0}} old end (Err e) (HasRangesUnder six_digits)
   setting_gives_up so_far write dropped never =
       excused_at so_far write dropped (HasRangesOf eight_digits) never

@@ -6,6 +6,8 @@ use Rattle.std.specs.Str.{bytes_eq}
 use Rattle.sqlite.specs.declared.error.Error.{Error}
 use Rattle.sqlite.specs.Effect.{Database}
 use Rattle.sqlite.specs.State.{State}
+use Rattle.sqlite_catalog.specs.Listing.{IsSound}
+use Rattle.row_lemmas.specs.Created.{IsBlank}
 use Rattle.card_no.specs.declared.range.Range.{Range}
 use Rattle.card_no.specs.Ranges.{is_valid_range}
 use Rattle.acq_core.specs.declared.change.Change.{Change}
@@ -17,6 +19,7 @@ use Rattle.acq_core.specs.declared.reconciliation.Reconciliation.{Reconciliation
 use Rattle.acq_core.specs.Tables.{Tables, after, postings_before, reconciliations_before}
 use Rattle.acq_book.specs.Fits.{Fits}
 use Rattle.acq_book.specs.Lookups.{merchant_at, has_terminal_at, request_at}
+use Rattle.acq_sql_rows.specs.Schema.{book_schema}
 use Rattle.acq_sql_rows.specs.Rows.{version}
 use Rattle.acq_sql_rows.specs.Tallies.{Tally, Running, FitsTally, plus, tally_in}
 use Rattle.acq_sql_rows.specs.Relation.{HoldsRows}
@@ -28,6 +31,11 @@ use Rattle.acq_sql_changes.specs.Widened.{FailsExcused}
 abbrev pub HasTables : (Tables → Type 0) → Database → Type 0
 HasTables fits db =
     (t : Tables) × (runs : List Running) × fits t × HoldsRows db t runs
+
+-- its tables are those of a book, and have no rows
+pub record IsEmptyBook (db : Database) : Type 0 where
+  pub rows : IsBlank book_schema db
+  pub sound : IsSound book_schema db.trees
 
 -- rows are numbered from 1, and one more row gets a number that a column can keep
 abbrev pub HasNumberLeft : {X : Type 0} → List X → Type 0

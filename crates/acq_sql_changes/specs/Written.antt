@@ -1,9 +1,11 @@
 -- What a write inside a transaction does, and what each write makes of the tables.
 use Rattle.std.specs.Prelude.{ℕ, ◌<◌, ◌^◌, true, List, [], ◌∷◌, ◌++◌, Option, IfSome, Result, OnOk}
-use Rattle.std.specs.Prelude.{IsTrue}
+use Rattle.std.specs.Prelude.{IsTrue, Ok, Err}
+use Rattle.sqlite_value.specs.Order.{Row}
 use Rattle.sqlite.specs.declared.error.Error.{Error}
 use Rattle.sqlite.specs.Effect.{Database}
 use Rattle.sqlite.specs.State.{State, HasCleanDisk, KeepsCommit, Shows, Survives}
+use Rattle.sqlite.specs.State.{ExecutesInside}
 use Rattle.row_lemmas.specs.Created.{IsBlank}
 use Rattle.iso_codec.specs.Message.{IsoMessage}
 use Rattle.card_no.specs.declared.range.Range.{Range}
@@ -38,6 +40,12 @@ KeepsCommitted old new = HasCleanDisk new → IsTrue old.in_transaction → Keep
 -- a stop leaves nothing of it
 abbrev pub CommitsNothing : State → State → Type 0
 CommitsNothing old new = Survives old new (λ _. ⊥)
+
+-- a statement was executed, whatever the number of rows that it changed
+abbrev pub Executes : List ℕ → Row → State → State → Result (Unit {0}) Error → Type 0
+Executes sql params old new (Ok done) =
+    (count : ℕ) × ExecutesInside 0 sql params old new (Ok count)
+Executes sql params old new (Err e) = ExecutesInside 0 sql params old new (Err e)
 
 -- A write inside a transaction commits nothing, and one that succeeded leads from the database
 -- before it to the one after it so.

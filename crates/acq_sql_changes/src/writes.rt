@@ -11,6 +11,7 @@ mod postings;
 mod ranges;
 mod requests;
 mod running;
+mod statement;
 mod widening;
 
 pub use answers::{answer_request, follow_request};

@@ -11,7 +11,7 @@ use Rattle.sqlite_schema.specs.declared.command.Source.TheVariants.{Values}
 use Rattle.sqlite.specs.declared.error.Error.{Error}
 use Rattle.sqlite.specs.Effect.{Database}
 use Rattle.sqlite.specs.State.{State, HasCleanDisk, KeepsCommit, IsUnchanged, IsRolledBack}
-use Rattle.sqlite.specs.State.{Shows, Runs, mode_of, ExecutesInside}
+use Rattle.sqlite.specs.State.{Shows, Runs, mode_of}
 use Rattle.sqlite.specs.Listing.{understood}
 use Rattle.sqlite.proofs.Callers.{runs_as, statement_of}
 use Rattle.row_lemmas.specs.Values.{number, number_or_null}
@@ -41,7 +41,8 @@ use Rattle.acq_sql_rows.specs.Queries.{raises}
 use Rattle.acq_sql_rows.proofs.TextLemmas as text_means
 use Rattle.acq_sql_rows.proofs.TextLemmas.{Means}
 use Rattle.acq_sql_changes.specs.Written as written
-use Rattle.acq_sql_changes.specs.Written.{WritesInside, CommitsNothing, Changes, Raises, BeginsBook}
+use Rattle.acq_sql_changes.specs.Written.{Executes, WritesInside, CommitsNothing, Changes, Raises}
+use Rattle.acq_sql_changes.specs.Written.{BeginsBook}
 use Rattle.acq_sql_changes.specs.Widened.{WidensRanges, TurnsRanges, SetsVersion}
 use Rattle.acq_sql_changes.proofs.writes.ListWrites as list
 use Rattle.acq_sql_changes.proofs.writes.ListWrites.{follow_params}
@@ -60,9 +61,9 @@ undone_keeps : (old new : State) → IsRolledBack old new → KeepsCommit old ne
 undone_keeps old new h =
     record { was_open = h.was_open; committed = λ opened. (h.undone opened).1 }
 
-keeps : (sql : List ℕ) (params : Row) (old new : State) (res : Result ℕ Error) →
-    ExecutesInside 0 sql params old new res → KeepsCommit old new
-keeps sql params old new (Ok count) h =
+keeps : (sql : List ℕ) (params : Row) (old new : State) (res : Result (Unit {0}) Error) →
+    Executes sql params old new res → KeepsCommit old new
+keeps sql params old new (Ok done) (count, h) =
     record { was_open = λ _. h.1.was_open; committed = λ _. h.1.committed_is }
 keeps sql params old new (Err e) (inl h) =
     ⊎_elim (unchanged_keeps old new) (undone_keeps old new) h.1
@@ -79,11 +80,11 @@ record Ran (old new : State) (command : Command) (params : Row) : Type 0 where
   count : ℕ
   ran : Runs old new None command text params count
 
-module _ (old new : State) (res : Result ℕ Error) (stop : CommitsNothing old new) where
+module _ (old new : State) (res : Result (Unit {0}) Error) (stop : CommitsNothing old new) where
   -- the statement was executed in the transaction
   abbrev Executed : List ℕ → Row → Type 0
   Executed sql params =
-      HasCleanDisk new → IsTrue old.in_transaction → ExecutesInside 0 sql params old new res
+      HasCleanDisk new → IsTrue old.in_transaction → Executes sql params old new res
 
   -- a write leads where its command does
   writes : (sql : List ℕ) (params : Row) (Leads : Database → Database → Type 0)
@@ -98,9 +99,9 @@ module _ (old new : State) (res : Result ℕ Error) (stop : CommitsNothing old n
         stop = stop;
       }
     where
-      led : (r : Result ℕ Error) → ExecutesInside 0 sql params old new r →
+      led : (r : Result (Unit {0}) Error) → Executes sql params old new r →
           OnOk r (Leads old.now new.now)
-      led (Ok count) h =
+      led (Ok done) (count, h) =
           leads (λ has. record {
             text = statement_of sql (understood book_schema sql);
             count = count;
@@ -108,9 +109,9 @@ module _ (old new : State) (res : Result ℕ Error) (stop : CommitsNothing old n
           })
       led (Err e) h = tt
 
-      shown : (r : Result ℕ Error) → ExecutesInside 0 sql params old new r →
+      shown : (r : Result (Unit {0}) Error) → Executes sql params old new r →
           OnOk r (Shows old new new.now old.committed true)
-      shown (Ok count) h = h.1
+      shown (Ok done) (count, h) = h.1
       shown (Err e) h = tt
 
   -- ---- each

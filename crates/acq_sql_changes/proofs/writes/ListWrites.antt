@@ -161,7 +161,7 @@ laid_book : (limit id day : ℕ)
 laid_book limit id day =
     rw (cast_int (pos id), cast_int (pos version), cast_int (pos limit), cast_int (pos day))
 
-laid_new_book : (limit day : ℕ) →
+pub laid_new_book : (limit day : ℕ) →
     cast_row at.the_book (Null ∷ book_row limit day) ≡ Null ∷ book_row limit day
 laid_new_book limit day =
     rw (cast_null, cast_int (pos version), cast_int (pos limit), cast_int (pos day))

@@ -40,19 +40,21 @@ use Rattle.acq_core.specs.declared.merchant.Merchant.{Merchant}
 use Rattle.acq_core.specs.declared.terminal.Terminal.{Terminal}
 use Rattle.acq_core.specs.declared.posting.Posting.{Posting}
 use Rattle.acq_core.specs.declared.reconciliation.Reconciliation.{Reconciliation}
-use Rattle.acq_core.specs.Tables.{Tables}
+use Rattle.acq_core.specs.Tables.{Tables, Opening}
 use Rattle.acq_book.specs.Lookups.{merchant_at, has_terminal_at}
 use Rattle.acq_sql_rows.specs.Schema.{book_schema}
 use Rattle.acq_sql_rows.specs.Schema as schema
 use Rattle.acq_sql_rows.specs.Tallies.{Running}
-use Rattle.acq_sql_rows.specs.Rows.{merchant_row, terminal_row, posting_row}
+use Rattle.acq_sql_rows.specs.Rows.{book_row, merchant_row, terminal_row, posting_row}
 use Rattle.acq_sql_rows.specs.Rows.{reconciliation_row}
 use Rattle.acq_sql_rows.specs.Queries.{new_row as given_row}
 use Rattle.acq_sql_rows.specs.Relation.{HoldsRows}
-use Rattle.acq_sql_changes.specs.Refused.{HasNumberLeft, is_posting, is_reconciliation}
+use Rattle.acq_sql_changes.specs.Refused.{IsEmptyBook, HasNumberLeft, is_posting, is_reconciliation}
 use Rattle.acq_sql_changes.specs.Refused.{TakesPosting, TakesReconciliation}
-use Rattle.acq_sql_changes.proofs.writes.ListWrites.{laid_merchant, laid_terminal, laid_posting}
+use Rattle.acq_sql_changes.proofs.writes.ListWrites.{laid_new_book, laid_merchant}
+use Rattle.acq_sql_changes.proofs.writes.ListWrites.{laid_terminal, laid_posting}
 use Rattle.acq_sql_changes.proofs.writes.ListWrites.{laid_reconciliation}
+use Rattle.acq_sql_changes.proofs.writes.MovedTables as moved
 use Rattle.acq_sql_changes.proofs.writes.MovedTables.{plain}
 use Rattle.acq_sql_changes.proofs.writes.RunningTotals.{find_none}
 use Rattle.acq_sql_changes.proofs.writes.TableRules as rule
@@ -215,6 +217,35 @@ reconciliation_keys xs n r none = (
     ),
   ),
 )
+
+-- the row of a new book
+abbrev opening_row : Opening → Row
+opening_row opening = book_row opening.limit opening.first_day
+
+opening_keys : (opening : Opening)
+    → AllByRecursion (HasNewKey opening_row [] opening (bare at.the_book)) book_schema.indexes
+unfolding book_schema schema.up_to_reconciliations schema.up_to_postings schema.up_to_requests
+    schema.up_to_ranges schema.up_to_terminals schema.up_to_merchants schema.up_to_book first_key
+opening_keys opening = (other, (other, (other, (other, (other, (other, (other, tt)))))))
+
+pub book_succeeds : (mode : Mode) (old : Database) (text : List ℕ) (opening : Opening)
+    → IsEmptyBook old → (stop : Option Error)
+    → ¬ Does None mode (opening_row opening) old text None (Insert 0 (Values (given_row 3) 4))
+    (Err stop)
+unfolding book_schema schema.up_to_reconciliations schema.up_to_postings schema.up_to_requests
+    schema.up_to_ranges schema.up_to_terminals schema.up_to_merchants schema.up_to_book
+book_succeeds mode old text opening empty =
+    row_succeeds opening_row 0 at.the_book at.book_placed moved.book_listed moved.book_narrow mode
+    old empty.rows.schema_is empty.sound text [] opening empty.rows.blank.0
+    (record {
+      room = omega arith;
+      laid = laid_new_book opening.limit opening.first_day;
+      pass = record { typed = refl; present = refl; checked = refl };
+      keys = opening_keys opening;
+      short = (tt, (tt, (tt, tt)));
+      some = omega arith;
+      few = omega arith;
+    }) (given_row 3) 4 refl refl
 
 module _ (mode : Mode) (old : Database) (text : List ℕ) (t : Tables) (runs : List Running)
     (has : HoldsRows old t runs) where

@@ -1,6 +1,6 @@
 -- No write is refused.
-use Rattle.std.proofs.Common.{◌≡◌, ℕ, List, [], ◌∷◌, length, None, Option, Err, Result, IsTrue, sym}
-use Rattle.std.proofs.Common.{arith, true}
+use Rattle.std.proofs.Common.{◌≡◌, ℕ, List, [], ◌∷◌, length, None, Option, Ok, Err, Result, IsTrue}
+use Rattle.std.proofs.Common.{IfErr, sym, arith, true}
 use Rattle.sqlite_value.specs.Order.{Row}
 use Rattle.sqlite_schema.specs.declared.command.Command.{Command}
 use Rattle.sqlite_schema.specs.declared.command.Command.TheVariants.{Insert, InsertOr, Update}
@@ -13,6 +13,7 @@ use Rattle.sqlite.specs.Effect.{Database}
 use Rattle.sqlite.specs.Listing.{understood}
 use Rattle.sqlite.specs.State.{State, HasCleanDisk, mode_of, ExecutesInside}
 use Rattle.sqlite.proofs.Callers.{statement_of}
+use Rattle.row_lemmas.specs.Excused.{IsExcused}
 use Rattle.row_lemmas.specs.Queries.{alone}
 use Rattle.row_lemmas.specs.Values.{number}
 use Rattle.row_lemmas.proofs.StatementFailures.{IsSteady, steady_insert, steady_update}
@@ -30,26 +31,28 @@ use Rattle.acq_core.specs.declared.status.Status.{Status}
 use Rattle.acq_core.specs.declared.remains.Remains.{Remains}
 use Rattle.acq_core.specs.declared.posting.Posting.{Posting}
 use Rattle.acq_core.specs.declared.reconciliation.Reconciliation.{Reconciliation}
-use Rattle.acq_core.specs.Tables.{Tables}
+use Rattle.acq_core.specs.Tables.{Tables, Opening}
 use Rattle.acq_sql_rows.specs.Schema.{book_schema}
 use Rattle.acq_sql_rows.specs.Texts as text
 use Rattle.acq_sql_rows.specs.Queries.{widen_ranges_query, turn_ranges_query, set_version_query}
 use Rattle.acq_sql_rows.specs.Queries.{new_row, set_day_query, answer_query, follow_query}
-use Rattle.acq_sql_rows.specs.Rows.{merchant_row, terminal_row, request_row, posting_row}
-use Rattle.acq_sql_rows.specs.Rows.{reconciliation_row, running_row}
+use Rattle.acq_sql_rows.specs.Rows.{book_row, merchant_row, terminal_row, request_row}
+use Rattle.acq_sql_rows.specs.Rows.{posting_row, reconciliation_row, running_row}
 use Rattle.acq_sql_rows.specs.Queries.{new_range, drop_range_query, raises}
 use Rattle.acq_sql_rows.specs.Tallies.{Tally, Running}
 use Rattle.acq_sql_rows.specs.Relation.{HoldsRows}
 use Rattle.acq_sql_rows.proofs.TextLemmas as text_means
 use Rattle.acq_sql_rows.proofs.TextLemmas.{Means, IsAlone}
+use Rattle.acq_sql_changes.specs.Written.{Executes}
 use Rattle.acq_sql_changes.specs.Changed.{AnyTables}
 use Rattle.acq_sql_changes.specs.Widened.{IsNeverRefused, HasRangesOf, HasTurnedRangesOf}
-use Rattle.acq_sql_changes.specs.Refused.{HasTables, HasShortRequests, TakesMerchant}
-use Rattle.acq_sql_changes.specs.Refused.{TakesTerminal, TakesRequest, TakesPosting}
+use Rattle.acq_sql_changes.specs.Refused.{HasTables, IsEmptyBook, HasShortRequests}
+use Rattle.acq_sql_changes.specs.Refused.{TakesMerchant, TakesTerminal, TakesRequest, TakesPosting}
 use Rattle.acq_sql_changes.specs.Refused.{TakesReconciliation, TakesRange, HasRuns, TakesMore}
 use Rattle.acq_sql_changes.proofs.writes.Inside.{answer_params}
 use Rattle.acq_sql_changes.proofs.writes.ListWrites.{follow_params}
-use Rattle.acq_sql_changes.proofs.writes.NewRowsTaken.{merchant_succeeds, terminal_succeeds}
+use Rattle.acq_sql_changes.proofs.writes.NewRowsTaken.{book_succeeds, merchant_succeeds}
+use Rattle.acq_sql_changes.proofs.writes.NewRowsTaken.{terminal_succeeds}
 use Rattle.acq_sql_changes.proofs.writes.NewRowsTaken.{posting_succeeds, reconciliation_succeeds}
 use Rattle.acq_sql_changes.proofs.writes.RequestsTaken.{IsKey, request_succeeds, answer_succeeds}
 use Rattle.acq_sql_changes.proofs.writes.RequestsTaken.{follow_succeeds}
@@ -66,11 +69,18 @@ use Rattle.acq_sql_changes.proofs.writes.Moves.{setting_succeeds, day_succeeds}
 alone_whole : (sql : List ℕ) → IsAlone sql → IsWhole sql 0
 alone_whole sql lone = record { whole = lone.whole; given = lone.given }
 
-module _ (old new : State) (res : Result ℕ Error) where
+-- what is so of an error, however many rows a success would have changed
+of_error : (sql : List ℕ) (params : Row) (old new : State) (P : Error → Type 0)
+    (res : Result (Unit {0}) Error) → Executes sql params old new res
+    → ((r : Result ℕ Error) → ExecutesInside 0 sql params old new r → IfErr r P) → IfErr res P
+of_error sql params old new P (Ok done) executed all = tt
+of_error sql params old new P (Err e) executed all = all (Err e) executed
+
+module _ (old new : State) (res : Result (Unit {0}) Error) where
   -- the statement was executed in the transaction
   abbrev Executed : List ℕ → Row → Type 0
   Executed sql params =
-      HasCleanDisk new → IsTrue old.in_transaction → ExecutesInside 0 sql params old new res
+      HasCleanDisk new → IsTrue old.in_transaction → Executes sql params old new res
 
   -- the command never stops
   abbrev NeverStops : List ℕ → Row → Command → Type 0
@@ -87,9 +97,10 @@ module _ (old new : State) (res : Result ℕ Error) where
       → Executed sql params → IsNeverRefused old new res fits
   never fits sql params command means whole steady schema_is succeeds executed clean inside opened
       free fit =
-      inside_excused sql params old new book_schema (schema_is fit) command means.0
+      of_error sql params old new (IsExcused old new) res (executed clean inside)
+      (inside_excused sql params old new book_schema (schema_is fit) command means.0
       means.1 (omega (arith, whole.whole)) (sym whole.given) opened steady free
-      (succeeds fit) res (executed clean inside)
+      (succeeds fit))
 
   -- of the rows of tables
   of_tables : (fits : Tables → Type 0) (sql : List ℕ) (params : Row) (command : Command)
@@ -100,6 +111,16 @@ module _ (old new : State) (res : Result ℕ Error) where
   of_tables fits sql params command means whole steady succeeds =
       never (HasTables fits) sql params command means whole steady
       (λ (t, runs, fit, has). has.schema) (λ (t, runs, fit, has). succeeds t runs has fit)
+
+  pub book_excused : (opening : Opening)
+      → Executed text.add_book_text (book_row opening.limit opening.first_day)
+      → IsNeverRefused old new res IsEmptyBook
+  book_excused opening =
+      never IsEmptyBook text.add_book_text (book_row opening.limit opening.first_day)
+      (Insert 0 (Values (new_row 3) 4)) text_means.add_book_means ends.add_book_whole
+      (steady_insert old 0 (Values (new_row 3) 4)) (λ empty. empty.rows.schema_is)
+      (book_succeeds (mode_of old) old.now
+      (statement_of text.add_book_text (understood book_schema text.add_book_text)) opening)
 
   pub day_excused : (day : ℕ) → Executed text.set_day_text (number day ∷ [])
       → IsNeverRefused old new res (HasTables AnyTables)

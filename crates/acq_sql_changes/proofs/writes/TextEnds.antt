@@ -11,6 +11,12 @@ pub record IsWhole (text : List ℕ) (parameters : ℕ) : Type 0 where
   pub whole : tail_of (understood book_schema text) ≡ length text
   pub given : names_of (understood book_schema text) ≡ parameters
 
+pub add_book_whole : IsWhole text.add_book_text 3
+unfolding understood everything book_schema schema.up_to_reconciliations schema.up_to_postings
+    schema.up_to_requests schema.up_to_ranges schema.up_to_terminals schema.up_to_merchants
+    schema.up_to_book
+add_book_whole = record { whole = refl; given = refl }
+
 pub set_day_whole : IsWhole text.set_day_text 1
 unfolding understood everything book_schema schema.up_to_reconciliations schema.up_to_postings
     schema.up_to_requests schema.up_to_ranges schema.up_to_terminals schema.up_to_merchants

@@ -9,6 +9,7 @@ ghost use Rattle.acq_sql_changes.specs.Refused.{HasTables, HasShortRequests};
 ghost use Rattle.iso_codec.specs.Message.{IsMessage};
 ghost use Rattle.iso_codec.specs.Reading.{spelling};
 
+use crate::writes::statement::execute;
 use acq_core::{Remains, RequestKey, Status};
 use acq_sql_rows::{amount_value, hold_end_value, status_value, texts};
 use iso_codec::Message;
@@ -23,7 +24,7 @@ pub fn answer_request<'x, S: Alter>(
     hold_end: Option<u64>,
     reply: &'x Message,
     spelled: &'x [u8],
-) -> Result<usize, Error>
+) -> Result<(), Error>
     requires whole { IsMessage reply.now }
     requires spelled { spelled.now ≡ spelling reply.now }
     requires hold_end { IsShortEnd hold_end }
@@ -38,7 +39,8 @@ pub fn answer_request<'x, S: Alter>(
     let kind = key.service.digits();
     let trace = key.trace.to_bytes();
     let stamp = key.transmission.to_bytes();
-    tx.execute(
+    execute(
+        tx,
         texts::ANSWER,
         &[
             ValueRef::Text(&merchant),
@@ -58,7 +60,7 @@ pub fn follow_request<S: Alter>(
     tx: &mut Transaction<'_, S>,
     key: RequestKey,
     remains: Remains,
-) -> Result<usize, Error>
+) -> Result<(), Error>
     ensures same_reference { tx.new.conn.ghost_name ≡ tx.old.conn.ghost_name }
     ensures writes { WritesInside (state S.Store tx.old.conn.now) (state S.Store tx.new.conn.now)
         result (Changes (with_remains key remains)) }
@@ -70,7 +72,8 @@ pub fn follow_request<S: Alter>(
     let kind = key.service.digits();
     let trace = key.trace.to_bytes();
     let stamp = key.transmission.to_bytes();
-    tx.execute(
+    execute(
+        tx,
         texts::FOLLOW,
         &[
             ValueRef::Text(&merchant),

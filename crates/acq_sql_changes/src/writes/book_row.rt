@@ -3,7 +3,10 @@
 ghost use Rattle.std.specs.Prelude.{◌≡◌};
 ghost use Rattle.sqlite.specs.Held.{state};
 ghost use Rattle.acq_sql_changes.specs.Written.{WritesInside, BeginsBook};
+ghost use Rattle.acq_sql_changes.specs.Widened.{IsNeverRefused};
+ghost use Rattle.acq_sql_changes.specs.Refused.{IsEmptyBook};
 
+use crate::writes::statement::execute;
 use acq_core::Limit;
 use acq_sql_rows::tables::VERSION;
 use acq_sql_rows::{day_value, short_value, texts};
@@ -16,12 +19,15 @@ pub fn add_book<S: Alter>(
     tx: &mut Transaction<'_, S>,
     limit: Limit,
     first_day: Day,
-) -> Result<usize, Error>
+) -> Result<(), Error>
     ensures same_reference { tx.new.conn.ghost_name ≡ tx.old.conn.ghost_name }
     ensures writes { WritesInside (state S.Store tx.old.conn.now) (state S.Store tx.new.conn.now)
         result (BeginsBook (record { limit = limit; first_day = first_day })) }
+    ensures fails { IsNeverRefused (state S.Store tx.old.conn.now)
+        (state S.Store tx.new.conn.now) result IsEmptyBook }
 {
-    tx.execute(
+    execute(
+        tx,
         texts::ADD_BOOK,
         &[
             short_value(VERSION),

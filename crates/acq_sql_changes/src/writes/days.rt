@@ -8,6 +8,7 @@ ghost use Rattle.acq_sql_changes.specs.Changed.{AnyTables};
 ghost use Rattle.acq_sql_changes.specs.Widened.{IsNeverRefused};
 ghost use Rattle.acq_sql_changes.specs.Refused.{HasTables, TakesReconciliation};
 
+use crate::writes::statement::execute;
 use acq_core::Reconciliation;
 use acq_sql_rows::{bit_value, day_value, number_value, texts};
 use day_totals::Day;
@@ -15,14 +16,14 @@ use sqlite::types::ValueRef;
 use sqlite::{Alter, Error, Transaction};
 
 /// Begins a business day.
-pub fn set_day<S: Alter>(tx: &mut Transaction<'_, S>, day: Day) -> Result<usize, Error>
+pub fn set_day<S: Alter>(tx: &mut Transaction<'_, S>, day: Day) -> Result<(), Error>
     ensures same_reference { tx.new.conn.ghost_name ≡ tx.old.conn.ghost_name }
     ensures writes { WritesInside (state S.Store tx.old.conn.now) (state S.Store tx.new.conn.now)
         result (Changes (on_day day)) }
     ensures fails { IsNeverRefused (state S.Store tx.old.conn.now)
         (state S.Store tx.new.conn.now) result (HasTables AnyTables) }
 {
-    tx.execute(texts::SET_DAY, &[day_value(day)])
+    execute(tx, texts::SET_DAY, &[day_value(day)])
 }
 
 /// Adds a reconciliation, with its number of the merchant and day.
@@ -30,7 +31,7 @@ pub fn add_reconciliation<S: Alter>(
     tx: &mut Transaction<'_, S>,
     number: u64,
     reconciliation: &Reconciliation,
-) -> Result<usize, Error>
+) -> Result<(), Error>
     requires { number < 2 ^ 63 }
     ensures same_reference { tx.new.conn.ghost_name ≡ tx.old.conn.ghost_name }
     ensures writes { WritesInside (state S.Store tx.old.conn.now) (state S.Store tx.new.conn.now)
@@ -40,7 +41,8 @@ pub fn add_reconciliation<S: Alter>(
         (HasTables (TakesReconciliation number reconciliation.now)) }
 {
     let merchant = reconciliation.merchant.to_bytes();
-    tx.execute(
+    execute(
+        tx,
         texts::ADD_RECONCILIATION,
         &[
             ValueRef::Text(&merchant),

@@ -7,16 +7,14 @@ ghost use Rattle.acq_sql_changes.specs.Written.{with_merchant, with_terminal};
 ghost use Rattle.acq_sql_changes.specs.Widened.{IsNeverRefused};
 ghost use Rattle.acq_sql_changes.specs.Refused.{HasTables, TakesMerchant, TakesTerminal};
 
+use crate::writes::statement::execute;
 use acq_core::{Merchant, Terminal};
 use acq_sql_rows::{first_reference_value, texts};
 use sqlite::types::ValueRef;
 use sqlite::{Alter, Error, Transaction};
 
 /// Adds a merchant.
-pub fn add_merchant<S: Alter>(
-    tx: &mut Transaction<'_, S>,
-    merchant: &Merchant,
-) -> Result<usize, Error>
+pub fn add_merchant<S: Alter>(tx: &mut Transaction<'_, S>, merchant: &Merchant) -> Result<(), Error>
     ensures same_reference { tx.new.conn.ghost_name ≡ tx.old.conn.ghost_name }
     ensures writes { WritesInside (state S.Store tx.old.conn.now) (state S.Store tx.new.conn.now)
         result (Changes (with_merchant merchant.now)) }
@@ -25,7 +23,8 @@ pub fn add_merchant<S: Alter>(
 {
     let id = merchant.id.to_bytes();
     let currency = merchant.currency.to_bytes();
-    tx.execute(
+    execute(
+        tx,
         texts::ADD_MERCHANT,
         &[
             ValueRef::Text(&id),
@@ -36,10 +35,7 @@ pub fn add_merchant<S: Alter>(
 }
 
 /// Adds a terminal.
-pub fn add_terminal<S: Alter>(
-    tx: &mut Transaction<'_, S>,
-    terminal: &Terminal,
-) -> Result<usize, Error>
+pub fn add_terminal<S: Alter>(tx: &mut Transaction<'_, S>, terminal: &Terminal) -> Result<(), Error>
     ensures same_reference { tx.new.conn.ghost_name ≡ tx.old.conn.ghost_name }
     ensures writes { WritesInside (state S.Store tx.old.conn.now) (state S.Store tx.new.conn.now)
         result (Changes (with_terminal terminal.now)) }
@@ -48,7 +44,8 @@ pub fn add_terminal<S: Alter>(
 {
     let merchant = terminal.merchant.to_bytes();
     let id = terminal.id.to_bytes();
-    tx.execute(
+    execute(
+        tx,
         texts::ADD_TERMINAL,
         &[ValueRef::Text(&merchant), ValueRef::Text(&id)],
     )

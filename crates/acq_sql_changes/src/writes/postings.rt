@@ -7,6 +7,7 @@ ghost use Rattle.acq_sql_changes.specs.Written.{with_posting};
 ghost use Rattle.acq_sql_changes.specs.Widened.{IsNeverRefused};
 ghost use Rattle.acq_sql_changes.specs.Refused.{HasTables, TakesPosting};
 
+use crate::writes::statement::execute;
 use acq_core::Posting;
 use acq_sql_rows::{amount_value, day_value, leg_value, number_value, reference_value, texts};
 use sqlite::types::ValueRef;
@@ -17,7 +18,7 @@ pub fn add_posting<S: Alter>(
     tx: &mut Transaction<'_, S>,
     number: u64,
     posting: &Posting,
-) -> Result<usize, Error>
+) -> Result<(), Error>
     requires { number < 2 ^ 63 }
     ensures same_reference { tx.new.conn.ghost_name ≡ tx.old.conn.ghost_name }
     ensures writes { WritesInside (state S.Store tx.old.conn.now) (state S.Store tx.new.conn.now)
@@ -28,7 +29,8 @@ pub fn add_posting<S: Alter>(
     let merchant = posting.merchant.to_bytes();
     let terminal = posting.terminal.to_bytes();
     let trace = posting.trace.to_bytes();
-    tx.execute(
+    execute(
+        tx,
         texts::ADD_POSTING,
         &[
             ValueRef::Text(&merchant),

@@ -8,20 +8,22 @@ ghost use Rattle.acq_sql_changes.specs.Changed.{AnyTables};
 ghost use Rattle.acq_sql_changes.specs.Widened.{IsNeverRefused};
 ghost use Rattle.acq_sql_changes.specs.Refused.{HasTables, TakesRange};
 
+use crate::writes::statement::execute;
 use acq_sql_rows::{short_value, texts};
 use card_no::Range;
 use sqlite::types::ValueRef;
 use sqlite::{Alter, Error, Transaction};
 
 /// Adds a range.
-pub fn add_range<S: Alter>(tx: &mut Transaction<'_, S>, range: &Range) -> Result<usize, Error>
+pub fn add_range<S: Alter>(tx: &mut Transaction<'_, S>, range: &Range) -> Result<(), Error>
     ensures same_reference { tx.new.conn.ghost_name ≡ tx.old.conn.ghost_name }
     ensures writes { WritesInside (state S.Store tx.old.conn.now) (state S.Store tx.new.conn.now)
         result (Changes (with_added_range range.now)) }
     ensures fails { IsNeverRefused (state S.Store tx.old.conn.now)
         (state S.Store tx.new.conn.now) result (HasTables (TakesRange range.now)) }
 {
-    tx.execute(
+    execute(
+        tx,
         texts::ADD_RANGE,
         &[
             short_value(range.low),
@@ -33,16 +35,16 @@ pub fn add_range<S: Alter>(tx: &mut Transaction<'_, S>, range: &Range) -> Result
 }
 
 /// Drops the range with these ends.
-pub fn drop_range<S: Alter>(
-    tx: &mut Transaction<'_, S>,
-    low: u32,
-    high: u32,
-) -> Result<usize, Error>
+pub fn drop_range<S: Alter>(tx: &mut Transaction<'_, S>, low: u32, high: u32) -> Result<(), Error>
     ensures same_reference { tx.new.conn.ghost_name ≡ tx.old.conn.ghost_name }
     ensures writes { WritesInside (state S.Store tx.old.conn.now) (state S.Store tx.new.conn.now)
         result (Changes (with_dropped_range low high)) }
     ensures fails { IsNeverRefused (state S.Store tx.old.conn.now)
         (state S.Store tx.new.conn.now) result (HasTables AnyTables) }
 {
-    tx.execute(texts::DROP_RANGE, &[short_value(low), short_value(high)])
+    execute(
+        tx,
+        texts::DROP_RANGE,
+        &[short_value(low), short_value(high)],
+    )
 }

@@ -9,6 +9,7 @@ ghost use Rattle.acq_sql_changes.specs.Refused.{HasTables, TakesRequest};
 ghost use Rattle.iso_codec.specs.Message.{IsMessage};
 ghost use Rattle.iso_codec.specs.Reading.{spelling};
 
+use crate::writes::statement::execute;
 use acq_core::Request;
 use acq_sql_rows::{
     amount_value, bit_value, day_value, hold_days_value, hold_end_value, leg_value, reference_if,
@@ -22,7 +23,7 @@ pub fn add_request<'x, S: Alter>(
     tx: &mut Transaction<'_, S>,
     request: &'x Request,
     reply: &'x [u8],
-) -> Result<usize, Error>
+) -> Result<(), Error>
     requires whole { IsMessage request.now.reply }
     requires spelled { reply.now ≡ spelling request.now.reply }
     requires hold_end { IsShortEnd request.now.hold_end }
@@ -37,7 +38,8 @@ pub fn add_request<'x, S: Alter>(
     let kind = request.key.service.digits();
     let trace = request.key.trace.to_bytes();
     let stamp = request.key.transmission.to_bytes();
-    tx.execute(
+    execute(
+        tx,
         texts::ADD_REQUEST,
         &[
             ValueRef::Text(&merchant),

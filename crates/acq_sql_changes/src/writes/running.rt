@@ -10,6 +10,7 @@ ghost use Rattle.acq_sql_changes.specs.Written.{tally_from};
 ghost use Rattle.acq_sql_changes.specs.Widened.{IsNeverRefused};
 ghost use Rattle.acq_sql_changes.specs.Refused.{HasRuns, TakesMore};
 
+use crate::writes::statement::execute;
 use acq_core::MerchantId;
 use acq_sql_rows::{day_value, number_value, texts};
 use day_totals::{Day, Leg, Totals};
@@ -24,7 +25,7 @@ pub fn raise<S: Alter>(
     day: Day,
     used: u64,
     posted: &Totals,
-) -> Result<usize, Error>
+) -> Result<(), Error>
     requires { used < 2 ^ 63 }
     ensures same_reference { tx.new.conn.ghost_name ≡ tx.old.conn.ghost_name }
     ensures writes { WritesInside (state S.Store tx.old.conn.now) (state S.Store tx.new.conn.now)
@@ -34,7 +35,8 @@ pub fn raise<S: Alter>(
         (HasRuns (TakesMore merchant day (tally_from used posted.now))) }
 {
     let merchant = merchant.to_bytes();
-    tx.execute(
+    execute(
+        tx,
         texts::RAISE,
         &[
             ValueRef::Text(&merchant),

@@ -7,39 +7,40 @@ ghost use Rattle.acq_sql_changes.specs.Written.{WritesInside};
 ghost use Rattle.acq_sql_changes.specs.Widened.{WidensRanges, TurnsRanges, SetsVersion};
 ghost use Rattle.acq_sql_changes.specs.Widened.{IsNeverRefused, HasRangesOf, HasTurnedRangesOf};
 
+use crate::writes::statement::execute;
 use acq_sql_rows::texts;
 use sqlite::{Alter, Error, Transaction};
 
 /// Makes ranges of six digits those of eight, with -1 - low in place of each low: so no two rows
 /// have the same low on the way.
-pub fn widen_ranges<S: Alter>(tx: &mut Transaction<'_, S>) -> Result<usize, Error>
+pub fn widen_ranges<S: Alter>(tx: &mut Transaction<'_, S>) -> Result<(), Error>
     ensures same_reference { tx.new.conn.ghost_name ≡ tx.old.conn.ghost_name }
     ensures writes { WritesInside (state S.Store tx.old.conn.now) (state S.Store tx.new.conn.now)
         result WidensRanges }
     ensures refused { IsNeverRefused (state S.Store tx.old.conn.now)
         (state S.Store tx.new.conn.now) result (HasRangesOf six_digits) }
 {
-    tx.execute(texts::WIDEN_RANGES, &[])
+    execute(tx, texts::WIDEN_RANGES, &[])
 }
 
 /// Puts each low back.
-pub fn turn_ranges<S: Alter>(tx: &mut Transaction<'_, S>) -> Result<usize, Error>
+pub fn turn_ranges<S: Alter>(tx: &mut Transaction<'_, S>) -> Result<(), Error>
     ensures same_reference { tx.new.conn.ghost_name ≡ tx.old.conn.ghost_name }
     ensures writes { WritesInside (state S.Store tx.old.conn.now) (state S.Store tx.new.conn.now)
         result TurnsRanges }
     ensures refused { IsNeverRefused (state S.Store tx.old.conn.now)
         (state S.Store tx.new.conn.now) result (HasTurnedRangesOf eight_digits) }
 {
-    tx.execute(texts::TURN_RANGES, &[])
+    execute(tx, texts::TURN_RANGES, &[])
 }
 
 /// Makes the book one of the version in force.
-pub fn set_version<S: Alter>(tx: &mut Transaction<'_, S>) -> Result<usize, Error>
+pub fn set_version<S: Alter>(tx: &mut Transaction<'_, S>) -> Result<(), Error>
     ensures same_reference { tx.new.conn.ghost_name ≡ tx.old.conn.ghost_name }
     ensures writes { WritesInside (state S.Store tx.old.conn.now) (state S.Store tx.new.conn.now)
         result SetsVersion }
     ensures refused { IsNeverRefused (state S.Store tx.old.conn.now)
         (state S.Store tx.new.conn.now) result (HasRangesOf eight_digits) }
 {
-    tx.execute(texts::SET_VERSION, &[])
+    execute(tx, texts::SET_VERSION, &[])
 }
