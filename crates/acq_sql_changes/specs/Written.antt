@@ -1,11 +1,13 @@
 -- What a write inside a transaction does, and what each write makes of the tables.
-use Rattle.std.specs.Prelude.{ℕ, ◌<◌, ◌^◌, true, List, [], ◌∷◌, ◌++◌, Option, IfSome, Result, OnOk}
-use Rattle.std.specs.Prelude.{IsTrue, Ok, Err}
+use Rattle.std.specs.Prelude.{◌≡◌, ◌⊎◌, ℕ, ◌<◌, ◌^◌, true, false, List, [], ◌∷◌, ◌++◌, Option, IfSome}
+use Rattle.std.specs.Prelude.{Result, Ok, Err, OnOk, OnErr, IsTrue}
 use Rattle.sqlite_value.specs.Order.{Row}
+use Rattle.sqlite.specs.declared.error.ErrorCode.TheVariants as code
 use Rattle.sqlite.specs.declared.error.Error.{Error}
+use Rattle.sqlite.specs.declared.error.Error.TheVariants.{SqliteFailure}
 use Rattle.sqlite.specs.Effect.{Database}
 use Rattle.sqlite.specs.State.{State, HasCleanDisk, KeepsCommit, Shows, Survives}
-use Rattle.sqlite.specs.State.{ExecutesInside}
+use Rattle.sqlite.specs.State.{IsUnchanged, IsRolledBack, ExecutesInside}
 use Rattle.row_lemmas.specs.Created.{IsBlank}
 use Rattle.iso_codec.specs.Message.{IsoMessage}
 use Rattle.card_no.specs.declared.range.Range.{Range}
@@ -33,6 +35,19 @@ StaysInside old new result =
     HasCleanDisk new → IsTrue old.in_transaction
     → OnOk result (Shows old new new.now old.committed true)
 
+-- one that failed changed nothing, or ended its transaction
+abbrev pub ChangesNothing : {T : Type 0} → State → State → Result T Error → Type 0
+ChangesNothing old new result =
+    HasCleanDisk new → IsTrue old.in_transaction
+    → OnErr result (IsUnchanged old new ⊎ IsRolledBack old new)
+
+-- in a transaction that has ended a call is refused, and changes nothing
+abbrev pub RefusesEnded : {T : Type 0} → State → State → Result T Error → Type 0
+RefusesEnded old new result =
+    old.in_transaction ≡ false
+    → (result ≡ Err (SqliteFailure code.TransactionState))
+    × (IsTrue old.is_open → IsUnchanged old new)
+
 -- what was committed stays as it was
 abbrev pub KeepsCommitted : State → State → Type 0
 KeepsCommitted old new = HasCleanDisk new → IsTrue old.in_transaction → KeepsCommit old new
@@ -48,11 +63,13 @@ Executes sql params old new (Ok done) =
 Executes sql params old new (Err e) = ExecutesInside 0 sql params old new (Err e)
 
 -- A write inside a transaction commits nothing, and one that succeeded leads from the database
--- before it to the one after it so.
+-- before it to the one after it so. One that failed leaves nothing of itself.
 pub record WritesInside {T : Type 0} (old new : State) (result : Result T Error)
     (Leads : Database → Database → Type 0) : Type 0 where
   pub leads : HasCleanDisk new → IsTrue old.in_transaction → OnOk result (Leads old.now new.now)
   pub inside : StaysInside old new result
+  pub undone : ChangesNothing old new result
+  pub ended : RefusesEnded old new result
   pub kept : KeepsCommitted old new
   pub stop : CommitsNothing old new
 

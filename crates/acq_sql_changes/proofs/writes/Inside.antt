@@ -1,6 +1,6 @@
 -- What each write does inside a transaction.
 use Rattle.std.proofs.Common.{◌≡◌, ℕ, List, [], ◌∷◌, ◌++◌, Option, None, Ok, Err, Result, OnOk}
-use Rattle.std.proofs.Common.{IsTrue, true, inl, inr, ⊎_elim}
+use Rattle.std.proofs.Common.{OnErr, ◌⊎◌, IsTrue, true, inl, inr, ⊎_elim}
 use Rattle.sqlite_value.specs.declared.value.Value.TheVariants.{Text}
 use Rattle.sqlite_value.specs.Order.{Row}
 use Rattle.sqlite_schema.specs.declared.command.Command.{Command}
@@ -41,8 +41,8 @@ use Rattle.acq_sql_rows.specs.Queries.{raises}
 use Rattle.acq_sql_rows.proofs.TextLemmas as text_means
 use Rattle.acq_sql_rows.proofs.TextLemmas.{Means}
 use Rattle.acq_sql_changes.specs.Written as written
-use Rattle.acq_sql_changes.specs.Written.{Executes, WritesInside, CommitsNothing, Changes, Raises}
-use Rattle.acq_sql_changes.specs.Written.{BeginsBook}
+use Rattle.acq_sql_changes.specs.Written.{Executes, WritesInside, CommitsNothing, RefusesEnded}
+use Rattle.acq_sql_changes.specs.Written.{Changes, Raises, BeginsBook}
 use Rattle.acq_sql_changes.specs.Widened.{WidensRanges, TurnsRanges, SetsVersion}
 use Rattle.acq_sql_changes.proofs.writes.ListWrites as list
 use Rattle.acq_sql_changes.proofs.writes.ListWrites.{follow_params}
@@ -80,7 +80,8 @@ record Ran (old new : State) (command : Command) (params : Row) : Type 0 where
   count : ℕ
   ran : Runs old new None command text params count
 
-module _ (old new : State) (res : Result (Unit {0}) Error) (stop : CommitsNothing old new) where
+module _ (old new : State) (res : Result (Unit {0}) Error) (stop : CommitsNothing old new)
+    (ended : RefusesEnded old new res) where
   -- the statement was executed in the transaction
   abbrev Executed : List ℕ → Row → Type 0
   Executed sql params =
@@ -95,6 +96,8 @@ module _ (old new : State) (res : Result (Unit {0}) Error) (stop : CommitsNothin
       record {
         leads = λ clean inside. led res (executed clean inside);
         inside = λ clean inside. shown res (executed clean inside);
+        undone = λ clean inside. failed res (executed clean inside);
+        ended = ended;
         kept = λ clean inside. keeps sql params old new res (executed clean inside);
         stop = stop;
       }
@@ -113,6 +116,12 @@ module _ (old new : State) (res : Result (Unit {0}) Error) (stop : CommitsNothin
           OnOk r (Shows old new new.now old.committed true)
       shown (Ok done) (count, h) = h.1
       shown (Err e) h = tt
+
+      failed : (r : Result (Unit {0}) Error) → Executes sql params old new r →
+          OnErr r (IsUnchanged old new ⊎ IsRolledBack old new)
+      failed (Ok done) h = tt
+      failed (Err e) (inl h) = h.1
+      failed (Err e) (inr h) = inl h.2
 
   -- ---- each
 

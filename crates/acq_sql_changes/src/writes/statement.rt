@@ -4,7 +4,7 @@ ghost use Rattle.std.specs.Prelude.{◌≡◌, IsTrue};
 ghost use Rattle.sqlite.specs.Held.{state};
 ghost use Rattle.sqlite.specs.State.{HasCleanDisk};
 ghost use Rattle.sqlite.specs.Values.{bound};
-ghost use Rattle.acq_sql_changes.specs.Written.{CommitsNothing, Executes};
+ghost use Rattle.acq_sql_changes.specs.Written.{CommitsNothing, Executes, RefusesEnded};
 
 use sqlite::types::ValueRef;
 use sqlite::{Alter, Error, Transaction};
@@ -20,6 +20,8 @@ pub(crate) fn execute<S: Alter>(
         → IsTrue (state S.Store tx.old.conn.now).in_transaction
         → Executes sql.now (bound params.now) (state S.Store tx.old.conn.now)
         (state S.Store tx.new.conn.now) result }
+    ensures ended { RefusesEnded (state S.Store tx.old.conn.now) (state S.Store tx.new.conn.now)
+        result }
     ensures survives { CommitsNothing (state S.Store tx.old.conn.now)
         (state S.Store tx.new.conn.now) }
 {

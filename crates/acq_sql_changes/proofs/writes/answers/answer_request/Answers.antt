@@ -19,7 +19,7 @@ returns g c =
     ) at c.execute.ensures.runs in
     record {
       same_reference = c.execute.ensures.same_reference;
-      writes = answer_inside _ _ c.execute.result c.execute.ensures.survives
+      writes = answer_inside _ _ c.execute.result c.execute.ensures.survives c.execute.ensures.ended
           c.args.key c.args.status c.args.reply.now c.args.hold_end c.requires.whole ran;
       fails = answer_excused _ _ c.execute.result c.args.key c.args.status c.args.reply.now
           c.args.hold_end (record {

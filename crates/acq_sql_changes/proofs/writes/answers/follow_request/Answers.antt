@@ -16,7 +16,7 @@ returns g c =
     ) at c.execute.ensures.runs in
     record {
       same_reference = c.execute.ensures.same_reference;
-      writes = follow_inside _ _ c.execute.result c.execute.ensures.survives
+      writes = follow_inside _ _ c.execute.result c.execute.ensures.survives c.execute.ensures.ended
           c.args.key c.args.remains ran;
       fails = follow_excused _ _ c.execute.result c.args.key c.args.remains
           (record {

@@ -15,6 +15,7 @@ returns g c =
     ) at c.execute.ensures.runs in
     record {
       same_reference = c.execute.ensures.same_reference;
-      writes = book_inside _ _ c.execute.result c.execute.ensures.survives opening ran;
+      writes = book_inside _ _ c.execute.result c.execute.ensures.survives
+          c.execute.ensures.ended opening ran;
       fails = book_excused _ _ c.execute.result opening ran;
     }

@@ -14,6 +14,7 @@ returns g c =
     record {
       same_reference = c.execute.ensures.same_reference;
       writes = reconciliation_inside _ _ c.execute.result c.execute.ensures.survives
+          c.execute.ensures.ended
           c.args.number c.args.reconciliation.now ran;
       fails = reconciliation_excused _ _ c.execute.result c.args.number c.args.reconciliation.now
           c.to_bytes-merchant.ensures.valid ran;

@@ -14,6 +14,7 @@ returns g c =
     record {
       same_reference = c.execute.ensures.same_reference;
       writes = range_added_inside _ _ c.execute.result c.execute.ensures.survives
+          c.execute.ensures.ended
           c.args.range.now ran;
       fails = range_excused _ _ c.execute.result c.args.range.now ran;
     }

@@ -12,6 +12,7 @@ returns g c =
     record {
       same_reference = c.execute.ensures.same_reference;
       writes = range_dropped_inside _ _ c.execute.result c.execute.ensures.survives
+          c.execute.ensures.ended
           c.args.low c.args.high ran;
       fails = drop_excused _ _ c.execute.result c.args.low c.args.high ran;
     }

@@ -35,7 +35,8 @@ returns g c =
     ) at c.execute.ensures.runs in
     record {
       same_reference = c.execute.ensures.same_reference;
-      writes = request_inside _ _ c.execute.result c.execute.ensures.survives r c.requires.whole
+      writes = request_inside _ _ c.execute.result c.execute.ensures.survives
+          c.execute.ensures.ended r c.requires.whole
           ran;
       fails = request_excused _ _ c.execute.result r (record {
         merchant = c.to_bytes-merchant.ensures.valid;
