@@ -3,7 +3,7 @@ use Rattle.std.proofs.Common.{◌≡◌, ◌≢◌, ◌↔◌, inl, inr, ℕ, ze
 use Rattle.std.proofs.Common.{true≢false}
 use Rattle.std.proofs.Common.{List, [], ◌∷◌, length, find, slice_get, slice_index_or, Option, None}
 use Rattle.std.proofs.Common.{Some, IsSome, SomeIff, option_map, Result, Ok, Err, IfErr, nat_le}
-use Rattle.std.proofs.Common.{refl, sym, ap, ◌∙◌, subst, arith}
+use Rattle.std.proofs.Common.{refl, sym, ap, ◌∙◌, subst, arith, ◌-◌, ◌^◌, min}
 use Rattle.std.specs.Prelude.{All, IfSome}
 use Rattle.std.specs.List.{list_all}
 use Rattle.std.specs.Option.{option_to_list}
@@ -517,6 +517,12 @@ pub count_shown : (many : ℕ) (rows : List Row) (row : Row) → rows ≡ (count
 count_shown many rows row are some few =
     ap (λ l. column l 0) (one_first rows row (count many ∷ []) are some)
     ∙ ap number (min-eq_left (omega arith))
+
+-- a number below the greatest is the one that was counted
+pub count_told : (n many : ℕ) → number n ≡ count many → n < 2 ^ 63 - 1 → n ≡ many
+count_told n many same few =
+    let least : n ≡ min many 9223372036854775807 = cc in
+    omega (arith, least, few)
 
 pub admitted_fits : (t : Tables) → HasPast t → (m : List ℕ)
     → is_admitted_count (admitted_at t m) ≡ true

@@ -6,7 +6,6 @@ ghost use Rattle.sqlite.specs.declared.error.ErrorCode.TheVariants.{DatabaseCorr
 ghost use Rattle.sqlite.specs.declared.error.Error.TheVariants.{SqliteFailure};
 ghost use Rattle.sqlite_value.specs.declared.value.Value.TheVariants.{Text};
 ghost use Rattle.sqlite_value.specs.Order.{column};
-ghost use Rattle.sqlite_sql.specs.Aggregate.{count};
 ghost use Rattle.row_lemmas.specs.Values.{number, number_or_null};
 ghost use Rattle.day_totals.specs.Day.{IsDayNumber};
 ghost use Rattle.acq_message.specs.Names.{is_merchant, is_currency};
@@ -52,6 +51,7 @@ pub fn merchant_at(row: &Row, at: usize) -> Result<MerchantId, Error>
     ensures value { IfOk result (λ id. column row.now at ≡ Text id) }
     ensures fails { IfErr result (λ e. (id : List ℕ) → column row.now at ≡ Text id
         → is_merchant id ≢ true) }
+    ensures kind { IfErr result (λ e. e ≢ SqliteFailure OutOfMemory) }
 {
     read(MerchantId::read(text_at(row, at)?))
 }
@@ -61,6 +61,7 @@ pub fn currency_at(row: &Row, at: usize) -> Result<Currency, Error>
     ensures value { IfOk result (λ currency. column row.now at ≡ Text currency) }
     ensures fails { IfErr result (λ e. (currency : List ℕ) → column row.now at ≡ Text currency
         → is_currency currency ≢ true) }
+    ensures kind { IfErr result (λ e. e ≢ SqliteFailure OutOfMemory) }
 {
     read(Currency::read(text_at(row, at)?))
 }
@@ -181,9 +182,9 @@ pub fn bit_at(row: &Row, at: usize) -> Result<bool, Error>
     }
 }
 
-/// What count(*) counted: at the greatest number that it gives, there may be more.
+/// What count(*) counted. The greatest number that it gives is none, since there may be more.
 pub fn count_at(row: &Row, at: usize) -> Result<u64, Error>
-    ensures value { IfOk result (λ n. (many : ℕ) → column row.now at ≡ count many → n ≡ many) }
+    ensures value { IfOk result (λ n. (column row.now at ≡ number n) × (n < 2 ^ 63 - 1)) }
     ensures fails { (n : ℕ) → column row.now at ≡ number n → n < 2 ^ 63 - 1
         → FailsForMemory result }
 {
