@@ -1,6 +1,6 @@
 //! A book in a database.
 
-ghost use Rattle.std.specs.Prelude.{◌≡◌, ◌≢◌, ◌↔◌, Err, IfErr, IfOk, IsTrue, Ok, false};
+ghost use Rattle.std.specs.Prelude.{◌≡◌, ◌≢◌, ◌↔◌, Err, IfErr, IfOk, IsTrue, Ok, false, true};
 ghost use Rattle.std.specs.Prelude.{option_map};
 ghost use Rattle.sqlite.specs.Held.{state};
 ghost use Rattle.sqlite.specs.State.{HasCleanDisk, Survives};
@@ -14,6 +14,7 @@ ghost use Rattle.acq_sql_changes.specs.Changed.{HoldsAfter, IsAt, IsAtOf};
 ghost use Rattle.acq_sql_reads.specs.Looked.{LooksOnly};
 ghost use Rattle.acq_sql.specs.Checked.{IsFailure, Judges};
 ghost use Rattle.acq_sql.specs.declared.opening.opening_fault.OpeningFault.TheVariants.{NotABook};
+ghost use Rattle.acq_sql.specs.Made.{LeavesDatabase};
 ghost use Rattle.acq_sql.specs.Migrated.{IsOfSixDigits};
 ghost use Rattle.acq_sql.specs.Opened.{IsOpenAt};
 
@@ -73,6 +74,9 @@ impl<S: Alter> SqlBook<S> {
         ensures empty { IfOk result (λ book. connection.schema ≡ no_schema) }
         ensures unchanged { IfErr result (λ refusal.
             refusal.fault ≡ NotABook → refusal.connection ≡ connection) }
+        ensures undone { IfErr result (λ refusal. LeavesDatabase {T = Unit {0}}
+            (state S.Store connection) (state S.Store refusal.connection) (Err refusal.fault)) }
+        ensures settled { IfErr result (λ refusal. refusal.connection.in_transaction ≡ false) }
         // A stop leaves what it might before, or the whole new book.
         ensures stop { IfOk result (λ book.
             Survives (state S.Store connection) (state S.Store book.connection)
@@ -82,6 +86,7 @@ impl<S: Alter> SqlBook<S> {
             → LeavesOnly
             (HoldsAfter (new_tables (record { limit = limit; first_day = first_day })))
             (state S.Store book.connection)) }
+        ensures uncounted { IfOk result (λ book. book.failures ≡ 0) }
         ensures refused_stop { IfErr result (λ refusal.
             Survives (state S.Store connection) (state S.Store refusal.connection)
             (HoldsAfter (new_tables (record { limit = limit; first_day = first_day })))) }
@@ -111,6 +116,12 @@ impl<S: Alter> SqlBook<S> {
             → Judges {T = Unit {0}} version (state S.Store connection).now (Ok tt)) }
         ensures told { IfErr result (λ refusal. HasCleanDisk (state S.Store refusal.connection)
             → Judges {T = Unit {0}} version (state S.Store connection).now (Err refusal.fault)) }
+        ensures uncounted { IfOk result (λ book. book.failures ≡ 0) }
+        // It is only looked at.
+        ensures looks { IfOk result (λ book.
+            LooksOnly (state S.Store connection) (state S.Store book.connection) true) }
+        ensures refused_looks { IfErr result (λ refusal.
+            LooksOnly (state S.Store connection) (state S.Store refusal.connection) false) }
         // A stop leaves what it might before.
         ensures stop { IfOk result (λ book.
             Survives (state S.Store connection) (state S.Store book.connection) (λ _. ⊥)) }
@@ -143,6 +154,7 @@ impl<S: Alter> SqlBook<S> {
             → IsTrue (state S.Store refusal.connection).is_open → (t : Tables)
             → IsAtOf version_of_six_digits (state S.Store connection) t
             → IsAtOf version_of_six_digits (state S.Store refusal.connection) t) }
+        ensures settled { IfErr result (λ refusal. refusal.connection.in_transaction ≡ false) }
         // A database that is no book of version 1 is only looked at.
         ensures unchanged { IfErr result (λ refusal. ¬ IsFailure refusal.fault
             → LooksOnly (state S.Store connection) (state S.Store refusal.connection) false) }
@@ -152,6 +164,7 @@ impl<S: Alter> SqlBook<S> {
         ensures told { IfErr result (λ refusal. HasCleanDisk (state S.Store refusal.connection)
             → Judges {T = Unit {0}} version_of_six_digits (state S.Store connection).now
             (Err refusal.fault)) }
+        ensures uncounted { IfOk result (λ book. book.failures ≡ 0) }
         // A stop leaves what it might before, or the whole book of version 2.
         ensures stop { IfOk result (λ book.
             Survives (state S.Store connection) (state S.Store book.connection)

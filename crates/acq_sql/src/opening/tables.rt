@@ -48,7 +48,7 @@ pub(crate) fn create_records<S: Alter>(tx: &mut Transaction<'_, S>) -> Result<()
 }
 
 /// Makes one table.
-fn create<S: Alter>(tx: &mut Transaction<'_, S>, sql: &str) -> Result<usize, Error>
+fn create<S: Alter>(tx: &mut Transaction<'_, S>, sql: &str) -> Result<(), Error>
     ensures same_reference { tx.new.conn.ghost_name ≡ tx.old.conn.ghost_name }
     ensures adds { AddsTable (state S.Store tx.old.conn.now) (state S.Store tx.new.conn.now) result
         sql.now }
@@ -58,11 +58,12 @@ fn create<S: Alter>(tx: &mut Transaction<'_, S>, sql: &str) -> Result<usize, Err
     ensures survives { CommitsNothing (state S.Store tx.old.conn.now)
         (state S.Store tx.new.conn.now) }
 {
-    tx.execute(sql, &[])
+    tx.execute(sql, &[])?;
+    Ok(())
 }
 
 /// Makes one index.
-fn create_index<S: Alter>(tx: &mut Transaction<'_, S>, sql: &str) -> Result<usize, Error>
+fn create_index<S: Alter>(tx: &mut Transaction<'_, S>, sql: &str) -> Result<(), Error>
     ensures same_reference { tx.new.conn.ghost_name ≡ tx.old.conn.ghost_name }
     ensures adds { AddsIndex (state S.Store tx.old.conn.now) (state S.Store tx.new.conn.now) result
         sql.now }
@@ -72,5 +73,6 @@ fn create_index<S: Alter>(tx: &mut Transaction<'_, S>, sql: &str) -> Result<usiz
     ensures survives { CommitsNothing (state S.Store tx.old.conn.now)
         (state S.Store tx.new.conn.now) }
 {
-    tx.execute(sql, &[])
+    tx.execute(sql, &[])?;
+    Ok(())
 }

@@ -1,6 +1,5 @@
 use Rattle.std.proofs.Common.{refl, subst, arith}
 use Rattle.std.proofs.Math.Logic.{∥∥₁_map}
-use Rattle.sqlite.specs.Files.{over_files}
 use Rattle.sqlite.specs.Held.{Held}
 use Rattle.sqlite.proofs.Theorems.{opens_again}
 use Rattle.sqlite_store.specs.FileStore.{recovers, view}
