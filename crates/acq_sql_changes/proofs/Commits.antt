@@ -111,7 +111,8 @@ module _ {old mid new : State} {done : Unit {0}} {Leads : Database → Database 
       }
 
 -- with one write more
-pub wrote : {old mid new : State} {before : Tables → Tables} {done : Unit {0}} → Wrote old mid before
+pub wrote : {old mid new : State} {before : Tables → Tables} {done : Unit {0}}
+    → Wrote old mid before
     → (changed : Tables → Tables) → WritesInside mid new (Ok done) (Changes changed)
     → Wrote old new (λ t. changed (before t))
 wrote {before = before} so_far changed write =

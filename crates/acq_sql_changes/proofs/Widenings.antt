@@ -96,7 +96,8 @@ module _ {number : ℕ} {old mid new : State} {done : Unit {0}} where
 
 module _ {number : ℕ} {old mid last end : State} {stage : Stage} {e : Error}
     {Leads : Database → Database → Type 0} (so_far : Reached number old mid stage)
-    (write : WritesInside {T = Unit {0}} mid last (Err e) Leads) (dropped : Survives last end (λ _. ⊥))
+    (write : WritesInside {T = Unit {0}} mid last (Err e) Leads)
+    (dropped : Survives last end (λ _. ⊥))
   where
     excused_at : (fits : Database → Type 0) → IsNeverRefused {T = Unit {0}} mid last (Err e) fits
         → ((t : Tables) (runs : List Running) → HasRangesUnder six_digits t → stage t runs mid.now

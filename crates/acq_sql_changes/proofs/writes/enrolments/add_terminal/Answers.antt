@@ -11,7 +11,8 @@ returns g c =
     ) at c.execute.ensures.runs in
     record {
       same_reference = c.execute.ensures.same_reference;
-      writes = terminal_inside _ _ c.execute.result c.execute.ensures.survives c.execute.ensures.ended
+      writes = terminal_inside _ _ c.execute.result c.execute.ensures.survives
+          c.execute.ensures.ended
           c.args.terminal.now ran;
       fails = terminal_excused _ _ c.execute.result c.args.terminal.now
           c.to_bytes-merchant.ensures.valid

@@ -18,7 +18,8 @@ returns g c =
     ) at c.execute.ensures.runs in
     record {
       same_reference = c.execute.ensures.same_reference;
-      writes = posting_inside _ _ c.execute.result c.execute.ensures.survives c.execute.ensures.ended
+      writes = posting_inside _ _ c.execute.result c.execute.ensures.survives
+          c.execute.ensures.ended
           c.args.number c.args.posting.now ran;
       fails = posting_excused _ _ c.execute.result c.args.number c.args.posting.now
           c.to_bytes-merchant.ensures.valid c.to_bytes-terminal.ensures.valid
