@@ -1,6 +1,6 @@
 //! Books in files.
 
-ghost use Rattle.std.specs.Prelude.{◌≡◌, IfOk, false};
+ghost use Rattle.std.specs.Prelude.{◌≡◌, IfErr, IfOk, IfSome, false};
 ghost use Rattle.sqlite_wal.specs.Files.{image_at};
 ghost use Rattle.sqlite.specs.Files.{IsOpened, file_state};
 ghost use Rattle.sqlite.specs.Held.{state};
@@ -11,12 +11,14 @@ ghost use Rattle.acq_core.specs.Pasts.{HasPast, HasPastUnder};
 ghost use Rattle.acq_core.specs.Tables.{Tables, new_tables};
 ghost use Rattle.acq_core.specs.Widening.{widened_tables};
 ghost use Rattle.acq_sql_rows.specs.Rows.{version_of_six_digits};
-ghost use Rattle.acq_sql_changes.specs.Changed.{HoldsAfter, IsAt};
+ghost use Rattle.acq_sql_changes.specs.Changed.{HoldsAfter};
+ghost use Rattle.acq_sql.specs.Checked.{IsFailure};
 ghost use Rattle.acq_sql.specs.Migrated.{IsOfSixDigits};
 ghost use Rattle.acq_sql.specs.Opened.{IsOpenAt};
 ghost use Rattle.acqd.specs.BookFiles.{FilesHold, FilesHoldOf};
 
 use crate::book_files::{find_book, make_room};
+use crate::no_book::NoBook;
 use acq_core::Limit;
 use acq_sql::opening::{an_open_finds_a_book_of_any_version, an_open_finds_the_book};
 use acq_sql::{OpeningFault, SqlBook};
@@ -28,28 +30,38 @@ use sqlite_store::FileStore;
 use std::alloc::Global;
 
 /// Opens the book in the file at a path and its log, of which `D` says what they hold before it.
-/// Where they hold a book, this is it, at the tables that the last whole change led to. Where the
-/// file is away or empty nothing is made, and the log is left as it is.
+/// Where they hold a book, this is it, at the tables that the last whole change led to, and only
+/// memory or the store can be in the way. Where the file is away or empty nothing is made, and the
+/// log is left as it is.
 pub fn open_book<D: Start>(
     rt: &HostRuntime,
     path: &str,
     start: D,
-) -> Result<SqlBook<FileStore<FileFrom<D>>>, OpeningFault>
-    ensures { IfOk result (λ book. HasCleanDisk (file_state book.connection) → (t : Tables)
+) -> Result<SqlBook<FileStore<FileFrom<D>>>, NoBook<FileStore<FileFrom<D>>>>
+    ensures same { IfOk result (λ book. HasCleanDisk (file_state book.connection) → (t : Tables)
         → FilesHold (image_at D.Start) t → HasPast t → IsOpenAt (file_state book.connection) t) }
+    ensures accepts { IfErr result (λ none. IfSome none.connection (λ connection.
+        HasCleanDisk (file_state connection) → (t : Tables) → FilesHold (image_at D.Start) t
+        → IsFailure none.fault)) }
 {
-    find_book(rt, path)?;
-    let connection = connect(rt, path, start)?;
+    match find_book(rt, path) {
+        Ok(()) => {}
+        Err(fault) => return Err(NoBook::unopened(fault)),
+    }
+    let connection = match connect(rt, path, start) {
+        Ok(connection) => connection,
+        Err(fault) => return Err(NoBook::unopened(fault)),
+    };
     an_open_finds_the_book(&connection);
-    match adopted(rt.alloc(), connection) {
+    match SqlBook::adopt(rt.alloc(), connection) {
         Ok(book) => Ok(book),
-        Err(fault) => Err(fault),
+        Err(refusal) => Err(NoBook::refused(refusal)),
     }
 }
 
-/// Makes a new book in the file at a path, which its owner alone may read. A file that holds a book,
-/// or anything else that isn't empty, is left as it is, and so is a log that stands there without
-/// its book.
+/// Makes a new book in the file at a path, which its owner alone may read. A file that holds a
+/// book, or anything else that isn't empty, is left as it is, and so is a log that stands there
+/// without its book.
 pub fn make_book<D: Start>(
     rt: &HostRuntime,
     path: &str,
@@ -69,8 +81,8 @@ pub fn make_book<D: Start>(
     }
 }
 
-/// Migrates the book in the file at a path, and its log, of which `D` says what they hold before it.
-/// Where they hold a book whose ranges are of six digits, this is it, with its ranges widened.
+/// Migrates the book in the file at a path, and its log, of which `D` says what they hold before
+/// it. Where they hold a book whose ranges are of six digits, this is it, with its ranges widened.
 pub fn migrate_book<D: Start>(
     rt: &HostRuntime,
     path: &str,
@@ -90,24 +102,6 @@ pub fn migrate_book<D: Start>(
 }
 
 // What follows is said of any store: a proof over that of this machine alone takes minutes.
-
-/// The book that a database holds. One that is refused is closed.
-fn adopted<S: Alter + Drop>(
-    alloc: Global,
-    connection: Connection<S>,
-) -> Result<SqlBook<S>, OpeningFault>
-    requires settled { connection.in_transaction ≡ false }
-    ensures same { IfOk result (λ book. HasCleanDisk (state S.Store book.connection)
-        → (t : Tables) → IsAt (state S.Store connection) t → HasPast t
-        → IsOpenAt (state S.Store book.connection) t) }
-    ensures stop { IfOk result (λ book.
-        Survives (state S.Store connection) (state S.Store book.connection) (λ _. ⊥)) }
-{
-    match SqlBook::adopt(alloc, connection) {
-        Ok(book) => Ok(book),
-        Err(refusal) => Err(refusal.fault),
-    }
-}
 
 /// A new book in a database. One that is refused is closed.
 fn created<S: Alter + Drop>(

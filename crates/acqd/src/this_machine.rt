@@ -54,7 +54,7 @@ impl<'a, D: Start> Machine<SqlBook<FileStore<FileFrom<D>>>> for ThisMachine<'a, 
     fn open_book(self, path: &str) -> Result<SqlBook<FileStore<FileFrom<D>>>, Fault> {
         match open_book(self.rt, path, self.start) {
             Ok(book) => Ok(book),
-            Err(cause) => Err(fault_of_opening(cause)),
+            Err(none) => Err(fault_of_opening(none.into_fault())),
         }
     }
 

@@ -4,13 +4,24 @@ use Rattle.sqlite.specs.State.{HasCleanDisk}
 use Rattle.acq_sql_changes.specs.Changed.{HoldsAfter}
 use Rattle.acqd.proofs.open_book.open_book.Goals as goal
 
-pub returns-in-Ok : goal.returns-in-Ok
-returns-in-Ok g c = λ clean t files past.
-    let was_clean : HasCleanDisk (file_state c.in_ok-connection.connection) =
-    omega (arith, c.in-Ok.ensures.stop.clean, clean) in
-    let opened = c.in_ok-connection.ensures.opened was_clean in
-    let found = c.in_ok-connection.ensures.found was_clean in
-    c.in-Ok.ensures.same clean t
+pub returns-in-Ok-adopt-clause-same : goal.returns-in-Ok-adopt-clause-same
+returns-in-Ok-adopt-clause-same g c = λ clean t files past.
+    let was_clean : HasCleanDisk (file_state c.in-Ok-connect.connection) =
+    omega (arith, c.in-Ok-adopt.ensures.stop.clean, clean) in
+    let opened = c.in-Ok-connect.ensures.opened was_clean in
+    let found = c.in-Ok-connect.ensures.found was_clean in
+    c.in-Ok-adopt.ensures.same clean t
     (c.an_open_finds_the_book.ensures t opened.0 opened.1
     (subst (HoldsAfter t) (sym (found.holds files.0 files.1)) files.2))
     past
+
+pub returns-in-Err-adopt-clause-accepts : goal.returns-in-Err-adopt-clause-accepts
+returns-in-Err-adopt-clause-accepts g c =
+    rw (c.refused.ensures.connection, c.refused.ensures.fault) (λ clean t files.
+    let was_clean : HasCleanDisk (file_state c.in-Ok-connect.connection) =
+    omega (arith, c.in-Err-adopt.ensures.refused_stop.clean, clean) in
+    let opened = c.in-Ok-connect.ensures.opened was_clean in
+    let found = c.in-Ok-connect.ensures.found was_clean in
+    c.in-Err-adopt.ensures.accepts clean t
+    (c.an_open_finds_the_book.ensures t opened.0 opened.1
+    (subst (HoldsAfter t) (sym (found.holds files.0 files.1)) files.2)))

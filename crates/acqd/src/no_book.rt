@@ -1,0 +1,46 @@
+//! Why files weren't opened as a book.
+
+ghost use Rattle.std.specs.Prelude.{◌≡◌, None, Some};
+
+use acq_sql::{OpeningFault, Refusal};
+use sqlite::{Alter, Connection};
+
+/// Why files weren't opened as a book, with the connection to them, where they were opened.
+#[derive(Drop)]
+pub struct NoBook<S: Alter> {
+    pub fault: OpeningFault,
+    pub connection: Option<Connection<S>>,
+}
+
+impl<S: Alter> NoBook<S> {
+    /// The files weren't opened.
+    pub fn unopened(fault: OpeningFault) -> NoBook<S>
+        ensures fault { result.fault ≡ fault }
+        ensures connection { result.connection ≡ None }
+    {
+        NoBook {
+            fault,
+            connection: None,
+        }
+    }
+
+    /// What they hold was refused.
+    pub fn refused(refusal: Refusal<S>) -> NoBook<S>
+        ensures fault { result.fault ≡ refusal.fault }
+        ensures connection { result.connection ≡ Some refusal.connection }
+    {
+        NoBook {
+            fault: refusal.fault,
+            connection: Some(refusal.connection),
+        }
+    }
+}
+
+impl<S: Alter + Drop> NoBook<S> {
+    /// The fault; the connection is closed.
+    pub fn into_fault(self) -> OpeningFault
+        ensures { result ≡ self.fault }
+    {
+        self.fault
+    }
+}
