@@ -1,9 +1,8 @@
 //! Hosts over a book in memory, and connections that they serve.
 
-use super::script_event::MORNING;
-use super::setup::{GREATEST_LIMIT, MAY_1, events_behind_setup};
 use acq_book::{Book, ListBook};
-use acq_core::{Event, Limit, Moment};
+use acq_commands::{Progress, replay};
+use acq_core::{Limit, Moment};
 use acq_front::{FixedClock, FrontFault, SliceIssuer, serve};
 use acq_host::Host;
 use acq_link::{MemorySink, SliceSource};
@@ -13,22 +12,49 @@ use std::hash::RandomState;
 use std::random::RandomSource;
 use std::test::Fail;
 
-/// A host over a new book behind the setup.
+/// What hosts begin with: two issuers' ranges, and two merchants with a terminal each.
+const SETUP: &[u8] = b"addrange,40000000,49999999,12345,7,
+addrange,50000000,59999999,67890,1,
+enrol,MERCHANT0000001,978,000000000001,,
+terminal,MERCHANT0000001,TERM0001,,,
+enrol,MERCHANT0000002,978,000000000001,,
+terminal,MERCHANT0000002,TERM0001,,,
+";
+
+/// 2024-05-01 at 09:30, when all happens.
+pub(super) const MORNING: u64 = 1_714_555_800;
+
+/// A host over a new book behind the setup, on 2024-05-01.
 pub(super) fn new_host(rt: &impl RandomSource, alloc: Global) -> Result<Host<ListBook>, Fail> {
-    let limit = Limit::from_number(GREATEST_LIMIT).ok_or("a limit")?;
-    let first_day = Day::from_number(MAY_1).ok_or("a day")?;
-    let keys = RandomState::new(rt)?;
-    let events = events_behind_setup(alloc, &[])?;
-    let mut host = Host::in_memory(alloc, keys, limit, first_day);
-    take_all(&mut host, events.as_slice());
+    let limit = Limit::from_number(999_999).ok_or("a limit")?;
+    let first_day = Day::read("2024-05-01").ok_or("a day")?;
+    let mut host = Host::in_memory(alloc, RandomState::new(rt)?, limit, first_day);
+    set_up(alloc, &mut host);
     Ok(host)
 }
 
-/// Has a host take events.
-fn take_all<B: Book + Drop>(host: &mut Host<B>, events: &[Event]) {
-    for event in events {
-        let _ = host.take(event);
-    }
+/// Has a host take the setup.
+fn set_up<B: Book + Drop>(alloc: Global, host: &mut Host<B>) {
+    let mut said = MemorySink::new(alloc);
+    let _ = replay(
+        alloc,
+        host,
+        &mut SliceSource::new(SETUP),
+        &mut said,
+        &mut NoProgress,
+    );
+}
+
+/// Shows nobody how far a run is.
+#[derive(Drop)]
+struct NoProgress;
+
+impl Progress for NoProgress {
+    fn begin(&mut self, _events: usize) {}
+
+    fn done(&mut self) {}
+
+    fn end(&mut self) {}
 }
 
 /// Serves a connection in the morning.

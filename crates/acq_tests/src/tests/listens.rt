@@ -1,7 +1,6 @@
 //! Connections through `listen_on`, of which the first can't be written to its end.
 
-use super::connections::{APPROVED, SALE};
-use super::hosts::new_host;
+use super::hosts::{MORNING, new_host};
 use acq_book::Book;
 use acq_commands::{Fault, listen_on};
 use acq_core::{Moment, Verdict};
@@ -16,14 +15,14 @@ use std::io;
 use std::io::{ErrorKind, Write};
 use std::test::Fail;
 
-/// The moment at which all frames come.
-fn morning() -> Result<Moment, Fail> {
-    Ok(Moment::from_seconds(1_714_555_800).ok_or("a moment")?)
-}
+/// A sale as a frame.
+const SALE: &[u8] =
+    b"\x00\x6202007220000000C080001641111111111111110000000000000010000501093000000001\
+TERM0001MERCHANT0000001978";
 
 /// The sale as its terminal repeats it.
-const REPEATED: &str =
-    "\x00\x6202017220000000C0800016411111111111111100000000000000100005010930000000\
+const REPEATED: &[u8] =
+    b"\x00\x6202017220000000C0800016411111111111111100000000000000100005010930000000\
 01TERM0001MERCHANT0000001978";
 
 /// A writer that takes so many bytes, and then fails.
@@ -51,14 +50,14 @@ impl Write for Narrow<'_> {
 
 /// Three connections: the sale, of whose reply ten bytes are taken, its repeat and the claim.
 #[derive(Drop)]
-struct Three<'a> {
+struct ThreeConnections<'a> {
     place: u8,
     taken: &'a RefCell<Vec<u8>>,
     received: Transcript,
     sent: Transcript,
 }
 
-impl Connections for Three<'_> {
+impl Connections for ThreeConnections<'_> {
     ghost received = { λ c. c.received.bytes };
 
     ghost sent = { λ c. c.sent.bytes };
@@ -75,8 +74,8 @@ impl Connections for Three<'_> {
         issuer: &mut I,
     ) -> Result<(), FrontFault> {
         let (frame, room) = match self.place {
-            0 => (SALE.as_bytes(), 10),
-            1 => (REPEATED.as_bytes(), usize::MAX),
+            0 => (SALE, 10),
+            1 => (REPEATED, usize::MAX),
             _ => (CLAIMED, usize::MAX),
         };
         self.place = self.place.saturating_add(1);
@@ -100,15 +99,18 @@ impl Connections for Three<'_> {
     }
 }
 
-/// A reconciliation that claims this one debit, as a frame, and the frame that answers it in
-/// balance.
+/// A reconciliation that claims this one debit, as a frame.
 const CLAIMED: &[u8] =
     b"\x00\xC805008222000000C00000007807808000000005011000000000100501TERM0001MERCHA\
 NT0000001000000000000000000000000000001000000000000000000000000000000000000000000000000000\
 00010000000000000000000D0000000000001000";
 
-const POSTED: &[u8] =
-    b"\x00\xCB05108222000002C0000040780780800000000501100000000010050100TERM0001MERC\
+/// Ten bytes of the reply's frame; all of it; and the frame that answers the reconciliation, in
+/// balance.
+const TAKEN: &[u8] = b"\x00\x7A02107222\
+\x00\x7A0210722200000EC0800016411111111111111100000000000000100005010930000000010501\
+000000000001A1B2C300TERM0001MERCHANT0000001978\
+\x00\xCB05108222000002C0000040780780800000000501100000000010050100TERM0001MERC\
 HANT00000011000000000000000000000000000001000000000000000000000000000000000000000000000000\
 00000010000000000000000000D0000000000001000";
 
@@ -117,30 +119,30 @@ HANT0000001100000000000000000000000000000100000000000000000000000000000000000000
 #[test]
 fn a_repeat_after_a_cut_reply(rt: HostRuntime) -> Result<(), Fail> {
     let alloc = rt.alloc();
-    let mut want = Vec::from_slice(alloc, &APPROVED.as_bytes()[..10])?;
-    want.extend_from_slice(APPROVED.as_bytes())?;
-    want.extend_from_slice(POSTED)?;
+    let morning = Moment::from_seconds(MORNING).ok_or("a moment")?;
+    let approved = [Verdict::approved(b"A1B2C3").ok_or("an id")?];
+    let host = new_host(&rt, alloc)?;
     let taken = RefCell::new(Vec::new(alloc));
-    let mut connections = Three {
+    let mut faults = MemorySink::new(alloc);
+    let mut connections = ThreeConnections {
         place: 0,
         taken: &taken,
         received: Transcript::new(),
         sent: Transcript::new(),
     };
-    let approved = [Verdict::approved(b"A1B2C3").ok_or("an id")?];
-    let mut clock = FixedClock::new(morning()?);
-    let mut faults = MemorySink::new(alloc);
-    end_of(listen_on(
+    let ran = listen_on(
         alloc,
-        new_host(&rt, alloc)?.into_book(),
+        host.into_book(),
         &mut connections,
         3,
-        &mut clock,
+        &mut FixedClock::new(morning),
         &mut SliceIssuer::new(&approved),
         &mut faults,
-    ))?;
-    assert_eq!(rt; faults.as_bytes(), b"acqd: 54 Write 10\n".as_slice());
-    assert_eq!(rt; taken.into_inner().as_slice(), want.as_slice());
+    );
+    assert!(rt; end_of(ran).is_ok());
+    assert!(rt; faults.as_bytes() == b"acqd: 54 Write 10\n".as_slice());
+    drop(connections);
+    assert!(rt; taken.into_inner().as_slice() == TAKEN);
     Ok(())
 }
 
