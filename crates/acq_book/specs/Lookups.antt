@@ -65,6 +65,10 @@ admitted_at t m = admitted_in (requests_of m t.requests)
 abbrev pub used_at : Tables → List ℕ → ℕ → ℕ
 used_at t m day = used_in (requests_of m t.requests) day
 
+-- how many messages of all merchants do so
+abbrev pub used_on_at : Tables → ℕ → ℕ
+used_on_at t day = used_in t.requests day
+
 -- its totals of a day
 abbrev pub totals_at : Tables → List ℕ → ℕ → DayTotals
 totals_at t m day = totals_on (postings_of m t.postings) day
@@ -115,3 +119,7 @@ holds_at t m =
 -- the pending requests of all merchants and days, in the order in which they came
 abbrev pub waiting_at : Tables → List Request
 waiting_at t = filter (λ row. is_pending row.status) t.requests
+
+-- how many these are
+abbrev pub waiting_count_at : Tables → ℕ
+waiting_count_at t = length (waiting_at t)

@@ -7,7 +7,8 @@ ghost use Rattle.acq_book.specs.Fits.{Fits, HasItsRequest};
 ghost use Rattle.acq_book.specs.Lookups.{merchant_at, has_terminal_at, terminal_count_at};
 ghost use Rattle.acq_book.specs.Lookups.{range_at, overlapping_at, range_count_at};
 ghost use Rattle.acq_book.specs.Lookups.{request_at, referred_at, admitted_at, used_at, totals_at};
-ghost use Rattle.acq_book.specs.Lookups.{pending_at, last_reconciliation_at};
+ghost use Rattle.acq_book.specs.Lookups.{pending_at, used_on_at, waiting_count_at};
+ghost use Rattle.acq_book.specs.Lookups.{last_reconciliation_at};
 ghost use Rattle.acq_book.specs.Lookups.{postings_at, merchants_at, holds_at, waiting_at};
 ghost use Rattle.acq_book.specs.Promise.{BlamesStore, CountsFault, LooksBy, MakesBy};
 ghost use Rattle.acq_book.specs.Visits.{SawAll, SawRows, SawSome};
@@ -185,6 +186,16 @@ pub trait Book {
             → BlamesStore result (store_faults self.old) (store_faults self.new) }
         ensures room { is_open self.new → has_room self.old → has_room self.new };
 
+    /// How many messages of all merchants count against the limit of a day.
+    fn used_on(&mut self, day: Day) -> Result<u64, BookFault>
+        ensures value { is_open self.new → IfOk result (λ n. n ≡ used_on_at (tables self.old) day) }
+        ensures looks { LooksBy tables is_honest is_open may_leave leaves_books
+            failures store_faults self.old self.new (is_ok result) }
+        ensures store { CountsFault result (failures self.old) (failures self.new) }
+        ensures blames { is_honest self.new → is_open self.old → has_room self.old
+            → BlamesStore result (store_faults self.old) (store_faults self.new) }
+        ensures room { is_open self.new → has_room self.old → has_room self.new };
+
     /// The merchant's totals of a day.
     fn totals(&mut self, merchant: MerchantId, day: Day) -> Result<Totals, BookFault>
         ensures value { is_open self.new → IfOk result
@@ -199,6 +210,17 @@ pub trait Book {
     /// How many requests of a day are pending, of all merchants.
     fn pending(&mut self, day: Day) -> Result<u64, BookFault>
         ensures value { is_open self.new → IfOk result (λ n. n ≡ pending_at (tables self.old) day) }
+        ensures looks { LooksBy tables is_honest is_open may_leave leaves_books
+            failures store_faults self.old self.new (is_ok result) }
+        ensures store { CountsFault result (failures self.old) (failures self.new) }
+        ensures blames { is_honest self.new → is_open self.old → has_room self.old
+            → BlamesStore result (store_faults self.old) (store_faults self.new) }
+        ensures room { is_open self.new → has_room self.old → has_room self.new };
+
+    /// How many requests wait for their issuer's answer, of all merchants and days.
+    fn waiting_count(&mut self) -> Result<u64, BookFault>
+        ensures value { is_open self.new → IfOk result
+            (λ n. n ≡ waiting_count_at (tables self.old)) }
         ensures looks { LooksBy tables is_honest is_open may_leave leaves_books
             failures store_faults self.old self.new (is_ok result) }
         ensures store { CountsFault result (failures self.old) (failures self.new) }

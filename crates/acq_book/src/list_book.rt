@@ -300,12 +300,20 @@ impl Book for ListBook {
         Ok(self.requests.used(merchant, day))
     }
 
+    fn used_on(&mut self, day: Day) -> Result<u64, BookFault> {
+        Ok(self.requests.used_on(day))
+    }
+
     fn totals(&mut self, merchant: MerchantId, day: Day) -> Result<Totals, BookFault> {
         Ok(self.postings.totals(merchant, day))
     }
 
     fn pending(&mut self, day: Day) -> Result<u64, BookFault> {
         Ok(self.requests.pending(day))
+    }
+
+    fn waiting_count(&mut self) -> Result<u64, BookFault> {
+        Ok(self.requests.waiting_count())
     }
 
     fn last_reconciliation(

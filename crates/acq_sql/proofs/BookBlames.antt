@@ -8,7 +8,7 @@ use Rattle.std.specs.Str.{bytes_eq}
 use Rattle.sqlite_trees.specs.declared.store.Store.{Ghosts}
 use Rattle.sqlite.specs.declared.error.Error.{Error}
 use Rattle.sqlite.specs.State.{State}
-use Rattle.sqlite.specs.Held.{state}
+use Rattle.sqlite.specs.Held.{Held, state}
 use Rattle.row_lemmas.specs.Excused.{IsExcused}
 use Rattle.row_lemmas.proofs.Elements.{length-map}
 use Rattle.acq_core.specs.declared.change.Change.{Change}
@@ -21,7 +21,8 @@ use Rattle.acq_book.specs.declared.book_fault.BookFault.TheVariants.{Memory, Sto
 use Rattle.acq_book.specs.Fits.{Fits, HasItsRequest}
 use Rattle.acq_book.specs.Lookups.{terminal_count_at, range_count_at, pending_at, postings_at}
 use Rattle.acq_book.specs.Lookups.{merchants_at, holds_at, waiting_at, is_posting_before}
-use Rattle.acq_book.specs.Lookups.{is_reference_before, is_authorization}
+use Rattle.acq_book.specs.Lookups.{is_reference_before, is_authorization, used_on_at}
+use Rattle.acq_book.specs.Lookups.{waiting_count_at}
 use Rattle.acq_book.specs.Order.{put_in_order, in_order}
 use Rattle.acq_book.specs.Promise.{BlamesStore, HasRisen}
 use Rattle.acq_book.proofs.Counting.{count-le, length-filter}
@@ -37,7 +38,7 @@ use Rattle.acq_sql.specs.Applied.{HasShortEnd}
 use Rattle.acq_sql.specs.Faults.{book_fault_of}
 use Rattle.acq_sql.specs.Kept.{Kept}
 use Rattle.acq_sql.specs.Opened.{IsOpenAt, tables, is_honest, is_open, has_room, store_faults}
-use Rattle.acq_sql.proofs.BookLooks.{risen_by}
+use Rattle.acq_sql.proofs.BookLooks.{looked, risen_by}
 use Rattle.acq_sql.proofs.PastRows.{past_ends, past_takes}
 
 -- ---- what a book tells of what its database answered
@@ -75,19 +76,21 @@ blames_at {S} {T} g old seen new is answer result fits fails same fault clean o 
     let was = subst (λ (k : Kept S). HasNumbersLeft (state g k.connection).now
     → FailsExcused version (state g k.connection) (state g new.connection) answer fits) is fails in
     told answer result (state g seen.connection) (state g new.connection) same fault
-    (was room.1 clean (tables g seen) o.at fit room.0)
+    (was room.1 clean (tables g seen) o.opened.at fit room.0)
 
 -- so it is of a look-up, which may ask more of such tables
-pub blames_of : {S T : Type 0} (g : Ghosts S) (old seen new : Kept S) → old ≡ seen
+pub blames_of : {S T : Type 0} (g : Ghosts S) (old seen : Kept S) (connection : Held S)
+    (failures : ℕ) → old ≡ seen
     → (answer : Result T Error) (result : Result T BookFault) (fits : Tables → Type 0)
-    → FailsExcused version (state g old.connection) (state g new.connection) answer fits
+    → FailsExcused version (state g old.connection) (state g connection) answer fits
     → IfOk answer (λ x. result ≡ Ok x) → IfErr answer (λ e. result ≡ Err (book_fault_of e))
     → ((s : State) (t : Tables) → IsOpenAt s t → HasNumbersLeft s.now → fits t)
-    → is_honest g new → is_open g seen → has_room g seen
-    → BlamesStore result (store_faults g seen) (store_faults g new)
-blames_of g old seen new is answer result fits fails same fault fit clean o room =
-    blames_at g old seen new is answer result fits (λ left. fails) same fault clean o room
-    (fit (state g seen.connection) (tables g seen) o room.1)
+    → is_honest g (looked old connection failures) → is_open g seen → has_room g seen
+    → BlamesStore result (store_faults g seen) (store_faults g (looked old connection failures))
+blames_of g old seen connection failures is answer result fits fails same fault fit clean o room =
+    blames_at g old seen (looked old connection failures) is answer result fits (λ left. fails)
+    same fault clean o room
+    (fit (state g seen.connection) (tables g seen) o.opened room.1)
 
 -- and of a change that fits and leads to tables with a past, where the request that it answers is
 -- there
@@ -105,7 +108,7 @@ blames_change g old seen new is answer result change fails same fault fits past 
     let later = past o in
     blames_at g old seen new is answer result (λ t. Takes change t × HasPast t)
     (fails (past_ends t change later there)) same fault clean o room
-    (past_takes t change (fits o) o.past later, o.past)
+    (past_takes t change (fits o) o.opened.past later, o.opened.past)
 
 -- a fault that is passed on blames the store no more than before
 pub passed_on : {T U : Type 0} (e : BookFault) (told : Result T BookFault)
@@ -171,6 +174,12 @@ module _ (s : State) (t : Tables) (o : IsOpenAt s t) (left : HasNumbersLeft s.no
       let same = order_length (λ a b. is_lt (slice_cmp nat_cmp a.id b.id)) t.merchants in
       (o.past, omega (arith, few, same))
 
+  pub waiting_told : HasPast t × IsTold (waiting_count_at t)
+  waiting_told =
+      let few = few_requests in
+      let some = length-filter (λ row. is_pending row.status) t.requests in
+      (o.past, omega (arith, few, some))
+
   pub waiting_walked : HasPast t × CanBeWalked (waiting_at t)
   waiting_walked =
       let few = few_requests in
@@ -183,6 +192,12 @@ module _ (day : ℕ) (s : State) (t : Tables) (o : IsOpenAt s t) (left : HasNumb
   pending_told =
       let few = few_requests s t o left in
       let some = count-le (λ row. is_pending row.status && (row.day == day)) t.requests in
+      (o.past, omega (arith, few, some))
+
+  pub used_told : HasPast t × IsTold (used_on_at t day)
+  used_told =
+      let few = few_requests s t o left in
+      let some = count-le (λ row. row.admitted && (row.day == day)) t.requests in
       (o.past, omega (arith, few, some))
 
   pub postings_walked : HasPast t × CanBeWalked (postings_at t day)

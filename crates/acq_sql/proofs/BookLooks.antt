@@ -1,13 +1,14 @@
 -- A look-up over a connection is one of its book.
 use Rattle.std.proofs.Common.{ℕ, inl, inr, true≢false, Result, Ok, Err, IfOk, OnOk, OnErr, is_ok}
 use Rattle.std.proofs.Common.{◌≡◌, ◌≤◌}
-use Rattle.std.proofs.Common.{IsErr, Bool, true, false, IsTrue, ⊎_elim, sym, ap, subst, ◌∙◌, arith}
+use Rattle.std.proofs.Common.{IsErr, Bool, true, false, IsTrue, ⊎_elim, refl, sym, ap, subst, ◌∙◌}
+use Rattle.std.proofs.Common.{arith}
 use Rattle.sqlite_disk.specs.Disk.{MoreFaults}
 use Rattle.sqlite_trees.specs.declared.store.Store.{Ghosts}
 use Rattle.sqlite.specs.Effect.{Database}
 use Rattle.sqlite.specs.declared.error.Error.{Error}
 use Rattle.sqlite.specs.State.{State, HasCleanDisk, IsUnchanged}
-use Rattle.sqlite.specs.Held.{state}
+use Rattle.sqlite.specs.Held.{Held, state}
 use Rattle.acq_core.specs.Pasts.{HasPast}
 use Rattle.acq_core.specs.Tables.{Tables}
 use Rattle.std.specs.List.{list_all}
@@ -23,6 +24,7 @@ use Rattle.acq_sql_changes.specs.Refused.{HasNumbersLeft}
 use Rattle.acq_sql_reads.specs.Looked.{LooksOnly}
 use Rattle.acq_sql_reads.proofs.Leaves.{at_unchanged, kept}
 use Rattle.acq_sql.specs.Kept.{Kept}
+use Rattle.acq_sql.specs.Memos.{Recalls}
 use Rattle.acq_sql.specs.Opened.{tables, is_honest, is_open, may_leave}
 use Rattle.acq_sql.specs.Opened.{leaves_books, store_faults, has_room}
 
@@ -68,7 +70,10 @@ IsSettled g book =
 module _ {S : Type 0} (g : Ghosts S) (old new : Kept S) (succeeded : Bool)
     (looks : LooksOnly (state g old.connection) (state g new.connection) succeeded)
     (out : old.connection.in_transaction ≡ false)
-    (settled : IsSettled g old) where
+    (settled : IsSettled g old)
+    (recalled : (t : Tables) → Recalls new.memo t → Recalls old.memo t)
+    (recalls : HasCleanDisk (state g new.connection) → is_open g old
+    → Recalls new.memo (tables g old)) where
   abbrev before : State
   before = state g old.connection
 
@@ -91,46 +96,61 @@ module _ {S : Type 0} (g : Ghosts S) (old new : Kept S) (succeeded : Bool)
       (looks.undone clean opened)
 
   opened_before : is_open g new → is_open g old
-  opened_before o =
+  opened_before book =
+      let o = book.opened in
       let was = was_open o.clean o.at.is_open in
       let same = now_kept o.clean o.at.is_open in
       record {
-        clean = was_honest o.clean;
-        at = record {
-          is_open = was;
-          settled = out;
-          same = settled was;
-          holds = subst (λ (d : Database). Holds d (tables_of d)) same o.at.holds;
+        opened = record {
+          clean = was_honest o.clean;
+          at = record {
+            is_open = was;
+            settled = out;
+            same = settled was;
+            holds = subst (λ (d : Database). Holds d (tables_of d)) same o.at.holds;
+          };
+          past = subst (λ (d : Database). HasPast (tables_of d)) same o.past;
         };
-        past = subst (λ (d : Database). HasPast (tables_of d)) same o.past;
+        recalls = subst (λ (d : Database). Recalls old.memo (tables_of d)) same
+            (recalled (tables g new) book.recalls);
       }
 
   stays_open : succeeded ≡ true → HasCleanDisk after → is_open g old → is_open g new
-  stays_open is clean o =
+  stays_open is clean book =
+      let o = book.opened in
       let same = looks.same clean is in
       let back = sym same.0.now_is in
       record {
-        clean = clean;
-        at = at_unchanged before after (tables g new) same
-            (subst (λ (d : Database). IsAt before (tables_of d)) back o.at);
-        past = subst (λ (d : Database). HasPast (tables_of d)) back o.past;
+        opened = record {
+          clean = clean;
+          at = at_unchanged before after (tables g new) same
+              (subst (λ (d : Database). IsAt before (tables_of d)) back o.at);
+          past = subst (λ (d : Database). HasPast (tables_of d)) back o.past;
+        };
+        recalls = subst (λ (d : Database). Recalls new.memo (tables_of d)) back
+            (recalls clean book);
       }
 
   stays : HasCleanDisk after → is_open g old → IsTrue after.is_open → is_open g new
-  stays clean o opened =
+  stays clean book opened =
+      let o = book.opened in
       let same = sym (now_kept clean opened) in
       record {
-        clean = clean;
-        at =
-            subst (λ (d : Database). IsAt after (tables_of d)) same
-            (kept before after succeeded looks clean opened (tables g old) o.at);
-        past = subst (λ (d : Database). HasPast (tables_of d)) same o.past;
+        opened = record {
+          clean = clean;
+          at =
+              subst (λ (d : Database). IsAt after (tables_of d)) same
+              (kept before after succeeded looks clean opened (tables g old) o.at);
+          past = subst (λ (d : Database). HasPast (tables_of d)) same o.past;
+        };
+        recalls = subst (λ (d : Database). Recalls new.memo (tables_of d)) same
+            (recalls clean book);
       }
 
   -- room is left as it was
   room_at : is_open g new → has_room g old → has_room g new
   room_at o room =
-      let same = sym (now_kept o.clean o.at.is_open) in
+      let same = sym (now_kept o.opened.clean o.opened.at.is_open) in
       (looks.stop.limit ∙ room.0, subst HasNumbersLeft same room.1)
 
   -- what a look-up over the connection leaves, a look-up of the book leaves
@@ -142,8 +162,8 @@ module _ {S : Type 0} (g : Ghosts S) (old new : Kept S) (succeeded : Bool)
     was_open = opened_before;
     stays_open = stays_open;
     shuts = λ clean o. ⊎_elim (λ opened. inl (stays clean o opened))
-        (λ more. inr (risen_by more)) (looks.stop.closes clean o.at.is_open);
-    same = λ o. ap tables_of (now_kept o.clean o.at.is_open);
+        (λ more. inr (risen_by more)) (looks.stop.closes clean o.opened.at.is_open);
+    same = λ o. ap tables_of (now_kept o.opened.clean o.opened.at.is_open);
     leaves = λ clean t left. (
       left.0,
       ⊎_elim (λ (was : before.may_leave left.0). was) (λ none. absurd none)
@@ -166,50 +186,110 @@ module _ {S : Type 0} (g : Ghosts S) (old new : Kept S) (succeeded : Bool)
       → IfOk answer (λ x. result ≡ Ok x) → is_ok result ≡ is_ok answer → is_open g new
       → IfOk result (λ x. x ≡ look (tables g seen))
   value_at seen is answer result look says same ok o =
-      let was = opened_before o in
+      let was = (opened_before o).opened in
       subst (λ (k : Kept S). IfOk result (λ x. x ≡ look (tables g k))) is
-      (relay answer result _ same ok (says o.clean (tables g old) was.at.holds was.past))
+      (relay answer result _ same ok
+      (says o.opened.clean (tables g old) was.at.holds was.past))
 
--- the same of the book as it is seen
-pub value_of : {S T : Type 0} (g : Ghosts S) (old seen new : Kept S) → old ≡ seen →
-    (answer : Result T Error)
-    (result : Result T BookFault) →
-    LooksOnly (state g old.connection) (state g new.connection) (is_ok answer)
-    → old.connection.in_transaction ≡ false → IsSettled g seen → IfOk answer (λ x. result ≡ Ok x)
-    → is_ok result ≡ is_ok answer → (look : Tables → T)
-    → (HasCleanDisk (state g new.connection) → (t : Tables) → Holds (state g old.connection).now t →
-    HasPast t
-    → IfOk answer (λ x. x ≡ look t))
-    → is_open g new → IfOk result (λ x. x ≡ look (tables g seen))
-value_of g old seen new is answer result looks out settled same ok look says o =
-    value_at g old new (is_ok answer) looks out (subst (IsSettled g) (sym is) settled) seen is
-    answer result look says
-    same ok o
+-- ---- of a book as it is seen, which may recall more then
 
--- what a look-up over the connection leaves, one of the book as it is seen leaves
-pub looks_of : {S T U : Type 0} (g : Ghosts S) (old seen new : Kept S) → old ≡ seen
-    → (answer : Result T Error) (result : Result U BookFault)
-    → LooksOnly (state g old.connection) (state g new.connection) (is_ok answer)
-    → old.connection.in_transaction ≡ false → IsSettled g seen → is_ok result ≡ is_ok answer
-    → old.failures ≤ new.failures
+module _ {S : Type 0} (g : Ghosts S) (old seen new : Kept S) (is : old ≡ seen)
+    (recalled : (t : Tables) → Recalls new.memo t → Recalls old.memo t)
+    (recalls : HasCleanDisk (state g new.connection) → is_open g old
+    → Recalls new.memo (tables g old)) where
+  pub new_value : {T : Type 0} (answer : Result T Error) (result : Result T BookFault) →
+      LooksOnly (state g old.connection) (state g new.connection) (is_ok answer)
+      → old.connection.in_transaction ≡ false → IsSettled g seen
+      → IfOk answer (λ x. result ≡ Ok x)
+      → is_ok result ≡ is_ok answer → (look : Tables → T)
+      → (HasCleanDisk (state g new.connection) → (t : Tables)
+      → Holds (state g old.connection).now t → HasPast t → IfOk answer (λ x. x ≡ look t))
+      → is_open g new → IfOk result (λ x. x ≡ look (tables g seen))
+  new_value answer result looks out settled same ok look says o =
+      value_at g old new (is_ok answer) looks out (subst (IsSettled g) (sym is) settled) recalled
+      recalls seen is answer result look says same ok o
+
+  pub new_looks : {T U : Type 0} (answer : Result T Error) (result : Result U BookFault)
+      → LooksOnly (state g old.connection) (state g new.connection) (is_ok answer)
+      → old.connection.in_transaction ≡ false → IsSettled g seen → is_ok result ≡ is_ok answer
+      → old.failures ≤ new.failures
+      → LooksBy (tables g) (is_honest g) (is_open g) (may_leave g) (leaves_books g)
+      (λ (b : Kept S). b.failures) (store_faults g) seen new (is_ok result)
+  new_looks answer result looks out settled same rise =
+      subst (λ (k : Kept _). LooksBy (tables g) (is_honest g) (is_open g) (may_leave g)
+      (leaves_books g) (λ (b : Kept _). b.failures) (store_faults g) k new (is_ok result)) is
+      (looks_at g old new (is_ok result)
+      (subst (LooksOnly (state g old.connection) (state g new.connection)) (sym same) looks) out
+      (subst (IsSettled g) (sym is) settled) recalled recalls rise)
+
+  pub new_room : {T : Type 0} (answer : Result T Error)
+      → LooksOnly (state g old.connection) (state g new.connection) (is_ok answer)
+      → old.connection.in_transaction ≡ false → IsSettled g seen
+      → is_open g new → has_room g seen → has_room g new
+  new_room answer looks out settled o room =
+      room_at g old new (is_ok answer) looks out (subst (IsSettled g) (sym is) settled) recalled
+      recalls o (subst (has_room g) (sym is) room)
+
+-- ---- and of one that recalls what it did
+
+-- with this connection and count then
+abbrev pub looked : {S : Type 0} → Kept S → Held S → ℕ → Kept S
+looked old connection failures =
+    record { connection = connection; failures = failures; memo = old.memo }
+
+module _ {S : Type 0} (g : Ghosts S) (old seen : Kept S) (connection : Held S) (failures : ℕ)
+    (is : old ≡ seen) where
+  abbrev new : Kept S
+  new = looked old connection failures
+
+  pub value_of : {T : Type 0} (answer : Result T Error) (result : Result T BookFault) →
+      LooksOnly (state g old.connection) (state g connection) (is_ok answer)
+      → old.connection.in_transaction ≡ false → IsSettled g seen
+      → IfOk answer (λ x. result ≡ Ok x)
+      → is_ok result ≡ is_ok answer → (look : Tables → T)
+      → (HasCleanDisk (state g connection) → (t : Tables)
+      → Holds (state g old.connection).now t → HasPast t → IfOk answer (λ x. x ≡ look t))
+      → is_open g new → IfOk result (λ x. x ≡ look (tables g seen))
+  value_of answer result =
+      new_value g old seen new is (λ t r. r) (λ clean o. o.recalls) answer result
+
+  pub looks_of : {T U : Type 0} (answer : Result T Error) (result : Result U BookFault)
+      → LooksOnly (state g old.connection) (state g connection) (is_ok answer)
+      → old.connection.in_transaction ≡ false → IsSettled g seen → is_ok result ≡ is_ok answer
+      → old.failures ≤ failures
+      → LooksBy (tables g) (is_honest g) (is_open g) (may_leave g) (leaves_books g)
+      (λ (b : Kept S). b.failures) (store_faults g) seen new (is_ok result)
+  looks_of answer result =
+      new_looks g old seen new is (λ t r. r) (λ clean o. o.recalls) answer result
+
+  pub room_of : {T : Type 0} (answer : Result T Error)
+      → LooksOnly (state g old.connection) (state g connection) (is_ok answer)
+      → old.connection.in_transaction ≡ false → IsSettled g seen
+      → is_open g new → has_room g seen → has_room g new
+  room_of answer = new_room g old seen new is (λ t r. r) (λ clean o. o.recalls) answer
+
+-- ---- and of one that recalls the answer
+
+-- nothing is looked at
+pub unlooked : {S : Type 0} (g : Ghosts S) (old seen : Kept S) → old ≡ seen
     → LooksBy (tables g) (is_honest g) (is_open g) (may_leave g) (leaves_books g)
-    (λ (b : Kept S). b.failures) (store_faults g) seen new (is_ok result)
-looks_of g old seen new is answer result looks out settled same rise =
-    subst (λ (k : Kept _). LooksBy (tables g) (is_honest g) (is_open g) (may_leave g)
-    (leaves_books g) (λ (b : Kept _). b.failures) (store_faults g) k new (is_ok result)) is
-    (looks_at g old new (is_ok result)
-    (subst (LooksOnly (state g old.connection) (state g new.connection)) (sym same) looks) out
-    (subst (IsSettled g) (sym is) settled) rise)
+    (λ (b : Kept S). b.failures) (store_faults g) seen old true
+unlooked {S} g old seen is =
+    subst (λ (k : Kept S). LooksBy (tables g) (is_honest g) (is_open g) (may_leave g)
+    (leaves_books g) (λ (b : Kept S). b.failures) (store_faults g) k old true) is
+    (record {
+      was_honest = λ clean. clean;
+      was_open = λ o. o;
+      stays_open = λ ok clean o. o;
+      shuts = λ clean o. inl o;
+      same = λ o. refl;
+      leaves = λ clean t left. left;
+      books = λ clean books. books;
+      rise = omega arith;
+      counts = omega arith;
+    })
 
--- and the room of such a book
-pub room_of : {S T : Type 0} (g : Ghosts S) (old seen new : Kept S) → old ≡ seen
-    → (answer : Result T Error)
-    → LooksOnly (state g old.connection) (state g new.connection) (is_ok answer)
-    → old.connection.in_transaction ≡ false → IsSettled g seen
-    → is_open g new → has_room g seen → has_room g new
-room_of g old seen new is answer looks out settled o room =
-    room_at g old new (is_ok answer) looks out (subst (IsSettled g) (sym is) settled) o
-    (subst (has_room g) (sym is) room)
+-- ---- where a call failed
 
 -- where the answer of a look-up was passed on as it failed
 pub failed_too : {T U V E F G : Type 0} {e : F} (answer : Result T E) (told : Result U F)
@@ -222,4 +302,5 @@ failed_too answer told (Err f) was same is = sym (ap is_ok was) ∙ same
 pub held_by : {S : Type 0} (g : Ghosts S) (old seen : Kept S) → old ≡ seen → is_open g seen
     → Holds (state g old.connection).now (tables g seen)
 held_by g old seen is o =
-    subst (λ (k : Kept _). Holds (state g k.connection).now (tables g seen)) (sym is) o.at.holds
+    subst (λ (k : Kept _). Holds (state g k.connection).now (tables g seen)) (sym is)
+    o.opened.at.holds

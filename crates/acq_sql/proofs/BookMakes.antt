@@ -15,6 +15,7 @@ use Rattle.acq_sql_rows.proofs.TablesReadBack.{tables_of-holds}
 use Rattle.acq_sql_changes.specs.Changed.{IsAt, LeadsTo, LeavesTables}
 use Rattle.acq_sql.specs.Applied.{Applies, Suits}
 use Rattle.acq_sql.specs.Kept.{Kept}
+use Rattle.acq_sql.specs.Memos.{Recalls, nothing_recalled}
 use Rattle.acq_sql.specs.Opened.{tables, is_honest, is_open, may_leave}
 use Rattle.acq_sql.specs.Opened.{leaves_books, store_faults}
 use Rattle.acq_sql.specs.Laws.{LeavesCommit, settled_at, stored_at, stores_what_it_reads}
@@ -24,7 +25,10 @@ module _ {S T : Type 0} (g : Ghosts S) (law : LeavesCommit g) (old new : Kept S)
     (result : Result T Error)
     (applies : Applies (state g old.connection) (state g new.connection) result change)
     (fits : is_open g old → Fits (tables g old) change)
-    (past : is_open g old → HasPast (core.after (tables g old) change)) where
+    (past : is_open g old → HasPast (core.after (tables g old) change))
+    (recalls : is_ok result ≡ true → (t : core.Tables) → Recalls old.memo t
+    → Recalls new.memo (core.after t change))
+    (forgets : is_ok result ≡ false → new.memo ≡ nothing_recalled) where
   abbrev before : State
   before = state g old.connection
 
@@ -38,14 +42,14 @@ module _ {S T : Type 0} (g : Ghosts S) (law : LeavesCommit g) (old new : Kept S)
   changed = after_change (tables g old)
 
   suits : is_open g old → Suits change (tables g old)
-  suits o = (fits o, o.past)
+  suits o = (fits o, o.opened.past)
 
   led : is_ok result ≡ true → HasCleanDisk after → is_open g old → IsAt after changed
   led is clean o =
       let step : (r : Result T Error) → LeadsTo version before after r (Suits change) after_change →
       is_ok r ≡ true → IsAt after changed =
       elim [
-        | Ok x ↦ (λ did is. did clean (tables g old) o.at (suits o))
+        | Ok x ↦ (λ did is. did clean (tables g old) o.opened.at (suits o))
         | Err e ↦ (λ did is. absurd (true≢false (sym is)))
       ] in
       step result applies.done is
@@ -60,22 +64,36 @@ module _ {S T : Type 0} (g : Ghosts S) (law : LeavesCommit g) (old new : Kept S)
       IsAt after (tables g old) =
       elim [
         | Ok x ↦ (λ did is. absurd (true≢false is))
-        | Err e ↦ (λ did is. did clean opened (tables g old) o.at)
+        | Err e ↦ (λ did is. did clean opened (tables g old) o.opened.at)
       ] in
       step result applies.undone is
 
-  -- a connection at tables that events lead to is an open book
-  opens : (t : core.Tables) → HasCleanDisk after → IsAt after t → HasPast t → is_open g new
-  opens t clean at past =
+  -- a connection at tables that events lead to is an open book, where it recalls what is so
+  opens : (t : core.Tables) → HasCleanDisk after → IsAt after t → HasPast t → Recalls new.memo t
+      → is_open g new
+  opens t clean at past recalls =
       let same = sym (tables_of-holds after.now t at.holds) in
-      record { clean = clean; at = subst (IsAt after) same at; past = subst HasPast same past }
+      record {
+        opened = record {
+          clean = clean;
+          at = subst (IsAt after) same at;
+          past = subst HasPast same past;
+        };
+        recalls = subst (Recalls new.memo) same recalls;
+      }
+
+  opens_changed : is_ok result ≡ true → HasCleanDisk after → is_open g old → is_open g new
+  opens_changed is clean o =
+      opens changed clean (led is clean o) (past o) (recalls is (tables g old) o.recalls)
 
   stays : HasCleanDisk after → is_open g old → IsTrue after.is_open → is_open g new
   stays clean o opened =
       let by : (b : Bool) → is_ok result ≡ b → is_open g new =
       elim [
-        | true ↦ (λ is. opens changed clean (led is clean o) (past o))
-        | false ↦ (λ is. opens (tables g old) clean (left is clean opened o) o.past)
+        | true ↦ (λ is. opens_changed is clean o)
+        | false ↦ (λ is. opens (tables g old) clean (left is clean opened o) o.opened.past
+            (subst (λ m. Recalls m (tables g old)) (sym (forgets is))
+            (record { waiting = tt; used = tt })))
       ] in
       by (is_ok result) refl
 
@@ -84,22 +102,23 @@ module _ {S T : Type 0} (g : Ghosts S) (law : LeavesCommit g) (old new : Kept S)
       (λ (b : Kept S). b.failures) (store_faults g) old new (is_ok result) changed
   makes_at rise = record {
     was_honest = λ clean. let up = applies.stop.clean in omega (arith, up, clean);
-    was_open = λ end. inr end.past;
-    stays_open = λ is clean o. opens changed clean (led is clean o) (past o);
+    was_open = λ end. inr end.opened.past;
+    stays_open = opens_changed;
     shuts = λ clean o. ⊎_elim (λ opened. inl (stays clean o opened))
-        (λ more. inr (risen_by more)) (applies.stop.closes clean o.at.is_open);
-    made = λ is o end. tables_led is end.clean o;
+        (λ more. inr (risen_by more)) (applies.stop.closes clean o.opened.at.is_open);
+    made = λ is o end. tables_led is end.opened.clean o;
     unmade = λ is o end. tables_of-holds after.now (tables g old)
-        (left is end.clean end.at.is_open o).holds;
+        (left is end.opened.clean end.opened.at.is_open o).holds;
     leaves = λ o clean t way. ⊎_elim
         (λ (was : before.may_leave way.0). inl (way.0, was, way.2))
-        (λ whole. inr (way.2 ∙ tables_of-holds _ changed (whole (tables g old) o.at (suits o))))
+        (λ whole. inr (way.2
+        ∙ tables_of-holds _ changed (whole (tables g old) o.opened.at (suits o))))
         (applies.stop.crash clean way.0 way.1);
     settled = λ is o clean t way.
-        settled_at g law new (opens changed clean (led is clean o) (past o)) t way
+        settled_at g law new (opens_changed is clean o) t way
         ∙ tables_led is clean o;
     books = λ o clean trees way. ⊎_elim (λ was. stored_at g law old o trees was)
-        (λ whole. stores_what_it_reads changed trees (whole (tables g old) o.at (suits o)))
+        (λ whole. stores_what_it_reads changed trees (whole (tables g old) o.opened.at (suits o)))
         (applies.stop.crash clean trees way);
     rise = rise;
     counts = applies.stop.counts;

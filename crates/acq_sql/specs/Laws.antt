@@ -41,8 +41,8 @@ module _ {S : Type 0} (g : Ghosts S) (law : LeavesCommit g) where
     pub settled_at : (t : Tables) → may_leave g book t → t ≡ tables g book
     settled_at t way =
         way.2 ∙ tables_of-holds (record { schema = book_schema; trees = way.0 }) (tables g book)
-        (left_at book.connection (tables g book) opened.at way.0 way.1)
+        (left_at book.connection (tables g book) opened.opened.at way.0 way.1)
 
     pub stored_at : leaves_books g book
     stored_at trees left = stores_what_it_reads (tables g book) trees
-        (left_at book.connection (tables g book) opened.at trees left)
+        (left_at book.connection (tables g book) opened.opened.at trees left)

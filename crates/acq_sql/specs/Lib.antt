@@ -1,3 +1,4 @@
+pub mod Memos
 pub mod Kept
 pub mod Opened
 pub mod Laws

@@ -11,6 +11,8 @@ use Rattle.acq_sql_rows.specs.ReadBack.{tables_of}
 use Rattle.acq_sql_changes.specs.Changed.{IsAt, HoldsAfter}
 use Rattle.acq_sql_changes.specs.Refused.{HasNumbersLeft}
 use Rattle.acq_sql.specs.Kept.{Kept}
+use Rattle.acq_sql.specs.Memos.{Recalls}
+use Rattle.acq_sql.specs.declared.memo.Memo.{Memo}
 
 -- the tables that trees of a book stand for
 abbrev pub tables_left : Trees → Tables
@@ -22,6 +24,11 @@ pub record IsOpenAt (s : State) (t : Tables) : Type 0 where
   pub at : IsAt s t
   pub past : HasPast t
 
+-- and what is recalled of them is so
+pub record IsOpenBook (s : State) (t : Tables) (memo : Memo) : Type 0 where
+  pub opened : IsOpenAt s t
+  pub recalls : Recalls memo t
+
 module _ {S : Type 0} (g : Ghosts S) where
   -- the tables
   abbrev pub tables : Kept S → Tables
@@ -31,9 +38,9 @@ module _ {S : Type 0} (g : Ghosts S) where
   abbrev pub is_honest : Kept S → Type 0
   is_honest book = HasCleanDisk (state g book.connection)
 
-  -- its database holds tables that events led to
+  -- its database holds tables that events led to, and what it recalls of them is so
   abbrev pub is_open : Kept S → Type 0
-  is_open book = IsOpenAt (state g book.connection) (tables book)
+  is_open book = IsOpenBook (state g book.connection) (tables book) book.memo
 
   -- the tables in what a stop may leave
   abbrev pub may_leave : Kept S → Tables → Type 0

@@ -7,10 +7,12 @@
 
 mod answers;
 mod apply;
+mod memo;
 pub mod opening;
 mod refusal;
 mod sql_book;
 
+pub use memo::{Memo, UsedOn, Waiting};
 pub use opening::OpeningFault;
 pub use refusal::Refusal;
 pub use sql_book::SqlBook;

@@ -15,10 +15,12 @@ ghost use Rattle.acq_sql_reads.specs.Looked.{LooksOnly};
 ghost use Rattle.acq_sql.specs.Checked.{IsFailure, Judges};
 ghost use Rattle.acq_sql.specs.declared.opening.opening_fault.OpeningFault.TheVariants.{NotABook};
 ghost use Rattle.acq_sql.specs.Made.{LeavesDatabase};
+ghost use Rattle.acq_sql.specs.Memos.{nothing_recalled};
 ghost use Rattle.acq_sql.specs.Migrated.{IsOfSixDigits};
 ghost use Rattle.acq_sql.specs.Opened.{IsOpenAt};
 
 use crate::answers::counted;
+use crate::memo::Memo;
 use crate::opening::{check_book, make_book, migrate_book};
 use crate::refusal::Refusal;
 use acq_book::{Book, BookFault, Visit};
@@ -35,13 +37,14 @@ use sqlite::{Alter, Connection};
 use std::alloc::Global;
 use std::marker::Model;
 
-/// A book in a database. Contracts see its connection, and how many of its calls failed for another
-/// cause than memory.
+/// A book in a database. Contracts see its connection, how many of its calls failed for another
+/// cause than memory, and what it recalls of its tables.
 #[derive(Drop)]
 pub struct SqlBook<S: Alter> {
     alloc: Global,
     connection: Connection<S>,
     failures: u64,
+    memo: Memo,
 }
 
 impl<S: Alter> Model for SqlBook<S> {
@@ -52,7 +55,11 @@ impl<S: Alter> Model for SqlBook<S> {
 
     ghost coded = { kept_code S.code };
 
-    ghost view = { λ book. record { connection = book.connection; failures = book.failures } };
+    ghost view = { λ book. record {
+      connection = book.connection;
+      failures = book.failures;
+      memo = book.memo;
+    } };
 
     ghost invariant = { λ book. book.connection.in_transaction ≡ false };
 }
@@ -87,6 +94,7 @@ impl<S: Alter> SqlBook<S> {
             (HoldsAfter (new_tables (record { limit = limit; first_day = first_day })))
             (state S.Store book.connection)) }
         ensures uncounted { IfOk result (λ book. book.failures ≡ 0) }
+        ensures recalls { IfOk result (λ book. book.memo ≡ nothing_recalled) }
         ensures refused_stop { IfErr result (λ refusal.
             Survives (state S.Store connection) (state S.Store refusal.connection)
             (HoldsAfter (new_tables (record { limit = limit; first_day = first_day })))) }
@@ -97,6 +105,7 @@ impl<S: Alter> SqlBook<S> {
                 alloc,
                 connection,
                 failures: 0,
+                memo: Memo::nothing(),
             }),
             Err(fault) => Err(Refusal { fault, connection }),
         }
@@ -117,6 +126,7 @@ impl<S: Alter> SqlBook<S> {
         ensures told { IfErr result (λ refusal. HasCleanDisk (state S.Store refusal.connection)
             → Judges {T = Unit {0}} version (state S.Store connection).now (Err refusal.fault)) }
         ensures uncounted { IfOk result (λ book. book.failures ≡ 0) }
+        ensures recalls { IfOk result (λ book. book.memo ≡ nothing_recalled) }
         // It is only looked at.
         ensures looks { IfOk result (λ book.
             LooksOnly (state S.Store connection) (state S.Store book.connection) true) }
@@ -133,6 +143,7 @@ impl<S: Alter> SqlBook<S> {
                 alloc,
                 connection,
                 failures: 0,
+                memo: Memo::nothing(),
             }),
             Err(fault) => Err(Refusal { fault, connection }),
         }
@@ -165,6 +176,7 @@ impl<S: Alter> SqlBook<S> {
             → Judges {T = Unit {0}} version_of_six_digits (state S.Store connection).now
             (Err refusal.fault)) }
         ensures uncounted { IfOk result (λ book. book.failures ≡ 0) }
+        ensures recalls { IfOk result (λ book. book.memo ≡ nothing_recalled) }
         // A stop leaves what it might before, or the whole book of version 2.
         ensures stop { IfOk result (λ book.
             Survives (state S.Store connection) (state S.Store book.connection)
@@ -181,6 +193,7 @@ impl<S: Alter> SqlBook<S> {
                 alloc,
                 connection,
                 failures: 0,
+                memo: Memo::nothing(),
             }),
             Err(fault) => Err(Refusal { fault, connection }),
         }
@@ -224,7 +237,7 @@ impl<S: Alter> Book for SqlBook<S> {
 
     ghost has_room = { opened.has_room S.Store };
 
-    ghost honest = { λ book is. is.clean };
+    ghost honest = { λ book is. is.opened.clean };
 
     // In a law the store is known by its members alone.
     ghost settled = { settled_at (record {
@@ -330,6 +343,17 @@ impl<S: Alter> Book for SqlBook<S> {
         counted(&mut self.failures, answer)
     }
 
+    fn used_on(&mut self, day: Day) -> Result<u64, BookFault> {
+        if let Some(count) = self.memo.used_on(day) {
+            return Ok(count);
+        }
+        self.settled();
+        let answer = acq_sql_reads::used_on(&mut self.connection, day);
+        let told = counted(&mut self.failures, answer);
+        self.memo.note_used(day, &told);
+        told
+    }
+
     fn totals(&mut self, merchant: MerchantId, day: Day) -> Result<Totals, BookFault> {
         self.settled();
         let answer = acq_sql_reads::totals(&mut self.connection, merchant, day);
@@ -340,6 +364,17 @@ impl<S: Alter> Book for SqlBook<S> {
         self.settled();
         let answer = acq_sql_reads::pending(&mut self.connection, day);
         counted(&mut self.failures, answer)
+    }
+
+    fn waiting_count(&mut self) -> Result<u64, BookFault> {
+        if self.memo.none_waits() {
+            return Ok(0);
+        }
+        self.settled();
+        let answer = acq_sql_reads::waiting_count(&mut self.connection);
+        let told = counted(&mut self.failures, answer);
+        self.memo.note_waiting(&told);
+        told
     }
 
     fn last_reconciliation(
@@ -387,6 +422,7 @@ impl<S: Alter> Book for SqlBook<S> {
 
     fn apply(&mut self, change: &Change) -> Result<(), BookFault> {
         let made = crate::apply::apply(&mut self.connection, self.alloc, change);
+        self.memo = self.memo.after(change, made.is_ok());
         counted(&mut self.failures, made)
     }
 }

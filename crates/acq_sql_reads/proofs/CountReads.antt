@@ -1,4 +1,5 @@
--- How many requests are pending, and how many terminals and ranges there are.
+-- How many requests are pending or count against a limit, and how many terminals and ranges there
+-- are.
 use Rattle.std.proofs.Common.{◌≡◌, ◌==◌, ◌&&◌, ◌+◌, ℕ, pos, Bool, true, false, cond, List, [], ◌∷◌}
 use Rattle.std.proofs.Common.{filter, length, suc}
 use Rattle.std.proofs.Common.{refl, ap, ◌∙◌, arith}
@@ -20,10 +21,11 @@ use Rattle.acq_core.specs.declared.status.Status.{Status}
 use Rattle.acq_core.specs.Tables.{Tables, is_pending}
 use Rattle.acq_core.specs.Tables as tables
 use Rattle.acq_core.proofs.Statuses.{alike}
-use Rattle.acq_book.specs.Lookups.{pending_at, terminal_count_at, range_count_at}
+use Rattle.acq_book.specs.Lookups.{pending_at, terminal_count_at, range_count_at, used_on_at}
+use Rattle.acq_book.specs.Lookups.{waiting_count_at}
 use Rattle.acq_sql_rows.specs.Schema.{book_schema}
 use Rattle.acq_core.specs.Statuses.{status_number}
-use Rattle.acq_sql_rows.specs.Rows.{range_row, request_row, terminal_row}
+use Rattle.acq_sql_rows.specs.Rows.{bit_of, range_row, request_row, terminal_row}
 use Rattle.acq_sql_rows.specs.Tallies.{Running}
 use Rattle.acq_sql_rows.specs.Relation.{HoldsRows}
 use Rattle.acq_sql_reads.specs.Texts as text
@@ -67,6 +69,51 @@ module _ (day : ℕ) where
       text.pending_text
       (number day ∷ []) _ ask.plain ask.unlisted rows shown query.pending_on [] waits tested ask.is
       ∙ ap (λ n. (count n ∷ []) ∷ []) (counted waits t.requests)
+
+-- of all days
+waits_test : (id : ℕ) (x : Request)
+    → picked query.waiting [] (Int (pos id) ∷ request_row x) ≡ is_pending x.status
+waits_test id x =
+    rw (number_test (status_number x.status) 1, and_true, pending_is x.status) refl
+
+pub waiting_counted : (old new : State) (t : Tables) (runs : List Running) (rows : List Row)
+    → HoldsRows old.now t runs → Shown text.waiting_count_text [] old new rows
+    → rows ≡ (count (waiting_count_at t) ∷ []) ∷ []
+waiting_counted old new t runs rows has shown =
+    let ask = asks.waiting_count_asks in
+    shows_count request_row book_schema 6 t.requests old new has.schema has.requests
+    text.waiting_count_text [] _ ask.plain ask.unlisted rows shown query.waiting []
+    (λ x. is_pending x.status) waits_test ask.is
+
+-- the bit of a request that was admitted
+admitted_is : (b : Bool) → (bit_of b == 1) ≡ b
+admitted_is true = refl
+admitted_is false = refl
+
+module _ (day : ℕ) where
+  abbrev counts : Request → Bool
+  counts row = row.admitted && (row.day == day)
+
+  counts_test : (id : ℕ) (x : Request)
+      → picked query.admitted_on (number day ∷ []) (Int (pos id) ∷ request_row x) ≡ counts x
+  counts_test id x =
+      rw (
+        number_test (bit_of x.admitted) 1,
+        number_test x.day day,
+        and_true,
+        admitted_is x.admitted,
+      ) refl
+
+  pub used_found : (old new : State) (t : Tables) (runs : List Running) (rows : List Row)
+      → HoldsRows old.now t runs → Shown text.used_on_text (number day ∷ []) old new rows
+      → rows ≡ (count (used_on_at t day) ∷ []) ∷ []
+  used_found old new t runs rows has shown =
+      let ask = asks.used_on_asks in
+      shows_count request_row book_schema 6 t.requests old new has.schema has.requests
+      text.used_on_text
+      (number day ∷ []) _ ask.plain ask.unlisted rows shown query.admitted_on [] counts counts_test
+      ask.is
+      ∙ ap (λ n. (count n ∷ []) ∷ []) (counted counts t.requests)
 
 -- ---- whole tables
 

@@ -129,6 +129,18 @@ unfolding understood everything book_schema schema.up_to_reconciliations schema.
     schema.up_to_book
 pending_alone = record { whole = refl; given = refl }
 
+waiting_count_alone : IsAlone text.waiting_count_text 0
+unfolding understood everything book_schema schema.up_to_reconciliations schema.up_to_postings
+    schema.up_to_requests schema.up_to_ranges schema.up_to_terminals schema.up_to_merchants
+    schema.up_to_book
+waiting_count_alone = record { whole = refl; given = refl }
+
+used_on_alone : IsAlone text.used_on_text 1
+unfolding understood everything book_schema schema.up_to_reconciliations schema.up_to_postings
+    schema.up_to_requests schema.up_to_ranges schema.up_to_terminals schema.up_to_merchants
+    schema.up_to_book
+used_on_alone = record { whole = refl; given = refl }
+
 terminal_count_alone : IsAlone text.terminal_count_text 0
 unfolding understood everything book_schema schema.up_to_reconciliations schema.up_to_postings
     schema.up_to_requests schema.up_to_ranges schema.up_to_terminals schema.up_to_merchants
@@ -224,6 +236,17 @@ typed_pending : (day : ℕ)
 unfolding book_schema schema.up_to_reconciliations schema.up_to_postings schema.up_to_requests
     schema.up_to_ranges schema.up_to_terminals schema.up_to_merchants schema.up_to_book
 typed_pending day = refl
+
+typed_waiting_count : accepts_program book_schema [] query.waiting_count_query [] ≡ true
+unfolding book_schema schema.up_to_reconciliations schema.up_to_postings schema.up_to_requests
+    schema.up_to_ranges schema.up_to_terminals schema.up_to_merchants schema.up_to_book
+typed_waiting_count = refl
+
+typed_used_on : (day : ℕ)
+    → accepts_program book_schema [] query.used_on_query (number day ∷ []) ≡ true
+unfolding book_schema schema.up_to_reconciliations schema.up_to_postings schema.up_to_requests
+    schema.up_to_ranges schema.up_to_terminals schema.up_to_merchants schema.up_to_book
+typed_used_on day = refl
 
 typed_terminal_count : accepts_program book_schema [] query.terminal_count_query [] ≡ true
 unfolding book_schema schema.up_to_reconciliations schema.up_to_postings schema.up_to_requests
@@ -367,6 +390,17 @@ module _ {V : Type 0} (old new : State) (res : Result V Error) where
   pending_fails day =
       never text.pending_text (number day ∷ []) query.pending_query _ asks.pending_asks
       pending_alone (count_succeeds 6 query.pending_on (number day ∷ []) (typed_pending day))
+
+  pub waiting_count_fails : Failed text.waiting_count_text [] → FailsOnlyExcused old new res
+  waiting_count_fails =
+      never text.waiting_count_text [] query.waiting_count_query _ asks.waiting_count_asks
+      waiting_count_alone (count_succeeds 6 query.waiting [] typed_waiting_count)
+
+  pub used_on_fails : (day : ℕ) → Failed text.used_on_text (number day ∷ [])
+      → FailsOnlyExcused old new res
+  used_on_fails day =
+      never text.used_on_text (number day ∷ []) query.used_on_query _ asks.used_on_asks
+      used_on_alone (count_succeeds 6 query.admitted_on (number day ∷ []) (typed_used_on day))
 
   pub terminal_count_fails : Failed text.terminal_count_text [] → FailsOnlyExcused old new res
   terminal_count_fails =

@@ -73,6 +73,19 @@ unfolding understood everything book_schema schema.up_to_reconciliations schema.
     schema.up_to_book
 pending_asks = record { is = refl; plain = (refl, refl); unlisted = refl; begins = refl }
 
+pub waiting_count_asks :
+    Asks text.waiting_count_text query.waiting_count_query (codes "count(*)" ∷ [])
+unfolding understood everything book_schema schema.up_to_reconciliations schema.up_to_postings
+    schema.up_to_requests schema.up_to_ranges schema.up_to_terminals schema.up_to_merchants
+    schema.up_to_book
+waiting_count_asks = record { is = refl; plain = (refl, refl); unlisted = refl; begins = refl }
+
+pub used_on_asks : Asks text.used_on_text query.used_on_query (codes "count(*)" ∷ [])
+unfolding understood everything book_schema schema.up_to_reconciliations schema.up_to_postings
+    schema.up_to_requests schema.up_to_ranges schema.up_to_terminals schema.up_to_merchants
+    schema.up_to_book
+used_on_asks = record { is = refl; plain = (refl, refl); unlisted = refl; begins = refl }
+
 pub terminal_count_asks :
     Asks text.terminal_count_text query.terminal_count_query (codes "count(*)" ∷ [])
 unfolding understood everything book_schema schema.up_to_reconciliations schema.up_to_postings

@@ -60,11 +60,24 @@ range_count_query = count_query 5 []
 -- ---- requests
 
 -- status 1 is that of a pending request
+abbrev pub waiting : List Term
+waiting = op2 (Compare Eq Binary) (column 8) one ∷ []
+
+abbrev pub waiting_count_query : Query
+waiting_count_query = count_query 6 waiting
+
 abbrev pub pending_on : List Term
 pending_on = op2 (Compare Eq Binary) (column 8) one ∷ is_param 7 0 ∷ []
 
 abbrev pub pending_query : Query
 pending_query = count_query 6 pending_on
+
+-- one that was admitted on a day
+abbrev pub admitted_on : List Term
+admitted_on = op2 (Compare Eq Binary) (column 9) one ∷ is_param 7 0 ∷ []
+
+abbrev pub used_on_query : Query
+used_on_query = count_query 6 admitted_on
 
 abbrev pub request_query : Query
 request_query = plain_query 6 key_is (columns 1 18) []

@@ -5,7 +5,8 @@ use Rattle.acq_sql_reads.specs.declared.enrolments.TheConstants.{MERCHANT, TERMI
 use Rattle.acq_sql_reads.specs.declared.running.TheConstants.{TOTALS_AND_USED}
 use Rattle.acq_sql_reads.specs.declared.ranges.TheConstants.{NEAREST, OVERLAPPING}
 use Rattle.acq_sql_reads.specs.declared.counts.TheConstants.{PENDING, TERMINAL_COUNT, RANGE_COUNT}
-use Rattle.acq_sql_reads.specs.declared.counts.TheConstants.{GREATEST_REFERENCE}
+use Rattle.acq_sql_reads.specs.declared.counts.TheConstants.{GREATEST_REFERENCE, USED_ON}
+use Rattle.acq_sql_reads.specs.declared.counts.TheConstants.{WAITING_COUNT}
 use Rattle.acq_sql_reads.specs.declared.reconciliations.TheConstants.{LAST_RECONCILIATION}
 use Rattle.acq_sql_reads.specs.declared.requests.TheConstants.{BY_KEY, BY_REFERENCE}
 
@@ -29,6 +30,12 @@ overlapping_text = OVERLAPPING.now
 
 abbrev pub pending_text : List ℕ
 pending_text = PENDING.now
+
+abbrev pub waiting_count_text : List ℕ
+waiting_count_text = WAITING_COUNT.now
+
+abbrev pub used_on_text : List ℕ
+used_on_text = USED_ON.now
 
 abbrev pub terminal_count_text : List ℕ
 terminal_count_text = TERMINAL_COUNT.now

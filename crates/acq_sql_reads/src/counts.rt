@@ -10,7 +10,8 @@ ghost use Rattle.acq_core.specs.Tables.{Tables};
 ghost use Rattle.acq_core.specs.Numbers.{is_admitted_count};
 ghost use Rattle.acq_core.specs.Pasts.{HasPast};
 ghost use Rattle.acq_book.specs.Lookups.{merchant_at, admitted_at, pending_at};
-ghost use Rattle.acq_book.specs.Lookups.{terminal_count_at, range_count_at};
+ghost use Rattle.acq_book.specs.Lookups.{terminal_count_at, range_count_at, used_on_at};
+ghost use Rattle.acq_book.specs.Lookups.{waiting_count_at};
 ghost use Rattle.acq_sql_rows.specs.Relation.{Holds};
 ghost use Rattle.acq_sql_reads.specs.Looked.{Answers, AnswersWhere, LooksOnly};
 ghost use Rattle.acq_sql_reads.specs.Looked.{ShowsGreatest, TellsCount, count_up_to};
@@ -27,6 +28,10 @@ use sqlite::types::ValueRef;
 use sqlite::{Alter, Connection, Error, ErrorCode, Row};
 
 const PENDING: &str = "SELECT count(*) FROM requests WHERE status = 1 AND day = ?1";
+
+const WAITING_COUNT: &str = "SELECT count(*) FROM requests WHERE status = 1";
+
+const USED_ON: &str = "SELECT count(*) FROM requests WHERE admitted = 1 AND day = ?1";
 
 const TERMINAL_COUNT: &str = "SELECT count(*) FROM terminals";
 
@@ -56,6 +61,52 @@ fn pending_rows<S: Alter>(conn: &mut Connection<S>, day: Day) -> Result<Vec<Row>
     ensures fails { FailsOnlyExcused (state S.Store conn.old) (state S.Store conn.new) result }
 {
     conn.query_all(PENDING, &[day_value(day)])
+}
+
+/// How many requests wait for their issuer's answer, of all merchants and days.
+pub fn waiting_count<S: Alter>(conn: &mut Connection<S>) -> Result<u64, Error>
+    ensures answers { Answers (state S.Store conn.old) (state S.Store conn.new) result
+        (λ t. waiting_count_at t) }
+    ensures looks { LooksOnly (state S.Store conn.old) (state S.Store conn.new) (is_ok result) }
+    ensures fails { FailsOnlyExcusedWhere (state S.Store conn.old) (state S.Store conn.new) result
+        (λ t. IsTold (waiting_count_at t)) }
+{
+    let rows = waiting_count_rows(conn)?;
+    count_of(rows.as_slice())
+}
+
+/// One row with the count.
+fn waiting_count_rows<S: Alter>(conn: &mut Connection<S>) -> Result<Vec<Row>, Error>
+    ensures answers { HasCleanDisk (state S.Store conn.new) → (t : Tables)
+        → Holds (state S.Store conn.old).now t → IfOk result
+        (λ rows. rows.items ≡ (count (waiting_count_at t) ∷ []) ∷ []) }
+    ensures looks { LooksOnly (state S.Store conn.old) (state S.Store conn.new) (is_ok result) }
+    ensures fails { FailsOnlyExcused (state S.Store conn.old) (state S.Store conn.new) result }
+{
+    conn.query_all(WAITING_COUNT, &[])
+}
+
+/// How many messages of all merchants count against the limit of a day.
+pub fn used_on<S: Alter>(conn: &mut Connection<S>, day: Day) -> Result<u64, Error>
+    ensures answers { Answers (state S.Store conn.old) (state S.Store conn.new) result
+        (λ t. used_on_at t day) }
+    ensures looks { LooksOnly (state S.Store conn.old) (state S.Store conn.new) (is_ok result) }
+    ensures fails { FailsOnlyExcusedWhere (state S.Store conn.old) (state S.Store conn.new) result
+        (λ t. IsTold (used_on_at t day)) }
+{
+    let rows = used_on_rows(conn, day)?;
+    count_of(rows.as_slice())
+}
+
+/// One row with the count.
+fn used_on_rows<S: Alter>(conn: &mut Connection<S>, day: Day) -> Result<Vec<Row>, Error>
+    ensures answers { HasCleanDisk (state S.Store conn.new) → (t : Tables)
+        → Holds (state S.Store conn.old).now t → IfOk result
+        (λ rows. rows.items ≡ (count (used_on_at t day) ∷ []) ∷ []) }
+    ensures looks { LooksOnly (state S.Store conn.old) (state S.Store conn.new) (is_ok result) }
+    ensures fails { FailsOnlyExcused (state S.Store conn.old) (state S.Store conn.new) result }
+{
+    conn.query_all(USED_ON, &[day_value(day)])
 }
 
 /// How many terminals there are, of all merchants.

@@ -1,10 +1,19 @@
 -- Where no request waits, none is pending of any day.
 use Rattle.std.proofs.Common.{◌≡◌, ◌==◌, ◌&&◌, ◌+◌, ℕ, Bool, true, false, List, [], ◌∷◌, None}
-use Rattle.std.proofs.Common.{refl, cond, filter, rules}
+use Rattle.std.proofs.Common.{refl, cond, filter, length, rules}
+use Rattle.acq_core.specs.declared.request.Request.{Request}
 use Rattle.acq_core.specs.Tables.{Tables, count, is_pending}
-use Rattle.acq_book.specs.Lookups.{pending_at}
+use Rattle.acq_book.specs.Lookups.{pending_at, waiting_at, waiting_count_at}
 use Rattle.acq_status.specs.Figures.{first_of, first_waiting, pending_to}
 use Rattle.acq_status.specs.declared.pending_day.PendingDay.{PendingDay}
+
+-- none is the first of none
+pub none_first : (t : Tables) → waiting_count_at t ≡ 0 → first_waiting t ≡ None
+none_first t none = go (waiting_at t) none
+  where
+    go : (rows : List Request) → length rows ≡ 0 → first_of rows ≡ None
+    go [] is = refl
+    go (row ∷ rows) is = absurd (let no = is in cc)
 
 none_counted : {X : Type 0} (p q : X → Bool) (xs : List X) → first_of (filter p xs) ≡ None
     → count (λ x. p x && q x) xs ≡ 0

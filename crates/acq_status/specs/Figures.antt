@@ -2,23 +2,14 @@
 use Rattle.std.specs.Prelude.{ℕ, ◌+◌, ◌-◌, List, [], ◌∷◌, length, map, Option, Some, None}
 use Rattle.std.specs.Prelude.{option_map}
 use Rattle.std.specs.Option.{option_map_or}
-use Rattle.std.specs.List.{range_with_len, sum_by}
+use Rattle.std.specs.List.{range_with_len}
 use Rattle.acq_core.specs.declared.request.Request.{Request}
 use Rattle.acq_core.specs.Tables.{Tables}
 use Rattle.acq_book.specs.Lookups.{merchants_at, pending_at, range_count_at, terminal_count_at}
-use Rattle.acq_book.specs.Lookups.{used_at, waiting_at}
-use Rattle.acq_reports.specs.SettlementReport.{names_of}
+use Rattle.acq_book.specs.Lookups.{used_on_at, waiting_at}
 use Rattle.acq_status.specs.declared.book_figures.BookFigures.{BookFigures}
 use Rattle.acq_status.specs.declared.first_waiting.Waiting.{Waiting}
 use Rattle.acq_status.specs.declared.pending_day.PendingDay.{PendingDay}
-
--- how many messages of these merchants count against the limit of a day
-abbrev pub requests_of : Tables → ℕ → List (List ℕ) → ℕ
-requests_of t day names = sum_by (λ name. used_at t name day) names
-
--- those of all merchants
-abbrev pub requests_on : Tables → ℕ → ℕ
-requests_on t day = requests_of t day (names_of (merchants_at t))
 
 -- the first of some rows, if there is one
 abbrev pub first_of : {X : Type 0} → List X → Option X
@@ -71,7 +62,7 @@ figures_at t =
       merchants = length (merchants_at t);
       terminals = terminal_count_at t;
       ranges = range_count_at t;
-      requests_today = requests_on t t.day;
+      requests_today = used_on_at t t.day;
       pending = pending_to t t.day;
       oldest_pending = oldest_pending_at t;
     }

@@ -38,12 +38,16 @@ impl Visit<Request> for First {
 }
 
 /// The request that has waited the longest for its issuer's answer, if one waits.
+#[tactic(auto, using(acq_book::proofs::Chains::looks_more, crate::proofs::NoneWaits::none_first))]
 pub(crate) fn first_waiting<B: Book>(book: &mut B) -> Result<Option<Waiting>, BookFault>
     ensures first { B.is_honest book.new → B.is_open book.old → IfOk result (λ first.
         first ≡ option_map waiting_of (first_waiting (B.tables book.old))) }
     ensures looks { Looks B.Book book.old book.new (is_ok result) }
     ensures store { CountsFault result (B.failures book.old) (B.failures book.new) }
 {
+    if book.waiting_count()? == 0 {
+        return Ok(None);
+    }
     let mut first = First { row: None };
     book.walk_pending(&mut first)?;
     Ok(first.row)

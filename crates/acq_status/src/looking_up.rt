@@ -4,23 +4,23 @@ ghost use Rattle.std.specs.Prelude.{◌≡◌, ◌∷◌, [], is_ok, length, IfE
 ghost use Rattle.acq_book.specs.declared.book_fault.BookFault.TheVariants.{Memory};
 ghost use Rattle.acq_book.specs.Calls.{Looks};
 ghost use Rattle.acq_book.specs.Lookups.{merchants_at, range_count_at, terminal_count_at};
+ghost use Rattle.acq_book.specs.Lookups.{used_on_at};
 ghost use Rattle.acq_book.specs.Promise.{CountsFault};
 ghost use Rattle.acq_status.specs.Figures.{figures_at, oldest_pending_at, pending_between};
-ghost use Rattle.acq_status.specs.Figures.{pending_to, requests_of, requests_on};
+ghost use Rattle.acq_status.specs.Figures.{pending_to};
 ghost use Rattle.acq_status.specs.Figures as spec;
 
 use crate::book_figures::BookFigures;
 use crate::first_waiting::first_waiting;
 use crate::pending_day::PendingDay;
 use acq_book::{Book, BookFault};
-use acq_core::MerchantId;
 use acq_message::Transmission;
 use acq_reports::merchant_names;
 use day_totals::Day;
 use std::alloc::Global;
 
 /// Looks the figures of a book up (own profile; `specs/Figures.antt`). It takes memory for the
-/// merchants' names, and looks up how many messages each one has sent.
+/// merchants' names.
 pub(crate) fn look_up_figures<B: Book>(
     alloc: Global,
     book: &mut B,
@@ -61,39 +61,20 @@ fn counts_of<B: Book>(alloc: Global, book: &mut B, day: Day) -> Result<Counts, B
         (counts.merchants ≡ length (merchants_at (B.tables book.old)))
         × (counts.terminals ≡ terminal_count_at (B.tables book.old))
         × (counts.ranges ≡ range_count_at (B.tables book.old))
-        × (counts.requests_today ≡ requests_on (B.tables book.old) day)) }
+        × (counts.requests_today ≡ used_on_at (B.tables book.old) day)) }
     ensures looks { Looks B.Book book.old book.new (is_ok result) }
     ensures store { CountsFault result (B.failures book.old) (B.failures book.new) }
 {
     let terminals = book.terminal_count()?;
     let ranges = book.range_count()?;
     let names = merchant_names(alloc, book)?;
-    let requests_today = requests_of(book, day, names.as_slice())?;
+    let requests_today = book.used_on(day)?;
     Ok(Counts {
         merchants: names.len() as u64,
         terminals,
         ranges,
         requests_today,
     })
-}
-
-/// How many messages of these merchants count against the limit of a day.
-#[tactic(auto, using(acq_book::proofs::Chains::looks_more))]
-fn requests_of<B: Book>(book: &mut B, day: Day, names: &[MerchantId]) -> Result<u64, BookFault>
-    ensures requests { B.is_honest book.new → B.is_open book.old → IfOk result (λ requests.
-        requests ≡ requests_of (B.tables book.old) day names.now) }
-    ensures looks { Looks B.Book book.old book.new (is_ok result) }
-    ensures store { CountsFault result (B.failures book.old) (B.failures book.new) }
-{
-    let mut requests: u64 = 0;
-    for name in names.iter() {
-        let used = book.used(*name, day)?;
-        let Some(more) = requests.checked_add(used.number() as u64) else {
-            return Err(BookFault::Memory);
-        };
-        requests = more;
-    }
-    Ok(requests)
 }
 
 /// The days on which requests wait, and when the first of them was sent.

@@ -2,7 +2,7 @@
 
 ghost use Rattle.std.specs.Prelude.{◌≡◌, ◌+◌, ◌<◌, ◌≤◌, ◌++◌, ◌∷◌, ◌&&◌};
 ghost use Rattle.std.specs.Prelude.{ℕ, List, [], true, Some, None};
-ghost use Rattle.std.specs.Prelude.{◌==◌, filter, find, map, slice_get, if◌then◌else◌};
+ghost use Rattle.std.specs.Prelude.{◌==◌, filter, find, length, map, slice_get, if◌then◌else◌};
 ghost use Rattle.std.specs.Prelude.{IfSome, IfOk, OnOk, MatchOption};
 ghost use Rattle.std.specs.Map.Iter.{deref};
 ghost use Rattle.std.specs.Option.{option_copied};
@@ -101,6 +101,13 @@ impl Requests {
         used_at(&self.used, &MerchantDay { merchant, day })
     }
 
+    /// How many messages of all merchants count against the limit of a day.
+    pub fn used_on(&self, day: Day) -> u64
+        ensures { result ≡ used_in self.now.rows day }
+    {
+        self.rows.values().filter(|row| counts_on(row, day)).count() as u64
+    }
+
     /// How many references the merchant has given.
     pub fn admitted(&self, merchant: MerchantId) -> AdmittedCount
         ensures { result ≡ admitted_in (requests_of merchant self.now.rows) }
@@ -116,6 +123,13 @@ impl Requests {
             .values()
             .filter(|row| is_pending_on(row, day))
             .count() as u64
+    }
+
+    /// How many requests wait for their issuer's answer, of all merchants and days.
+    pub fn waiting_count(&self) -> u64
+        ensures { result ≡ length (filter (λ row. is_pending row.status) self.now.rows) }
+    {
+        self.rows.values().filter(|row| is_waiting(row)).count() as u64
     }
 
     /// The merchant's approved holds, in the order in which they came.
@@ -205,6 +219,13 @@ fn is_waiting(row: &Request) -> bool
     ensures { result ≡ is_pending row.now.status }
 {
     matches!(row.status, Status::Pending)
+}
+
+/// Whether a request counts against the limit of this day.
+fn counts_on(row: &Request, day: Day) -> bool
+    ensures { result ≡ (row.now.admitted && (row.now.day == day)) }
+{
+    row.admitted && row.day == day
 }
 
 /// Whether a request of this day is pending.

@@ -10,11 +10,7 @@ returns-clause-value g c o =
     c.without_number.ensures ∙ ap (option_map (λ row. row.1))
     (rw c.in_ok-last.was at
     (value_of g.S.Store _ _
-    (record {
-      connection = c.last_reconciliation-answer.new.conn;
-      failures =
-          c.counted.new.failures;
-    }) c.self.view_is
+    c.last_reconciliation-answer.new.conn c.counted.new.failures c.self.view_is
     c.last_reconciliation-answer.result c.counted.result c.last_reconciliation-answer.ensures.looks
     c.self.invariant c.settled.ensures c.counted.ensures.same c.counted.ensures.succeeds
     (λ t. last_numbered_at t c.args.merchant c.args.day)
@@ -24,10 +20,7 @@ pub returns-clause-looks : goal.returns-clause-looks
 returns-clause-looks g c =
     rw c.in_ok-last.was at
     (looks_of g.S.Store _ _
-    (record {
-      connection = c.last_reconciliation-answer.new.conn;
-      failures = c.counted.new.failures;
-    })
+    c.last_reconciliation-answer.new.conn c.counted.new.failures
     c.self.view_is c.last_reconciliation-answer.result c.counted.result
     c.last_reconciliation-answer.ensures.looks
     c.self.invariant c.settled.ensures c.counted.ensures.succeeds c.counted.ensures.rise)
@@ -35,10 +28,7 @@ returns-clause-looks g c =
 pub returns-in_err-last-clause-looks : goal.returns-in_err-last-clause-looks
 returns-in_err-last-clause-looks g c =
     looks_of g.S.Store _ _
-    (record {
-      connection = c.last_reconciliation-answer.new.conn;
-      failures = c.counted.new.failures;
-    })
+    c.last_reconciliation-answer.new.conn c.counted.new.failures
     c.self.view_is c.last_reconciliation-answer.result c.from_residual.result
     c.last_reconciliation-answer.ensures.looks
     c.self.invariant c.settled.ensures
@@ -51,10 +41,7 @@ returns-in_err-last-clause-blames g c clean o room =
     passed_on c.in_err-last.field-0.0 c.counted.result c.from_residual.result _ _
     c.in_err-last.was c.from_residual.ensures
     (blames_of g.S.Store _ _
-    (record {
-      connection = c.last_reconciliation-answer.new.conn;
-      failures = c.counted.new.failures;
-    })
+    c.last_reconciliation-answer.new.conn c.counted.new.failures
     c.self.view_is c.last_reconciliation-answer.result c.counted.result _
     c.last_reconciliation-answer.ensures.fails
     c.counted.ensures.same c.counted.ensures.fault has_past clean o room)
@@ -62,19 +49,13 @@ returns-in_err-last-clause-blames g c clean o room =
 pub returns-clause-room : goal.returns-clause-room
 returns-clause-room g c =
     room_of g.S.Store _ _
-    (record {
-      connection = c.last_reconciliation-answer.new.conn;
-      failures = c.counted.new.failures;
-    })
+    c.last_reconciliation-answer.new.conn c.counted.new.failures
     c.self.view_is c.last_reconciliation-answer.result c.last_reconciliation-answer.ensures.looks
     c.self.invariant c.settled.ensures
 
 pub returns-in_err-last-clause-room : goal.returns-in_err-last-clause-room
 returns-in_err-last-clause-room g c =
     room_of g.S.Store _ _
-    (record {
-      connection = c.last_reconciliation-answer.new.conn;
-      failures = c.counted.new.failures;
-    })
+    c.last_reconciliation-answer.new.conn c.counted.new.failures
     c.self.view_is c.last_reconciliation-answer.result c.last_reconciliation-answer.ensures.looks
     c.self.invariant c.settled.ensures

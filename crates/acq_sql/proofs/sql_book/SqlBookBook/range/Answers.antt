@@ -6,7 +6,7 @@ use Rattle.acq_sql.proofs.sql_book.SqlBookBook.range.Goals as goal
 pub returns-clause-value : goal.returns-clause-value
 returns-clause-value g c o =
     value_of g.S.Store _ _
-    (record { connection = c.range-answer.new.conn; failures = c.counted.new.failures })
+    c.range-answer.new.conn c.counted.new.failures
     c.self.view_is
     c.range-answer.result c.counted.result c.range-answer.ensures.looks c.self.invariant
     c.settled.ensures
@@ -16,14 +16,14 @@ returns-clause-value g c o =
 pub returns-clause-looks : goal.returns-clause-looks
 returns-clause-looks g c =
     looks_of g.S.Store _ _
-    (record { connection = c.range-answer.new.conn; failures = c.counted.new.failures })
+    c.range-answer.new.conn c.counted.new.failures
     c.self.view_is c.range-answer.result c.counted.result c.range-answer.ensures.looks
     c.self.invariant c.settled.ensures c.counted.ensures.succeeds c.counted.ensures.rise
 
 pub returns-clause-blames : goal.returns-clause-blames
 returns-clause-blames g c =
     blames_of g.S.Store _ _
-    (record { connection = c.range-answer.new.conn; failures = c.counted.new.failures })
+    c.range-answer.new.conn c.counted.new.failures
     c.self.view_is c.range-answer.result c.counted.result _
     c.range-answer.ensures.fails
     c.counted.ensures.same c.counted.ensures.fault has_past
@@ -31,6 +31,6 @@ returns-clause-blames g c =
 pub returns-clause-room : goal.returns-clause-room
 returns-clause-room g c =
     room_of g.S.Store _ _
-    (record { connection = c.range-answer.new.conn; failures = c.counted.new.failures })
+    c.range-answer.new.conn c.counted.new.failures
     c.self.view_is c.range-answer.result c.range-answer.ensures.looks c.self.invariant
     c.settled.ensures

@@ -6,7 +6,7 @@ use Rattle.acq_sql.proofs.sql_book.SqlBookBook.range_count.Goals as goal
 pub returns-clause-value : goal.returns-clause-value
 returns-clause-value g c o =
     value_of g.S.Store _ _
-    (record { connection = c.range_count-answer.new.conn; failures = c.counted.new.failures })
+    c.range_count-answer.new.conn c.counted.new.failures
     c.self.view_is
     c.range_count-answer.result c.counted.result c.range_count-answer.ensures.looks
     c.self.invariant c.settled.ensures
@@ -16,7 +16,7 @@ returns-clause-value g c o =
 pub returns-clause-looks : goal.returns-clause-looks
 returns-clause-looks g c =
     looks_of g.S.Store _ _
-    (record { connection = c.range_count-answer.new.conn; failures = c.counted.new.failures })
+    c.range_count-answer.new.conn c.counted.new.failures
     c.self.view_is c.range_count-answer.result c.counted.result
     c.range_count-answer.ensures.looks
     c.self.invariant c.settled.ensures c.counted.ensures.succeeds c.counted.ensures.rise
@@ -24,7 +24,7 @@ returns-clause-looks g c =
 pub returns-clause-blames : goal.returns-clause-blames
 returns-clause-blames g c =
     blames_of g.S.Store _ _
-    (record { connection = c.range_count-answer.new.conn; failures = c.counted.new.failures })
+    c.range_count-answer.new.conn c.counted.new.failures
     c.self.view_is c.range_count-answer.result c.counted.result _
     c.range_count-answer.ensures.fails
     c.counted.ensures.same c.counted.ensures.fault ranges_told
@@ -32,6 +32,6 @@ returns-clause-blames g c =
 pub returns-clause-room : goal.returns-clause-room
 returns-clause-room g c =
     room_of g.S.Store _ _
-    (record { connection = c.range_count-answer.new.conn; failures = c.counted.new.failures })
+    c.range_count-answer.new.conn c.counted.new.failures
     c.self.view_is c.range_count-answer.result c.range_count-answer.ensures.looks c.self.invariant
     c.settled.ensures

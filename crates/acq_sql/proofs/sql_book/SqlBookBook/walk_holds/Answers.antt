@@ -9,18 +9,18 @@ pub returns-clause-seen : goal.returns-clause-seen
 returns-clause-seen g c clean o =
     relay_ok _ c.walk_holds-walked.result c.counted.result c.counted.ensures.succeeds
     (c.walk_holds-walked.ensures.seen clean (tables g.S.Store c.args.self.now)
-    (held_by g.S.Store _ _ c.self.view_is o) o.past)
+    (held_by g.S.Store _ _ c.self.view_is o) o.opened.past)
 
 pub returns-clause-begun : goal.returns-clause-begun
 returns-clause-begun g c clean o =
     relay_err _ c.walk_holds-walked.result c.counted.result c.counted.ensures.succeeds
     (c.walk_holds-walked.ensures.begun clean (tables g.S.Store c.args.self.now)
-    (held_by g.S.Store _ _ c.self.view_is o) o.past)
+    (held_by g.S.Store _ _ c.self.view_is o) o.opened.past)
 
 pub returns-clause-looks : goal.returns-clause-looks
 returns-clause-looks g c =
     looks_of g.S.Store _ _
-    (record { connection = c.walk_holds-walked.new.conn; failures = c.counted.new.failures })
+    c.walk_holds-walked.new.conn c.counted.new.failures
     c.self.view_is c.walk_holds-walked.result c.counted.result c.walk_holds-walked.ensures.looks
     c.self.invariant c.settled.ensures c.counted.ensures.succeeds c.counted.ensures.rise
 
@@ -32,7 +32,7 @@ returns-clause-shown g c =
 pub returns-clause-blames : goal.returns-clause-blames
 returns-clause-blames g c =
     blames_of g.S.Store _ _
-    (record { connection = c.walk_holds-walked.new.conn; failures = c.counted.new.failures })
+    c.walk_holds-walked.new.conn c.counted.new.failures
     c.self.view_is c.walk_holds-walked.result c.counted.result _
     c.walk_holds-walked.ensures.fails
     c.counted.ensures.same c.counted.ensures.fault (holds_walked c.args.merchant)
@@ -40,6 +40,6 @@ returns-clause-blames g c =
 pub returns-clause-room : goal.returns-clause-room
 returns-clause-room g c =
     room_of g.S.Store _ _
-    (record { connection = c.walk_holds-walked.new.conn; failures = c.counted.new.failures })
+    c.walk_holds-walked.new.conn c.counted.new.failures
     c.self.view_is c.walk_holds-walked.result c.walk_holds-walked.ensures.looks c.self.invariant
     c.settled.ensures

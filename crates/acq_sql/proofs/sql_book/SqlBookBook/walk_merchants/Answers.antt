@@ -20,7 +20,7 @@ returns-clause-begun g c clean o =
 pub returns-clause-looks : goal.returns-clause-looks
 returns-clause-looks g c =
     looks_of g.S.Store _ _
-    (record { connection = c.walk_merchants-walked.new.conn; failures = c.counted.new.failures })
+    c.walk_merchants-walked.new.conn c.counted.new.failures
     c.self.view_is c.walk_merchants-walked.result c.counted.result
     c.walk_merchants-walked.ensures.looks
     c.self.invariant c.settled.ensures c.counted.ensures.succeeds c.counted.ensures.rise
@@ -33,7 +33,7 @@ returns-clause-shown g c =
 pub returns-clause-blames : goal.returns-clause-blames
 returns-clause-blames g c =
     blames_of g.S.Store _ _
-    (record { connection = c.walk_merchants-walked.new.conn; failures = c.counted.new.failures })
+    c.walk_merchants-walked.new.conn c.counted.new.failures
     c.self.view_is c.walk_merchants-walked.result c.counted.result _
     c.walk_merchants-walked.ensures.fails
     c.counted.ensures.same c.counted.ensures.fault merchants_walked
@@ -41,6 +41,6 @@ returns-clause-blames g c =
 pub returns-clause-room : goal.returns-clause-room
 returns-clause-room g c =
     room_of g.S.Store _ _
-    (record { connection = c.walk_merchants-walked.new.conn; failures = c.counted.new.failures })
+    c.walk_merchants-walked.new.conn c.counted.new.failures
     c.self.view_is c.walk_merchants-walked.result c.walk_merchants-walked.ensures.looks
     c.self.invariant c.settled.ensures

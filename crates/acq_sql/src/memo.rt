@@ -1,0 +1,103 @@
+//! What a book recalls of its tables.
+
+ghost use Rattle.std.specs.Prelude.{◌≡◌, IfOk, IfSome, true, false};
+ghost use Rattle.acq_core.specs.Tables.{Tables, after};
+ghost use Rattle.acq_book.specs.Lookups.{used_on_at, waiting_count_at};
+ghost use Rattle.acq_sql.specs.Memos.{CountsUsed, Recalls, nothing_recalled};
+
+mod used_on;
+mod waiting;
+
+use acq_book::BookFault;
+use acq_core::Change;
+use day_totals::Day;
+
+pub use used_on::UsedOn;
+pub use waiting::Waiting;
+
+/// What a book recalls of its tables since it looked, so that a status that is asked for each
+/// second doesn't look at all requests each time. A change keeps it up to date.
+#[derive(Clone, Copy)]
+pub struct Memo {
+    pub(crate) waiting: Waiting,
+    pub(crate) used: Option<UsedOn>,
+}
+
+impl Memo {
+    /// Nothing is recalled.
+    pub(crate) fn nothing() -> Memo
+        ensures { result ≡ nothing_recalled }
+    {
+        Memo {
+            waiting: Waiting::Any,
+            used: None,
+        }
+    }
+
+    /// What is recalled after a change. Of one that failed it isn't known what it left.
+    pub(crate) fn after(self, change: &Change, is_made: bool) -> Memo
+        ensures made { is_made ≡ true → (t : Tables) → Recalls self t
+            → Recalls result (after t change.now) }
+        ensures failed { is_made ≡ false → result ≡ nothing_recalled }
+    {
+        if !is_made {
+            return Memo::nothing();
+        }
+        Memo {
+            waiting: self.waiting.after(change),
+            used: used_after(self.used, change),
+        }
+    }
+
+    /// Whether it is known that no request waits.
+    #[tactic(auto, using(crate::proofs::Memos::none_counted))]
+    pub(crate) fn none_waits(&self) -> bool
+        ensures { result ≡ true → (t : Tables) → Recalls self.now t → waiting_count_at t ≡ 0 }
+    {
+        matches!(self.waiting, Waiting::None)
+    }
+
+    /// How many messages count on a day, if it is known.
+    pub(crate) fn used_on(&self, day: Day) -> Option<u64>
+        ensures { IfSome result (λ n. (t : Tables) → Recalls self.now t → n ≡ used_on_at t day) }
+    {
+        match self.used {
+            Some(used) if used.day == day => Some(used.count),
+            _ => None,
+        }
+    }
+
+    /// Notes how many requests wait, as a look told it: that none does is recalled.
+    #[tactic(auto, using(crate::proofs::Memos::none_found, crate::proofs::Memos::none_weaker))]
+    pub(crate) fn note_waiting(&mut self, told: &Result<u64, BookFault>)
+        ensures learns { (t : Tables) → IfOk told.now (λ n. n ≡ waiting_count_at t)
+            → Recalls self.old t → Recalls self.new t }
+        ensures keeps { (t : Tables) → Recalls self.new t → Recalls self.old t }
+    {
+        if matches!(told, Ok(0)) {
+            self.waiting = Waiting::None;
+        }
+    }
+
+    /// Notes how many messages count on a day, as a look told it, unless a day's are recalled.
+    pub(crate) fn note_used(&mut self, day: Day, told: &Result<u64, BookFault>)
+        ensures learns { (t : Tables) → IfOk told.now (λ n. n ≡ used_on_at t day)
+            → Recalls self.old t → Recalls self.new t }
+        ensures keeps { (t : Tables) → Recalls self.new t → Recalls self.old t }
+    {
+        if self.used.is_some() {
+            return;
+        }
+        if let Ok(count) = told {
+            self.used = Some(UsedOn { day, count: *count });
+        }
+    }
+}
+
+/// What is recalled of a day after a change.
+fn used_after(used: Option<UsedOn>, change: &Change) -> Option<UsedOn>
+    ensures { (t : Tables) → CountsUsed used t.requests
+        → CountsUsed result (after t change.now).requests }
+{
+    used?.after(change)
+}
