@@ -11,7 +11,6 @@ mod waiting;
 use acq_book::BookFault;
 use acq_core::Change;
 use day_totals::Day;
-
 pub use used_on::UsedOn;
 pub use waiting::Waiting;
 

@@ -26,7 +26,6 @@ mod machine_at_hand;
 mod machine_terms;
 mod migrated;
 mod no_gathering;
-mod no_progress;
 mod refusal;
 mod report_asked;
 mod row_fault;

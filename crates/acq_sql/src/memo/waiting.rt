@@ -28,7 +28,9 @@ impl Waiting {
             Change::AddRequest(request) => self.with(request),
             Change::Answered { key, status, .. } => self.answered(key, *status),
             Change::Follow {
-                request, remains, ..
+                request,
+                remains,
+                ..
             } => self.changed(remains.status).with(request),
             Change::Reconciled { request, .. } => self.with(request),
             _ => self,
@@ -70,7 +72,11 @@ impl Waiting {
             → ((row : Request) → (change row).status ≡ status)
             → WaitsNoOther self rows → WaitsNoOther result (with_changed key change rows) }
     {
-        if is_waiting(status) { Waiting::Any } else { self }
+        if is_waiting(status) {
+            Waiting::Any
+        } else {
+            self
+        }
     }
 }
 

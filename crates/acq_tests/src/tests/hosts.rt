@@ -1,7 +1,7 @@
 //! Hosts over a book in memory, and connections that they serve.
 
 use acq_book::{Book, ListBook};
-use acq_commands::{Progress, replay};
+use acq_commands::{NoProgress, replay};
 use acq_core::{Limit, Moment};
 use acq_front::{FixedClock, FrontFault, SliceIssuer, serve};
 use acq_host::Host;
@@ -43,18 +43,6 @@ fn set_up<B: Book + Drop>(alloc: Global, host: &mut Host<B>) {
         &mut said,
         &mut NoProgress,
     );
-}
-
-/// Shows nobody how far a run is.
-#[derive(Drop)]
-struct NoProgress;
-
-impl Progress for NoProgress {
-    fn begin(&mut self, _events: usize) {}
-
-    fn done(&mut self) {}
-
-    fn end(&mut self) {}
 }
 
 /// Serves a connection in the morning.

@@ -42,7 +42,7 @@ fn days_served<B: Book + Drop>(
     again: &mut MemorySink,
     later: &mut MemorySink,
 ) -> Result<(), FrontFault> {
-    let (Some(sale), Some(hold), Some(evening)) = (
+    let (Some(sale), Some(hold), Some(morning)) = (
         Verdict::approved(b"A1B2C3"),
         Verdict::approved(b"H00001"),
         Moment::from_seconds(MORNING),
@@ -53,7 +53,7 @@ fn days_served<B: Book + Drop>(
     let mut issuer = SliceIssuer::new(&verdicts);
     let ended = served(&mut host, alloc, source, sink, &mut issuer);
     serve_whole(&mut host, alloc, FIRST_FRAMES, again, &mut issuer);
-    let _ = host.take(&Event::Cutover(evening));
+    let _ = host.take(&Event::Cutover(morning));
     serve_whole(&mut host, alloc, SECOND_FRAMES, later, &mut issuer);
     ended
 }

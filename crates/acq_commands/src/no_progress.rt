@@ -1,8 +1,8 @@
-//! Runs that show nobody how far they are.
+//! Runs that tell nobody how far they are.
 
-use acq_commands::Progress;
+use crate::progress::Progress;
 
-/// Shows nobody how far a run is.
+/// Tells nobody how far a run is.
 #[derive(Clone, Copy, Debug)]
 pub struct NoProgress;
 
