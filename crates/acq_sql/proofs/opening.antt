@@ -6,3 +6,6 @@ pub mod Versions
 pub mod PlainBook
 pub mod GoingOn
 pub mod Failures
+pub mod CreatesSucceed
+pub mod Reaching
+pub mod Blaming

@@ -32,6 +32,14 @@ abbrev pub HasVersion : Trees → Option ℕ → Type 0
 HasVersion trees None = length (versions_in trees) ≢ 1
 HasVersion trees (Some n) = versions_in trees ≡ number n ∷ []
 
+-- the book has one row, whose version is no number: it is negative
+abbrev pub HasNoNumber : Trees → Type 0
+HasNoNumber trees = (v : Value) × (versions_in trees ≡ v ∷ []) × ((n : ℕ) → v ≢ number n)
+
+-- the database has the book's tables, and such a version
+abbrev pub HasBadVersion : Database → Type 0
+HasBadVersion db = (db.schema ≡ book_schema) × HasNoNumber db.trees
+
 -- ---- the answer
 
 -- what each answer says, where a book of this version is wanted

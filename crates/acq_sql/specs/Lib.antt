@@ -6,6 +6,7 @@ pub mod Files
 pub mod Applied
 pub mod Faults
 pub mod Made
+pub mod Blames
 pub mod Plain
 pub mod Checked
 pub mod Migrated

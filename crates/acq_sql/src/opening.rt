@@ -13,7 +13,10 @@ mod opening_fault;
 mod tables;
 
 pub use checking::check_book;
-pub use laws::{a_stop_leaves_a_book, an_open_finds_a_book_of_any_version, an_open_finds_the_book};
+pub use laws::{
+    a_book_is_as_it_says, a_stop_leaves_a_book, an_open_finds_a_book_of_any_version,
+    an_open_finds_the_book,
+};
 pub use making::make_book;
 pub use migrating::migrate_book;
 pub use opening_fault::OpeningFault;

@@ -12,11 +12,12 @@ ghost use Rattle.acq_sql_rows.specs.Rows.{version, version_of_six_digits};
 ghost use Rattle.acq_sql_rows.specs.Schema.{no_schema};
 ghost use Rattle.acq_sql_changes.specs.Changed.{HoldsAfter, IsAt, IsAtOf};
 ghost use Rattle.acq_sql_reads.specs.Looked.{LooksOnly};
-ghost use Rattle.acq_sql.specs.Checked.{IsFailure, Judges};
+ghost use Rattle.acq_sql.specs.Blames.{BlamesStore};
+ghost use Rattle.acq_sql.specs.Checked.{HasBadVersion, IsFailure, Judges};
 ghost use Rattle.acq_sql.specs.declared.opening.opening_fault.OpeningFault.TheVariants.{NotABook};
 ghost use Rattle.acq_sql.specs.Made.{LeavesDatabase};
 ghost use Rattle.acq_sql.specs.Memos.{nothing_recalled};
-ghost use Rattle.acq_sql.specs.Migrated.{IsOfSixDigits};
+ghost use Rattle.acq_sql.specs.Migrated.{IsAsItSays, IsOfSixDigits};
 ghost use Rattle.acq_sql.specs.Opened.{IsOpenAt};
 
 use crate::answers::counted;
@@ -98,6 +99,8 @@ impl<S: Alter> SqlBook<S> {
         ensures refused_stop { IfErr result (λ refusal.
             Survives (state S.Store connection) (state S.Store refusal.connection)
             (HoldsAfter (new_tables (record { limit = limit; first_day = first_day })))) }
+        ensures blames { IfErr result (λ refusal. BlamesStore (state S.Store connection)
+            (state S.Store refusal.connection) refusal.fault) }
     {
         every_opening(limit, first_day);
         match make_book(&mut connection, limit, first_day) {
@@ -137,6 +140,9 @@ impl<S: Alter> SqlBook<S> {
             Survives (state S.Store connection) (state S.Store book.connection) (λ _. ⊥)) }
         ensures refused_stop { IfErr result (λ refusal.
             Survives (state S.Store connection) (state S.Store refusal.connection) (λ _. ⊥)) }
+        ensures blames { IfErr result (λ refusal. ¬ HasBadVersion (state S.Store connection).now
+            → BlamesStore (state S.Store connection) (state S.Store refusal.connection)
+            refusal.fault) }
     {
         match check_book(&mut connection, alloc, VERSION) {
             Ok(()) => Ok(SqlBook {
@@ -186,6 +192,9 @@ impl<S: Alter> SqlBook<S> {
             Survives (state S.Store connection) (state S.Store refusal.connection)
             (λ trees. (t : Tables) → IsOfSixDigits (state S.Store connection) t
             → HoldsAfter (widened_tables t) trees)) }
+        ensures blames { IfErr result (λ refusal. IsAsItSays (state S.Store connection)
+            → BlamesStore (state S.Store connection) (state S.Store refusal.connection)
+            refusal.fault) }
     {
         pasts_are_widened();
         match migrate_book(&mut connection, alloc) {

@@ -9,8 +9,10 @@ ghost use Rattle.sqlite.specs.Held.{state};
 ghost use Rattle.acq_core.specs.Tables.{Tables};
 ghost use Rattle.acq_sql_rows.specs.Schema.{no_schema, book_schema};
 ghost use Rattle.acq_sql_changes.specs.Changed.{IsAtOf};
+ghost use Rattle.acq_sql_reads.specs.Failing.{FailsForMemory};
 ghost use Rattle.acq_sql_reads.specs.Looked.{LooksOnly};
-ghost use Rattle.acq_sql.specs.Checked.{Judges, IsFailure, HasVersion};
+ghost use Rattle.acq_sql.specs.Blames.{BlamesStore, FailsExcusably};
+ghost use Rattle.acq_sql.specs.Checked.{Judges, IsFailure, HasVersion, HasBadVersion, HasNoNumber};
 
 use crate::opening::alike::Alike;
 use crate::opening::opening_fault::OpeningFault;
@@ -36,6 +38,8 @@ pub fn check_book<S: Alter>(
     ensures looks { LooksOnly (state S.Store conn.old) (state S.Store conn.new) (is_ok result) }
     ensures unchanged { conn.old.schema ≢ book_schema → conn.new ≡ conn.old }
     ensures settled { conn.old.in_transaction ≡ false → conn.new.in_transaction ≡ false }
+    ensures blames { IfErr result (λ fault. ¬ HasBadVersion (state S.Store conn.old).now
+        → BlamesStore (state S.Store conn.old) (state S.Store conn.new) fault) }
 {
     if !is_book_schema(alloc, conn.schema())? {
         return Err(OpeningFault::NotABook);
@@ -49,7 +53,8 @@ pub fn check_book<S: Alter>(
 
 /// Whether a schema is the one that the texts of the tables make.
 fn is_book_schema(alloc: Global, schema: &Schema) -> Result<bool, Error>
-    ensures { IfOk result (λ is. IsTrue is ↔ (schema.now ≡ book_schema)) }
+    ensures same { IfOk result (λ is. IsTrue is ↔ (schema.now ≡ book_schema)) }
+    ensures fails { FailsForMemory result }
 {
     let mut ours = Connection::open_in_memory(alloc)?;
     create_tables(&mut ours)?;
@@ -60,7 +65,9 @@ fn is_book_schema(alloc: Global, schema: &Schema) -> Result<bool, Error>
 fn create_tables<S: Alter>(conn: &mut Connection<S>) -> Result<(), Error>
     requires settled { conn.old.in_transaction ≡ false }
     requires empty { conn.old.schema ≡ no_schema }
-    ensures { HasCleanDisk (state S.Store conn.new) → OnOk result (conn.new.schema ≡ book_schema) }
+    ensures made { HasCleanDisk (state S.Store conn.new)
+        → OnOk result (conn.new.schema ≡ book_schema) }
+    ensures fails { FailsExcusably (state S.Store conn.old) (state S.Store conn.new) result }
 {
     let mut tx = conn.transaction();
     create_enrolments(&mut tx)?;
@@ -74,6 +81,9 @@ fn version<S: Alter>(conn: &mut Connection<S>) -> Result<Option<u64>, Error>
         → IfOk result (HasVersion (state S.Store conn.old).now.trees) }
     ensures looks { LooksOnly (state S.Store conn.old) (state S.Store conn.new) (is_ok result) }
     ensures settled { conn.old.in_transaction ≡ false → conn.new.in_transaction ≡ false }
+    ensures fails { conn.old.schema ≡ book_schema
+        → ¬ HasNoNumber (state S.Store conn.old).now.trees
+        → FailsExcusably (state S.Store conn.old) (state S.Store conn.new) result }
 {
     let rows = version_rows(conn)?;
     match rows.as_slice() {
@@ -88,6 +98,8 @@ fn version_rows<S: Alter>(conn: &mut Connection<S>) -> Result<Vec<Row>, Error>
         (map (λ row. column row 1 ∷ []) ((state S.Store conn.old).now.trees 0)) rows.items) }
     ensures looks { LooksOnly (state S.Store conn.old) (state S.Store conn.new) (is_ok result) }
     ensures settled { conn.old.in_transaction ≡ false → conn.new.in_transaction ≡ false }
+    ensures fails { conn.old.schema ≡ book_schema
+        → FailsExcusably (state S.Store conn.old) (state S.Store conn.new) result }
 {
     conn.query_all(VERSION_OF_BOOK, &[])
 }

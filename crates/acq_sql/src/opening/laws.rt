@@ -9,7 +9,9 @@ ghost use Rattle.sqlite.specs.Held.{state};
 ghost use Rattle.sqlite.specs.State.{Opens, IsLive};
 ghost use Rattle.acq_core.specs.Tables.{Tables};
 ghost use Rattle.acq_sql_changes.specs.Changed.{IsAt, IsAtOf, HoldsAfter, HoldsAfterOf};
+ghost use Rattle.acq_sql.specs.Checked.{HasBadVersion};
 ghost use Rattle.acq_sql.specs.Files.{FilesHold};
+ghost use Rattle.acq_sql.specs.Migrated.{IsAsItSays, IsOfSixDigits};
 ghost use Rattle.acq_sql.specs.Opened.{is_honest, leaves_books, may_leave};
 
 use crate::sql_book::SqlBook;
@@ -30,6 +32,15 @@ pub fn an_open_finds_a_book_of_any_version<S: Alter>(conn: &Connection<S>)
         → IsLive (state S.Store conn.now)
         → HoldsAfterOf version t (state S.Store conn.now).committed.trees
         → IsAtOf version (state S.Store conn.now) t }
+{}
+
+/// The version of a book is a number, and a book of six digits that events led to is what its version
+/// says: so an open of it, or its migration, blames the store only where the store failed.
+pub fn a_book_is_as_it_says<S: Alter>(conn: &Connection<S>)
+    ensures number { (version : ℕ) (t : Tables) → IsAtOf version (state S.Store conn.now) t
+        → ¬ HasBadVersion (state S.Store conn.now).now }
+    ensures six { (t : Tables) → IsOfSixDigits (state S.Store conn.now) t
+        → IsAsItSays (state S.Store conn.now) }
 {}
 
 /// Gives up a book over files as a stop does, which closes nothing. Where whatever a stop may leave

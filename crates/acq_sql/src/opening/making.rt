@@ -1,13 +1,16 @@
 //! New books.
 
-ghost use Rattle.std.specs.Prelude.{◌≡◌, ◌≢◌, ◌↔◌, false, [], IsTrue, Err, OnOk};
+ghost use Rattle.std.specs.Prelude.{◌≡◌, ◌≢◌, ◌↔◌, false, [], IsTrue, Err, IfErr, OnOk};
 ghost use Rattle.sqlite.specs.State.{HasCleanDisk, Survives};
 ghost use Rattle.sqlite.specs.Held.{state};
+ghost use Rattle.row_lemmas.specs.Created.{IsBlank};
 ghost use Rattle.acq_core.specs.Tables.{new_tables};
 ghost use Rattle.acq_sql_rows.specs.Schema.{no_schema};
 ghost use Rattle.acq_sql_rows.specs.Relation.{HoldsRows};
 ghost use Rattle.acq_sql_changes.specs.Written.{StaysInside, KeepsCommitted, CommitsNothing};
 ghost use Rattle.acq_sql_changes.specs.Changed.{IsAt, HoldsAfter};
+ghost use Rattle.acq_sql_changes.specs.Widened.{IsNeverRefused};
+ghost use Rattle.acq_sql.specs.Blames.{BlamesStore, FailsExcusably};
 ghost use Rattle.acq_sql.specs.Made.{LeavesDatabase};
 ghost use Rattle.acq_sql.specs.declared.opening.opening_fault.OpeningFault.TheVariants.{NotABook};
 
@@ -38,6 +41,8 @@ pub fn make_book<S: Alter>(
     ensures undone { LeavesDatabase (state S.Store conn.old) (state S.Store conn.new) result }
     ensures crash { Survives (state S.Store conn.old) (state S.Store conn.new)
         (HoldsAfter (new_tables (record { limit = limit; first_day = first_day }))) }
+    ensures blames { IfErr result
+        (BlamesStore (state S.Store conn.old) (state S.Store conn.new)) }
 {
     if !is_empty(conn.schema()) {
         return Err(OpeningFault::NotABook);
@@ -62,6 +67,7 @@ fn write_book<S: Alter>(conn: &mut Connection<S>, limit: Limit, first_day: Day) 
     ensures undone { LeavesDatabase (state S.Store conn.old) (state S.Store conn.new) result }
     ensures crash { Survives (state S.Store conn.old) (state S.Store conn.new)
         (HoldsAfter (new_tables (record { limit = limit; first_day = first_day }))) }
+    ensures fails { FailsExcusably (state S.Store conn.old) (state S.Store conn.new) result }
 {
     let mut tx = conn.transaction();
     write_tables(&mut tx, limit, first_day)?;
@@ -85,6 +91,8 @@ fn write_tables<S: Alter>(
     ensures kept { KeepsCommitted (state S.Store tx.old.conn.now) (state S.Store tx.new.conn.now) }
     ensures survives { CommitsNothing (state S.Store tx.old.conn.now)
         (state S.Store tx.new.conn.now) }
+    ensures fails { IsNeverRefused (state S.Store tx.old.conn.now) (state S.Store tx.new.conn.now)
+        result (IsBlank no_schema) }
 {
     create_enrolments(tx)?;
     create_records(tx)?;

@@ -2,9 +2,12 @@
 
 ghost use Rattle.std.specs.Prelude.{◌≡◌};
 ghost use Rattle.sqlite.specs.Held.{state};
+ghost use Rattle.row_lemmas.specs.Created.{IsBlank};
 ghost use Rattle.acq_sql_rows.specs.Schema.{no_schema, up_to_ranges, book_schema};
+ghost use Rattle.acq_sql_changes.specs.Widened.{IsNeverRefused};
 ghost use Rattle.acq_sql_changes.specs.Written.{StaysInside, KeepsCommitted, CommitsNothing};
 ghost use Rattle.acq_sql.specs.Made.{AddsTable, AddsIndex, Extends};
+ghost use Rattle.acq_sql.specs.Made.{RefusesNoTable, RefusesNoIndex};
 
 use acq_sql_rows::tables;
 use sqlite::{Alter, Error, Transaction};
@@ -19,6 +22,8 @@ pub(crate) fn create_enrolments<S: Alter>(tx: &mut Transaction<'_, S>) -> Result
     ensures kept { KeepsCommitted (state S.Store tx.old.conn.now) (state S.Store tx.new.conn.now) }
     ensures survives { CommitsNothing (state S.Store tx.old.conn.now)
         (state S.Store tx.new.conn.now) }
+    ensures fails { IsNeverRefused (state S.Store tx.old.conn.now) (state S.Store tx.new.conn.now)
+        result (IsBlank no_schema) }
 {
     create(tx, tables::BOOK)?;
     create(tx, tables::MERCHANTS)?;
@@ -38,6 +43,8 @@ pub(crate) fn create_records<S: Alter>(tx: &mut Transaction<'_, S>) -> Result<()
     ensures kept { KeepsCommitted (state S.Store tx.old.conn.now) (state S.Store tx.new.conn.now) }
     ensures survives { CommitsNothing (state S.Store tx.old.conn.now)
         (state S.Store tx.new.conn.now) }
+    ensures fails { IsNeverRefused (state S.Store tx.old.conn.now) (state S.Store tx.new.conn.now)
+        result (IsBlank up_to_ranges) }
 {
     create(tx, tables::REQUESTS)?;
     create_index(tx, tables::REFERENCES)?;
@@ -57,6 +64,8 @@ fn create<S: Alter>(tx: &mut Transaction<'_, S>, sql: &str) -> Result<(), Error>
     ensures kept { KeepsCommitted (state S.Store tx.old.conn.now) (state S.Store tx.new.conn.now) }
     ensures survives { CommitsNothing (state S.Store tx.old.conn.now)
         (state S.Store tx.new.conn.now) }
+    ensures fails { RefusesNoTable (state S.Store tx.old.conn.now) (state S.Store tx.new.conn.now)
+        result sql.now }
 {
     tx.execute(sql, &[])?;
     Ok(())
@@ -72,6 +81,8 @@ fn create_index<S: Alter>(tx: &mut Transaction<'_, S>, sql: &str) -> Result<(), 
     ensures kept { KeepsCommitted (state S.Store tx.old.conn.now) (state S.Store tx.new.conn.now) }
     ensures survives { CommitsNothing (state S.Store tx.old.conn.now)
         (state S.Store tx.new.conn.now) }
+    ensures fails { RefusesNoIndex (state S.Store tx.old.conn.now) (state S.Store tx.new.conn.now)
+        result sql.now }
 {
     tx.execute(sql, &[])?;
     Ok(())

@@ -3,7 +3,7 @@ use Rattle.std.proofs.lemmas.Result.{IfOk-weaker}
 use Rattle.sqlite.specs.Held.{state}
 use Rattle.acq_sql_reads.proofs.Leaves.{looks}
 use Rattle.acq_sql.specs.Checked.{version_text}
-use Rattle.acq_sql.proofs.opening.Versions.{version_asks, versions_shown}
+use Rattle.acq_sql.proofs.opening.Versions.{version_asks, version_fails, versions_shown}
 use Rattle.acq_sql.proofs.opening.checking.version_rows.Goals as goal
 
 pub returns-clause-shows : goal.returns-clause-shows
@@ -21,3 +21,8 @@ returns-clause-looks g c =
     (λ rows. rows.items) c.query_all.result c.query_all.ensures.ok c.query_all.ensures.err
     c.query_all.ensures.mode
     c.query_all.ensures.survives
+
+pub returns-clause-fails : goal.returns-clause-fails
+returns-clause-fails g c has =
+    version_fails (state g.S.Store c.args.conn.now) (state g.S.Store c.query_all.new.self)
+    c.query_all.result has c.query_all.ensures.err

@@ -4,10 +4,14 @@ use Rattle.sqlite.specs.State.{HasCleanDisk, Survives}
 use Rattle.sqlite.specs.Held.{state}
 use Rattle.sqlite.proofs.StateLemmas.{survives_then}
 use Rattle.sqlite.proofs.Callers.{survives_begin}
+use Rattle.row_lemmas.specs.Created.{IsBlank}
 use Rattle.acq_core.specs.Tables.{Opening, new_tables}
+use Rattle.acq_sql_rows.specs.Schema.{no_schema}
 use Rattle.acq_sql_rows.specs.Relation.{Holds}
 use Rattle.acq_sql_changes.specs.Changed.{IsAt, HoldsAfter}
 use Rattle.acq_sql_changes.proofs.Commits.{at_commit, left_holds, was_clean}
+use Rattle.acq_sql.proofs.opening.Blaming.{commit_fails, drop_fails}
+use Rattle.acq_sql.proofs.opening.GoingOn.{GoesOn}
 use Rattle.acq_sql.proofs.opening.NewBook.{new_holds}
 use Rattle.acq_sql.proofs.opening.making.write_book.Goals as goal
 
@@ -46,3 +50,23 @@ returns-clause-crash g c =
     (survives_begin g.S.Store old last _ (rw begun at c.write_tables.ensures.survives))
     c.commit.ensures.survives in
     subst (λ x. Survives (state g.S.Store old) (state g.S.Store x) P) same whole
+
+pub returns-in_err-write_tables-clause-fails : goal.returns-in_err-write_tables-clause-fails
+returns-in_err-write_tables-clause-fails g c =
+    let why = drop_fails g.S.Store c.args.conn.now c.transaction-tx.ensures.begun (IsBlank no_schema)
+    c.write_tables.ensures.survives c.in_err-write_tables.ensures.fails
+    (record { schema_is = c.requires.empty; blank = tt })
+    c.drop-tx.ensures.survives c.from_residual.result c.from_residual.ensures.1 in
+    search (rules, why)
+
+pub returns-clause-fails : goal.returns-clause-fails
+returns-clause-fails g c =
+    let on : GoesOn (state g.S.Store c.transaction-tx.result.conn.now)
+    (state g.S.Store c.write_tables.new.tx.conn.now) = record {
+      stop = c.write_tables.ensures.survives;
+      kept = c.write_tables.ensures.kept;
+      inside = c.in_ok-write_tables.ensures.inside;
+    } in
+    let why = commit_fails g.S.Store c.args.conn.now c.transaction-tx.ensures.begun on
+    c.commit.result c.commit.ensures.err c.commit.ensures.survives in
+    search (rules, why)

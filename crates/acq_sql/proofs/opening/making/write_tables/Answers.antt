@@ -1,22 +1,13 @@
-use Rattle.sqlite.specs.State.{HasCleanDisk}
+use Rattle.std.proofs.Common.{rules}
 use Rattle.sqlite.specs.Held.{state}
+use Rattle.sqlite.specs.State.{HasCleanDisk}
+use Rattle.row_lemmas.specs.Created.{IsBlank}
+use Rattle.acq_sql_rows.specs.Schema.{no_schema, up_to_ranges}
+use Rattle.acq_sql_changes.specs.Refused.{IsEmptyBook}
 use Rattle.acq_sql_changes.proofs.Commits.{was_clean}
 use Rattle.acq_sql.proofs.opening.GoingOn.{GoesOn, goes_then, kept_then, not_ok, stop_then}
-use Rattle.std.proofs.Common.{rules}
+use Rattle.acq_sql.proofs.opening.Reaching.{fails_first, fails_then, reached, reached_then}
 use Rattle.acq_sql.proofs.opening.making.write_tables.Goals as goal
-
-pub returns-clause-begins : goal.returns-clause-begins
-returns-clause-begins g c clean3 inside empty =
-    let s1 = state g.S.Store c.create_enrolments.new.tx.conn.now in
-    let s2 = state g.S.Store c.create_records.new.tx.conn.now in
-    let clean2 : HasCleanDisk s2 = was_clean _ _ c.add_book.ensures.writes.stop.clean clean3 in
-    let clean1 : HasCleanDisk s1 = was_clean _ _ c.create_records.ensures.survives.clean clean2 in
-    let made1 = c.in_ok-create_enrolments.ensures.extends clean1 inside
-    (record { schema_is = empty; blank = tt }) in
-    let mode1 = (c.in_ok-create_enrolments.ensures.inside clean1 inside).mode in
-    let made2 = c.in_ok-create_records.ensures.extends clean2 mode1 made1 in
-    let mode2 = (c.in_ok-create_records.ensures.inside clean2 mode1).mode in
-    c.in_ok-add_book.ensures.writes.leads clean3 mode2 made2
 
 pub returns-in_err-create_enrolments : goal.returns-in_err-create_enrolments
 returns-in_err-create_enrolments g c =
@@ -26,115 +17,70 @@ returns-in_err-create_enrolments g c =
       inside = λ clean within. not_ok _ _ c.from_residual.ensures.0;
       kept = c.create_enrolments.ensures.kept;
       survives = c.create_enrolments.ensures.survives;
+      fails = fails_first (IsBlank no_schema) (state g.S.Store c.args.tx.now.conn.now)
+          (state g.S.Store c.create_enrolments.new.tx.conn.now)
+          c.in_err-create_enrolments.ensures.fails
+          (λ db blank. blank) c.from_residual.result c.from_residual.ensures.1;
     }
 
 pub returns-in_err-create_records : goal.returns-in_err-create_records
 returns-in_err-create_records g c =
-    let step1 : GoesOn (state g.S.Store c.args.tx.now.conn.now)
-    (state g.S.Store c.create_enrolments.new.tx.conn.now) = record {
-      stop = c.create_enrolments.ensures.survives;
-      kept = c.create_enrolments.ensures.kept;
-      inside = c.in_ok-create_enrolments.ensures.inside;
-    } in
+    let one = reached c.create_enrolments.ensures.survives c.create_enrolments.ensures.kept
+    c.in_ok-create_enrolments.ensures.inside c.in_ok-create_enrolments.ensures.extends in
     record {
       same_reference = search rules;
       begins = λ clean within empty. not_ok _ _ c.from_residual-in_err-create_records.ensures.0;
       inside = λ clean within. not_ok _ _ c.from_residual-in_err-create_records.ensures.0;
-      kept = kept_then step1 c.create_records.ensures.survives c.create_records.ensures.kept;
-      survives = stop_then step1 c.create_records.ensures.survives;
+      kept = kept_then one.on c.create_records.ensures.survives c.create_records.ensures.kept;
+      survives = stop_then one.on c.create_records.ensures.survives;
+      fails = fails_then (IsBlank up_to_ranges) one c.create_records.ensures.survives
+          c.in_err-create_records.ensures.fails (λ db new. new.rows)
+          c.from_residual-in_err-create_records.result
+          c.from_residual-in_err-create_records.ensures.1;
     }
 
 pub returns-in_err-add_book : goal.returns-in_err-add_book
 returns-in_err-add_book g c =
-    let step1 : GoesOn (state g.S.Store c.args.tx.now.conn.now)
-    (state g.S.Store c.create_enrolments.new.tx.conn.now) = record {
-      stop = c.create_enrolments.ensures.survives;
-      kept = c.create_enrolments.ensures.kept;
-      inside = c.in_ok-create_enrolments.ensures.inside;
-    } in
-    let step2 : GoesOn (state g.S.Store c.create_enrolments.new.tx.conn.now)
-    (state g.S.Store c.create_records.new.tx.conn.now) = record {
-      stop = c.create_records.ensures.survives;
-      kept = c.create_records.ensures.kept;
-      inside = c.in_ok-create_records.ensures.inside;
-    } in
-    let after2 = goes_then step1 step2 in
+    let one = reached c.create_enrolments.ensures.survives c.create_enrolments.ensures.kept
+    c.in_ok-create_enrolments.ensures.inside c.in_ok-create_enrolments.ensures.extends in
+    let two = reached_then one (reached c.create_records.ensures.survives
+    c.create_records.ensures.kept c.in_ok-create_records.ensures.inside
+    c.in_ok-create_records.ensures.extends) in
     record {
       same_reference = search rules;
       begins = λ clean within empty. not_ok _ _ c.from_residual-in_err-add_book.ensures.0;
       inside = λ clean within. not_ok _ _ c.from_residual-in_err-add_book.ensures.0;
-      kept = kept_then after2 c.add_book.ensures.writes.stop c.add_book.ensures.writes.kept;
-      survives = stop_then after2 c.add_book.ensures.writes.stop;
+      kept = kept_then two.on c.add_book.ensures.writes.stop c.add_book.ensures.writes.kept;
+      survives = stop_then two.on c.add_book.ensures.writes.stop;
+      fails = fails_then IsEmptyBook two c.add_book.ensures.writes.stop
+          c.in_err-add_book.ensures.fails
+          (λ db new. record { rows = new.rows; sound = new.sound })
+          c.from_residual-in_err-add_book.result c.from_residual-in_err-add_book.ensures.1;
     }
 
-pub returns-clause-inside : goal.returns-clause-inside
-returns-clause-inside g c =
-    let step1 : GoesOn (state g.S.Store c.args.tx.now.conn.now)
-    (state g.S.Store c.create_enrolments.new.tx.conn.now) = record {
-      stop = c.create_enrolments.ensures.survives;
-      kept = c.create_enrolments.ensures.kept;
-      inside = c.in_ok-create_enrolments.ensures.inside;
-    } in
-    let step2 : GoesOn (state g.S.Store c.create_enrolments.new.tx.conn.now)
-    (state g.S.Store c.create_records.new.tx.conn.now) = record {
-      stop = c.create_records.ensures.survives;
-      kept = c.create_records.ensures.kept;
-      inside = c.in_ok-create_records.ensures.inside;
-    } in
-    let after2 = goes_then step1 step2 in
-    let step3 : GoesOn (state g.S.Store c.create_records.new.tx.conn.now)
+pub returns : goal.returns
+returns g c =
+    let one = reached c.create_enrolments.ensures.survives c.create_enrolments.ensures.kept
+    c.in_ok-create_enrolments.ensures.inside c.in_ok-create_enrolments.ensures.extends in
+    let two = reached_then one (reached c.create_records.ensures.survives
+    c.create_records.ensures.kept c.in_ok-create_records.ensures.inside
+    c.in_ok-create_records.ensures.extends) in
+    let last : GoesOn (state g.S.Store c.create_records.new.tx.conn.now)
     (state g.S.Store c.add_book.new.tx.conn.now) = record {
       stop = c.add_book.ensures.writes.stop;
       kept = c.add_book.ensures.writes.kept;
       inside = c.in_ok-add_book.ensures.writes.inside;
     } in
-    let after3 = goes_then after2 step3 in
-    after3.inside
-
-pub returns-clause-kept : goal.returns-clause-kept
-returns-clause-kept g c =
-    let step1 : GoesOn (state g.S.Store c.args.tx.now.conn.now)
-    (state g.S.Store c.create_enrolments.new.tx.conn.now) = record {
-      stop = c.create_enrolments.ensures.survives;
-      kept = c.create_enrolments.ensures.kept;
-      inside = c.in_ok-create_enrolments.ensures.inside;
-    } in
-    let step2 : GoesOn (state g.S.Store c.create_enrolments.new.tx.conn.now)
-    (state g.S.Store c.create_records.new.tx.conn.now) = record {
-      stop = c.create_records.ensures.survives;
-      kept = c.create_records.ensures.kept;
-      inside = c.in_ok-create_records.ensures.inside;
-    } in
-    let after2 = goes_then step1 step2 in
-    let step3 : GoesOn (state g.S.Store c.create_records.new.tx.conn.now)
-    (state g.S.Store c.add_book.new.tx.conn.now) = record {
-      stop = c.add_book.ensures.writes.stop;
-      kept = c.add_book.ensures.writes.kept;
-      inside = c.in_ok-add_book.ensures.writes.inside;
-    } in
-    let after3 = goes_then after2 step3 in
-    after3.kept
-
-pub returns-clause-survives : goal.returns-clause-survives
-returns-clause-survives g c =
-    let step1 : GoesOn (state g.S.Store c.args.tx.now.conn.now)
-    (state g.S.Store c.create_enrolments.new.tx.conn.now) = record {
-      stop = c.create_enrolments.ensures.survives;
-      kept = c.create_enrolments.ensures.kept;
-      inside = c.in_ok-create_enrolments.ensures.inside;
-    } in
-    let step2 : GoesOn (state g.S.Store c.create_enrolments.new.tx.conn.now)
-    (state g.S.Store c.create_records.new.tx.conn.now) = record {
-      stop = c.create_records.ensures.survives;
-      kept = c.create_records.ensures.kept;
-      inside = c.in_ok-create_records.ensures.inside;
-    } in
-    let after2 = goes_then step1 step2 in
-    let step3 : GoesOn (state g.S.Store c.create_records.new.tx.conn.now)
-    (state g.S.Store c.add_book.new.tx.conn.now) = record {
-      stop = c.add_book.ensures.writes.stop;
-      kept = c.add_book.ensures.writes.kept;
-      inside = c.in_ok-add_book.ensures.writes.inside;
-    } in
-    let after3 = goes_then after2 step3 in
-    after3.stop
+    let all = goes_then two.on last in
+    record {
+      same_reference = search rules;
+      begins = λ clean within empty.
+          let early : HasCleanDisk (state g.S.Store c.create_records.new.tx.conn.now) =
+          was_clean _ _ last.stop.clean clean in
+          c.in_ok-add_book.ensures.writes.leads clean (two.on.inside early within).mode
+          (two.made early within (record { schema_is = empty; blank = tt })).rows;
+      inside = all.inside;
+      kept = all.kept;
+      survives = all.stop;
+      fails = λ clean within opened free blank. tt;
+    }

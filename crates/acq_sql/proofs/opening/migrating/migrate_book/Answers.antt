@@ -1,10 +1,14 @@
+use Rattle.std.proofs.Common.{◌∙◌, arith, refl}
 use Rattle.std.proofs.lemmas.Result.{err_from_is_err_and}
 use Rattle.sqlite.specs.Held.{state}
+use Rattle.sqlite.specs.State.{HasCleanDisk}
 use Rattle.sqlite.proofs.StateLemmas.{survives_weaker}
-use Rattle.acq_sql_reads.proofs.Leaves.{kept}
+use Rattle.row_lemmas.proofs.StatementFailures.{excused_wider}
+use Rattle.acq_sql_reads.proofs.Leaves.{at_unchanged, kept}
 use Rattle.acq_sql_changes.proofs.Commits.{was_clean}
 use Rattle.acq_sql_rows.specs.Rows.{version_of_six_digits}
 use Rattle.acq_sql.proofs.apply.LooksFirst.{whole_from}
+use Rattle.acq_sql.proofs.opening.Blaming.{excused_blames}
 use Rattle.acq_sql.proofs.opening.Failures.{error_fails, failure_judges, on_err}
 use Rattle.acq_sql.proofs.opening.GoingOn.{not_ok}
 use Rattle.acq_sql.proofs.opening.migrating.migrate_book.Goals as goal
@@ -22,6 +26,7 @@ returns-in_err-check_book g c =
           (state g.S.Store c.check_book.new.conn) _ looks clean opened t at);
       unchanged = rw p.1 (λ is. looks);
       stop = survives_weaker _ _ _ _ (λ _ db none. absurd none) looks.stop;
+      blames = rw (p.1, p.2) (λ is. c.in_err-check_book.ensures.blames is.version);
     }
 
 pub returns-in_err-widen_book : goal.returns-in_err-widen_book
@@ -31,7 +36,12 @@ returns-in_err-widen_book g c =
     c.in_err-widen_book.ensures.whole in
     let result = c.from_residual-in_err-widen_book.result in
     let p = err_from_is_err_and result c.from_residual-in_err-widen_book.ensures.1 in
-    let fails = error_fails c.in_err-widen_book.field-0.0 in
+    let e = c.in_err-widen_book.field-0.0 in
+    let fails = error_fails e in
+    let looks = c.in_ok-check_book.ensures.looks in
+    let old = state g.S.Store c.args.conn.now in
+    let mid = state g.S.Store c.check_book.new.conn in
+    let new = state g.S.Store c.widen_book.new.conn in
     record {
       settled = whole.settled;
       judged = λ clean. rw (p.1, p.2) (failure_judges (Unit {0}) version_of_six_digits
@@ -41,6 +51,15 @@ returns-in_err-widen_book g c =
       undone = λ clean opened t at. on_err _ result (whole.undone clean opened t at);
       unchanged = rw (p.1, p.2) (λ no. absurd (no fails));
       stop = survives_weaker _ _ _ _ (λ _ db left t is. left t is.at is.past) whole.stop;
+      blames = rw (p.1, p.2) (λ is. excused_blames old new e (λ clean opened free.
+          let early : HasCleanDisk mid =
+          was_clean _ _ c.in_err-widen_book.ensures.whole.stop.clean clean in
+          let book = is.six (c.in_ok-check_book.ensures.judged early) in
+          excused_wider old mid new new e looks.stop.counts (omega arith)
+          (c.in_err-widen_book.ensures.refused clean book.0
+          (at_unchanged old mid book.0 (looks.same early refl) book.1.at)
+          (c.ranges_fit_their_profile.ensures book.0 book.1.past)
+          (looks.stop.limit ∙ free))));
     }
 
 pub returns-clause-done : goal.returns-clause-done
