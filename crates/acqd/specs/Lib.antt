@@ -1,1 +1,2 @@
 pub mod BookFiles
+pub mod StoppedRuns

@@ -11,6 +11,7 @@ mod no_book;
 mod open_book;
 mod standard_descriptors;
 mod standard_error;
+mod stopped_runs;
 mod this_machine;
 
 use acq_book::Book;
@@ -30,6 +31,7 @@ use std::hash::RandomState;
 use std::io::IsTerminal;
 use std::process::ExitCode;
 use std::{env, io, str};
+pub use stopped_runs::{reopened, stopped_run};
 pub use this_machine::ThisMachine;
 
 fn main(rt: HostRuntime) -> ExitCode {

@@ -13,9 +13,10 @@ ghost use Rattle.acq_core.specs.Widening.{widened_tables};
 ghost use Rattle.acq_sql_rows.specs.Rows.{version_of_six_digits};
 ghost use Rattle.acq_sql_changes.specs.Changed.{HoldsAfter};
 ghost use Rattle.acq_sql.specs.Checked.{IsFailure};
+ghost use Rattle.acq_sql.specs.Files.{FilesHold, FilesHoldOf};
+ghost use Rattle.acq_sql.specs.Memos.{nothing_recalled};
 ghost use Rattle.acq_sql.specs.Migrated.{IsOfSixDigits};
 ghost use Rattle.acq_sql.specs.Opened.{IsOpenAt};
-ghost use Rattle.acqd.specs.BookFiles.{FilesHold, FilesHoldOf};
 
 use crate::book_files::{find_book, make_room};
 use crate::no_book::NoBook;
@@ -40,6 +41,7 @@ pub fn open_book<D: Start>(
 ) -> Result<SqlBook<FileStore<FileFrom<D>>>, NoBook<FileStore<FileFrom<D>>>>
     ensures same { IfOk result (λ book. HasCleanDisk (file_state book.connection) → (t : Tables)
         → FilesHold (image_at D.Start) t → HasPast t → IsOpenAt (file_state book.connection) t) }
+    ensures recalls { IfOk result (λ book. book.memo ≡ nothing_recalled) }
     ensures accepts { IfErr result (λ none. IfSome none.connection (λ connection.
         HasCleanDisk (file_state connection) → (t : Tables) → FilesHold (image_at D.Start) t
         → IsFailure none.fault)) }
@@ -69,9 +71,10 @@ pub fn make_book<D: Start>(
     limit: Limit,
     first_day: Day,
 ) -> Result<SqlBook<FileStore<FileFrom<D>>>, OpeningFault>
-    ensures { IfOk result (λ book. HasCleanDisk (file_state book.connection)
+    ensures new { IfOk result (λ book. HasCleanDisk (file_state book.connection)
         → IsOpenAt (file_state book.connection)
         (new_tables (record { limit = limit; first_day = first_day }))) }
+    ensures recalls { IfOk result (λ book. book.memo ≡ nothing_recalled) }
 {
     make_room(rt, path)?;
     let connection = connect(rt, path, start)?;
@@ -88,9 +91,10 @@ pub fn migrate_book<D: Start>(
     path: &str,
     start: D,
 ) -> Result<SqlBook<FileStore<FileFrom<D>>>, OpeningFault>
-    ensures { IfOk result (λ book. HasCleanDisk (file_state book.connection) → (t : Tables)
+    ensures done { IfOk result (λ book. HasCleanDisk (file_state book.connection) → (t : Tables)
         → FilesHoldOf version_of_six_digits (image_at D.Start) t → HasPastUnder six_digits t
         → IsOpenAt (file_state book.connection) (widened_tables t)) }
+    ensures recalls { IfOk result (λ book. book.memo ≡ nothing_recalled) }
 {
     find_book(rt, path)?;
     let connection = connect(rt, path, start)?;
@@ -111,9 +115,10 @@ fn created<S: Alter + Drop>(
     first_day: Day,
 ) -> Result<SqlBook<S>, OpeningFault>
     requires settled { connection.in_transaction ≡ false }
-    ensures { IfOk result (λ book. HasCleanDisk (state S.Store book.connection)
+    ensures new { IfOk result (λ book. HasCleanDisk (state S.Store book.connection)
         → IsOpenAt (state S.Store book.connection)
         (new_tables (record { limit = limit; first_day = first_day }))) }
+    ensures recalls { IfOk result (λ book. book.memo ≡ nothing_recalled) }
 {
     match SqlBook::create(alloc, connection, limit, first_day) {
         Ok(book) => Ok(book),
@@ -130,6 +135,7 @@ fn migrated<S: Alter + Drop>(
     ensures done { IfOk result (λ book. HasCleanDisk (state S.Store book.connection)
         → (t : Tables) → IsOfSixDigits (state S.Store connection) t
         → IsOpenAt (state S.Store book.connection) (widened_tables t)) }
+    ensures recalls { IfOk result (λ book. book.memo ≡ nothing_recalled) }
     ensures stop { IfOk result (λ book.
         Survives (state S.Store connection) (state S.Store book.connection)
         (λ trees. (t : Tables) → IsOfSixDigits (state S.Store connection) t

@@ -5,8 +5,8 @@ use Rattle.acq_sql_rows.specs.Rows.{version_of_six_digits}
 use Rattle.acq_sql_changes.specs.Changed.{HoldsAfterOf}
 use Rattle.acqd.proofs.open_book.migrate_book.Goals as goal
 
-pub returns-in-Ok : goal.returns-in-Ok
-returns-in-Ok g c = λ clean t files past.
+pub returns-in-Ok-clause-done : goal.returns-in-Ok-clause-done
+returns-in-Ok-clause-done g c = λ clean t files past.
     let was_clean : HasCleanDisk (file_state c.in_ok-connection.connection) =
     omega (arith, c.in-Ok.ensures.stop.clean, clean) in
     let opened = c.in_ok-connection.ensures.opened was_clean in
