@@ -32,7 +32,7 @@ abbrev pub HasVersion : Trees → Option ℕ → Type 0
 HasVersion trees None = length (versions_in trees) ≢ 1
 HasVersion trees (Some n) = versions_in trees ≡ number n ∷ []
 
--- the book has one row, whose version is no number: it is negative
+-- the book has one row, with a version that is no number from 0 on
 abbrev pub HasNoNumber : Trees → Type 0
 HasNoNumber trees = (v : Value) × (versions_in trees ≡ v ∷ []) × ((n : ℕ) → v ≢ number n)
 

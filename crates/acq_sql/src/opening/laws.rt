@@ -34,8 +34,8 @@ pub fn an_open_finds_a_book_of_any_version<S: Alter>(conn: &Connection<S>)
         → IsAtOf version (state S.Store conn.now) t }
 {}
 
-/// The version of a book is a number, and a book of six digits that events led to is what its version
-/// says: so an open of it, or its migration, blames the store only where the store failed.
+/// The version of a book is a number, and a book of six digits that events led to is what its
+/// version says: so an open of it, or its migration, blames the store only where the store failed.
 pub fn a_book_is_as_it_says<S: Alter>(conn: &Connection<S>)
     ensures number { (version : ℕ) (t : Tables) → IsAtOf version (state S.Store conn.now) t
         → ¬ HasBadVersion (state S.Store conn.now).now }

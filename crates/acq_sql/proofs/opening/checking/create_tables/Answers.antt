@@ -9,7 +9,8 @@ use Rattle.acq_sql.proofs.opening.checking.create_tables.Goals as goal
 pub returns-in_err-create_enrolments-clause-fails :
     goal.returns-in_err-create_enrolments-clause-fails
 returns-in_err-create_enrolments-clause-fails g c =
-    let why = drop_fails g.S.Store c.args.conn.now c.transaction-tx.ensures.begun (IsBlank no_schema)
+    let why = drop_fails g.S.Store c.args.conn.now c.transaction-tx.ensures.begun
+    (IsBlank no_schema)
     c.create_enrolments.ensures.survives c.in_err-create_enrolments.ensures.fails
     (record { schema_is = c.requires.empty; blank = tt })
     c.drop-tx.ensures.survives c.from_residual.result c.from_residual.ensures.1 in
@@ -23,7 +24,8 @@ returns-in_err-create_records-clause-fails g c =
     let fails = fails_then {T = Unit {0}} {e = e} (IsBlank up_to_ranges) one
     c.create_records.ensures.survives c.in_err-create_records.ensures.fails
     (λ db new. new.rows) (Err e) refl in
-    let why = drop_fails g.S.Store c.args.conn.now c.transaction-tx.ensures.begun (IsBlank no_schema)
+    let why = drop_fails g.S.Store c.args.conn.now c.transaction-tx.ensures.begun
+    (IsBlank no_schema)
     (stop_then one.on c.create_records.ensures.survives) fails
     (record { schema_is = c.requires.empty; blank = tt })
     c.drop-tx-in_err-create_records.ensures.survives

@@ -53,7 +53,8 @@ returns-clause-crash g c =
 
 pub returns-in_err-write_tables-clause-fails : goal.returns-in_err-write_tables-clause-fails
 returns-in_err-write_tables-clause-fails g c =
-    let why = drop_fails g.S.Store c.args.conn.now c.transaction-tx.ensures.begun (IsBlank no_schema)
+    let why = drop_fails g.S.Store c.args.conn.now c.transaction-tx.ensures.begun
+    (IsBlank no_schema)
     c.write_tables.ensures.survives c.in_err-write_tables.ensures.fails
     (record { schema_is = c.requires.empty; blank = tt })
     c.drop-tx.ensures.survives c.from_residual.result c.from_residual.ensures.1 in
