@@ -16,7 +16,7 @@
 enum { FILES = 16, MOST = 1 << 16 };
 
 static long count, each, rest, refused, whole;
-static int is_refused;
+static int is_refused, has_ended;
 static char said[MOST + 1];
 
 static long number(const char *name)
@@ -92,7 +92,7 @@ static int splits(void)
 
 static int refuses(void)
 {
-    if (is_refused)
+    if (is_refused || has_ended)
         return 0;
     if (each == 0) {
         each = number("REFUSE_EACH");
@@ -135,6 +135,7 @@ int posix_memalign(void **place, size_t alignment, size_t size)
 
 __attribute__((destructor)) static void end(void)
 {
+    has_ended = 1;
     if (!is_refused && each > 0)
         dprintf(1, "refused %ld, whole %ld\n", refused, whole);
 }
