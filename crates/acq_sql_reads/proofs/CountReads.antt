@@ -4,10 +4,9 @@ use Rattle.std.proofs.Common.{◌≡◌, ◌==◌, ◌&&◌, ◌+◌, ℕ, pos, 
 use Rattle.std.proofs.Common.{filter, length, suc}
 use Rattle.std.proofs.Common.{refl, ap, ◌∙◌, arith}
 use Rattle.sqlite_value.specs.declared.value.Value.TheVariants.{Int, Null}
-use Rattle.sqlite_value.specs.Order.{Row}
 use Rattle.sqlite_sql.specs.Aggregate.{count}
 use Rattle.sqlite_schema.specs.declared.command.Command.TheVariants.{Select}
-use Rattle.sqlite.specs.State.{State, Shown}
+use Rattle.sqlite.specs.State.{State}
 use Rattle.sqlite.proofs.Callers.{reads_as}
 use Rattle.row_lemmas.specs.Queries.{alone}
 use Rattle.row_lemmas.specs.Values.{number}
@@ -28,6 +27,7 @@ use Rattle.acq_core.specs.Statuses.{status_number}
 use Rattle.acq_sql_rows.specs.Rows.{bit_of, range_row, request_row, terminal_row}
 use Rattle.acq_sql_rows.specs.Tallies.{Running}
 use Rattle.acq_sql_rows.specs.Relation.{HoldsRows}
+use Rattle.acq_sql_reads.specs.Shown.{ShowsCount}
 use Rattle.acq_sql_reads.specs.Texts as text
 use Rattle.acq_sql_reads.specs.Queries as query
 use Rattle.acq_sql_reads.proofs.TextLemmas as asks
@@ -59,11 +59,10 @@ module _ (day : ℕ) where
         pending_is x.status,
       ) refl
 
-  pub pending_found : (old new : State) (t : Tables) (runs : List Running) (rows : List Row) →
-      HoldsRows old.now t runs
-      → Shown text.pending_text (number day ∷ []) old new rows →
-      rows ≡ (count (pending_at t day) ∷ []) ∷ []
-  pending_found old new t runs rows has shown =
+  pub pending_found : (old new : State) (t : Tables) (runs : List Running)
+      → HoldsRows old.now t runs
+      → ShowsCount text.pending_text (number day ∷ []) old new (pending_at t day)
+  pending_found old new t runs has rows shown =
       let ask = asks.pending_asks in
       shows_count request_row book_schema 6 t.requests old new has.schema has.requests
       text.pending_text
@@ -76,10 +75,10 @@ waits_test : (id : ℕ) (x : Request)
 waits_test id x =
     rw (number_test (status_number x.status) 1, and_true, pending_is x.status) refl
 
-pub waiting_counted : (old new : State) (t : Tables) (runs : List Running) (rows : List Row)
-    → HoldsRows old.now t runs → Shown text.waiting_count_text [] old new rows
-    → rows ≡ (count (waiting_count_at t) ∷ []) ∷ []
-waiting_counted old new t runs rows has shown =
+pub waiting_found : (old new : State) (t : Tables) (runs : List Running)
+    → HoldsRows old.now t runs
+    → ShowsCount text.waiting_count_text [] old new (waiting_count_at t)
+waiting_found old new t runs has rows shown =
     let ask = asks.waiting_count_asks in
     shows_count request_row book_schema 6 t.requests old new has.schema has.requests
     text.waiting_count_text [] _ ask.plain ask.unlisted rows shown query.waiting []
@@ -104,10 +103,10 @@ module _ (day : ℕ) where
         admitted_is x.admitted,
       ) refl
 
-  pub used_found : (old new : State) (t : Tables) (runs : List Running) (rows : List Row)
-      → HoldsRows old.now t runs → Shown text.used_on_text (number day ∷ []) old new rows
-      → rows ≡ (count (used_on_at t day) ∷ []) ∷ []
-  used_found old new t runs rows has shown =
+  pub used_found : (old new : State) (t : Tables) (runs : List Running)
+      → HoldsRows old.now t runs
+      → ShowsCount text.used_on_text (number day ∷ []) old new (used_on_at t day)
+  used_found old new t runs has rows shown =
       let ask = asks.used_on_asks in
       shows_count request_row book_schema 6 t.requests old new has.schema has.requests
       text.used_on_text
@@ -121,10 +120,10 @@ every : {X : Type 0} (xs : List X) → length (filter (λ x. true) xs) ≡ lengt
 every [] = refl
 every (x ∷ xs) = ap suc (every xs)
 
-pub terminals_counted : (old new : State) (t : Tables) (runs : List Running) (rows : List Row)
-    → HoldsRows old.now t runs → Shown text.terminal_count_text [] old new rows
-    → rows ≡ (count (terminal_count_at t) ∷ []) ∷ []
-terminals_counted old new t runs rows has shown =
+pub terminals_found : (old new : State) (t : Tables) (runs : List Running)
+    → HoldsRows old.now t runs
+    → ShowsCount text.terminal_count_text [] old new (terminal_count_at t)
+terminals_found old new t runs has rows shown =
     let ask = asks.terminal_count_asks in
     shows_count terminal_row book_schema 3 t.terminals old new has.schema has.terminals
     text.terminal_count_text [] _ ask.plain ask.unlisted rows shown [] [] (λ x. true)
@@ -132,10 +131,10 @@ terminals_counted old new t runs rows has shown =
     ∙ ap (λ n. (count n ∷ []) ∷ []) (every t.terminals)
 
 -- their rowids are keys of their own
-pub ranges_counted : (old new : State) (t : Tables) (runs : List Running) (rows : List Row)
-    → HoldsRows old.now t runs → Shown text.range_count_text [] old new rows
-    → rows ≡ (count (range_count_at t) ∷ []) ∷ []
-ranges_counted old new t runs rows has shown =
+pub ranges_found : (old new : State) (t : Tables) (runs : List Running)
+    → HoldsRows old.now t runs
+    → ShowsCount text.range_count_text [] old new (range_count_at t)
+ranges_found old new t runs has rows shown =
     let ask = asks.range_count_asks in
     let read = reads_as text.range_count_text [] old new book_schema has.schema
     (Select (alone query.range_count_query) _) ask.is ask.plain ask.unlisted rows shown in

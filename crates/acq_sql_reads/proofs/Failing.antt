@@ -67,6 +67,7 @@ use Rattle.acq_sql_reads.specs.Looked.{IsNearest, LooksOnly, ShowsGreatest, Show
 use Rattle.acq_sql_reads.specs.Looked.{TellsCount, count_up_to}
 use Rattle.acq_sql_reads.specs.Looked.{balance_cells, range_cells}
 use Rattle.acq_sql_reads.specs.Recorded.{ShowsRequest}
+use Rattle.acq_sql_reads.specs.Shown.{FailsToHandOver}
 use Rattle.acq_sql_reads.proofs.Leaves.{at_unchanged, clean_before}
 use Rattle.acq_sql_reads.proofs.RowReads.{first_row}
 use Rattle.acq_sql_reads.specs.Texts as text
@@ -285,7 +286,7 @@ count_succeeds tree test params typed db e has (inr (inl (is, inr (i, d, low, at
 count_succeeds tree test params typed db e has (inr (inr h)) = true≢false (sym h.1)
 
 -- so the query fails only for memory or since the store failed
-pub query_excused : (old new : State) (sql : List ℕ) (params : Row) (q : Query)
+query_excused : (old new : State) (sql : List ℕ) (params : Row) (q : Query)
     (names : List (List ℕ)) → Asks sql q names → IsAlone sql (length params)
     → IsNeverRefused q params → (t : Tables) → IsAtOf version old t → old.step_limit ≡ None
     → (e : Error) → FailsToQuery sql params old new e → IsExcused old new e
@@ -385,31 +386,50 @@ module _ {V : Type 0} (old new : State) (res : Result V Error) where
       fails text.greatest_text (Text merchant ∷ []) _ _ _ _ _ _ asks.greatest_asks greatest_alone
       (typed_greatest merchant)
 
-  pub pending_fails : (day : ℕ) → Failed text.pending_text (number day ∷ [])
-      → FailsOnlyExcused old new res
+-- a call that fails for memory, or as its query does
+module _ {V : Type 0} (old new : State) (res : Result V Error) (t : Tables)
+    (at : IsAtOf version old t) (free : old.step_limit ≡ None) where
+  abbrev HandedOver : List ℕ → Row → Type 0
+  HandedOver sql params = IfErr res (FailsToHandOver sql params old new)
+
+  pub query_fails : (sql : List ℕ) (params : Row) (q : Query) (names : List (List ℕ))
+      → Asks sql q names → IsAlone sql (length params) → IsNeverRefused q params
+      → HandedOver sql params → IfErr res (IsExcused old new)
+  query_fails sql params q names ask lone succeeds failed =
+      go res failed
+    where
+      go : (r : Result V Error) → IfErr r (FailsToHandOver sql params old new)
+          → IfErr r (IsExcused old new)
+      go (Ok x) h = tt
+      go (Err e) (inl memory) = inl memory
+      go (Err e) (inr h) =
+          query_excused old new sql params q names ask lone succeeds t at free e h
+
+  pub pending_fails : (day : ℕ) → HandedOver text.pending_text (number day ∷ [])
+      → IfErr res (IsExcused old new)
   pending_fails day =
-      never text.pending_text (number day ∷ []) query.pending_query _ asks.pending_asks
+      query_fails text.pending_text (number day ∷ []) query.pending_query _ asks.pending_asks
       pending_alone (count_succeeds 6 query.pending_on (number day ∷ []) (typed_pending day))
 
-  pub waiting_count_fails : Failed text.waiting_count_text [] → FailsOnlyExcused old new res
+  pub waiting_count_fails : HandedOver text.waiting_count_text [] → IfErr res (IsExcused old new)
   waiting_count_fails =
-      never text.waiting_count_text [] query.waiting_count_query _ asks.waiting_count_asks
+      query_fails text.waiting_count_text [] query.waiting_count_query _ asks.waiting_count_asks
       waiting_count_alone (count_succeeds 6 query.waiting [] typed_waiting_count)
 
-  pub used_on_fails : (day : ℕ) → Failed text.used_on_text (number day ∷ [])
-      → FailsOnlyExcused old new res
+  pub used_on_fails : (day : ℕ) → HandedOver text.used_on_text (number day ∷ [])
+      → IfErr res (IsExcused old new)
   used_on_fails day =
-      never text.used_on_text (number day ∷ []) query.used_on_query _ asks.used_on_asks
+      query_fails text.used_on_text (number day ∷ []) query.used_on_query _ asks.used_on_asks
       used_on_alone (count_succeeds 6 query.admitted_on (number day ∷ []) (typed_used_on day))
 
-  pub terminal_count_fails : Failed text.terminal_count_text [] → FailsOnlyExcused old new res
+  pub terminal_count_fails : HandedOver text.terminal_count_text [] → IfErr res (IsExcused old new)
   terminal_count_fails =
-      never text.terminal_count_text [] query.terminal_count_query _ asks.terminal_count_asks
-      terminal_count_alone (count_succeeds 3 [] [] typed_terminal_count)
+      query_fails text.terminal_count_text [] query.terminal_count_query _
+      asks.terminal_count_asks terminal_count_alone (count_succeeds 3 [] [] typed_terminal_count)
 
-  pub range_count_fails : Failed text.range_count_text [] → FailsOnlyExcused old new res
+  pub range_count_fails : HandedOver text.range_count_text [] → IfErr res (IsExcused old new)
   range_count_fails =
-      never text.range_count_text [] query.range_count_query _ asks.range_count_asks
+      query_fails text.range_count_text [] query.range_count_query _ asks.range_count_asks
       range_count_alone (count_succeeds 5 [] [] typed_range_count)
 
 -- ---- a row that was found

@@ -1,6 +1,6 @@
 -- When a walk fails.
 use Rattle.std.proofs.Common.{◌≡◌, ◌++◌, inl, inr, ℕ, true, List, [], ◌∷◌}
-use Rattle.std.proofs.Common.{length, map, None, Result, Ok, Err, IfErr, refl, sym, ap, subst}
+use Rattle.std.proofs.Common.{length, map, None, Result, IfErr, refl, sym, ap, subst}
 use Rattle.std.proofs.Common.{arith}
 use Rattle.std.specs.Prelude.{All}
 use Rattle.std.specs.List.{AllByRecursion}
@@ -36,7 +36,7 @@ use Rattle.acq_sql_reads.specs.Shown.{FailsToHandOver, ShowsOnly}
 use Rattle.acq_sql_reads.specs.WalkTexts as text
 use Rattle.acq_sql_reads.specs.WalkQueries as query
 use Rattle.acq_sql_reads.proofs.CardsOfPostings.{cards_valid}
-use Rattle.acq_sql_reads.proofs.Failing.{IsAlone, IsNeverRefused, query_excused, request_fits}
+use Rattle.acq_sql_reads.proofs.Failing.{IsAlone, IsNeverRefused, query_fails, request_fits}
 use Rattle.acq_sql_reads.proofs.Failing.{request_is_read, rows_fit}
 use Rattle.acq_sql_reads.proofs.HoldWalk.{holds_among, holds_list}
 use Rattle.acq_sql_reads.proofs.MerchantWalk.{merchants_among, merchants_list}
@@ -167,14 +167,8 @@ module _ {V : Type 0} (old new : State) (res : Result V Error) (t : Tables)
       → ((y : T) → Has ys y → fits (cells y)) → CanBeWalked ys
       → Walked sql params fits → IfErr res (IsExcused old new)
   walked sql params {q = q} list fits lone succeeds each few failed =
-      go res (failed (shows_only list fits each few))
-    where
-      go : (r : Result V Error) → IfErr r (FailsToHandOver sql params old new)
-          → IfErr r (IsExcused old new)
-      go (Ok x) h = tt
-      go (Err e) (inl memory) = inl memory
-      go (Err e) (inr h) =
-          query_excused old new sql params q list.names list.ask lone succeeds t at free e h
+      query_fails old new res t at free sql params q list.names list.ask lone succeeds
+      (failed (shows_only list fits each few))
 
   pub postings_excused : (day : ℕ) → CanBeWalked (postings_at t day)
       → Walked text.postings_text (number day ∷ []) IsPostingRow → IfErr res (IsExcused old new)

@@ -4,6 +4,7 @@ use Rattle.std.specs.Prelude.{◌≡◌, ◌⊎◌, ◌<◌, ◌-◌, ◌^◌, �
 use Rattle.std.specs.Prelude.{IsTrue, ⊤}
 use Rattle.std.specs.List.{AllByRecursion}
 use Rattle.sqlite_value.specs.Order.{Row}
+use Rattle.sqlite_sql.specs.Aggregate.{count}
 use Rattle.sqlite.specs.declared.error.ErrorCode.TheVariants as code
 use Rattle.sqlite.specs.declared.error.Error.{Error}
 use Rattle.sqlite.specs.declared.error.Error.TheVariants.{SqliteFailure}
@@ -60,3 +61,8 @@ ShowsOnly sql params old fits =
 abbrev pub FailsToHandOver : List ℕ → Row → State → State → Error → Type 0
 FailsToHandOver sql params old new e =
     (e ≡ SqliteFailure code.OutOfMemory) ⊎ FailsToQuery sql params old new e
+
+-- whatever rows a query shows, they are one, with this count
+abbrev pub ShowsCount : List ℕ → Row → State → State → ℕ → Type 0
+ShowsCount sql params old new many =
+    (rows : List Row) → Shown sql params old new rows → rows ≡ (count many ∷ []) ∷ []

@@ -3,8 +3,10 @@
 ghost use Rattle.std.specs.Prelude.{◌≡◌, ◌≢◌, ◌≤◌, ◌∷◌, [], ℕ, true, Some};
 ghost use Rattle.std.specs.Prelude.{IfSome, IfOk, IfErr, is_ok};
 ghost use Rattle.sqlite_sql.specs.Aggregate.{count};
-ghost use Rattle.sqlite.specs.State.{HasCleanDisk};
+ghost use Rattle.sqlite.specs.State.{HasCleanDisk, FailsToQuery, Shown};
+ghost use Rattle.sqlite.specs.Values.{bound};
 ghost use Rattle.sqlite.specs.Held.{state};
+ghost use Rattle.row_lemmas.specs.Selects.{IsSelect};
 ghost use Rattle.acq_core.specs.declared.merchant.Merchant.{Merchant};
 ghost use Rattle.acq_core.specs.Tables.{Tables};
 ghost use Rattle.acq_core.specs.Numbers.{is_admitted_count};
@@ -17,6 +19,7 @@ ghost use Rattle.acq_sql_reads.specs.Looked.{Answers, AnswersWhere, LooksOnly};
 ghost use Rattle.acq_sql_reads.specs.Looked.{ShowsGreatest, TellsCount, count_up_to};
 ghost use Rattle.acq_sql_reads.specs.Failing.{FailsOnlyExcused, FailsOnlyExcusedWhere};
 ghost use Rattle.acq_sql_reads.specs.Failing.{FailsForMemory, IsEnrolled, IsTold};
+ghost use Rattle.acq_sql_reads.specs.Shown.{FailsToHandOver, ShowsCount};
 
 use crate::columns::{count_at, read, reference_if_at};
 use crate::enrolments;
@@ -48,19 +51,7 @@ pub fn pending<S: Alter>(conn: &mut Connection<S>, day: Day) -> Result<u64, Erro
     ensures fails { FailsOnlyExcusedWhere (state S.Store conn.old) (state S.Store conn.new) result
         (λ t. IsTold (pending_at t day)) }
 {
-    let rows = pending_rows(conn, day)?;
-    count_of(rows.as_slice())
-}
-
-/// One row with the count.
-fn pending_rows<S: Alter>(conn: &mut Connection<S>, day: Day) -> Result<Vec<Row>, Error>
-    ensures answers { HasCleanDisk (state S.Store conn.new) → (t : Tables)
-        → Holds (state S.Store conn.old).now t → IfOk result
-        (λ rows. rows.items ≡ (count (pending_at t day) ∷ []) ∷ []) }
-    ensures looks { LooksOnly (state S.Store conn.old) (state S.Store conn.new) (is_ok result) }
-    ensures fails { FailsOnlyExcused (state S.Store conn.old) (state S.Store conn.new) result }
-{
-    conn.query_all(PENDING, &[day_value(day)])
+    count_by(conn, PENDING, &[day_value(day)])
 }
 
 /// How many requests wait for their issuer's answer, of all merchants and days.
@@ -71,19 +62,7 @@ pub fn waiting_count<S: Alter>(conn: &mut Connection<S>) -> Result<u64, Error>
     ensures fails { FailsOnlyExcusedWhere (state S.Store conn.old) (state S.Store conn.new) result
         (λ t. IsTold (waiting_count_at t)) }
 {
-    let rows = waiting_count_rows(conn)?;
-    count_of(rows.as_slice())
-}
-
-/// One row with the count.
-fn waiting_count_rows<S: Alter>(conn: &mut Connection<S>) -> Result<Vec<Row>, Error>
-    ensures answers { HasCleanDisk (state S.Store conn.new) → (t : Tables)
-        → Holds (state S.Store conn.old).now t → IfOk result
-        (λ rows. rows.items ≡ (count (waiting_count_at t) ∷ []) ∷ []) }
-    ensures looks { LooksOnly (state S.Store conn.old) (state S.Store conn.new) (is_ok result) }
-    ensures fails { FailsOnlyExcused (state S.Store conn.old) (state S.Store conn.new) result }
-{
-    conn.query_all(WAITING_COUNT, &[])
+    count_by(conn, WAITING_COUNT, &[])
 }
 
 /// How many messages of all merchants count against the limit of a day.
@@ -94,19 +73,7 @@ pub fn used_on<S: Alter>(conn: &mut Connection<S>, day: Day) -> Result<u64, Erro
     ensures fails { FailsOnlyExcusedWhere (state S.Store conn.old) (state S.Store conn.new) result
         (λ t. IsTold (used_on_at t day)) }
 {
-    let rows = used_on_rows(conn, day)?;
-    count_of(rows.as_slice())
-}
-
-/// One row with the count.
-fn used_on_rows<S: Alter>(conn: &mut Connection<S>, day: Day) -> Result<Vec<Row>, Error>
-    ensures answers { HasCleanDisk (state S.Store conn.new) → (t : Tables)
-        → Holds (state S.Store conn.old).now t → IfOk result
-        (λ rows. rows.items ≡ (count (used_on_at t day) ∷ []) ∷ []) }
-    ensures looks { LooksOnly (state S.Store conn.old) (state S.Store conn.new) (is_ok result) }
-    ensures fails { FailsOnlyExcused (state S.Store conn.old) (state S.Store conn.new) result }
-{
-    conn.query_all(USED_ON, &[day_value(day)])
+    count_by(conn, USED_ON, &[day_value(day)])
 }
 
 /// How many terminals there are, of all merchants.
@@ -117,19 +84,7 @@ pub fn terminal_count<S: Alter>(conn: &mut Connection<S>) -> Result<u64, Error>
     ensures fails { FailsOnlyExcusedWhere (state S.Store conn.old) (state S.Store conn.new) result
         (λ t. IsTold (terminal_count_at t)) }
 {
-    let rows = terminal_count_rows(conn)?;
-    count_of(rows.as_slice())
-}
-
-/// One row with the count.
-fn terminal_count_rows<S: Alter>(conn: &mut Connection<S>) -> Result<Vec<Row>, Error>
-    ensures answers { HasCleanDisk (state S.Store conn.new) → (t : Tables)
-        → Holds (state S.Store conn.old).now t → IfOk result
-        (λ rows. rows.items ≡ (count (terminal_count_at t) ∷ []) ∷ []) }
-    ensures looks { LooksOnly (state S.Store conn.old) (state S.Store conn.new) (is_ok result) }
-    ensures fails { FailsOnlyExcused (state S.Store conn.old) (state S.Store conn.new) result }
-{
-    conn.query_all(TERMINAL_COUNT, &[])
+    count_by(conn, TERMINAL_COUNT, &[])
 }
 
 /// How many ranges there are.
@@ -140,19 +95,47 @@ pub fn range_count<S: Alter>(conn: &mut Connection<S>) -> Result<u64, Error>
     ensures fails { FailsOnlyExcusedWhere (state S.Store conn.old) (state S.Store conn.new) result
         (λ t. IsTold (range_count_at t)) }
 {
-    let rows = range_count_rows(conn)?;
+    count_by(conn, RANGE_COUNT, &[])
+}
+
+/// The count that a query of count(*) tells.
+fn count_by<S: Alter>(
+    conn: &mut Connection<S>,
+    sql: &str,
+    params: &[ValueRef<'_>],
+) -> Result<u64, Error>
+    ensures answers { HasCleanDisk (state S.Store conn.new) → (many : ℕ)
+        → ShowsCount sql.now (bound params.now) (state S.Store conn.old)
+        (state S.Store conn.new) many
+        → IfOk result (λ n. n ≡ many) }
+    ensures looks { IsSelect sql.now
+        → LooksOnly (state S.Store conn.old) (state S.Store conn.new) (is_ok result) }
+    ensures fails { HasCleanDisk (state S.Store conn.new) → (many : ℕ)
+        → ShowsCount sql.now (bound params.now) (state S.Store conn.old)
+        (state S.Store conn.new) many
+        → IsTold many → IfErr result (FailsToHandOver sql.now (bound params.now)
+        (state S.Store conn.old) (state S.Store conn.new)) }
+{
+    let rows = count_rows(conn, sql, params)?;
     count_of(rows.as_slice())
 }
 
-/// One row with the count.
-fn range_count_rows<S: Alter>(conn: &mut Connection<S>) -> Result<Vec<Row>, Error>
-    ensures answers { HasCleanDisk (state S.Store conn.new) → (t : Tables)
-        → Holds (state S.Store conn.old).now t → IfOk result
-        (λ rows. rows.items ≡ (count (range_count_at t) ∷ []) ∷ []) }
-    ensures looks { LooksOnly (state S.Store conn.old) (state S.Store conn.new) (is_ok result) }
-    ensures fails { FailsOnlyExcused (state S.Store conn.old) (state S.Store conn.new) result }
+/// The rows that it shows.
+fn count_rows<S: Alter>(
+    conn: &mut Connection<S>,
+    sql: &str,
+    params: &[ValueRef<'_>],
+) -> Result<Vec<Row>, Error>
+    ensures shows { HasCleanDisk (state S.Store conn.new) → IfOk result
+        (λ rows. Shown sql.now (bound params.now) (state S.Store conn.old) (state S.Store conn.new)
+        rows.items) }
+    ensures looks { IsSelect sql.now
+        → LooksOnly (state S.Store conn.old) (state S.Store conn.new) (is_ok result) }
+    ensures fails { HasCleanDisk (state S.Store conn.new) → IfErr result
+        (FailsToQuery sql.now (bound params.now) (state S.Store conn.old)
+        (state S.Store conn.new)) }
 {
-    conn.query_all(RANGE_COUNT, &[])
+    conn.query_all(sql, params)
 }
 
 /// The count that the one row of count(*) tells.

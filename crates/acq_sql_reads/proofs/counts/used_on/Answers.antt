@@ -1,37 +1,24 @@
-use Rattle.std.proofs.Common.{◌∙◌}
-use Rattle.std.proofs.lemmas.Result.{IfOk-from_err, IfOk-weaker, err_from_is_err_and}
 use Rattle.sqlite.specs.Held.{state}
 use Rattle.acq_book.specs.Lookups.{used_on_at}
-use Rattle.acq_sql_reads.proofs.Failing.{memory_excused}
-use Rattle.acq_sql_reads.proofs.Leaves.{looks_in_vain, looks_once}
+use Rattle.acq_sql_reads.proofs.TextLemmas.{used_on_asks}
+use Rattle.acq_sql_reads.proofs.CountReads.{used_found}
+use Rattle.acq_sql_reads.proofs.Failing.{used_on_fails}
 use Rattle.acq_sql_reads.proofs.counts.used_on.Goals as goal
-
-pub returns-in_err-rows-clause-answers : goal.returns-in_err-rows-clause-answers
-returns-in_err-rows-clause-answers g c clean t holds =
-    IfOk-from_err c.from_residual.result _ c.from_residual.ensures.0
-
-pub returns-in_err-rows-clause-looks : goal.returns-in_err-rows-clause-looks
-returns-in_err-rows-clause-looks g c =
-    looks_in_vain c.in_err-rows.ensures.looks c.from_residual.result c.from_residual.ensures.0
-
-pub returns-in_err-rows-clause-fails : goal.returns-in_err-rows-clause-fails
-returns-in_err-rows-clause-fails g c clean t at past free =
-    let p = err_from_is_err_and c.from_residual.result c.from_residual.ensures.1 in
-    rw (p.1, p.2) (c.in_err-rows.ensures.fails clean t at past.0 free)
 
 pub returns-clause-answers : goal.returns-clause-answers
 returns-clause-answers g c clean t holds =
-    IfOk-weaker c.count_of.result _ _
-    (λ n is. is (used_on_at t c.args.day)
-    (c.as_slice.ensures.value ∙ c.in_ok-rows.ensures.answers clean t holds))
-    c.count_of.ensures.value
+    let found = used_found c.args.day (state g.S.Store c.args.conn.now)
+    (state g.S.Store c.count_by.new.conn) t holds.runs holds.rows in
+    c.count_by.ensures.answers clean (used_on_at t c.args.day) (rw c.day_value.ensures found)
 
 pub returns-clause-looks : goal.returns-clause-looks
-returns-clause-looks g c = looks_once c.in_ok-rows.ensures.looks _
+returns-clause-looks g c = c.count_by.ensures.looks used_on_asks.begins
 
 pub returns-clause-fails : goal.returns-clause-fails
 returns-clause-fails g c clean t at past free =
-    memory_excused (state g.S.Store c.args.conn.now)
-    (state g.S.Store c.used_on_rows.new.conn) c.count_of.result
-    (c.count_of.ensures.fails (used_on_at t c.args.day)
-    (c.as_slice.ensures.value ∙ c.in_ok-rows.ensures.answers clean t at.holds) past.1)
+    let found = used_found c.args.day (state g.S.Store c.args.conn.now)
+    (state g.S.Store c.count_by.new.conn) t at.holds.runs at.holds.rows in
+    let told = c.count_by.ensures.fails clean (used_on_at t c.args.day)
+    (rw c.day_value.ensures found) past.1 in
+    used_on_fails (state g.S.Store c.args.conn.now) (state g.S.Store c.count_by.new.conn)
+    c.count_by.result t at free c.args.day (rw c.day_value.ensures at told)
