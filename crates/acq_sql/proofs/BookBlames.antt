@@ -76,7 +76,7 @@ blames_at {S} {T} g old seen new is answer result fits fails same fault clean o 
     let was = subst (λ (k : Kept S). HasNumbersLeft (state g k.connection).now
     → FailsExcused version (state g k.connection) (state g new.connection) answer fits) is fails in
     told answer result (state g seen.connection) (state g new.connection) same fault
-    (was room.1 clean (tables g seen) o.opened.at fit room.0)
+    (was room.numbers clean (tables g seen) o.opened.at fit room.unlimited)
 
 -- so it is of a look-up, which may ask more of such tables
 pub blames_of : {S T : Type 0} (g : Ghosts S) (old seen : Kept S) (connection : Held S)
@@ -90,7 +90,7 @@ pub blames_of : {S T : Type 0} (g : Ghosts S) (old seen : Kept S) (connection : 
 blames_of g old seen connection failures is answer result fits fails same fault fit clean o room =
     blames_at g old seen (looked old connection failures) is answer result fits (λ left. fails)
     same fault clean o room
-    (fit (state g seen.connection) (tables g seen) o.opened room.1)
+    (fit (state g seen.connection) (tables g seen) o.opened room.numbers)
 
 -- and of a change that fits and leads to tables with a past, where the request that it answers is
 -- there
@@ -147,12 +147,12 @@ module _ (s : State) (t : Tables) (o : IsOpenAt s t) (left : HasNumbersLeft s.no
   few_terminals : HasNumberLeft t.terminals
   few_terminals =
       number_left terminal_row (s.now.trees terminals_tree) t.terminals o.at.holds.rows.terminals
-      (left terminals_tree)
+      left.terminals
 
   few_requests : HasNumberLeft t.requests
   few_requests =
       number_left request_row (s.now.trees requests_tree) t.requests o.at.holds.rows.requests
-      (left requests_tree)
+      left.requests
 
   pub has_past : HasPast t
   has_past = o.past
@@ -163,14 +163,14 @@ module _ (s : State) (t : Tables) (o : IsOpenAt s t) (left : HasNumbersLeft s.no
   pub ranges_told : HasPast t × IsTold (range_count_at t)
   ranges_told =
       let same = ap length o.at.holds.rows.ranges ∙ length-map range_row t.ranges in
-      let few = left ranges_tree in
+      let few = left.ranges in
       (o.past, omega (arith, same, few))
 
   pub merchants_walked : HasPast t × CanBeWalked (merchants_at t)
   merchants_walked =
       let few =
       number_left merchant_row (s.now.trees merchants_tree) t.merchants o.at.holds.rows.merchants
-      (left merchants_tree) in
+      left.merchants in
       let same = order_length (λ a b. is_lt (slice_cmp nat_cmp a.id b.id)) t.merchants in
       (o.past, omega (arith, few, same))
 
@@ -204,7 +204,7 @@ module _ (day : ℕ) (s : State) (t : Tables) (o : IsOpenAt s t) (left : HasNumb
   postings_walked =
       let few =
       number_left posting_row (s.now.trees postings_tree) t.postings o.at.holds.rows.postings
-      (left postings_tree) in
+      left.postings in
       let on_day : ℕ × Posting → Bool = λ row. row.1.day == day in
       let some = length-filter on_day t.postings in
       let same = order_length is_posting_before (filter on_day t.postings) in

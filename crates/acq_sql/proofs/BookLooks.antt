@@ -26,7 +26,7 @@ use Rattle.acq_sql_reads.proofs.Leaves.{at_unchanged, kept}
 use Rattle.acq_sql.specs.Kept.{Kept}
 use Rattle.acq_sql.specs.Memos.{Recalls}
 use Rattle.acq_sql.specs.Opened.{tables, is_honest, is_open, may_leave}
-use Rattle.acq_sql.specs.Opened.{leaves_books, store_faults, has_room}
+use Rattle.acq_sql.specs.Opened.{leaves_books, store_faults, has_room, IsRoomy}
 
 -- ---- what a book answers of what its database answered
 
@@ -58,6 +58,15 @@ apart_of t (opening, book) =
 -- the disk's count rose
 pub risen_by : {old new : ℕ} → MoreFaults old new → HasRisen old new
 risen_by more = grind (arith, more)
+
+-- room is left where what is seen stays
+pub stays_roomy : (old new : State) → new.step_limit ≡ old.step_limit → new.now ≡ old.now
+    → IsRoomy old → IsRoomy new
+stays_roomy old new limit same room =
+    record {
+      unlimited = limit ∙ room.unlimited;
+      numbers = subst HasNumbersLeft (sym same) room.numbers;
+    }
 
 -- ---- look-ups
 
@@ -150,8 +159,7 @@ module _ {S : Type 0} (g : Ghosts S) (old new : Kept S) (succeeded : Bool)
   -- room is left as it was
   room_at : is_open g new → has_room g old → has_room g new
   room_at o room =
-      let same = sym (now_kept o.opened.clean o.opened.at.is_open) in
-      (looks.stop.limit ∙ room.0, subst HasNumbersLeft same room.1)
+      stays_roomy _ _ looks.stop.limit (now_kept o.opened.clean o.opened.at.is_open) room
 
   -- what a look-up over the connection leaves, a look-up of the book leaves
   pub looks_at : old.failures ≤ new.failures

@@ -9,15 +9,10 @@ use Rattle.acq_core.specs.declared.status.Status.{Status}
 use Rattle.acq_core.specs.Tables.{count, is_pending, used_in, with_changed}
 use Rattle.acq_core.proofs.Counts.{count-push}
 use Rattle.acq_sql.specs.Memos.{WaitsNoOther}
-use Rattle.acq_sql.specs.declared.memo.waiting.Waiting.{Waiting}
-use Rattle.acq_sql.specs.declared.memo.waiting.Waiting.TheVariants as waiting
+use Rattle.acq_sql.specs.declared.memo.may_wait.MayWait.{MayWait}
+use Rattle.acq_sql.specs.declared.memo.may_wait.MayWait.TheVariants as may_wait
 
 -- ---- all of a list
-
-all_push : {X : Type 0} (P : X → Type 0) (xs : List X) (y : X) → AllByRecursion P xs → P y
-    → AllByRecursion P (xs ++ y ∷ [])
-all_push P [] y all last = (last, tt)
-all_push P (x ∷ xs) y all last = (all.0, all_push P xs y all.1 last)
 
 all_changed : {X : Type 0} (P Q : X → Type 0) (change : X → X) → ((x : X) → P x → Q (change x))
     → (xs : List X) → AllByRecursion P xs → AllByRecursion Q (map change xs)
@@ -40,23 +35,11 @@ only_some : (key : RequestKey) (row : Request) → waits row ≡ false → waits
     → row.key ≡ key
 only_some key row is not = absurd (true≢false (sym not ∙ is))
 
-pub none_weaker : (w : Waiting) (rows : List Request) → WaitsNoOther waiting.None rows
+pub none_weaker : (w : MayWait) (rows : List Request) → WaitsNoOther may_wait.None rows
     → WaitsNoOther w rows
-none_weaker waiting.Any rows all = tt
-none_weaker (waiting.Only key) rows all = all_weaker _ _ (only_some key) rows all
-none_weaker waiting.None rows all = all
-
-pub settled_comes : (w : Waiting) (rows : List Request) (row : Request) → waits row ≡ false
-    → WaitsNoOther w rows → WaitsNoOther w (rows ++ row ∷ [])
-settled_comes waiting.Any rows row is all = tt
-settled_comes (waiting.Only key) rows row is all =
-    all_push _ rows row all (only_some key row is)
-settled_comes waiting.None rows row is all = all_push _ rows row all is
-
-pub waiting_comes : (rows : List Request) (row : Request) → WaitsNoOther waiting.None rows
-    → WaitsNoOther (waiting.Only row.key) (rows ++ row ∷ [])
-waiting_comes rows row all =
-    all_push _ rows row (none_weaker (waiting.Only row.key) rows all) (λ is. refl)
+none_weaker may_wait.Any rows all = tt
+none_weaker (may_wait.Only key) rows all = all_weaker _ _ (only_some key) rows all
+none_weaker may_wait.None rows all = all
 
 -- ---- who waits, when the requests with a key are changed so that they don't
 
@@ -97,20 +80,20 @@ module _ (key : RequestKey) (change : Request → Request) (status : Status)
       go true here = not_it row
       go false other = stays (waits row) refl other
 
-  pub settled_stay : (w : Waiting) (rows : List Request) → WaitsNoOther w rows
+  pub settled_stay : (w : MayWait) (rows : List Request) → WaitsNoOther w rows
       → WaitsNoOther w (with_changed key change rows)
-  settled_stay waiting.Any rows all = tt
-  settled_stay (waiting.Only only) rows all = all_changed _ _ _ (only_more only) rows all
-  settled_stay waiting.None rows all = all_changed _ _ _ none_more rows all
+  settled_stay may_wait.Any rows all = tt
+  settled_stay (may_wait.Only only) rows all = all_changed _ _ _ (only_more only) rows all
+  settled_stay may_wait.None rows all = all_changed _ _ _ none_more rows all
 
   pub last_settled : (only : RequestKey) → same_key only key ≡ true → (rows : List Request)
-      → WaitsNoOther (waiting.Only only) rows
-      → WaitsNoOther waiting.None (with_changed key change rows)
+      → WaitsNoOther (may_wait.Only only) rows
+      → WaitsNoOther may_wait.None (with_changed key change rows)
   last_settled only same rows all = all_changed _ _ _ (none_left only same) rows all
 
 -- ---- how many wait
 
-pub none_counted : (rows : List Request) → WaitsNoOther waiting.None rows
+pub none_counted : (rows : List Request) → WaitsNoOther may_wait.None rows
     → length (filter waits rows) ≡ 0
 none_counted [] all = refl
 none_counted (row ∷ rows) all =
@@ -118,24 +101,24 @@ none_counted (row ∷ rows) all =
     (none_counted rows all.1)
 
 pub none_found : (rows : List Request) → length (filter waits rows) ≡ 0
-    → WaitsNoOther waiting.None rows
+    → WaitsNoOther may_wait.None rows
 none_found [] none = tt
 none_found (row ∷ rows) none =
     go (waits row) refl none (none_found rows)
   where
     go : (b : Bool) → waits row ≡ b
         → length (cond b (row ∷ filter waits rows) (filter waits rows)) ≡ 0
-        → (length (filter waits rows) ≡ 0 → WaitsNoOther waiting.None rows)
-        → WaitsNoOther waiting.None (row ∷ rows)
+        → (length (filter waits rows) ≡ 0 → WaitsNoOther may_wait.None rows)
+        → WaitsNoOther may_wait.None (row ∷ rows)
     go true is one rest = absurd (let no = one in cc)
     go false is none rest = (is, rest none)
 
 -- ---- how many count on a day
 
-pub used_more : (rows : List Request) (row : Request) (day : ℕ)
+pub used_pushed : (rows : List Request) (row : Request) (day : ℕ)
     → used_in (rows ++ row ∷ []) day
     ≡ cond (row.admitted && (row.day == day)) (1 + used_in rows day) (used_in rows day)
-used_more rows row day = count-push (λ row. row.admitted && (row.day == day)) rows row
+used_pushed rows row day = count-push (λ row. row.admitted && (row.day == day)) rows row
 
 count-changed : {X : Type 0} (p : X → Bool) (change : X → X) → ((x : X) → p (change x) ≡ p x)
     → (xs : List X) → count p (map change xs) ≡ count p xs

@@ -15,7 +15,7 @@ FailsExcusably old new result =
     → IfErr result (IsExcused old new)
 
 -- over such a connection, the store is blamed only where its own count of its faults rose
-abbrev pub BlamesStore : State → State → OpeningFault → Type 0
-BlamesStore old new fault =
+abbrev pub OpeningBlamesStore : State → State → OpeningFault → Type 0
+OpeningBlamesStore old new fault =
     HasCleanDisk new → IsTrue old.is_open → old.step_limit ≡ None → fault ≡ Store
     → HasRisen old.faults new.faults

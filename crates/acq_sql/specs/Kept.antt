@@ -8,8 +8,8 @@ use Rattle.acq_message.specs.declared.service.Service.TheVariants as service
 use Rattle.acq_message.specs.Services.{digits_of, service_of}
 use Rattle.acq_sql.specs.declared.memo.Memo.{Memo}
 use Rattle.acq_sql.specs.declared.memo.used_on.UsedOn.{UsedOn}
-use Rattle.acq_sql.specs.declared.memo.waiting.Waiting.{Waiting}
-use Rattle.acq_sql.specs.declared.memo.waiting.Waiting.TheVariants as waiting
+use Rattle.acq_sql.specs.declared.memo.may_wait.MayWait.{MayWait}
+use Rattle.acq_sql.specs.declared.memo.may_wait.MayWait.TheVariants as may_wait
 
 -- its connection, how many of its calls failed for another cause than memory, and what it recalls
 -- of its tables
@@ -52,22 +52,22 @@ key_code =
     (λ k. ap (λ s. record k { service = s }) (services_named k.service))
 
 -- whether it is any, and else the key of the only one, if it is not none
-abbrev pub split : Waiting → Option (Option RequestKey)
-split waiting.Any = None
-split (waiting.Only key) = Some (Some key)
-split waiting.None = Some None
+abbrev pub split : MayWait → Option (Option RequestKey)
+split may_wait.Any = None
+split (may_wait.Only key) = Some (Some key)
+split may_wait.None = Some None
 
-abbrev pub joined : Option (Option RequestKey) → Waiting
-joined None = waiting.Any
-joined (Some (Some key)) = waiting.Only key
-joined (Some None) = waiting.None
+abbrev pub joined : Option (Option RequestKey) → MayWait
+joined None = may_wait.Any
+joined (Some (Some key)) = may_wait.Only key
+joined (Some None) = may_wait.None
 
-pub joins : (w : Waiting) → joined (split w) ≡ w
-joins waiting.Any = refl
-joins (waiting.Only key) = refl
-joins waiting.None = refl
+pub joins : (w : MayWait) → joined (split w) ≡ w
+joins may_wait.Any = refl
+joins (may_wait.Only key) = refl
+joins may_wait.None = refl
 
-abbrev pub waiting_code : Coded Waiting
+abbrev pub waiting_code : Coded MayWait
 waiting_code =
     code_by (Option (Option RequestKey)) (coded_option (coded_option key_code)) split joined joins
 
@@ -78,7 +78,7 @@ used_code =
 
 abbrev pub memo_code : Coded Memo
 memo_code =
-    code_by (Waiting × Option UsedOn) (coded× waiting_code (coded_option used_code))
+    code_by (MayWait × Option UsedOn) (coded× waiting_code (coded_option used_code))
     (λ m. (m.waiting, m.used)) (λ p. record { waiting = p.0; used = p.1 }) (λ _. refl)
 
 abbrev pub kept_code : {S : Type 0} → Coded S → Coded (Kept S)

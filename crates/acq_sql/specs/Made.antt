@@ -15,6 +15,9 @@ use Rattle.sqlite.specs.Listing.{understood}
 use Rattle.sqlite.specs.State.{State, HasCleanDisk}
 use Rattle.row_lemmas.specs.Created.{Makes, Indexes, IsBlank, IsAllowed, are_ascii}
 use Rattle.row_lemmas.proofs.StatementFailures.{tail_of, names_of}
+use Rattle.acq_core.specs.Tables.{Opening, new_tables}
+use Rattle.acq_sql_changes.specs.Changed.{IsAt}
+use Rattle.acq_sql_changes.specs.Refused.{HasNumbersLeft}
 use Rattle.acq_sql_changes.specs.Widened.{IsNeverRefused}
 
 -- the database is sound and has this schema, with no rows
@@ -92,6 +95,11 @@ RefusesNoIndex old new result sql =
     → TakesIndex schema sql at table index → IsNeverRefused old new result (IsBlank schema)
 
 -- ---- the whole book
+
+-- the connection is at the tables of a new book, which have no rows yet
+pub record IsNewBook (opening : Opening) (s : State) : Type 0 where
+  pub at : IsAt s (new_tables opening)
+  pub numbers : HasNumbersLeft s.now
 
 -- a call that failed leaves the database as it was between two transactions
 abbrev pub LeavesDatabase : {T E : Type 0} → State → State → Result T E → Type 0

@@ -5,15 +5,15 @@ use Rattle.acq_core.specs.declared.request.Request.{Request}
 use Rattle.acq_core.specs.Tables.{Tables, is_pending, used_in}
 use Rattle.acq_sql.specs.declared.memo.Memo.{Memo}
 use Rattle.acq_sql.specs.declared.memo.used_on.UsedOn.{UsedOn}
-use Rattle.acq_sql.specs.declared.memo.waiting.Waiting.{Waiting}
-use Rattle.acq_sql.specs.declared.memo.waiting.Waiting.TheVariants as waiting
+use Rattle.acq_sql.specs.declared.memo.may_wait.MayWait.{MayWait}
+use Rattle.acq_sql.specs.declared.memo.may_wait.MayWait.TheVariants as may_wait
 
 -- no other of these requests waits
-abbrev pub WaitsNoOther : Waiting → List Request → Type 0
-WaitsNoOther waiting.Any rows = Unit {0}
-WaitsNoOther (waiting.Only key) rows =
+abbrev pub WaitsNoOther : MayWait → List Request → Type 0
+WaitsNoOther may_wait.Any rows = Unit {0}
+WaitsNoOther (may_wait.Only key) rows =
     AllByRecursion (λ row. is_pending row.status ≡ true → row.key ≡ key) rows
-WaitsNoOther waiting.None rows = AllByRecursion (λ row. is_pending row.status ≡ false) rows
+WaitsNoOther may_wait.None rows = AllByRecursion (λ row. is_pending row.status ≡ false) rows
 
 -- so many of them count against the limit of their day
 abbrev pub CountsUsed : Option UsedOn → List Request → Type 0
@@ -26,4 +26,4 @@ pub record Recalls (memo : Memo) (t : Tables) : Type 0 where
 
 -- a book that was just made or opened recalls nothing
 abbrev pub nothing_recalled : Memo
-nothing_recalled = record { waiting = waiting.Any; used = None }
+nothing_recalled = record { waiting = may_wait.Any; used = None }

@@ -29,6 +29,11 @@ pub record IsOpenBook (s : State) (t : Tables) (memo : Memo) : Type 0 where
   pub opened : IsOpenAt s t
   pub recalls : Recalls memo t
 
+-- no limit of steps is set, and each table that rows are added to has a number left for one more
+pub record IsRoomy (s : State) : Type 0 where
+  pub unlimited : s.step_limit ≡ None
+  pub numbers : HasNumbersLeft s.now
+
 module _ {S : Type 0} (g : Ghosts S) where
   -- the tables
   abbrev pub tables : Kept S → Tables
@@ -54,11 +59,9 @@ module _ {S : Type 0} (g : Ghosts S) where
       (trees : Trees) → (state g book.connection).may_leave trees
       → HoldsAfter (tables_left trees) trees
 
-  -- no limit of steps is set, and each tree has a number left for one more row
+  -- nothing but memory and a fault of the store is in the way of its calls
   abbrev pub has_room : Kept S → Type 0
-  has_room book =
-      ((state g book.connection).step_limit ≡ None)
-      × HasNumbersLeft (state g book.connection).now
+  has_room book = IsRoomy (state g book.connection)
 
   -- how many times the disk has failed or refused
   abbrev pub store_faults : Kept S → ℕ

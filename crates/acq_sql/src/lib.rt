@@ -12,7 +12,7 @@ pub mod opening;
 mod refusal;
 mod sql_book;
 
-pub use memo::{Memo, UsedOn, Waiting};
+pub use memo::{MayWait, Memo, UsedOn};
 pub use opening::OpeningFault;
 pub use refusal::Refusal;
 pub use sql_book::SqlBook;

@@ -5,20 +5,20 @@ ghost use Rattle.acq_core.specs.Tables.{Tables, after};
 ghost use Rattle.acq_book.specs.Lookups.{used_on_at, waiting_count_at};
 ghost use Rattle.acq_sql.specs.Memos.{CountsUsed, Recalls, nothing_recalled};
 
+mod may_wait;
 mod used_on;
-mod waiting;
 
 use acq_book::BookFault;
 use acq_core::Change;
 use day_totals::Day;
+pub use may_wait::MayWait;
 pub use used_on::UsedOn;
-pub use waiting::Waiting;
 
 /// What a book recalls of its tables since it looked, so that a status that is asked for each
 /// second doesn't look at all requests each time. A change keeps it up to date.
 #[derive(Clone, Copy)]
 pub struct Memo {
-    pub(crate) waiting: Waiting,
+    pub(crate) waiting: MayWait,
     pub(crate) used: Option<UsedOn>,
 }
 
@@ -28,7 +28,7 @@ impl Memo {
         ensures { result ≡ nothing_recalled }
     {
         Memo {
-            waiting: Waiting::Any,
+            waiting: MayWait::Any,
             used: None,
         }
     }
@@ -53,7 +53,7 @@ impl Memo {
     pub(crate) fn none_waits(&self) -> bool
         ensures { result ≡ true → (t : Tables) → Recalls self.now t → waiting_count_at t ≡ 0 }
     {
-        matches!(self.waiting, Waiting::None)
+        matches!(self.waiting, MayWait::None)
     }
 
     /// How many messages count on a day, if it is known.
@@ -74,7 +74,7 @@ impl Memo {
         ensures keeps { (t : Tables) → Recalls self.new t → Recalls self.old t }
     {
         if matches!(told, Ok(0)) {
-            self.waiting = Waiting::None;
+            self.waiting = MayWait::None;
         }
     }
 

@@ -1,7 +1,7 @@
 //! A book in a database.
 
 ghost use Rattle.std.specs.Prelude.{◌≡◌, ◌≢◌, ◌↔◌, Err, IfErr, IfOk, IsTrue, Ok, false, true};
-ghost use Rattle.std.specs.Prelude.{option_map};
+ghost use Rattle.std.specs.Prelude.{None, option_map};
 ghost use Rattle.sqlite.specs.Held.{state};
 ghost use Rattle.sqlite.specs.State.{HasCleanDisk, Survives};
 ghost use Rattle.row_lemmas.specs.Ready.{LeavesOnly};
@@ -12,13 +12,13 @@ ghost use Rattle.acq_sql_rows.specs.Rows.{version, version_of_six_digits};
 ghost use Rattle.acq_sql_rows.specs.Schema.{no_schema};
 ghost use Rattle.acq_sql_changes.specs.Changed.{HoldsAfter, IsAt, IsAtOf};
 ghost use Rattle.acq_sql_reads.specs.Looked.{LooksOnly};
-ghost use Rattle.acq_sql.specs.Blames.{BlamesStore};
+ghost use Rattle.acq_sql.specs.Blames.{OpeningBlamesStore};
 ghost use Rattle.acq_sql.specs.Checked.{HasBadVersion, IsFailure, Judges};
 ghost use Rattle.acq_sql.specs.declared.opening.opening_fault.OpeningFault.TheVariants.{NotABook};
 ghost use Rattle.acq_sql.specs.Made.{LeavesDatabase};
 ghost use Rattle.acq_sql.specs.Memos.{nothing_recalled};
 ghost use Rattle.acq_sql.specs.Migrated.{IsAsItSays, IsOfSixDigits};
-ghost use Rattle.acq_sql.specs.Opened.{IsOpenAt};
+ghost use Rattle.acq_sql.specs.Opened.{IsOpenAt, IsRoomy};
 
 use crate::answers::counted;
 use crate::memo::Memo;
@@ -94,12 +94,15 @@ impl<S: Alter> SqlBook<S> {
             → LeavesOnly
             (HoldsAfter (new_tables (record { limit = limit; first_day = first_day })))
             (state S.Store book.connection)) }
+        ensures room { IfOk result (λ book. HasCleanDisk (state S.Store book.connection)
+            → (state S.Store connection).step_limit ≡ None
+            → IsRoomy (state S.Store book.connection)) }
         ensures uncounted { IfOk result (λ book. book.failures ≡ 0) }
         ensures recalls { IfOk result (λ book. book.memo ≡ nothing_recalled) }
         ensures refused_stop { IfErr result (λ refusal.
             Survives (state S.Store connection) (state S.Store refusal.connection)
             (HoldsAfter (new_tables (record { limit = limit; first_day = first_day })))) }
-        ensures blames { IfErr result (λ refusal. BlamesStore (state S.Store connection)
+        ensures blames { IfErr result (λ refusal. OpeningBlamesStore (state S.Store connection)
             (state S.Store refusal.connection) refusal.fault) }
     {
         every_opening(limit, first_day);
@@ -128,6 +131,8 @@ impl<S: Alter> SqlBook<S> {
             → Judges {T = Unit {0}} version (state S.Store connection).now (Ok tt)) }
         ensures told { IfErr result (λ refusal. HasCleanDisk (state S.Store refusal.connection)
             → Judges {T = Unit {0}} version (state S.Store connection).now (Err refusal.fault)) }
+        ensures room { IfOk result (λ book. HasCleanDisk (state S.Store book.connection)
+            → IsRoomy (state S.Store connection) → IsRoomy (state S.Store book.connection)) }
         ensures uncounted { IfOk result (λ book. book.failures ≡ 0) }
         ensures recalls { IfOk result (λ book. book.memo ≡ nothing_recalled) }
         // It is only looked at.
@@ -141,7 +146,7 @@ impl<S: Alter> SqlBook<S> {
         ensures refused_stop { IfErr result (λ refusal.
             Survives (state S.Store connection) (state S.Store refusal.connection) (λ _. ⊥)) }
         ensures blames { IfErr result (λ refusal. ¬ HasBadVersion (state S.Store connection).now
-            → BlamesStore (state S.Store connection) (state S.Store refusal.connection)
+            → OpeningBlamesStore (state S.Store connection) (state S.Store refusal.connection)
             refusal.fault) }
     {
         match check_book(&mut connection, alloc, VERSION) {
@@ -193,7 +198,7 @@ impl<S: Alter> SqlBook<S> {
             (λ trees. (t : Tables) → IsOfSixDigits (state S.Store connection) t
             → HoldsAfter (widened_tables t) trees)) }
         ensures blames { IfErr result (λ refusal. IsAsItSays (state S.Store connection)
-            → BlamesStore (state S.Store connection) (state S.Store refusal.connection)
+            → OpeningBlamesStore (state S.Store connection) (state S.Store refusal.connection)
             refusal.fault) }
     {
         pasts_are_widened();

@@ -80,7 +80,7 @@ module _ {change : Change} {fits : Tables → Type 0} {db : Database} {t : Table
   requests_left : HasNumberLeft t.requests
   requests_left =
       number_left request_row (db.trees requests_tree) t.requests taken.holds.rows.requests
-      (taken.numbers requests_tree)
+      taken.numbers.requests
 
   pub short_requests : HasShortRequests t
   short_requests = record { texts = taken.takes.before.texts; room = requests_left }
@@ -95,7 +95,7 @@ module _ {change : Change} {fits : Tables → Type 0} {db : Database} {t : Table
         fits = has_room u h.runs merchant day more
             (more_tallied t u h.runs merchant day more come h.tallied) (short h.short);
         room = number_left running_row (db.trees running_tree) h.runs h.rows.running
-            (taken.numbers running_tree);
+            taken.numbers.running;
       }
 
   -- a request with a new key
@@ -123,7 +123,7 @@ module _ {change : Change} {fits : Tables → Type 0} {db : Database} {t : Table
         room =
             subst HasNumberLeft same
             (number_left posting_row (db.trees postings_tree) t.postings
-            taken.holds.rows.postings (taken.numbers postings_tree));
+            taken.holds.rows.postings taken.numbers.postings);
       }
 
   -- so it is of a reconciliation
@@ -146,7 +146,7 @@ module _ {change : Change} {fits : Tables → Type 0} {db : Database} {t : Table
         room =
             subst HasNumberLeft same
             (number_left reconciliation_row (db.trees reconciliations_tree) t.reconciliations
-            taken.holds.rows.reconciliations (taken.numbers reconciliations_tree));
+            taken.holds.rows.reconciliations taken.numbers.reconciliations);
       }
 
 -- ---- enrolments
@@ -158,7 +158,7 @@ module _ {db : Database} {t : Tables} where
       record {
         name = taken.takes.fits;
         room = number_left merchant_row (db.trees merchants_tree) t.merchants
-            taken.holds.rows.merchants (taken.numbers merchants_tree);
+            taken.holds.rows.merchants taken.numbers.merchants;
       }
 
   pub takes_terminal : (x : Terminal) → IsTaken (change.AddTerminal x) AnyTables db t
@@ -167,7 +167,7 @@ module _ {db : Database} {t : Tables} where
       record {
         name = taken.takes.fits;
         room = number_left terminal_row (db.trees terminals_tree) t.terminals
-            taken.holds.rows.terminals (taken.numbers terminals_tree);
+            taken.holds.rows.terminals taken.numbers.terminals;
       }
 
 -- ---- ranges

@@ -19,7 +19,9 @@ use Rattle.acq_core.specs.declared.reconciliation.Reconciliation.{Reconciliation
 use Rattle.acq_core.specs.Tables.{Tables, after, postings_before, reconciliations_before}
 use Rattle.acq_book.specs.Fits.{Fits}
 use Rattle.acq_book.specs.Lookups.{merchant_at, has_terminal_at, request_at}
-use Rattle.acq_sql_rows.specs.Schema.{book_schema}
+use Rattle.acq_sql_rows.specs.Schema.{book_schema, merchants_tree, terminals_tree, ranges_tree}
+use Rattle.acq_sql_rows.specs.Schema.{requests_tree, postings_tree, reconciliations_tree}
+use Rattle.acq_sql_rows.specs.Schema.{running_tree}
 use Rattle.acq_sql_rows.specs.Rows.{version}
 use Rattle.acq_sql_rows.specs.Tallies.{Tally, Running, FitsTally, plus, tally_in}
 use Rattle.acq_sql_rows.specs.Relation.{HoldsRows}
@@ -129,9 +131,15 @@ pub record Takes (change : Change) (t : Tables) : Type 0 where
   pub before : HasBookRows t
   pub later : HasBookRows (after t change)
 
--- each tree has a number left for one more row
-abbrev pub HasNumbersLeft : Database → Type 0
-HasNumbersLeft db = (tree : ℕ) → HasNumberLeft (db.trees tree)
+-- each table has a number left for one more row
+pub record HasNumbersLeft (db : Database) : Type 0 where
+  pub merchants : HasNumberLeft (db.trees merchants_tree)
+  pub terminals : HasNumberLeft (db.trees terminals_tree)
+  pub ranges : HasNumberLeft (db.trees ranges_tree)
+  pub requests : HasNumberLeft (db.trees requests_tree)
+  pub postings : HasNumberLeft (db.trees postings_tree)
+  pub reconciliations : HasNumberLeft (db.trees reconciliations_tree)
+  pub running : HasNumberLeft (db.trees running_tree)
 
 -- the posting's number is the next of its merchant and day
 abbrev pub IsNextPosting : ℕ → Posting → Tables → Type 0

@@ -18,7 +18,7 @@ use Rattle.row_lemmas.proofs.StatementFailures.{excused_only, excused_wider}
 use Rattle.acq_sql_changes.specs.Widened.{IsNeverRefused}
 use Rattle.acq_sql_changes.specs.Written.{CommitsNothing}
 use Rattle.acq_sql_changes.proofs.Commits.{begins, same_rows, was_clean}
-use Rattle.acq_sql.specs.Blames.{BlamesStore, FailsExcusably}
+use Rattle.acq_sql.specs.Blames.{OpeningBlamesStore, FailsExcusably}
 use Rattle.acq_sql.specs.Faults.{fault_of}
 use Rattle.acq_sql.specs.declared.opening.opening_fault.OpeningFault.TheVariants.{Memory, Store}
 use Rattle.acq_sql.proofs.BookLooks.{risen_by}
@@ -75,12 +75,12 @@ memory_told e memory is = let told : Memory ≡ Store = sym (ap fault_of memory)
 
 -- where the error is want of memory
 pub memory_blames : (old new : State) (e : Error) → e ≡ SqliteFailure OutOfMemory
-    → BlamesStore old new (fault_of e)
+    → OpeningBlamesStore old new (fault_of e)
 memory_blames old new e memory clean opened free is = absurd (memory_told e memory is)
 
 -- where it is excused
 pub excused_blames : (old new : State) (e : Error)
-    → FailsExcusably {T = Unit {0}} old new (Err e) → BlamesStore old new (fault_of e)
+    → FailsExcusably {T = Unit {0}} old new (Err e) → OpeningBlamesStore old new (fault_of e)
 excused_blames old new e fails clean opened free is =
     elim (fails clean opened free) [
       | inl memory ↦ absurd (memory_told e memory is)

@@ -11,7 +11,7 @@ ghost use Rattle.acq_sql_rows.specs.Schema.{no_schema, book_schema};
 ghost use Rattle.acq_sql_changes.specs.Changed.{IsAtOf};
 ghost use Rattle.acq_sql_reads.specs.Failing.{FailsForMemory};
 ghost use Rattle.acq_sql_reads.specs.Looked.{LooksOnly};
-ghost use Rattle.acq_sql.specs.Blames.{BlamesStore, FailsExcusably};
+ghost use Rattle.acq_sql.specs.Blames.{OpeningBlamesStore, FailsExcusably};
 ghost use Rattle.acq_sql.specs.Checked.{Judges, IsFailure, HasVersion, HasBadVersion, HasNoNumber};
 
 use crate::opening::alike::Alike;
@@ -39,7 +39,7 @@ pub fn check_book<S: Alter>(
     ensures unchanged { conn.old.schema ≢ book_schema → conn.new ≡ conn.old }
     ensures settled { conn.old.in_transaction ≡ false → conn.new.in_transaction ≡ false }
     ensures blames { IfErr result (λ fault. ¬ HasBadVersion (state S.Store conn.old).now
-        → BlamesStore (state S.Store conn.old) (state S.Store conn.new) fault) }
+        → OpeningBlamesStore (state S.Store conn.old) (state S.Store conn.new) fault) }
 {
     if !is_book_schema(alloc, conn.schema())? {
         return Err(OpeningFault::NotABook);

@@ -9,9 +9,10 @@ ghost use Rattle.acq_sql_rows.specs.Schema.{no_schema};
 ghost use Rattle.acq_sql_rows.specs.Relation.{HoldsRows};
 ghost use Rattle.acq_sql_changes.specs.Written.{StaysInside, KeepsCommitted, CommitsNothing};
 ghost use Rattle.acq_sql_changes.specs.Changed.{IsAt, HoldsAfter};
+ghost use Rattle.acq_sql_changes.specs.Refused.{HasNumbersLeft};
 ghost use Rattle.acq_sql_changes.specs.Widened.{IsNeverRefused};
-ghost use Rattle.acq_sql.specs.Blames.{BlamesStore, FailsExcusably};
-ghost use Rattle.acq_sql.specs.Made.{LeavesDatabase};
+ghost use Rattle.acq_sql.specs.Blames.{OpeningBlamesStore, FailsExcusably};
+ghost use Rattle.acq_sql.specs.Made.{IsNewBook, LeavesDatabase};
 ghost use Rattle.acq_sql.specs.declared.opening.opening_fault.OpeningFault.TheVariants.{NotABook};
 
 use crate::opening::opening_fault::OpeningFault;
@@ -38,11 +39,13 @@ pub fn make_book<S: Alter>(
     ensures done { HasCleanDisk (state S.Store conn.new) → OnOk result
         (IsAt (state S.Store conn.new)
         (new_tables (record { limit = limit; first_day = first_day }))) }
+    ensures room { HasCleanDisk (state S.Store conn.new) → OnOk result
+        (HasNumbersLeft (state S.Store conn.new).now) }
     ensures undone { LeavesDatabase (state S.Store conn.old) (state S.Store conn.new) result }
     ensures crash { Survives (state S.Store conn.old) (state S.Store conn.new)
         (HoldsAfter (new_tables (record { limit = limit; first_day = first_day }))) }
     ensures blames { IfErr result
-        (BlamesStore (state S.Store conn.old) (state S.Store conn.new)) }
+        (OpeningBlamesStore (state S.Store conn.old) (state S.Store conn.new)) }
 {
     if !is_empty(conn.schema()) {
         return Err(OpeningFault::NotABook);
@@ -62,8 +65,7 @@ fn write_book<S: Alter>(conn: &mut Connection<S>, limit: Limit, first_day: Day) 
     requires empty { conn.old.schema ≡ no_schema }
     ensures settled { conn.new.in_transaction ≡ false }
     ensures done { HasCleanDisk (state S.Store conn.new) → OnOk result
-        (IsAt (state S.Store conn.new)
-        (new_tables (record { limit = limit; first_day = first_day }))) }
+        (IsNewBook (record { limit = limit; first_day = first_day }) (state S.Store conn.new)) }
     ensures undone { LeavesDatabase (state S.Store conn.old) (state S.Store conn.new) result }
     ensures crash { Survives (state S.Store conn.old) (state S.Store conn.new)
         (HoldsAfter (new_tables (record { limit = limit; first_day = first_day }))) }

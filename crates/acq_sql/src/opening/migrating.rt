@@ -8,7 +8,7 @@ ghost use Rattle.acq_core.specs.Widening.{widened_tables};
 ghost use Rattle.acq_sql_rows.specs.Rows.{version_of_six_digits};
 ghost use Rattle.acq_sql_changes.specs.Changed.{IsAt, IsAtOf, HoldsAfter};
 ghost use Rattle.acq_sql_reads.specs.Looked.{LooksOnly};
-ghost use Rattle.acq_sql.specs.Blames.{BlamesStore};
+ghost use Rattle.acq_sql.specs.Blames.{OpeningBlamesStore};
 ghost use Rattle.acq_sql.specs.Checked.{Judges, IsFailure};
 ghost use Rattle.acq_sql.specs.Migrated.{IsAsItSays, IsOfSixDigits};
 
@@ -42,7 +42,7 @@ pub fn migrate_book<S: Alter>(conn: &mut Connection<S>, alloc: Global) -> Result
         (λ trees. (t : Tables) → IsOfSixDigits (state S.Store conn.old) t
         → HoldsAfter (widened_tables t) trees) }
     ensures blames { IfErr result (λ fault. IsAsItSays (state S.Store conn.old)
-        → BlamesStore (state S.Store conn.old) (state S.Store conn.new) fault) }
+        → OpeningBlamesStore (state S.Store conn.old) (state S.Store conn.new) fault) }
 {
     ranges_fit_their_profile();
     check_book(conn, alloc, VERSION_OF_SIX_DIGITS)?;

@@ -52,5 +52,5 @@ returns-in_err-number-clause-fails g c short =
     c.in_err-number.ensures.fails
     (λ left t holds.
     number_left reconciliation_row _ t.reconciliations holds.rows.reconciliations
-    (left reconciliations_tree))
+    left.reconciliations)
     c.from_residual-in_err-number.result c.from_residual-in_err-number.ensures

@@ -8,11 +8,12 @@ use Rattle.row_lemmas.specs.Created.{IsBlank}
 use Rattle.acq_core.specs.Tables.{Opening, new_tables}
 use Rattle.acq_sql_rows.specs.Schema.{no_schema}
 use Rattle.acq_sql_rows.specs.Relation.{Holds}
-use Rattle.acq_sql_changes.specs.Changed.{IsAt, HoldsAfter}
-use Rattle.acq_sql_changes.proofs.Commits.{at_commit, left_holds, was_clean}
+use Rattle.acq_sql_changes.specs.Changed.{HoldsAfter}
+use Rattle.acq_sql_changes.proofs.Commits.{left_holds, was_clean}
+use Rattle.acq_sql.specs.Made.{IsNewBook}
 use Rattle.acq_sql.proofs.opening.Blaming.{commit_fails, drop_fails}
 use Rattle.acq_sql.proofs.opening.GoingOn.{GoesOn}
-use Rattle.acq_sql.proofs.opening.NewBook.{new_holds}
+use Rattle.acq_sql.proofs.opening.NewBook.{new_holds, new_shown}
 use Rattle.acq_sql.proofs.opening.making.write_book.Goals as goal
 
 pub returns-clause-done : goal.returns-clause-done
@@ -24,11 +25,11 @@ returns-clause-done g c clean =
     let late : HasCleanDisk (state g.S.Store end) = search rules in
     let last_clean : HasCleanDisk last = was_clean _ _ c.commit.ensures.survives.clean late in
     let opening : Opening = record { limit = c.args.limit; first_day = c.args.first_day } in
-    let all : Holds last.now (new_tables opening) = new_holds last.now opening
-    (c.in_ok-write_tables.ensures.begins last_clean (rw begun refl) (rw begun c.requires.empty)) in
-    subst (λ x. OnOk c.commit.result (IsAt (state g.S.Store x) (new_tables opening))) same
+    let rows = c.in_ok-write_tables.ensures.begins last_clean (rw begun refl)
+    (rw begun c.requires.empty) in
+    subst (λ x. OnOk c.commit.result (IsNewBook opening (state g.S.Store x))) same
     (IfOk-weaker c.commit.result _ _
-    (λ _ shown. at_commit last (state g.S.Store end) (new_tables opening) all shown.1)
+    (λ _ shown. new_shown last (state g.S.Store end) opening rows shown.1)
     (c.commit.ensures.ok late))
 
 pub returns-clause-crash : goal.returns-clause-crash

@@ -11,16 +11,16 @@ use acq_core::{Change, Request, RequestKey, Status};
 
 /// Which of all recorded requests may wait for their issuer's answer.
 #[derive(Clone, Copy)]
-pub enum Waiting {
+pub enum MayWait {
     Any,
     /// No other than the one with this key.
     Only(RequestKey),
     None,
 }
 
-impl Waiting {
+impl MayWait {
     /// Which may wait after a change.
-    pub(crate) fn after(self, change: &Change) -> Waiting
+    pub(crate) fn after(self, change: &Change) -> MayWait
         ensures { (t : Tables) → WaitsNoOther self t.requests
             → WaitsNoOther result (after t change.now).requests }
     {
@@ -38,7 +38,7 @@ impl Waiting {
     }
 
     /// With one more request.
-    fn with(self, request: &Request) -> Waiting
+    fn with(self, request: &Request) -> MayWait
         ensures { (rows : List Request) → WaitsNoOther self rows
             → WaitsNoOther result (rows ++ request.now ∷ []) }
     {
@@ -46,34 +46,34 @@ impl Waiting {
             return self;
         }
         match self {
-            Waiting::None => Waiting::Only(request.key),
-            _ => Waiting::Any,
+            MayWait::None => MayWait::Only(request.key),
+            _ => MayWait::Any,
         }
     }
 
     /// Where the one with this key was answered.
-    fn answered(self, key: &RequestKey, status: Status) -> Waiting
+    fn answered(self, key: &RequestKey, status: Status) -> MayWait
         ensures { (rows : List Request) (reply : IsoMessage) (hold_end : Option ℕ)
             → WaitsNoOther self rows
             → WaitsNoOther result (with_changed key.now (answered_row status reply hold_end) rows) }
     {
         if is_waiting(status) {
-            return Waiting::Any;
+            return MayWait::Any;
         }
         match self {
-            Waiting::Only(waiting) if *key == waiting => Waiting::None,
+            MayWait::Only(waiting) if *key == waiting => MayWait::None,
             other => other,
         }
     }
 
     /// Where one has this status now.
-    fn changed(self, status: Status) -> Waiting
+    fn changed(self, status: Status) -> MayWait
         ensures { (rows : List Request) (key : RequestKey) (change : Request → Request)
             → ((row : Request) → (change row).status ≡ status)
             → WaitsNoOther self rows → WaitsNoOther result (with_changed key change rows) }
     {
         if is_waiting(status) {
-            Waiting::Any
+            MayWait::Any
         } else {
             self
         }

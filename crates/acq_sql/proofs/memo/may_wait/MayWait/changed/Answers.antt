@@ -1,6 +1,6 @@
 use Rattle.std.proofs.Common.{sym, ◌∙◌}
 use Rattle.acq_sql.proofs.Memos.{settled_stay}
-use Rattle.acq_sql.proofs.memo.waiting.Waiting.changed.Goals as goal
+use Rattle.acq_sql.proofs.memo.may_wait.MayWait.changed.Goals as goal
 
 pub returns-else-is_waiting : goal.returns-else-is_waiting
 returns-else-is_waiting c rows key change statuses all =

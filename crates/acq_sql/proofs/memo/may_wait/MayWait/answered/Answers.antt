@@ -2,9 +2,9 @@ use Rattle.std.proofs.Common.{refl, subst, sym, ◌∙◌}
 use Rattle.acq_core.specs.Tables.{answered_row}
 use Rattle.acq_book.proofs.KeyTests.{key_eq-same}
 use Rattle.acq_sql.specs.Memos.{WaitsNoOther}
-use Rattle.acq_sql.specs.declared.memo.waiting.Waiting.TheVariants as waiting
+use Rattle.acq_sql.specs.declared.memo.may_wait.MayWait.TheVariants as may_wait
 use Rattle.acq_sql.proofs.Memos.{last_settled, settled_stay}
-use Rattle.acq_sql.proofs.memo.waiting.Waiting.answered.Goals as goal
+use Rattle.acq_sql.proofs.memo.may_wait.MayWait.answered.Goals as goal
 
 -- it was the only one that might wait
 pub returns-in-Only : goal.returns-in-Only
@@ -18,7 +18,7 @@ pub returns-in_default : goal.returns-in_default
 returns-in_default c rows reply hold_end all =
     settled_stay c.args.key.now (answered_row c.args.status reply hold_end) c.args.status
     (sym c.is_waiting.ensures ∙ c.if-is_waiting.false) (λ row. refl)
-    (waiting.Only c.in-Only.waiting) rows (subst (λ w. WaitsNoOther w rows) c.in-Only.is all)
+    (may_wait.Only c.in-Only.waiting) rows (subst (λ w. WaitsNoOther w rows) c.in-Only.is all)
 
 pub returns-in_default-2 : goal.returns-in_default-2
 returns-in_default-2 c rows reply hold_end all =
