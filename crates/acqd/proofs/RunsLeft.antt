@@ -1,5 +1,5 @@
 -- What a stop leaves of a run, by how the run ended.
-use Rattle.std.proofs.Common.{◌≡◌, ◌⊎◌, inl, inr, ◌+◌, List, Option, None, Some, IfSome}
+use Rattle.std.proofs.Common.{◌≡◌, ◌⊎◌, inl, inr, ◌+◌, List}
 use Rattle.std.proofs.Common.{Result, Ok, Err, OnOk, IfErr}
 use Rattle.std.proofs.Math.Logic.{∥∥₁_elim}
 use Rattle.acq_core.specs.declared.event.Event.{Event}
@@ -26,15 +26,3 @@ no_refusal fault failed = (
   λ version is. ∥∥₁_elim failed (λ x y. absurd x)
       (elim [ inl memory ↦ absurd (cc) | inr store ↦ absurd (cc) ]),
 )
-
--- ---- a clause of which more is known
-
-pub weaker_err : {T E : Type 0} (result : Result T E) (P Q : E → Type 0) → ((e : E) → P e → Q e)
-    → IfErr result P → IfErr result Q
-weaker_err (Ok x) P Q each is = tt
-weaker_err (Err e) P Q each is = each e is
-
-pub weaker_some : {X : Type 0} (o : Option X) (P Q : X → Type 0) → ((x : X) → P x → Q x)
-    → IfSome o P → IfSome o Q
-weaker_some None P Q each is = tt
-weaker_some (Some x) P Q each is = each x is

@@ -1,6 +1,6 @@
 //! Books in files.
 
-ghost use Rattle.std.specs.Prelude.{◌≡◌, IfErr, IfOk, IfSome, false};
+ghost use Rattle.std.specs.Prelude.{◌≡◌, ◌≢◌, ◌↔◌, IfErr, IfOk, IfSome, None, false};
 ghost use Rattle.sqlite_wal.specs.Files.{image_at};
 ghost use Rattle.sqlite.specs.Files.{IsOpened, file_state};
 ghost use Rattle.sqlite.specs.Held.{state};
@@ -11,14 +11,16 @@ ghost use Rattle.acq_core.specs.Pasts.{HasPast, HasPastUnder};
 ghost use Rattle.acq_core.specs.Tables.{Tables, new_tables};
 ghost use Rattle.acq_core.specs.Widening.{widened_tables};
 ghost use Rattle.acq_sql_rows.specs.Rows.{version_of_six_digits};
+ghost use Rattle.acq_sql_rows.specs.Schema.{no_schema};
 ghost use Rattle.acq_sql_changes.specs.Changed.{HoldsAfter};
 ghost use Rattle.acq_sql.specs.Checked.{IsFailure};
 ghost use Rattle.acq_sql.specs.Files.{FilesHold, FilesHoldOf};
 ghost use Rattle.acq_sql.specs.Memos.{nothing_recalled};
 ghost use Rattle.acq_sql.specs.Migrated.{IsOfSixDigits};
-ghost use Rattle.acq_sql.specs.Opened.{IsOpenAt};
+ghost use Rattle.acq_sql.specs.Opened.{IsOpenAt, IsRoomy};
+ghost use Rattle.acq_sql.specs.declared.opening.opening_fault.OpeningFault.TheVariants.{NotABook};
 
-use crate::book_files::{find_book, make_room};
+use crate::book_files::make_room;
 use crate::no_book::NoBook;
 use acq_core::Limit;
 use acq_sql::opening::{an_open_finds_a_book_of_any_version, an_open_finds_the_book};
@@ -32,8 +34,7 @@ use std::alloc::Global;
 
 /// Opens the book in the file at a path and its log, of which `D` says what they hold before it.
 /// Where they hold a book, this is it, at the tables that the last whole change led to, and only
-/// memory or the store can be in the way. Where the file is away or empty nothing is made, and the
-/// log is left as it is.
+/// memory or the store can be in the way. Called where `find_book` found that there may be one.
 pub fn open_book<D: Start>(
     rt: &HostRuntime,
     path: &str,
@@ -41,15 +42,12 @@ pub fn open_book<D: Start>(
 ) -> Result<SqlBook<FileStore<FileFrom<D>>>, NoBook<FileStore<FileFrom<D>>>>
     ensures same { IfOk result (λ book. HasCleanDisk (file_state book.connection) → (t : Tables)
         → FilesHold (image_at D.Start) t → HasPast t → IsOpenAt (file_state book.connection) t) }
+    ensures unlimited { IfOk result (λ book. (file_state book.connection).step_limit ≡ None) }
     ensures recalls { IfOk result (λ book. book.memo ≡ nothing_recalled) }
     ensures accepts { IfErr result (λ none. IfSome none.connection (λ connection.
-        HasCleanDisk (file_state connection) → (t : Tables) → FilesHold (image_at D.Start) t
-        → IsFailure none.fault)) }
+        HasCleanDisk (file_state connection)) → (t : Tables) → FilesHold (image_at D.Start) t
+        → IsFailure none.fault) }
 {
-    match find_book(rt, path) {
-        Ok(()) => {}
-        Err(fault) => return Err(NoBook::unopened(fault)),
-    }
     let connection = match connect(rt, path, start) {
         Ok(connection) => connection,
         Err(fault) => return Err(NoBook::unopened(fault)),
@@ -74,6 +72,8 @@ pub fn make_book<D: Start>(
     ensures new { IfOk result (λ book. HasCleanDisk (file_state book.connection)
         → IsOpenAt (file_state book.connection)
         (new_tables (record { limit = limit; first_day = first_day }))) }
+    ensures room { IfOk result (λ book. HasCleanDisk (file_state book.connection)
+        → IsRoomy (file_state book.connection)) }
     ensures recalls { IfOk result (λ book. book.memo ≡ nothing_recalled) }
 {
     make_room(rt, path)?;
@@ -86,6 +86,7 @@ pub fn make_book<D: Start>(
 
 /// Migrates the book in the file at a path, and its log, of which `D` says what they hold before
 /// it. Where they hold a book whose ranges are of six digits, this is it, with its ranges widened.
+/// Called where `find_book` found that there may be one.
 pub fn migrate_book<D: Start>(
     rt: &HostRuntime,
     path: &str,
@@ -96,7 +97,6 @@ pub fn migrate_book<D: Start>(
         → IsOpenAt (file_state book.connection) (widened_tables t)) }
     ensures recalls { IfOk result (λ book. book.memo ≡ nothing_recalled) }
 {
-    find_book(rt, path)?;
     let connection = connect(rt, path, start)?;
     an_open_finds_a_book_of_any_version(&connection);
     match migrated(rt.alloc(), connection) {
@@ -118,7 +118,12 @@ fn created<S: Alter + Drop>(
     ensures new { IfOk result (λ book. HasCleanDisk (state S.Store book.connection)
         → IsOpenAt (state S.Store book.connection)
         (new_tables (record { limit = limit; first_day = first_day }))) }
+    ensures room { IfOk result (λ book. HasCleanDisk (state S.Store book.connection)
+        → (state S.Store connection).step_limit ≡ None
+        → IsRoomy (state S.Store book.connection)) }
     ensures recalls { IfOk result (λ book. book.memo ≡ nothing_recalled) }
+    ensures refused { IfErr result (λ fault.
+        (fault ≡ NotABook) ↔ (connection.schema ≢ no_schema)) }
 {
     match SqlBook::create(alloc, connection, limit, first_day) {
         Ok(book) => Ok(book),
@@ -158,6 +163,8 @@ fn connect<D: Start>(
     ensures found { IfOk result (λ connection. HasCleanDisk (file_state connection)
         → FindsIn (image_at D.Start) (file_state connection)) }
     ensures settled { IfOk result (λ connection. connection.in_transaction ≡ false) }
+    ensures unlimited { IfOk result (λ connection. connection.step_limit ≡ None) }
+    ensures failure { IfErr result IsFailure }
 {
     match Connection::open_from(rt, path, false, start) {
         Ok(connection) => Ok(connection),

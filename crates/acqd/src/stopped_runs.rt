@@ -40,8 +40,9 @@ pub fn stopped_run<D: Disk + Drop>(
 }
 
 /// Takes events over a book in files, gives it up as a stop does, and opens the files at a path,
-/// which hold what the stop may have left. The book is then at the tables after all these events, or
-/// after a fault those before it, perhaps with the one at which it came.
+/// which hold what the stop may have left. The book is then at the tables after all these events,
+/// or after a fault those before it, perhaps with the one at which it came; and where the files are
+/// refused, only memory or the store was in the way.
 pub fn reopened<D: Disk + Drop, E: Start>(
     rt: &HostRuntime,
     host: Host<SqlBook<FileStore<D>>>,
@@ -60,8 +61,8 @@ pub fn reopened<D: Disk + Drop, E: Start>(
         × IsOpenAt (file_state book.connection) t) ∥₁) }
     ensures accepts { IsClean (files.view result.0) → is_open over_files host
         → (files.state result.0).may_leave (image_at E.Start) → IfErr result.2 (λ none.
-        IfSome none.connection (λ connection.
-        HasCleanDisk (file_state connection) → IsNoRefusal none.fault)) }
+        IfSome none.connection (λ connection. HasCleanDisk (file_state connection))
+        → IsNoRefusal none.fault) }
 {
     let (left, ran) = stopped_run(host, events);
     (left, ran, open_book(rt, path, start))

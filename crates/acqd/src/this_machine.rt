@@ -4,6 +4,7 @@ ghost use Rattle.std.specs.Prelude.{◌≡◌, IfErr};
 ghost use Rattle.acq_program.specs.BookFaults.{IsClosing, IsOpening};
 ghost use Rattle.acqd.specs.BookFiles.{of_opening};
 
+use crate::book_files::find_book;
 use crate::control_socket::control_socket;
 use crate::log_output::LogOutput;
 use crate::open_book::{make_book, migrate_book, open_book};
@@ -52,6 +53,9 @@ impl<'a, D: Start> Machine<SqlBook<FileStore<FileFrom<D>>>> for ThisMachine<'a, 
     type Answers = ReadSource<UnixStream>;
 
     fn open_book(self, path: &str) -> Result<SqlBook<FileStore<FileFrom<D>>>, Fault> {
+        if let Err(cause) = find_book(self.rt, path) {
+            return Err(fault_of_opening(cause));
+        }
         match open_book(self.rt, path, self.start) {
             Ok(book) => Ok(book),
             Err(none) => Err(fault_of_opening(none.into_fault())),
@@ -71,6 +75,9 @@ impl<'a, D: Start> Machine<SqlBook<FileStore<FileFrom<D>>>> for ThisMachine<'a, 
     }
 
     fn migrate_book(self, path: &str) -> Result<SqlBook<FileStore<FileFrom<D>>>, Fault> {
+        if let Err(cause) = find_book(self.rt, path) {
+            return Err(fault_of_opening(cause));
+        }
         match migrate_book(self.rt, path, self.start) {
             Ok(book) => Ok(book),
             Err(cause) => Err(fault_of_opening(cause)),

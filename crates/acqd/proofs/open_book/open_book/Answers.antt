@@ -1,4 +1,4 @@
-use Rattle.std.proofs.Common.{subst, sym, arith}
+use Rattle.std.proofs.Common.{subst, sym, arith, ◌∙◌}
 use Rattle.sqlite.specs.Files.{file_state}
 use Rattle.sqlite.specs.State.{HasCleanDisk}
 use Rattle.acq_sql_changes.specs.Changed.{HoldsAfter}
@@ -6,10 +6,10 @@ use Rattle.acqd.proofs.open_book.open_book.Goals as goal
 
 pub returns-in-Ok-adopt-clause-same : goal.returns-in-Ok-adopt-clause-same
 returns-in-Ok-adopt-clause-same g c = λ clean t files past.
-    let was_clean : HasCleanDisk (file_state c.in-Ok-connect.connection) =
+    let was_clean : HasCleanDisk (file_state c.in-Ok.connection) =
     omega (arith, c.in-Ok-adopt.ensures.stop.clean, clean) in
-    let opened = c.in-Ok-connect.ensures.opened was_clean in
-    let found = c.in-Ok-connect.ensures.found was_clean in
+    let opened = c.in-Ok.ensures.opened was_clean in
+    let found = c.in-Ok.ensures.found was_clean in
     c.in-Ok-adopt.ensures.same clean t
     (c.an_open_finds_the_book.ensures t opened.0 opened.1
     (subst (HoldsAfter t) (sym (found.holds files.0 files.1)) files.2))
@@ -18,10 +18,18 @@ returns-in-Ok-adopt-clause-same g c = λ clean t files past.
 pub returns-in-Err-adopt-clause-accepts : goal.returns-in-Err-adopt-clause-accepts
 returns-in-Err-adopt-clause-accepts g c =
     rw (c.refused.ensures.connection, c.refused.ensures.fault) (λ clean t files.
-    let was_clean : HasCleanDisk (file_state c.in-Ok-connect.connection) =
+    let was_clean : HasCleanDisk (file_state c.in-Ok.connection) =
     omega (arith, c.in-Err-adopt.ensures.refused_stop.clean, clean) in
-    let opened = c.in-Ok-connect.ensures.opened was_clean in
-    let found = c.in-Ok-connect.ensures.found was_clean in
+    let opened = c.in-Ok.ensures.opened was_clean in
+    let found = c.in-Ok.ensures.found was_clean in
     c.in-Err-adopt.ensures.accepts clean t
     (c.an_open_finds_the_book.ensures t opened.0 opened.1
     (subst (HoldsAfter t) (sym (found.holds files.0 files.1)) files.2)))
+
+pub returns-in-Err-clause-accepts : goal.returns-in-Err-clause-accepts
+returns-in-Err-clause-accepts g c =
+    rw (c.unopened.ensures.fault) (λ sure t files. c.in-Err.ensures.failure)
+
+pub returns-in-Ok-adopt-clause-unlimited : goal.returns-in-Ok-adopt-clause-unlimited
+returns-in-Ok-adopt-clause-unlimited g c =
+    c.in-Ok-adopt.ensures.stop.limit ∙ c.in-Ok.ensures.unlimited

@@ -1,7 +1,7 @@
 use Rattle.std.proofs.Math.Logic.{∥∥₁_map}
-use Rattle.std.proofs.lemmas.Result.{IfOk-weaker}
+use Rattle.std.proofs.lemmas.Result.{IfErr-weaker, IfOk-weaker}
 use Rattle.sqlite_wal.specs.Files.{image_at}
-use Rattle.acqd.proofs.RunsLeft.{no_refusal, weaker_err, weaker_some}
+use Rattle.acqd.proofs.RunsLeft.{no_refusal}
 use Rattle.acqd.proofs.stopped_runs.reopened.Goals as goal
 
 pub returns-clause-opens : goal.returns-clause-opens
@@ -15,8 +15,7 @@ returns-clause-opens g c clean opened may =
 pub returns-clause-accepts : goal.returns-clause-accepts
 returns-clause-accepts g c clean opened may =
     let left = c.stopped_run-left.ensures clean opened (image_at g.E.Start) may in
-    weaker_err c.open_book.result _ _
-    (λ none accepts. weaker_some none.connection _ _
-    (λ connection holds sure. no_refusal none.fault
-    (∥∥₁_map left (λ found. holds sure found.0 found.3))) accepts)
+    IfErr-weaker c.open_book.result _ _
+    (λ none accepts sure. no_refusal none.fault
+    (∥∥₁_map left (λ found. accepts sure found.0 found.3)))
     c.open_book.ensures.accepts
