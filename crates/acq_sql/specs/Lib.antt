@@ -10,3 +10,4 @@ pub mod Blames
 pub mod Plain
 pub mod Checked
 pub mod Migrated
+pub mod Ordered

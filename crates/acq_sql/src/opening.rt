@@ -10,6 +10,7 @@ mod laws;
 mod making;
 mod migrating;
 mod opening_fault;
+mod ordering;
 mod tables;
 
 pub use checking::check_book;
@@ -20,3 +21,4 @@ pub use laws::{
 pub use making::make_book;
 pub use migrating::migrate_book;
 pub use opening_fault::OpeningFault;
+pub use ordering::put_in_order;

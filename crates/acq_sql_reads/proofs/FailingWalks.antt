@@ -174,7 +174,7 @@ module _ {V : Type 0} (old new : State) (res : Result V Error) (t : Tables)
       → Walked text.postings_text (number day ∷ []) IsPostingRow → IfErr res (IsExcused old new)
   postings_excused day =
       walked text.postings_text (number day ∷ []) (postings_list old t day at.holds) IsPostingRow
-      postings_alone (query_succeeds 9 query.postings_query.filter query.postings_query.project
+      postings_alone (query_succeeds 8 query.postings_query.filter query.postings_query.project
       query.postings_query.order query.postings_query.limit book_schema (number day ∷ [])
       (typed_postings day))
       (posting_fits_row t past day)

@@ -180,14 +180,14 @@ module _ (merchant id : List ℕ) where
 -- ---- the running totals of a merchant's day
 
 abbrev running_key : Index
-running_key = automatic at.the_running 0 (1 ∷ 2 ∷ []) 14
+running_key = automatic at.the_running 0 (1 ∷ 2 ∷ []) 13
 
 running_keyed : Has book_schema.tables (bare at.the_running) × Has book_schema.indexes running_key
 unfolding book_schema schema.up_to_reconciliations schema.up_to_postings schema.up_to_requests
     schema.up_to_ranges schema.up_to_terminals schema.up_to_merchants schema.up_to_book
 running_keyed = (
   inr (inr (inr (inr (inr (inr (inr (inl refl))))))),
-  inr (inr (inr (inr (inr (inr (inl refl)))))),
+  inr (inr (inr (inr (inr (inl refl))))),
 )
 
 module _ (merchant : List ℕ) (day : ℕ) where
@@ -228,7 +228,7 @@ module _ (merchant : List ℕ) (day : ℕ) where
       let has = holds.rows in
       let runs = holds.runs in
       let cells = λ (r : Running). tally_row r.tally in
-      let are = shows_one running_row book_schema 13 runs old new has.schema has.running
+      let are = shows_one running_row book_schema 12 runs old new has.schema has.running
       text.running_text day_row _
       ask.plain ask.unlisted rows shown query.two_are query.running_query.project of_day day_tested
       cells

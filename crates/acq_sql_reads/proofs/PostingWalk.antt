@@ -89,12 +89,12 @@ tied a b is =
 -- ---- the key
 
 abbrev posting_key : Index
-posting_key = automatic at.the_postings 0 (2 ∷ 1 ∷ 3 ∷ []) 10
+posting_key = automatic at.the_postings 0 (2 ∷ 1 ∷ 3 ∷ []) 9
 
 posting_keyed : Has book_schema.tables (bare at.the_postings) × Has book_schema.indexes posting_key
 unfolding book_schema schema.up_to_reconciliations schema.up_to_postings schema.up_to_requests
     schema.up_to_ranges schema.up_to_terminals schema.up_to_merchants schema.up_to_book
-posting_keyed = (inr (inr (inr (inr (inr (inl refl))))), inr (inr (inr (inr (inl refl)))))
+posting_keyed = (inr (inr (inr (inr (inr (inl refl))))), inr (inr (inr (inl refl))))
 
 module _ (day : ℕ) where
   abbrev on_day : Numbered → Bool
@@ -154,7 +154,7 @@ module _ (day : ℕ) where
         ) refl
 
     one_posting : (db : Trees) (xs : List Numbered) → Fits book_schema db →
-        db 9 ≡ rows_of posting_row xs
+        db 8 ≡ rows_of posting_row xs
         → length (filter (same_number a) (filter on_day xs)) ≤ 1
     one_posting db xs fits held =
         let count = numbered_counted posting_row (picked key_test sought) is_it xs matched in
@@ -171,7 +171,7 @@ module _ (day : ℕ) where
   postings_found old t runs has rows shown =
       let ask = asks.postings_asks in
       let it = query.postings_query in
-      let all = shows_ordered posting_row book_schema 9 t.postings old old has.schema has.postings
+      let all = shows_ordered posting_row book_schema 8 t.postings old old has.schema has.postings
       text.postings_text day_row _ ask.plain ask.unlisted rows shown it.filter it.project on_day
       tested it.order
       it.limit out (λ id x. refl) ask.is in

@@ -116,7 +116,7 @@ module _ (m : List ℕ) (day : ℕ) where
       let ask = asks.reconciliation_asks in
       let it = query.reconciliation_query in
       let xs = reconciliations_of m day t.reconciliations in
-      let all = shows_ordered reconciliation_row book_schema 11 t.reconciliations old new has.schema
+      let all = shows_ordered reconciliation_row book_schema 10 t.reconciliations old new has.schema
       has.reconciliations text.reconciliation_text sought _ ask.plain ask.unlisted rows shown
       it.filter it.project
       of_day tested it.order it.limit out (λ id x. refl) ask.is in

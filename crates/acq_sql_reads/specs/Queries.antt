@@ -24,7 +24,7 @@ abbrev pub terminal_query : Query
 terminal_query = plain_query 3 two_are (columns 1 2) []
 
 abbrev pub running_query : Query
-running_query = plain_query 13 two_are (columns 3 9) []
+running_query = plain_query 12 two_are (columns 3 9) []
 
 -- how many rows of a table pass
 abbrev pub count_query : ℕ → List Term → Query
@@ -93,5 +93,5 @@ greatest_query =
 
 abbrev pub reconciliation_query : Query
 reconciliation_query =
-    table_query 11 (is_param 2 0 ∷ is_param 1 1 ∷ []) None (column 3 ∷ column 4 ∷ [])
+    table_query 10 (is_param 2 0 ∷ is_param 1 1 ∷ []) None (column 3 ∷ column 4 ∷ [])
     ((column 3, falling) ∷ []) one

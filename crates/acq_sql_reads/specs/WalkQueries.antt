@@ -12,7 +12,7 @@ use Rattle.acq_sql_rows.specs.Queries.{columns}
 
 abbrev pub postings_query : Query
 postings_query =
-    plain_query 9 (is_param 2 0 ∷ []) (columns 1 9)
+    plain_query 8 (is_param 2 0 ∷ []) (columns 1 9)
     ((column 1, rising) ∷ (column 3, rising) ∷ [])
 
 abbrev pub merchants_query : Query

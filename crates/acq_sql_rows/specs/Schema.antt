@@ -33,13 +33,13 @@ abbrev pub requests_tree : ℕ
 requests_tree = 6
 
 abbrev pub postings_tree : ℕ
-postings_tree = 9
+postings_tree = 8
 
 abbrev pub reconciliations_tree : ℕ
-reconciliations_tree = 11
+reconciliations_tree = 10
 
 abbrev pub running_tree : ℕ
-running_tree = 13
+running_tree = 12
 
 -- ---- columns and tables
 
@@ -144,22 +144,6 @@ requests =
     ∷ may (codes "until") Integer ∷ need (codes "reply") Text ∷ [])
     None (1 ∷ 2 ∷ 3 ∷ 4 ∷ 5 ∷ []) ((1 ∷ 2 ∷ 3 ∷ 4 ∷ 5 ∷ []) ∷ []) (plain ∷ [])
 
--- Look-ups by reference go through it. It is no unique key: those of one merchant that have no
--- reference would be compared with each other at each row, and that none is given twice is a law.
-abbrev pub references_text : List ℕ
-references_text = REFERENCES.now
-
-abbrev pub references : Index
-references =
-    record {
-      name = codes "requests_by_reference";
-      tree = 0;
-      table = requests_tree;
-      columns = 1 ∷ 10 ∷ [];
-      order = plain;
-      is_unique = false;
-    }
-
 -- ---- postings
 
 abbrev pub postings_text : List ℕ
@@ -201,7 +185,26 @@ running =
     ∷ need (codes "debit_amount") Integer ∷ need (codes "debit_reversal_amount") Integer ∷ [])
     None (1 ∷ 2 ∷ []) ((1 ∷ 2 ∷ []) ∷ []) (plain ∷ [])
 
--- ---- all eight, one after the other
+-- ---- the index of requests by reference
+
+-- Look-ups by reference go through it. It is no unique key: those of one merchant that have no
+-- reference would be compared with each other at each row, and that none is given twice is a law.
+abbrev pub references_text : List ℕ
+references_text = REFERENCES.now
+
+abbrev pub references : Index
+references =
+    record {
+      name = codes "requests_by_reference";
+      tree = 0;
+      table = requests_tree;
+      columns = 1 ∷ 10 ∷ [];
+      order = plain;
+      is_unique = false;
+    }
+
+-- ---- all eight, one after the other, and the index behind them, as SQLite has them when it has
+-- written them anew
 
 abbrev pub no_schema : Schema
 no_schema = record { tables = []; indexes = []; views = [] }
@@ -223,8 +226,7 @@ up_to_ranges = created up_to_terminals ranges
 
 unfoldable pub up_to_requests : Schema
 unfolding up_to_ranges
-up_to_requests =
-    indexed (created up_to_ranges requests) (record requests { tree = requests_tree }) references
+up_to_requests = created up_to_ranges requests
 
 unfoldable pub up_to_postings : Schema
 unfolding up_to_requests
@@ -236,4 +238,6 @@ up_to_reconciliations = created up_to_postings reconciliations
 
 unfoldable pub book_schema : Schema
 unfolding up_to_reconciliations
-book_schema = created up_to_reconciliations running
+book_schema =
+    indexed (created up_to_reconciliations running) (record requests { tree = requests_tree })
+    references

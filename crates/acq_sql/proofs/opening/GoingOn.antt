@@ -1,5 +1,5 @@
 -- What writes inside a transaction leave, one after another.
-use Rattle.std.proofs.Common.{Ok, Err, Result, OnOk, IsErr, IsTrue, true, ◌∙◌}
+use Rattle.std.proofs.Common.{Ok, Err, Result, OnOk, IsErr, IsTrue, true, ◌∙◌, inl, refl, arith}
 use Rattle.sqlite.specs.State.{State, HasCleanDisk, Shows}
 use Rattle.sqlite.proofs.StateLemmas.{survives_then}
 use Rattle.acq_sql_changes.proofs.Commits.{was_clean}
@@ -11,6 +11,24 @@ pub record GoesOn (old new : State) : Type 0 where
   pub kept : KeepsCommitted old new
   pub inside : HasCleanDisk new → IsTrue old.in_transaction
       → Shows old new new.now old.committed true
+
+-- what did nothing left nothing
+pub stop_none : (s : State) → CommitsNothing s s
+stop_none s =
+    record {
+      clean = omega arith;
+      shield = λ h. h;
+      counts = omega arith;
+      limit = refl;
+      closes = λ clean opened. inl opened;
+      crash = λ clean db left. inl left;
+    }
+
+-- one after the other
+pub stop_after : (old mid new : State) → CommitsNothing old mid → CommitsNothing mid new
+    → CommitsNothing old new
+stop_after old mid new =
+    survives_then old mid new _ _ (λ _. ⊥) (λ _ db none. none) (λ _ db none. none)
 
 -- of an error this says nothing
 pub not_ok : {T E : Type 0} (P : Type 0) (result : Result T E) → IsErr result → OnOk result P

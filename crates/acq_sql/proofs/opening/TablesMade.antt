@@ -173,19 +173,48 @@ unfolding understood everything sound.fits_kind sound.begins sound.is_free_name 
 takes_requests =
     table_taken _ _ _ refl text_is.requests_is refl refl
 
+pub takes_postings : TakesTable schema.up_to_requests schema.postings_text schema.postings
+unfolding understood everything sound.fits_kind sound.begins sound.is_free_name sound.same_name
+    order.value_cmp lib.Ieee.is_nan lib.Ieee.lt schema.up_to_requests schema.up_to_ranges
+    schema.up_to_terminals schema.up_to_merchants schema.up_to_book
+takes_postings =
+    table_taken _ _ _ refl text_is.postings_is refl refl
+
+pub takes_reconciliations : TakesTable schema.up_to_postings schema.reconciliations_text
+    schema.reconciliations
+unfolding understood everything sound.fits_kind sound.begins sound.is_free_name sound.same_name
+    order.value_cmp lib.Ieee.is_nan lib.Ieee.lt schema.up_to_postings schema.up_to_requests
+    schema.up_to_ranges schema.up_to_terminals schema.up_to_merchants schema.up_to_book
+takes_reconciliations =
+    table_taken _ _ _ refl text_is.reconciliations_is refl refl
+
+pub takes_running : TakesTable schema.up_to_reconciliations schema.running_text schema.running
+unfolding understood everything sound.fits_kind sound.begins sound.is_free_name sound.same_name
+    order.value_cmp lib.Ieee.is_nan lib.Ieee.lt schema.up_to_reconciliations schema.up_to_postings
+    schema.up_to_requests schema.up_to_ranges schema.up_to_terminals schema.up_to_merchants
+    schema.up_to_book
+takes_running =
+    table_taken _ _ _ refl text_is.running_is refl refl
+
 abbrev pub placed_requests : Table
 placed_requests = record schema.requests { tree = schema.requests_tree }
 
+-- all tables, with no index but those of their keys
+abbrev pub with_running : Schema
+with_running = created schema.up_to_reconciliations schema.running
+
 means_references :
-    Means (created schema.up_to_ranges schema.requests) schema.references_text (CreateIndex 4)
-unfolding understood everything schema.up_to_ranges schema.up_to_terminals schema.up_to_merchants
+    Means with_running schema.references_text (CreateIndex 4)
+unfolding understood everything schema.up_to_reconciliations schema.up_to_postings
+    schema.up_to_requests schema.up_to_ranges schema.up_to_terminals schema.up_to_merchants
     schema.up_to_book
 means_references = refl
 
-pub takes_references : TakesIndex (created schema.up_to_ranges schema.requests)
+pub takes_references : TakesIndex with_running
     schema.references_text 4 placed_requests schema.references
 unfolding everything sound.fits_kind sound.begins sound.is_free_name sound.same_name order.value_cmp
-    lib.Ieee.is_nan lib.Ieee.lt schema.up_to_ranges schema.up_to_terminals schema.up_to_merchants
+    lib.Ieee.is_nan lib.Ieee.lt schema.up_to_reconciliations schema.up_to_postings
+    schema.up_to_requests schema.up_to_ranges schema.up_to_terminals schema.up_to_merchants
     schema.up_to_book
 takes_references =
     let is = means_references in
@@ -210,32 +239,9 @@ takes_references =
         fit = refl;
         short = ltb-true _ (10 ^ 9) refl;
       };
-      alone = alone (created schema.up_to_ranges schema.requests) schema.references_text
+      alone = alone with_running schema.references_text
           (CreateIndex 4) is;
     }
-
-pub takes_postings : TakesTable schema.up_to_requests schema.postings_text schema.postings
-unfolding understood everything sound.fits_kind sound.begins sound.is_free_name sound.same_name
-    order.value_cmp lib.Ieee.is_nan lib.Ieee.lt schema.up_to_requests schema.up_to_ranges
-    schema.up_to_terminals schema.up_to_merchants schema.up_to_book
-takes_postings =
-    table_taken _ _ _ refl text_is.postings_is refl refl
-
-pub takes_reconciliations : TakesTable schema.up_to_postings schema.reconciliations_text
-    schema.reconciliations
-unfolding understood everything sound.fits_kind sound.begins sound.is_free_name sound.same_name
-    order.value_cmp lib.Ieee.is_nan lib.Ieee.lt schema.up_to_postings schema.up_to_requests
-    schema.up_to_ranges schema.up_to_terminals schema.up_to_merchants schema.up_to_book
-takes_reconciliations =
-    table_taken _ _ _ refl text_is.reconciliations_is refl refl
-
-pub takes_running : TakesTable schema.up_to_reconciliations schema.running_text schema.running
-unfolding understood everything sound.fits_kind sound.begins sound.is_free_name sound.same_name
-    order.value_cmp lib.Ieee.is_nan lib.Ieee.lt schema.up_to_reconciliations schema.up_to_postings
-    schema.up_to_requests schema.up_to_ranges schema.up_to_terminals schema.up_to_merchants
-    schema.up_to_book
-takes_running =
-    table_taken _ _ _ refl text_is.running_is refl refl
 
 -- ---- where each statement leads
 
@@ -269,16 +275,9 @@ module _ {old new : State} (stop : CommitsNothing old new) (kept : KeepsCommitte
   reaches_ranges = table_reached takes_ranges
 
   pub reaches_requests : AddsTable {T = Unit {0}} old new (Ok tt) schema.requests_text
-      → Reached schema.up_to_ranges (created schema.up_to_ranges schema.requests) old new
-  reaches_requests = table_reached takes_requests
-
-  pub reaches_references : AddsIndex {T = Unit {0}} old new (Ok tt) schema.references_text
-      → Reached (created schema.up_to_ranges schema.requests) schema.up_to_requests old new
+      → Reached schema.up_to_ranges schema.up_to_requests old new
   unfolding schema.up_to_requests
-  reaches_references adds =
-      reached stop kept inside (λ clean within. adds clean within
-      (created schema.up_to_ranges schema.requests) 4 placed_requests schema.references
-      takes_references.makes)
+  reaches_requests = table_reached takes_requests
 
   pub reaches_postings : AddsTable {T = Unit {0}} old new (Ok tt) schema.postings_text
       → Reached schema.up_to_requests schema.up_to_postings old new
@@ -291,6 +290,12 @@ module _ {old new : State} (stop : CommitsNothing old new) (kept : KeepsCommitte
   reaches_reconciliations = table_reached takes_reconciliations
 
   pub reaches_running : AddsTable {T = Unit {0}} old new (Ok tt) schema.running_text
-      → Reached schema.up_to_reconciliations schema.book_schema old new
-  unfolding schema.book_schema
+      → Reached schema.up_to_reconciliations with_running old new
   reaches_running = table_reached takes_running
+
+  pub reaches_references : AddsIndex {T = Unit {0}} old new (Ok tt) schema.references_text
+      → Reached with_running schema.book_schema old new
+  unfolding schema.book_schema
+  reaches_references adds =
+      reached stop kept inside (λ clean within. adds clean within with_running 4 placed_requests
+      schema.references takes_references.makes)

@@ -93,6 +93,17 @@ impl Alike for Table {
     }
 }
 
+/// Whether two tables are the same but for their trees.
+pub(crate) fn has_same_columns(a: &Table, b: &Table) -> bool {
+    is_bare(a)
+        && is_bare(b)
+        && a.name.as_slice() == b.name.as_slice()
+        && a.is_counted == b.is_counted
+        && a.key == b.key
+        && are_alike(a.columns.as_slice(), b.columns.as_slice())
+        && have_same_keys(a, b)
+}
+
 #[tactic(auto, using(crate::proofs::opening::AllPlain::all_plain))]
 fn have_same_keys(a: &Table, b: &Table) -> bool
     ensures { IsTrue result ↔ HaveSameKeys a.now b.now }

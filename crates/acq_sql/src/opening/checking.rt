@@ -52,7 +52,7 @@ pub fn check_book<S: Alter>(
 }
 
 /// Whether a schema is the one that the texts of the tables make.
-fn is_book_schema(alloc: Global, schema: &Schema) -> Result<bool, Error>
+pub(crate) fn is_book_schema(alloc: Global, schema: &Schema) -> Result<bool, Error>
     ensures same { IfOk result (λ is. IsTrue is ↔ (schema.now ≡ book_schema)) }
     ensures fails { FailsForMemory result }
 {
@@ -62,7 +62,7 @@ fn is_book_schema(alloc: Global, schema: &Schema) -> Result<bool, Error>
 }
 
 /// Makes the tables, with no rows.
-fn create_tables<S: Alter>(conn: &mut Connection<S>) -> Result<(), Error>
+pub(crate) fn create_tables<S: Alter>(conn: &mut Connection<S>) -> Result<(), Error>
     requires settled { conn.old.in_transaction ≡ false }
     requires empty { conn.old.schema ≡ no_schema }
     ensures made { HasCleanDisk (state S.Store conn.new)

@@ -32,8 +32,8 @@ pub(crate) fn create_enrolments<S: Alter>(tx: &mut Transaction<'_, S>) -> Result
     Ok(())
 }
 
-/// Makes the tables of requests, with the index of their references, of postings, reconciliations
-/// and running totals.
+/// Makes the tables of requests, postings, reconciliations and running totals, and behind them the
+/// index of references, where SQLite puts it whenever it writes them anew.
 pub(crate) fn create_records<S: Alter>(tx: &mut Transaction<'_, S>) -> Result<(), Error>
     ensures same_reference { tx.new.conn.ghost_name ≡ tx.old.conn.ghost_name }
     ensures extends { Extends (state S.Store tx.old.conn.now) (state S.Store tx.new.conn.now) result
@@ -47,10 +47,10 @@ pub(crate) fn create_records<S: Alter>(tx: &mut Transaction<'_, S>) -> Result<()
         result (IsBlank up_to_ranges) }
 {
     create(tx, tables::REQUESTS)?;
-    create_index(tx, tables::REFERENCES)?;
     create(tx, tables::POSTINGS)?;
     create(tx, tables::RECONCILIATIONS)?;
     create(tx, tables::RUNNING)?;
+    create_index(tx, tables::REFERENCES)?;
     Ok(())
 }
 

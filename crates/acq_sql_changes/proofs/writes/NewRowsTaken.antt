@@ -170,17 +170,14 @@ posting_keys xs n p none = (
     (
       other,
       (
-        other,
-        (
-          λ g id y h.
-              rw (
-                number_test y.1.day p.day,
-                text_test y.1.merchant p.merchant,
-                number_test y.0 n,
-              ) (all_three (bytes_eq y.1.merchant p.merchant) (y.1.day == p.day) (y.0 == n)
-              ∙ none_at (is_posting n p) xs y none h),
-          (other, (other, tt)),
-        ),
+        λ g id y h.
+            rw (
+              number_test y.1.day p.day,
+              text_test y.1.merchant p.merchant,
+              number_test y.0 n,
+            ) (all_three (bytes_eq y.1.merchant p.merchant) (y.1.day == p.day) (y.0 == n)
+            ∙ none_at (is_posting n p) xs y none h),
+        (other, (other, (other, tt))),
       ),
     ),
   ),
@@ -201,17 +198,14 @@ reconciliation_keys xs n r none = (
       (
         other,
         (
-          other,
-          (
-            λ g id y h.
-                rw (
-                  number_test y.1.day r.day,
-                  text_test y.1.merchant r.merchant,
-                  number_test y.0 n,
-                ) (all_three (bytes_eq y.1.merchant r.merchant) (y.1.day == r.day) (y.0 == n)
-                ∙ none_at (is_reconciliation n r) xs y none h),
-            (other, tt),
-          ),
+          λ g id y h.
+              rw (
+                number_test y.1.day r.day,
+                text_test y.1.merchant r.merchant,
+                number_test y.0 n,
+              ) (all_three (bytes_eq y.1.merchant r.merchant) (y.1.day == r.day) (y.0 == n)
+              ∙ none_at (is_reconciliation n r) xs y none h),
+          (other, (other, tt)),
         ),
       ),
     ),

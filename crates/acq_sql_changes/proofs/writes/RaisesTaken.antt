@@ -65,13 +65,10 @@ running_keys xs r none = (
         (
           other,
           (
-            other,
-            (
-              λ g id y h.
-                  rw (text_test y.merchant r.merchant, number_test y.day r.day)
-                  (all_two (bytes_eq y.merchant r.merchant) (y.day == r.day) ∙ none y h),
-              tt,
-            ),
+            λ g id y h.
+                rw (text_test y.merchant r.merchant, number_test y.day r.day)
+                (all_two (bytes_eq y.merchant r.merchant) (y.day == r.day) ∙ none y h),
+            (other, tt),
           ),
         ),
       ),
@@ -97,13 +94,7 @@ keeps_keys id x y merchant day =
               other,
               (
                 other,
-                (
-                  other,
-                  (
-                    λ g. (ap Text merchant, (ap number day, tt)),
-                    tt,
-                  ),
-                ),
+                (λ g. (ap Text merchant, (ap number day, tt)), (other, tt)),
               ),
             ),
           ),
