@@ -1,5 +1,5 @@
 -- One end of a connection, a turn at a time.
-use Rattle.std.specs.Prelude.{◌≡◌, ◌⊎◌, ℕ, true, List, [], Result, Ok, Err}
+use Rattle.std.specs.Prelude.{◌≡◌, ◌⊎◌, ℕ, true, List, [], Option, Result, Ok, Err}
 use Rattle.std.specs.List.{All}
 use Rattle.acq_link.specs.Frames.{has_bad_length}
 use Rattle.acq_link.specs.FramesAt.{BeginsWithFrame, MayBecomeFrame}
@@ -12,6 +12,7 @@ use Rattle.acq_front.specs.declared.front_fault.FrontFault as fault
 use Rattle.acq_front.specs.Outgoing.{bytes_of, frame_of, gone_from}
 use Rattle.acq_front.specs.declared.conversation.Conversation.{Conversation}
 use Rattle.acq_front.specs.declared.turn.Turn.{Turn}
+use Rattle.acq_front.specs.declared.unanswered.Unanswered.{Unanswered}
 use Rattle.acq_front.specs.declared.turn.Turn.TheVariants.{Waits, Took}
 
 -- what came and belongs to no message yet
@@ -28,6 +29,10 @@ hand_of c = frame_of c.output
 
 abbrev pub gone_of : Conversation → ℕ
 gone_of c = gone_from c.output
+
+-- the message that the last turn took, if it gets no reply
+abbrev pub unanswered_of : Conversation → Option Unanswered
+unanswered_of c = c.unanswered
 
 -- nothing was taken, and a stop leaves the tables as they are
 pub record TookNothing (old : Tables) (left : Left) (held rest unsent : List ℕ) : Type 0 where

@@ -11,3 +11,4 @@ pub mod Log
 pub mod Passing
 pub mod Outgoing
 pub mod Ends
+pub mod Silences

@@ -1,9 +1,11 @@
 //! One end of a connection, without its reads and writes.
 
 ghost use Rattle.std.specs.Prelude.{◌≡◌, ◌==◌, ◌+◌, ◌≤◌, ◌<◌, ◌++◌, ℕ, [], length, drop};
+ghost use Rattle.std.specs.Prelude.{IfSome};
 ghost use Rattle.acq_link.specs.Deframing.{longest_frame};
 ghost use Rattle.acq_link.specs.FramesAt.{MayBecomeFrame};
 ghost use Rattle.acq_front.specs.Ends.{held_of, unsent_of, hand_of, gone_of, Steps, StopsAt};
+ghost use Rattle.acq_front.specs.Ends.{unanswered_of};
 ghost use Rattle.acq_front.specs.Faults.{TellsStore, UnlessRefused};
 ghost use Rattle.acq_front.specs.Serving.{HoldsFrame};
 ghost use Rattle.acq_front.specs.Stops.{left_of};
@@ -11,6 +13,7 @@ ghost use Rattle.acq_front.specs.Stops.{left_of};
 use crate::outgoing::Outgoing;
 use crate::serving::take_message;
 use crate::turn::Turn;
+use crate::unanswered::{Unanswered, kind_of};
 use crate::{Clock, FrontFault, Issuer};
 use acq_book::Book;
 use acq_core::{Query, Verdict};
@@ -24,6 +27,8 @@ use std::alloc::Global;
 pub struct Conversation {
     input: Deframer,
     output: Outgoing,
+    /// The message that the last turn took, if it gets no reply.
+    unanswered: Option<Unanswered>,
 }
 
 impl Conversation {
@@ -36,6 +41,7 @@ impl Conversation {
         Conversation {
             input: Deframer::new(),
             output: Outgoing::new(),
+            unanswered: None,
         }
     }
 
@@ -78,6 +84,13 @@ impl Conversation {
         self.output.gone()
     }
 
+    /// The message that the last turn took, if it gets no reply.
+    pub fn unanswered(&self) -> Option<Unanswered>
+        ensures { result ≡ unanswered_of self.now }
+    {
+        self.unanswered
+    }
+
     /// So many bytes of it were written.
     pub fn advance(&mut self, n: usize)
         requires { n ≤ length (unsent_of self.old) }
@@ -105,6 +118,8 @@ impl Conversation {
             result }
         // Where no message could be taken, what stands in front.
         ensures stops { StopsAt (held_of self.new) (unsent_of self.new) result }
+        // Of a message that gets no reply, nothing is to be written.
+        ensures silent { IfSome (unanswered_of self.new) (λ message. unsent_of self.new ≡ []) }
         // Nothing of its reply was written yet.
         ensures gone { gone_of self.new ≡ 0 }
         ensures was_honest { B.is_honest host.new → B.is_honest host.old }
@@ -120,10 +135,13 @@ impl Conversation {
             × (B.is_honest host.new → B.is_open host.old → ⊥)) }
     {
         self.output.clear();
+        self.unanswered = None;
         let Some(message) = self.input.take_message(alloc)? else {
             return Ok(Turn::Waits);
         };
+        let kind = kind_of(message.as_slice());
         let said = take_message(message, host, clock, issuer)?;
+        self.unanswered = Unanswered::of(kind, &said);
         self.output.hold(&said)?;
         Ok(Turn::Took)
     }

@@ -16,6 +16,7 @@ use crate::conversation::Conversation;
 use crate::line::Line;
 use crate::round::Round;
 use crate::turn::Turn;
+use crate::unanswered::Unanswered;
 use crate::{Clock, FrontFault, Issuer};
 use acq_book::Book;
 use acq_core::{Query, Verdict};
@@ -59,6 +60,11 @@ impl<L: Line> Exchange<L> {
         ensures { result.now ≡ unsent_of self.now }
     {
         self.conversation.unsent()
+    }
+
+    /// The message that the last round took, if it gets no reply.
+    pub fn unanswered(&self) -> Option<Unanswered> {
+        self.conversation.unanswered()
     }
 
     /// One round: writes on what is to be written; or else has the host take the next message, with

@@ -27,6 +27,7 @@ mod slice_clock;
 mod slice_issuer;
 mod stream_line;
 mod turn;
+mod unanswered;
 
 pub use clock::Clock;
 pub use connections::{Connections, serve_ends};
@@ -44,3 +45,4 @@ pub use slice_clock::SliceClock;
 pub use slice_issuer::SliceIssuer;
 pub use stream_line::StreamLine;
 pub use turn::Turn;
+pub use unanswered::{Silence, Unanswered};

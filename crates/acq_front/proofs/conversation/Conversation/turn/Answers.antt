@@ -1,4 +1,4 @@
-use Rattle.std.proofs.Common.{[], Err, refl, ◌∙◌, ap}
+use Rattle.std.proofs.Common.{[], Err, None, refl, ◌∙◌, ap}
 use Rattle.std.proofs.lemmas.Result.{err_from_is_err_and}
 use Rattle.acq_core.specs.declared.output.Output.{Output}
 use Rattle.acq_link.specs.Frames.{has_bad_length}
@@ -59,7 +59,7 @@ pub returns-in_err-message-clause-stops : goal.returns-in_err-message-clause-sto
 returns-in_err-message-clause-stops g c =
     let p = err_from_is_err_and c.from_residual.result c.from_residual.ensures.1 in
     let it : Conversation =
-    record { input = c.take_message.new.self; output = c.clear.new.self } in
+    record { input = c.take_message.new.self; output = c.clear.new.self; unanswered = None } in
     rw (p.1, p.2) (stream_stops (held_of it) (unsent_of it) c.in_err-message.field-0.0
     (λ is. ap has_bad_length c.in_err-message.ensures.kept
     ∙ c.in_err-message.ensures.bad (ap Err is)))
@@ -89,7 +89,7 @@ returns-in_err-said-clause-stops g c =
     let p = err_from_is_err_and c.from_residual-in_err-said.result
     c.from_residual-in_err-said.ensures.1 in
     let it : Conversation =
-    record { input = c.take_message.new.self; output = c.clear.new.self } in
+    record { input = c.take_message.new.self; output = c.clear.new.self; unanswered = None } in
     rw (p.1, p.2) (taking_stops Output (held_of it) (unsent_of it) c.in_err-said.field-0.0
     c.in_err-said.ensures.fault)
 
@@ -111,7 +111,7 @@ returns-in_err-hold-clause-stops g c =
     let p = err_from_is_err_and c.from_residual-in_err-hold.result
     c.from_residual-in_err-hold.ensures.1 in
     let it : Conversation =
-    record { input = c.take_message.new.self; output = c.hold.new.self } in
+    record { input = c.take_message.new.self; output = c.hold.new.self; unanswered = None } in
     rw (p.1, p.2) (taking_stops (Unit {0}) (held_of it) (unsent_of it) c.in_err-hold.field-0.0
     c.in_err-hold.ensures.fault)
 
