@@ -1,8 +1,8 @@
 -- What a status tells of a book.
-use Rattle.std.specs.Prelude.{ℕ, ◌+◌, ◌-◌, List, [], ◌∷◌, length, map, Option, Some, None}
-use Rattle.std.specs.Prelude.{option_map}
+use Rattle.std.specs.Prelude.{ℕ, ◌+◌, ◌-◌, List, [], ◌∷◌, ◌++◌, length, map, Option, Some, None}
 use Rattle.std.specs.Option.{option_map_or}
 use Rattle.std.specs.List.{range_with_len}
+use Rattle.acq_message.specs.declared.request_key.RequestKey.{RequestKey}
 use Rattle.acq_core.specs.declared.request.Request.{Request}
 use Rattle.acq_core.specs.Tables.{Tables}
 use Rattle.acq_book.specs.Lookups.{merchants_at, pending_at, range_count_at, terminal_count_at}
@@ -16,9 +16,9 @@ abbrev pub first_of : {X : Type 0} → List X → Option X
 first_of [] = None
 first_of (x ∷ xs) = Some x
 
--- what is told of a request that waits
+-- what is kept of a request that waits
 abbrev pub waiting_of : Request → Waiting
-waiting_of row = record { day = row.day; sent = row.key.transmission }
+waiting_of row = record { day = row.day; key = row.key }
 
 -- the request that has waited the longest for its issuer's answer
 abbrev pub first_waiting : Tables → Option Request
@@ -40,9 +40,14 @@ abbrev pub pending_to : Tables → ℕ → List PendingDay
 pending_to t today =
     pending_between t (option_map_or (λ row. row.day) (first_waiting t) today) today
 
--- when the first that waits was sent
-abbrev pub oldest_pending_at : Tables → Option (List ℕ)
-oldest_pending_at t = option_map (λ row. row.key.transmission) (first_waiting t)
+-- what tells a request from all others that wait: its merchant and its terminal, its trace number,
+-- and when it was sent
+abbrev pub waiting_name : RequestKey → List ℕ
+waiting_name key = key.merchant ++ key.terminal ++ key.trace ++ key.transmission
+
+-- the name of the request that has waited the longest; none, where none waits
+abbrev pub first_waiting_name : Tables → List ℕ
+first_waiting_name t = option_map_or (λ row. waiting_name row.key) (first_waiting t) []
 
 pub record Figures : Type 0 where
   pub day : ℕ
@@ -52,7 +57,6 @@ pub record Figures : Type 0 where
   pub ranges : ℕ
   pub requests_today : ℕ
   pub pending : List PendingDay
-  pub oldest_pending : Option (List ℕ)
 
 abbrev pub figures_at : Tables → Figures
 figures_at t =
@@ -64,7 +68,6 @@ figures_at t =
       ranges = range_count_at t;
       requests_today = used_on_at t t.day;
       pending = pending_to t t.day;
-      oldest_pending = oldest_pending_at t;
     }
 
 -- figures that were looked up, without where they lie in memory
@@ -78,5 +81,4 @@ figures_of f =
       ranges = f.ranges;
       requests_today = f.requests_today;
       pending = f.pending.items;
-      oldest_pending = f.oldest_pending;
     }

@@ -1,9 +1,9 @@
 -- A status, as lines of a key and a value, and in Prometheus's text format (own profile;
 -- Prometheus, exposition formats, text-based format).
-use Rattle.std.specs.Prelude.{ℕ, ◌+◌, ◌-◌, ◌*◌, ◌/◌, List, [], ◌∷◌, ◌++◌, codes, take, get_or}
+use Rattle.std.specs.Prelude.{ℕ, ◌+◌, ◌*◌, List, [], ◌∷◌, ◌++◌, codes}
 use Rattle.std.specs.Prelude.{Option, Some, None, flat_map}
 use Rattle.std.specs.Fmt.{decimal}
-use Rattle.day_totals.specs.Day.{date_text_of, resolved}
+use Rattle.day_totals.specs.Day.{date_text_of}
 use Rattle.acq_status.specs.Figures.{Figures}
 use Rattle.acq_status.specs.Names.{help_of, key_of, kind_of}
 use Rattle.acq_status.specs.declared.figure.Figure.{Figure}
@@ -13,6 +13,7 @@ use Rattle.acq_status.specs.declared.reading.Reading.{Reading}
 use Rattle.acq_status.specs.declared.serving.Serving.{Serving}
 use Rattle.acq_status.specs.declared.status_form.StatusForm.{StatusForm}
 use Rattle.acq_status.specs.declared.status_form.StatusForm.TheVariants.{Lines, Metrics}
+use Rattle.acq_status.specs.declared.unanswered_counts.UnansweredCounts.{UnansweredCounts}
 
 -- ---- the figures, each with its value
 
@@ -24,13 +25,28 @@ abbrev pub age_reading : Figure → Option ℕ → List Reading
 age_reading figure None = []
 age_reading figure (Some age) = reading figure age ∷ []
 
+-- what was taken in
+abbrev pub taken_readings : Serving → List Reading
+taken_readings s =
+    reading figure.Places s.places ∷ reading figure.OpenPlaces s.open_places
+    ∷ reading figure.Connections s.connections ∷ reading figure.Events s.events
+    ∷ reading figure.Lines s.lines ∷ reading figure.RefusedFrames s.refused_frames ∷ []
+
+-- what got no reply, by why, and no line of the log
+abbrev pub missing_readings : UnansweredCounts → ℕ → List Reading
+missing_readings c lost_lines =
+    reading figure.UnansweredUnserved c.unserved ∷ reading figure.UnansweredWaiting c.waiting
+    ∷ reading figure.UnansweredLate c.late ∷ reading figure.LostLines lost_lines ∷ []
+
+abbrev pub age_readings : Serving → List Reading
+age_readings s =
+    age_reading figure.LastEventAge s.last_event_age
+    ++ age_reading figure.OldestPendingAge s.oldest_pending_age
+
 abbrev pub serving_readings : Option Serving → List Reading
 serving_readings None = []
 serving_readings (Some s) =
-    reading figure.Places s.places ∷ reading figure.OpenPlaces s.open_places
-    ∷ reading figure.Connections s.connections ∷ reading figure.Events s.events
-    ∷ reading figure.RefusedFrames s.refused_frames
-    ∷ age_reading figure.LastEventAge s.last_event_age
+    taken_readings s ++ missing_readings s.unanswered s.lost_lines ++ age_readings s
 
 abbrev pub book_readings : Figures → List Reading
 book_readings f =
@@ -38,7 +54,7 @@ book_readings f =
     ∷ reading figure.Terminals f.terminals ∷ reading figure.Ranges f.ranges
     ∷ reading figure.RequestsToday f.requests_today ∷ []
 
--- ---- when a request was sent
+-- ---- days
 
 -- 2000-01-01, in days since 1970-01-01
 abbrev pub first_day : ℕ
@@ -48,30 +64,10 @@ first_day = 10_957
 abbrev pub begin_of : ℕ → ℕ
 begin_of day = (day + first_day) * 86400
 
--- two digits as a number
-abbrev pub two_at : ℕ → List ℕ → ℕ
-two_at place text = (get_or text place 48 - 48) * 10 + (get_or text (place + 1) 48 - 48)
-
--- seconds of a day, of hhmmss behind MMDD
-abbrev pub seconds_in : List ℕ → ℕ
-seconds_in sent = two_at 4 sent * 3600 + two_at 6 sent * 60 + two_at 8 sent
-
--- how long ago that was, of the latest such day up to today
-abbrev pub age_on : ℕ → List ℕ → Option ℕ → Option ℕ
-age_on now sent None = None
-age_on now sent (Some day) = Some (now - (begin_of day + seconds_in sent))
-
--- how long ago a request was sent, by MMDDhhmmss of its element 7
-abbrev pub age_of : ℕ → Option (List ℕ) → Option ℕ
-age_of now None = None
-age_of now (Some sent) = age_on now sent (resolved (take 4 sent) (now / 86400 - first_day))
-
 -- ---- the texts
 
-abbrev pub readings_of : Figures → Option Serving → ℕ → List Reading
-readings_of f serving now =
-    book_readings f ++ age_reading figure.OldestPendingAge (age_of now f.oldest_pending)
-    ++ serving_readings serving
+abbrev pub readings_of : Figures → Option Serving → List Reading
+readings_of f serving = book_readings f ++ serving_readings serving
 
 -- the program's version
 abbrev pub version : List ℕ
@@ -95,10 +91,10 @@ unfoldable pub pending_line : PendingDay → List ℕ
 pending_line p = dated (codes "pending.") p.day (codes " ") ++ value_text p.requests
 
 -- a status: its version, the business day, the figures, and what is pending of each day
-abbrev pub status_of : Figures → Option Serving → ℕ → List ℕ
-status_of f serving now =
+abbrev pub status_of : Figures → Option Serving → List ℕ
+status_of f serving =
     version_line ++ dated (codes "day ") f.day (codes "\n")
-    ++ flat_map status_line (readings_of f serving now) ++ flat_map pending_line f.pending
+    ++ flat_map status_line (readings_of f serving) ++ flat_map pending_line f.pending
 
 -- a line about a figure
 abbrev pub about_line : List ℕ → Figure → List ℕ → List ℕ
@@ -123,12 +119,12 @@ version_metric =
     ++ codes "acqd_info{version=\"" ++ version ++ codes "\"} 1\n"
 
 -- the same figures as metrics
-abbrev pub metrics_of : Figures → Option Serving → ℕ → List ℕ
-metrics_of f serving now =
+abbrev pub metrics_of : Figures → Option Serving → List ℕ
+metrics_of f serving =
     version_metric ++ metric (reading figure.BusinessDay (begin_of f.day))
-    ++ flat_map metric (readings_of f serving now)
+    ++ flat_map metric (readings_of f serving)
     ++ about figure.Pending ++ flat_map pending_sample f.pending
 
-abbrev pub text_in : StatusForm → Figures → Option Serving → ℕ → List ℕ
+abbrev pub text_in : StatusForm → Figures → Option Serving → List ℕ
 text_in Lines = status_of
 text_in Metrics = metrics_of

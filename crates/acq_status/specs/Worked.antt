@@ -20,6 +20,10 @@ worked_serving =
       open_places = 61;
       connections = 7;
       events = 120;
+      lines = 9;
       refused_frames = 1;
+      unanswered = record { unserved = 3; waiting = 2; late = 0 };
+      lost_lines = 5;
       last_event_age = Some 2;
+      oldest_pending_age = Some 60;
     }

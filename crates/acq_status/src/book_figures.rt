@@ -2,7 +2,6 @@
 
 use crate::pending_day::PendingDay;
 use acq_core::Limit;
-use acq_message::Transmission;
 use day_totals::Day;
 
 /// Figures of a book.
@@ -20,6 +19,4 @@ pub struct BookFigures {
     pub requests_today: u64,
     /// The days from that of the first request that waits for its issuer to the business day.
     pub pending: Vec<PendingDay>,
-    /// When that request was sent.
-    pub oldest_pending: Option<Transmission>,
 }

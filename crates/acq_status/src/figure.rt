@@ -14,13 +14,18 @@ pub enum Figure {
     Ranges,
     RequestsToday,
     Pending,
-    OldestPendingAge,
     Places,
     OpenPlaces,
     Connections,
     Events,
+    Lines,
     RefusedFrames,
+    UnansweredUnserved,
+    UnansweredWaiting,
+    UnansweredLate,
+    LostLines,
     LastEventAge,
+    OldestPendingAge,
 }
 
 impl Figure {
@@ -37,13 +42,18 @@ impl Figure {
             Figure::Ranges => "ranges",
             Figure::RequestsToday => "requests_today",
             Figure::Pending => "pending",
-            Figure::OldestPendingAge => "oldest_pending_age_seconds",
             Figure::Places => "places",
             Figure::OpenPlaces => "open_places",
             Figure::Connections => "connections_total",
             Figure::Events => "events_total",
+            Figure::Lines => "lines_total",
             Figure::RefusedFrames => "refused_frames_total",
+            Figure::UnansweredUnserved => "unanswered_unserved_total",
+            Figure::UnansweredWaiting => "unanswered_waiting_total",
+            Figure::UnansweredLate => "unanswered_late_total",
+            Figure::LostLines => "log_lines_lost_total",
             Figure::LastEventAge => "last_event_age_seconds",
+            Figure::OldestPendingAge => "oldest_pending_age_seconds",
         }
     }
 
@@ -59,13 +69,18 @@ impl Figure {
             Figure::Ranges => "Ranges of card numbers.",
             Figure::RequestsToday => "Messages of the business day that count against its limits.",
             Figure::Pending => "Requests of a business day that wait for their issuer.",
-            Figure::OldestPendingAge => "Time since the first of these was sent.",
             Figure::Places => "Terminals that can be connected at once.",
             Figure::OpenPlaces => "Places for terminals that are free.",
             Figure::Connections => "Connections of terminals that were taken in.",
-            Figure::Events => "Messages and lines that were answered.",
+            Figure::Events => "Messages of terminals that were answered.",
+            Figure::Lines => "Lines of control connections that were answered.",
             Figure::RefusedFrames => "Connections that ended for a frame that was refused.",
-            Figure::LastEventAge => "Time since a message or a line was last answered.",
+            Figure::UnansweredUnserved => "Messages of a type that isn't served.",
+            Figure::UnansweredWaiting => "Repeats of requests that wait for their issuer.",
+            Figure::UnansweredLate => "Messages reversed before their issuer answered.",
+            Figure::LostLines => "Lines of the log that were lost.",
+            Figure::LastEventAge => "Time since a terminal's message was last taken.",
+            Figure::OldestPendingAge => "Time since the first that waits was first seen.",
         }
     }
 
@@ -74,7 +89,14 @@ impl Figure {
         ensures { result.now ≡ kind_of self }
     {
         match self {
-            Figure::Connections | Figure::Events | Figure::RefusedFrames => "counter",
+            Figure::Connections
+            | Figure::Events
+            | Figure::Lines
+            | Figure::RefusedFrames
+            | Figure::UnansweredUnserved
+            | Figure::UnansweredWaiting
+            | Figure::UnansweredLate
+            | Figure::LostLines => "counter",
             _ => "gauge",
         }
     }

@@ -6,15 +6,14 @@ ghost use Rattle.acq_book.specs.Promise.{CountsFault};
 ghost use Rattle.acq_status.specs.Figures.{first_waiting, waiting_of};
 
 use acq_book::{Book, BookFault, Visit};
-use acq_core::Request;
-use acq_message::Transmission;
+use acq_core::{Request, RequestKey};
 use day_totals::Day;
 
-/// A request that waits: its business day, and when it was sent.
+/// A request that waits: its business day, and its key.
 #[derive(Clone, Copy)]
 pub struct Waiting {
     pub(crate) day: Day,
-    pub(crate) sent: Transmission,
+    pub(crate) key: RequestKey,
 }
 
 /// The first of the requests that were handed over.
@@ -31,7 +30,7 @@ impl Visit<Request> for First {
     fn row(&mut self, row: &Request) -> bool {
         self.row = Some(Waiting {
             day: row.day,
-            sent: row.key.transmission,
+            key: row.key,
         });
         false
     }

@@ -17,6 +17,8 @@ mod readings;
 mod serving;
 mod status_form;
 mod texts;
+mod unanswered_counts;
+mod waiting_name;
 mod writing;
 
 pub use book_figures::BookFigures;
@@ -25,4 +27,6 @@ pub use pending_day::PendingDay;
 pub use serving::Serving;
 pub use status_form::StatusForm;
 pub use texts::VERSION;
+pub use unanswered_counts::UnansweredCounts;
+pub use waiting_name::write_first_waiting;
 pub use writing::write_status;

@@ -6,7 +6,7 @@ ghost use Rattle.acq_book.specs.Calls.{Looks};
 ghost use Rattle.acq_book.specs.Lookups.{merchants_at, range_count_at, terminal_count_at};
 ghost use Rattle.acq_book.specs.Lookups.{used_on_at};
 ghost use Rattle.acq_book.specs.Promise.{CountsFault};
-ghost use Rattle.acq_status.specs.Figures.{figures_at, oldest_pending_at, pending_between};
+ghost use Rattle.acq_status.specs.Figures.{figures_at, pending_between};
 ghost use Rattle.acq_status.specs.Figures.{pending_to};
 ghost use Rattle.acq_status.specs.Figures as spec;
 
@@ -14,7 +14,6 @@ use crate::book_figures::BookFigures;
 use crate::first_waiting::first_waiting;
 use crate::pending_day::PendingDay;
 use acq_book::{Book, BookFault};
-use acq_message::Transmission;
 use acq_reports::merchant_names;
 use day_totals::Day;
 use std::alloc::Global;
@@ -33,7 +32,7 @@ pub(crate) fn look_up_figures<B: Book>(
     let day = book.day()?;
     let limit = book.limit()?;
     let counts = counts_of(alloc, book, day)?;
-    let waiting = waiting_in(alloc, book, day)?;
+    let pending = pending_to(alloc, book, day)?;
     Ok(BookFigures {
         day,
         limit,
@@ -41,8 +40,7 @@ pub(crate) fn look_up_figures<B: Book>(
         terminals: counts.terminals,
         ranges: counts.ranges,
         requests_today: counts.requests_today,
-        pending: waiting.pending,
-        oldest_pending: waiting.oldest,
+        pending,
     })
 }
 
@@ -77,31 +75,21 @@ fn counts_of<B: Book>(alloc: Global, book: &mut B, day: Day) -> Result<Counts, B
     })
 }
 
-/// The days on which requests wait, and when the first of them was sent.
-#[derive(Drop)]
-struct WaitingDays {
-    pending: Vec<PendingDay>,
-    oldest: Option<Transmission>,
-}
-
+/// How many requests are pending of each day from that of the first that waits.
 #[tactic(auto, using(acq_book::proofs::Chains::looks_more, crate::proofs::NoneWaits::none_waits))]
-fn waiting_in<B: Book>(alloc: Global, book: &mut B, today: Day) -> Result<WaitingDays, BookFault>
-    ensures pending { B.is_honest book.new → B.is_open book.old → IfOk result (λ waiting.
-        waiting.pending.items ≡ pending_to (B.tables book.old) today) }
-    ensures oldest { B.is_honest book.new → B.is_open book.old → IfOk result (λ waiting.
-        waiting.oldest ≡ oldest_pending_at (B.tables book.old)) }
+fn pending_to<B: Book>(
+    alloc: Global,
+    book: &mut B,
+    today: Day,
+) -> Result<Vec<PendingDay>, BookFault>
+    ensures pending { B.is_honest book.new → B.is_open book.old → IfOk result (λ pending.
+        pending.items ≡ pending_to (B.tables book.old) today) }
     ensures looks { Looks B.Book book.old book.new (is_ok result) }
     ensures store { CountsFault result (B.failures book.old) (B.failures book.new) }
 {
     match first_waiting(book)? {
-        Some(first) => Ok(WaitingDays {
-            pending: pending_between(alloc, book, first.day, today)?,
-            oldest: Some(first.sent),
-        }),
-        None => Ok(WaitingDays {
-            pending: none_pending(alloc, today)?,
-            oldest: None,
-        }),
+        Some(first) => pending_between(alloc, book, first.day, today),
+        None => none_pending(alloc, today),
     }
 }
 

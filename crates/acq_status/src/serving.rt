@@ -1,5 +1,7 @@
 //! Figures of what a host serves.
 
+use crate::unanswered_counts::UnansweredCounts;
+
 /// Figures of what a host serves, since it began.
 #[derive(Clone, Copy)]
 pub struct Serving {
@@ -9,10 +11,18 @@ pub struct Serving {
     pub open_places: u64,
     /// How many connections of terminals it took in.
     pub connections: u64,
-    /// How many messages and lines it answered.
+    /// How many messages of terminals it answered.
     pub events: u64,
+    /// How many lines of control connections it answered.
+    pub lines: u64,
     /// How many connections ended for a frame that was refused.
     pub refused_frames: u64,
-    /// How many seconds ago it last answered one.
+    /// How many messages got no reply.
+    pub unanswered: UnansweredCounts,
+    /// How many lines of its log were lost.
+    pub lost_lines: u64,
+    /// How many seconds ago it last took a message of a terminal.
     pub last_event_age: Option<u64>,
+    /// How many seconds ago it first saw the request that waits the longest for its issuer.
+    pub oldest_pending_age: Option<u64>,
 }

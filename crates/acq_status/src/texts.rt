@@ -14,7 +14,6 @@ use crate::pending_day::PendingDay;
 use crate::reading::Reading;
 use crate::readings::{begin_of, readings_of};
 use crate::serving::Serving;
-use acq_core::Moment;
 use day_totals::Day;
 use itoa::Buffer;
 use std::alloc::{AllocError, Global};
@@ -28,18 +27,17 @@ const ABOUT_VERSION: &[u8] = b"# HELP acqd_info The program's version.\n# TYPE a
 /// Room for a text.
 const TEXT: usize = 2048;
 
-/// The figures of a book, and of what is served, at a moment (own profile; `specs/Texts.antt`): a
+/// The figures of a book, and of what is served (own profile; `specs/Texts.antt`): a
 /// line for each, its key and its value, the version of these lines and the business day first.
 pub(crate) fn status_text(
     alloc: Global,
     figures: &BookFigures,
     serving: Option<Serving>,
-    now: Moment,
 ) -> Result<Vec<u8>, AllocError>
     ensures { IfOk result (λ text.
-        text.items ≡ status_of (figures_of figures.now) serving now) }
+        text.items ≡ status_of (figures_of figures.now) serving) }
 {
-    let readings = readings_of(alloc, figures, serving, now)?;
+    let readings = readings_of(alloc, figures, serving)?;
     let mut text = Vec::with_capacity(alloc, TEXT)?;
     put_version(&mut text, b"version ", b"\n")?;
     put_dated(&mut text, b"day ", figures.day, b"\n")?;
@@ -53,12 +51,11 @@ pub(crate) fn metrics_text(
     alloc: Global,
     figures: &BookFigures,
     serving: Option<Serving>,
-    now: Moment,
 ) -> Result<Vec<u8>, AllocError>
     ensures { IfOk result (λ text.
-        text.items ≡ metrics_of (figures_of figures.now) serving now) }
+        text.items ≡ metrics_of (figures_of figures.now) serving) }
 {
-    let readings = readings_of(alloc, figures, serving, now)?;
+    let readings = readings_of(alloc, figures, serving)?;
     let mut text = Vec::with_capacity(alloc, TEXT)?;
     text.extend_from_slice(ABOUT_VERSION)?;
     put_version(&mut text, b"acqd_info{version=\"", b"\"} 1\n")?;

@@ -14,13 +14,12 @@ use crate::serving::Serving;
 use crate::status_form::StatusForm;
 use crate::texts::{metrics_text, status_text};
 use acq_book::Book;
-use acq_core::Moment;
 use acq_link::Sink;
 use acq_reports::{Report, ReportFault};
 use std::alloc::{AllocError, Global};
 
-/// Writes the figures of a book, and of what is served where something is, at a moment (own
-/// profile; `specs/Texts.antt`).
+/// Writes the figures of a book, and of what is served where something is (own profile;
+/// `specs/Texts.antt`).
 ///
 /// `Write` tells how many bytes of the text went out; with `Memory` and `Store` a beginning of it
 /// may have. No other fault comes.
@@ -29,18 +28,17 @@ pub fn write_status<B: Book, K: Sink>(
     book: &mut B,
     form: StatusForm,
     serving: Option<Serving>,
-    now: Moment,
     writer: &mut K,
 ) -> Result<(), ReportFault>
     ensures text { B.is_honest book.new → B.is_open book.old → Writes K.sent K.failures
-        (text_in form (figures_at (B.tables book.old)) serving now)
+        (text_in form (figures_at (B.tables book.old)) serving)
         writer.old writer.new result }
     ensures writes { K.failures writer.new ≡ K.failures writer.old + failed_writes result }
     ensures looks { Looks B.Book book.old book.new (is_settled result) }
     ensures store { CountsStore result (B.failures book.old) (B.failures book.new) }
 {
     let figures = look_up_figures(alloc, book)?;
-    match text_in(alloc, form, &figures, serving, now) {
+    match text_in(alloc, form, &figures, serving) {
         Ok(text) => put_text(alloc, text.as_slice(), writer),
         Err(_) => Err(ReportFault::Memory),
     }
@@ -52,19 +50,22 @@ fn text_in(
     form: StatusForm,
     figures: &BookFigures,
     serving: Option<Serving>,
-    now: Moment,
 ) -> Result<Vec<u8>, AllocError>
     ensures { IfOk result (λ text.
-        text.items ≡ text_in form (figures_of figures.now) serving now) }
+        text.items ≡ text_in form (figures_of figures.now) serving) }
 {
     match form {
-        StatusForm::Lines => status_text(alloc, figures, serving, now),
-        StatusForm::Metrics => metrics_text(alloc, figures, serving, now),
+        StatusForm::Lines => status_text(alloc, figures, serving),
+        StatusForm::Metrics => metrics_text(alloc, figures, serving),
     }
 }
 
 /// Writes a text whole.
-fn put_text<K: Sink>(alloc: Global, text: &[u8], writer: &mut K) -> Result<(), ReportFault>
+pub(crate) fn put_text<K: Sink>(
+    alloc: Global,
+    text: &[u8],
+    writer: &mut K,
+) -> Result<(), ReportFault>
     ensures text { Writes K.sent K.failures text.now writer.old writer.new result }
     ensures no_store { result ≢ Err Store }
 {
