@@ -1,6 +1,7 @@
 -- The faults' numbers and texts, and the statuses that the program ends with.
 use Rattle.std.specs.Prelude.{◌≡◌, ◌⊎◌, ℕ, List, ◌++◌, [], codes, Result, Ok, Err}
 use Rattle.std.specs.Fmt.{decimal}
+use Rattle.day_totals.specs.Day.{date_text_of}
 use Rattle.iso_codec.specs.FaultTexts.{number_of_fault, element_of_fault}
 use Rattle.acq_book.specs.Promise.{HasRisen}
 use Rattle.acq_book.specs.declared.book_fault.BookFault as book
@@ -15,7 +16,8 @@ use Rattle.acq_commands.specs.declared.fault.Fault.TheVariants.{Memory, Store, B
 use Rattle.acq_commands.specs.declared.fault.Fault.TheVariants.{NoSuchMerchant}
 use Rattle.acq_commands.specs.declared.fault.Fault.TheVariants.{NotABook, OtherVersion, BadLength}
 use Rattle.acq_commands.specs.declared.fault.Fault.TheVariants.{Ended, Undecodable, Read, Write}
-use Rattle.acq_commands.specs.declared.fault.Fault.TheVariants.{DayNotOver, StillPending, BadLine}
+use Rattle.acq_commands.specs.declared.fault.Fault.TheVariants.{Silent, DayNotOver, StillPending}
+use Rattle.acq_commands.specs.declared.fault.Fault.TheVariants.{BadLine, OtherDay}
 
 -- a fault's number and name
 abbrev pub heading_of : Fault → List ℕ
@@ -30,9 +32,11 @@ heading_of Ended = codes "51 Ended"
 heading_of (Undecodable fault) = codes "52 Undecodable"
 heading_of Read = codes "53 Read"
 heading_of (Write n) = codes "54 Write"
+heading_of Silent = codes "55 Silent"
 heading_of DayNotOver = codes "60 DayNotOver"
 heading_of (StillPending n) = codes "61 StillPending"
 heading_of (BadLine n) = codes "62 BadLine"
+heading_of (OtherDay day) = codes "63 OtherDay"
 
 -- its values, each behind a space
 abbrev pub values_of : Fault → List ℕ
@@ -43,6 +47,7 @@ values_of (OtherVersion v) = codes " " ++ decimal v
 values_of (Write n) = codes " " ++ decimal n
 values_of (StillPending n) = codes " " ++ decimal n
 values_of (BadLine n) = codes " " ++ decimal n
+values_of (OtherDay day) = codes " " ++ date_text_of day
 values_of other = []
 
 -- the fault as printed lines have it
@@ -66,9 +71,11 @@ status_of Ended = 1
 status_of (Undecodable fault) = 1
 status_of Read = 1
 status_of (Write n) = 1
+status_of Silent = 1
 status_of DayNotOver = 1
 status_of (StillPending n) = 1
 status_of (BadLine n) = 1
+status_of (OtherDay day) = 1
 
 -- what a fault of a book is
 abbrev pub of_book : book.BookFault → Fault

@@ -9,10 +9,11 @@ use acq_link::hex_frames::HexFault;
 use acq_out::OutFault;
 use acq_out::records::RecordFault;
 use acq_reports::ReportFault;
+use day_totals::Day;
 use iso_codec::DecodeFault;
 use std::alloc::AllocError;
 use std::error::Error;
-use std::fmt;
+use std::{fmt, str};
 
 /// Why a command stopped. Its text is its number, its name and its values, as printed lines have
 /// them.
@@ -42,6 +43,8 @@ pub enum Fault {
     Read,
     /// 54: a write failed, and so many bytes of the piece in hand had been written.
     Write(u64),
+    /// 55: a host gave no answer within the time.
+    Silent,
     /// 60: the day that a report was asked for isn't over.
     DayNotOver,
     /// 61: so many requests of that day are pending.
@@ -49,6 +52,8 @@ pub enum Fault {
     /// 62: the record of event lines, or the line of messages in hexadecimal, with this number,
     /// counted from 1, is out of its form.
     BadLine(u64),
+    /// 63: the day that was to be ended isn't the business day, which is this one.
+    OtherDay(Day),
 }
 
 impl Fault {
@@ -80,9 +85,11 @@ impl Fault {
             Fault::Undecodable(_) => "52 Undecodable",
             Fault::Read => "53 Read",
             Fault::Write(_) => "54 Write",
+            Fault::Silent => "55 Silent",
             Fault::DayNotOver => "60 DayNotOver",
             Fault::StillPending(_) => "61 StillPending",
             Fault::BadLine(_) => "62 BadLine",
+            Fault::OtherDay(_) => "63 OtherDay",
         }
     }
 }
@@ -103,6 +110,10 @@ impl fmt::Display for Fault {
             | Fault::StillPending(n)
             | Fault::BadAnswer(n)
             | Fault::BadLine(n) => write!(f, "{} {n}", self.heading()),
+            Fault::OtherDay(day) => match str::from_utf8(&day.date_text()) {
+                Ok(date) => write!(f, "{} {date}", self.heading()),
+                Err(_) => Err(fmt::Error),
+            },
             _ => f.write_str(self.heading()),
         }
     }

@@ -1,10 +1,12 @@
 //! Lines of faults.
 
 ghost use Rattle.std.specs.Prelude.{◌≡◌, ◌+◌, ◌++◌, codes, decimal, OnOk, OnErr};
+ghost use Rattle.day_totals.specs.Day.{date_text_of};
 ghost use Rattle.acq_commands.specs.Faults.{fault_line, values_of};
 
 use crate::fault::Fault;
 use acq_link::{Failed, Sink, write_out};
+use day_totals::Day;
 use itoa::Buffer;
 
 /// Writes a fault's line, or of it what goes out before a write fails. It takes no memory.
@@ -35,6 +37,7 @@ fn put_values<F: Sink>(faults: &mut F, fault: &Fault) -> Result<(), Failed>
         | Fault::StillPending(n)
         | Fault::BadAnswer(n)
         | Fault::BadLine(n) => put_value(faults, *n),
+        Fault::OtherDay(day) => put_date(faults, *day),
         _ => Ok(()),
     }
 }
@@ -47,6 +50,17 @@ fn put_value<F: Sink>(faults: &mut F, n: u64) -> Result<(), Failed>
 {
     put(faults, b" ")?;
     put(faults, Buffer::new().format(n).as_bytes())
+}
+
+/// Writes a day's date behind a space.
+fn put_date<F: Sink>(faults: &mut F, day: Day) -> Result<(), Failed>
+    ensures ok { OnOk result (F.sent faults.new
+        ≡ F.sent faults.old ++ codes " " ++ date_text_of day) }
+    ensures well { OnOk result (F.failures faults.new ≡ F.failures faults.old) }
+    ensures failed { OnErr result (F.failures faults.new ≡ F.failures faults.old + 1) }
+{
+    put(faults, b" ")?;
+    put(faults, &day.date_text())
 }
 
 /// Writes these bytes.

@@ -25,4 +25,6 @@ pub struct ListenOptions {
     pub control: Option<String>,
     /// The path of the file that takes a log for operators; without one none is written.
     pub log: Option<String>,
+    /// How many bytes that file has at most; 0 is as many as come.
+    pub log_bytes: u64,
 }

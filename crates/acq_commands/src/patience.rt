@@ -9,4 +9,6 @@ pub struct Patience {
     pub frame_within: u64,
     /// For how many seconds it may be so silent while all places are taken and another one waits.
     pub idle_when_full: u64,
+    /// For how many seconds it may be there once the host was asked to end.
+    pub stop_within: u64,
 }

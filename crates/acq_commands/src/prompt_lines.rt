@@ -8,10 +8,13 @@ use std::io::Write;
 /// The most bytes of a line; a longer one goes out in pieces.
 const LONGEST_LINE: usize = 256;
 
-/// A writer that can be asked whether it takes a line at once.
+/// A writer of which no line has to wait.
 pub trait Outlet: Write {
-    /// Whether the write of a line would not wait.
-    fn is_ready(&mut self) -> bool;
+    ghost use Rattle.std.specs.Io.{WritesAtMost};
+
+    /// Writes as much of a line as goes out at once, and fails where nothing does.
+    fn write_at_once(&mut self, line: &[u8]) -> io::Result<usize>
+        ensures { WritesAtMost result line.now };
 }
 
 /// Lines to a writer that perhaps nobody reads. Once they have to be prompt, a line that the writer
@@ -39,23 +42,28 @@ impl<'a, W: Outlet> PromptLines<'a, W> {
 
     /// Writes the line that is there, or drops it.
     fn end_line(&mut self) {
-        if self.dropped > 0 && self.outlet.is_ready() && self.tell_dropped().is_ok() {
+        if self.dropped > 0 && self.tell_dropped() {
             self.dropped = 0;
         }
-        let is_out = self.dropped == 0
-            && self.outlet.is_ready()
-            && self.outlet.write_all(self.line.as_slice()).is_ok();
+        let is_out = self.dropped == 0 && is_written(&mut self.outlet, self.line.as_slice());
         if !is_out {
             self.dropped = self.dropped.saturating_add(1);
         }
         self.line.clear();
     }
 
-    /// Tells how many lines were dropped.
-    fn tell_dropped(&mut self) -> io::Result<()> {
-        let text = format!(in self.alloc; "acqd: dropped {} lines\n", self.dropped)?;
-        self.outlet.write_all(text.as_bytes())
+    /// Tells how many lines were dropped, and returns whether that went out.
+    fn tell_dropped(&mut self) -> bool {
+        match format!(in self.alloc; "acqd: dropped {} lines\n", self.dropped) {
+            Ok(text) => is_written(&mut self.outlet, text.as_bytes()),
+            Err(_) => false,
+        }
     }
+}
+
+/// Whether a line went out whole, at once.
+fn is_written<W: Outlet>(outlet: &mut W, line: &[u8]) -> bool {
+    outlet.write_at_once(line).is_ok_and(|n| n == line.len())
 }
 
 impl<W: Outlet> Write for PromptLines<'_, W> {
