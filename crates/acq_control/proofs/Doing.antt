@@ -1,17 +1,19 @@
 -- What is left where a question was done, or not to the end.
 use Rattle.std.proofs.Common.{◌≡◌, Bool, true, false, [], ◌∷◌, Option, Some, None}
-use Rattle.std.proofs.Common.{inl, refl, arith}
-use Rattle.acq_core.specs.Arrivals.{arrival_of}
-use Rattle.acq_core.specs.Tables.{step_tables}
+use Rattle.std.proofs.Common.{inl, refl, sym, arith}
+use Rattle.std.specs.Prelude.{if◌then◌else◌}
+use Rattle.acq_core.specs.declared.event.Event.{Event}
+use Rattle.acq_core.specs.declared.event.Event.TheVariants as event
+use Rattle.acq_core.specs.Tables.{tables_after}
 use Rattle.acq_book.specs.declared.book.Book.{Ghosts}
-use Rattle.acq_book.specs.Calls.{Looks, Makes}
+use Rattle.acq_book.specs.Calls.{Looks}
 use Rattle.acq_host.proofs.Runs.{LeavesTables}
 use Rattle.acq_front.specs.Stops.{LeavesAll, left_of}
 use Rattle.acq_front.proofs.StopsLeave.{refused_stop, taken_stop}
 use Rattle.acq_control.specs.declared.question.Question.{Question}
 use Rattle.acq_control.specs.declared.question.Question.TheVariants as question
 use Rattle.acq_control.specs.Answers.{events_asked, tables_behind}
-use Rattle.acq_control.specs.Doing.{Does, DoesSome}
+use Rattle.acq_control.specs.Doing.{Does, DoesSome, Takes, TakesIf}
 use Rattle.acq_control.specs.Ends.{RefusesLine}
 
 -- what every question leaves
@@ -25,12 +27,20 @@ module _ {S : Type 0} (book : Ghosts S) (a c : S) where
 
   pub does_kept : (asked : Option Question) (done : Bool) → Does book a c asked done →
       Kept book a c done
-  does_kept (Some (question.Event event)) done makes =
+  does_kept (Some (question.Event e)) done makes =
       record { was_honest = makes.was_honest; stays_open = makes.stays_open }
   does_kept (Some (question.Report report)) done looks = looked done looks
   does_kept (Some (question.Holds merchant moment)) done looks = looked done looks
   does_kept (Some (question.Pending day moment)) done looks = looked done looks
-  does_kept (Some (question.Status form serving moment)) done looks = looked done looks
+  does_kept (Some (question.Status form serving)) done looks = looked done looks
+  does_kept (Some (question.End day moment)) done does = ended does.0 done does.1
+    where
+      ended : (is_it done : Bool) → TakesIf book a c (event.Cutover moment) is_it done →
+          Kept book a c done
+      ended true done makes =
+          record { was_honest = makes.was_honest; stays_open = makes.stays_open }
+      ended false done looks = looked done looks
+  does_kept (Some question.Reopen) done looks = looked done looks
   does_kept (Some question.Stop) done looks = looked done looks
   does_kept None done looks = looked done looks
 
@@ -41,12 +51,21 @@ module _ {S : Type 0} (book : Ghosts S) (a c : S) where
     -- the tables behind it
     pub done_tables : (asked : Option Question) → Does book a c asked true →
         book.tables c ≡ tables_behind (book.tables a) asked
-    done_tables (Some (question.Event event)) makes =
+    done_tables (Some (question.Event e)) makes =
         makes.made refl opened (makes.stays_open refl honest opened)
     done_tables (Some (question.Report report)) looks = looked_tables looks
     done_tables (Some (question.Holds merchant moment)) looks = looked_tables looks
     done_tables (Some (question.Pending day moment)) looks = looked_tables looks
-    done_tables (Some (question.Status form serving moment)) looks = looked_tables looks
+    done_tables (Some (question.Status form serving)) looks = looked_tables looks
+    done_tables (Some (question.End day moment)) does =
+        rw (sym (does.2 refl honest opened)) (ended does.0 does.1)
+      where
+        ended : (is_it : Bool) → TakesIf book a c (event.Cutover moment) is_it true →
+            book.tables c ≡ tables_after (book.tables a)
+            (if is_it then event.Cutover moment ∷ [] else [])
+        ended true makes = makes.made refl opened (makes.stays_open refl honest opened)
+        ended false looks = looked_tables looks
+    done_tables (Some question.Reopen) looks = looked_tables looks
     done_tables (Some question.Stop) looks = looked_tables looks
     done_tables None looks = looked_tables looks
 
@@ -61,13 +80,22 @@ module _ {S : Type 0} (book : Ghosts S) (a c : S) where
 
         -- what a stop leaves of it
         pub done_stop : (asked : Option Question) → Does book a c asked true →
-            LeavesAll (left_of book c) (book.tables a) (events_asked asked)
-        done_stop (Some (question.Event event)) makes =
-            taken_stop book a c event honest opened makes
+            LeavesAll (left_of book c) (book.tables a) (events_asked (book.tables a) asked)
+        done_stop (Some (question.Event e)) makes =
+            taken_stop book a c e honest opened makes
         done_stop (Some (question.Report report)) looks = looked_stop true looks
         done_stop (Some (question.Holds merchant moment)) looks = looked_stop true looks
         done_stop (Some (question.Pending day moment)) looks = looked_stop true looks
-        done_stop (Some (question.Status form serving moment)) looks = looked_stop true looks
+        done_stop (Some (question.Status form serving)) looks = looked_stop true looks
+        done_stop (Some (question.End day moment)) does =
+            rw (sym (does.2 refl honest opened)) (ended does.0 does.1)
+          where
+            ended : (is_it : Bool) → TakesIf book a c (event.Cutover moment) is_it true →
+                LeavesAll (left_of book c) (book.tables a)
+                (if is_it then event.Cutover moment ∷ [] else [])
+            ended true makes = taken_stop book a c (event.Cutover moment) honest opened makes
+            ended false looks = looked_stop true looks
+        done_stop (Some question.Reopen) looks = looked_stop true looks
         done_stop (Some question.Stop) looks = looked_stop true looks
         done_stop None looks = looked_stop true looks
 
@@ -84,11 +112,10 @@ module _ {S : Type 0} (book : Ghosts S) (a c : S) where
           };
         }
 
-        made_some : (event : _) (done : Bool) →
-            Makes book a c done (step_tables (book.tables a) (arrival_of event)) →
+        made_some : (e : Event) (done : Bool) → Takes book a c e done →
             RefusesLine (book.tables a) (left_of book c)
-        made_some event true makes = record {
-          taken = event ∷ [];
+        made_some e true makes = record {
+          taken = e ∷ [];
           in_hand = [];
           at_most_one = omega arith;
           tables = λ is. makes.made refl opened is;
@@ -97,22 +124,30 @@ module _ {S : Type 0} (book : Ghosts S) (a c : S) where
             stored = makes.books opened honest;
           };
         }
-        made_some event false makes = record {
+        made_some e false makes = record {
           taken = [];
-          in_hand = event ∷ [];
+          in_hand = e ∷ [];
           at_most_one = omega arith;
           tables = λ is. makes.unmade refl opened is;
-          stop = refused_stop book a c event honest opened settled makes;
+          stop = refused_stop book a c e honest opened settled makes;
         }
 
         -- where memory or the store refused a call
         pub some_done : (asked : Option Question) → DoesSome book a c asked →
             RefusesLine (book.tables a) (left_of book c)
-        some_done (Some (question.Event event)) some = made_some event some.0 some.1
+        some_done (Some (question.Event e)) some = made_some e some.0 some.1
         some_done (Some (question.Report report)) some = looked_some some.0 some.1
         some_done (Some (question.Holds merchant moment)) some = looked_some some.0 some.1
         some_done (Some (question.Pending day moment)) some = looked_some some.0 some.1
-        some_done (Some (question.Status form serving moment)) some = looked_some some.0 some.1
+        some_done (Some (question.Status form serving)) some = looked_some some.0 some.1
+        some_done (Some (question.End day moment)) some =
+            ended some.1.0 some.0 some.1.1
+          where
+            ended : (is_it done : Bool) → TakesIf book a c (event.Cutover moment) is_it done →
+                RefusesLine (book.tables a) (left_of book c)
+            ended true done makes = made_some (event.Cutover moment) done makes
+            ended false done looks = looked_some done looks
+        some_done (Some question.Reopen) some = looked_some some.0 some.1
         some_done (Some question.Stop) some = looked_some some.0 some.1
         some_done None some = looked_some some.0 some.1
 

@@ -14,8 +14,8 @@ use Rattle.acq_front.specs.Log.{Entry, after_log, by, events_of}
 use Rattle.acq_control.specs.declared.question.Question.{Question}
 use Rattle.acq_control.specs.Answers.{answer_of}
 use Rattle.acq_control.specs.Lines.{BeginsWithLine, IsInLine, LinesThen, all_ended, ended}
-use Rattle.acq_control.specs.Log.{Act, FollowsActs, IsAskedBy, answers_to, asked_by, behind_acts}
-use Rattle.acq_control.specs.Log.{entries, events_in, lines_by, lines_in, own, said_to}
+use Rattle.acq_control.specs.Log.{Act, FollowsActs, IsAskedBy, answers_to, asked_by, behind_act}
+use Rattle.acq_control.specs.Log.{behind_acts, entries, events_in, lines_by, lines_in, own, said_to}
 use Rattle.acq_control.specs.Questions.{Asks}
 
 -- ---- what an act has for a connection
@@ -46,7 +46,7 @@ answers_to-append k t taken [] more =
     ap (λ (n : ℕ). answers_to k t n more) none
 answers_to-append k t taken (a ∷ acts) more =
     let said = own k a (said_to t (taken + 1) a.deed) in
-    let next = tables_after t (events_in a.deed) in
+    let next = behind_act t a in
     let lines = own k a (lines_in a.deed) in
     let count : taken + length lines + length (lines_by k acts)
     ≡ taken + length (lines_by k (a ∷ acts)) =
@@ -178,26 +178,32 @@ module _ (k : ℕ) (t : Tables) (acts : List Act)
 pub behind-append : (t : Tables) (acts more : List Act) →
     behind_acts t (acts ++ more) ≡ behind_acts (behind_acts t acts) more
 behind-append t [] more = refl
-behind-append t (a ∷ acts) more = behind-append (tables_after t (events_in a.deed)) acts more
+behind-append t (a ∷ acts) more = behind-append (behind_act t a) acts more
 
 events_own : (k : ℕ) (events : List Event) → events_of (map (by k) events) ≡ events
 events_own k [] = refl
 events_own k (e ∷ events) = ap (λ (l : List Event). e ∷ l) (events_own k events)
 
-pub entries_more : (acts : List Act) (a : Act) →
-    entries (acts ++ a ∷ []) ≡ entries acts ++ map (by a.connection) (events_in a.deed)
-entries_more acts a =
-    flat_map-append (λ (a : Act). map (by a.connection) (events_in a.deed)) acts (a ∷ [])
-    ∙ ap (λ (l : List Entry). entries acts ++ l)
-    (append-nil (map (by a.connection) (events_in a.deed)))
+pub entries_more : (t : Tables) (acts : List Act) (a : Act) →
+    entries t (acts ++ a ∷ [])
+    ≡ entries t acts ++ map (by a.connection) (events_in (behind_acts t acts) a.deed)
+entries_more t [] a = append-nil (map (by a.connection) (events_in t a.deed))
+entries_more t (b ∷ acts) a =
+    let first = map (by b.connection) (events_in t b.deed) in
+    let next = behind_act t b in
+    ap (λ (l : List Entry). first ++ l) (entries_more next acts a)
+    ∙ sym (append_assoc first (entries next acts)
+    (map (by a.connection) (events_in (behind_acts next acts) a.deed)))
 
 pub same_tables : (t : Tables) (acts : List Act) →
-    after_log t (entries acts) ≡ behind_acts t acts
+    after_log t (entries t acts) ≡ behind_acts t acts
 same_tables t [] = refl
 same_tables t (a ∷ acts) =
+    let next = behind_act t a in
     ap (tables_after t)
-    (map-append (λ (e : Entry). e.event) (map (by a.connection) (events_in a.deed)) (entries acts)
-    ∙ ap (λ (l : List Event). l ++ events_of (entries acts))
-    (events_own a.connection (events_in a.deed)))
-    ∙ tables_after-append t (events_in a.deed) (events_of (entries acts))
-    ∙ same_tables (tables_after t (events_in a.deed)) acts
+    (map-append (λ (e : Entry). e.event) (map (by a.connection) (events_in t a.deed))
+    (entries next acts)
+    ∙ ap (λ (l : List Event). l ++ events_of (entries next acts))
+    (events_own a.connection (events_in t a.deed)))
+    ∙ tables_after-append t (events_in t a.deed) (events_of (entries next acts))
+    ∙ same_tables next acts

@@ -2,6 +2,7 @@ mod FirstLine
 mod HeldLines
 pub mod Following
 mod Doing
+mod Ending
 mod Turning
 mod Rounds
 mod AnswersRead

@@ -1,6 +1,6 @@
 -- How one round goes.
-use Rattle.std.proofs.Common.{◌≡◌, ◌≢◌, ℕ, Bool, List, [], Option, Result, Ok, Err, ap, ◌∙◌}
-use Rattle.std.proofs.Common.{◌++◌, take, drop, inl, refl, subst}
+use Rattle.std.proofs.Common.{◌≡◌, ◌≢◌, ℕ, List, [], Option, Result, Ok, Err, ap, ◌∙◌}
+use Rattle.std.proofs.Common.{◌++◌, take, drop, refl, subst}
 use Rattle.acq_core.specs.Tables.{Tables}
 use Rattle.acq_front.specs.Stops.{Left, LeavesAll}
 use Rattle.acq_status.specs.declared.serving.Serving.{Serving}
@@ -11,17 +11,18 @@ use Rattle.acq_front.specs.Faults.{UnlessRefused}
 use Rattle.acq_front.specs.declared.front_fault.FrontFault as fault
 use Rattle.acq_control.specs.Exchanges.{AsksOne, Goes, MovesOn, Passed}
 use Rattle.acq_control.specs.declared.control_round.ControlRound.{ControlRound}
-use Rattle.acq_control.specs.declared.control_round.ControlRound.TheVariants.{Ended, GoesOn, Stops}
+use Rattle.acq_control.specs.declared.control_round.ControlRound.TheVariants.{Ended, GoesOn, Took}
 use Rattle.acq_control.specs.declared.control_round.ControlRound.TheVariants.{Waits}
-use Rattle.acq_control.specs.Questions.{is_stop}
+use Rattle.acq_control.specs.Questions.{wish_of}
 use Rattle.acq_control.specs.Held.{Held, HoldsMore}
+use Rattle.acq_control.specs.declared.wish.Wish.{Wish}
 use Rattle.acq_control.proofs.Following.{follows_asked, follows_fed, follows_written}
 
 module _ (may_give : ℕ → Type 0) (serving : Serving) (old : Tables) (left : Left) where
   -- a line was taken
-  pub takes_on : (came went : List ℕ) (before after : End) (asked : Option Question) (stops : Bool) →
-      TakesLine may_give serving old left before after asked → is_stop asked ≡ stops →
-      AsksOne may_give serving old left stops
+  pub takes_on : (came went : List ℕ) (before after : End) (asked : Option Question) (wish : Wish) →
+      TakesLine may_give serving old left before after asked → wish_of asked ≡ wish →
+      AsksOne may_give serving old left wish
       (record {
         came = came;
         held = before.held;
@@ -36,12 +37,12 @@ module _ (may_give : ℕ → Type 0) (serving : Serving) (old : Tables) (left : 
         unsent = after.unsent;
         taken = after.taken;
       })
-  takes_on came went before after asked stops took is_so = record {
+  takes_on came went before after asked wish took is_so = record {
     asked = asked;
     moment = took.moment;
     given = took.given;
     shows = took.shows;
-    ends_host = is_so;
+    wishes = is_so;
     tables = took.tables;
     stop = took.stop;
     follows = λ k t acts is f.
@@ -111,12 +112,13 @@ module _ (may_give : ℕ → Type 0) (serving : Serving) (old : Tables) (left : 
         };
       }
 
-  -- nothing was done, and no host's end is told
-  pub moved_on : (before after : Passed) (r : Result ControlRound fault.FrontFault) → r ≢ Ok Stops →
+  -- nothing was done, and no line was taken
+  pub moved_on : (before after : Passed) (r : Result ControlRound fault.FrontFault) →
+      ((wish : Wish) → r ≢ Ok (Took wish)) →
       MovesOn may_give serving old left before after →
       UnlessRefused r (Goes may_give serving old left before after r)
-  moved_on before after (Ok GoesOn) not on = inl on
-  moved_on before after (Ok Stops) not on = absurd (not refl)
+  moved_on before after (Ok GoesOn) not on = on
+  moved_on before after (Ok (Took wish)) not on = absurd (not wish refl)
   moved_on before after (Ok Waits) not on = on
   moved_on before after (Ok Ended) not on = on
   moved_on before after (Err fault.TheVariants.Memory) not on = tt

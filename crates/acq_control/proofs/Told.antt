@@ -45,9 +45,11 @@ answer_stopped items it held came fault.NotABook is why = absurd why
 answer_stopped items it held came (fault.OtherVersion n) is why = absurd why
 answer_stopped items it held came (fault.Undecodable f) is why = absurd why
 answer_stopped items it held came (fault.Write n) is why = absurd why
+answer_stopped items it held came fault.Silent is why = absurd why
 answer_stopped items it held came fault.DayNotOver is why = absurd why
 answer_stopped items it held came (fault.StillPending n) is why = absurd why
 answer_stopped items it held came (fault.BadLine n) is why = absurd why
+answer_stopped items it held came (fault.OtherDay day) is why = absurd why
 
 -- the answer came, and was written, or not whole
 module _ (items it held came after : List ℕ) (answer : Answer) (kind : AnswerKind)
@@ -91,3 +93,5 @@ module _ (items it held came after : List ℕ) (answer : Answer) (kind : AnswerK
   turn_taken (Err fault.DayNotOver) w = absurd w
   turn_taken (Err (fault.StillPending n)) w = absurd w
   turn_taken (Err (fault.BadLine n)) w = absurd w
+  turn_taken (Err fault.Silent) w = absurd w
+  turn_taken (Err (fault.OtherDay day)) w = absurd w

@@ -1,7 +1,9 @@
 -- What a host says to the questions of a control connection.
-use Rattle.std.specs.Prelude.{ℕ, List, [], ◌∷◌, ◌++◌, codes, length, Option, Some, None}
+use Rattle.std.specs.Prelude.{ℕ, List, [], ◌∷◌, ◌++◌, ◌==◌, codes, length, Option, Some, None}
+use Rattle.std.specs.Prelude.{if◌then◌else◌}
 use Rattle.std.specs.Fmt.{decimal}
 use Rattle.acq_core.specs.declared.event.Event.{Event}
+use Rattle.acq_core.specs.declared.event.Event.TheVariants as event
 use Rattle.acq_core.specs.Arrivals.{arrival_of}
 use Rattle.acq_core.specs.Tables.{Tables, step_output, tables_after}
 use Rattle.acq_out.specs.OutputLines.{line_of}
@@ -13,7 +15,7 @@ use Rattle.acq_status.specs.Texts.{text_in}
 use Rattle.acq_stand_in.specs.Pending.{pending_text}
 use Rattle.acq_commands.specs.DayReports.{report_text}
 use Rattle.acq_commands.specs.Faults.{fault_line, of_report}
-use Rattle.acq_commands.specs.declared.fault.Fault.TheVariants.{BadLine}
+use Rattle.acq_commands.specs.declared.fault.Fault.TheVariants.{BadLine, OtherDay}
 use Rattle.acq_control.specs.declared.question.Question.{Question}
 use Rattle.acq_control.specs.declared.question.Question.TheVariants as question
 
@@ -26,6 +28,12 @@ abbrev pub text_unless_refused : Option ReportFault → List ℕ → List ℕ
 text_unless_refused None text = text_answer text
 text_unless_refused (Some fault) text = fault_line (of_report fault)
 
+-- the business day ends if it is this one; else it is told which one it is
+abbrev pub answer_to_end : Tables → (day moment : ℕ) → List ℕ
+answer_to_end t day moment =
+    if t.day == day then line_of (step_output t (arrival_of (event.Cutover moment)))
+    else fault_line (OtherDay t.day)
+
 -- what is said to the line of this number, by what it asks
 abbrev pub answer_of : Tables → ℕ → Option Question → List ℕ
 answer_of t number None = fault_line (BadLine number)
@@ -36,15 +44,20 @@ answer_of t number (Some (question.Holds merchant moment)) =
     text_unless_refused (merchant_refusal t merchant) (holds_text t merchant moment)
 answer_of t number (Some (question.Pending day moment)) =
     text_answer (pending_text [] moment (Some day) t)
-answer_of t number (Some (question.Status form serving moment)) =
-    text_answer (text_in form (figures_at t) (Some serving) moment)
+answer_of t number (Some (question.Status form serving)) =
+    text_answer (text_in form (figures_at t) (Some serving))
+answer_of t number (Some (question.End day moment)) = answer_to_end t day moment
+answer_of t number (Some question.Reopen) = codes "reopening\n"
 answer_of t number (Some question.Stop) = codes "stopping\n"
 
--- the event that a question is, if it is one
-abbrev pub events_asked : Option Question → List Event
-events_asked (Some (question.Event event)) = event ∷ []
-events_asked other = []
+-- the events that a question is, over these tables: the one that it spells, or the cutover if it
+-- ends the business day
+abbrev pub events_asked : Tables → Option Question → List Event
+events_asked t (Some (question.Event event)) = event ∷ []
+events_asked t (Some (question.End day moment)) =
+    if t.day == day then event.Cutover moment ∷ [] else []
+events_asked t other = []
 
 -- the tables behind a question
 abbrev pub tables_behind : Tables → Option Question → Tables
-tables_behind t asked = tables_after t (events_asked asked)
+tables_behind t asked = tables_after t (events_asked t asked)

@@ -1,5 +1,8 @@
 -- What a host does for a question.
-use Rattle.std.specs.Prelude.{◌≡◌, ◌≢◌, Bool, true, Option, Some, Result, Err}
+use Rattle.std.specs.Prelude.{◌≡◌, ◌≢◌, ◌==◌, ℕ, Bool, true, false, Option, Some, Result}
+use Rattle.std.specs.Prelude.{Err}
+use Rattle.acq_core.specs.declared.event.Event.{Event}
+use Rattle.acq_core.specs.declared.event.Event.TheVariants as event
 use Rattle.acq_core.specs.Arrivals.{arrival_of}
 use Rattle.acq_core.specs.Tables.{step_tables}
 use Rattle.acq_book.specs.Calls.{Looks, Makes}
@@ -11,10 +14,28 @@ use Rattle.acq_reports.specs.declared.report_fault.ReportFault as report
 use Rattle.acq_control.specs.declared.question.Question.{Question}
 use Rattle.acq_control.specs.declared.question.Question.TheVariants as question
 
--- an event is taken, or is not; for any other question the tables are looked at
-abbrev pub Does : {S : Type 0} → Ghosts S → S → S → Option Question → Bool → Type 0
-Does book old new (Some (question.Event event)) done =
+-- an event is taken, or is not
+abbrev pub Takes : {S : Type 0} → Ghosts S → S → S → Event → Bool → Type 0
+Takes book old new event done =
     Makes book old new done (step_tables (book.tables old) (arrival_of event))
+
+-- an event is taken if this is so; else the tables are looked at
+abbrev pub TakesIf : {S : Type 0} → Ghosts S → S → S → Event → Bool → Bool → Type 0
+TakesIf book old new event true done = Takes book old new event done
+TakesIf book old new event false done = Looks book old new done
+
+-- The business day is ended, or the tables are looked at; of an honest book that is open it is ended
+-- if it is this one, and only then.
+abbrev pub Ends : {S : Type 0} → Ghosts S → S → S → (day moment : ℕ) → Bool → Type 0
+Ends book old new day moment done =
+    (ends : Bool) × TakesIf book old new (event.Cutover moment) ends done ×
+    (done ≡ true → book.is_honest new → book.is_open old → ends ≡ ((book.tables old).day == day))
+
+-- an event is taken, or the day's end where it is asked for; for any other question the tables are
+-- looked at
+abbrev pub Does : {S : Type 0} → Ghosts S → S → S → Option Question → Bool → Type 0
+Does book old new (Some (question.Event event)) done = Takes book old new event done
+Does book old new (Some (question.End day moment)) done = Ends book old new day moment done
 Does book old new other done = Looks book old new done
 
 -- so it is, and perhaps not to the end

@@ -1,6 +1,6 @@
 -- One end of a control connection, a turn at a time.
-use Rattle.std.specs.Prelude.{◌≡◌, ◌+◌, ◌≤◌, ◌++◌, ℕ, Bool, true, false, List, [], length, drop}
-use Rattle.std.specs.Prelude.{Option, Result, Ok, Err, if◌then◌else◌}
+use Rattle.std.specs.Prelude.{◌≡◌, ◌+◌, ◌≤◌, ◌++◌, ℕ, List, [], length, drop}
+use Rattle.std.specs.Prelude.{Option, Result, Ok, Err}
 use Rattle.acq_link.specs.MemorySink.{sent_of}
 use Rattle.acq_core.specs.declared.event.Event.{Event}
 use Rattle.acq_core.specs.Tables.{Tables, tables_after}
@@ -9,11 +9,11 @@ use Rattle.acq_book.specs.declared.book_fault.BookFault.{BookFault}
 use Rattle.acq_control.specs.Lines.{BeginsWithLine, IsInLine}
 use Rattle.acq_control.specs.Held.{Held, Holds}
 use Rattle.acq_status.specs.declared.serving.Serving.{Serving}
-use Rattle.acq_control.specs.Questions.{Asks, Shows, is_stop}
+use Rattle.acq_control.specs.Questions.{Asks, Shows, wish_of}
 use Rattle.acq_control.specs.Answers.{answer_of, events_asked, tables_behind}
 use Rattle.acq_control.specs.declared.control_conversation.ControlConversation.{ControlConversation}
 use Rattle.acq_control.specs.declared.control_turn.ControlTurn.{ControlTurn}
-use Rattle.acq_control.specs.declared.control_turn.ControlTurn.TheVariants.{Waits, Took, Stops}
+use Rattle.acq_control.specs.declared.control_turn.ControlTurn.TheVariants.{Waits, Took}
 use Rattle.acq_control.specs.declared.question.Question.{Question}
 
 -- what came and belongs to no line yet
@@ -31,10 +31,6 @@ gone_of c = c.gone
 -- how many lines were taken
 abbrev pub taken_of : ControlConversation → ℕ
 taken_of c = c.taken
-
--- a line was taken that asks that the host ends, or not
-abbrev pub turn_after : Bool → ControlTurn
-turn_after stops = if stops then Stops else Took
 
 -- one end as it stands
 pub record End : Type 0 where
@@ -79,15 +75,13 @@ module _ (may_give : ℕ → Type 0) (serving : Serving) (old : Tables) (left : 
         BeginsWithAsked after.held moment asked bytes
     pub shows : Shows serving asked
     pub tables : left.tables ≡ tables_behind old asked
-    pub stop : LeavesAll left old (events_asked asked)
+    pub stop : LeavesAll left old (events_asked old asked)
     pub answers : after.unsent ≡ answer_of old after.taken asked
     pub count : after.taken ≡ before.taken + 1
 
   -- one turn
   abbrev pub Steps : End → End → Result ControlTurn BookFault → Type 0
   Steps before after (Ok Waits) = WaitsOn before after × IsInLine before.held.kept
-  Steps before after (Ok Took) =
-      (asked : Option Question) × TakesLine before after asked × (is_stop asked ≡ false)
-  Steps before after (Ok Stops) =
-      (asked : Option Question) × TakesLine before after asked × (is_stop asked ≡ true)
+  Steps before after (Ok (Took wish)) =
+      (asked : Option Question) × TakesLine before after asked × (wish_of asked ≡ wish)
   Steps before after (Err f) = RefusesLine old left

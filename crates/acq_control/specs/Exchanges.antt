@@ -1,5 +1,5 @@
 -- One control connection to a host that has many, a round at a time.
-use Rattle.std.specs.Prelude.{◌≡◌, ◌⊎◌, ◌+◌, ◌<◌, ℕ, Bool, true, false, List, [], ◌∷◌, ◌++◌}
+use Rattle.std.specs.Prelude.{◌≡◌, ◌+◌, ◌<◌, ℕ, Bool, true, false, List, [], ◌∷◌, ◌++◌}
 use Rattle.std.specs.Prelude.{length, Option, Result, Ok, Err}
 use Rattle.acq_core.specs.Tables.{Tables}
 use Rattle.acq_front.specs.Stops.{Left, LeavesAll}
@@ -9,15 +9,16 @@ use Rattle.acq_front.specs.declared.front_fault.FrontFault.TheVariants as fault
 use Rattle.acq_status.specs.declared.serving.Serving.{Serving}
 use Rattle.acq_control.specs.Lines.{IsInLine}
 use Rattle.acq_control.specs.Held.{Held, Holds, is_nothing}
-use Rattle.acq_control.specs.Questions.{Shows, is_stop}
+use Rattle.acq_control.specs.Questions.{Shows, wish_of}
 use Rattle.acq_control.specs.Answers.{events_asked, tables_behind}
 use Rattle.acq_control.specs.Log.{Act, FollowsActs, asked_by, behind_acts}
 use Rattle.acq_control.specs.Ends as turns
 use Rattle.acq_control.specs.declared.control_exchange.ControlExchange.{ControlExchange}
 use Rattle.acq_control.specs.declared.control_round.ControlRound.{ControlRound}
-use Rattle.acq_control.specs.declared.control_round.ControlRound.TheVariants.{Ended, GoesOn, Stops}
+use Rattle.acq_control.specs.declared.control_round.ControlRound.TheVariants.{Ended, GoesOn, Took}
 use Rattle.acq_control.specs.declared.control_round.ControlRound.TheVariants.{Waits}
 use Rattle.acq_control.specs.declared.question.Question.{Question}
+use Rattle.acq_control.specs.declared.wish.Wish.{Wish}
 
 -- what passed over a connection so far
 pub record Passed : Type 0 where
@@ -82,7 +83,7 @@ amount_passed p = length p.came + length p.went + p.taken
 -- a round that goes on did something, and one that waits did nothing
 abbrev pub Moves : Passed → Passed → Result ControlRound FrontFault → Type 0
 Moves before after (Ok GoesOn) = amount_passed before < amount_passed after
-Moves before after (Ok Stops) = amount_passed before < amount_passed after
+Moves before after (Ok (Took wish)) = amount_passed before < amount_passed after
 Moves before after (Ok Waits) = after ≡ before
 Moves before after other = Unit {0}
 
@@ -100,22 +101,21 @@ module _ (may_give : ℕ → Type 0) (serving : Serving) (old : Tables) (left : 
     pub follows : (k : ℕ) (t : Tables) (acts : List Act) → old ≡ behind_acts t acts →
         FollowsLog k t acts before → FollowsLog k t acts after
 
-  -- A line was taken, at a moment that may be given, and what it asks was done, which is the host's
-  -- end or not; and behind any acts the connection goes on to follow them and this one.
-  pub record AsksOne (stops : Bool) (before after : Passed) : Type 0 where
+  -- A line was taken, at a moment that may be given, and what it asks was done, which has this wish;
+  -- and behind any acts the connection goes on to follow them and this one.
+  pub record AsksOne (wish : Wish) (before after : Passed) : Type 0 where
     pub asked : Option Question
     pub moment : ℕ
     pub given : may_give moment
     pub shows : Shows serving asked
-    pub ends_host : is_stop asked ≡ stops
+    pub wishes : wish_of asked ≡ wish
     pub tables : left.tables ≡ tables_behind old asked
-    pub stop : LeavesAll left old (events_asked asked)
+    pub stop : LeavesAll left old (events_asked old asked)
     pub follows : (k : ℕ) (t : Tables) (acts : List Act) → old ≡ behind_acts t acts →
         FollowsLog k t acts before →
         (line : List ℕ) × FollowsLog k t (acts ++ asked_by k moment line asked ∷ []) after
 
   -- a round, by what it tells
   abbrev pub Goes : Passed → Passed → Result ControlRound FrontFault → Type 0
-  Goes before after (Ok GoesOn) = MovesOn before after ⊎ AsksOne false before after
-  Goes before after (Ok Stops) = AsksOne true before after
+  Goes before after (Ok (Took wish)) = AsksOne wish before after
   Goes before after other = MovesOn before after

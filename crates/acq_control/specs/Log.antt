@@ -27,18 +27,24 @@ asked_by k moment line asked = record { connection = k; deed = Asked moment line
 
 -- ---- what an act is to the tables
 
-abbrev pub events_in : Deed → List Event
-events_in (Served events) = events
-events_in (Asked moment line asked) = events_asked asked
+abbrev pub events_in : Tables → Deed → List Event
+events_in t (Served events) = events
+events_in t (Asked moment line asked) = events_asked t asked
 
--- the acts as the log of events that terminals follow
-abbrev pub entries : List Act → List Entry
-entries acts = flat_map (λ a. map (by a.connection) (events_in a.deed)) acts
+-- the tables behind an act
+abbrev pub behind_act : Tables → Act → Tables
+behind_act t a = tables_after t (events_in t a.deed)
 
 -- the tables behind acts
 abbrev pub behind_acts : Tables → List Act → Tables
 behind_acts t [] = t
-behind_acts t (a ∷ acts) = behind_acts (tables_after t (events_in a.deed)) acts
+behind_acts t (a ∷ acts) = behind_acts (behind_act t a) acts
+
+-- the acts as the log of events that terminals follow
+abbrev pub entries : Tables → List Act → List Entry
+entries t [] = []
+entries t (a ∷ acts) =
+    map (by a.connection) (events_in t a.deed) ++ entries (behind_act t a) acts
 
 -- ---- what an act is to a control connection
 
@@ -70,8 +76,7 @@ abbrev pub answers_to : ℕ → Tables → ℕ → List Act → List ℕ
 answers_to k t taken [] = []
 answers_to k t taken (a ∷ acts) =
     own k a (said_to t (taken + 1) a.deed)
-    ++ answers_to k (tables_after t (events_in a.deed)) (taken + length (own k a (lines_in a.deed)))
-    acts
+    ++ answers_to k (behind_act t a) (taken + length (own k a (lines_in a.deed))) acts
 
 -- the act was done for another, or a line of this connection asks what was done
 abbrev pub IsAskedBy : ℕ → Act → Type 0

@@ -1,9 +1,10 @@
 -- What a line of a control connection asks (own profile): an event, as an event line spells it; a
--- text; or that the host ends. The word `now` stands for the moment at which the line is taken.
-use Rattle.std.specs.Prelude.{◌≡◌, ◌≢◌, ◌==◌, ◌&&◌, ◌+◌, ◌<◌, ◌≤◌, ℕ, nat_eq, Bool, true, false}
+-- text; that the business day ends; that the log is opened anew; or that the host ends. The word `now`
+-- stands for the moment at which the line is taken.
+use Rattle.std.specs.Prelude.{◌≡◌, ◌≢◌, ◌==◌, ◌&&◌, ◌+◌, ◌-◌, ◌<◌, ◌≤◌, ℕ, nat_eq, Bool}
 use Rattle.std.specs.Prelude.{List, [], ◌∷◌, ◌++◌, codes, drop, take, length, option_map, Option}
 use Rattle.std.specs.Prelude.{Some, None, Ok, if◌then◌else◌}
-use Rattle.std.specs.List.{position, starts_with}
+use Rattle.std.specs.List.{ends_with, position, starts_with}
 use Rattle.std.specs.Fmt.{decimal}
 use Rattle.std.specs.Borrow.{Bor}
 use Rattle.std.specs.Str.{IsUtf8, bytes_eq}
@@ -21,6 +22,8 @@ use Rattle.acq_control.specs.declared.question.Question.{Question}
 use Rattle.acq_control.specs.declared.question.Question.TheVariants as question
 use Rattle.acq_control.specs.declared.question_word.QuestionWord.{QuestionWord}
 use Rattle.acq_control.specs.declared.question_word.QuestionWord.TheVariants as word
+use Rattle.acq_control.specs.declared.wish.Wish.{Wish}
+use Rattle.acq_control.specs.declared.wish.Wish.TheVariants as wish
 
 abbrev pub begins_with : List ℕ → List ℕ → Bool
 begins_with line text = starts_with nat_eq line text
@@ -35,6 +38,8 @@ word_of line =
     else if begins_with line (codes "pending,") then word.Pending
     else if bytes_eq line (codes "status") then word.Status
     else if bytes_eq line (codes "metrics") then word.Metrics
+    else if begins_with line (codes "end,") then word.End
+    else if bytes_eq line (codes "reopen") then word.Reopen
     else word.Event
 
 -- how many bytes it has with the comma behind it, if one is
@@ -43,6 +48,7 @@ word_length word.Clearing = 9
 word_length word.Pending = 8
 word_length word.Report = 7
 word_length word.Holds = 6
+word_length word.End = 4
 word_length other = 0
 
 -- ---- events
@@ -103,15 +109,20 @@ AsksPending now text (Some (question.Pending day moment)) =
 AsksPending now text None = IsUtf8 text → IsNoDateText text
 AsksPending now text (Some other) = ⊥
 
--- figures in this form, whatever is served, at a moment
-abbrev pub AsksStatus : StatusForm → ℕ → Option Question → Type 0
-AsksStatus form now (Some (question.Status asked serving moment)) =
-    (asked ≡ form) × (moment ≡ now)
-AsksStatus form now other = ⊥
+-- and of a day that is to end at a moment
+abbrev pub AsksEnd : ℕ → List ℕ → Option Question → Type 0
+AsksEnd now text (Some (question.End day moment)) = (moment ≡ now) × (text ≡ date_text_of day)
+AsksEnd now text None = IsUtf8 text → IsNoDateText text
+AsksEnd now text (Some other) = ⊥
+
+-- figures in this form, whatever is served
+abbrev pub AsksStatus : StatusForm → Option Question → Type 0
+AsksStatus form (Some (question.Status asked serving)) = asked ≡ form
+AsksStatus form other = ⊥
 
 -- if figures are asked, they are of what is served just then
 abbrev pub Shows : Serving → Option Question → Type 0
-Shows serving (Some (question.Status form shown moment)) = shown ≡ serving
+Shows serving (Some (question.Status form shown)) = shown ≡ serving
 Shows serving other = Unit {0}
 
 -- a moment, or now
@@ -134,10 +145,11 @@ holds_of now text = holds_about now text (position (λ byte. byte == 44) text)
 
 -- ---- any line
 
--- whether the host's end is asked
-abbrev pub is_stop : Option Question → Bool
-is_stop (Some question.Stop) = true
-is_stop other = false
+-- what is asked of those who serve the connection
+abbrev pub wish_of : Option Question → Wish
+wish_of (Some question.Stop) = wish.Stop
+wish_of (Some question.Reopen) = wish.Reopen
+wish_of other = wish.Nothing
 
 -- what a line of this word asks; nothing, where it is out of its form
 abbrev pub AsksBy : QuestionWord → ℕ → List ℕ → Option Question → Type 0
@@ -146,13 +158,21 @@ AsksBy word.Clearing now line asked = AsksReport report.Clearing (drop 9 line) a
 AsksBy word.Report now line asked = AsksReport report.Settlement (drop 7 line) asked
 AsksBy word.Holds now line asked = asked ≡ holds_of now (drop 6 line)
 AsksBy word.Pending now line asked = AsksPending now (drop 8 line) asked
-AsksBy word.Status now line asked = AsksStatus form.Lines now asked
-AsksBy word.Metrics now line asked = AsksStatus form.Metrics now asked
+AsksBy word.Status now line asked = AsksStatus form.Lines asked
+AsksBy word.Metrics now line asked = AsksStatus form.Metrics asked
+AsksBy word.End now line asked = AsksEnd now (drop 4 line) asked
+AsksBy word.Reopen now line asked = asked ≡ Some question.Reopen
 AsksBy word.Event now line asked = AsksEvent now line asked
+
+-- a line without the carriage return before its end, if one stands there
+abbrev pub without_return : List ℕ → List ℕ
+without_return line =
+    if ends_with nat_eq line (13 ∷ []) then take (length line - 1) line else line
 
 -- what a line asks that isn't too long
 abbrev pub AsksShort : ℕ → List ℕ → Option Question → Type 0
-AsksShort now line asked = AsksBy (word_of line) now line asked
+AsksShort now line asked =
+    let it = without_return line in AsksBy (word_of it) now it asked
 
 -- what a line asks that is taken at this moment; one that is too long asks nothing
 pub record Asks (now : ℕ) (line : List ℕ) (asked : Option Question) : Type 0 where

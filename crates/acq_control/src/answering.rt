@@ -15,7 +15,8 @@ ghost use Rattle.acq_reports.specs.declared.report_fault.ReportFault as report_f
 ghost use Rattle.acq_commands.specs.DayReports.{report_text};
 ghost use Rattle.acq_commands.specs.Faults.{fault_line};
 ghost use Rattle.acq_stand_in.specs.Pending.{pending_text};
-ghost use Rattle.acq_control.specs.Answers.{answer_of, text_answer, text_unless_refused};
+ghost use Rattle.acq_control.specs.Answers.{answer_of, answer_to_end, text_answer};
+ghost use Rattle.acq_control.specs.Answers.{text_unless_refused};
 ghost use Rattle.acq_control.specs.Doing.{Does, DoesSome, IsSettled, TellsAs, TellsStore};
 ghost use Rattle.acq_control.specs.declared.question.Question.TheVariants as question;
 
@@ -78,14 +79,15 @@ fn put_answer<B: Book + Drop>(
             put_holds(alloc, host, *merchant, *moment, answer)
         }
         Some(Question::Pending(day, moment)) => put_pending(alloc, host, *day, *moment, answer),
-        Some(Question::Status(form, serving, moment)) => {
+        Some(Question::Status(form, serving)) => {
             let asked = StatusText {
                 form: *form,
                 serving: *serving,
-                moment: *moment,
             };
             put_asked(alloc, host, &asked, answer)
         }
+        Some(Question::End(day, moment)) => put_end(alloc, host, *day, *moment, answer),
+        Some(Question::Reopen) => put(b"reopening\n", answer),
         Some(Question::Stop) => put(b"stopping\n", answer),
     }
 }
@@ -110,6 +112,30 @@ fn put_event<B: Book + Drop>(
         Ok(()) => Ok(()),
         Err(_) => Err(BookFault::Memory),
     }
+}
+
+/// Ends the business day at a moment, if it is this one, and puts the line of what the host says to
+/// that; else it puts which one it is.
+fn put_end<B: Book + Drop>(
+    alloc: Global,
+    host: &mut Host<B>,
+    day: Day,
+    moment: Moment,
+    answer: &mut MemorySink,
+) -> Result<(), BookFault>
+    ensures answers { B.is_honest host.new → B.is_open host.old → OnOk result (sent_of answer.new
+        ≡ sent_of answer.old ++ answer_to_end (B.tables host.old) day moment) }
+    ensures does { OnOk result
+        (Does B.Book host.old host.new (Some (question.End day moment)) true) }
+    ensures refused { OnErr result
+        (DoesSome B.Book host.old host.new (Some (question.End day moment))) }
+    ensures store { TellsStore B.Book host.old host.new result }
+{
+    let today = host.day()?;
+    if today != day {
+        return put_fault(&Fault::OtherDay(today), answer);
+    }
+    put_event(alloc, host, &Event::Cutover(moment), answer)
 }
 
 /// Puts a report on a day, or why it is refused.

@@ -5,7 +5,7 @@ ghost use Rattle.acq_front.specs.Stops.{left_of};
 ghost use Rattle.acq_control.specs.Doing.{TellsStore};
 ghost use Rattle.acq_control.specs.Lines.{IsInLine, longest_line};
 ghost use Rattle.acq_control.specs.Held.{HoldsMore, front_of, is_nothing, nothing};
-ghost use Rattle.acq_control.specs.Questions.{is_stop};
+ghost use Rattle.acq_control.specs.Questions.{wish_of};
 ghost use Rattle.acq_control.specs.declared.control_turn.ControlTurn.TheVariants.{Waits};
 
 use crate::answering::answer_to;
@@ -13,6 +13,7 @@ use crate::control_input::ControlInput;
 use crate::control_turn::ControlTurn;
 use crate::question::Question;
 use crate::reading::question_in;
+use crate::wish::Wish;
 use acq_book::{Book, BookFault};
 use acq_front::Clock;
 use acq_host::Host;
@@ -145,18 +146,22 @@ impl ControlConversation {
             return Err(BookFault::Memory);
         };
         let asked = question_in(alloc, &line, clock.now(), serving)?;
-        let stops = is_stop(&asked);
+        let wish = wish_of(&asked);
         let answer = answer_to(alloc, host, number, asked)?;
         self.taken = number;
         self.gone = 0;
         self.answer = answer;
-        Ok(ControlTurn::after(stops))
+        Ok(ControlTurn::Took(wish))
     }
 }
 
-/// Whether a line asks that the host ends.
-fn is_stop(asked: &Option<Question>) -> bool
-    ensures { result ≡ is_stop asked.now }
+/// What a line asks of those who serve the connection.
+fn wish_of(asked: &Option<Question>) -> Wish
+    ensures { result ≡ wish_of asked.now }
 {
-    matches!(asked, Some(Question::Stop))
+    match asked {
+        Some(Question::Stop) => Wish::Stop,
+        Some(Question::Reopen) => Wish::Reopen,
+        _ => Wish::Nothing,
+    }
 }

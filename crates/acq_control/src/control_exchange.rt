@@ -11,7 +11,8 @@ ghost use Rattle.acq_control.specs.Exchanges.{EndsWith, Goes, IfRefused, Moves, 
 ghost use Rattle.acq_control.specs.Exchanges.{tells_end};
 ghost use Rattle.acq_control.specs.Exchanges.{held_of, taken_of, unsent_of};
 ghost use Rattle.acq_control.specs.Ends.{RefusesLine};
-ghost use Rattle.acq_control.specs.declared.control_round.ControlRound.TheVariants.{Stops};
+ghost use Rattle.acq_control.specs.declared.control_round.ControlRound.TheVariants.{Took};
+ghost use Rattle.acq_control.specs.declared.wish.Wish.{Wish};
 
 use crate::control_conversation::ControlConversation;
 use crate::control_round::ControlRound;
@@ -69,6 +70,11 @@ impl<L: Line> ControlExchange<L> {
         self.conversation.unsent()
     }
 
+    /// How many bytes of the answer were written.
+    pub fn gone(&self) -> usize {
+        self.conversation.gone()
+    }
+
     /// Whether something is still to be written.
     pub fn is_answering(&self) -> bool
         ensures { result ≡ not (length (unsent_of self.now) == 0) }
@@ -117,8 +123,7 @@ impl<L: Line> ControlExchange<L> {
             return self.send();
         }
         match self.conversation.turn(alloc, host, clock, serving)? {
-            ControlTurn::Took => Ok(ControlRound::GoesOn),
-            ControlTurn::Stops => Ok(ControlRound::Stops),
+            ControlTurn::Took(wish) => Ok(ControlRound::Took(wish)),
             ControlTurn::Waits => self.receive(),
         }
     }
@@ -137,7 +142,7 @@ impl<L: Line> ControlExchange<L> {
         ensures ends { EndsWith (held_of self.new) (unsent_of self.new) result }
         ensures line_ends { L.has_ended (line_of self.new) ≡ L.has_ended (line_of self.old) }
         ensures no_end { tells_end result ≡ false }
-        ensures no_stop { result ≢ Ok Stops }
+        ensures untaken { (wish : Wish) → result ≢ Ok (Took wish) }
         ensures reads { L.read_failures (line_of self.new)
             ≡ L.read_failures (line_of self.old) + failed_reads result }
         ensures writes { L.write_failures (line_of self.new)
@@ -170,7 +175,7 @@ impl<L: Line> ControlExchange<L> {
         ensures ends { EndsWith (held_of self.new) (unsent_of self.new) result }
         ensures line_ends { L.has_ended (line_of self.old) ≡ false
             → L.has_ended (line_of self.new) ≡ tells_end result }
-        ensures no_stop { result ≢ Ok Stops }
+        ensures untaken { (wish : Wish) → result ≢ Ok (Took wish) }
         ensures reads { L.read_failures (line_of self.new)
             ≡ L.read_failures (line_of self.old) + failed_reads result }
         ensures writes { L.write_failures (line_of self.new)

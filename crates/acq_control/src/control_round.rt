@@ -1,12 +1,14 @@
 //! What one round of a control connection did.
 
+use crate::wish::Wish;
+
 /// What one round of a control connection did.
 #[derive(Clone, Copy, Debug, PartialEq, Eq)]
 pub enum ControlRound {
-    /// It wrote, did what a line asks, or read: there may be more to do.
+    /// It wrote, or read: there may be more to do.
     GoesOn,
-    /// It did what a line asks: that the host ends.
-    Stops,
+    /// It did what a line asks, which has this wish.
+    Took(Wish),
     /// Nothing can be written or read yet.
     Waits,
     /// The connection ended between two lines.

@@ -17,9 +17,9 @@ pub fn connections_follow()
         → FollowsActs k t acts input output held unsent taken → a.connection ≢ k
         → FollowsActs k t (acts ++ a ∷ []) input output held unsent taken }
     // A terminal follows the events of what was done,
-    ensures events { (acts : List Act) (a : Act)
-        → entries (acts ++ a ∷ []) ≡ entries acts ++ map (by a.connection) (events_in a.deed) }
+    ensures events { (t : Tables) (acts : List Act) (a : Act) → entries t (acts ++ a ∷ [])
+        ≡ entries t acts ++ map (by a.connection) (events_in (behind_acts t acts) a.deed) }
     // over the same tables.
-    ensures tables { (t : Tables) (acts : List Act) → after_log t (entries acts)
+    ensures tables { (t : Tables) (acts : List Act) → after_log t (entries t acts)
         ≡ behind_acts t acts }
 {}

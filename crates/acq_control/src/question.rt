@@ -17,8 +17,12 @@ pub enum Question {
     /// Answers without a verdict to the requests of a day that wait for their issuer, given at a
     /// moment.
     Pending(Day, Moment),
-    /// Figures of the book, and of what is served, at a moment.
-    Status(StatusForm, Serving, Moment),
+    /// Figures of the book, and of what is served.
+    Status(StatusForm, Serving),
+    /// That the business day ends at a moment, if it is this one.
+    End(Day, Moment),
+    /// That the host opens its log anew.
+    Reopen,
     /// That the host ends.
     Stop,
 }

@@ -13,6 +13,8 @@ pub(crate) enum QuestionWord {
     Pending,
     Status,
     Metrics,
+    End,
+    Reopen,
     Event,
 }
 
@@ -36,6 +38,10 @@ impl QuestionWord {
             QuestionWord::Status
         } else if line == b"metrics".as_slice() {
             QuestionWord::Metrics
+        } else if line.starts_with(b"end,") {
+            QuestionWord::End
+        } else if line == b"reopen".as_slice() {
+            QuestionWord::Reopen
         } else {
             QuestionWord::Event
         }
@@ -49,6 +55,7 @@ impl QuestionWord {
             QuestionWord::Pending => 8,
             QuestionWord::Report => 7,
             QuestionWord::Holds => 6,
+            QuestionWord::End => 4,
             _ => 0,
         }
     }

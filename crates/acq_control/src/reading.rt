@@ -2,8 +2,9 @@
 
 ghost use Rattle.std.specs.Prelude.{◌≡◌, ◌==◌, ℕ, IfOk, List, Option};
 ghost use Rattle.std.specs.List.{position};
-ghost use Rattle.acq_control.specs.Questions.{Asks, AsksEvent, AsksPending, AsksReport, AsksShort};
-ghost use Rattle.acq_control.specs.Questions.{Shows, at_moment, holds_of, moment_at, says_now};
+ghost use Rattle.acq_control.specs.Questions.{Asks, AsksEnd, AsksEvent, AsksPending, AsksReport};
+ghost use Rattle.acq_control.specs.Questions.{AsksShort, Shows, at_moment, holds_of, moment_at};
+ghost use Rattle.acq_control.specs.Questions.{says_now, without_return};
 ghost use Rattle.acq_control.specs.Held.{IsTaken};
 ghost use Rattle.acq_control.specs.Questions as spec;
 ghost use Rattle.acq_status.specs.declared.serving.Serving.{Serving};
@@ -52,6 +53,7 @@ fn question_of(
     ensures asks { IfOk result (λ asked. AsksShort now line.now asked) }
     ensures shows { IfOk result (Shows serving) }
 {
+    let line = without_return(line);
     let word = QuestionWord::of(line);
     let rest = &line[word.length()..];
     match word {
@@ -60,9 +62,22 @@ fn question_of(
         QuestionWord::Report => Ok(report_on(ReportKind::Settlement, rest)),
         QuestionWord::Holds => Ok(holds_of(rest, now)),
         QuestionWord::Pending => Ok(pending_on(rest, now)),
-        QuestionWord::Status => Ok(Some(Question::Status(StatusForm::Lines, serving, now))),
-        QuestionWord::Metrics => Ok(Some(Question::Status(StatusForm::Metrics, serving, now))),
+        QuestionWord::Status => Ok(Some(Question::Status(StatusForm::Lines, serving))),
+        QuestionWord::Metrics => Ok(Some(Question::Status(StatusForm::Metrics, serving))),
+        QuestionWord::End => Ok(end_of(rest, now)),
+        QuestionWord::Reopen => Ok(Some(Question::Reopen)),
         QuestionWord::Event => event_of(alloc, line, now),
+    }
+}
+
+/// A line without the carriage return before its end, if one stands there.
+fn without_return(line: &[u8]) -> &[u8]
+    ensures { result.now ≡ without_return line.entry.now }
+{
+    if line.ends_with(b"\r") {
+        &line[..line.len() - 1]
+    } else {
+        line
     }
 }
 
@@ -85,6 +100,16 @@ fn pending_on(date: &[u8], now: Moment) -> Option<Question>
         return None;
     };
     Some(Question::Pending(Day::read(date)?, now))
+}
+
+/// The end of the business day whose date this is.
+fn end_of(date: &[u8], now: Moment) -> Option<Question>
+    ensures { AsksEnd now date.now result }
+{
+    let Ok(date) = str::from_utf8(date) else {
+        return None;
+    };
+    Some(Question::End(Day::read(date)?, now))
 }
 
 /// The open holds of the merchant before the first comma, at the moment behind it.

@@ -1,19 +1,17 @@
 //! Figures of a host, as a text of its book.
 
 use acq_book::Book;
-use acq_core::Moment;
 use acq_host::BookText;
 use acq_link::Sink;
 use acq_reports::ReportFault;
 use acq_status::{Serving, StatusForm, write_status};
 use std::alloc::Global;
 
-/// Figures of a book and of what is served, at a moment.
+/// Figures of a book and of what is served.
 #[derive(Clone, Copy)]
 pub(crate) struct StatusText {
     pub(crate) form: StatusForm,
     pub(crate) serving: Serving,
-    pub(crate) moment: Moment,
 }
 
 impl BookText for StatusText {
@@ -21,7 +19,7 @@ impl BookText for StatusText {
     ghost use Rattle.acq_status.specs.Figures.{figures_at};
     ghost use Rattle.acq_status.specs.Texts.{text_in};
 
-    ghost text = { λ asked t. text_in asked.form (figures_at t) (Some asked.serving) asked.moment };
+    ghost text = { λ asked t. text_in asked.form (figures_at t) (Some asked.serving) };
 
     fn write<B: Book, K: Sink>(
         &self,
@@ -29,13 +27,6 @@ impl BookText for StatusText {
         book: &mut B,
         writer: &mut K,
     ) -> Result<(), ReportFault> {
-        write_status(
-            alloc,
-            book,
-            self.form,
-            Some(self.serving),
-            self.moment,
-            writer,
-        )
+        write_status(alloc, book, self.form, Some(self.serving), writer)
     }
 }

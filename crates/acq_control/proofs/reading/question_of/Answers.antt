@@ -1,6 +1,6 @@
 use Rattle.std.proofs.Common.{◌≡◌, ◌-◌, ℕ, List, length, take, drop, ap, sym, ◌∙◌, length-drop, arith}
 use Rattle.std.proofs.lemmas.List.{take_all}
-use Rattle.acq_control.specs.Questions.{word_length, word_of}
+use Rattle.acq_control.specs.Questions.{AsksBy, without_return, word_length, word_of}
 use Rattle.acq_control.specs.declared.question_word.QuestionWord.TheVariants as word
 use Rattle.acq_control.proofs.reading.question_of.Goals as goal
 
@@ -9,31 +9,53 @@ behind n line = take_all (length line - n) (drop n line) (omega (arith, length-d
 
 pub returns-in-Clearing-clause-asks : goal.returns-in-Clearing-clause-asks
 returns-in-Clearing-clause-asks c =
-    let line = c.args.line.now in
+    let line = c.without_return-line.result.now in
+    let whole : line ≡ without_return c.args.line.now = c.without_return-line.ensures in
     let n : c.length.result ≡ 9 = c.length.ensures ∙ ap word_length c.in-Clearing.is in
     let is : word_of line ≡ word.Clearing = sym c.of-word.ensures.word ∙ c.in-Clearing.is in
-    rw is (rw (n, behind 9 line) at c.report_on.ensures)
+    let asks : AsksBy (word_of line) c.args.now line c.report_on.result =
+    rw is (rw (n, behind 9 line) at c.report_on.ensures) in
+    rw whole at asks
 
 pub returns-in-Report-clause-asks : goal.returns-in-Report-clause-asks
 returns-in-Report-clause-asks c =
-    let line = c.args.line.now in
+    let line = c.without_return-line.result.now in
+    let whole : line ≡ without_return c.args.line.now = c.without_return-line.ensures in
     let n : c.length.result ≡ 7 = c.length.ensures ∙ ap word_length c.in-Report.is in
     let is : word_of line ≡ word.Report = sym c.of-word.ensures.word ∙ c.in-Report.is in
-    rw is (rw (n, behind 7 line) at c.report_on-in-Report.ensures)
+    let asks : AsksBy (word_of line) c.args.now line c.report_on-in-Report.result =
+    rw is (rw (n, behind 7 line) at c.report_on-in-Report.ensures) in
+    rw whole at asks
 
 pub returns-in-Holds-clause-asks : goal.returns-in-Holds-clause-asks
 returns-in-Holds-clause-asks c =
-    let line = c.args.line.now in
+    let line = c.without_return-line.result.now in
+    let whole : line ≡ without_return c.args.line.now = c.without_return-line.ensures in
     let n : c.length.result ≡ 6 = c.length.ensures ∙ ap word_length c.in-Holds.is in
     let is : word_of line ≡ word.Holds = sym c.of-word.ensures.word ∙ c.in-Holds.is in
-    rw is (rw (n, behind 6 line) at c.holds_of.ensures.holds)
+    let asks : AsksBy (word_of line) c.args.now line c.holds_of.result =
+    rw is (rw (n, behind 6 line) at c.holds_of.ensures.holds) in
+    rw whole at asks
 
 pub returns-in-Pending-clause-asks : goal.returns-in-Pending-clause-asks
 returns-in-Pending-clause-asks c =
-    let line = c.args.line.now in
+    let line = c.without_return-line.result.now in
+    let whole : line ≡ without_return c.args.line.now = c.without_return-line.ensures in
     let n : c.length.result ≡ 8 = c.length.ensures ∙ ap word_length c.in-Pending.is in
     let is : word_of line ≡ word.Pending = sym c.of-word.ensures.word ∙ c.in-Pending.is in
-    rw is (rw (n, behind 8 line) at c.pending_on.ensures)
+    let asks : AsksBy (word_of line) c.args.now line c.pending_on.result =
+    rw is (rw (n, behind 8 line) at c.pending_on.ensures) in
+    rw whole at asks
 
 pub returns-in-Holds-clause-shows : goal.returns-in-Holds-clause-shows
 returns-in-Holds-clause-shows c = c.holds_of.ensures.shows c.args.serving
+
+pub returns-in-End-clause-asks : goal.returns-in-End-clause-asks
+returns-in-End-clause-asks c =
+    let line = c.without_return-line.result.now in
+    let whole : line ≡ without_return c.args.line.now = c.without_return-line.ensures in
+    let n : c.length.result ≡ 4 = c.length.ensures ∙ ap word_length c.in-End.is in
+    let is : word_of line ≡ word.End = sym c.of-word.ensures.word ∙ c.in-End.is in
+    let asks : AsksBy (word_of line) c.args.now line c.end_of.result =
+    rw is (rw (n, behind 4 line) at c.end_of.ensures) in
+    rw whole at asks

@@ -1,11 +1,11 @@
-use Rattle.std.proofs.Common.{◌≡◌, ◌∙◌, Ok, true, false, inr, ap, refl, subst, sym, rules}
+use Rattle.std.proofs.Common.{◌≡◌, ◌∙◌, Ok, ap, refl, subst, sym, rules}
 use Rattle.std.specs.Prelude.{Result}
 use Rattle.acq_book.specs.declared.book_fault.BookFault.{BookFault}
 use Rattle.acq_front.specs.Stops.{left_of}
 use Rattle.acq_front.proofs.Rounds.{none_left}
 use Rattle.acq_front.proofs.StopsLeave.{none_stop}
 use Rattle.acq_control.specs.declared.control_turn.ControlTurn.{ControlTurn}
-use Rattle.acq_control.specs.declared.control_turn.ControlTurn.TheVariants.{Stops, Took, Waits}
+use Rattle.acq_control.specs.declared.control_turn.ControlTurn.TheVariants.{Took, Waits}
 use Rattle.acq_control.specs.Ends.{End, Steps, end_of}
 use Rattle.acq_control.specs.Lines.{IsInLine}
 use Rattle.acq_control.specs.Exchanges.{held_of, passed, taken_of, unsent_of}
@@ -20,27 +20,12 @@ returns-in-Took-clause-goes g c = λ h o.
     let it = c.args.self.now in
     let none = none_left c.unsent.result.now (unsent_of it) c.is_empty.result c.is_empty.ensures
     c.if-not-is_empty.false c.unsent.ensures in
-    let took : c.turn.result ≡ Ok Took = search rules in
+    let took : c.turn.result ≡ Ok (Took c.in-Took.wish) = search rules in
     let steps = subst (λ (r : Result ControlTurn BookFault). Steps give c.args.serving tables left
     (end_of it.conversation) (end_of c.turn.new.self) r) took (c.turn.ensures.steps h o) in
-    rw none (inr (takes_on give c.args.serving tables left (g.L.Line.received it.line)
-    (g.L.Line.sent it.line) (end_of it.conversation) (end_of c.turn.new.self) steps.0 false steps.1
-    steps.2))
-
-pub returns-in-Stops-clause-goes : goal.returns-in-Stops-clause-goes
-returns-in-Stops-clause-goes g c = λ h o.
-    let give = g.C.Clock.may_give c.args.clock.now in
-    let tables = g.B.Book.tables c.args.host.now in
-    let left = left_of g.B.Book c.turn.new.host in
-    let it = c.args.self.now in
-    let none = none_left c.unsent.result.now (unsent_of it) c.is_empty.result c.is_empty.ensures
-    c.if-not-is_empty.false c.unsent.ensures in
-    let stops : c.turn.result ≡ Ok Stops = search rules in
-    let steps = subst (λ (r : Result ControlTurn BookFault). Steps give c.args.serving tables left
-    (end_of it.conversation) (end_of c.turn.new.self) r) stops (c.turn.ensures.steps h o) in
     rw none (takes_on give c.args.serving tables left (g.L.Line.received it.line)
-    (g.L.Line.sent it.line) (end_of it.conversation) (end_of c.turn.new.self) steps.0 true steps.1
-    steps.2)
+    (g.L.Line.sent it.line) (end_of it.conversation) (end_of c.turn.new.self) steps.0
+    c.in-Took.wish steps.1 steps.2)
 
 pub receive-requires-clause-within : goal.receive-requires-clause-within
 receive-requires-clause-within g c =
@@ -68,7 +53,7 @@ returns-in-Waits-clause-goes g c = λ h o.
     let came = c.receive.ensures.received in
     moved_on give c.args.serving tables left (passed g.L.Line.received g.L.Line.sent it)
     (passed g.L.Line.received g.L.Line.sent c.receive.new.self) c.receive.result
-    c.receive.ensures.no_stop
+    c.receive.ensures.untaken
     (reads_on give c.args.serving tables left (g.L.Line.received it.line) (g.L.Line.sent it.line)
     (end_of it.conversation) (end_of c.turn.new.self)
     (passed g.L.Line.received g.L.Line.sent c.receive.new.self) came.0 steps.0 came.1 came.2
@@ -82,7 +67,7 @@ returns-then-not-is_empty-clause-goes g c = λ h o.
     let it = c.args.self.now in
     let sent = c.send.ensures.sent in
     moved_on give c.args.serving tables left (passed g.L.Line.received g.L.Line.sent it)
-    (passed g.L.Line.received g.L.Line.sent c.send.new.self) c.send.result c.send.ensures.no_stop
+    (passed g.L.Line.received g.L.Line.sent c.send.new.self) c.send.result c.send.ensures.untaken
     (rw (c.send.ensures.received, c.send.ensures.held, c.send.ensures.taken, sent.1, sent.2)
     (writes_on give c.args.serving tables left (g.L.Line.received it.line) (g.L.Line.sent it.line)
     (held_of it) (unsent_of it) (taken_of it) sent.0 refl
