@@ -18,9 +18,11 @@ within fault.Ended = omega arith
 within (fault.Undecodable f) = omega arith
 within fault.Read = omega arith
 within (fault.Write n) = omega arith
+within fault.Silent = omega arith
 within fault.DayNotOver = omega arith
 within (fault.StillPending n) = omega arith
 within (fault.BadLine n) = omega arith
+within (fault.OtherDay day) = omega arith
 
 pub status_within : (ended : Result ℕ Fault) → IfOk ended (λ status. status ≤ 1) →
     status_in ended ≤ 3

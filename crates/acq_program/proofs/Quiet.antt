@@ -24,9 +24,11 @@ not_well fault.Ended h = omega (arith, h)
 not_well (fault.Undecodable f) h = omega (arith, h)
 not_well fault.Read h = omega (arith, h)
 not_well (fault.Write n) h = omega (arith, h)
+not_well fault.Silent h = omega (arith, h)
 not_well fault.DayNotOver h = omega (arith, h)
 not_well (fault.StillPending n) h = omega (arith, h)
 not_well (fault.BadLine n) h = omega (arith, h)
+not_well (fault.OtherDay day) h = omega (arith, h)
 
 where_well : (ended : Result ℕ Fault) (P : Type 0) → OnOk ended P → status_in ended ≡ 0 → P
 where_well (Ok status) P p h = p

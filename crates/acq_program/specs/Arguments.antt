@@ -31,7 +31,10 @@ use Rattle.acq_program.specs.declared.action.Action.TheVariants.{Pending, Status
 use Rattle.acq_commands.specs.declared.day_report.DayReport.{DayReport}
 use Rattle.acq_commands.specs.declared.input_form.InputForm.{InputForm}
 use Rattle.acq_commands.specs.declared.input_form.InputForm.TheVariants as form
+use Rattle.acq_commands.specs.declared.listen_options.ListenOptions.{ListenOptions}
 use Rattle.acq_commands.specs.declared.patience.Patience.{Patience}
+use Rattle.acq_program.specs.declared.bounds.Bounds.{Bounds}
+use Rattle.acq_program.specs.Apart.{clash_of}
 use Rattle.acq_program.specs.declared.option_name.OptionName.{OptionName}
 use Rattle.acq_program.specs.declared.option_name.OptionName.TheVariants as option
 use Rattle.acq_commands.specs.declared.report_kind.ReportKind.{ReportKind}
@@ -52,7 +55,13 @@ name_of_option option.Count = codes "--count"
 name_of_option option.Idle = codes "--idle"
 name_of_option option.FrameWithin = codes "--frame-within"
 name_of_option option.IdleWhenFull = codes "--idle-when-full"
+name_of_option option.StopWithin = codes "--stop-within"
 name_of_option option.Together = codes "--together"
+name_of_option option.Issuers = codes "--issuers"
+name_of_option option.Control = codes "--control"
+name_of_option option.Log = codes "--log"
+name_of_option option.LogBytes = codes "--log-bytes"
+name_of_option option.Within = codes "--within"
 name_of_option option.Path = codes "PATH"
 name_of_option (option.Report kinds.Clearing) = codes "--clearing"
 name_of_option (option.Report kinds.Settlement) = codes "--report"
@@ -74,9 +83,12 @@ pub record OptionTexts : Type 0 where
   pub idle : Option Text
   pub frame_within : Option Text
   pub idle_when_full : Option Text
+  pub stop_within : Option Text
   pub together : Option Text
   pub control : Option Text
   pub log : Option Text
+  pub log_bytes : Option Text
+  pub within : Option Text
   pub path : Option Text
 
 -- all values of an option
@@ -101,9 +113,12 @@ option_texts rows = record {
   idle = first_of (codes "idle") rows;
   frame_within = first_of (codes "frame-within") rows;
   idle_when_full = first_of (codes "idle-when-full") rows;
+  stop_within = first_of (codes "stop-within") rows;
   together = first_of (codes "together") rows;
   control = first_of (codes "control") rows;
   log = first_of (codes "log") rows;
+  log_bytes = first_of (codes "log-bytes") rows;
+  within = first_of (codes "within") rows;
   path = first_of (codes "path") rows;
 }
 
@@ -129,9 +144,12 @@ found_texts found = record {
   idle = first_value found (codes "idle");
   frame_within = first_value found (codes "frame-within");
   idle_when_full = first_value found (codes "idle-when-full");
+  stop_within = first_value found (codes "stop-within");
   together = first_value found (codes "together");
   control = first_value found (codes "control");
   log = first_value found (codes "log");
+  log_bytes = first_value found (codes "log-bytes");
+  within = first_value found (codes "within");
   path = first_value found (codes "path");
 }
 
@@ -169,6 +187,10 @@ count_of_text text = number_of_text 6 1 999999 text
 -- a number of seconds, 0 to 999,999
 abbrev pub seconds_of_text : Text → Option ℕ
 seconds_of_text text = number_of_text 6 0 999999 text
+
+-- a number of bytes, of up to fifteen digits
+abbrev pub bytes_of_text : Text → Option ℕ
+bytes_of_text text = number_of_text 15 0 999999999999999 text
 
 -- how many connections are served at once, 1 to 1,024
 abbrev pub together_of_text : Text → Option ℕ
@@ -265,6 +287,22 @@ FrameWithinIs texts read = read ≡ seconds_if_there 30 option.FrameWithin texts
 abbrev pub IdleWhenFullIs : OptionTexts → Result ℕ OptionName → Type 0
 IdleWhenFullIs texts read = read ≡ seconds_if_there 10 option.IdleWhenFull texts.idle_when_full
 
+-- so many seconds once the host was asked to end: without the option 10
+abbrev pub StopWithinIs : OptionTexts → Result ℕ OptionName → Type 0
+StopWithinIs texts read = read ≡ seconds_if_there 10 option.StopWithin texts.stop_within
+
+-- so many seconds for an answer of a host: without the option 60
+abbrev pub WithinIs : OptionTexts → Result ℕ OptionName → Type 0
+WithinIs texts read = read ≡ seconds_if_there 60 option.Within texts.within
+
+-- so many bytes of a log: without the option 1 GiB
+abbrev pub bytes_if_there : Option Text → Result ℕ OptionName
+bytes_if_there None = Ok (2 ^ 30)
+bytes_if_there (Some text) = ok_or (bytes_of_text text) option.LogBytes
+
+abbrev pub LogBytesIs : OptionTexts → Result ℕ OptionName → Type 0
+LogBytesIs texts read = read ≡ bytes_if_there texts.log_bytes
+
 -- so many connections at once: without the option 1
 abbrev pub together_if_there : Option Text → Result ℕ OptionName
 together_if_there None = Ok 1
@@ -341,25 +379,42 @@ IsOnce book issuers moment other = ⊥
 abbrev pub AsksOnce : OptionTexts → Result Action OptionName → Type 0
 AsksOnce texts = Then (MomentIfThere texts) (IsOnce texts.db texts.issuers)
 
--- a connection may be idle so long, its frames may take so long, and it may be idle so long while
--- others wait
-abbrev pub IsPatience : ℕ → ℕ → ℕ → Result Patience OptionName → Type 0
-IsPatience idle frame_within idle_when_full read =
+-- a connection may be idle so long, its frames may take so long, it may be idle so long while others
+-- wait, and be there so long once the host was asked to end
+abbrev pub IsPatience : ℕ → ℕ → ℕ → ℕ → Result Patience OptionName → Type 0
+IsPatience idle frame_within idle_when_full stop_within read =
     read ≡ Ok (record {
       idle = idle;
       frame_within = frame_within;
       idle_when_full = idle_when_full;
+      stop_within = stop_within;
     })
 
+abbrev pub PatienceUpTo : OptionTexts → ℕ → ℕ → ℕ → Result Patience OptionName → Type 0
+PatienceUpTo texts idle frame_within idle_when_full =
+    Then (StopWithinIs texts) (IsPatience idle frame_within idle_when_full)
+
 abbrev pub PatienceWith : OptionTexts → ℕ → ℕ → Result Patience OptionName → Type 0
-PatienceWith texts idle frame_within = Then (IdleWhenFullIs texts) (IsPatience idle frame_within)
+PatienceWith texts idle frame_within =
+    Then (IdleWhenFullIs texts) (PatienceUpTo texts idle frame_within)
 
 abbrev pub PatienceFor : OptionTexts → ℕ → Result Patience OptionName → Type 0
 PatienceFor texts idle = Then (FrameWithinIs texts) (PatienceWith texts idle)
 
--- how long a connection may take: in silence first, then with a frame, then while others wait
+-- how long a connection may take: in silence first, then with a frame, then while others wait, then
+-- once the host was asked to end
 abbrev pub PatienceIs : OptionTexts → Result Patience OptionName → Type 0
 PatienceIs texts = Then (IdleIs texts) (PatienceFor texts)
+
+-- so many connections at once, and so many bytes of a log
+abbrev pub AreBounds : ℕ → ℕ → Result Bounds OptionName → Type 0
+AreBounds together log_bytes read = read ≡ Ok (record { together = together; log_bytes = log_bytes })
+
+abbrev pub BoundsWith : OptionTexts → ℕ → Result Bounds OptionName → Type 0
+BoundsWith texts together = Then (LogBytesIs texts) (AreBounds together)
+
+abbrev pub BoundsAre : OptionTexts → Result Bounds OptionName → Type 0
+BoundsAre texts = Then (TogetherIs texts) (BoundsWith texts)
 
 -- this port at this address
 abbrev pub IsEndpoint : ℕ → Ipv4Addr → Result SocketAddrV4 OptionName → Type 0
@@ -375,43 +430,55 @@ EndpointIs texts = Then (PortIs texts) (EndpointAt texts)
 
 -- so many connections here over this book, with this file of issuers' answers, at this moment, with
 -- so much patience for each, so many of them at once, control connections at this socket, and a log
--- in this file
-abbrev pub IsListen : OptionTexts → String Global → SocketAddrV4 → ℕ → Option ℕ → Patience → ℕ →
-    Result Action OptionName → Type 0
-IsListen texts path endpoint count moment patience together (Ok (Listen asked)) =
+-- of so many bytes in this file
+abbrev pub IsListened : OptionTexts → String Global → SocketAddrV4 → ℕ → Option ℕ → Patience →
+    Bounds → Result ListenOptions OptionName → Type 0
+IsListened texts path endpoint count moment patience bounds (Ok asked) =
     (asked.path ≡ path) × (asked.endpoint ≡ endpoint) × (asked.count ≡ count)
     × (option_map string_bytes asked.issuers ≡ texts.issuers) × (asked.moment ≡ moment)
-    × (asked.patience ≡ patience) × (asked.together ≡ together)
+    × (asked.patience ≡ patience) × (asked.together ≡ bounds.together)
     × (option_map string_bytes asked.control ≡ texts.control)
-    × (option_map string_bytes asked.log ≡ texts.log)
-IsListen texts path endpoint count moment patience together other = ⊥
+    × (option_map string_bytes asked.log ≡ texts.log) × (asked.log_bytes ≡ bounds.log_bytes)
+IsListened texts path endpoint count moment patience bounds (Err name) = ⊥
 
 abbrev pub ListenBeside : OptionTexts → String Global → SocketAddrV4 → ℕ → Option ℕ → Patience →
-    Result Action OptionName → Type 0
+    Result ListenOptions OptionName → Type 0
 ListenBeside texts path endpoint count moment patience =
-    Then (TogetherIs texts) (IsListen texts path endpoint count moment patience)
+    Then (BoundsAre texts) (IsListened texts path endpoint count moment patience)
 
 abbrev pub ListenAt : OptionTexts → String Global → SocketAddrV4 → ℕ → Option ℕ →
-    Result Action OptionName → Type 0
+    Result ListenOptions OptionName → Type 0
 ListenAt texts path endpoint count moment =
     Then (PatienceIs texts) (ListenBeside texts path endpoint count moment)
 
 abbrev pub ListenFor
-    : OptionTexts → String Global → SocketAddrV4 → ℕ → Result Action OptionName → Type 0
+    : OptionTexts → String Global → SocketAddrV4 → ℕ → Result ListenOptions OptionName → Type 0
 ListenFor texts path endpoint count =
     Then (MomentIfThere texts) (ListenAt texts path endpoint count)
 
 abbrev pub ListenOn
-    : OptionTexts → String Global → SocketAddrV4 → Result Action OptionName → Type 0
+    : OptionTexts → String Global → SocketAddrV4 → Result ListenOptions OptionName → Type 0
 ListenOn texts path endpoint = Then (CountIs texts) (ListenFor texts path endpoint)
 
-abbrev pub ListenIn : OptionTexts → String Global → Result Action OptionName → Type 0
+abbrev pub ListenIn : OptionTexts → String Global → Result ListenOptions OptionName → Type 0
 ListenIn texts path = Then (EndpointIs texts) (ListenOn texts path)
 
--- what `listen` is asked for: the file first, then the port and the address, how many connections,
--- the moment, how long each may take and how many at once
+-- the options of `listen`: the file first, then the port and the address, how many connections, the
+-- moment, how long each may take, how many at once, and how many bytes of a log
+abbrev pub ListenedIs : OptionTexts → Result ListenOptions OptionName → Type 0
+ListenedIs texts = Then (FileIs texts) (ListenIn texts)
+
+-- they are asked for, unless one names the file of another
+abbrev pub unless_clash : Option OptionName → ListenOptions → Result Action OptionName
+unless_clash None asked = Ok (Listen asked)
+unless_clash (Some name) asked = Err name
+
+abbrev pub IsListen : ListenOptions → Result Action OptionName → Type 0
+IsListen asked read = read ≡ unless_clash (clash_of asked) asked
+
+-- what `listen` is asked for: its options, none of which names the file of another
 abbrev pub AsksListen : OptionTexts → Result Action OptionName → Type 0
-AsksListen texts = Then (FileIs texts) (ListenIn texts)
+AsksListen texts = Then (ListenedIs texts) IsListen
 
 -- a replay over this book, with these reports
 abbrev pub IsReplay
@@ -495,24 +562,24 @@ abbrev pub PathIs : OptionTexts → Result (String Global) OptionName → Type 0
 PathIs texts (Ok path) = texts.path ≡ Some (string_bytes path)
 PathIs texts (Err name) = (name ≡ option.Path) × (texts.path ≡ None)
 
--- the host at this path
-abbrev pub IsTell : String Global → Result Action OptionName → Type 0
-IsTell path read = read ≡ Ok (Tell path)
+-- the host at this path, for whose answers so many seconds are waited
+abbrev pub IsTell : String Global → ℕ → Result Action OptionName → Type 0
+IsTell path within read = read ≡ Ok (Tell (record { path = path; within = within }))
 
--- what `tell` is asked for
+abbrev pub TellAt : OptionTexts → String Global → Result Action OptionName → Type 0
+TellAt texts path = Then (WithinIs texts) (IsTell path)
+
+-- what `tell` is asked for: the path first, then how long an answer may take
 abbrev pub AsksTell : OptionTexts → Result Action OptionName → Type 0
-AsksTell texts = Then (PathIs texts) IsTell
+AsksTell texts = Then (PathIs texts) (TellAt texts)
 
--- the figures of the book in this file at this moment
-abbrev pub IsStatus : String Global → Option ℕ → Result Action OptionName → Type 0
-IsStatus path moment read = read ≡ Ok (Status (record { path = path; moment = moment }))
+-- the figures of the book in this file
+abbrev pub IsStatus : String Global → Result Action OptionName → Type 0
+IsStatus path read = read ≡ Ok (Status path)
 
-abbrev pub StatusIn : OptionTexts → String Global → Result Action OptionName → Type 0
-StatusIn texts path = Then (MomentIfThere texts) (IsStatus path)
-
--- what `status` is asked for: the file first, then the moment
+-- what `status` is asked for
 abbrev pub AsksStatus : OptionTexts → Result Action OptionName → Type 0
-AsksStatus texts = Then (FileIs texts) (StatusIn texts)
+AsksStatus texts = Then (FileIs texts) IsStatus
 
 abbrev pub AsksShow : OptionTexts → Result Action OptionName → Type 0
 AsksShow texts read = read ≡ Ok (Show (form_of_flag texts.hex))

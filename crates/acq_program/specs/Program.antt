@@ -55,17 +55,18 @@ listen_at_moment =
     with_rule (with_rule (with_rule listen_at_port
     (option (codes "issuers"))) (option (codes "at"))) (option (codes "idle"))
 
--- and `[--frame-within SECONDS] [--idle-when-full SECONDS] [--together M]`
+-- and `[--frame-within SECONDS] [--idle-when-full SECONDS] [--stop-within SECONDS] [--together M]`
 abbrev pub listen_together : App
 listen_together =
-    with_rule (with_rule (with_rule listen_at_moment
+    with_rule (with_rule (with_rule (with_rule listen_at_moment
     (option (codes "frame-within"))) (option (codes "idle-when-full")))
-    (option (codes "together"))
+    (option (codes "stop-within"))) (option (codes "together"))
 
--- and `[--control PATH] [--log FILE]`
+-- and `[--control PATH] [--log FILE] [--log-bytes N]`
 abbrev pub listen : App
 listen =
-    with_rule (with_rule listen_together (option (codes "control"))) (option (codes "log"))
+    with_rule (with_rule (with_rule listen_together (option (codes "control")))
+    (option (codes "log"))) (option (codes "log-bytes"))
 
 -- `replay [--db FILE] [--limit N] [--day DAY] [--clearing DAY].. [--report DAY]..`
 abbrev pub replay : App
@@ -96,14 +97,14 @@ pending =
 abbrev pub show : App
 show = with_rule (new_app (codes "show")) (flag (codes "hex"))
 
--- `tell PATH`
+-- `tell [--within SECONDS] PATH`
 abbrev pub tell : App
-tell = with_rule (new_app (codes "tell")) (place (codes "path"))
+tell =
+    with_rule (with_rule (new_app (codes "tell")) (place (codes "path"))) (option (codes "within"))
 
--- `status --db FILE [--at MOMENT]`
+-- `status --db FILE`
 abbrev pub status : App
-status =
-    with_rule (with_rule (new_app (codes "status")) (required (codes "db"))) (option (codes "at"))
+status = with_rule (new_app (codes "status")) (required (codes "db"))
 
 -- the program: it has a version, and one of its commands must be named
 abbrev pub acqd : App

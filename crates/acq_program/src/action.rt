@@ -1,7 +1,7 @@
 //! What the program is asked to do.
 
 use crate::pending_options::PendingOptions;
-use crate::status_options::StatusOptions;
+use crate::tell_options::TellOptions;
 use acq_commands::{
     BookReport, HoldsOptions, InputForm, ListenOptions, NewBook, OnceOptions, ReplayOptions,
 };
@@ -27,8 +27,8 @@ pub enum Action {
     Pending(PendingOptions),
     /// Show the messages of the input, which stand there in this form, to a person.
     Show(InputForm),
-    /// Send the lines of the input to the host that takes control connections at this path.
-    Tell(String),
-    /// Write the figures of the book in a file.
-    Status(StatusOptions),
+    /// Send the lines of the input to a host that takes control connections.
+    Tell(TellOptions),
+    /// Write the figures of the book in the file at this path.
+    Status(String),
 }

@@ -8,19 +8,22 @@ ghost use Rattle.acq_program.specs.Arguments.{AsksHolds, AsksInit, AsksListen};
 ghost use Rattle.acq_program.specs.Arguments.{AsksMigrate, AsksOnce};
 ghost use Rattle.acq_program.specs.Arguments.{AddressIs, AsksPending, DayIfThere, EndpointIs};
 ghost use Rattle.acq_program.specs.Arguments.{AsksReplay, AsksReport, AsksStatus, AsksTell};
-ghost use Rattle.acq_program.specs.Arguments.{CountIs, DayIs};
+ghost use Rattle.acq_program.specs.Arguments.{BoundsAre, CountIs, DayIs, ListenedIs, LogBytesIs};
 ghost use Rattle.acq_program.specs.Arguments.{FileIs, FrameWithinIs, IdleIs, IdleWhenFullIs};
 ghost use Rattle.acq_program.specs.Arguments.{IsNoMemory, LimitIs, MerchantIs};
 ghost use Rattle.acq_program.specs.Arguments.{MomentIfThere, MomentIs, PathIs, PatienceIs, PortIs, Reads};
-ghost use Rattle.acq_program.specs.Arguments.{ReadsArguments, TogetherIs, form_of_flag};
+ghost use Rattle.acq_program.specs.Arguments.{ReadsArguments, StopWithinIs, TogetherIs, WithinIs};
+ghost use Rattle.acq_program.specs.Arguments.{form_of_flag};
 ghost use Rattle.acq_program.specs.Arguments.{found_texts};
 
 use crate::action::Action;
+use crate::apart::clash_in;
+use crate::bounds::Bounds;
 use crate::option_name::OptionName;
-use crate::options::{count_of, limit_of, port_of, seconds_of, together_of};
+use crate::options::{bytes_of, count_of, limit_of, port_of, seconds_of, together_of};
 use crate::pending_options::PendingOptions;
 use crate::program::program;
-use crate::status_options::StatusOptions;
+use crate::tell_options::TellOptions;
 use crate::usage_fault::UsageFault;
 use crate::wanted_reports::add_reports;
 use acq_commands::{
@@ -43,6 +46,15 @@ const USUAL_FRAME_WITHIN: u64 = 30;
 
 /// For how many seconds one may be silent while others wait, where nothing else is asked for.
 const USUAL_IDLE_WHEN_FULL: u64 = 10;
+
+/// How many seconds one may be there once the host was asked to end, where nothing else is asked for.
+const USUAL_STOP_WITHIN: u64 = 10;
+
+/// How many seconds an answer of a host may take, where nothing else is asked for.
+const USUAL_WITHIN: u64 = 60;
+
+/// How many bytes a log has at most, where nothing else is asked for: 1 GiB.
+const USUAL_LOG_BYTES: u64 = 1_073_741_824;
 
 /// What the arguments ask for, the program's own name first, or what is wrong with them. A call for
 /// help or for the version is an error, too, as clap has it.
@@ -139,26 +151,38 @@ fn once_of(alloc: Global, options: &ArgMatches) -> Result<Action, UsageFault>
 fn listen_of(alloc: Global, options: &ArgMatches) -> Result<Action, UsageFault>
     ensures { Reads (AsksListen (found_texts (found_of options.now))) result }
 {
+    let asked = listen_options(alloc, options)?;
+    match clash_in(&asked) {
+        None => Ok(Action::Listen(asked)),
+        Some(name) => Err(UsageFault::BadValue(name)),
+    }
+}
+
+/// The options of `listen`, each by itself.
+fn listen_options(alloc: Global, options: &ArgMatches) -> Result<ListenOptions, UsageFault>
+    ensures { Reads (ListenedIs (found_texts (found_of options.now))) result }
+{
     let path = file_option(alloc, options)?;
     let endpoint = endpoint_of(options)?;
     let count = count_option(options)?;
     let moment = moment_if_there(options)?;
     let patience = patience_of(options)?;
-    let together = together_option(options)?;
+    let bounds = bounds_of(options)?;
     let issuers = issuers_option(alloc, options)?;
     let control = control_option(alloc, options)?;
     let log = log_option(alloc, options)?;
-    Ok(Action::Listen(ListenOptions {
+    Ok(ListenOptions {
         path,
         endpoint,
         count,
-        together,
+        together: bounds.together,
         patience,
         issuers,
         moment,
         control,
         log,
-    }))
+        log_bytes: bounds.log_bytes,
+    })
 }
 
 /// What `replay` is asked for.
@@ -232,7 +256,8 @@ fn tell_of(alloc: Global, options: &ArgMatches) -> Result<Action, UsageFault>
     ensures { Reads (AsksTell (found_texts (found_of options.now))) result }
 {
     let path = path_value(alloc, options)?;
-    Ok(Action::Tell(path))
+    let within = within_option(options)?;
+    Ok(Action::Tell(TellOptions { path, within }))
 }
 
 /// What `status` is asked for.
@@ -240,8 +265,7 @@ fn status_of(alloc: Global, options: &ArgMatches) -> Result<Action, UsageFault>
     ensures { Reads (AsksStatus (found_texts (found_of options.now))) result }
 {
     let path = file_option(alloc, options)?;
-    let moment = moment_if_there(options)?;
-    Ok(Action::Status(StatusOptions { path, moment }))
+    Ok(Action::Status(path))
 }
 
 /// The path of the book's file.
@@ -427,10 +451,12 @@ fn patience_of(options: &ArgMatches) -> Result<Patience, UsageFault>
     let idle = idle_option(options)?;
     let frame_within = frame_within_option(options)?;
     let idle_when_full = idle_when_full_option(options)?;
+    let stop_within = stop_within_option(options)?;
     Ok(Patience {
         idle,
         frame_within,
         idle_when_full,
+        stop_within,
     })
 }
 
@@ -461,6 +487,48 @@ fn idle_when_full_option(options: &ArgMatches) -> Result<u64, UsageFault>
     match options.get_str("idle-when-full") {
         Some(text) => seconds_of(text).ok_or(UsageFault::BadValue(OptionName::IdleWhenFull)),
         None => Ok(USUAL_IDLE_WHEN_FULL),
+    }
+}
+
+/// How many seconds a connection may be there once the host was asked to end: without the option 10.
+fn stop_within_option(options: &ArgMatches) -> Result<u64, UsageFault>
+    ensures { Reads (StopWithinIs (found_texts (found_of options.now))) result }
+{
+    match options.get_str("stop-within") {
+        Some(text) => seconds_of(text).ok_or(UsageFault::BadValue(OptionName::StopWithin)),
+        None => Ok(USUAL_STOP_WITHIN),
+    }
+}
+
+/// How many seconds an answer of a host may take: without the option 60.
+fn within_option(options: &ArgMatches) -> Result<u64, UsageFault>
+    ensures { Reads (WithinIs (found_texts (found_of options.now))) result }
+{
+    match options.get_str("within") {
+        Some(text) => seconds_of(text).ok_or(UsageFault::BadValue(OptionName::Within)),
+        None => Ok(USUAL_WITHIN),
+    }
+}
+
+/// How many connections are served at once, and how many bytes a log has.
+fn bounds_of(options: &ArgMatches) -> Result<Bounds, UsageFault>
+    ensures { Reads (BoundsAre (found_texts (found_of options.now))) result }
+{
+    let together = together_option(options)?;
+    let log_bytes = log_bytes_option(options)?;
+    Ok(Bounds {
+        together,
+        log_bytes,
+    })
+}
+
+/// How many bytes a log has at most: without the option 1 GiB.
+fn log_bytes_option(options: &ArgMatches) -> Result<u64, UsageFault>
+    ensures { Reads (LogBytesIs (found_texts (found_of options.now))) result }
+{
+    match options.get_str("log-bytes") {
+        Some(text) => bytes_of(text).ok_or(UsageFault::BadValue(OptionName::LogBytes)),
+        None => Ok(USUAL_LOG_BYTES),
     }
 }
 

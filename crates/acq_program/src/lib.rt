@@ -5,7 +5,9 @@
 #![tactic(auto)]
 
 mod action;
+mod apart;
 mod arguments;
+mod bounds;
 mod machine;
 mod option_name;
 mod options;
@@ -14,7 +16,7 @@ mod pending_options;
 mod program;
 mod running;
 mod status;
-mod status_options;
+mod tell_options;
 mod telling;
 mod usage_fault;
 mod wanted_reports;
@@ -25,5 +27,5 @@ pub use machine::Machine;
 pub use option_name::OptionName;
 pub use pending_options::PendingOptions;
 pub use running::{command, memory_fault, read_fault, utf8_fault};
-pub use status_options::StatusOptions;
+pub use tell_options::TellOptions;
 pub use usage_fault::UsageFault;

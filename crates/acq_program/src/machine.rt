@@ -1,7 +1,7 @@
 //! What a command finds on its machine.
 
 use acq_book::Book;
-use acq_commands::{Fault, Gathering, Patience};
+use acq_commands::{Fault, Gathering, ListenOptions, Patience};
 use acq_core::Limit;
 use acq_front::Connections;
 use acq_link::{Sink, Source};
@@ -13,9 +13,9 @@ use std::net::SocketAddrV4;
 /// What a command finds on its machine: files, by their paths, and ports. `B` is the book in a
 /// file.
 pub trait Machine<B: Book + Drop>: Sized {
-    ghost use Rattle.std.specs.Prelude.{◌≡◌, IfErr, IfOk};
+    ghost use Rattle.std.specs.Prelude.{◌≡◌, ◌⊎◌, IfErr, IfOk};
     ghost use Rattle.acq_core.specs.Pasts.{HasPast};
-    ghost use Rattle.acq_commands.specs.declared.fault.Fault.TheVariants.{Read};
+    ghost use Rattle.acq_commands.specs.declared.fault.Fault.TheVariants.{Read, Silent};
     ghost use Rattle.acq_commands.specs.Faults.{IsOfAnswers, IsOfGathering};
     ghost use Rattle.acq_program.specs.BookFaults.{IsClosing, IsOpening};
 
@@ -37,8 +37,9 @@ pub trait Machine<B: Book + Drop>: Sized {
         // Events alone have changed it.
         ensures past { IfOk result (λ book. B.is_open book → HasPast (B.tables book)) };
 
-    /// Makes a new book in the file at a path, where there is none yet.
-    fn make_book(self, path: &str, limit: Limit, first_day: Day) -> Result<B, Fault>
+    /// Makes a new book in the file at a path, where there is none yet. The file alone is the book
+    /// then, and a stop leaves there what was before or the whole book.
+    fn make_book(self, path: &str, limit: Limit, first_day: Day) -> Result<(), Fault>
         ensures { IfErr result IsOpening };
 
     /// Migrates the book in the file at a path, where it is of the version before.
@@ -64,21 +65,20 @@ pub trait Machine<B: Book + Drop>: Sized {
     ) -> Result<Self::Connections, Fault>
         ensures { IfErr result (λ fault. fault ≡ Read) };
 
-    /// Listens there, as `listen_at` does, for so many connections at once, and at the socket of
-    /// `control`, if one is asked for, for control connections. The file of `log`, or for `-`
-    /// standard error, takes a log for operators, if one is asked for.
-    fn gather_at(
-        &self,
-        alloc: Global,
-        endpoint: SocketAddrV4,
-        patience: Patience,
-        together: usize,
-        control: Option<&str>,
-        log: Option<&str>,
-    ) -> Result<Self::Gathering, Fault>
+    /// Listens as it is asked for, as `listen_at` does, for so many connections at once, and at the
+    /// socket for control connections, if one is asked for. A file, or for `-` standard error, takes a
+    /// log for operators, if one is asked for.
+    fn gather_at(&self, alloc: Global, asked: &ListenOptions) -> Result<Self::Gathering, Fault>
         ensures { IfErr result IsOfGathering };
 
-    /// Connects to the host that takes control connections at a path.
-    fn connect_at(&self, path: &str) -> Result<(Self::Lines, Self::Answers), Fault>
-        ensures { IfErr result (λ fault. fault ≡ Read) };
+    /// Lets connections go, and what was made for them.
+    fn end_gathering(gathering: Self::Gathering, asked: &ListenOptions);
+
+    /// Connects to the host that takes control connections at a path, for whose answers so many
+    /// seconds are waited; 0 is for ever.
+    fn connect_at(&self, path: &str, within: u64) -> Result<(Self::Lines, Self::Answers), Fault>
+        ensures { IfErr result (λ fault. fault ≡ Read ⊎ fault ≡ Silent) };
+
+    /// Whether a read of answers failed since none came in that time.
+    fn was_silent(&self) -> bool;
 }

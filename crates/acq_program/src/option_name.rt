@@ -28,8 +28,20 @@ pub enum OptionName {
     FrameWithin,
     /// For how many seconds a connection may be silent while others wait for a place.
     IdleWhenFull,
+    /// For how many seconds a connection may be there once the host was asked to end.
+    StopWithin,
     /// How many connections are served at once.
     Together,
+    /// The file that says what issuers answer.
+    Issuers,
+    /// The socket's file at which control connections come.
+    Control,
+    /// The file that takes a log.
+    Log,
+    /// How many bytes that file has at most.
+    LogBytes,
+    /// How many seconds an answer of a host may take.
+    Within,
     /// The path of a socket's file.
     Path,
     /// A day of which a report is asked for.
@@ -55,7 +67,13 @@ impl fmt::Display for OptionName {
             OptionName::Idle => "--idle",
             OptionName::FrameWithin => "--frame-within",
             OptionName::IdleWhenFull => "--idle-when-full",
+            OptionName::StopWithin => "--stop-within",
             OptionName::Together => "--together",
+            OptionName::Issuers => "--issuers",
+            OptionName::Control => "--control",
+            OptionName::Log => "--log",
+            OptionName::LogBytes => "--log-bytes",
+            OptionName::Within => "--within",
             OptionName::Path => "PATH",
             OptionName::Report(ReportKind::Clearing) => "--clearing",
             OptionName::Report(ReportKind::Settlement) => "--report",

@@ -1,8 +1,8 @@
-//! The values of a limit, a port, and numbers of connections and seconds.
+//! The values of a limit, a port, and numbers of connections, of seconds and of bytes.
 
 ghost use Rattle.std.specs.Prelude.{◌≡◌, ◌≤◌, IfSome};
-ghost use Rattle.acq_program.specs.Arguments.{count_of_text, limit_of_text, number_of_text};
-ghost use Rattle.acq_program.specs.Arguments.{port_of_text, seconds_of_text, together_of_text};
+ghost use Rattle.acq_program.specs.Arguments.{bytes_of_text, count_of_text, limit_of_text};
+ghost use Rattle.acq_program.specs.Arguments.{number_of_text, port_of_text, seconds_of_text, together_of_text};
 
 use acq_core::Limit;
 use acq_message::digits_value;
@@ -25,6 +25,12 @@ const GREATEST_COUNT: u64 = 999_999;
 
 /// The most digits of how many connections are served at once.
 const MOST_TOGETHER_DIGITS: usize = 4;
+
+/// The most digits of a number of bytes.
+const MOST_BYTES_DIGITS: usize = 15;
+
+/// The greatest number of bytes.
+const GREATEST_BYTES: u64 = 999_999_999_999_999;
 
 /// The most connections that are served at once.
 const GREATEST_TOGETHER: u64 = 1_024;
@@ -60,6 +66,13 @@ pub(crate) fn seconds_of(text: &str) -> Option<u64>
     ensures { result ≡ seconds_of_text text.now }
 {
     number_of(text, MOST_COUNT_DIGITS, 0, GREATEST_COUNT)
+}
+
+/// The number of bytes that a text spells: one to fifteen digits (own profile).
+pub(crate) fn bytes_of(text: &str) -> Option<u64>
+    ensures { result ≡ bytes_of_text text.now }
+{
+    number_of(text, MOST_BYTES_DIGITS, 0, GREATEST_BYTES)
 }
 
 /// How many connections a text has served at once: one to four digits, 1 to 1,024 (own profile).

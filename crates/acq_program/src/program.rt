@@ -105,11 +105,13 @@ issuer's answer, which `acqd pending` then writes.
 
 With --control PATH, control connections are taken at this Unix socket's file, too, which its owner
 alone may open. Each line gets its answer: an event line, where `now` may stand for the moment, the
-line that `replay` writes; `clearing,DAY`, `report,DAY`, `pending,DAY`, `holds,MERCHANT,MOMENT`,
-`status` and `metrics` the line `text N` and the N bytes of the text; a bad line or a refused text
-its fault; and `stop` ends the program. `acqd tell PATH` sends such lines. With --log FILE, what
-operators want to see is put behind what this file holds, in lines; one that isn't there is made for
-its owner alone. With --log - the lines go to standard error.
+line that `replay` writes; `end,DAY` cuts over if that is the business day; `clearing,DAY`,
+`report,DAY`, `pending,DAY`, `holds,MERCHANT,MOMENT`, `status` and `metrics` get the line `text N`
+and the N bytes of the text; a bad line or a refused text its fault; `reopen` opens the log anew; and
+`stop` ends the program, once what was answered is written, or after --stop-within. `acqd tell PATH`
+sends such lines. With --log FILE, what operators want to see is put behind what this file holds, in
+lines, up to --log-bytes; one that isn't there is made for its owner alone. With --log - the lines
+go to standard error. A line that would wait, or has no room, is lost and counted.
 
 A connection that is silent for the SECONDS of --idle, or takes nothing of a reply for so long, is
 closed as one whose read or write failed. So is one whose frame takes longer than --frame-within,
@@ -127,8 +129,9 @@ file failed:
   acqd: 50 BadLength               a frame's length is 0 or above 4,096
   acqd: 51 Ended                   a connection ends inside a frame
   acqd: 52 Undecodable FAULT ELEMENT   a frame spells no message
-  acqd: 53 Read                    a read failed, or the port or a connection can't be had, or a
-                                   connection was silent, or a frame took, too long
+  acqd: 53 Read                    a read failed, or the port, the control socket, the log or a
+                                   connection can't be had, or a connection was silent, or a frame
+                                   took, too long
   acqd: 54 Write BYTES             a write failed after so many bytes of a reply's frame
 
 Example:
@@ -276,8 +279,8 @@ const ABOUT_TELL: &str = "Sends the lines on standard input to a host, and write
 const MORE_OF_TELL: &str = "\
 PATH is the socket's file at which `acqd listen --control PATH` takes control connections. Each line
 is sent once the answer to the one before it is whole: an event line, where `now` may stand for the
-moment; `clearing,DAY`, `report,DAY`, `holds,MERCHANT,MOMENT`, `pending,DAY`, `status` or `metrics`;
-or `stop`. An answer's line goes to standard output as it comes, and of a text its bytes alone. A
+moment; `end,DAY`, which cuts over if that is the business day; `clearing,DAY`, `report,DAY`,
+`holds,MERCHANT,MOMENT`, `pending,DAY`, `status` or `metrics`; `reopen`, for the log; or `stop`. An answer's line goes to standard output as it comes, and of a text its bytes alone. A
 fault's line goes to standard error, and the lines behind it are sent all the same.
 
 The status is 0 where no answer was a fault's line, 1 for a fault, 2 for wrong usage, 3 where memory
@@ -288,21 +291,19 @@ ran out. A fault of its own is one line on standard error, and no further line i
   acqd: 51 Ended                   the host ended the connection before an answer was whole
   acqd: 53 Read                    nobody listens at PATH, or a read failed
   acqd: 54 Write BYTES             a write failed after so many bytes of a line, or of an answer
+  acqd: 55 Silent                  the host gave no answer within the SECONDS of --within
 
-Example:
-  printf 'cutover,now,,,,\n' | acqd tell host.control
-  printf 'clearing,2024-05-01\n' | acqd tell host.control > clearing.csv";
+Examples:
+  echo end,2024-05-01 | acqd tell host.control
+  echo clearing,2024-05-01 | acqd tell host.control > clearing.csv";
 
 const ABOUT_STATUS: &str = "Writes the figures of the book in a file";
 
 const MORE_OF_STATUS: &str = "\
 The figures go to standard output, a line for each, its key and its value: the business day and its
 limit; how many merchants, terminals and ranges there are; how many messages of the day count
-against the limit; how many requests of each day wait for their issuer's answer, and for how many
-seconds the first of them. Nothing in the book is changed. A host that runs is asked `status` by
-`acqd tell`.
-
-MOMENT counts seconds since 1970-01-01 00:00:00 UTC.
+against the limit; how many requests of each day wait for their issuer's answer. Nothing in the book
+is changed. A host that runs is asked `status` by `acqd tell`.
 
 The status is 0 where all is well, 1 for a fault, 2 for wrong usage, 3 where memory ran out or the
 file failed. A fault is one line on standard error:
@@ -418,12 +419,19 @@ fn listen_command<'a>(alloc: Global) -> Made<'a>
         "PATH",
         "A Unix socket's file at which control connections are taken, too",
     );
-    with_option(
+    let command = with_option(
         alloc,
         command,
         "log",
         "FILE",
         "A file that takes a log for operators; - is standard error",
+    );
+    with_option(
+        alloc,
+        command,
+        "log-bytes",
+        "N",
+        "How many bytes that file has at most, 0 for all that come [default: 1073741824]",
     )
 }
 
@@ -445,6 +453,13 @@ fn listen_together<'a>(alloc: Global) -> Made<'a>
         "idle-when-full",
         "SECONDS",
         "How long one may be silent while others wait for a place, as --idle [default: 10]",
+    );
+    let command = with_option(
+        alloc,
+        command,
+        "stop-within",
+        "SECONDS",
+        "How long one may be there once `stop` came, as --idle [default: 10]",
     );
     with_option(
         alloc,
@@ -593,21 +608,21 @@ fn tell_command<'a>(alloc: Global) -> Made<'a>
     ensures { Makes result tell }
 {
     let command = Ok(command(alloc, "tell", ABOUT_TELL, MORE_OF_TELL));
-    with_place(alloc, command, "path", "PATH", "The socket's file")
+    let command = with_place(alloc, command, "path", "PATH", "The socket's file");
+    with_option(
+        alloc,
+        command,
+        "within",
+        "SECONDS",
+        "How long an answer may take, 0 to 999999, 0 for ever [default: 60]",
+    )
 }
 
 fn status_command<'a>(alloc: Global) -> Made<'a>
     ensures { Makes result status }
 {
     let command = Ok(command(alloc, "status", ABOUT_STATUS, MORE_OF_STATUS));
-    let command = with_required(alloc, command, "db", "FILE", "The file of the book");
-    with_option(
-        alloc,
-        command,
-        "at",
-        "MOMENT",
-        "The moment of the figures, 946684800 to 4102444799 [default: the clock's]",
-    )
+    with_required(alloc, command, "db", "FILE", "The file of the book")
 }
 
 /// A command without options, with its help.

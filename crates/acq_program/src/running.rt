@@ -121,8 +121,8 @@ fn run<B: Book + Drop, M: Machine<B> + Drop, C: Clock, S: Source, K: Sink, F: Si
         Action::Holds(options) => plainly(holds(alloc, machine, &options, output)),
         Action::Pending(asked) => plainly(answer_pending(alloc, machine, &asked, clock, output)),
         Action::Show(form) => plainly(show(alloc, form, input, output)),
-        Action::Status(asked) => plainly(tell_status(alloc, machine, &asked, clock, output)),
-        Action::Tell(path) => tell_host(alloc, machine, &path, input, output, faults),
+        Action::Status(path) => plainly(tell_status(alloc, machine, &path, output)),
+        Action::Tell(asked) => tell_host(alloc, machine, &asked, input, output, faults),
     }
 }
 
@@ -137,13 +137,11 @@ fn plainly(ended: Result<(), Fault>) -> Result<u8, Fault>
     }
 }
 
-/// Makes a new book, which is given back at once.
-#[tactic(auto, using(crate::proofs::Closing::closing_is_opening))]
+/// Makes a new book.
 fn init<B: Book + Drop, M: Machine<B>>(machine: M, new: &NewBook) -> Result<(), Fault>
     ensures { IfErr result IsOpening }
 {
-    let book = machine.make_book(new.path.as_str(), new.limit, new.first_day)?;
-    M::close_book(book)
+    machine.make_book(new.path.as_str(), new.limit, new.first_day)
 }
 
 /// Migrates the book in a file, which is given back at once.
@@ -329,19 +327,10 @@ fn gather_over<B: Book + Drop, M: Machine<B> + Drop, C: Clock, I: Issuer + Drop,
     issuers: Result<I, Fault>,
     faults: &mut F,
 ) -> Result<(), Fault> {
-    let control = asked.control.as_deref();
-    let log = asked.log.as_deref();
-    let gathering = machine.gather_at(
-        alloc,
-        asked.endpoint,
-        asked.patience,
-        asked.together,
-        control,
-        log,
-    );
+    let gathering = machine.gather_at(alloc, asked);
     let opened = machine.open_book(asked.path.as_str());
     let (book, mut issuer, mut gathering) = all_opened(opened, issuers, gathering)?;
-    closed::<B, M>(listen_together_on(
+    let ran = listen_together_on(
         alloc,
         book,
         &mut gathering,
@@ -349,7 +338,9 @@ fn gather_over<B: Book + Drop, M: Machine<B> + Drop, C: Clock, I: Issuer + Drop,
         clock,
         &mut issuer,
         faults,
-    ))
+    );
+    M::end_gathering(gathering, asked);
+    closed::<B, M>(ran)
 }
 
 /// The book, who answers and what connections come over, or the first fault in this order. It is

@@ -1,169 +1,30 @@
-use Rattle.std.proofs.Common.{refl}
+use Rattle.std.proofs.Common.{refl, sym, ap, ◌∙◌}
 use Rattle.std.proofs.lemmas.Result.{err_from_is_err_and}
-use Rattle.std.specs.Prelude.{Err, Ok, Result}
+use Rattle.std.specs.Prelude.{Err, Ok}
 use Rattle.clap.specs.Words.{found_of}
-use Rattle.acq_program.specs.declared.action.Action.{Action}
 use Rattle.acq_program.specs.declared.action.Action.TheVariants.{Listen}
-use Rattle.acq_program.specs.declared.usage_fault.UsageFault.{UsageFault}
-use Rattle.acq_program.specs.Arguments.{AsksListen, CountIs, FileIs, IsListen, ListenAt}
-use Rattle.acq_program.specs.Arguments.{ListenBeside, ListenFor, ListenIn, ListenOn}
-use Rattle.acq_program.specs.Arguments.{EndpointIs, MomentIfThere, PatienceIs, TogetherIs}
-use Rattle.acq_program.specs.Arguments.{found_texts}
-use Rattle.acq_program.proofs.OptionsRead.{first_fails, no_memory, then_rest}
+use Rattle.acq_program.specs.declared.usage_fault.UsageFault.TheVariants.{BadValue}
+use Rattle.acq_program.specs.Arguments.{IsListen, ListenedIs, found_texts, unless_clash}
+use Rattle.acq_program.proofs.OptionsRead.{first_fails, then_rest}
 use Rattle.acq_program.proofs.arguments.listen_of.Goals as goal
 
-pub returns-in_err-path : goal.returns-in_err-path
-returns-in_err-path c =
+pub returns-in_err-asked : goal.returns-in_err-asked
+returns-in_err-asked c =
     let texts = found_texts (found_of c.args.options.now) in
     let p = err_from_is_err_and c.from_residual.result c.from_residual.ensures.1 in
     rw (p.1, p.2)
-    (first_fails (FileIs texts) (ListenIn texts) c.in_err-path.field-0.0 c.in_err-path.ensures)
+    (first_fails (ListenedIs texts) IsListen c.in_err-asked.field-0.0 c.in_err-asked.ensures)
 
-pub returns-in_err-endpoint : goal.returns-in_err-endpoint
-returns-in_err-endpoint c =
+pub returns-in-None : goal.returns-in-None
+returns-in-None c =
     let texts = found_texts (found_of c.args.options.now) in
-    let p = err_from_is_err_and c.from_residual-in_err-endpoint.result
-    c.from_residual-in_err-endpoint.ensures.1 in
-    rw (p.1, p.2)
-    (then_rest (FileIs texts) (ListenIn texts) c.in_ok-path.path
-    (Err c.in_err-endpoint.field-0.0) c.in_ok-path.ensures
-    (first_fails (EndpointIs texts) (ListenOn texts c.in_ok-path.path) c.in_err-endpoint.field-0.0
-    c.in_err-endpoint.ensures))
+    let asked = c.in_ok-asked.asked in
+    then_rest (ListenedIs texts) IsListen asked (Ok (Listen asked)) c.in_ok-asked.ensures
+    (ap (λ o. unless_clash o asked) (sym c.in-None.is ∙ c.clash_in.ensures))
 
-pub returns-in_err-count : goal.returns-in_err-count
-returns-in_err-count c =
+pub returns-in-Some : goal.returns-in-Some
+returns-in-Some c =
     let texts = found_texts (found_of c.args.options.now) in
-    let p = err_from_is_err_and c.from_residual-in_err-count.result
-    c.from_residual-in_err-count.ensures.1 in
-    rw (p.1, p.2)
-    (then_rest (FileIs texts) (ListenIn texts) c.in_ok-path.path
-    (Err c.in_err-count.field-0.0) c.in_ok-path.ensures
-    (then_rest (EndpointIs texts) (ListenOn texts c.in_ok-path.path) c.in_ok-endpoint.endpoint
-    (Err c.in_err-count.field-0.0) c.in_ok-endpoint.ensures
-    (first_fails (CountIs texts) (ListenFor texts c.in_ok-path.path c.in_ok-endpoint.endpoint)
-    c.in_err-count.field-0.0 c.in_err-count.ensures)))
-
-pub returns-in_err-moment : goal.returns-in_err-moment
-returns-in_err-moment c =
-    let texts = found_texts (found_of c.args.options.now) in
-    let p = err_from_is_err_and c.from_residual-in_err-moment.result
-    c.from_residual-in_err-moment.ensures.1 in
-    rw (p.1, p.2)
-    (then_rest (FileIs texts) (ListenIn texts) c.in_ok-path.path (Err c.in_err-moment.field-0.0)
-    c.in_ok-path.ensures
-    (then_rest (EndpointIs texts) (ListenOn texts c.in_ok-path.path) c.in_ok-endpoint.endpoint
-    (Err c.in_err-moment.field-0.0) c.in_ok-endpoint.ensures
-    (then_rest (CountIs texts) (ListenFor texts c.in_ok-path.path c.in_ok-endpoint.endpoint)
-    c.in_ok-count.count (Err c.in_err-moment.field-0.0) c.in_ok-count.ensures
-    (first_fails (MomentIfThere texts)
-    (ListenAt texts c.in_ok-path.path c.in_ok-endpoint.endpoint c.in_ok-count.count)
-    c.in_err-moment.field-0.0 c.in_err-moment.ensures))))
-
-pub returns-in_err-patience : goal.returns-in_err-patience
-returns-in_err-patience c =
-    let texts = found_texts (found_of c.args.options.now) in
-    let p = err_from_is_err_and c.from_residual-in_err-patience.result
-    c.from_residual-in_err-patience.ensures.1 in
-    rw (p.1, p.2)
-    (then_rest (FileIs texts) (ListenIn texts) c.in_ok-path.path
-    (Err c.in_err-patience.field-0.0) c.in_ok-path.ensures
-    (then_rest (EndpointIs texts) (ListenOn texts c.in_ok-path.path) c.in_ok-endpoint.endpoint
-    (Err c.in_err-patience.field-0.0) c.in_ok-endpoint.ensures
-    (then_rest (CountIs texts) (ListenFor texts c.in_ok-path.path c.in_ok-endpoint.endpoint)
-    c.in_ok-count.count (Err c.in_err-patience.field-0.0) c.in_ok-count.ensures
-    (then_rest (MomentIfThere texts)
-    (ListenAt texts c.in_ok-path.path c.in_ok-endpoint.endpoint c.in_ok-count.count)
-    c.in_ok-moment.moment (Err c.in_err-patience.field-0.0) c.in_ok-moment.ensures
-    (first_fails (PatienceIs texts)
-    (ListenBeside texts c.in_ok-path.path c.in_ok-endpoint.endpoint c.in_ok-count.count
-    c.in_ok-moment.moment)
-    c.in_err-patience.field-0.0 c.in_err-patience.ensures)))))
-
-pub returns-in_err-together : goal.returns-in_err-together
-returns-in_err-together c =
-    let texts = found_texts (found_of c.args.options.now) in
-    let p = err_from_is_err_and c.from_residual-in_err-together.result
-    c.from_residual-in_err-together.ensures.1 in
-    rw (p.1, p.2)
-    (then_rest (FileIs texts) (ListenIn texts) c.in_ok-path.path (Err c.in_err-together.field-0.0)
-    c.in_ok-path.ensures
-    (then_rest (EndpointIs texts) (ListenOn texts c.in_ok-path.path) c.in_ok-endpoint.endpoint
-    (Err c.in_err-together.field-0.0) c.in_ok-endpoint.ensures
-    (then_rest (CountIs texts) (ListenFor texts c.in_ok-path.path c.in_ok-endpoint.endpoint)
-    c.in_ok-count.count (Err c.in_err-together.field-0.0) c.in_ok-count.ensures
-    (then_rest (MomentIfThere texts)
-    (ListenAt texts c.in_ok-path.path c.in_ok-endpoint.endpoint c.in_ok-count.count)
-    c.in_ok-moment.moment (Err c.in_err-together.field-0.0) c.in_ok-moment.ensures
-    (then_rest (PatienceIs texts)
-    (ListenBeside texts c.in_ok-path.path c.in_ok-endpoint.endpoint c.in_ok-count.count
-    c.in_ok-moment.moment) c.in_ok-patience.patience
-    (Err c.in_err-together.field-0.0) c.in_ok-patience.ensures
-    (first_fails (TogetherIs texts)
-    (IsListen texts c.in_ok-path.path c.in_ok-endpoint.endpoint c.in_ok-count.count
-    c.in_ok-moment.moment c.in_ok-patience.patience)
-    c.in_err-together.field-0.0 c.in_err-together.ensures))))))
-
-pub returns-in_err-issuers : goal.returns-in_err-issuers
-returns-in_err-issuers c =
-    let texts = found_texts (found_of c.args.options.now) in
-    let p = err_from_is_err_and c.from_residual-in_err-issuers.result
-    c.from_residual-in_err-issuers.ensures.1 in
-    rw (p.1, p.2)
-    (no_memory (AsksListen texts) c.in_err-issuers.field-0.0 c.in_err-issuers.ensures.refused)
-
-pub returns-in_err-control : goal.returns-in_err-control
-returns-in_err-control c =
-    let texts = found_texts (found_of c.args.options.now) in
-    let p = err_from_is_err_and c.from_residual-in_err-control.result
-    c.from_residual-in_err-control.ensures.1 in
-    rw (p.1, p.2)
-    (no_memory (AsksListen texts) c.in_err-control.field-0.0 c.in_err-control.ensures.refused)
-
-pub returns-in_err-log : goal.returns-in_err-log
-returns-in_err-log c =
-    let texts = found_texts (found_of c.args.options.now) in
-    let p = err_from_is_err_and c.from_residual-in_err-log.result
-    c.from_residual-in_err-log.ensures.1 in
-    rw (p.1, p.2)
-    (no_memory (AsksListen texts) c.in_err-log.field-0.0 c.in_err-log.ensures.refused)
-
-pub returns : goal.returns
-returns c =
-    let texts = found_texts (found_of c.args.options.now) in
-    let read : Result Action UsageFault = Ok (Listen (record {
-      path = c.in_ok-path.path;
-      endpoint = c.in_ok-endpoint.endpoint;
-      count = c.in_ok-count.count;
-      together = c.in_ok-together.together;
-      patience = c.in_ok-patience.patience;
-      issuers = c.in_ok-issuers.issuers;
-      moment = c.in_ok-moment.moment;
-      control = c.in_ok-control.control;
-      log = c.in_ok-log.log;
-    })) in
-    then_rest (FileIs texts) (ListenIn texts) c.in_ok-path.path read c.in_ok-path.ensures
-    (then_rest (EndpointIs texts) (ListenOn texts c.in_ok-path.path) c.in_ok-endpoint.endpoint read
-    c.in_ok-endpoint.ensures
-    (then_rest (CountIs texts) (ListenFor texts c.in_ok-path.path c.in_ok-endpoint.endpoint)
-    c.in_ok-count.count read c.in_ok-count.ensures
-    (then_rest (MomentIfThere texts)
-    (ListenAt texts c.in_ok-path.path c.in_ok-endpoint.endpoint c.in_ok-count.count)
-    c.in_ok-moment.moment read c.in_ok-moment.ensures
-    (then_rest (PatienceIs texts)
-    (ListenBeside texts c.in_ok-path.path c.in_ok-endpoint.endpoint c.in_ok-count.count
-    c.in_ok-moment.moment)
-    c.in_ok-patience.patience read c.in_ok-patience.ensures
-    (then_rest (TogetherIs texts)
-    (IsListen texts c.in_ok-path.path c.in_ok-endpoint.endpoint c.in_ok-count.count
-    c.in_ok-moment.moment c.in_ok-patience.patience)
-    c.in_ok-together.together read c.in_ok-together.ensures (
-      refl,
-      refl,
-      refl,
-      c.in_ok-issuers.ensures.given,
-      refl,
-      refl,
-      refl,
-      c.in_ok-control.ensures.given,
-      c.in_ok-log.ensures.given,
-    ))))))
+    let asked = c.in_ok-asked.asked in
+    then_rest (ListenedIs texts) IsListen asked (Err (BadValue c.in-Some.name))
+    c.in_ok-asked.ensures (ap (λ o. unless_clash o asked) (sym c.in-Some.is ∙ c.clash_in.ensures))

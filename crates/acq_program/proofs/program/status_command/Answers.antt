@@ -1,5 +1,4 @@
 use Rattle.acq_program.proofs.program.status_command.Goals as goal
 
 pub returns : goal.returns
-returns c =
-    c.with_option.ensures _ (c.with_required-command.ensures _ c.command.ensures)
+returns c = c.with_required.ensures _ c.command.ensures
