@@ -10,7 +10,9 @@ use Rattle.acq_core.specs.Tables.{Tables, tables_after}
 use Rattle.acq_core.specs.declared.event.Event.TheVariants.{Frame}
 use Rattle.acq_history.proofs.FinalDays.{tables_after-append}
 use Rattle.acq_host.proofs.Runs.{LeavesTables}
-use Rattle.acq_commands.specs.Faults.{TellsStore, of_book}
+use Rattle.acq_reports.specs.Faults.{CountsStore, is_settled}
+use Rattle.acq_reports.specs.declared.report_fault.ReportFault as report
+use Rattle.acq_commands.specs.Faults.{TellsStore, of_book, of_report}
 use Rattle.acq_commands.specs.Listening.{Reaches, ReachesSome, ReachesBy, going_on}
 use Rattle.acq_commands.specs.declared.fault.Fault as fault
 use Rattle.acq_front.proofs.StopsLeave.{all_behind, some_behind}
@@ -28,6 +30,7 @@ use Rattle.acq_control.specs.Exchanges as control
 use Rattle.acq_status.specs.declared.serving.Serving.{Serving}
 use Rattle.acq_control.specs.declared.control_round.ControlRound.{ControlRound}
 use Rattle.acq_control.specs.declared.control_round.ControlRound.TheVariants as control_round
+use Rattle.acq_control.specs.declared.wish.Wish.{Wish}
 use Rattle.acq_tcp.specs.Rounds.{IsNotStores, RoundReaches, RoundTells}
 
 -- nothing was taken
@@ -70,6 +73,8 @@ refused_on old mid left (fault.TheVariants.Write n) one two = reached_on old mid
 refused_on old mid left fault.TheVariants.DayNotOver one two = reached_on old mid left one two
 refused_on old mid left (fault.TheVariants.StillPending n) one two = reached_on old mid left one two
 refused_on old mid left (fault.TheVariants.BadLine n) one two = reached_on old mid left one two
+refused_on old mid left fault.TheVariants.Silent one two = reached_on old mid left one two
+refused_on old mid left (fault.TheVariants.OtherDay day) one two = reached_on old mid left one two
 
 -- where some were, and none was refused
 pub some_of : (old : Tables) (left : Left) → Reaches old left → ReachesSome old left
@@ -167,11 +172,31 @@ module _ {S : Type 0} (it : Ghosts S) (a c : S) (honest : it.is_honest c) (opene
   looked_refused book_fault.TheVariants.Memory done looks = looked_some done looks
   looked_refused book_fault.TheVariants.Store done looks = looked_some done looks
 
+  -- and so was a report
+  pub looked_report : (f : report.ReportFault) → Looks it a c (is_settled {T = Unit {0}} (Err f)) →
+      ReachesBy (it.tables a) (left_of it c) (Err (of_report f))
+  looked_report report.TheVariants.Memory looks = looked_some false looks
+  looked_report report.TheVariants.Store looks = looked_some false looks
+  looked_report report.TheVariants.NoSuchMerchant looks = looked_all looks
+  looked_report (report.TheVariants.Write n) looks = looked_all looks
+  looked_report report.TheVariants.DayNotOver looks = looked_all looks
+  looked_report (report.TheVariants.StillPending n) looks = looked_all looks
+
 -- what a look that was refused tells of the store
 pub tells_looked : (T : Type 0) (f : book_fault.BookFault) (a c : ℕ) (P : Type 0) →
     CountsFault {T = T} (Err f) a c → TellsStore (Err (of_book f)) a c P
 tells_looked T book_fault.TheVariants.Memory a c P counts = counts
 tells_looked T book_fault.TheVariants.Store a c P counts = inl counts
+
+-- what a report that was refused tells of the store
+pub tells_report : (f : report.ReportFault) (a c : ℕ) (P : Type 0) →
+    CountsStore {T = Unit {0}} (Err f) a c → TellsStore (Err (of_report f)) a c P
+tells_report report.TheVariants.Memory a c P counts = counts
+tells_report report.TheVariants.Store a c P counts = inl counts
+tells_report report.TheVariants.NoSuchMerchant a c P counts = counts
+tells_report (report.TheVariants.Write n) a c P counts = counts
+tells_report report.TheVariants.DayNotOver a c P counts = counts
+tells_report (report.TheVariants.StillPending n) a c P counts = counts
 
 -- what the end of a connection is for the program
 pub program_reaches : (old : Tables) (left : Left) (r : Result (Unit {0}) ended.FrontFault) →
@@ -211,16 +236,15 @@ module _ (may_give : ℕ → Type 0) (serving : Serving) (old : Tables) (left : 
   moved : control.MovesOn may_give serving old left before after → Reaches old left
   moved on = record { events = []; tables = on.tables; stop = on.stop }
 
-  asked : (stops : Bool) → control.AsksOne may_give serving old left stops before after →
+  asked : (wish : Wish) → control.AsksOne may_give serving old left wish before after →
       Reaches old left
-  asked stops one =
-      record { events = events_asked one.asked; tables = one.tables; stop = one.stop }
+  asked wish one =
+      record { events = events_asked old one.asked; tables = one.tables; stop = one.stop }
 
   pub control_reaches : (round : ControlRound) →
       control.Goes may_give serving old left before after (Ok round) → Reaches old left
-  control_reaches control_round.GoesOn (inl on) = moved on
-  control_reaches control_round.GoesOn (inr one) = asked false one
-  control_reaches control_round.Stops one = asked true one
+  control_reaches control_round.GoesOn on = moved on
+  control_reaches (control_round.Took wish) one = asked wish one
   control_reaches control_round.Waits on = moved on
   control_reaches control_round.Ended on = moved on
 

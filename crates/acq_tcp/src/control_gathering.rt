@@ -5,11 +5,14 @@ ghost use Rattle.acq_commands.specs.Faults.{IsOfGathering, TellsStore};
 ghost use Rattle.acq_commands.specs.Listening.{ReachesBy};
 ghost use Rattle.acq_front.specs.Stops.{left_of};
 
+use crate::ending::Ending;
 use crate::journal::Journal;
 use crate::line_word::line_word;
+use crate::log_target::LogTarget;
 use crate::open_control::OpenControl;
 use crate::places::Places;
-use crate::time_limits::{TimeLimits, shorter};
+use crate::tcp_connections::PAUSE;
+use crate::time_limits::{TimeLimits, left_of, shorter};
 use acq_book::Book;
 use acq_commands::{Fault, end_connection};
 use acq_front::{Clock, FrontFault};
@@ -34,6 +37,8 @@ pub(crate) struct ControlGathering {
     places: Vec<Option<OpenControl>>,
     /// Whether connections may be there that weren't taken yet.
     may_come: bool,
+    /// When one last couldn't be had.
+    refused: Option<Instant>,
     /// Whether one asked that the host ends.
     has_stopped: bool,
 }
@@ -65,6 +70,7 @@ impl ControlGathering {
             first,
             places,
             may_come: true,
+            refused: None,
             has_stopped: false,
         })
     }
@@ -79,8 +85,42 @@ impl ControlGathering {
         self.places.iter().any(|place| place.as_ref().is_some_and(|one| one.is_answering()))
     }
 
-    /// Takes in the connections that came, while there are places. One that can't be had is told.
-    pub(crate) fn admit<T: time::Clock, W: Sink, F: Sink>(
+    /// Whether one is about to ask for figures.
+    pub(crate) fn asks_figures(&self) -> bool {
+        self.places
+            .iter()
+            .any(|place| place.as_ref().is_some_and(asks_figures))
+    }
+
+    /// How much is left of the pause behind a connection that couldn't be had: nothing, where one may
+    /// be had.
+    fn pause_left(&self, now: Option<Instant>) -> Duration {
+        match self.refused {
+            Some(_) => left_of(Duration::from_millis(PAUSE), self.refused, now),
+            None => Duration::ZERO,
+        }
+    }
+
+    /// Cuts off those that are there, since the host ends.
+    pub(crate) fn cut_off<T: time::Clock, W: LogTarget, F: Sink>(
+        &mut self,
+        journal: &mut Journal<'_, T, W>,
+        faults: &mut F,
+    ) {
+        for place in 0..self.places.len() {
+            if let Some(taken) = self.places.get_mut(place) {
+                if let Some(connection) = taken.take() {
+                    let ended = Err(connection.cut_off());
+                    journal.closed(connection.name(), &ended, Ending::Stopped);
+                    let _ = end_connection(ended, faults);
+                }
+            }
+        }
+    }
+
+    /// Takes in the connections that came, while there are places. One that can't be had is told, and
+    /// tried again after a pause.
+    pub(crate) fn admit<T: time::Clock, W: LogTarget, F: Sink>(
         &mut self,
         alloc: Global,
         registry: &Registry,
@@ -89,11 +129,13 @@ impl ControlGathering {
         faults: &mut F,
     ) {
         for place in 0..self.places.len() {
-            if !self.may_come {
+            if !self.may_come || !self.pause_left(now).is_zero() {
                 return;
             }
             if let Some(None) = self.places.get(place) {
+                self.refused = None;
                 if self.fill(alloc, registry, journal, place, now).is_err() {
+                    self.refused = now;
                     let _ = end_connection(Err(FrontFault::Read), faults);
                 }
             }
@@ -101,7 +143,7 @@ impl ControlGathering {
     }
 
     /// Gives a place to the next connection that came, if one did.
-    fn fill<T: time::Clock, W: Sink>(
+    fn fill<T: time::Clock, W: LogTarget>(
         &mut self,
         alloc: Global,
         registry: &Registry,
@@ -111,14 +153,11 @@ impl ControlGathering {
     ) -> io::Result<()> {
         let mut stream = match self.listener.accept() {
             Ok((stream, _)) => stream,
-            Err(fault) => {
+            Err(fault) if fault.kind() == ErrorKind::WouldBlock => {
                 self.may_come = false;
-                return if fault.kind() == ErrorKind::WouldBlock {
-                    Ok(())
-                } else {
-                    Err(fault)
-                };
+                return Ok(());
             }
+            Err(fault) => return Err(fault),
         };
         registry.register(
             &mut stream,
@@ -146,18 +185,18 @@ impl ControlGathering {
     pub(crate) fn time_left(&self, now: Option<Instant>, limits: TimeLimits) -> Option<Duration> {
         let mut longest = None;
         for place in self.places.iter() {
-            if let Some(connection) = place {
-                if connection.is_ready() {
-                    return Some(Duration::ZERO);
-                }
-                longest = shorter(longest, connection.time_left(now, limits));
+            match place {
+                Some(connection) if connection.is_ready() => return Some(Duration::ZERO),
+                Some(connection) => longest = shorter(longest, connection.time_left(now, limits)),
+                None if self.may_come => longest = shorter(longest, Some(self.pause_left(now))),
+                None => {}
             }
         }
         longest
     }
 
     /// Gives each connection that is ready a round, while so many places of terminals are free.
-    pub(crate) fn give_rounds<B: Book + Drop, C: Clock, T: time::Clock, W: Sink, F: Sink>(
+    pub(crate) fn give_rounds<B: Book + Drop, C: Clock, T: time::Clock, W: LogTarget, F: Sink>(
         &mut self,
         alloc: Global,
         host: &mut Host<B>,
@@ -188,7 +227,7 @@ impl ControlGathering {
 
 /// Gives the connection in a place a round, notes whether it asked that the host ends, and frees the
 /// place at its end.
-fn give_round<B: Book + Drop, C: Clock, T: time::Clock, W: Sink, F: Sink>(
+fn give_round<B: Book + Drop, C: Clock, T: time::Clock, W: LogTarget, F: Sink>(
     place: &mut Option<OpenControl>,
     stopped: &mut bool,
     alloc: Global,
@@ -214,16 +253,35 @@ fn give_round<B: Book + Drop, C: Clock, T: time::Clock, W: Sink, F: Sink>(
     let next = NextLine::of(connection, journal);
     let serving = journal.serving(places, now);
     let ended = connection.give_round(alloc, host, clock, serving, now, limits);
-    next.note(connection, journal, now);
+    next.note(connection, journal);
     *stopped = *stopped || connection.has_stopped();
+    if connection.take_reopening() && !journal.reopen() {
+        let _ = end_connection(Err(FrontFault::Read), faults);
+    }
     match ended {
         None => Ok(()),
         Some(ended) => {
-            journal.closed(connection.name(), &ended, !connection.is_ready());
+            journal.closed(connection.name(), &ended, ending_of(connection));
             *place = None;
             end_connection(ended, faults)
         }
     }
+}
+
+/// What ends a connection that ended in a round.
+fn ending_of(connection: &OpenControl) -> Ending {
+    if connection.is_ready() {
+        Ending::Own
+    } else {
+        Ending::Late
+    }
+}
+
+/// Whether a connection is about to ask for figures.
+fn asks_figures(connection: &OpenControl) -> bool {
+    connection.is_ready()
+        && !connection.is_answering()
+        && matches!(line_word(connection.front()), "status" | "metrics")
 }
 
 /// The line that a connection may take in a round.
@@ -236,7 +294,7 @@ struct NextLine {
 
 impl NextLine {
     /// That of a round that begins now.
-    fn of<T: time::Clock, W: Sink>(
+    fn of<T: time::Clock, W: LogTarget>(
         connection: &OpenControl,
         journal: &Journal<'_, T, W>,
     ) -> NextLine {
@@ -247,16 +305,15 @@ impl NextLine {
     }
 
     /// Notes the line behind the round, where it was taken.
-    fn note<T: time::Clock, W: Sink>(
+    fn note<T: time::Clock, W: LogTarget>(
         &self,
         connection: &OpenControl,
         journal: &mut Journal<'_, T, W>,
-        now: Option<Instant>,
     ) {
         if let Some(word) = self.word {
             if connection.is_answering() {
                 let answer = connection.unsent();
-                journal.answered(connection.name(), word, answer, self.began, now);
+                journal.answered(connection.name(), word, answer, self.began);
             }
         }
     }

@@ -11,6 +11,8 @@ pub(crate) struct FrameClock<'a, T> {
     place: FramePlace,
     /// When the first byte of the last frame came.
     began: Option<Instant>,
+    /// When the last piece came.
+    came: Option<Instant>,
 }
 
 impl<'a, T: time::Clock> FrameClock<'a, T> {
@@ -20,6 +22,7 @@ impl<'a, T: time::Clock> FrameClock<'a, T> {
             time,
             place: FramePlace::Between,
             began: None,
+            came: None,
         }
     }
 
@@ -31,12 +34,18 @@ impl<'a, T: time::Clock> FrameClock<'a, T> {
     /// The next piece of the stream came.
     pub(crate) fn came(&mut self, piece: &[u8]) {
         let now = self.now();
+        self.came = now;
         for byte in piece.iter() {
             if self.place == FramePlace::Between {
                 self.began = now;
             }
             self.place = self.place.after(*byte);
         }
+    }
+
+    /// When the last piece came, if one did and the time was known.
+    pub(crate) fn last_came(&self) -> Option<Instant> {
+        self.came
     }
 
     /// When the frame that isn't whole yet began, if there is one and the time was known.

@@ -1,17 +1,19 @@
 //! The log of a host, for those who run it.
 
 use crate::connection_name::ConnectionName;
+use crate::ending::Ending;
+use crate::line_rate::LineRate;
 use crate::log_line::LogLine;
-use crate::log_time::LogTime;
-use acq_front::FrontFault;
-use acq_link::Sink;
+use crate::log_target::LogTarget;
+use crate::log_time::{LogTime, second_of};
+use acq_front::{FrontFault, Silence, Unanswered};
 use card_no::CardNumber;
 use day_totals::Day;
 use iso_codec::{DecodeFault, Message, decode};
 use std::alloc::Global;
 use std::net::SocketAddr;
-use std::time;
 use std::time::Duration;
+use std::{io, time};
 
 /// The elements of a reply that its line has as they stand, each under its key.
 const ELEMENTS: [(&str, u8); 5] = [
@@ -27,28 +29,61 @@ const ELEMENTS: [(&str, u8); 5] = [
 const LEAST_MASKED: usize = 13;
 
 /// The log of a host: a line in logfmt for its beginning, for each connection's begin and end, and
-/// for each event that was answered (own profile). No line has a card number or a track. Each line
-/// goes out in one write, and one that can't is lost: nothing waits for a log, or ends by it.
+/// for each message and each line of a control connection that was taken (own profile). No line has a
+/// card number or a track. Each line goes out in one write, and one that can't is lost and counted:
+/// nothing waits for a log, or ends by it. Lines of which anybody may cause as many as they like are
+/// left out past the first ones of a second, and counted, too.
 #[derive(Drop)]
 pub struct HostLog<W> {
     alloc: Global,
-    sink: W,
+    target: W,
     line: LogLine,
     time: LogTime,
     /// The last write took a piece of a line.
     is_behind_piece: bool,
+    /// How many lines were lost, and how many of them no line has told yet.
+    lost: u64,
+    lost_untold: u64,
+    /// Connections that begin, replies of network management, and frames that are refused or of a type
+    /// that isn't served.
+    opened: LineRate,
+    echoes: LineRate,
+    refused: LineRate,
 }
 
-impl<W: Sink> HostLog<W> {
-    /// A log that goes on in this sink.
-    pub fn new(alloc: Global, sink: W) -> HostLog<W> {
+impl<W: LogTarget> HostLog<W> {
+    /// A log that goes on there.
+    pub fn new(alloc: Global, target: W) -> HostLog<W> {
         HostLog {
             alloc,
-            sink,
+            target,
             line: LogLine::new(alloc),
             time: LogTime::new(),
             is_behind_piece: false,
+            lost: 0,
+            lost_untold: 0,
+            opened: LineRate::new(),
+            echoes: LineRate::new(),
+            refused: LineRate::new(),
         }
+    }
+
+    /// How many lines were lost.
+    pub fn lost(&self) -> u64 {
+        self.lost
+    }
+
+    /// The log goes on in the file that stands at its path now, if that can be had, and says so.
+    pub fn reopen<T: time::Clock>(&mut self, clock: &T) -> io::Result<()> {
+        let opened = self.target.reopen();
+        self.begin_line(clock, "reopened");
+        if opened.is_err() {
+            self.line.put("reason", b"the file can't be had");
+        } else {
+            self.is_behind_piece = false;
+        }
+        self.end_line();
+        opened
     }
 
     /// The host listens at this address, on this business day.
@@ -63,44 +98,73 @@ impl<W: Sink> HostLog<W> {
 
     /// A connection was taken.
     pub fn opened<T: time::Clock>(&mut self, clock: &T, name: ConnectionName) {
+        if !self.opened.admits(second_of(clock)) {
+            return;
+        }
         self.begin_line(clock, "opened");
         self.put_connection(name);
         self.end_line();
     }
 
     /// A connection ended, perhaps by a fault; by one of reading or writing perhaps since it took
-    /// too long.
+    /// too long, or since the host ended.
     pub fn closed<T: time::Clock>(
         &mut self,
         clock: &T,
         name: ConnectionName,
         fault: Option<FrontFault>,
-        is_late: bool,
+        ending: Ending,
     ) {
+        if fault.is_some_and(is_of_frame) && !self.refused.admits(second_of(clock)) {
+            return;
+        }
         self.begin_line(clock, "closed");
         self.put_connection(name);
         if let Some(fault) = fault {
             self.line.put_number("fault", u64::from(fault.number()));
-            self.put_reason(fault, name, is_late);
+            self.put_reason(fault, name, ending);
         }
         self.end_line();
     }
 
-    /// A terminal gets this reply, for which the host took so long.
+    /// A terminal gets this reply, for which the host took so long of the time since the message's
+    /// last byte came.
     pub fn replied<T: time::Clock>(
         &mut self,
         clock: &T,
         name: ConnectionName,
         reply: &[u8],
         took: Option<Duration>,
+        total: Option<Duration>,
     ) {
         let Ok(message) = decode(self.alloc, reply) else {
             return;
         };
+        if is_of_network(&message.kind()) && !self.echoes.admits(second_of(clock)) {
+            return;
+        }
         self.begin_line(clock, "reply");
         self.put_connection(name);
         self.put_elements(&message);
-        self.put_duration(took);
+        self.put_duration("microseconds", took);
+        self.put_duration("total_microseconds", total);
+        self.end_line();
+    }
+
+    /// A message of a terminal gets no reply.
+    pub fn unanswered<T: time::Clock>(
+        &mut self,
+        clock: &T,
+        name: ConnectionName,
+        message: Unanswered,
+    ) {
+        if !self.refused.admits(second_of(clock)) {
+            return;
+        }
+        self.begin_line(clock, "unanswered");
+        self.put_connection(name);
+        self.line.put("type", &message.kind);
+        self.line.put("why", word_of(message.why).as_bytes());
         self.end_line();
     }
 
@@ -120,12 +184,18 @@ impl<W: Sink> HostLog<W> {
         if let Some(number) = fault_told(answer) {
             self.line.put("fault", number);
         }
-        self.put_duration(took);
+        self.put_duration("microseconds", took);
         self.end_line();
     }
 
-    /// Begins the line of an event.
+    /// Begins the line of an event, behind those that tell how many were lost or left out.
     fn begin_line<T: time::Clock>(&mut self, clock: &T, event: &str) {
+        self.tell_lost(clock);
+        self.tell_left_out(clock);
+        self.begin(clock, event);
+    }
+
+    fn begin<T: time::Clock>(&mut self, clock: &T, event: &str) {
         self.line.begin(self.is_behind_piece);
         if let Some(text) = self.time.text(clock) {
             self.line.put("time", &text);
@@ -133,14 +203,56 @@ impl<W: Sink> HostLog<W> {
         self.line.put("event", event.as_bytes());
     }
 
-    /// Writes the line.
-    fn end_line(&mut self) {
-        let Some(line) = self.line.ended() else {
+    /// Tells how many lines were lost, if some were, once there is room.
+    fn tell_lost<T: time::Clock>(&mut self, clock: &T) {
+        if self.lost_untold == 0 {
             return;
+        }
+        self.begin(clock, "lost");
+        self.line.put_number("lines", self.lost_untold);
+        if self.write_line() {
+            self.lost_untold = 0;
+        }
+    }
+
+    /// Tells how many lines were left out in seconds that are over, if some were.
+    fn tell_left_out<T: time::Clock>(&mut self, clock: &T) {
+        let second = second_of(clock);
+        let opened = self.opened.left_out(second);
+        let echoes = self.echoes.left_out(second);
+        let refused = self.refused.left_out(second);
+        if opened == 0 && echoes == 0 && refused == 0 {
+            return;
+        }
+        self.begin(clock, "left-out");
+        self.line.put_number("opened", opened);
+        self.line.put_number("echoes", echoes);
+        self.line.put_number("refused", refused);
+        if self.write_line() {
+            forget_told(&mut self.opened, opened);
+            forget_told(&mut self.echoes, echoes);
+            forget_told(&mut self.refused, refused);
+        }
+    }
+
+    /// Writes the line, or counts it as lost.
+    fn end_line(&mut self) {
+        if !self.write_line() {
+            self.lost = self.lost.saturating_add(1);
+            self.lost_untold = self.lost_untold.saturating_add(1);
+        }
+    }
+
+    /// Writes the line, and returns whether all of it went out.
+    fn write_line(&mut self) -> bool {
+        let Some(line) = self.line.ended() else {
+            return false;
         };
-        if let Ok(n) = self.sink.write(line) {
+        let n = self.target.take(line);
+        if n > 0 {
             self.is_behind_piece = n < line.len();
         }
+        n == line.len()
     }
 
     fn put_connection(&mut self, name: ConnectionName) {
@@ -181,18 +293,18 @@ impl<W: Sink> HostLog<W> {
         }
     }
 
-    fn put_duration(&mut self, took: Option<Duration>) {
-        if let Some(took) = took {
-            let microseconds = u64::try_from(took.as_micros()).unwrap_or(u64::MAX);
-            self.line.put_number("microseconds", microseconds);
+    fn put_duration(&mut self, key: &str, duration: Option<Duration>) {
+        if let Some(duration) = duration {
+            let microseconds = u64::try_from(duration.as_micros()).unwrap_or(u64::MAX);
+            self.line.put_number(key, microseconds);
         }
     }
 
-    fn put_reason(&mut self, fault: FrontFault, name: ConnectionName, is_late: bool) {
+    fn put_reason(&mut self, fault: FrontFault, name: ConnectionName, ending: Ending) {
         if let FrontFault::Undecodable(cause) = fault {
             self.put_cause(cause);
         } else {
-            let reason = reason_of(fault, name, is_late);
+            let reason = reason_of(fault, name, ending);
             self.line.put("reason", reason.as_bytes());
         }
     }
@@ -212,8 +324,42 @@ fn without_zeros(digits: &[u8]) -> &[u8] {
     }
 }
 
+/// Whether a fault is one of what came, not of reading or writing.
+fn is_of_frame(fault: FrontFault) -> bool {
+    matches!(
+        fault,
+        FrontFault::BadLength | FrontFault::Ended | FrontFault::Undecodable(_)
+    )
+}
+
+/// Whether a type is one of network management: an echo test, a sign-on or a sign-off (ISO 8583:1987,
+/// message class 8).
+fn is_of_network(kind: &[u8; 4]) -> bool {
+    kind[1] == b'8'
+}
+
+/// Why a message gets no reply, in a word.
+fn word_of(why: Silence) -> &'static str {
+    match why {
+        Silence::Unserved => "unserved",
+        Silence::Waiting => "waiting",
+        Silence::Late => "late",
+    }
+}
+
+/// So many lines that were left out were told, or none.
+fn forget_told(rate: &mut LineRate, told: u64) {
+    if told > 0 {
+        rate.forget();
+    }
+}
+
 /// Why a connection ended, in words.
-fn reason_of(fault: FrontFault, name: ConnectionName, is_late: bool) -> &'static str {
+fn reason_of(fault: FrontFault, name: ConnectionName, ending: Ending) -> &'static str {
+    if ending == Ending::Stopped {
+        return "the host ended";
+    }
+    let is_late = ending == Ending::Late;
     let is_control = matches!(name, ConnectionName::Control(_));
     match fault {
         FrontFault::Memory => "memory ran out",

@@ -1,13 +1,24 @@
 //! What is noted of connections while they are served.
 
+ghost use Rattle.acq_book.specs.Calls.{Looks};
+ghost use Rattle.acq_reports.specs.Faults.{CountsStore, is_settled};
+
 use crate::connection_name::ConnectionName;
+use crate::ending::Ending;
+use crate::first_seen::FirstSeen;
 use crate::host_log::HostLog;
+use crate::log_target::LogTarget;
 use crate::places::Places;
 use crate::serving_counts::ServingCounts;
-use acq_front::FrontFault;
-use acq_link::Sink;
+use acq_book::Book;
+use acq_control::FirstWaiting;
+use acq_front::{FrontFault, Unanswered};
+use acq_host::Host;
+use acq_link::MemorySink;
+use acq_reports::ReportFault;
 use acq_status::Serving;
 use day_totals::Day;
+use std::alloc::Global;
 use std::net::SocketAddr;
 use std::time;
 use std::time::{Duration, Instant};
@@ -22,17 +33,19 @@ pub(crate) struct Journal<'a, T, W> {
     time: &'a T,
     log: Option<HostLog<W>>,
     counts: ServingCounts,
+    first_waiting: FirstSeen,
     /// How many control connections were taken.
     controls: u64,
 }
 
-impl<'a, T: time::Clock, W: Sink> Journal<'a, T, W> {
+impl<'a, T: time::Clock, W: LogTarget> Journal<'a, T, W> {
     /// Nothing was noted yet.
-    pub(crate) fn new(time: &'a T, log: Option<HostLog<W>>) -> Journal<'a, T, W> {
+    pub(crate) fn new(alloc: Global, time: &'a T, log: Option<HostLog<W>>) -> Journal<'a, T, W> {
         Journal {
             time,
             log,
             counts: ServingCounts::new(),
+            first_waiting: FirstSeen::nobody(alloc),
             controls: 0,
         }
     }
@@ -49,9 +62,48 @@ impl<'a, T: time::Clock, W: Sink> Journal<'a, T, W> {
             open_places: places.open,
             connections: self.counts.connections,
             events: self.counts.events,
+            lines: self.counts.lines,
             refused_frames: self.counts.refused_frames,
+            unanswered: self.counts.unanswered,
+            lost_lines: self.lost_lines(),
             last_event_age: age_of(self.counts.last_event, now),
+            oldest_pending_age: self.first_waiting.age(now),
         }
+    }
+
+    /// How many lines of the log were lost.
+    fn lost_lines(&self) -> u64 {
+        match &self.log {
+            Some(log) => log.lost(),
+            None => 0,
+        }
+    }
+
+    /// The log goes on in the file that stands at its path now. Returns whether that could be had, or
+    /// there is no log.
+    pub(crate) fn reopen(&mut self) -> bool {
+        match &mut self.log {
+            Some(log) => log.reopen(self.time).is_ok(),
+            None => true,
+        }
+    }
+
+    /// Looks which request waits the longest for its issuer's answer.
+    pub(crate) fn look_at_waiting<B: Book + Drop>(
+        &mut self,
+        alloc: Global,
+        host: &mut Host<B>,
+        now: Option<Instant>,
+    ) -> Result<(), ReportFault>
+        ensures looks { Looks B.Book host.old host.new (is_settled result) }
+        ensures store { CountsStore result (B.failures host.old) (B.failures host.new) }
+    {
+        let mut name = MemorySink::new(alloc);
+        let looked = host.write_text(&FirstWaiting, &mut name);
+        if looked.is_ok() {
+            self.first_waiting.saw(name, now);
+        }
+        looked
     }
 
     /// The time, where there is a log and the system tells it.
@@ -103,10 +155,10 @@ impl<'a, T: time::Clock, W: Sink> Journal<'a, T, W> {
         &mut self,
         name: ConnectionName,
         ended: &Result<(), FrontFault>,
-        is_late: bool,
+        ending: Ending,
     ) {
         if let Some(log) = &mut self.log {
-            log.closed(self.time, name, ended.err(), is_late);
+            log.closed(self.time, name, ended.err(), ending);
         }
     }
 
@@ -115,20 +167,44 @@ impl<'a, T: time::Clock, W: Sink> Journal<'a, T, W> {
         self.counts.refused_frames = self.counts.refused_frames.saturating_add(1);
     }
 
-    /// A terminal gets this frame, at whose message the host began then.
+    /// A message of a terminal was taken, at which the host began then, and has a reply. Returns how
+    /// long it took.
+    pub(crate) fn took(
+        &mut self,
+        began: Option<Instant>,
+        now: Option<Instant>,
+    ) -> Option<Duration> {
+        self.counts.answered(now);
+        self.since(began)
+    }
+
+    /// A terminal gets the first bytes of this frame now, for which the host took so long; the
+    /// message's last byte came then.
     pub(crate) fn replied(
         &mut self,
         name: ConnectionName,
         frame: &[u8],
-        began: Option<Instant>,
-        now: Option<Instant>,
+        took: Option<Duration>,
+        came: Option<Instant>,
     ) {
-        self.counts.took(now);
-        let took = self.since(began);
+        let total = self.since(came);
         if let Some(log) = &mut self.log {
             if frame.len() > HEADER {
-                log.replied(self.time, name, &frame[HEADER..], took);
+                log.replied(self.time, name, &frame[HEADER..], took, total);
             }
+        }
+    }
+
+    /// A message of a terminal was taken that gets no reply.
+    pub(crate) fn unanswered(
+        &mut self,
+        name: ConnectionName,
+        message: Unanswered,
+        now: Option<Instant>,
+    ) {
+        self.counts.left_unanswered(message.why, now);
+        if let Some(log) = &mut self.log {
+            log.unanswered(self.time, name, message);
         }
     }
 
@@ -140,9 +216,8 @@ impl<'a, T: time::Clock, W: Sink> Journal<'a, T, W> {
         word: &str,
         answer: &[u8],
         began: Option<Instant>,
-        now: Option<Instant>,
     ) {
-        self.counts.took(now);
+        self.counts.lines = self.counts.lines.saturating_add(1);
         let took = self.since(began);
         if let Some(log) = &mut self.log {
             log.answered(self.time, name, word, answer, took);

@@ -7,12 +7,16 @@
 
 mod connection_name;
 mod control_gathering;
+mod ending;
+mod first_seen;
 mod frame_clock;
 mod frame_place;
 mod host_log;
 mod journal;
+mod line_rate;
 mod line_word;
 mod log_line;
+mod log_target;
 mod log_time;
 mod open_connection;
 mod open_control;
@@ -26,6 +30,8 @@ mod time_limits;
 mod timed_stream;
 
 pub use connection_name::ConnectionName;
+pub use ending::Ending;
 pub use host_log::HostLog;
+pub use log_target::LogTarget;
 pub use tcp_connections::TcpConnections;
 pub use tcp_gathering::TcpGathering;

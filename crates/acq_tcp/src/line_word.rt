@@ -1,7 +1,7 @@
 //! The words that lines of control connections begin with.
 
 /// These words: those of event lines, of texts, and the others.
-const WORDS: [&str; 14] = [
+const WORDS: [&str; 16] = [
     "frame",
     "answer",
     "cutover",
@@ -15,6 +15,8 @@ const WORDS: [&str; 14] = [
     "pending",
     "status",
     "metrics",
+    "end",
+    "reopen",
     "stop",
 ];
 
@@ -23,7 +25,7 @@ const WORDS: [&str; 14] = [
 pub(crate) fn line_word(bytes: &[u8]) -> &'static str {
     let end = bytes
         .iter()
-        .position(|byte| *byte == b',' || *byte == b'\n');
+        .position(|byte| matches!(*byte, b',' | b'\r' | b'\n'));
     let first = match end {
         Some(end) => &bytes[..end],
         None => bytes,

@@ -29,14 +29,19 @@ impl LogTime {
     /// The time by this clock, YYYY-MM-DDThh:mm:ssZ in UTC, where the system tells it and it is of
     /// the years 2000 to 2099.
     pub(crate) fn text<T: time::Clock>(&mut self, clock: &T) -> Option<[u8; 20]> {
-        let now = SystemTime::now(clock).ok()?;
-        let second = now.duration_since(UNIX_EPOCH).ok()?.as_secs();
+        let second = second_of(clock)?;
         if second != self.second {
             self.text = text_of(second);
             self.second = second;
         }
         self.text
     }
+}
+
+/// The second by this clock, since 1970-01-01 00:00:00 UTC, where the system tells it.
+pub(crate) fn second_of<T: time::Clock>(clock: &T) -> Option<u64> {
+    let now = SystemTime::now(clock).ok()?;
+    Some(now.duration_since(UNIX_EPOCH).ok()?.as_secs())
 }
 
 /// A second since 1970-01-01 00:00:00 UTC as YYYY-MM-DDThh:mm:ssZ.

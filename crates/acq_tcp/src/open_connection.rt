@@ -9,7 +9,7 @@ use crate::parting::{PIECE, Parting};
 use crate::time_limits::{TimeLimits, left_of, shorter};
 use crate::timed_stream::TimedStream;
 use acq_book::Book;
-use acq_front::{Clock, Exchange, FrontFault, Issuer, Round, StreamLine};
+use acq_front::{Clock, Exchange, FrontFault, Issuer, Round, StreamLine, Unanswered};
 use acq_host::Host;
 use mio::net::TcpStream;
 use std::alloc::Global;
@@ -26,8 +26,19 @@ pub(crate) struct OpenConnection<'a, T> {
     is_ready: bool,
     /// When something last happened.
     last_moved: Option<Instant>,
+    /// A reply is held of which nothing was written yet.
+    held: Option<HeldReply>,
     /// It is parted with: its fault was told.
     parting: Option<Parting>,
+}
+
+/// A reply of which nothing was written yet.
+#[derive(Clone, Copy)]
+pub(crate) struct HeldReply {
+    /// How long the host took for it.
+    pub(crate) took: Option<Duration>,
+    /// When the last byte of its message came.
+    pub(crate) came: Option<Instant>,
 }
 
 impl<'a, T: time::Clock> OpenConnection<'a, T> {
@@ -44,6 +55,7 @@ impl<'a, T: time::Clock> OpenConnection<'a, T> {
             exchange: Exchange::new(line),
             is_ready: true,
             last_moved: now,
+            held: None,
             parting: None,
         }
     }
@@ -56,6 +68,24 @@ impl<'a, T: time::Clock> OpenConnection<'a, T> {
     /// What of a reply is still to be written, as a frame's bytes.
     pub(crate) fn unsent(&self) -> &[u8] {
         self.exchange.unsent()
+    }
+
+    /// The message that the last round took, if it gets no reply.
+    pub(crate) fn unanswered(&self) -> Option<Unanswered> {
+        self.exchange.unanswered()
+    }
+
+    /// A reply was held, for which the host took so long.
+    pub(crate) fn hold(&mut self, took: Option<Duration>) {
+        self.held = Some(HeldReply {
+            took,
+            came: self.stream().last_came(),
+        });
+    }
+
+    /// The reply that is held, if nothing of it was written yet; from now on something was.
+    pub(crate) fn begin_reply(&mut self) -> Option<HeldReply> {
+        self.held.take()
     }
 
     /// Whether a round may find something to do.

@@ -6,12 +6,13 @@ ghost use Rattle.acq_tcp.specs.Rounds.{IsNotStores, RoundReaches, RoundTells, Un
 use crate::connection_name::ConnectionName;
 use crate::time_limits::{TimeLimits, left_of};
 use acq_book::Book;
-use acq_control::{ControlExchange, ControlRound};
+use acq_control::{ControlExchange, ControlRound, Wish};
 use acq_front::{Clock, FrontFault, StreamLine};
 use acq_host::Host;
 use acq_status::Serving;
 use mio::net::UnixStream;
 use std::alloc::Global;
+use std::mem;
 use std::time::{Duration, Instant};
 
 /// A control connection among others.
@@ -25,6 +26,8 @@ pub(crate) struct OpenControl {
     last_moved: Option<Instant>,
     /// Whether it asked that the host ends.
     has_stopped: bool,
+    /// Whether it asked that the log is opened anew, which wasn't done yet.
+    reopens: bool,
 }
 
 impl OpenControl {
@@ -41,6 +44,7 @@ impl OpenControl {
             is_ready: true,
             last_moved: now,
             has_stopped: false,
+            reopens: false,
         }
     }
 
@@ -63,6 +67,20 @@ impl OpenControl {
     /// Whether it asked that the host ends.
     pub(crate) fn has_stopped(&self) -> bool {
         self.has_stopped
+    }
+
+    /// Whether it asked that the log is opened anew; from now on that was done.
+    pub(crate) fn take_reopening(&mut self) -> bool {
+        mem::take(&mut self.reopens)
+    }
+
+    /// What it is that the host cuts it off: an answer wasn't written whole, or it was read in vain.
+    pub(crate) fn cut_off(&self) -> FrontFault {
+        if self.is_answering() {
+            FrontFault::Write(self.exchange.gone() as u64)
+        } else {
+            FrontFault::Read
+        }
     }
 
     /// Whether a round may find something to do.
@@ -112,8 +130,8 @@ impl OpenControl {
                 self.last_moved = now;
                 None
             }
-            Ok(ControlRound::Stops) => {
-                self.has_stopped = true;
+            Ok(ControlRound::Took(wish)) => {
+                self.took(wish, now);
                 None
             }
             Ok(ControlRound::Waits) => {
@@ -122,6 +140,16 @@ impl OpenControl {
             }
             Ok(ControlRound::Ended) => Some(Ok(())),
             Err(fault) => Some(Err(fault)),
+        }
+    }
+
+    /// A line with this wish was taken.
+    fn took(&mut self, wish: Wish, now: Option<Instant>) {
+        self.last_moved = now;
+        match wish {
+            Wish::Stop => self.has_stopped = true,
+            Wish::Reopen => self.reopens = true,
+            Wish::Nothing => {}
         }
     }
 

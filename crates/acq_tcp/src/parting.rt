@@ -1,4 +1,4 @@
-//! How a connection is parted with whose frames had a fault.
+//! How a connection is parted with, whose frames had a fault, or whose host ends.
 
 use crate::time_limits::left_of;
 use acq_front::FrontFault;

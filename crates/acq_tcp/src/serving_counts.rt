@@ -1,5 +1,7 @@
 //! Counts of what was served.
 
+use acq_front::Silence;
+use acq_status::UnansweredCounts;
 use std::time::Instant;
 
 /// Counts of what a gathering has served since it began.
@@ -7,13 +9,16 @@ use std::time::Instant;
 pub(crate) struct ServingCounts {
     /// Connections of terminals that got a place.
     pub(crate) connections: u64,
-    /// Events that were taken: replies to terminals that were held to be written, and lines of
-    /// control connections that were answered.
+    /// Messages of terminals to which replies were held to be written.
     pub(crate) events: u64,
+    /// Lines of control connections that were answered.
+    pub(crate) lines: u64,
+    /// Messages of terminals that got no reply.
+    pub(crate) unanswered: UnansweredCounts,
     /// Connections of terminals that ended for a frame's fault: a bad length, an end inside a frame,
     /// or a frame that spells no message.
     pub(crate) refused_frames: u64,
-    /// When the last event was, where the time was known.
+    /// When a message of a terminal was last taken, where the time was known.
     pub(crate) last_event: Option<Instant>,
 }
 
@@ -23,14 +28,31 @@ impl ServingCounts {
         ServingCounts {
             connections: 0,
             events: 0,
+            lines: 0,
+            unanswered: UnansweredCounts {
+                unserved: 0,
+                waiting: 0,
+                late: 0,
+            },
             refused_frames: 0,
             last_event: None,
         }
     }
 
-    /// One event more, at this time.
-    pub(crate) fn took(&mut self, now: Option<Instant>) {
+    /// One message of a terminal more was answered, at this time.
+    pub(crate) fn answered(&mut self, now: Option<Instant>) {
         self.events = self.events.saturating_add(1);
+        self.last_event = now;
+    }
+
+    /// One message of a terminal more got no reply, at this time.
+    pub(crate) fn left_unanswered(&mut self, why: Silence, now: Option<Instant>) {
+        let count = match why {
+            Silence::Unserved => &mut self.unanswered.unserved,
+            Silence::Waiting => &mut self.unanswered.waiting,
+            Silence::Late => &mut self.unanswered.late,
+        };
+        *count = count.saturating_add(1);
         self.last_event = now;
     }
 }

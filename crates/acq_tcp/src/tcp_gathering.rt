@@ -6,15 +6,17 @@ ghost use Rattle.acq_commands.specs.Listening.{ReachesBy};
 ghost use Rattle.acq_front.specs.Stops.{left_of};
 
 use crate::control_gathering::{CONTROLS, ControlGathering};
+use crate::ending::Ending;
 use crate::host_log::HostLog;
 use crate::journal::Journal;
+use crate::log_target::LogTarget;
 use crate::open_connection::OpenConnection;
 use crate::parting::ends_in_bad_frame;
 use crate::places::Places;
 use crate::tcp_connections::PAUSE;
 use crate::time_limits::{TimeLimits, left_of, shorter};
 use acq_book::Book;
-use acq_commands::{Fault, Gathering, Patience, end_connection};
+use acq_commands::{Fault, Gathering, ListenOptions, end_connection};
 use acq_front::{Clock, FrontFault, Issuer};
 use acq_host::Host;
 use acq_link::Sink;
@@ -44,25 +46,28 @@ pub struct TcpGathering<'a, T, W> {
     waiting: Option<(TcpStream, SocketAddr)>,
     /// Control connections, where they can come.
     control: Option<ControlGathering>,
+    /// When the host was asked to end, where that time is known.
+    stopping: Option<Instant>,
+    /// Whether it was looked which request waits the longest.
+    has_looked: bool,
     journal: Journal<'a, T, W>,
 }
 
-impl<'a, T: time::Clock, W: Sink + Drop> TcpGathering<'a, T, W> {
-    /// Listens at an address and a port, for so many connections at once. One that takes longer than
-    /// this patience lasts is closed. Beside them control connections come to `control`. What is
-    /// served is told to the log, where there is one.
+impl<'a, T: time::Clock, W: LogTarget + Drop> TcpGathering<'a, T, W> {
+    /// Listens at the address and the port that are asked for, for so many connections at once. One
+    /// that takes longer than its patience lasts is closed. Beside them control connections come to
+    /// `control`. What is served is told to the log, where there is one.
     pub fn listen<N: Net>(
         net: &N,
         time: &'a T,
         alloc: Global,
-        endpoint: SocketAddrV4,
-        patience: Patience,
-        together: usize,
+        asked: &ListenOptions,
         control: Option<UnixListener>,
         log: Option<HostLog<W>>,
     ) -> Result<TcpGathering<'a, T, W>, Fault>
         ensures { IfErr result IsOfGathering }
     {
+        let together = asked.together;
         let mut places = Vec::with_capacity(alloc, together)?;
         for _ in 0..together {
             if places.push(None).is_err() {
@@ -70,7 +75,7 @@ impl<'a, T: time::Clock, W: Sink + Drop> TcpGathering<'a, T, W> {
             }
         }
         let events = Events::with_capacity(alloc, together.saturating_add(CONTROLS))?;
-        let Ok((listener, poll)) = listener_at(net, endpoint, Token(together)) else {
+        let Ok((listener, poll)) = listener_at(net, asked.endpoint, Token(together)) else {
             return Err(Fault::Read);
         };
         let control = control_at(alloc, control, &poll, together)?;
@@ -79,14 +84,21 @@ impl<'a, T: time::Clock, W: Sink + Drop> TcpGathering<'a, T, W> {
             poll,
             events,
             time,
-            limits: TimeLimits::new(patience),
+            limits: TimeLimits::new(asked.patience),
             places,
             may_come: true,
             refused: None,
             waiting: None,
             control,
-            journal: Journal::new(time, log),
+            stopping: None,
+            has_looked: false,
+            journal: Journal::new(alloc, time, log),
         })
+    }
+
+    /// The clock that it was given.
+    pub fn clock(&self) -> &'a T {
+        self.time
     }
 
     /// The address that it listens at.
@@ -226,6 +238,7 @@ impl<'a, T: time::Clock, W: Sink + Drop> TcpGathering<'a, T, W> {
             Some(control) => control.time_left(now, self.limits),
             None => None,
         };
+        longest = shorter(longest, self.stop_left(now));
         if takes_more && self.may_come {
             longest = shorter(longest, self.pause_left(now));
         }
@@ -239,6 +252,14 @@ impl<'a, T: time::Clock, W: Sink + Drop> TcpGathering<'a, T, W> {
             }
         }
         longest
+    }
+
+    /// Where the host was asked to end, how much is left to those that are there, if they have a limit.
+    fn stop_left(&self, now: Option<Instant>) -> Option<Duration> {
+        match (self.limits.stop, self.stopping) {
+            (Some(stop), Some(_)) => Some(left_of(stop, self.stopping, now)),
+            _ => None,
+        }
     }
 
     /// Where a connection waits for a place, how much is left to one that has been silent since
@@ -259,7 +280,7 @@ impl<'a, T: time::Clock, W: Sink + Drop> TcpGathering<'a, T, W> {
         if let Some(taken) = self.places.get_mut(place) {
             if let Some(connection) = taken.take() {
                 let ended = Err(connection.timed_out());
-                self.journal.closed(connection.name(), &ended, true);
+                self.journal.closed(connection.name(), &ended, Ending::Late);
                 let _ = end_connection(ended, faults);
             }
         }
@@ -328,12 +349,55 @@ impl<'a, T: time::Clock, W: Sink + Drop> TcpGathering<'a, T, W> {
         }
     }
 
-    /// Closes each connection that has its replies.
-    fn close_answered(&mut self) {
+    /// The host was asked to end: closes each connection that has its replies, and cuts off what is
+    /// there once its time is over.
+    fn end_all<F: Sink>(&mut self, faults: &mut F) {
+        let now = self.now();
+        if self.stopping.is_none() {
+            self.stopping = now;
+        }
+        let is_over = self.stop_left(now).is_some_and(|left| left.is_zero());
         for place in 0..self.places.len() {
             if let Some(taken) = self.places.get_mut(place) {
-                close_if_answered(taken, &mut self.journal);
+                if is_over {
+                    cut_off(taken, &mut self.journal, faults);
+                } else {
+                    close_if_answered(taken, &mut self.journal, now);
+                }
             }
+        }
+        if let Some(control) = &mut self.control {
+            if is_over {
+                control.cut_off(&mut self.journal, faults);
+            }
+        }
+    }
+
+    /// Looks which request waits the longest, at first and where figures are about to be asked for.
+    fn look_at_waiting<B: Book + Drop>(
+        &mut self,
+        alloc: Global,
+        host: &mut Host<B>,
+    ) -> Result<(), Fault>
+        ensures reaches { B.is_honest host.new → B.is_open host.old
+            → ReachesBy (B.tables host.old) (left_of B.Book host.new) result }
+        ensures stays_open { B.is_honest host.new → B.is_open host.old
+            → OnOk result (B.is_open host.new) }
+        ensures was_honest { B.is_honest host.new → B.is_honest host.old }
+        ensures store { TellsStore result (B.failures host.old) (B.failures host.new)
+            (B.is_honest host.new → B.is_open host.old → ⊥) }
+    {
+        let Some(control) = &self.control else {
+            return Ok(());
+        };
+        if self.has_looked && !control.asks_figures() {
+            return Ok(());
+        }
+        self.has_looked = true;
+        let now = self.now();
+        match self.journal.look_at_waiting(alloc, host, now) {
+            Ok(()) => Ok(()),
+            Err(fault) => Err(Fault::from(fault)),
         }
     }
 
@@ -402,7 +466,7 @@ fn is_before(one: Option<Instant>, other: Option<Instant>) -> bool {
 
 /// Gives the connection in a place a round, and frees the place at its end, or behind a bad frame
 /// once it is parted with.
-fn give_round<'a, T: time::Clock, B: Book + Drop, C: Clock, I: Issuer, W: Sink, F: Sink>(
+fn give_round<'a, T: time::Clock, B: Book + Drop, C: Clock, I: Issuer, W: LogTarget, F: Sink>(
     place: &mut Option<OpenConnection<'a, T>>,
     alloc: Global,
     host: &mut Host<B>,
@@ -430,15 +494,19 @@ fn give_round<'a, T: time::Clock, B: Book + Drop, C: Clock, I: Issuer, W: Sink, 
         }
         return Ok(());
     }
+    tell_reply(connection, journal);
     let (was_answering, began) = (connection.is_answering(), journal.time_for_log());
     let ended = connection.give_round(alloc, host, clock, issuer, now, limits);
-    if !was_answering && connection.is_answering() {
-        journal.replied(connection.name(), connection.unsent(), began, now);
-    }
+    note_message(connection, was_answering, journal, began, now);
     match ended {
         None => Ok(()),
         Some(ended) => {
-            journal.closed(connection.name(), &ended, !connection.is_ready());
+            let ending = if connection.is_ready() {
+                Ending::Own
+            } else {
+                Ending::Late
+            };
+            journal.closed(connection.name(), &ended, ending);
             if !has_bad_frame(&ended, journal) || !connection.part(now) {
                 *place = None;
             }
@@ -447,8 +515,51 @@ fn give_round<'a, T: time::Clock, B: Book + Drop, C: Clock, I: Issuer, W: Sink, 
     }
 }
 
+/// Tells the log of a reply that is held, whose first bytes are written now.
+fn tell_reply<T: time::Clock, W: LogTarget>(
+    connection: &mut OpenConnection<'_, T>,
+    journal: &mut Journal<'_, T, W>,
+) {
+    if let Some(held) = connection.begin_reply() {
+        journal.replied(connection.name(), connection.unsent(), held.took, held.came);
+    }
+}
+
+/// Notes the message that a round took, if it took one: its reply is held, or it gets none.
+fn note_message<T: time::Clock, W: LogTarget>(
+    connection: &mut OpenConnection<'_, T>,
+    was_answering: bool,
+    journal: &mut Journal<'_, T, W>,
+    began: Option<Instant>,
+    now: Option<Instant>,
+) {
+    if was_answering {
+        return;
+    }
+    if connection.is_answering() {
+        connection.hold(journal.took(began, now));
+    } else if let Some(message) = connection.unanswered() {
+        journal.unanswered(connection.name(), message, now);
+    }
+}
+
+/// Cuts off the connection in a place, if there is one, since the host ends.
+fn cut_off<'a, T: time::Clock, W: LogTarget, F: Sink>(
+    place: &mut Option<OpenConnection<'a, T>>,
+    journal: &mut Journal<'a, T, W>,
+    faults: &mut F,
+) {
+    if let Some(connection) = place.take() {
+        if !connection.is_parting() {
+            let ended = Err(connection.timed_out());
+            journal.closed(connection.name(), &ended, Ending::Stopped);
+            let _ = end_connection(ended, faults);
+        }
+    }
+}
+
 /// Whether a connection ended with a fault of its frames, which is counted.
-fn has_bad_frame<T: time::Clock, W: Sink>(
+fn has_bad_frame<T: time::Clock, W: LogTarget>(
     ended: &Result<(), FrontFault>,
     journal: &mut Journal<'_, T, W>,
 ) -> bool {
@@ -459,24 +570,26 @@ fn has_bad_frame<T: time::Clock, W: Sink>(
     is_bad
 }
 
-/// Closes the connection in a place, if it has its replies.
-fn close_if_answered<'a, T: time::Clock, W: Sink>(
+/// Parts with the connection in a place, if it has its replies: what it still sends is read away, or
+/// the system would throw away replies that it has yet to send.
+fn close_if_answered<'a, T: time::Clock, W: LogTarget>(
     place: &mut Option<OpenConnection<'a, T>>,
     journal: &mut Journal<'a, T, W>,
+    now: Option<Instant>,
 ) {
     let Some(connection) = place else {
         return;
     };
-    if connection.is_answering() {
+    if connection.is_answering() || connection.is_parting() {
         return;
     }
-    if !connection.is_parting() {
-        journal.closed(connection.name(), &Ok(()), false);
+    journal.closed(connection.name(), &Ok(()), Ending::Own);
+    if !connection.part(now) {
+        *place = None;
     }
-    *place = None;
 }
 
-impl<T: time::Clock, W: Sink + Drop> Gathering for TcpGathering<'_, T, W> {
+impl<T: time::Clock, W: LogTarget + Drop> Gathering for TcpGathering<'_, T, W> {
     fn serve_all<B: Book + Drop, C: Clock, I: Issuer, F: Sink>(
         &mut self,
         alloc: Global,
@@ -491,7 +604,7 @@ impl<T: time::Clock, W: Sink + Drop> Gathering for TcpGathering<'_, T, W> {
         for _ in 0..u64::MAX {
             if self.has_stopped() {
                 left = 0;
-                self.close_answered();
+                self.end_all(faults);
             }
             left -= self.admit(left, faults);
             if left == 0 && self.is_empty() && !self.is_answering() {
@@ -501,6 +614,7 @@ impl<T: time::Clock, W: Sink + Drop> Gathering for TcpGathering<'_, T, W> {
                 return Err(Fault::Read);
             }
             self.give_rounds(alloc, host, clock, issuer, faults)?;
+            self.look_at_waiting(alloc, host)?;
             self.give_control_rounds(alloc, host, clock, faults)?;
             self.make_room(faults);
         }

@@ -12,6 +12,8 @@ pub(crate) struct TimeLimits {
     pub(crate) frame: Option<Duration>,
     /// How long one may send or take nothing while another one waits for its place.
     pub(crate) idle_when_full: Option<Duration>,
+    /// How long one may be there once the host was asked to end.
+    pub(crate) stop: Option<Duration>,
 }
 
 impl TimeLimits {
@@ -21,6 +23,7 @@ impl TimeLimits {
             idle: limit_of(patience.idle),
             frame: limit_of(patience.frame_within),
             idle_when_full: limit_of(patience.idle_when_full),
+            stop: limit_of(patience.stop_within),
         }
     }
 }

@@ -28,6 +28,12 @@ impl<'a, T: time::Clock> TimedStream<'a, T> {
         self.frames.frame_began()
     }
 
+    /// When the last piece came, if one did and the time was known: so did the last byte of each
+    /// message that wasn't taken then.
+    pub(crate) fn last_came(&self) -> Option<Instant> {
+        self.frames.last_came()
+    }
+
     /// Ends the sending side.
     pub(crate) fn end_sending(&self) -> io::Result<()> {
         self.stream.shutdown(Shutdown::Write)

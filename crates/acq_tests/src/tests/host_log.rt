@@ -1,14 +1,13 @@
 //! Lines of a host's log: what stands in them of replies, of ends and of control connections.
 
 use super::clocks::Shown;
-use acq_front::FrontFault;
-use acq_link::WriteSink;
-use acq_tcp::{ConnectionName, HostLog};
+use acq_front::{FrontFault, Silence, Unanswered};
+use acq_tcp::{ConnectionName, Ending, HostLog, LogTarget};
 use day_totals::Day;
 use iso_codec::DecodeFault;
 use std::alloc::Global;
 use std::cell::RefCell;
-use std::io::{self, ErrorKind, Write};
+use std::io;
 use std::net::{Ipv4Addr, SocketAddr, SocketAddrV4};
 use std::test::Fail;
 use std::time::Duration;
@@ -29,30 +28,38 @@ const REPLIES: [&str; 4] = [
 MERCHANT0000001978",
 ];
 
-/// How connections ended, and whether for want of time.
-const ENDS: [(Option<FrontFault>, bool); 4] = [
-    (None, false),
+/// How connections ended.
+const ENDS: [(Option<FrontFault>, Ending); 5] = [
+    (None, Ending::Own),
     (
         Some(FrontFault::Undecodable(DecodeFault::UnknownElement(65))),
-        false,
+        Ending::Own,
     ),
-    (Some(FrontFault::Read), true),
-    (Some(FrontFault::Write(10)), false),
+    (Some(FrontFault::Read), Ending::Late),
+    (Some(FrontFault::Write(10)), Ending::Own),
+    (Some(FrontFault::Write(10)), Ending::Stopped),
+];
+
+/// Messages that get no reply.
+const SILENCES: [(&str, Silence); 3] = [
+    ("0600", Silence::Unserved),
+    ("0201", Silence::Waiting),
+    ("0200", Silence::Late),
 ];
 
 /// Their lines: of a card number the mask, unless it isn't valid or is short; of tracks nothing.
 const LINES: &str = "time=2026-11-27T01:02:03Z event=reply connection=7 peer=10.0.0.5:41234 \
 type=0210 merchant=MERCHANT0000001 terminal=TERM0001 trace=000001 \
-reference=000000000001 code=00 amount=1000 card=411111******1111 microseconds=153
+reference=000000000001 code=00 amount=1000 card=411111******1111 microseconds=153 total_microseconds=2000
 time=2026-11-27T01:02:03Z event=reply connection=7 peer=10.0.0.5:41234 \
 type=0210 merchant=\"\\\"SHOES\\\", BAGS 1\" terminal=\"TERM 2  \" trace=000002 \
-code=14 amount=0 microseconds=153
+code=14 amount=0 microseconds=153 total_microseconds=2000
 time=2026-11-27T01:02:03Z event=reply connection=7 peer=10.0.0.5:41234 \
 type=0210 merchant=MERCHANT0000001 terminal=TERM0001 trace=000003 \
-code=14 amount=1000 microseconds=153
+code=14 amount=1000 microseconds=153 total_microseconds=2000
 time=2026-11-27T01:02:03Z event=reply connection=7 peer=10.0.0.5:41234 \
 type=0210 merchant=MERCHANT0000001 terminal=TERM0001 trace=000004 \
-code=14 amount=1000 microseconds=153
+code=14 amount=1000 microseconds=153 total_microseconds=2000
 time=2026-11-27T01:02:03Z event=closed connection=7 peer=10.0.0.5:41234
 time=2026-11-27T01:02:03Z event=closed connection=7 peer=10.0.0.5:41234 \
 fault=52 reason=\"a frame spells no message: element 65 is not in the profile\"
@@ -60,39 +67,55 @@ time=2026-11-27T01:02:03Z event=closed connection=7 peer=10.0.0.5:41234 \
 fault=53 reason=\"it was silent, or took for a frame, too long\"
 time=2026-11-27T01:02:03Z event=closed connection=7 peer=10.0.0.5:41234 \
 fault=54 reason=\"a write failed\"
+time=2026-11-27T01:02:03Z event=closed connection=7 peer=10.0.0.5:41234 \
+fault=54 reason=\"the host ended\"
+time=2026-11-27T01:02:03Z event=unanswered connection=7 peer=10.0.0.5:41234 \
+type=0600 why=unserved
+time=2026-11-27T01:02:03Z event=unanswered connection=7 peer=10.0.0.5:41234 \
+type=0201 why=waiting
+time=2026-11-27T01:02:03Z event=unanswered connection=7 peer=10.0.0.5:41234 \
+type=0200 why=late
 ";
 
-/// A file that takes so many bytes, and then is full.
+/// A file that takes so many bytes, and then is full, until it is opened anew.
 #[derive(Drop)]
 struct File<'a> {
     taken: &'a RefCell<Vec<u8>>,
     room: usize,
 }
 
-impl Write for File<'_> {
-    fn write(&mut self, buf: &[u8]) -> io::Result<usize> {
-        let n = buf.len().min(self.room);
+impl LogTarget for File<'_> {
+    fn take(&mut self, line: &[u8]) -> usize {
+        let n = line.len().min(self.room);
         let Ok(mut taken) = self.taken.try_borrow_mut() else {
-            return Err(io::Error::from(ErrorKind::Other));
+            return 0;
         };
-        taken.extend_from_slice(&buf[..n])?;
+        if taken.extend_from_slice(&line[..n]).is_err() {
+            return 0;
+        }
         self.room -= n;
-        Ok(n)
+        n
     }
 
-    fn flush(&mut self) -> io::Result<()> {
+    fn reopen(&mut self) -> io::Result<()> {
+        self.room = usize::MAX;
         Ok(())
     }
 }
 
 /// A log in such a file.
-fn log_in(alloc: Global, taken: &RefCell<Vec<u8>>, room: usize) -> HostLog<WriteSink<File<'_>>> {
-    HostLog::new(alloc, WriteSink::new(File { taken, room }))
+fn log_in(alloc: Global, taken: &RefCell<Vec<u8>>, room: usize) -> HostLog<File<'_>> {
+    HostLog::new(alloc, File { taken, room })
 }
 
 /// How long the host took for each.
 fn took() -> Option<Duration> {
     Some(Duration::from_micros(153))
+}
+
+/// How long it is since the last byte of each message came.
+fn total() -> Option<Duration> {
+    Some(Duration::from_micros(2000))
 }
 
 /// A terminal's connection.
@@ -106,10 +129,14 @@ fn a_terminals_lines(rt: HostRuntime) {
     let taken = RefCell::new(Vec::new(rt.alloc()));
     let mut log = log_in(rt.alloc(), &taken, usize::MAX);
     for reply in REPLIES {
-        log.replied(&NOW, terminal(), reply.as_bytes(), took());
+        log.replied(&NOW, terminal(), reply.as_bytes(), took(), total());
     }
-    for (fault, is_late) in ENDS {
-        log.closed(&NOW, terminal(), fault, is_late);
+    for (fault, ending) in ENDS {
+        log.closed(&NOW, terminal(), fault, ending);
+    }
+    for (kind, why) in SILENCES {
+        let kind = kind_of(kind);
+        log.unanswered(&NOW, terminal(), Unanswered { kind, why });
     }
     drop(log);
     assert!(rt; taken.into_inner().as_slice() == LINES.as_bytes());
@@ -126,7 +153,7 @@ fn other_lines(rt: HostRuntime) -> Result<(), Fail> {
     log.opened(&unread, control);
     log.answered(&unread, control, "cutover", b"done\n", None);
     log.answered(&unread, control, "other", b"acqd: 62 BadLine 2\n", took());
-    log.replied(&unread, control, b"0210", took());
+    log.replied(&unread, control, b"0210", took(), None);
     drop(log);
     let want = b"time=2026-11-27T01:02:03Z event=listening day=2026-11-27
 event=opened connection=control-3
@@ -137,7 +164,7 @@ event=line connection=control-3 word=other fault=62 microseconds=153
     Ok(())
 }
 
-/// A file takes a piece of a line: nothing else comes of it.
+/// A file takes a piece of a line, and then none: they are counted, and told once there is room.
 #[test]
 fn a_full_file(rt: HostRuntime) {
     let alloc = rt.alloc();
@@ -145,9 +172,51 @@ fn a_full_file(rt: HostRuntime) {
     let mut log = log_in(alloc, &taken, 50);
     let (unread, control) = (Shown(None), ConnectionName::Control(1));
     log.opened(&unread, control);
-    log.closed(&unread, control, None, false);
-    log.closed(&unread, control, None, false);
+    log.closed(&unread, control, None, Ending::Own);
+    log.closed(&unread, control, None, Ending::Own);
+    assert!(rt; log.lost() == 2);
+    assert!(rt; log.reopen(&unread).is_ok());
+    assert!(rt; log.lost() == 2);
     drop(log);
-    let want = b"event=opened connection=control-1\nevent=closed con";
+    let want = b"event=opened connection=control-1\nevent=closed con\nevent=lost lines=2
+event=reopened
+";
     assert!(rt; taken.into_inner().as_slice() == want.as_slice());
+}
+
+/// Of connections that begin, a second has a hundred lines; the next one says how many were left out.
+#[test]
+fn lines_of_a_flood(rt: HostRuntime) {
+    let alloc = rt.alloc();
+    let taken = RefCell::new(Vec::new(alloc));
+    let mut log = log_in(alloc, &taken, usize::MAX);
+    let control = ConnectionName::Control(1);
+    for _ in 0..250_u32 {
+        log.opened(&NOW, control);
+    }
+    let first = lines_in(&taken);
+    log.closed(&Shown(Some(1_795_741_324)), control, None, Ending::Own);
+    drop(log);
+    assert!(rt; first == 100);
+    let taken = taken.into_inner();
+    let want = b"time=2026-11-27T01:02:04Z event=left-out opened=150 echoes=0 refused=0
+time=2026-11-27T01:02:04Z event=closed connection=control-1
+";
+    assert!(rt; taken.as_slice().ends_with(want));
+}
+
+/// How many lines were taken.
+fn lines_in(taken: &RefCell<Vec<u8>>) -> usize {
+    match taken.try_borrow() {
+        Ok(taken) => taken.iter().filter(|byte| **byte == b'\n').count(),
+        Err(_) => 0,
+    }
+}
+
+/// A message's type.
+fn kind_of(kind: &str) -> [u8; 4] {
+    match kind.as_bytes() {
+        [first, second, third, fourth] => [*first, *second, *third, *fourth],
+        _ => [0; 4],
+    }
 }

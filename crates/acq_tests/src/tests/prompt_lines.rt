@@ -6,7 +6,7 @@ use std::io;
 use std::io::{ErrorKind, Write};
 use std::test::Fail;
 
-/// A writer that takes all, and says that it is ready while that is set.
+/// A writer that takes all, and lines at once while that is set.
 #[derive(Drop)]
 struct Pipe<'a> {
     taken: &'a RefCell<Vec<u8>>,
@@ -28,8 +28,12 @@ impl Write for Pipe<'_> {
 }
 
 impl Outlet for Pipe<'_> {
-    fn is_ready(&mut self) -> bool {
-        self.is_ready.get()
+    fn write_at_once(&mut self, line: &[u8]) -> io::Result<usize> {
+        if self.is_ready.get() {
+            self.write(line)
+        } else {
+            Err(io::Error::from(ErrorKind::WouldBlock))
+        }
     }
 }
 

@@ -3,7 +3,7 @@ use Rattle.acq_front.specs.Stops.{left_of}
 use Rattle.acq_front.proofs.StopsLeave.{none_stop}
 use Rattle.acq_front.proofs.Turned.{tells_on}
 use Rattle.acq_control.specs.declared.control_round.ControlRound.{ControlRound}
-use Rattle.acq_control.specs.declared.control_round.ControlRound.TheVariants.{Ended, GoesOn, Stops}
+use Rattle.acq_control.specs.declared.control_round.ControlRound.TheVariants.{Ended, GoesOn, Took}
 use Rattle.acq_control.specs.declared.control_round.ControlRound.TheVariants.{Waits}
 use Rattle.acq_tcp.proofs.Reaching.{control_ends, control_reaches, reached_still, reaches_none}
 use Rattle.acq_tcp.proofs.Reaching.{tells_late}
@@ -24,10 +24,11 @@ returns-in-Ok-GoesOn-clause-reaches g c = λ h o.
     control_reaches (g.C.Clock.may_give c.args.clock.now) c.args.serving (g.B.Book.tables c.args.host.now)
     (left_of g.B.Book c.round.new.host) _ _ GoesOn (rw c.in-Ok-GoesOn.field-0-is at (c.in-Ok-GoesOn.ensures.goes h o))
 
-pub returns-in-Ok-Stops-clause-reaches : goal.returns-in-Ok-Stops-clause-reaches
-returns-in-Ok-Stops-clause-reaches g c = λ h o.
+pub returns-in-Ok-Took-clause-reaches : goal.returns-in-Ok-Took-clause-reaches
+returns-in-Ok-Took-clause-reaches g c = λ h o.
     control_reaches (g.C.Clock.may_give c.args.clock.now) c.args.serving (g.B.Book.tables c.args.host.now)
-    (left_of g.B.Book c.round.new.host) _ _ Stops (rw c.in-Ok-Stops.field-0-is at (c.in-Ok-Stops.ensures.goes h o))
+    (left_of g.B.Book c.round.new.host) _ _ (Took c.in-Ok-Took.wish)
+    (rw c.in-Ok-Took.field-0-is at (c.in-Ok-Took.ensures.goes h o))
 
 pub returns-in-Ok-Waits-clause-reaches : goal.returns-in-Ok-Waits-clause-reaches
 returns-in-Ok-Waits-clause-reaches g c = λ h o.

@@ -34,54 +34,100 @@ returns-in_err-give_rounds g c = record {
       (λ no h o. no h (inv.0 (one.was_honest h) o).1) one.store);
 }
 
-pub returns-in_err-give_control_rounds : goal.returns-in_err-give_control_rounds
-returns-in_err-give_control_rounds g c = record {
+pub returns-in_err-look_at_waiting : goal.returns-in_err-look_at_waiting
+returns-in_err-look_at_waiting g c = record {
   reaches = λ h o.
       let inv = c.loop.invariant in
       let one = c.in_ok-give_rounds.ensures in
-      let two = c.in_err-give_control_rounds.ensures in
+      let two = c.in_err-look_at_waiting.ensures in
       let was = two.was_honest h in
       let before = inv.0 (one.was_honest was) o in
-      let p = err_from_is_err_and c.from_residual-in_err-give_control_rounds.result
-      c.from_residual-in_err-give_control_rounds.ensures.1 in
+      let p = err_from_is_err_and c.from_residual-in_err-look_at_waiting.result
+      c.from_residual-in_err-look_at_waiting.ensures.1 in
       rw (p.1, p.2)
       (refused_on (g.B.Book.tables c.args.host.now) (left_of g.B.Book c.give_rounds.new.host)
-      (left_of g.B.Book c.give_control_rounds.new.host)
-      c.in_err-give_control_rounds.field-0.0
+      (left_of g.B.Book c.look_at_waiting.new.host)
+      c.in_err-look_at_waiting.field-0.0
       (reached_on (g.B.Book.tables c.args.host.now) (left_of g.B.Book c.loop.host)
       (left_of g.B.Book c.give_rounds.new.host) before.0 (one.reaches was before.1))
       (two.reaches h (one.stays_open was before.1)));
   store =
       let inv = c.loop.invariant in
       let one = c.in_ok-give_rounds.ensures in
-      let two = c.in_err-give_control_rounds.ensures in
-      let p = err_from_is_err_and c.from_residual-in_err-give_control_rounds.result
-      c.from_residual-in_err-give_control_rounds.ensures.1 in
-      rw (p.1, p.2) (tells_later (Err c.in_err-give_control_rounds.field-0.0) _ _ _
+      let two = c.in_err-look_at_waiting.ensures in
+      let p = err_from_is_err_and c.from_residual-in_err-look_at_waiting.result
+      c.from_residual-in_err-look_at_waiting.ensures.1 in
+      rw (p.1, p.2) (tells_later (Err c.in_err-look_at_waiting.field-0.0) _ _ _
       (one.store ∙ inv.2)
       (λ no h o.
       let was = two.was_honest h in
       no h (one.stays_open was (inv.0 (one.was_honest was) o).1)) two.store);
 }
 
+pub returns-in_err-give_control_rounds : goal.returns-in_err-give_control_rounds
+returns-in_err-give_control_rounds g c = record {
+  reaches = λ h o.
+      let inv = c.loop.invariant in
+      let one = c.in_ok-give_rounds.ensures in
+      let two = c.in_ok-look_at_waiting.ensures in
+      let three = c.in_err-give_control_rounds.ensures in
+      let looked = three.was_honest h in
+      let was = two.was_honest looked in
+      let before = inv.0 (one.was_honest was) o in
+      let mid = one.stays_open was before.1 in
+      let p = err_from_is_err_and c.from_residual-in_err-give_control_rounds.result
+      c.from_residual-in_err-give_control_rounds.ensures.1 in
+      rw (p.1, p.2)
+      (refused_on (g.B.Book.tables c.args.host.now) (left_of g.B.Book c.look_at_waiting.new.host)
+      (left_of g.B.Book c.give_control_rounds.new.host)
+      c.in_err-give_control_rounds.field-0.0
+      (reached_on (g.B.Book.tables c.args.host.now) (left_of g.B.Book c.give_rounds.new.host)
+      (left_of g.B.Book c.look_at_waiting.new.host)
+      (reached_on (g.B.Book.tables c.args.host.now) (left_of g.B.Book c.loop.host)
+      (left_of g.B.Book c.give_rounds.new.host) before.0 (one.reaches was before.1))
+      (two.reaches looked mid))
+      (three.reaches h (two.stays_open looked mid)));
+  store =
+      let inv = c.loop.invariant in
+      let one = c.in_ok-give_rounds.ensures in
+      let two = c.in_ok-look_at_waiting.ensures in
+      let three = c.in_err-give_control_rounds.ensures in
+      let p = err_from_is_err_and c.from_residual-in_err-give_control_rounds.result
+      c.from_residual-in_err-give_control_rounds.ensures.1 in
+      rw (p.1, p.2) (tells_later (Err c.in_err-give_control_rounds.field-0.0) _ _ _
+      (two.store ∙ one.store ∙ inv.2)
+      (λ no h o.
+      let looked = three.was_honest h in
+      let was = two.was_honest looked in
+      no h (two.stays_open looked (one.stays_open was (inv.0 (one.was_honest was) o).1)))
+      three.store);
+}
+
 pub loop-preserved : goal.loop-preserved
 loop-preserved g c =
     let inv = c.loop.invariant in
     let one = c.in_ok-give_rounds.ensures in
-    let two = c.in_ok-give_control_rounds.ensures in (
+    let two = c.in_ok-look_at_waiting.ensures in
+    let three = c.in_ok-give_control_rounds.ensures in (
       (λ h o.
-          let was = two.was_honest h in
+          let looked = three.was_honest h in
+          let was = two.was_honest looked in
           let before = inv.0 (one.was_honest was) o in
-          let mid = one.stays_open was before.1 in (
-            reached_on (g.B.Book.tables c.args.host.now) (left_of g.B.Book c.give_rounds.new.host)
+          let mid = one.stays_open was before.1 in
+          let behind = two.stays_open looked mid in (
+            reached_on (g.B.Book.tables c.args.host.now) (left_of g.B.Book c.look_at_waiting.new.host)
                 (left_of g.B.Book c.give_control_rounds.new.host)
+                (reached_on (g.B.Book.tables c.args.host.now)
+                (left_of g.B.Book c.give_rounds.new.host)
+                (left_of g.B.Book c.look_at_waiting.new.host)
                 (reached_on (g.B.Book.tables c.args.host.now) (left_of g.B.Book c.loop.host)
                 (left_of g.B.Book c.give_rounds.new.host) before.0 (one.reaches was before.1))
-                (two.reaches h mid),
-            two.stays_open h mid,
+                (two.reaches looked mid))
+                (three.reaches h behind),
+            three.stays_open h behind,
           )),
-      (λ h. inv.1 (one.was_honest (two.was_honest h))),
-      two.store ∙ one.store ∙ inv.2,
+      (λ h. inv.1 (one.was_honest (two.was_honest (three.was_honest h)))),
+      three.store ∙ two.store ∙ one.store ∙ inv.2,
     )
 
 pub loop-init : goal.loop-init

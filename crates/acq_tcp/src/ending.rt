@@ -1,0 +1,12 @@
+//! What ends a connection that didn't end by itself.
+
+/// What ends a connection.
+#[derive(Clone, Copy, PartialEq, Eq)]
+pub enum Ending {
+    /// What came over it, or what its line said.
+    Own,
+    /// It took too long.
+    Late,
+    /// The host ended.
+    Stopped,
+}
