@@ -1,12 +1,10 @@
 //! The files of a book as they stand before it is opened: the book and, beside it, its log.
 
+use crate::book_signs::may_hold_book;
 use acq_sql::OpeningFault;
-use std::fs::{self, OpenOptions, Permissions};
+use std::fs::{self, Permissions};
 use std::io::{self, ErrorKind, IsTerminal};
-use std::os::unix::fs::{OpenOptionsExt, PermissionsExt};
-
-/// The permissions of a new book: card numbers stand in it, so it is its owner's alone.
-const OWNERS_ALONE: u32 = 0o600;
+use std::os::unix::fs::PermissionsExt;
 
 /// The permissions of others than the owner.
 const OF_OTHERS: u32 = 0o077;
@@ -14,17 +12,15 @@ const OF_OTHERS: u32 = 0o077;
 /// The bits of a mode that are permissions.
 const PERMISSIONS: u32 = 0o777;
 
-/// The least that a database takes: its first page.
-const LEAST_PAGE: u64 = 512;
-
 /// Looks whether there may be a book in the file at a path, and makes nothing. Where the file is
-/// away, or empty, there is none, and the log that may stand beside it is left as it is: the file
-/// may come back, and the log is a part of it. Then the log gets the permissions of the file.
+/// away, or empty, or holds something else, there is none, and it and the log that may stand beside
+/// it are left as they are: the file may come back, and the log is a part of it. Then the log gets
+/// the permissions of the file.
 pub(crate) fn find_book(rt: &HostRuntime, path: &str) -> Result<(), OpeningFault> {
-    if size_of(rt, path) == Some(0) {
+    let log = log_of(rt, path)?;
+    if !may_hold_book(rt, path, log.as_str())? {
         return Err(OpeningFault::NotABook);
     }
-    let log = log_of(rt, path)?;
     if let Ok(mode) = mode_of(rt, path) {
         guard_log(rt, log.as_str(), mode);
         tell_of_others(rt, path, mode);
@@ -32,29 +28,10 @@ pub(crate) fn find_book(rt: &HostRuntime, path: &str) -> Result<(), OpeningFault
     Ok(())
 }
 
-/// Makes an empty file for a new book, which its owner alone may read, where there is none. Where a
-/// log stands there without its book, or what is no database, that is left as it is.
-pub(crate) fn make_room(rt: &HostRuntime, path: &str) -> Result<(), OpeningFault> {
-    let log = log_of(rt, path)?;
-    match size_of(rt, path) {
-        Some(0) if size_of(rt, log.as_str()) != Some(0) => Err(OpeningFault::NotABook),
-        Some(0) => {
-            // Where it can't be made, the open says so.
-            let _ = OpenOptions::new()
-                .write(true)
-                .create_new(true)
-                .mode(OWNERS_ALONE)
-                .open(rt, path);
-            Ok(())
-        }
-        Some(size) if size < LEAST_PAGE => Err(OpeningFault::NotABook),
-        _ => Ok(()),
-    }
-}
-
-/// The size of the file at a path, 0 where there is none, where the system tells it.
-fn size_of(rt: &HostRuntime, path: &str) -> Option<u64> {
+/// The size of the file at a path, 0 where there is none, where the system tells it. A folder has none.
+pub(crate) fn size_of(rt: &HostRuntime, path: &str) -> Option<u64> {
     match fs::metadata(rt, path) {
+        Ok(found) if found.is_dir() => None,
         Ok(found) => Some(found.len()),
         Err(fault) if fault.kind() == ErrorKind::NotFound => Some(0),
         Err(_) => None,
@@ -62,7 +39,7 @@ fn size_of(rt: &HostRuntime, path: &str) -> Option<u64> {
 }
 
 /// The path of the log, which lies beside the book where a link leads.
-fn log_of(rt: &HostRuntime, path: &str) -> Result<String, OpeningFault> {
+pub(crate) fn log_of(rt: &HostRuntime, path: &str) -> Result<String, OpeningFault> {
     let log = match fs::canonicalize(rt, path) {
         Ok(real) => format!(in rt.alloc(); "{}-wal", real.as_str()),
         Err(_) => format!(in rt.alloc(); "{path}-wal"),

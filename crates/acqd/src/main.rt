@@ -4,11 +4,17 @@
 
 ghost use Rattle.std.specs.Prelude.{◌≤◌};
 
+mod apart;
+mod at_once;
 mod book_files;
+mod book_signs;
 mod control_socket;
+mod host_line;
 mod log_output;
+mod new_book_file;
 mod no_book;
 mod open_book;
+mod signs;
 mod standard_descriptors;
 mod standard_error;
 mod stopped_runs;
@@ -21,11 +27,11 @@ use acq_program::{Machine, command, memory_fault, read_fault, utf8_fault};
 use acq_sql::SqlBook;
 pub use no_book::NoBook;
 pub use open_book::{make_book, migrate_book, open_book};
+pub use signs::Signs;
 use sqlite::Alter;
 use sqlite_disk::{Start, Unknown};
 use standard_descriptors::take_closed;
 use standard_error::StandardError;
-use std::cell::Cell;
 use std::env::{Env, FillError};
 use std::hash::RandomState;
 use std::io::IsTerminal;
@@ -46,12 +52,12 @@ fn main(rt: HostRuntime) -> ExitCode {
 fn run<D: Start>(rt: &HostRuntime, start: D) -> u8 {
     let terminal = rt.stderr();
     let terminal = terminal.is_terminal().then_some(terminal);
-    let listens = Cell::new(false);
-    let faults = PromptLines::new(rt.alloc(), StandardError::new(rt), &listens);
+    let signs = Signs::new();
+    let faults = PromptLines::new(rt.alloc(), StandardError::new(rt), &signs.listens);
     run_over_files(
         rt,
         start,
-        &listens,
+        &signs,
         &mut ReadSource::new(rt.stdin()),
         &mut WriteSink::new(rt.stdout()),
         &mut WriteSink::new(faults),
@@ -64,7 +70,7 @@ fn run<D: Start>(rt: &HostRuntime, start: D) -> u8 {
 fn run_over_files<D: Start, S: Source, K: Sink, F: Sink, P: Progress>(
     rt: &HostRuntime,
     start: D,
-    listens: &Cell<bool>,
+    signs: &Signs,
     input: &mut S,
     output: &mut K,
     faults: &mut F,
@@ -72,7 +78,7 @@ fn run_over_files<D: Start, S: Source, K: Sink, F: Sink, P: Progress>(
 ) -> u8
     ensures { result ≤ 3 }
 {
-    let machine = ThisMachine::new(rt, start, listens);
+    let machine = ThisMachine::new(rt, start, signs);
     run_over_store(rt, machine, input, output, faults, progress)
 }
 

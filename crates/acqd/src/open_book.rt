@@ -1,6 +1,6 @@
 //! Books in files.
 
-ghost use Rattle.std.specs.Prelude.{◌≡◌, ◌≢◌, ◌↔◌, IfErr, IfOk, IfSome, None, false};
+ghost use Rattle.std.specs.Prelude.{◌≡◌, ◌≢◌, ◌↔◌, ℕ, IfErr, IfOk, IfSome, None, false};
 ghost use Rattle.sqlite_wal.specs.Files.{image_at};
 ghost use Rattle.sqlite.specs.Files.{IsOpened, file_state};
 ghost use Rattle.sqlite.specs.Held.{state};
@@ -12,7 +12,7 @@ ghost use Rattle.acq_core.specs.Tables.{Tables, new_tables};
 ghost use Rattle.acq_core.specs.Widening.{widened_tables};
 ghost use Rattle.acq_sql_rows.specs.Rows.{version_of_six_digits};
 ghost use Rattle.acq_sql_rows.specs.Schema.{no_schema};
-ghost use Rattle.acq_sql_changes.specs.Changed.{HoldsAfter};
+ghost use Rattle.acq_sql_changes.specs.Changed.{HoldsAfter, IsAtOf};
 ghost use Rattle.acq_sql.specs.Checked.{IsFailure};
 ghost use Rattle.acq_sql.specs.Files.{FilesHold, FilesHoldOf};
 ghost use Rattle.acq_sql.specs.Memos.{nothing_recalled};
@@ -20,11 +20,10 @@ ghost use Rattle.acq_sql.specs.Migrated.{IsOfSixDigits};
 ghost use Rattle.acq_sql.specs.Opened.{IsOpenAt, IsRoomy};
 ghost use Rattle.acq_sql.specs.declared.opening.opening_fault.OpeningFault.TheVariants.{NotABook};
 
-use crate::book_files::make_room;
 use crate::no_book::NoBook;
 use acq_core::Limit;
-use acq_sql::opening::{an_open_finds_a_book_of_any_version, an_open_finds_the_book};
-use acq_sql::{OpeningFault, SqlBook};
+use acq_sql::opening::{an_open_finds_a_book_of_any_version, an_open_finds_the_book, put_in_order};
+use acq_sql::{OpeningFault, Refusal, SqlBook};
 use day_totals::Day;
 use sqlite::{Alter, Connection};
 use sqlite_disk::Start;
@@ -34,7 +33,8 @@ use std::alloc::Global;
 
 /// Opens the book in the file at a path and its log, of which `D` says what they hold before it.
 /// Where they hold a book, this is it, at the tables that the last whole change led to, and only
-/// memory or the store can be in the way. Called where `find_book` found that there may be one.
+/// memory or the store can be in the way. A book whose tables stand in another order is put in
+/// order. Called where `find_book` found that there may be one.
 pub fn open_book<D: Start>(
     rt: &HostRuntime,
     path: &str,
@@ -53,15 +53,18 @@ pub fn open_book<D: Start>(
         Err(fault) => return Err(NoBook::unopened(fault)),
     };
     an_open_finds_the_book(&connection);
-    match SqlBook::adopt(rt.alloc(), connection) {
+    let ordered = match in_order(rt.alloc(), connection) {
+        Ok(ordered) => ordered,
+        Err(refusal) => return Err(NoBook::refused(refusal)),
+    };
+    match SqlBook::adopt(rt.alloc(), ordered) {
         Ok(book) => Ok(book),
         Err(refusal) => Err(NoBook::refused(refusal)),
     }
 }
 
-/// Makes a new book in the file at a path, which its owner alone may read. A file that holds a
-/// book, or anything else that isn't empty, is left as it is, and so is a log that stands there
-/// without its book.
+/// Makes a new book in the file at a path, which is empty, and its log. A database that has tables
+/// is left as it is.
 pub fn make_book<D: Start>(
     rt: &HostRuntime,
     path: &str,
@@ -76,7 +79,6 @@ pub fn make_book<D: Start>(
         → IsRoomy (file_state book.connection)) }
     ensures recalls { IfOk result (λ book. book.memo ≡ nothing_recalled) }
 {
-    make_room(rt, path)?;
     let connection = connect(rt, path, start)?;
     match created(rt.alloc(), connection, limit, first_day) {
         Ok(book) => Ok(book),
@@ -99,7 +101,11 @@ pub fn migrate_book<D: Start>(
 {
     let connection = connect(rt, path, start)?;
     an_open_finds_a_book_of_any_version(&connection);
-    match migrated(rt.alloc(), connection) {
+    let ordered = match in_order(rt.alloc(), connection) {
+        Ok(ordered) => ordered,
+        Err(refusal) => return Err(refusal.fault),
+    };
+    match migrated(rt.alloc(), ordered) {
         Ok(book) => Ok(book),
         Err(fault) => Err(fault),
     }
@@ -128,6 +134,29 @@ fn created<S: Alter + Drop>(
     match SqlBook::create(alloc, connection, limit, first_day) {
         Ok(book) => Ok(book),
         Err(refusal) => Err(refusal.fault),
+    }
+}
+
+/// A database whose tables are put in order, if they are a book's and stand in another one.
+fn in_order<S: Alter>(
+    alloc: Global,
+    mut connection: Connection<S>,
+) -> Result<Connection<S>, Refusal<S>>
+    requires settled { connection.in_transaction ≡ false }
+    ensures settled { IfOk result (λ ordered. ordered.in_transaction ≡ false) }
+    // A book in order stays as it is.
+    ensures at { IfOk result (λ ordered. (version : ℕ) (t : Tables)
+        → IsAtOf version (state S.Store connection) t
+        → IsAtOf version (state S.Store ordered) t) }
+    ensures clean { IfOk result (λ ordered. HasCleanDisk (state S.Store ordered)
+        → HasCleanDisk (state S.Store connection)) }
+    ensures limit { IfOk result (λ ordered. (state S.Store ordered).step_limit
+        ≡ (state S.Store connection).step_limit) }
+    ensures failure { IfErr result (λ refusal. IsFailure refusal.fault) }
+{
+    match put_in_order(&mut connection, alloc) {
+        Ok(()) => Ok(connection),
+        Err(fault) => Err(Refusal { fault, connection }),
     }
 }
 
