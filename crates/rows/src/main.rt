@@ -1,35 +1,24 @@
 //! `rows`: runs files of rows, each of which a person reads and adds to, and says where what comes
 //! is not what a row says.
 //!
-//! A file is of one of three kinds, by the end of its name: scenarios are events and what the host
-//! says to each, command lines are runs of `acqd`, and tables are texts and what they read as. A
-//! row of any kind stands on a line of its own, and `#` begins a line that says why.
+//! A file is of one of two kinds, by the end of its name: scenarios are events and what the host says
+//! to each, over files that stop, and tables are texts and what they read as. A row of any kind stands
+//! on a line of its own, and `#` begins a line that says why. What the built program can be asked is
+//! played over that one, by `tests/rows/play.py`.
 #![tactic(auto)]
 
 mod asked;
 mod book_at_hand;
-mod book_openings;
 mod books_in_files;
 mod calls;
-mod command_file;
-mod command_run;
-mod connections_at_hand;
-mod counted;
 mod escapes;
-mod events_of_another;
-mod expected_text;
 mod files_of;
 mod findings;
 mod in_memory;
 mod in_sql;
-mod machine_at_hand;
-mod machine_terms;
 mod migrated;
-mod no_gathering;
-mod refusal;
 mod report_asked;
 mod row_fault;
-mod running_commands;
 mod running_migrations;
 mod running_scenarios;
 mod running_stops;
@@ -41,7 +30,6 @@ mod store_at_hand;
 mod table_file;
 mod tables;
 
-use command_file::run_commands;
 use findings::Findings;
 use in_memory::InMemory;
 use row_fault::RowFault;
@@ -86,12 +74,12 @@ fn run_file(rt: &HostRuntime, name: &str) -> io::Result<bool> {
     let mut findings = Findings::new(rt.alloc());
     let ended = run_rows(rt, name, text.as_str(), &mut findings);
     match ended {
-        Ok(()) if findings.is_empty() => {
-            println!(rt; "{name}: as written")?;
+        Ok(rows) if findings.is_empty() => {
+            println!(rt; "{name}, rows {rows}: as written")?;
             Ok(true)
         }
-        Ok(()) => {
-            println!(rt; "{name}: differs")?;
+        Ok(rows) => {
+            println!(rt; "{name}, rows {rows}: differs")?;
             rt.print(findings.as_str())?;
             Ok(false)
         }
@@ -102,13 +90,13 @@ fn run_file(rt: &HostRuntime, name: &str) -> io::Result<bool> {
     }
 }
 
-/// Runs the rows of a text, of the kind that the file's name says.
+/// Runs the rows of a text, of the kind that the file's name says, and returns how many there are.
 fn run_rows(
     rt: &HostRuntime,
     name: &str,
     text: &str,
     findings: &mut Findings,
-) -> Result<(), RowFault> {
+) -> Result<usize, RowFault> {
     if name.ends_with(".scenarios") {
         run_scenarios::<MemStore, FileStore<Fuse<Memory>>, InMemory, HostRuntime>(
             rt,
@@ -116,10 +104,8 @@ fn run_rows(
             text,
             findings,
         )
-    } else if name.ends_with(".commands") {
-        run_commands(rt, rt.alloc(), text, findings)
     } else if name.ends_with(".table") {
-        run_table::<MemStore>(rt.alloc(), text, findings)
+        run_table(rt.alloc(), text, findings)
     } else {
         Err(RowFault::OtherKind)
     }

@@ -19,8 +19,8 @@ pub enum RowFault {
     OtherKind,
     /// The file has no row.
     Empty,
-    /// Files that stop did so at this number of calls alone.
-    FewStops(u64),
+    /// Files that stop did so at fewer calls than the row says.
+    FewStops,
     /// Files that stop never suffice for the whole scenario.
     NeverWhole,
     /// A book was migrated twice.
@@ -34,9 +34,9 @@ impl fmt::Display for RowFault {
             RowFault::Keys => f.write_str("no random keys"),
             RowFault::Book => f.write_str("no book"),
             RowFault::Malformed(line) => write!(f, "line {line} is no row"),
-            RowFault::OtherKind => f.write_str("not scenarios, commands or a table"),
+            RowFault::OtherKind => f.write_str("not scenarios or a table"),
             RowFault::Empty => f.write_str("no row"),
-            RowFault::FewStops(stops) => write!(f, "files stopped at {stops} calls alone"),
+            RowFault::FewStops => f.write_str("files stopped at fewer calls"),
             RowFault::NeverWhole => f.write_str("files that stop never sufficed"),
             RowFault::MigratedTwice => f.write_str("a book was migrated twice"),
         }

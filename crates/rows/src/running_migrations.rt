@@ -97,7 +97,7 @@ fn stop_in_turn<B: Book + Drop, F: BooksInFiles<B>>(
         match migrate_until_stop::<B, F>(alloc, files, later, findings)? {
             None => {}
             Some(false) => stops = stops.saturating_add(1),
-            Some(true) if stops < least => return Err(RowFault::FewStops(stops)),
+            Some(true) if stops < least => return Err(RowFault::FewStops),
             Some(true) => return Ok(()),
         }
     }

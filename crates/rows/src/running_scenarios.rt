@@ -1,10 +1,8 @@
-//! Scenarios over each book: in memory; in SQL; in SQL and taken again before each event; and where
-//! a scenario says so, among another merchant's events, over files that stop, or with a book that is
-//! migrated.
+//! Scenarios over files that stop, or with a book that is migrated, where they say so; the others over
+//! each book: in memory; in SQL; in SQL and taken again before each event.
 
 use crate::book_at_hand::BookAtHand;
 use crate::books_in_files::BooksInFiles;
-use crate::events_of_another::lot_of_another;
 use crate::files_of::FilesOf;
 use crate::findings::Findings;
 use crate::in_sql::InSql;
@@ -17,27 +15,25 @@ use crate::scenario_file::ScenarioFile;
 use crate::step::Step;
 use crate::store_at_hand::StoreAtHand;
 use acq_book::{Book, BookFault, ListBook};
-use acq_commands::{Fault, TextSink};
 use acq_core::Event;
 use acq_host::Host;
-use acq_link::MemorySink;
+use acq_link::{MemorySink, write_out};
 use acq_out::write_output;
 use acq_reports::ReportFault;
 use acq_sql::SqlBook;
 use sqlite::{Alter, Connection};
 use std::alloc::Global;
-use std::fmt::Write;
 use std::hash::RandomState;
 use std::random::RandomSource;
 
 /// Runs all scenarios of a file, over books in memory and in SQL, and over files that `O` opens as a
-/// store `T`.
+/// store `T`; and returns how many there are.
 pub fn run_scenarios<S: StoreAtHand, T: Alter + Drop, O: FilesOf<Connection<T>>, R: RandomSource>(
     rt: &R,
     alloc: Global,
     text: &str,
     findings: &mut Findings,
-) -> Result<(), RowFault> {
+) -> Result<usize, RowFault> {
     run_all::<SqlBook<S>, SqlBook<T>, InSql<T, O>, R>(rt, alloc, text, findings)
 }
 
@@ -47,20 +43,23 @@ fn run_all<B: BookAtHand, K: Book + Drop, F: BooksInFiles<K>, R: RandomSource>(
     alloc: Global,
     text: &str,
     findings: &mut Findings,
-) -> Result<(), RowFault> {
+) -> Result<usize, RowFault> {
     let file = ScenarioFile::read(alloc, text)?;
     if file.scenarios.is_empty() {
         return Err(RowFault::Empty);
     }
+    let setup = file.setup.steps.as_slice();
     for scenario in file.scenarios.as_slice() {
-        let setup = file.setup.steps.as_slice();
-        run_over_books::<B, R>(rt, alloc, setup, scenario, findings)?;
-        run_over_files::<K, F>(alloc, setup, scenario, findings)?;
-        if let Some(sales) = scenario.others {
-            run_among::<B, R>(rt, alloc, setup, scenario, sales, findings)?;
+        match (scenario.migrated, scenario.stops) {
+            (Some(before), stops) => {
+                let least = stops.unwrap_or(0);
+                run_migrated::<K, F>(alloc, setup, scenario, before, least, findings)?;
+            }
+            (None, Some(least)) => run_stopping::<K, F>(alloc, setup, scenario, least, findings)?,
+            (None, None) => run_over_books::<B, R>(rt, alloc, setup, scenario, findings)?,
         }
     }
-    Ok(())
+    Ok(file.scenarios.len())
 }
 
 /// Runs a scenario over each book.
@@ -90,53 +89,6 @@ fn run_over_books<B: BookAtHand, R: RandomSource>(
     )?;
     findings.set_book(", in SQL, taken again before each event");
     run_again_on::<B>(alloc, setup, scenario, findings)
-}
-
-/// Runs a scenario whose book is migrated, or over files that stop, where it says so.
-fn run_over_files<B: Book + Drop, F: BooksInFiles<B>>(
-    alloc: Global,
-    setup: &[Step],
-    scenario: &Scenario,
-    findings: &mut Findings,
-) -> Result<(), RowFault> {
-    match (scenario.migrated, scenario.stops) {
-        (Some(before), stops) => {
-            let least = stops.unwrap_or(0);
-            run_migrated::<B, F>(alloc, setup, scenario, before, least, findings)
-        }
-        (None, Some(least)) => run_stopping::<B, F>(alloc, setup, scenario, least, findings),
-        (None, None) => Ok(()),
-    }
-}
-
-/// Runs a scenario among another merchant's events, over a book in memory and over one in SQL.
-fn run_among<B: BookAtHand, R: RandomSource>(
-    rt: &R,
-    alloc: Global,
-    setup: &[Step],
-    scenario: &Scenario,
-    sales: u64,
-    findings: &mut Findings,
-) -> Result<(), RowFault> {
-    findings.set_book(", in memory, among another merchant's events");
-    let keys = RandomState::new(rt)?;
-    run_among_on(
-        alloc,
-        host_in_memory(alloc, keys, scenario),
-        setup,
-        scenario.steps.as_slice(),
-        sales,
-        findings,
-    )?;
-    findings.set_book(", in SQL, among another merchant's events");
-    run_among_on(
-        alloc,
-        new_host::<B>(alloc, scenario)?,
-        setup,
-        scenario.steps.as_slice(),
-        sales,
-        findings,
-    )
 }
 
 /// A host over a new book in memory.
@@ -190,19 +142,6 @@ fn run_again_on<B: BookAtHand>(
     ask(alloc, host, scenario.reports.as_slice(), findings)
 }
 
-/// Runs steps over a host among another merchant's events, and gives it back.
-fn run_among_on<B: Book + Drop>(
-    alloc: Global,
-    mut host: Host<B>,
-    setup: &[Step],
-    steps: &[Step],
-    sales: u64,
-    findings: &mut Findings,
-) -> Result<(), RowFault> {
-    take_steps(alloc, &mut host, setup, findings)?;
-    take_among(alloc, &mut host, steps, sales, findings)
-}
-
 /// Takes steps, and compares what the host says to each.
 pub(crate) fn take_steps<B: Book + Drop>(
     alloc: Global,
@@ -216,22 +155,7 @@ pub(crate) fn take_steps<B: Book + Drop>(
     Ok(())
 }
 
-/// Takes steps, before each of which another merchant has so many sales and some more.
-fn take_among<B: Book + Drop>(
-    alloc: Global,
-    host: &mut Host<B>,
-    steps: &[Step],
-    sales: u64,
-    findings: &mut Findings,
-) -> Result<(), RowFault> {
-    for (place, step) in (0..).zip(steps) {
-        let lot = lot_of_another(alloc, place, sales)?;
-        take_steps(alloc, host, lot.as_slice(), findings)?;
-        take_step(alloc, host, step, findings)?;
-    }
-    Ok(())
-}
-
+/// Takes a step, and compares what the host says to it.
 pub(crate) fn take_step<B: Book + Drop>(
     alloc: Global,
     host: &mut Host<B>,
@@ -278,7 +202,7 @@ fn said_to<B: Book + Drop>(
             Ok(()) => Ok(line),
             Err(_) => Err(RowFault::Memory),
         },
-        Err(fault) => fault_line(alloc, Fault::from(fault)),
+        Err(fault) => fault_line(alloc, ReportFault::from(fault)),
     }
 }
 
@@ -297,14 +221,15 @@ fn text_of<B: Book>(
     }
     match written {
         Ok(()) => Ok(text),
-        Err(fault) => fault_line(alloc, Fault::from(fault)),
+        Err(fault) => fault_line(alloc, fault),
     }
 }
 
 /// The line that the program writes of a fault.
-fn fault_line(alloc: Global, fault: Fault) -> Result<MemorySink, RowFault> {
+fn fault_line(alloc: Global, fault: ReportFault) -> Result<MemorySink, RowFault> {
     let mut text = MemorySink::new(alloc);
-    match writeln!(TextSink::new(&mut text), "acqd: {fault}") {
+    let line = format!(in alloc; "acqd: {fault}\n")?;
+    match write_out(&mut text, line.as_bytes()) {
         Ok(()) => Ok(text),
         Err(_) => Err(RowFault::Memory),
     }

@@ -56,7 +56,7 @@ fn stop_in_turn<B: Book + Drop, F: BooksInFiles<B>>(
         match run_until_stop::<B, F>(alloc, files, setup, scenario, findings)? {
             Ended::NoBook => {}
             Ended::Stopped => stops = stops.saturating_add(1),
-            Ended::Whole if stops < least => return Err(RowFault::FewStops(stops)),
+            Ended::Whole if stops < least => return Err(RowFault::FewStops),
             Ended::Whole => return Ok(()),
         }
     }

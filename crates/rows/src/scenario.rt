@@ -13,11 +13,8 @@ pub struct Scenario {
     /// day.
     pub limit: Limit,
     pub first_day: Day,
-    /// Where it also runs among another merchant's events, how many sales of that merchant stand
-    /// before each step.
-    pub others: Option<u64>,
-    /// Where it also runs over files that stop at each of their calls in turn, how many calls these
-    /// are at least.
+    /// Where it runs over files that stop at each of their calls in turn, how many calls these are at
+    /// least.
     pub stops: Option<u64>,
     /// Where its book is one of version 1 until it is migrated, how many steps stand before that.
     pub migrated: Option<usize>,
@@ -31,7 +28,6 @@ impl Scenario {
         Scenario {
             limit,
             first_day,
-            others: None,
             stops: None,
             migrated: None,
             steps: Vec::new(alloc),

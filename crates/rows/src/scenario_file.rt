@@ -1,11 +1,11 @@
 //! Files of scenarios.
 //!
-//! A line is `scenario NAME`, `limit COUNT`, `day DAY`, `at MOMENT`, `others COUNT`, `stops COUNT`,
-//! `migrated`, an event, or what is asked of the book at the end: `clearing DAY`, `report DAY`,
-//! `holds MOMENT MERCHANT`, `pending MOMENT`, `pending MOMENT DAY` or `counts`. An event is a line
-//! of `acqd replay`, or `frame PARTS` for a message that comes at the moment at hand. What the host
-//! says, or what the text is, stands behind four spaces on the lines below; `?` where it isn't
-//! compared. What stands before the first scenario is the setup of each.
+//! A line is `scenario NAME`, `limit COUNT`, `day DAY`, `at MOMENT`, `stops COUNT`, `migrated`, an
+//! event, or what is asked of the book at the end: `clearing DAY`, `report DAY`, `holds MOMENT
+//! MERCHANT` or `counts`. An event is a line of `acqd replay`, or `frame PARTS` for a message that
+//! comes at the moment at hand. What the host says, or what the text is, stands behind four spaces on
+//! the lines below; `?` where it isn't compared. What stands before the first scenario is the setup of
+//! each.
 
 use crate::asked::Asked;
 use crate::escapes::{put_bytes, put_hex};
@@ -13,7 +13,6 @@ use crate::report_asked::ReportAsked;
 use crate::row_fault::RowFault;
 use crate::scenario::Scenario;
 use crate::step::Step;
-use acq_commands::{first_day_of_all, greatest_limit};
 use acq_core::Limit;
 use acq_link::SliceSource;
 use acq_out::{OutFault, read_events};
@@ -51,10 +50,14 @@ enum Last {
 impl ScenarioFile {
     /// Reads a file.
     pub fn read(alloc: Global, text: &str) -> Result<ScenarioFile, RowFault> {
+        let (Some(limit), Some(first_day)) = (Limit::from_number(999_999), Day::from_number(0))
+        else {
+            return Err(RowFault::Book);
+        };
         let mut reader = Reader {
             alloc,
             file: ScenarioFile {
-                setup: Scenario::new(alloc, greatest_limit(), first_day_of_all()),
+                setup: Scenario::new(alloc, limit, first_day),
                 scenarios: Vec::new(alloc),
             },
             moment: String::from_str(alloc, "946684800")?,
@@ -88,11 +91,11 @@ impl Reader {
         self.last = Last::Nothing;
         match word {
             "scenario" => self.begin(),
-            "limit" | "day" | "others" | "stops" | "migrated" => self
+            "limit" | "day" | "stops" | "migrated" => self
                 .take_term(word, rest)
                 .ok_or(RowFault::Malformed(line)),
             "at" => self.take_moment(rest),
-            "clearing" | "report" | "holds" | "pending" | "counts" => {
+            "clearing" | "report" | "holds" | "counts" => {
                 let asked = Asked::read(word, rest).ok_or(RowFault::Malformed(line))?;
                 self.take_report(line, asked)
             }
@@ -129,7 +132,6 @@ impl Reader {
         match word {
             "limit" => scenario.limit = Limit::from_number(rest.parse().ok()?)?,
             "day" => scenario.first_day = Day::read(rest)?,
-            "others" => scenario.others = Some(rest.parse().ok()?),
             "stops" => scenario.stops = Some(rest.parse().ok()?),
             _ => scenario.migrated = Some(scenario.steps.len()),
         }

@@ -2,24 +2,17 @@
 //!
 //! `card`, `track2`, `class` and `hex` read bytes; `ranges` a file of ranges; `find`, `add` and
 //! `remove` a prefix or a range, on the ranges 40000000 to 49999999 and 50000000 to 59999999;
-//! `issuers` a file of issuers' answers, of which the card 4111111111111111 is asked; `opening`
-//! statements of SQL, and what a new book is told as behind them; `day` a date,
-//! and `resolve` a month and day and the day that it is today; `element` an element's number and a
-//! content; `type` a message's type; `totals` four counts and four amounts, of credits, their
-//! reversals, debits and theirs; and the names of numbers and texts say whether one is taken.
+//! `day` a date, and `resolve` a month and day and the day that it is today; `element` an element's
+//! number and a content; `type` a message's type; `totals` four counts and four amounts, of credits,
+//! their reversals, debits and theirs; and the names of numbers and texts say whether one is taken.
 
-use crate::book_openings::put_opening;
 use crate::escapes::put_shown;
 use crate::row_fault::RowFault;
-use crate::store_at_hand::StoreAtHand;
-use acq_commands::Fault;
 use acq_core::{
     AdmittedCount, Amount, Currency, FirstReference, Limit, MerchantId, Moment, Reference, Service,
     TerminalId, Trace, Transmission, UsedCount, Verdict,
 };
-use acq_link::SliceSource;
 use acq_link::hex_frames::frames_of_hex;
-use acq_stand_in::StandIn;
 use card_no::{CardNumber, IssuerId, Prefix, Range, RangeFault, RangeList, split_track2};
 use day_totals::{Day, Leg, Totals};
 use iso_codec::{Message, all_alphanumeric, all_digits, all_printable};
@@ -28,7 +21,7 @@ use std::fmt::Write;
 
 /// Puts what a row of this kind says of a text. Says whether there is such a kind, and the text is
 /// in its form.
-pub fn put_answer<S: StoreAtHand>(
+pub fn put_answer(
     alloc: Global,
     kind: &str,
     text: &str,
@@ -42,11 +35,9 @@ pub fn put_answer<S: StoreAtHand>(
         "hex" => put_frames(alloc, bytes, answer)?,
         "ranges" => put_ranges(alloc, bytes, answer)?,
         "find" | "add" | "remove" => return put_change(alloc, kind, text, answer),
-        "issuers" => put_verdict(alloc, bytes, answer)?,
         "day" => put_day(text, answer)?,
         "resolve" => return put_resolved(text, answer),
         "element" => return put_element(alloc, text, answer),
-        "opening" => put_opening::<S>(alloc, text, answer)?,
         "type" => return put_reply_type(bytes, answer),
         "totals" => return put_totals(alloc, text, answer),
         _ => match is_taken(kind, text, bytes) {
@@ -246,30 +237,6 @@ fn range_in(alloc: Global, text: &str) -> Result<Option<Range>, RowFault> {
         issuer: IssuerId::from_slice(alloc, issuer.as_bytes())?,
         hold_days,
     }))
-}
-
-/// What a file of issuers' answers says of the card 4111111111111111.
-fn put_verdict(alloc: Global, bytes: &[u8], answer: &mut String) -> Result<(), RowFault> {
-    let Some(card) = CardNumber::read(b"4111111111111111") else {
-        return Err(RowFault::Memory);
-    };
-    match StandIn::read(alloc, &mut SliceSource::new(bytes)) {
-        Ok(stand_in) => match stand_in.verdict_for(&card) {
-            Verdict::Approved(id) => {
-                answer.push_str("approved ")?;
-                put_shown(&id.to_bytes(), answer)
-            }
-            Verdict::Declined(code) => {
-                answer.push_str("declined ")?;
-                put_shown(&code.to_bytes(), answer)
-            }
-            Verdict::NoAnswer => Ok(answer.push_str("none")?),
-        },
-        Err(fault) => {
-            let fault = Fault::from(fault);
-            Ok(write!(answer, "{fault}")?)
-        }
-    }
 }
 
 /// The number of a date.
