@@ -1,47 +1,38 @@
-"""Migrates a book of version 1, which is kept beside this script, and lets its day go on.
+#!/usr/bin/env python3
+"""migration.py PROGRAM: migrates a book of version 1, which is kept beside this script, and lets
+its day go on.
 
-    migration.py PROGRAM
-
-The book in `version1` was made by a program of that version, from the lines of `version1/events.csv`:
-the first twenty of the day of two shops, and a kiosk with a sale, an open hold and a sale that waits
-for its answer. `version1/rows.txt` has its rows, as SQLite shows them. Every command refuses it, it is
-migrated once, its rows stay but for the version and the ranges, and the day goes on as that of two
-shops does, and as the kiosk's has to. Status 1 where anything differs.
-"""
+The book in `version1` was made by a program of that version, from the lines of
+`version1/events.csv`: the first twenty of the day of two shops, and a kiosk with a sale, an open
+hold and a sale that waits for its answer. `version1/rows.txt` has its rows, as SQLite shows them.
+Every command refuses it, it is migrated once, its rows stay but for the version and the ranges, and
+the day goes on as that of two shops does, and as the kiosk's has to."""
 
 import gzip
 import os
 import sqlite3
-import subprocess
 import sys
 import tempfile
 
+from terminal import main, run, wanted
+
 HERE = os.path.dirname(os.path.abspath(__file__))
-TOP = os.path.dirname(HERE)
+TOP = os.path.dirname(os.path.dirname(HERE))
 TABLES = "book merchants terminals ranges requests postings reconciliations running".split()
 KIOSK, TERMINAL = "CORNER-KIOSK-01", "KIOSK001"
 
 
-class Failure(Exception):
-    """Something is not as it has to be."""
-
-
-def check(what, found, wanted):
-    if found != wanted:
-        raise Failure(f"{what}:\n  wanted {wanted!r}\n  found  {found!r}")
-
-
-def run(program, words, text=""):
+def acqd(program, words, text=""):
     """The status, the output and the faults of a run of the program."""
-    words = [program, *words]
-    ran = subprocess.run(words, input=text, capture_output=True, text=True, timeout=60, check=False)
-    return ran.returncode, ran.stdout, ran.stderr
+    status, out, faults = run([program, *words], text)
+    return status, out.decode(), faults
 
 
 def taken(program, book, lines):
     """The lines that the program writes to these event lines."""
-    status, output, faults = run(program, ["replay", "--db", book], "".join(f"{it}\n" for it in lines))
-    check("a replay", (status, faults), (0, ""))
+    text = "".join(f"{it}\n" for it in lines)
+    status, output, faults = acqd(program, ["replay", "--db", book], text)
+    wanted("a replay", (status, faults), (0, ""))
     return output.splitlines()
 
 
@@ -52,7 +43,7 @@ def rows_of(book):
             with open(book + end, "rb") as old, open(f"{room}/copy{end}", "wb") as new:
                 new.write(old.read())
         found = sqlite3.connect(f"{room}/copy")
-        check("the file", found.execute("PRAGMA integrity_check").fetchall(), [("ok",)])
+        wanted("the file", found.execute("PRAGMA integrity_check").fetchall(), [("ok",)])
         lines = []
         for table in TABLES:
             for row in sorted(found.execute(f"SELECT * FROM {table}").fetchall(), key=repr):
@@ -129,40 +120,37 @@ def try_all(program, room):
             new.write(old.read())
     with open(f"{HERE}/version1/rows.txt", encoding="ascii") as it:
         rows = it.read().splitlines()
-    check("the rows of version 1", rows_of(book), rows)
+    wanted("the rows of version 1", rows_of(book), rows)
     refused = (1, "", "acqd: 41 OtherVersion 1\n")
-    check("another command", run(program, ["report", "--db", book, "--day", "2024-05-01"]), refused)
-    check("a replay before", run(program, ["replay", "--db", book], "cutover,1714600800,,,,\n"), refused)
-    check("the migration", run(program, ["migrate", "--db", book]), (0, "", ""))
-    check("the rows of version 2", rows_of(book), [widened(it) for it in rows])
+    words = ["report", "--db", book, "--day", "2024-05-01"]
+    wanted("another command", acqd(program, words), refused)
+    words = ["replay", "--db", book]
+    wanted("a replay before", acqd(program, words, "cutover,1714600800,,,,\n"), refused)
+    wanted("the migration", acqd(program, ["migrate", "--db", book]), (0, "", ""))
+    wanted("the rows of version 2", rows_of(book), [widened(it) for it in rows])
     again = (1, "", "acqd: 41 OtherVersion 2\n")
-    check("the migration again", run(program, ["migrate", "--db", book]), again)
+    wanted("the migration again", acqd(program, ["migrate", "--db", book]), again)
     kiosks = kiosks_lines()
-    check("the kiosk", taken(program, book, [it[0] for it in kiosks]), [it[1] for it in kiosks])
+    wanted("the kiosk", taken(program, book, [it[0] for it in kiosks]), [it[1] for it in kiosks])
     with open(f"{TOP}/examples/day.csv", encoding="ascii") as it:
         rest = it.read().splitlines()[20:]
     with open(f"{TOP}/examples/day.lines", encoding="ascii") as it:
-        wanted = it.read().splitlines()[20:]
-    check("the rest of the day", taken(program, book, rest), wanted)
+        lines = it.read().splitlines()[20:]
+    wanted("the rest of the day", taken(program, book, rest), lines)
     with open(f"{TOP}/examples/clearing.csv", encoding="ascii") as it:
-        wanted = it.read().splitlines()
-    status, output, faults = run(program, ["clearing", "--db", book, "--day", "2024-05-01"])
-    check("clearing", (status, faults), (0, ""))
+        lines = it.read().splitlines()
+    status, output, faults = acqd(program, ["clearing", "--db", book, "--day", "2024-05-01"])
+    wanted("clearing", (status, faults), (0, ""))
     own = [it for it in output.splitlines() if KIOSK not in it]
-    check("the clearing file, without the kiosk's", own, wanted)
+    wanted("the clearing file, without the kiosk's", own, lines)
     later = later_lines()
-    check("ranges", taken(program, book, [it[0] for it in later]), [it[1] for it in later])
+    wanted("ranges", taken(program, book, [it[0] for it in later]), [it[1] for it in later])
 
 
-def main():
+def a_book_of_version_1(program):
     with tempfile.TemporaryDirectory() as room:
-        try:
-            try_all(os.path.abspath(sys.argv[1]), room)
-        except (Failure, OSError, subprocess.SubprocessError, sqlite3.Error) as failure:
-            print(f"migration: {failure}")
-            return 1
-    return 0
+        try_all(program, room)
 
 
 if __name__ == "__main__":
-    sys.exit(main())
+    sys.exit(main([a_book_of_version_1]))

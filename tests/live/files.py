@@ -1,36 +1,36 @@
-"""The two files of a book, around the built program: who may read them, when the database alone is
-the book, that a close for which there is no room is told, that a log whose database is away for a
-while is left as it is, and that reports tell where rows are gone or changed.
-
-    python3 .ci/files.py PROGRAM
-"""
-
+#!/usr/bin/env python3
+"""files.py PROGRAM: the two files of a book: who may read them, when the database alone is the
+book, that a close for which there is no room fails, that a log whose database is away for a while
+is left as it is, and that reports fail if rows are gone or changed."""
 import os
 import resource
 import shutil
 import sqlite3
 import stat
-import subprocess
 import sys
 import tempfile
 
+from terminal import DAY as BUSINESS_DAY
+from terminal import MOMENT, Wrong, main, run, sale, wanted
+
 PROGRAM = os.path.abspath(sys.argv[1])
 
-DAY = ["--day", "2024-05-01"]
+DAY = ["--day", BUSINESS_DAY]
 
 SETUP = b"""addrange,40000000,49999999,12345,7,
 enrol,MERCHANT0000001,978,1,,
 terminal,MERCHANT0000001,TERM0001,,,
 """
 
-# A sale of 10.00, its approval, and the end of the day.
-SALE = (
-    "0200|7220000000C08000|16|4111111111111111|000000|000000001000|0501093000|000001|TERM0001"
-    "|MERCHANT0000001|978"
-).replace("|", "")
-DAYS_WORK = (
-    SETUP + f"frame,1714555800,{SALE.encode().hex()},,,\n".encode()
-    + b"answer,1714555800,MERCHANT0000001,1,approved,A1B2C3\ncutover,1714555800,,,,\n"
+
+def event(trace):
+    """The event line of a sale of 10.00."""
+    return f"frame,{MOMENT},{sale(1, trace)[2:].hex()},,,\n".encode()
+
+
+# A sale, its approval, and the end of the day.
+DAYS_WORK = SETUP + event(1) + (
+    b"answer,1714555800,MERCHANT0000001,1,approved,A1B2C3\ncutover,1714555800,,,,\n"
 )
 
 # What another program may do to the rows of that day, and which of clearing and report tell it.
@@ -60,10 +60,7 @@ READING = COMMANDS[5:]
 
 def acqd(words, text=b"", **how):
     """Runs a command over book.db, and returns its status, its output and its fault lines."""
-    words = [PROGRAM, words[0], "--db", "book.db", *words[1:]]
-    how.setdefault("stdout", subprocess.PIPE)
-    ran = subprocess.run(words, input=text, stderr=subprocess.PIPE, timeout=60, **how)
-    return ran.returncode, ran.stdout, ran.stderr.decode()
+    return run([PROGRAM, words[0], "--db", "book.db", *words[1:]], text, **how)
 
 
 def mode(path):
@@ -75,21 +72,18 @@ def content(path):
         return it.read()
 
 
-def wanted(what, came, expected):
-    if came != expected:
-        sys.exit(f"files: {what}: expected {repr(expected)[:200]}, came {repr(came)[:200]}")
-
-
 def new_book():
     for name in os.listdir("."):
         os.remove(name)
     wanted("a new book", acqd(COMMANDS[0]), (0, b"", ""))
 
 
-def owners_alone():
-    """A new book and its log are their owner's alone; a log gets the mode that its book was given."""
+def owners_alone(_):
+    """A new book and its log are their owner's alone; a log gets the mode that its book was
+    given."""
     new_book()
     wanted("the mode of a new book", mode("book.db"), 0o600)
+    wanted("a look", acqd(["report", *DAY])[2], "acqd: 60 DayNotOver\n")
     wanted("the mode of its log", mode("book.db-wal"), 0o600)
     os.chmod("book.db", 0o640)
     wanted("the setup", acqd(["replay"], SETUP)[0], 0)
@@ -99,8 +93,9 @@ def owners_alone():
     wanted("the mode of a log that was open to a group", mode("book.db-wal"), 0o600)
 
 
-def one_file():
-    """A run that ended well leaves the whole book in the database, which commands that read leave alone."""
+def one_file(_):
+    """A run that ended well leaves the whole book in the database, which commands that read leave
+    alone."""
     new_book()
     wanted("the setup", acqd(["replay"], SETUP)[1], b"done\n" * 3)
     before = content("book.db")
@@ -114,13 +109,12 @@ def one_file():
 
 def sales(first, count):
     """So many sales, from this trace on, as event lines."""
-    text = SALE[:66] + "%06d" + SALE[72:]
-    frames = (text % trace for trace in range(first, first + count))
-    return "".join(f"frame,1714555800,{it.encode().hex()},,,\n" for it in frames).encode()
+    return b"".join(event(trace) for trace in range(first, first + count))
 
 
-def no_room():
-    """Where the log can't be copied into the database, that is told, and the book has all events."""
+def no_room(_):
+    """Where the log can't be copied into the database, that is told, and the book has all
+    events."""
     new_book()
     wanted("many sales", acqd(["replay"], SETUP + sales(1, 2000))[0], 0)
     size = os.path.getsize("book.db")
@@ -133,17 +127,18 @@ def no_room():
     again = acqd(["replay"], more)
     wanted("the same sales again", (again[0], again[1]), (0, b"refused 32\n" * 20))
     if os.path.getsize("book.db") <= size:
-        sys.exit("files: the database did not grow, so nothing was tried")
+        raise Wrong("the database did not grow, so nothing was tried")
 
 
-def log_alone():
-    """A log whose database is away or empty is left as it is, and goes on to be a part of the book."""
+def log_alone(_):
+    """A log whose database is away or empty is left as it is, and goes on to be a part of the
+    book."""
     new_book()
     with open("/dev/full", "wb") as full:
         wanted("a full output", acqd(["replay"], SETUP, stdout=full)[2], "acqd: 54 Write 0\n")
     log = content("book.db-wal")
     if not log:
-        sys.exit("files: the log of a run that was cut off is empty")
+        raise Wrong("the log of a run that was cut off is empty")
     os.rename("book.db", "away")
     for is_empty in (False, True):
         if is_empty:
@@ -158,11 +153,10 @@ def log_alone():
     wanted("the event that was taken", again[1].split(b"\n")[0], b"refused 21 40000000 49999999")
 
 
-def nothing_made():
+def nothing_made(_):
     """Where there is no book, only `init` makes one, and it leaves what isn't empty."""
-    new_book()
-    os.remove("book.db")
-    os.remove("book.db-wal")
+    for name in os.listdir("."):
+        os.remove(name)
     for words in COMMANDS[1:]:
         wanted(f"{words[0]} without a book", acqd(words), (1, b"", "acqd: 40 NotABook\n"))
         wanted(f"{words[0]}: what was made", os.listdir("."), [])
@@ -172,8 +166,9 @@ def nothing_made():
     wanted("the byte", content("book.db"), b"x")
 
 
-def rows_changed():
-    """Rows of postings or of running totals that are gone or changed are told, and nothing is written."""
+def rows_changed(_):
+    """Rows of postings or of running totals that are gone or changed are told, and nothing is
+    written."""
     for text, telling in CHANGES:
         new_book()
         wanted("the day's work", acqd(["replay"], DAYS_WORK)[0], 0)
@@ -186,18 +181,18 @@ def rows_changed():
                 wanted(f"{words[0]} after {text}", acqd(words), (3, b"", "acqd: 2 Store\n"))
 
 
-def main():
+def in_a_folder_of_its_own(tries):
     os.umask(0o022)
     folder = tempfile.mkdtemp()
     os.chdir(folder)
     try:
-        checks = (owners_alone, one_file, no_room, log_alone, nothing_made, rows_changed)
-        for check in checks:
-            check()
+        return main(tries)
     finally:
         os.chdir("/")
         shutil.rmtree(folder)
-    print("files: modes, one file after a run, no room, a log alone, nothing made, rows changed")
 
 
-main()
+TRIES = [owners_alone, one_file, no_room, log_alone, nothing_made, rows_changed]
+
+if __name__ == "__main__":
+    sys.exit(in_a_folder_of_its_own(TRIES))

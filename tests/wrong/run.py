@@ -1,0 +1,82 @@
+#!/usr/bin/env python3
+"""run.py PROGRAM: runs each live script over `acqd` beside this file, which does one thing wrong:
+the script has to fail, with a line that names the difference. Once it does nothing wrong, and then
+the script has to pass."""
+import concurrent.futures
+import os
+import subprocess
+import sys
+
+HERE = os.path.dirname(os.path.abspath(__file__))
+LIVE = f"{os.path.dirname(HERE)}/live"
+# A script and what it is given behind PROGRAM, small, with each fault and what the line has then.
+SCRIPTS = [
+    ("answers as_the_file_says", [
+        ("reply 3", "replies by the issuers' file"),
+        ("lost 1", "replies by the issuers' file"),
+        ("text clearing", "the clearing file"),
+    ]),
+    ("answers no_issuers a_cut_reply", [
+        ("reply 1", "a reply without --issuers"),
+        ("reply 2", "the reply to a repeat"),
+        ("text clearing", "the clearing file"),
+    ]),
+    ("answers the_moment", [("reply 1", "a hold"), ("text holds", "a hold of")]),
+    ("answers a_full_day", [("reply 3", "replies within the limit and past it")]),
+    ("limits who_talks_stays", [("reply 3", "who talks"), ("lost 3", "who talks")]),
+    ("limits silence", [("open", "is there after")]),
+    ("limits a_place_each 12", [("reply 2", "reply 2 to terminal 0")]),
+    ("logs masks", [
+        ("reply 5", "the reply to 0420"),
+        ("log card=411111[*]{6}1111", "cards in the log"),
+    ]),
+    ("logs a_restart times", [("log time=20", "log")]),
+    ("figures connections", [("reply 1", "an echo"), ("lost 2", "a sale")]),
+    ("together 6", [("reply 4", "replies to terminal"), ("lost 5", "replies to terminal")]),
+    ("clients a_reset another_address", [("reply 1", "terminals"), ("lost 1", "terminals")]),
+    ("control tell_answers", [("text enrol,TOLD", "lines that are told")]),
+    ("control a_day 5", [
+        ("reply 4", "replies to terminal"),
+        ("text clearing,", "told clearing"),
+        ("log card=411111[*]{6}1111", "digits of a card in the log"),
+    ]),
+    ("merchants 2", [("text replay", "what a day comes to")]),
+    ("migration", [("text replay", "the kiosk"), ("text clearing", "the clearing file")]),
+    ("files one_file rows_changed", [("text replay", "the database alone")]),
+    ("foreign version_one", [("text replay", "the day's first lines")]),
+    ("file_stops modes_and_links", [("text replay", "a book behind a link: the day")]),
+    ("operating a_moved_log a_flood", [("reply 1", "the reply to sale 1"), ("lost 2", "replies")]),
+    ("stops 1", [
+        ("reply 1", "the reply to sale"),
+        ("text clearing", "the sales that are cleared"),
+    ]),
+]
+
+
+def said(program, script, fault):
+    """The status and the line of a script over the program with this fault."""
+    name, *words = script.split(" ")
+    variables = {**os.environ, "ACQD_RIGHT": program, "ACQD_WRONG": fault}
+    if fault:
+        variables["LIVE_PATIENCE"] = "8"
+    words = [sys.executable, f"{LIVE}/{name}.py", f"{HERE}/acqd", *words]
+    ran = subprocess.run(words, env=variables, capture_output=True, text=True, timeout=600)
+    return ran.returncode, ran.stdout + ran.stderr
+
+
+def main(program):
+    tries = [(script, *it) for script, faults in SCRIPTS for it in [("", None), *faults]]
+    with concurrent.futures.ThreadPoolExecutor(6) as pool:
+        results = list(pool.map(lambda it: said(program, *it[:2]), tries))
+    wrong = 0
+    for (script, fault, line), (status, text) in zip(tries, results):
+        if status != (0 if line is None else 1) or (line or "") not in text:
+            wrong += 1
+            print(f"{script}, with {fault or 'no fault'}: status {status}, {text[:600]!r}")
+    count = sum(len(it[1]) for it in SCRIPTS)
+    print(f"wrong: {len(SCRIPTS)} scripts, {count} faults, {wrong} not as they have to be")
+    return 1 if wrong else 0
+
+
+if __name__ == "__main__":
+    sys.exit(main(os.path.abspath(sys.argv[1])))
