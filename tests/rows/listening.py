@@ -30,8 +30,15 @@ def run_listening(program, room, words, given, streams, connections):
             running.process.send_signal(signal.SIGTERM)
     ran = running.ended()
     if count is None and ran.status == -signal.SIGTERM:
-        return Ran(0, ran.output, ran.faults)
+        return Ran(0, ran.output, without_begin(ran.faults))
     return ran
+
+
+def without_begin(faults):
+    """Faults without the first line of a log that goes there: who is ended as soon as it listens may
+    have written it."""
+    lines = faults.splitlines(keepends=True)
+    return b"".join(it for it in lines if b" event=listening " not in it)
 
 
 def waited(process, has_come):

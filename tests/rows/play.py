@@ -22,27 +22,27 @@ from books import Books, NoBook
 from command_file import read_commands
 from commands import play_command
 from findings import Findings
+from refusals import play_refusals
 from row_bytes import NoRow
 from scenario_file import read_scenarios
 from scenarios import play_scenario
+from stops import PARTS, play_stops
 from tables import play_row, read_table
 
-TOP = Path(__file__).resolve().parents[2]
-# The files of rows; what the program `rows` plays too lies beside it, and its tables are its own.
-DATA = TOP / "tests/rows/data"
-SHARED = TOP / "crates/rows/data"
+# The files of rows; what only a program that links the crates can play lies beside that.
+DATA = Path(__file__).resolve().with_name("data")
 KINDS = ("scenarios", "runs of scenarios", "command runs", "table rows")
 COUNTED = {play_scenario: "scenarios", play_command: "command runs", play_row: "table rows"}
 
 
 def all_files():
     """All files, in order of their names."""
-    return sorted([*DATA.iterdir(), *SHARED.glob("*.scenarios")], key=lambda it: it.name)
+    return sorted(DATA.iterdir(), key=lambda it: it.name)
 
 
 def named(name):
     """The file of a name."""
-    found = [it for it in (Path(name), DATA / name, SHARED / name) if it.is_file()]
+    found = [it for it in (Path(name), DATA / name) if it.is_file()]
     return found[0] if found else Path(name)
 
 
@@ -54,7 +54,13 @@ def plays_of(path):
         raise NoRow("can't be read") from None
     if path.suffix == ".scenarios":
         setup, scenarios = read_scenarios(text)
-        return [(play_scenario, (setup, it)) for it in scenarios]
+        plays = [(play_scenario, (setup, it)) for it in scenarios]
+        stopping = [it for it in scenarios if it.stops is not None]
+        refusing = [it for it in scenarios if it.refusals is not None]
+        for part in range(PARTS):
+            plays += [(play_stops, (setup, it, part)) for it in stopping]
+            plays += [(play_refusals, (setup, it, part)) for it in refusing]
+        return plays
     if path.suffix == ".commands":
         return [(play_command, (it,)) for it in read_commands(text)]
     if path.suffix == ".table":
@@ -92,10 +98,24 @@ def said_of(path, results):
         if fault:
             print(f"{path.name}: {fault}")
             return False, found.counts
-    print(f"{path.name}: {'differs' if found.lines else 'as written'}")
+    written = f"as written{more_said(found.counts)}"
+    print(f"{path.name}: {'differs' if found.lines else written}")
     for line in found.lines:
         print(line)
     return not found.lines, found.counts
+
+
+def more_said(counts):
+    """What is said of the stops, and of the refused allocations, in a file that has some."""
+    said = ""
+    for name in ("stops", "refusals"):
+        if counts[f"{name} not tried"]:
+            said += f", but for its {name}, for want of a C compiler"
+        elif counts[name]:
+            said += f", at {counts[name]} {name}"
+    if counts["refusals"]:
+        said += f" of memory, {counts['undisturbed']} of which changed nothing"
+    return said
 
 
 def begun(pool, path):
@@ -128,7 +148,7 @@ def count(paths):
     fits, whole = True, Counter()
     for path in paths:
         try:
-            counts = Counter(COUNTED[play] for play, _ in plays_of(path))
+            counts = Counter(COUNTED[play] for play, _ in plays_of(path) if play in COUNTED)
         except NoRow as fault:
             print(f"{path.name}: {fault}")
             fits = False

@@ -7,9 +7,11 @@ import subprocess
 import threading
 from dataclasses import dataclass
 
+from preloaded import Preloaded
+
 # What the program is called by.
 NAME = "acqd"
-# After so many seconds a run has hung.
+# After so many seconds a run has hung, if no more is said of it.
 LONGEST = 60
 # Where an output that takes so many bytes alone has its end: no file that the program writes is as
 # long, so the limit on what a process may write meets its output alone.
@@ -30,13 +32,16 @@ class Streams:
     """How a run's reads and writes go.
 
     A read gives `piece` bytes at most; the one behind the whole input fails where `failing` is set;
-    the output takes `space` bytes alone; the process has so much `memory`.
+    the output takes `space` bytes alone; the process has so much `memory`; `preloaded` is a library
+    that is loaded before it; after `longest` seconds it has hung.
     """
 
     piece: int | None = None
     failing: bool = False
     space: int | None = None
     memory: int | None = None
+    preloaded: Preloaded | None = None
+    longest: int = LONGEST
 
 
 class Process:
@@ -50,16 +55,20 @@ class Process:
         ends = given_from, self.output, self.faults
         self.process = start(program, words, room, ends, streams)
         os.close(given_from)
-        self.watch = threading.Timer(LONGEST, self.process.kill)
+        self.watch = threading.Timer(streams.longest, self.process.kill)
         self.watch.start()
         if self.feed:
             self.feed()
+
+    def written(self):
+        """What it wrote so far to its output."""
+        return read_from(self.output, self.start)
 
     def ended(self):
         """Waits for its end, and says what it wrote."""
         status = self.process.wait()
         self.watch.cancel()
-        ran = Ran(status, read_from(self.output, self.start), read_from(self.faults, 0))
+        ran = Ran(status, self.written(), read_from(self.faults, 0))
         os.close(self.output)
         os.close(self.faults)
         return ran
@@ -92,6 +101,8 @@ def start(program, words, room, ends, streams):
             cwd=room,
             restore_signals=streams.space is None,
             preexec_fn=limit_on(streams.memory),
+            env=streams.preloaded and streams.preloaded.environment(),
+            pass_fds=streams.preloaded.descriptors if streams.preloaded else (),
         )
     finally:
         resource.setrlimit(resource.RLIMIT_FSIZE, kept)

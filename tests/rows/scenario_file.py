@@ -1,11 +1,11 @@
 """Files of scenarios.
 
 A line is `scenario NAME`, `limit COUNT`, `day DAY`, `at MOMENT`, `others COUNT`, `stops COUNT`,
-`migrated`, an event, or what is asked of the book at the end: `clearing DAY`, `report DAY`, `holds
-MOMENT MERCHANT`, `pending MOMENT`, `pending MOMENT DAY` or `counts`. An event is a line of `acqd
-replay`, or `frame PARTS` for a message that comes at the moment at hand. What the host says, or
-what the text is, stands behind four spaces on the lines below; `?` where it isn't compared. What
-stands before the first scenario is the setup of each.
+`refusals EACH COUNT WHOLE`, `migrated`, an event, or what is asked of the book at the end:
+`clearing DAY`, `report DAY`, `holds MOMENT MERCHANT`, `pending MOMENT`, `pending MOMENT DAY` or
+`counts`. An event is a line of `acqd replay`, or `frame PARTS` for a message that comes at the
+moment at hand. What the host says, or what the text is, stands behind four spaces on the lines
+below; `?` where it isn't compared. What stands before the first scenario is the setup of each.
 """
 
 from dataclasses import dataclass, field, replace
@@ -36,6 +36,16 @@ class Asked:
 
 
 @dataclass
+class Refusals:
+    """Which allocations of a scenario's runs are refused, one of so many each; how many these are
+    at least, and of how many of them the run goes on as if nothing was."""
+
+    each: int
+    count: int
+    whole: int
+
+
+@dataclass
 class Scenario:
     """What happens to a host over a new book, and what it says."""
 
@@ -44,6 +54,7 @@ class Scenario:
     moment: str = "946684800"
     others: int | None = None
     stops: int | None = None
+    refusals: Refusals | None = None
     migrated: int | None = None
     steps: list = field(default_factory=list)
     asked: list = field(default_factory=list)
@@ -73,7 +84,7 @@ class Reader:
         if word == "scenario":
             self.current = self.setup.begun_as()
             self.scenarios.append(self.current)
-        elif word in ("limit", "day", "at", "others", "stops", "migrated"):
+        elif word in ("limit", "day", "at", "others", "stops", "refusals", "migrated"):
             self.take_term(word, rest, line)
         elif word in ASKED:
             self.take_asked(word, rest, line)
@@ -91,6 +102,8 @@ class Reader:
             self.current.moment = rest
         elif word == "migrated":
             self.current.migrated = len(self.current.steps)
+        elif word == "refusals":
+            self.current.refusals = refusals_of(rest, line)
         else:
             setattr(self.current, word, number_of(rest, line))
 
@@ -112,6 +125,14 @@ class Reader:
         if self.last is None:
             raise malformed(line)
         self.last.said += bytes_of(text, line) + b"\n"
+
+
+def refusals_of(text, line):
+    """What a line says of refusals."""
+    numbers = [number_of(it, line) for it in text.split(" ")]
+    if len(numbers) != 3 or not numbers[0]:
+        raise malformed(line)
+    return Refusals(*numbers)
 
 
 def read_scenarios(text):

@@ -9,6 +9,7 @@ from scenario_file import NOT_COMPARED, Step
 
 NOT_WRITTEN = b""
 TAKEN = Ran(0, b"", b"")
+MIGRATED_ALREADY = Ran(1, b"", b"acqd: 41 OtherVersion 2\n")
 
 
 def play_scenario(books, setup, scenario, findings):
@@ -44,8 +45,7 @@ class Play:
 
     def take(self, steps, words=("--db", "book")):
         """Has the host take events in one run, and compares what it says to each."""
-        lines = b"".join(step.event + b"\n" for step in steps)
-        came = self.run(["replay", *words], lines)
+        came = self.run(["replay", *words], lines_of(steps))
         said = came.output.splitlines(keepends=True)
         for step, written in zip(steps, [*said, NOT_WRITTEN]):
             if step.said != NOT_COMPARED or written == NOT_WRITTEN:
@@ -72,6 +72,11 @@ class Play:
         self.findings.compare_status(asked.line, self.over, int(refused), came.status)
 
 
+def lines_of(steps):
+    """The event lines of steps."""
+    return b"".join(step.event + b"\n" for step in steps)
+
+
 def described(ran):
     """How a run ended, in words."""
     return b"status %d, %s, faults: %s" % (ran.status, ran.output or b"nothing", ran.faults)
@@ -93,7 +98,8 @@ def words_for(asked):
 def counts_in(status):
     """How many terminals and ranges a status counts."""
     figures = dict(line.split(b" ", 1) for line in status.splitlines())
-    return b"%s terminals, %s ranges\n" % (figures.get(b"terminals"), figures.get(b"ranges"))
+    terminals, ranges = (figures.get(it, b"no") for it in (b"terminals", b"ranges"))
+    return b"%s terminals, %s ranges\n" % (terminals, ranges)
 
 
 def terms_of(scenario):
@@ -106,7 +112,7 @@ def in_memory(play):
     play.over = "in memory"
     steps, terms = play.setup + play.scenario.steps, terms_of(play.scenario)
     play.take(steps, terms)
-    lines = b"".join(step.event + b"\n" for step in steps)
+    lines = lines_of(steps)
     for asked in play.scenario.asked:
         word, *rest = asked.words
         if word in ("clearing", "report"):
@@ -155,22 +161,26 @@ def among_in_sql(play):
     play.take(among(play))
 
 
-def migrated(play):
-    """Over a book that is one of version 1 until it is migrated, once."""
+def make_old_book(play):
+    """Makes the book of a scenario as it is before it is migrated, one of version 1."""
     before = play.scenario.migrated
-    earlier, later = play.scenario.steps[:before], play.scenario.steps[before:]
-    if not later:
+    if before == len(play.scenario.steps):
         raise NoRow("nothing is behind a migration")
     play.over = "in SQL, before it is migrated"
     play.make_book()
-    play.take(play.setup + earlier)
+    play.take(play.setup + play.scenario.steps[:before])
     make_version(f"{play.room}/book", 1)
+
+
+def migrated(play):
+    """Over a book that is one of version 1 until it is migrated, once."""
+    make_old_book(play)
+    later = play.scenario.steps[play.scenario.migrated :]
     line = later[0].line
     other = Ran(1, b"", b"acqd: 41 OtherVersion 1\n")
     play.compare_run(line, other, play.run(["replay", "--db", "book"], later[0].event + b"\n"))
     play.over = "in SQL, migrated"
     play.compare_run(line, TAKEN, play.run(["migrate", "--db", "book"]))
-    again = Ran(1, b"", b"acqd: 41 OtherVersion 2\n")
-    play.compare_run(line, again, play.run(["migrate", "--db", "book"]))
+    play.compare_run(line, MIGRATED_ALREADY, play.run(["migrate", "--db", "book"]))
     play.take(later)
     play.ask()

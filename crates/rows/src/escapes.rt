@@ -56,23 +56,6 @@ fn hex_value(byte: u8, line: usize) -> Result<u8, RowFault> {
     }
 }
 
-/// Puts bytes in hexadecimal behind a text.
-pub fn put_hex(bytes: &[u8], text: &mut Vec<u8>) -> Result<(), RowFault> {
-    for byte in bytes {
-        text.push(hex_digit(byte >> 4))?;
-        text.push(hex_digit(byte & 15))?;
-    }
-    Ok(())
-}
-
-/// The hexadecimal digit of a value below 16.
-fn hex_digit(value: u8) -> u8 {
-    match b"0123456789ABCDEF".get(value as usize) {
-        Some(digit) => *digit,
-        None => b'?',
-    }
-}
-
 /// Puts bytes behind a text as a person reads them: what can't be printed as an escape.
 pub fn put_shown(bytes: &[u8], text: &mut String) -> Result<(), RowFault> {
     for byte in bytes {

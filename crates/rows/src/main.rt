@@ -1,42 +1,20 @@
 //! `rows`: runs files of rows, each of which a person reads and adds to, and says where what comes
 //! is not what a row says.
 //!
-//! A file is of one of two kinds, by the end of its name: scenarios are events and what the host says
-//! to each, over files that stop, and tables are texts and what they read as. A row of any kind stands
-//! on a line of its own, and `#` begins a line that says why. What the built program can be asked is
-//! played over that one, by `tests/rows/play.py`.
+//! A file is a table: texts, and what the crates read them as. Each row stands on a line of its
+//! own, and `#` begins a line that says why. What the built program can be asked is played over
+//! that one, by `tests/rows/play.py`.
 #![tactic(auto)]
 
-mod asked;
-mod book_at_hand;
-mod books_in_files;
-mod calls;
 mod escapes;
-mod files_of;
+mod failing_reader;
 mod findings;
-mod in_memory;
-mod in_sql;
-mod migrated;
-mod report_asked;
 mod row_fault;
-mod running_migrations;
-mod running_scenarios;
-mod running_stops;
-mod scenario;
-mod scenario_file;
-mod step;
-mod stopping_files;
-mod store_at_hand;
 mod table_file;
 mod tables;
 
 use findings::Findings;
-use in_memory::InMemory;
 use row_fault::RowFault;
-use running_scenarios::run_scenarios;
-use sqlite::MemStore;
-use sqlite_disk::{Fuse, Memory};
-use sqlite_store::FileStore;
 use std::process::ExitCode;
 use std::{env, fs, io};
 use table_file::run_table;
@@ -48,9 +26,18 @@ fn main(rt: HostRuntime) -> ExitCode {
     }
 }
 
-/// Runs the files that the arguments name, or without one all of this folder, in order of their
-/// names. Says whether all rows are as they say.
+/// Runs the files, and says whether all rows are as they say.
 fn run(rt: &HostRuntime) -> io::Result<bool> {
+    let names = names(rt)?;
+    let mut fits = true;
+    for name in names.as_slice() {
+        fits = run_file(rt, name.as_str())? && fits;
+    }
+    Ok(fits)
+}
+
+/// The files that the arguments name, or without one all of this folder, in order of their names.
+fn names(rt: &HostRuntime) -> io::Result<Vec<String>> {
     let mut names: Vec<String> = env::args(rt)?.skip(1).collect(rt.alloc())?;
     if names.is_empty() {
         for entry in fs::read_dir(rt, ".")? {
@@ -58,11 +45,7 @@ fn run(rt: &HostRuntime) -> io::Result<bool> {
         }
         names.sort()?;
     }
-    let mut fits = true;
-    for name in names.as_slice() {
-        fits = run_file(rt, name.as_str())? && fits;
-    }
-    Ok(fits)
+    Ok(names)
 }
 
 /// Runs the rows of a file, and prints a line for it, and one for each row that differs.
@@ -90,23 +73,16 @@ fn run_file(rt: &HostRuntime, name: &str) -> io::Result<bool> {
     }
 }
 
-/// Runs the rows of a text, of the kind that the file's name says, and returns how many there are.
+/// Runs the rows of a text, if the file's name says that it is a table, and returns how many there
+/// are.
 fn run_rows(
     rt: &HostRuntime,
     name: &str,
     text: &str,
     findings: &mut Findings,
 ) -> Result<usize, RowFault> {
-    if name.ends_with(".scenarios") {
-        run_scenarios::<MemStore, FileStore<Fuse<Memory>>, InMemory, HostRuntime>(
-            rt,
-            rt.alloc(),
-            text,
-            findings,
-        )
-    } else if name.ends_with(".table") {
-        run_table(rt.alloc(), text, findings)
-    } else {
-        Err(RowFault::OtherKind)
+    if !name.ends_with(".table") {
+        return Err(RowFault::OtherKind);
     }
+    run_table(rt.alloc(), text, findings)
 }

@@ -1,12 +1,15 @@
 //! What the kinds of tables read, and what they say of it.
 //!
-//! `card`, `track2`, `class` and `hex` read bytes; `ranges` a file of ranges; `find`, `add` and
-//! `remove` a prefix or a range, on the ranges 40000000 to 49999999 and 50000000 to 59999999;
-//! `day` a date, and `resolve` a month and day and the day that it is today; `element` an element's
-//! number and a content; `type` a message's type; `totals` four counts and four amounts, of credits,
-//! their reversals, debits and theirs; and the names of numbers and texts say whether one is taken.
+//! `card`, `track2`, `class` and `hex` read bytes; `ranges` a file of ranges, `in-memory` one that
+//! is in memory, and `failing` how many bytes of one can be read, each by a read of its own, and
+//! the file; `find`, `add` and `remove` a prefix or a range, on the ranges 40000000 to 49999999 and
+//! 50000000 to 59999999; `day` a date, and `resolve` a month and day and the day that it is today;
+//! `element` an element's number and a content; `type` a message's type; `totals` four counts and
+//! four amounts, of credits, their reversals, debits and theirs; and the names of numbers and texts
+//! say whether one is taken.
 
 use crate::escapes::put_shown;
+use crate::failing_reader::FailingReader;
 use crate::row_fault::RowFault;
 use acq_core::{
     AdmittedCount, Amount, Currency, FirstReference, Limit, MerchantId, Moment, Reference, Service,
@@ -33,13 +36,16 @@ pub fn put_answer(
         "track2" => put_track2(bytes, answer)?,
         "class" => put_class(bytes, answer)?,
         "hex" => put_frames(alloc, bytes, answer)?,
-        "ranges" => put_ranges(alloc, bytes, answer)?,
-        "find" | "add" | "remove" => return put_change(alloc, kind, text, answer),
+        "ranges" => put_ranges(RangeList::read_csv(alloc, bytes), answer)?,
+        "in-memory" => put_ranges(RangeList::from_csv(alloc, bytes), answer)?,
+        "failing" => return put_failing(alloc, text, bytes, answer),
+        "find" => return put_found(alloc, text, answer),
+        "add" | "remove" => return put_change(alloc, kind, text, answer),
         "day" => put_day(text, answer)?,
         "resolve" => return put_resolved(text, answer),
         "element" => return put_element(alloc, text, answer),
         "type" => return put_reply_type(bytes, answer),
-        "totals" => return put_totals(alloc, text, answer),
+        "totals" => return put_totals(text, answer),
         _ => match is_taken(kind, text, bytes) {
             Some(taken) => answer.push_str(if taken { "taken" } else { "refused" })?,
             None => return Ok(false),
@@ -143,9 +149,9 @@ fn put_frames(alloc: Global, bytes: &[u8], answer: &mut String) -> Result<(), Ro
     }
 }
 
-/// How many ranges a file has, or its fault.
-fn put_ranges(alloc: Global, bytes: &[u8], answer: &mut String) -> Result<(), RowFault> {
-    match RangeList::read_csv(alloc, bytes) {
+/// The ranges of a file, or its fault.
+fn put_ranges(read: Result<RangeList, RangeFault>, answer: &mut String) -> Result<(), RowFault> {
+    match read {
         Ok(list) => {
             for range in list.as_slice() {
                 put_range(range, answer)?;
@@ -157,6 +163,24 @@ fn put_ranges(alloc: Global, bytes: &[u8], answer: &mut String) -> Result<(), Ro
         Err(fault) => put_fault(&fault, answer)?,
     }
     Ok(())
+}
+
+/// The ranges of a file of which so many bytes can be read, or its fault.
+fn put_failing(
+    alloc: Global,
+    text: &str,
+    bytes: &[u8],
+    answer: &mut String,
+) -> Result<bool, RowFault> {
+    let Some((count, _)) = text.split_once(' ') else {
+        return Ok(false);
+    };
+    let (Ok(fails), Some(file)) = (count.parse(), bytes.get(count.len().saturating_add(1)..)) else {
+        return Ok(false);
+    };
+    let reader = FailingReader::new(file, fails);
+    put_ranges(RangeList::read_csv(alloc, reader), answer)?;
+    Ok(true)
 }
 
 /// A range, behind a space where it isn't the first.
@@ -189,7 +213,19 @@ fn two_ranges(alloc: Global) -> Result<RangeList, RowFault> {
     }
 }
 
-/// Looks a prefix up, or changes the ranges.
+/// The range of a prefix.
+fn put_found(alloc: Global, text: &str, answer: &mut String) -> Result<bool, RowFault> {
+    let Some(prefix) = text.parse().ok().and_then(Prefix::from_number) else {
+        return Ok(false);
+    };
+    match two_ranges(alloc)?.find(prefix) {
+        Some(range) => put_range(range, answer)?,
+        None => answer.push_str("none")?,
+    }
+    Ok(true)
+}
+
+/// What a change of the ranges comes to.
 fn put_change(
     alloc: Global,
     kind: &str,
@@ -197,16 +233,6 @@ fn put_change(
     answer: &mut String,
 ) -> Result<bool, RowFault> {
     let mut list = two_ranges(alloc)?;
-    if kind == "find" {
-        let Some(prefix) = text.parse().ok().and_then(Prefix::from_number) else {
-            return Ok(false);
-        };
-        match list.find(prefix) {
-            Some(range) => put_range(range, answer)?,
-            None => answer.push_str("none")?,
-        }
-        return Ok(true);
-    }
     let Some(range) = range_in(alloc, text)? else {
         return Ok(false);
     };
@@ -224,8 +250,13 @@ fn put_change(
 
 /// The range of `LOW,HIGH,ISSUER,DAYS`.
 fn range_in(alloc: Global, text: &str) -> Result<Option<Range>, RowFault> {
-    let fields: Vec<&str> = text.split(',').collect(alloc)?;
-    let [low, high, issuer, days] = fields.as_slice() else {
+    let Some((low, rest)) = text.split_once(',') else {
+        return Ok(None);
+    };
+    let Some((high, rest)) = rest.split_once(',') else {
+        return Ok(None);
+    };
+    let Some((issuer, days)) = rest.split_once(',') else {
         return Ok(None);
     };
     let (Ok(low), Ok(high), Ok(hold_days)) = (low.parse(), high.parse(), days.parse()) else {
@@ -295,21 +326,34 @@ fn put_reply_type(bytes: &[u8], answer: &mut String) -> Result<bool, RowFault> {
 }
 
 /// The totals of a day as elements 74 to 77, 86 to 89 and 97.
-fn put_totals(alloc: Global, text: &str, answer: &mut String) -> Result<bool, RowFault> {
-    let mut numbers = Vec::new(alloc);
-    for word in text.split_ascii_whitespace() {
-        let Ok(number) = word.parse::<u64>() else {
-            return Ok(false);
-        };
-        numbers.push(number)?;
-    }
-    let [a, b, c, d, e, f, g, h] = numbers.as_slice() else {
+fn put_totals(text: &str, answer: &mut String) -> Result<bool, RowFault> {
+    let Some(numbers) = eight_numbers(text) else {
         return Ok(false);
     };
-    let Some(totals) = Totals::from_parts([*a, *b, *c, *d], [*e, *f, *g, *h]) else {
+    let [a, b, c, d, e, f, g, h] = numbers;
+    let Some(totals) = Totals::from_parts([a, b, c, d], [e, f, g, h]) else {
         answer.push_str("none")?;
         return Ok(true);
     };
+    put_elements(&totals, answer)?;
+    Ok(true)
+}
+
+/// The numbers of a text, of which there are eight.
+fn eight_numbers(text: &str) -> Option<[u64; 8]> {
+    let mut words = text.split_ascii_whitespace();
+    let mut numbers = [0; 8];
+    for number in numbers.iter_mut() {
+        *number = words.next()?.parse().ok()?;
+    }
+    match words.next() {
+        Some(_) => None,
+        None => Some(numbers),
+    }
+}
+
+/// The counts of totals, their amounts, and the net.
+fn put_elements(totals: &Totals, answer: &mut String) -> Result<(), RowFault> {
     for leg in Leg::ALL {
         put_shown(&totals.count_text(leg), answer)?;
         answer.push_str(" ")?;
@@ -318,6 +362,5 @@ fn put_totals(alloc: Global, text: &str, answer: &mut String) -> Result<bool, Ro
         put_shown(&totals.amount_text(leg), answer)?;
         answer.push_str(" ")?;
     }
-    put_shown(&totals.net_text(), answer)?;
-    Ok(true)
+    put_shown(&totals.net_text(), answer)
 }
