@@ -18,7 +18,7 @@ use Rattle.acq_core.specs.declared.output.Output.{Output}
 use Rattle.acq_core.specs.declared.output.Output.TheVariants.{Ask}
 use Rattle.acq_core.specs.Arrivals.{arrival_of}
 use Rattle.acq_core.specs.Tables.{Tables, step_output, step_tables, tables_after}
-use Rattle.acq_history.proofs.FinalDays.{tables_after-append}
+use Rattle.acq_soundness.proofs.Runs.{tables_after-append}
 use Rattle.acq_front.proofs.Served.{all-append}
 use Rattle.acq_front.specs.Coming.{next_or, later_than}
 use Rattle.acq_front.specs.Talk.{Taking, first_moment, replies, reply_in, taking_said}

@@ -13,10 +13,8 @@ use Rattle.acq_message.specs.declared.verdict.Verdict.{Verdict}
 use Rattle.acq_core.specs.declared.event.Event.{Event}
 use Rattle.acq_core.specs.declared.event.Event.TheVariants.{Frame}
 use Rattle.acq_core.specs.declared.query.Query.{Query}
-use Rattle.acq_core.specs.Tables.{Tables, outputs, tables_after}
-use Rattle.acq_history.proofs.FinalDays.{tables_after-append}
-use Rattle.acq_host.specs.Headline.{IsAlone}
-use Rattle.acq_host.proofs.PartiesAlone.{is_alone}
+use Rattle.acq_core.specs.Tables.{Tables, tables_after}
+use Rattle.acq_soundness.proofs.Runs.{tables_after-append}
 use Rattle.acq_front.specs.declared.front_fault.FrontFault as fault
 use Rattle.acq_front.specs.Faults.{of_stream}
 use Rattle.acq_front.specs.Talk.{talk, replies, queries, Saying, AreSaid}
@@ -109,11 +107,6 @@ with_nothing_taken c out moments verdicts = record c {
   moments = c.moments ++ moments;
   verdicts = c.verdicts ++ verdicts;
 }
-
--- each party got what its own events alone give
-ran_alone : (old now : Tables) (events : List Event) → now ≡ tables_after old events →
-    IsAlone old events (outputs old events) now
-ran_alone old now events so = is_alone old now events (outputs old events) refl so
 
 module _ (S : Saying) where
   pub going_none : (now : Left) → LeavesAll now now.tables [] →
@@ -212,7 +205,6 @@ module _ (S : Saying) where
       record {
         came = took.came;
         tables = led;
-        alone = ran_alone old now.tables (talk old c.messages c.moments c.verdicts) led;
         said = subst (λ (es : List Event). AreSaid S (queries old es) c.verdicts)
             (sym talked) took.said;
         written = subst (λ (es : List Event). Frames c.output (replies old es))
@@ -241,7 +233,6 @@ module _ (S : Saying) where
         all = talk_ends old c.messages c.moments c.verdicts so.events so.took.goes
             ∙ sym (append-nil so.events);
         tables = λ still. so.took.tables;
-        alone = λ still. ran_alone old now.tables so.events so.took.tables;
         said = so.took.said;
         written = so.written;
         in_hand = [];
@@ -317,8 +308,6 @@ module _ (S : Saying) where
               ∙ talk_is old c.messages c.moments m.moments c.verdicts so.events so.took.goes
               ∙ sym (append-nil so.events);
           tables = λ still. untaken.tables still ∙ so.took.tables;
-          alone = λ still. ran_alone old now.tables so.events
-              (untaken.tables still ∙ so.took.tables);
           said = subst (AreSaid S (queries old so.events)) (sym same) so.took.said;
           written = frames_and_no_more c.output out (replies old so.events) none so.written;
           in_hand = came ∷ [];
@@ -364,7 +353,6 @@ module _ (S : Saying) where
               (so.events ++ most.came ∷ most.answer ∷ []) goes
               ∙ sym (append_assoc so.events first (most.answer ∷ []));
           tables = led;
-          alone = λ still. ran_alone old now.tables (so.events ++ first) (led still);
           said = said_more S old mid.tables so.events first c.verdicts m.verdicts so.took.tables
               so.took.said most.said;
           written = written_more old mid.tables so.events first c.output out so.took.tables
@@ -392,8 +380,6 @@ module _ (S : Saying) where
           came = took.came;
           read = all_read c.messages m.message so.read cut.reads;
           tables = led;
-          alone = ran_alone old now.tables
-              (talk old with_it.messages with_it.moments with_it.verdicts) led;
           said = subst (λ (es : List Event). AreSaid S (queries old es) with_it.verdicts)
               (sym talked) took.said;
           earlier = replies old so.events;

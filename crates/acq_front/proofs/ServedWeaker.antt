@@ -3,8 +3,7 @@ use Rattle.std.proofs.Common.{◌≡◌, ◌⊎◌, ◌++◌, ℕ, Result, Ok, E
 use Rattle.std.proofs.Common.{◌∙◌, ⊎_elim}
 use Rattle.acq_message.specs.declared.verdict.Verdict.{Verdict}
 use Rattle.acq_core.specs.declared.query.Query.{Query}
-use Rattle.acq_core.specs.Tables.{Tables, outputs, tables_after}
-use Rattle.acq_host.specs.Headline.{IsAlone}
+use Rattle.acq_core.specs.Tables.{Tables, tables_after}
 use Rattle.acq_front.specs.declared.front_fault.FrontFault as fault
 use Rattle.acq_front.specs.Stops.{Left, StopLeaves}
 use Rattle.acq_front.specs.Talk.{queries, Saying}
@@ -44,8 +43,6 @@ module _ (S R : Saying) (f : (q : Query) (v : Verdict) → S q v → R q v) (lef
   all_weaker a = record {
     came = a.came;
     tables = g.same ∙ a.tables;
-    alone = subst (IsAlone old (events_of old c) (outputs old (events_of old c))) (sym g.same)
-        a.alone;
     said = said_weaker S R f (queries old (events_of old c)) c.verdicts a.said;
     written = a.written;
     stop = stop_weaker (λ t. t ≡ tables_after old (events_of old c)) a.stop (λ o. a.tables);
@@ -60,8 +57,6 @@ module _ (S R : Saying) (f : (q : Query) (v : Verdict) → S q v → R q v) (lef
     at_most_one = a.at_most_one;
     all = a.all;
     tables = λ s. g.same ∙ a.tables (g.is_open s);
-    alone = λ s. subst (IsAlone old a.events (outputs old a.events)) (sym g.same)
-        (a.alone (g.is_open s));
     said = said_weaker S R f (queries old a.events) c.verdicts a.said;
     written = a.written;
     in_hand = a.in_hand;
@@ -76,8 +71,6 @@ module _ (S R : Saying) (f : (q : Query) (v : Verdict) → S q v → R q v) (lef
     came = a.came;
     read = a.read;
     tables = g.same ∙ a.tables;
-    alone = subst (IsAlone old (events_of old c) (outputs old (events_of old c))) (sym g.same)
-        a.alone;
     said = said_weaker S R f (queries old (events_of old c)) c.verdicts a.said;
     earlier = a.earlier;
     last = a.last;

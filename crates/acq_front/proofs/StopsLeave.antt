@@ -6,7 +6,7 @@ use Rattle.acq_core.specs.Arrivals.{arrival_of}
 use Rattle.acq_core.specs.Tables.{Tables, step_tables, tables_after}
 use Rattle.acq_book.specs.declared.book.Book.{Ghosts}
 use Rattle.acq_book.specs.Calls.{Makes}
-use Rattle.acq_history.proofs.FinalDays.{tables_after-append}
+use Rattle.acq_soundness.proofs.Runs.{tables_after-append}
 use Rattle.acq_host.proofs.Runs.{LeavesTables}
 use Rattle.acq_front.specs.Stops.{Left, left_of, LeavesAll, LeavesSome}
 

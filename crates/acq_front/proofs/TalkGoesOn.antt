@@ -6,7 +6,7 @@ use Rattle.acq_core.specs.declared.event.Event.{Event}
 use Rattle.acq_core.specs.declared.query.Query.{Query}
 use Rattle.acq_core.specs.Arrivals.{arrival_of}
 use Rattle.acq_core.specs.Tables.{Tables, step_output, step_tables, tables_after}
-use Rattle.acq_history.proofs.FinalDays.{tables_after-append}
+use Rattle.acq_soundness.proofs.Runs.{tables_after-append}
 use Rattle.acq_front.specs.Talk.{Taking, talk, reply_in, replies, query_for, queries, Saying}
 use Rattle.acq_front.specs.Talk.{AreSaid}
 use Rattle.acq_front.specs.Turns.{Makes}

@@ -11,8 +11,7 @@ use Rattle.iso_codec.specs.declared.decode_fault.DecodeFault.{DecodeFault}
 use Rattle.acq_message.specs.declared.verdict.Verdict.{Verdict}
 use Rattle.acq_core.specs.declared.event.Event.{Event}
 use Rattle.acq_core.specs.declared.event.Event.TheVariants.{Frame}
-use Rattle.acq_core.specs.Tables.{Tables, outputs, tables_after}
-use Rattle.acq_host.specs.Headline.{IsAlone}
+use Rattle.acq_core.specs.Tables.{Tables, tables_after}
 use Rattle.acq_front.specs.declared.front_fault.FrontFault as fault
 use Rattle.acq_front.specs.Stops.{Left, LeavesAll, LeavesSome}
 use Rattle.acq_front.specs.Talk.{talk, replies, queries, Saying, AreSaid}
@@ -47,13 +46,12 @@ abbrev pub AllRead : List (List ℕ) → Type 0
 AllRead messages = list_all is_read messages ≡ true
 
 -- What came are the frames of the messages and then the rest. The host took the messages' events,
--- asking the issuer for each answer, and what went out are the frames of the replies to them: to
--- each merchant, and to nobody, what its own events alone give. A stop leaves all these events.
+-- asking the issuer for each answer, and what went out are the frames of the replies to them. A stop
+-- leaves all these events.
 pub record AllAnswered (may_say : Saying) (old : Tables) (left : Left) (c : Connection) : Type 0
   where
     pub came : FramesThen c.input c.messages c.rest
     pub tables : left.tables ≡ tables_after old (events_of old c)
-    pub alone : IsAlone old (events_of old c) (outputs old (events_of old c)) left.tables
     pub said : AreSaid may_say (queries old (events_of old c)) c.verdicts
     pub written : Frames c.output (replies old (events_of old c))
     pub stop : LeavesAll left old (events_of old c)
@@ -64,7 +62,6 @@ pub record CutsLast (may_say : Saying) (old : Tables) (left : Left) (c : Connect
   pub came : FramesThen c.input c.messages c.rest
   pub read : AllRead c.messages
   pub tables : left.tables ≡ tables_after old (events_of old c)
-  pub alone : IsAlone old (events_of old c) (outputs old (events_of old c)) left.tables
   pub said : AreSaid may_say (queries old (events_of old c)) c.verdicts
   pub earlier : List (List ℕ)
   pub last : List ℕ
@@ -95,7 +92,6 @@ pub record LeavesOff (may_say : Saying) (old : Tables) (left : Left) (c : Connec
     pub at_most_one : (missing ≡ []) ⊎ ((e : Event) × IsAnswer e × (missing ≡ e ∷ []))
     pub all : events_of old c ≡ events ++ missing
     pub tables : left.is_open → left.tables ≡ tables_after old events
-    pub alone : left.is_open → IsAlone old events (outputs old events) left.tables
     pub said : AreSaid may_say (queries old events) c.verdicts
     pub written : Frames c.output (replies old events)
     pub in_hand : List Event

@@ -4,12 +4,11 @@ ghost use Rattle.std.specs.Prelude.{◌≡◌, ◌≢◌, ℕ, List, [], ◌++�
 ghost use Rattle.acq_link.specs.Frames.{Frames};
 ghost use Rattle.acq_link.specs.FramesAt.{BeginsWithFrame};
 ghost use Rattle.acq_message.specs.declared.verdict.Verdict.{Verdict};
-ghost use Rattle.acq_core.specs.Tables.{Tables, outputs, tables_after};
+ghost use Rattle.acq_core.specs.Tables.{Tables, tables_after};
 ghost use Rattle.acq_core.specs.declared.event.Event.{Event};
-ghost use Rattle.acq_host.specs.Headline.{IsAlone};
 ghost use Rattle.acq_front.specs.Talk.{replies};
 ghost use Rattle.acq_front.specs.Turns.{Makes};
-ghost use Rattle.acq_front.specs.Log.{Entry, Follows, after_log, by, events_of};
+ghost use Rattle.acq_front.specs.Log.{Entry, Follows, after_log, by};
 
 /// Each connection follows the log of one host, whatever the pieces in which it is read and
 /// written, and whatever happens on the others: so what it gets are the replies to its own frames,
@@ -45,11 +44,4 @@ pub fn conversations_follow()
         (input output held unsent : List ℕ) (events : List Event)
         → Follows k t log input output held unsent → j ≢ k
         → Follows k t (log ++ map (by j) events) input output held unsent }
-{}
-
-/// Of all that a host took by many connections, each merchant, and nobody, gets what its own events
-/// alone give.
-pub fn merchants_are_alone()
-    ensures { (t : Tables) (log : List Entry)
-        → IsAlone t (events_of log) (outputs t (events_of log)) (after_log t log) }
 {}

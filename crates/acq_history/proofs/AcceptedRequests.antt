@@ -30,7 +30,8 @@ use Rattle.acq_core.specs.Decision.{admission_in, completion_of, reversal_of}
 use Rattle.acq_core.specs.Decision.{is_final_for, leaves_a_part, is_awaited}
 use Rattle.acq_core.specs.Outcome.{outcome_of}
 use Rattle.acq_core.specs.Tables.{Opening}
-use Rattle.acq_history.specs.Entries.{Entry, is_admissible, is_reversal}
+use Rattle.acq_soundness.specs.Requests.{is_admissible, is_reversal}
+use Rattle.acq_history.specs.Entries.{Entry}
 use Rattle.acq_history.specs.History.{Found, recorded, referred, prior, day_after}
 use Rattle.acq_history.specs.History.{facts_of, used}
 use Rattle.acq_history.specs.History.{amount_of, admitted, first_reference}
@@ -38,7 +39,7 @@ use Rattle.acq_history.specs.History.{reply_state_of}
 use Rattle.acq_history.specs.PartyHistory.{known_by, history_of}
 use Rattle.acq_history.specs.Acceptance as statement
 use Rattle.acq_history.specs.Acceptance.{IsNewRequest, MayBeAdmitted, MayComplete, MayReverse}
-use Rattle.acq_history.proofs.Keys.{bytes_eq_itself}
+use Rattle.acq_soundness.proofs.Keys.{bytes_eq_itself}
 
 -- ---- tests that pass
 

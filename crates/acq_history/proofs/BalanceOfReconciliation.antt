@@ -28,9 +28,9 @@ use Rattle.acq_history.specs.History.{enrolled, recorded, prior, postings, day_a
 use Rattle.acq_history.specs.PartyHistory.{known_by}
 use Rattle.acq_history.specs.Balance.{IsReconciliation, SaysBalance, IsBalanced, balance_reply}
 use Rattle.acq_history.specs.DaySums.{postings_on}
-use Rattle.acq_history.proofs.Keys.{eqb_is, eqb_itself, bytes_eq_itself}
-use Rattle.acq_history.proofs.Lookups.{is_some_there, clash, some_is, not_true}
-use Rattle.acq_history.proofs.Members.{filter-filter}
+use Rattle.acq_soundness.proofs.Keys.{eqb_is, eqb_itself, bytes_eq_itself}
+use Rattle.acq_soundness.proofs.Lookups.{is_some_there, clash, some_is, not_true}
+use Rattle.acq_soundness.proofs.Members.{filter-filter}
 
 -- ---- what elements hold that were set
 

@@ -22,12 +22,13 @@ use Rattle.acq_core.specs.Changes.{answered_status, answered_hold_end}
 use Rattle.acq_core.specs.Changes.{remains_of, remains_of_hold}
 use Rattle.acq_core.specs.Tables.{prior_of, followed_row, answered_row}
 use Rattle.acq_message.specs.Numbers.{is_number}
-use Rattle.acq_history.specs.Entries.{Entry, request_of, is_completing, is_completion, is_reversal}
+use Rattle.acq_soundness.specs.Requests.{is_reversal}
+use Rattle.acq_history.specs.Entries.{Entry, request_of, is_completing, is_completion}
 use Rattle.acq_history.specs.Entries.{is_reversing, is_key, completes, reverses, remaining_by}
 use Rattle.acq_history.specs.History.{Found, aged, recorded, referred, reference_of, prior}
 use Rattle.acq_history.specs.History.{hold_days_of}
-use Rattle.acq_history.proofs.Lookups.{some_is, clash}
-use Rattle.acq_history.proofs.Keys.{same_key_is, same_key_itself, eqb_is, eqb_itself}
+use Rattle.acq_soundness.proofs.Lookups.{some_is, clash}
+use Rattle.acq_soundness.proofs.Keys.{same_key_is, same_key_itself, eqb_is, eqb_itself}
 use Rattle.acq_history.proofs.RecordedInHistory.{key_in, IsFoundAgain, referred_is, recorded_is}
 use Rattle.acq_history.proofs.RequestsAfterNewEntry.{line, shown, prior_is, prior_aged_same}
 use Rattle.acq_history.proofs.RequestsAfterNewEntry.{prior_of_answered, prior_of_completed}
@@ -35,9 +36,9 @@ use Rattle.acq_history.proofs.RequestsAfterNewEntry.{prior_of_reversed, fate_of,
 use Rattle.acq_history.proofs.RequestsAfterNewEntry.{fate_answered, fate_completed, fate_reversed}
 use Rattle.acq_history.proofs.RequestsAfterNewEntry.{prior_by}
 use Rattle.acq_history.proofs.RowsAgreeWithHistory.{FollowsEntry}
-use Rattle.acq_history.proofs.RowsWithChanges.{changing, Edits, followed_kept, answered_kept}
+use Rattle.acq_soundness.proofs.RowsWithChanges.{changing, Edits, followed_kept, answered_kept}
 use Rattle.acq_core.proofs.DecisionCases.{CanBeReversed}
-use Rattle.acq_history.proofs.StepCases.{AllowsReversal, can_be_reversed}
+use Rattle.acq_soundness.proofs.StepCases.{AllowsReversal, can_be_reversed}
 use Rattle.acq_core.specs.declared.remains.Remains.{Remains}
 use Rattle.acq_core.specs.declared.arrival.Arrival.{Arrival}
 

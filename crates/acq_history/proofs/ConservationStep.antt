@@ -30,11 +30,11 @@ use Rattle.acq_core.specs.Tables.{Opening, Tables, new_tables, prior_of, reply_s
 use Rattle.acq_core.specs.Tables.{is_reversible, leg_by, reference_by, known_in, with_changed}
 use Rattle.acq_core.specs.Tables.{with_next_posting, after_any, step_tables, tables_after}
 use Rattle.acq_core.specs.Tables.{followed_row, answered_row}
-use Rattle.acq_history.specs.Entries.{is_reversal}
+use Rattle.acq_soundness.specs.Requests.{is_reversal}
 use Rattle.acq_history.specs.Conservation.{is_reversal_leg, IsConserved}
-use Rattle.acq_history.proofs.Members.{In, In-first, In-last, In-push, from_In, to_In}
-use Rattle.acq_history.proofs.WhatRemains.{left_by, legged_not_lowered}
-use Rattle.acq_history.proofs.FoundRows.{IsNew}
+use Rattle.acq_soundness.proofs.Members.{In, In-first, In-last, In-push, from_In, to_In}
+use Rattle.acq_soundness.proofs.WhatRemains.{left_by, legged_not_lowered}
+use Rattle.acq_soundness.proofs.FoundRows.{IsNew}
 use Rattle.acq_history.proofs.PostingsOfRequests.{is_posted, is_reversed, posted_by, posted}
 use Rattle.acq_history.proofs.PostingsOfRequests.{IsPostingOf, HasPosted, PostingsMatchRows, Grows}
 use Rattle.acq_history.proofs.PostingsOfRequests.{FromBefore, FromBeforeOr, unposted, posted_next}
@@ -50,12 +50,12 @@ use Rattle.acq_history.proofs.PostingsOfChangedRows.{once_posted, none_posted, G
 use Rattle.acq_history.proofs.PostingsOfChangedRows.{Grows-both, from_push, pushed, Grows-replaced}
 use Rattle.acq_history.proofs.PostingsOfChangedRows.{from_replaced, KeepsAmount, LeavesPosted}
 use Rattle.acq_history.proofs.PostingsOfChangedRows.{leaves_posted, approved_standing}
-use Rattle.acq_history.proofs.Lookups.{some_is}
-use Rattle.acq_history.proofs.RowsWithChanges.{Edits, followed_kept, answered_kept}
-use Rattle.acq_history.proofs.StepCases.{by_step, IsRecording, IsCompletion, IsReversal}
-use Rattle.acq_history.proofs.StepCases.{next_reference, IsAdmission, IsAnswering}
+use Rattle.acq_soundness.proofs.Lookups.{some_is}
+use Rattle.acq_soundness.proofs.RowsWithChanges.{Edits, followed_kept, answered_kept}
+use Rattle.acq_soundness.proofs.StepCases.{by_step, IsRecording, IsCompletion, IsReversal}
+use Rattle.acq_soundness.proofs.StepCases.{next_reference, IsAdmission, IsAnswering}
 use Rattle.acq_core.specs.declared.arrival.Arrival.{Arrival}
-use Rattle.acq_history.proofs.Runs.{kept}
+use Rattle.acq_soundness.proofs.Runs.{kept}
 use Rattle.acq_history.proofs.Statuses.{open_row, is_some_open}
 
 -- what holds of every book

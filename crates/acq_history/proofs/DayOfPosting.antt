@@ -15,7 +15,7 @@ use Rattle.acq_core.specs.Changes.{reversing_posting}
 use Rattle.acq_history.specs.Entries.{Entry, is_acceptance}
 use Rattle.acq_history.specs.History.{Found, recorded, referred, prior, posting_by, posting_from}
 use Rattle.acq_history.specs.History.{posting_of}
-use Rattle.acq_history.proofs.Lookups.{map_some, then_some}
+use Rattle.acq_soundness.proofs.Lookups.{map_some, then_some}
 
 -- also where the original posted nothing: then neither does its reversal
 pub reversal_posting_day : (today : ℕ) (r : RequestMessage) (p : Prior) (q : Posting) →

@@ -24,17 +24,17 @@ use Rattle.acq_core.specs.Tables.{Opening}
 use Rattle.acq_core.proofs.DecisionCases.{CanBeReversed, by_request}
 use Rattle.acq_history.specs.Entries.{Entry, reply_in, is_asked, is_approved}
 use Rattle.acq_history.specs.Entries.{is_acceptable, is_answer, answers, accepts, request_of}
-use Rattle.acq_history.specs.Entries.{is_admissible}
+use Rattle.acq_soundness.specs.Requests.{is_admissible}
 use Rattle.acq_history.specs.History.{Found, recorded, referred, prior, day_after, answer_to}
 use Rattle.acq_history.specs.History.{is_admitted, reference_of, kept_reply, reply_state_with}
 use Rattle.acq_history.specs.History.{reply_state_of, next_reference, is_reversed}
 use Rattle.acq_history.specs.PartyHistory.{known_by}
 use Rattle.acq_history.specs.Isolation.{all_recorded}
-use Rattle.acq_history.proofs.Members.{In, In-find}
-use Rattle.acq_history.proofs.Lookups.{clash, then_some, map_some, none_some, Each}
+use Rattle.acq_soundness.proofs.Members.{In, In-find}
+use Rattle.acq_soundness.proofs.Lookups.{clash, then_some, map_some, none_some, Each}
 use Rattle.acq_history.proofs.RecordedInHistory.{IsFoundAgain, AdmitsOnlyEnrolled}
 use Rattle.acq_history.proofs.RecordedInHistory.{each_found_again, find_recorded, key_in}
-use Rattle.acq_history.proofs.RecordableRequests.{recordable_some, wants_by_key}
+use Rattle.acq_soundness.proofs.RecordableRequests.{recordable_some, wants_by_key}
 use Rattle.acq_history.proofs.UnrecordedRequests.{refusal_is, quiet_managed, quiet_unknown}
 use Rattle.acq_history.proofs.UnrecordedRequests.{quiet_duplicate, quiet_repeated}
 

@@ -31,8 +31,10 @@ use Rattle.acq_core.specs.Outcome.{Outcome, Replied, Reported, outcome, outcome_
 use Rattle.acq_core.specs.Tables.{Opening, with_next_posting, postings_of}
 use Rattle.acq_core.proofs.DecisionCases.{by_answer}
 use Rattle.acq_history.specs.Entries.{Entry, reply_in, is_approved, is_completion}
-use Rattle.acq_history.specs.Entries.{is_reversal, is_acceptable, is_admissible, accepts}
-use Rattle.acq_history.specs.Entries.{request_of, recordable}
+use Rattle.acq_soundness.specs.Requests.{is_reversal, is_admissible}
+use Rattle.acq_history.specs.Entries.{is_acceptable, accepts}
+use Rattle.acq_soundness.specs.Requests.{recordable}
+use Rattle.acq_history.specs.Entries.{request_of}
 use Rattle.acq_history.specs.History.{referred, recorded, prior, enrolled, day_after}
 use Rattle.acq_history.specs.History.{ranges_after, is_admitted, posting_of, posting_by, postings}
 use Rattle.acq_history.specs.PartyHistory.{is_of, own, known_by, entry_for, history_after}
@@ -42,15 +44,15 @@ use Rattle.acq_history.specs.PostedRows.{IsAccepted, completion_posting}
 use Rattle.acq_history.specs.PostedRows.{ReversesPosted, reversing_posting, posted_about}
 use Rattle.acq_history.specs.PostedRows.{ApprovalsPost, CompletionsPost, ReversalsPost}
 use Rattle.acq_history.specs.PostedRows.{NothingElsePosts, TablesPost}
-use Rattle.acq_history.proofs.Lookups.{clash, none_some, some_is, map_some, is_some_there, filter-push_in}
-use Rattle.acq_history.proofs.Lookups.{filter-push_out}
+use Rattle.acq_soundness.proofs.Lookups.{clash, none_some, some_is, map_some, is_some_there, filter-push_in}
+use Rattle.acq_soundness.proofs.Lookups.{filter-push_out}
 use Rattle.acq_history.proofs.RecordedInHistory.{enrolled_where, referred_is, recorded_is}
 use Rattle.acq_history.proofs.RecordedInHistory.{reference_if}
-use Rattle.acq_history.proofs.RecordableRequests.{recordable_is, is_reversal_true}
+use Rattle.acq_soundness.proofs.RecordableRequests.{recordable_is, is_reversal_true}
 use Rattle.acq_history.proofs.UnrecordedRequests.{accepts_not}
 use Rattle.acq_history.proofs.NewRows.{admissible_is, own_reference, own_card}
 use Rattle.acq_history.proofs.ChangedRows.{entry_on}
-use Rattle.acq_history.proofs.StepCases.{can_be_reversed}
+use Rattle.acq_soundness.proofs.StepCases.{can_be_reversed}
 use Rattle.acq_history.proofs.OwnRequests.{reversal_by, reversal_accepted}
 use Rattle.acq_history.proofs.MerchantsRuns.{from_new, posts_alone}
 use Rattle.acq_history.proofs.EntriesThatAccept.{AcceptsBy, accepts_by, HasHold, has_hold}

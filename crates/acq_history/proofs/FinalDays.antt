@@ -21,13 +21,14 @@ use Rattle.acq_core.specs.Tables.{Tables, is_pending, known_in, with_changed, wi
 use Rattle.acq_core.specs.Tables.{after_any, step_tables, tables_after, prior_of}
 use Rattle.acq_history.specs.DaySums.{postings_on}
 use Rattle.acq_history.specs.Finality.{has_pending}
-use Rattle.acq_history.proofs.Members.{In, In-push, any_none}
-use Rattle.acq_history.proofs.Lookups.{some_is, filter-push_out}
+use Rattle.acq_soundness.proofs.Members.{In, In-push, any_none}
+use Rattle.acq_soundness.proofs.Lookups.{some_is, filter-push_out}
 use Rattle.acq_history.proofs.DayOfPosting.{reversal_posting_day}
-use Rattle.acq_history.proofs.RowsWithChanges.{Other, Made, changed_is}
-use Rattle.acq_history.proofs.WhatRemains.{hold_ended, original_ended, not_pending}
-use Rattle.acq_history.proofs.StepCases.{by_step}
+use Rattle.acq_soundness.proofs.RowsWithChanges.{Other, Made, changed_is}
+use Rattle.acq_soundness.proofs.WhatRemains.{hold_ended, original_ended, not_pending}
+use Rattle.acq_soundness.proofs.StepCases.{by_step}
 use Rattle.acq_core.specs.declared.arrival.Arrival.{Arrival}
+use Rattle.acq_soundness.proofs.Runs.{tables_after-append}
 
 -- ---- what is pending
 
@@ -193,12 +194,6 @@ stays_after day t (e ∷ es) c =
     let step = stays day t (arrival_of e) c in
     let rest = stays_after day (step_tables t (arrival_of e)) es step.closed in
     record { closed = rest.closed; same = rest.same ∙ step.same }
-
--- events behind others
-pub tables_after-append : (t : Tables) (es fs : List Event) →
-    tables_after t (es ++ fs) ≡ tables_after (tables_after t es) fs
-tables_after-append t [] fs = refl
-tables_after-append t (e ∷ es) fs = tables_after-append (step_tables t (arrival_of e)) es fs
 
 -- what is past without a pending request is closed
 is_closed : (day : ℕ) (t : Tables) → day < t.day → has_pending day t.requests ≡ false →

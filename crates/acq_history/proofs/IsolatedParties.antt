@@ -8,8 +8,8 @@ use Rattle.acq_core.specs.Arrivals.{arrival_of, merchant_named, is_shared}
 use Rattle.acq_history.specs.PartyHistory.{Party, is_of, outputs_alone}
 use Rattle.acq_history.specs.Splitting.{given, SplitsOverHosts}
 use Rattle.acq_history.specs.Isolation.{IsIsolated, IsSameInTwoRuns}
-use Rattle.acq_history.proofs.Lookups.{or_true, clash, none_of}
-use Rattle.acq_history.proofs.Keys.{eqb_itself}
+use Rattle.acq_soundness.proofs.Lookups.{or_true, clash, none_of}
+use Rattle.acq_soundness.proofs.Keys.{eqb_itself}
 use Rattle.acq_history.proofs.TablesAgreeWithHistory.{names_is}
 use Rattle.acq_history.proofs.MerchantsRuns.{merchant_isolated}
 use Rattle.acq_history.proofs.NobodysRuns.{nobody_isolated}

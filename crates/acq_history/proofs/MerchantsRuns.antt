@@ -9,7 +9,7 @@ use Rattle.acq_core.specs.Tables.{Opening, Tables, new_tables, requests_of}
 use Rattle.acq_history.specs.Entries.{Entry}
 use Rattle.acq_history.specs.PartyHistory.{names, is_of, book_after, history_of}
 use Rattle.acq_history.specs.Isolation.{open_at, all_recorded, IsIsolated, PostsAlone, HoldsAlone}
-use Rattle.acq_history.proofs.Lookups.{map-both}
+use Rattle.acq_soundness.proofs.Lookups.{map-both}
 use Rattle.acq_history.proofs.RequestsAfterNewEntry.{line, shown}
 use Rattle.acq_history.proofs.TablesAgreeWithHistory.{Agrees, names_is}
 use Rattle.acq_history.proofs.OwnStep.{step_mine, step_shared, IsStep}

@@ -27,7 +27,8 @@ use Rattle.acq_core.specs.Changes.{refused_row, admitted_row, completion_row, re
 use Rattle.acq_message.specs.Reply.{coded_reply, referring_reply, draft_reply}
 use Rattle.acq_core.specs.Tables.{prior_of}
 use Rattle.acq_core.specs.Tables as tables
-use Rattle.acq_history.specs.Entries.{Entry, is_answer, is_completing, is_admissible, is_reversal}
+use Rattle.acq_soundness.specs.Requests.{is_admissible, is_reversal}
+use Rattle.acq_history.specs.Entries.{Entry, is_answer, is_completing}
 use Rattle.acq_history.specs.History.{Found, newest, referred, next_reference, is_admitted}
 use Rattle.acq_history.specs.History.{is_accepted, reference_of, reference_by, leg_by, card_by}
 use Rattle.acq_history.specs.History.{hold_days_of, hold_of, any_with, prior}

@@ -32,8 +32,8 @@ use Rattle.acq_history.specs.History.{day_after, ranges_after}
 use Rattle.acq_history.specs.PartyHistory.{names, is_of, known_by, entry_for, book_after}
 use Rattle.acq_history.specs.PartyHistory.{history_of}
 use Rattle.acq_history.specs.Isolation.{IsIsolated}
-use Rattle.acq_history.proofs.Lookups.{clash, not_true}
-use Rattle.acq_history.proofs.Keys.{bytes_eq_is}
+use Rattle.acq_soundness.proofs.Lookups.{clash, not_true}
+use Rattle.acq_soundness.proofs.Keys.{bytes_eq_is}
 use Rattle.acq_history.proofs.OtherPartysStep.{IsNaming, other_step, naming_of}
 use Rattle.acq_history.proofs.WholeRuns.{KeepsAgreement, whole_run}
 

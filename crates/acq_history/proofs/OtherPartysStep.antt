@@ -31,17 +31,17 @@ use Rattle.acq_core.specs.Tables.{Opening, Tables, prior_of, requests_of, postin
 use Rattle.acq_core.specs.Tables.{after_any, known_in, step_tables, used_in}
 use Rattle.acq_history.specs.Entries.{Entry, request_of}
 use Rattle.acq_history.specs.PartyHistory.{names}
-use Rattle.acq_history.proofs.Lookups.{clash, or_split, not_false, map_same, any-push, filter-map}
-use Rattle.acq_history.proofs.Lookups.{filter-push_out, none_some}
-use Rattle.acq_history.proofs.Keys.{same_key_is, eqb_is}
+use Rattle.acq_soundness.proofs.Lookups.{clash, or_split, not_false, map_same, any-push, filter-map}
+use Rattle.acq_soundness.proofs.Lookups.{filter-push_out, none_some}
+use Rattle.acq_soundness.proofs.Keys.{same_key_is, eqb_is}
 use Rattle.acq_core.proofs.Counts.{or_none}
-use Rattle.acq_history.proofs.RecordableRequests.{recordable_some}
+use Rattle.acq_soundness.proofs.RecordableRequests.{recordable_some}
 use Rattle.acq_history.proofs.RequestsAfterNewEntry.{line}
-use Rattle.acq_history.proofs.RowsWithChanges.{Edits, changing, changing_kept, followed_kept}
-use Rattle.acq_history.proofs.RowsWithChanges.{answered_kept}
+use Rattle.acq_soundness.proofs.RowsWithChanges.{Edits, changing, changing_kept, followed_kept}
+use Rattle.acq_soundness.proofs.RowsWithChanges.{answered_kept}
 use Rattle.acq_history.proofs.TablesAgreeWithHistory.{Agrees, postings_of_other}
 use Rattle.acq_history.proofs.TablesAgreeWithHistory.{answer_posting_is_of, reversal_posting_is_of}
-use Rattle.acq_history.proofs.StepCases.{by_step, IsRecording}
+use Rattle.acq_soundness.proofs.StepCases.{by_step, IsRecording}
 use Rattle.acq_core.specs.declared.posting.Posting.{Posting}
 use Rattle.acq_core.specs.declared.reconciliation.Reconciliation.{Reconciliation}
 

@@ -36,16 +36,16 @@ use Rattle.acq_core.specs.Tables.{Opening, Tables, postings_of, with_next_postin
 use Rattle.acq_core.specs.Tables.{followed_row}
 use Rattle.acq_history.specs.Entries.{Entry, request_of, is_code, is_asked, is_approved}
 use Rattle.acq_history.specs.Entries.{is_past_merchant, accepts, is_acceptable, is_acceptance}
-use Rattle.acq_history.specs.Entries.{is_admissible, is_reversal}
+use Rattle.acq_soundness.specs.Requests.{is_admissible, is_reversal}
 use Rattle.acq_history.specs.History.{newest, recorded, referred, day_after, ranges_after, enrolled}
 use Rattle.acq_history.specs.History.{admitted, admits, is_admission, first_reference}
 use Rattle.acq_history.specs.History.{next_reference, prior, postings, posting_of, posting_by}
 use Rattle.acq_history.specs.PartyHistory.{known_by}
 use Rattle.acq_history.specs.Isolation.{recording_first}
-use Rattle.acq_history.proofs.Lookups.{clash, map_none, map_some, then_some}
-use Rattle.acq_history.proofs.Keys.{bytes_eq_itself}
+use Rattle.acq_soundness.proofs.Lookups.{clash, map_none, map_some, then_some}
+use Rattle.acq_soundness.proofs.Keys.{bytes_eq_itself}
 use Rattle.acq_history.proofs.RecordedInHistory.{referred_is, reference_if}
-use Rattle.acq_history.proofs.RecordableRequests.{recordable_is, wants_by_key}
+use Rattle.acq_soundness.proofs.RecordableRequests.{recordable_is, wants_by_key}
 use Rattle.acq_history.proofs.UnrecordedRequests.{IsRefusal, IsQuiet, accepts_not}
 use Rattle.acq_history.proofs.NewRows.{idle_line, admitted_line, completed_line, reversed_line}
 use Rattle.acq_history.proofs.RequestsAfterNewEntry.{line, shown}
@@ -55,7 +55,7 @@ use Rattle.acq_history.proofs.RowsAgreeWithHistory.{without_newest_still, rows_s
 use Rattle.acq_history.proofs.ChangedRows.{completion_follows, reversal_follows, entry_on}
 use Rattle.acq_history.proofs.TablesAgreeWithHistory.{Agrees, common_still, IsOf, postings_of_mine}
 use Rattle.acq_history.proofs.TablesAgreeWithHistory.{reversal_posting_is_of}
-use Rattle.acq_history.proofs.RowsWithChanges.{followed_kept}
+use Rattle.acq_soundness.proofs.RowsWithChanges.{followed_kept}
 
 -- ---- what a request asks for
 

@@ -48,13 +48,13 @@ use Rattle.acq_history.specs.History.{referred, day_after, ranges_after, enrolle
 use Rattle.acq_history.specs.History.{postings, posting_of}
 use Rattle.acq_history.specs.PartyHistory.{known_by, entry_for}
 use Rattle.acq_history.specs.Isolation.{recording_first}
-use Rattle.acq_history.proofs.Lookups.{some_is, map_some, then_map, any-push, found_passes}
-use Rattle.acq_history.proofs.Lookups.{none_some}
-use Rattle.acq_history.proofs.Keys.{bytes_eq_is, bytes_eq_itself}
+use Rattle.acq_soundness.proofs.Lookups.{some_is, map_some, then_map, any-push, found_passes}
+use Rattle.acq_soundness.proofs.Lookups.{none_some}
+use Rattle.acq_soundness.proofs.Keys.{bytes_eq_is, bytes_eq_itself}
 use Rattle.acq_core.proofs.DecisionCases.{by_request, by_answer}
 use Rattle.acq_core.proofs.Counts.{or_none}
-use Rattle.acq_history.proofs.RecordableRequests.{recordable_some, is_admissible_true}
-use Rattle.acq_history.proofs.RecordableRequests.{is_reversal_true}
+use Rattle.acq_soundness.proofs.RecordableRequests.{recordable_some, is_admissible_true}
+use Rattle.acq_soundness.proofs.RecordableRequests.{is_reversal_true}
 use Rattle.acq_history.proofs.UnrecordedRequests.{IsQuiet, refusal_is, quiet_managed, quiet_unknown}
 use Rattle.acq_history.proofs.UnrecordedRequests.{quiet_duplicate, quiet_repeated, change_of_repeat}
 use Rattle.acq_history.proofs.RowsAgreeWithHistory.{Rows, without_newest_edited}
@@ -66,7 +66,7 @@ use Rattle.acq_history.proofs.TablesAgreeWithHistory.{known_in_shared, IsOf, pos
 use Rattle.acq_history.proofs.TablesAgreeWithHistory.{answer_posting_is_of}
 use Rattle.acq_history.proofs.OwnRequests.{Keeps, quiet_step, refused_step, reconciled_step}
 use Rattle.acq_history.proofs.OwnRequests.{admitted_step, completed_step, reversed_step}
-use Rattle.acq_history.proofs.RowsWithChanges.{answered_kept}
+use Rattle.acq_soundness.proofs.RowsWithChanges.{answered_kept}
 use Rattle.acq_history.proofs.Statuses.{is_some_open}
 
 -- what is found in a merchant's rows has its key

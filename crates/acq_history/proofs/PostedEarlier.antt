@@ -39,7 +39,8 @@ use Rattle.acq_core.specs.Tables.{Opening}
 use Rattle.acq_core.proofs.Counts.{or_none}
 use Rattle.acq_core.proofs.DecisionCases.{by_answer}
 use Rattle.acq_history.specs.Entries.{Entry, reply_in, is_approved, is_past_merchant, is_answer}
-use Rattle.acq_history.specs.Entries.{is_asked, accepts, is_acceptable, is_admissible, is_key}
+use Rattle.acq_soundness.specs.Requests.{is_admissible}
+use Rattle.acq_history.specs.Entries.{is_asked, accepts, is_acceptable, is_key}
 use Rattle.acq_history.specs.Entries.{request_of, approval_by, approval_in}
 use Rattle.acq_history.specs.History.{Found, newest, aged, recorded, recording, referred, prior}
 use Rattle.acq_history.specs.History.{reference_of, approval_of, answer_to, is_accepted}
@@ -51,13 +52,13 @@ use Rattle.acq_history.specs.History.{is_completed, is_reversed, next_reference,
 use Rattle.acq_history.specs.PartyHistory.{known_by, entry_for, history_after, history_of, own}
 use Rattle.acq_history.specs.PostedRows.{sale_posting, reversing_posting, posting_about}
 use Rattle.acq_history.specs.PostedRows.{posted_about}
-use Rattle.acq_history.proofs.Lookups.{clash, some_is, none_some, map_none, map_some, own_none}
-use Rattle.acq_history.proofs.Lookups.{not_true, is_some_there}
-use Rattle.acq_history.proofs.Keys.{same_key_is, same_key_itself, eqb_itself}
+use Rattle.acq_soundness.proofs.Lookups.{clash, some_is, none_some, map_none, map_some, own_none}
+use Rattle.acq_soundness.proofs.Lookups.{not_true, is_some_there}
+use Rattle.acq_soundness.proofs.Keys.{same_key_is, same_key_itself, eqb_itself}
 use Rattle.acq_history.proofs.RecordedInHistory.{AdmitsOnlyEnrolled, key_in, referred_is}
 use Rattle.acq_history.proofs.RecordedInHistory.{recorded_is}
 use Rattle.acq_history.proofs.RecordedInHistory.{reference_if}
-use Rattle.acq_history.proofs.RecordableRequests.{recordable_is}
+use Rattle.acq_soundness.proofs.RecordableRequests.{recordable_is}
 use Rattle.acq_history.proofs.UnrecordedRequests.{accepts_not}
 use Rattle.acq_history.proofs.MerchantsRuns.{from_new}
 use Rattle.acq_history.proofs.NewRows.{admissible_is, own_reference, own_card}

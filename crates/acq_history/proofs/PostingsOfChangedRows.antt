@@ -22,17 +22,17 @@ use Rattle.acq_core.specs.Known.{Prior}
 use Rattle.acq_core.specs.Changes.{reversal_leg, reversed_status, posted_leg, is_lowered}
 use Rattle.acq_core.specs.Tables.{reply_state_of, is_reversible, is_approved, leg_by, reference_by}
 use Rattle.acq_core.specs.Tables.{followed_row}
-use Rattle.acq_history.proofs.WhatRemains.{left_by}
-use Rattle.acq_history.specs.Entries.{is_admissible, is_reversal}
+use Rattle.acq_soundness.proofs.WhatRemains.{left_by}
+use Rattle.acq_soundness.specs.Requests.{is_admissible, is_reversal}
 use Rattle.acq_history.specs.Conservation.{is_reversal_leg}
-use Rattle.acq_history.proofs.Members.{In, In-first, In-push}
+use Rattle.acq_soundness.proofs.Members.{In, In-first, In-push}
 use Rattle.acq_history.proofs.PostingsOfRequests.{is_posted, is_reversed, posted_by, posted}
 use Rattle.acq_history.proofs.PostingsOfRequests.{reversed_under, HasPosted, HasPosting}
 use Rattle.acq_history.proofs.PostingsOfRequests.{PostingsMatchRows, Grows, FromBefore, unposted}
 use Rattle.acq_history.proofs.PostingsOfRequests.{under_by}
 use Rattle.acq_history.proofs.RowsStayWellFormed.{IsWellFormed, IsReplaced}
-use Rattle.acq_history.proofs.RowsWithChanges.{IsChange}
-use Rattle.acq_history.proofs.Lookups.{clash}
+use Rattle.acq_soundness.proofs.RowsWithChanges.{IsChange}
+use Rattle.acq_soundness.proofs.Lookups.{clash}
 
 -- ---- what has posted
 

@@ -13,8 +13,8 @@ use Rattle.acq_message.specs.Elements.{or_empty}
 use Rattle.acq_core.specs.Changes.{reversal_leg}
 use Rattle.acq_core.specs.Tables.{count, with_next_posting}
 use Rattle.acq_history.specs.Conservation.{is_reversal_leg, is_posting, IsEarlier, IsOriginalOf}
-use Rattle.acq_history.proofs.Members.{In, In-first, In-last, In-push}
-use Rattle.acq_history.proofs.Keys.{bytes_eq_is, bytes_eq_itself, eqb_is, eqb_itself}
+use Rattle.acq_soundness.proofs.Members.{In, In-first, In-last, In-push}
+use Rattle.acq_soundness.proofs.Keys.{bytes_eq_is, bytes_eq_itself, eqb_is, eqb_itself}
 use Rattle.std.proofs.lemmas.Bool.{and_parts}
 
 -- ---- what a request has posted

@@ -49,11 +49,11 @@ use Rattle.acq_history.specs.PartyHistory.{known_by, entry_for, names}
 use Rattle.acq_history.specs.Reconciliations.{reconciliation_on, reconciliation_by}
 use Rattle.acq_history.specs.Reconciliations.{with_reconciliation, reconciliations}
 use Rattle.acq_history.specs.Reconciliations.{reconciliations_of, ReconcilesAlone}
-use Rattle.acq_history.proofs.Lookups.{clash, filter-push_in, filter-push_out, count-filter}
-use Rattle.acq_history.proofs.Keys.{bytes_eq_itself}
-use Rattle.acq_history.proofs.RecordableRequests.{recordable_some}
+use Rattle.acq_soundness.proofs.Lookups.{clash, filter-push_in, filter-push_out, count-filter}
+use Rattle.acq_soundness.proofs.Keys.{bytes_eq_itself}
+use Rattle.acq_soundness.proofs.RecordableRequests.{recordable_some}
 use Rattle.acq_history.proofs.ChangedRows.{entry_on}
-use Rattle.acq_history.proofs.StepCases.{by_step}
+use Rattle.acq_soundness.proofs.StepCases.{by_step}
 use Rattle.acq_history.proofs.OwnRequests.{balance_past}
 use Rattle.acq_history.proofs.TablesAgreeWithHistory.{Agrees, known_in_mine, known_in_shared}
 use Rattle.acq_history.proofs.TablesAgreeWithHistory.{names_is}

@@ -15,14 +15,15 @@ use Rattle.acq_core.specs.Outcome.{Outcome, Asked}
 use Rattle.acq_core.specs.Tables.{count}
 use Rattle.acq_message.specs.Numbers.{is_number}
 use Rattle.acq_core.proofs.Counts.{count-push_if}
-use Rattle.acq_history.specs.Entries.{Entry, request_of, is_past_merchant, is_asked, is_admissible}
+use Rattle.acq_soundness.specs.Requests.{is_admissible}
+use Rattle.acq_history.specs.Entries.{Entry, request_of, is_past_merchant, is_asked}
 use Rattle.acq_history.specs.History.{Found, newest, aged, recording, recorded, referring, referred}
 use Rattle.acq_history.specs.History.{admits, is_admission, admitted, first_reference}
 use Rattle.acq_history.specs.History.{next_reference, reference_of, enrolled}
 use Rattle.acq_history.specs.Isolation.{recording_first, all_recorded}
-use Rattle.acq_history.proofs.Lookups.{none_of, not_some, some_is, find-view, count-view, Each}
-use Rattle.acq_history.proofs.Lookups.{each-push, each-map}
-use Rattle.acq_history.proofs.Keys.{same_key_itself, same_key_is, eqb_itself, eqb_is}
+use Rattle.acq_soundness.proofs.Lookups.{none_of, not_some, some_is, find-view, count-view, Each}
+use Rattle.acq_soundness.proofs.Lookups.{each-push, each-map}
+use Rattle.acq_soundness.proofs.Keys.{same_key_itself, same_key_is, eqb_itself, eqb_is}
 
 -- the key of a recorded request
 abbrev pub key_in : Found → RequestKey

@@ -26,7 +26,7 @@ use Rattle.acq_history.proofs.TablesAgreeWithHistory.{Agrees, known_in_mine, kno
 use Rattle.acq_history.proofs.TablesAgreeWithHistory.{names_is}
 use Rattle.acq_history.proofs.OwnRequests.{recorded_known, is_some_map}
 use Rattle.acq_history.proofs.MerchantsRuns.{own_step, from_new}
-use Rattle.acq_history.proofs.Lookups.{filter_all}
+use Rattle.acq_soundness.proofs.Lookups.{filter_all}
 
 is_some_not_none : {X : Type 0} {P : Type 0} (o : Option X) → is_some o ≡ true → o ≡ None → P
 is_some_not_none None there none = absurd (cc)

@@ -21,14 +21,15 @@ use Rattle.acq_core.specs.Decision.{Decision, Replies, decision_by, decision_of_
 use Rattle.acq_core.specs.Decision.{decision_of_merchant, decision_of_request, repeat_of}
 use Rattle.acq_core.specs.Outcome.{outcome, outcome_of}
 use Rattle.acq_core.specs.Tables.{Opening}
-use Rattle.acq_history.specs.Entries.{Entry, request_of, recordable, is_past_merchant, is_performed}
+use Rattle.acq_soundness.specs.Requests.{recordable}
+use Rattle.acq_history.specs.Entries.{Entry, request_of, is_past_merchant, is_performed}
 use Rattle.acq_history.specs.Entries.{enrolment_in}
 use Rattle.acq_history.specs.History.{Found, recorded, recording, newest, aged, prior, enrolled}
 use Rattle.acq_history.specs.History.{has_terminal, day_after}
 use Rattle.acq_history.specs.PartyHistory.{known_by, entry_for, history_after}
 use Rattle.acq_history.specs.KeptRepeats.{repeated}
-use Rattle.acq_history.proofs.Keys.{same_key_is, bytes_eq_from}
-use Rattle.acq_history.proofs.RecordableRequests.{recordable_is, wants_by_key}
+use Rattle.acq_soundness.proofs.Keys.{same_key_is, bytes_eq_from}
+use Rattle.acq_soundness.proofs.RecordableRequests.{recordable_is, wants_by_key}
 use Rattle.std.proofs.lemmas.Bool.{and_parts}
 
 -- a merchant was enrolled, and this terminal added

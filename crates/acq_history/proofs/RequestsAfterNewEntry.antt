@@ -33,20 +33,21 @@ use Rattle.acq_core.specs.Tables as tables
 use Rattle.acq_message.specs.Reply.{draft_reply}
 use Rattle.acq_message.specs.Numbers.{is_number}
 use Rattle.acq_history.specs.Entries.{Entry, reply_in, accepts, is_acceptable, is_completion}
-use Rattle.acq_history.specs.Entries.{is_reversal, is_approved, is_acceptance, is_answer}
+use Rattle.acq_soundness.specs.Requests.{is_reversal}
+use Rattle.acq_history.specs.Entries.{is_approved, is_acceptance, is_answer}
 use Rattle.acq_history.specs.Entries.{is_completing, is_reversing, completes, reverses, is_key}
 use Rattle.acq_history.specs.Entries.{approval_in, approval_by, request_of, remaining_by}
 use Rattle.acq_history.specs.History.{Found, aged, next_reference, is_admitted, is_accepted}
 use Rattle.acq_history.specs.History.{reference_of, reference_by, leg_by, card_by, hold_days_of}
 use Rattle.acq_history.specs.History.{answer_to, is_completed, reversal_of, lowered_to, any_with}
 use Rattle.acq_history.specs.History.{reply_state_with, prior}
-use Rattle.acq_history.proofs.Lookups.{not_true, not_some, or_true, own_none}
+use Rattle.acq_soundness.proofs.Lookups.{not_true, not_some, or_true, own_none}
 use Rattle.acq_history.proofs.RecordedInHistory.{key_in}
 use Rattle.acq_core.proofs.Statuses.{only_awaited}
 use Rattle.acq_history.proofs.Statuses.{open_row, IsApproved}
-use Rattle.acq_history.proofs.WhatRemains.{hold_ended, original_ended, left_by}
-use Rattle.acq_history.proofs.WhatRemains.{reversed_unapproved, lowered_was_approved}
-use Rattle.acq_history.proofs.RowsWithChanges.{followed_kept, answered_kept, IsChange}
+use Rattle.acq_soundness.proofs.WhatRemains.{hold_ended, original_ended, left_by}
+use Rattle.acq_soundness.proofs.WhatRemains.{reversed_unapproved, lowered_was_approved}
+use Rattle.acq_soundness.proofs.RowsWithChanges.{followed_kept, answered_kept, IsChange}
 
 -- ---- what became of a recorded request
 

@@ -13,8 +13,8 @@ use Rattle.acq_core.specs.Changes.{reversal_leg}
 use Rattle.acq_core.specs.Tables.{count, new_tables, tables_after}
 use Rattle.acq_history.specs.Conservation.{is_reversal_leg, is_posting, IsConserved, amount_posted}
 use Rattle.acq_history.specs.Conservation.{NeverExceeds}
-use Rattle.acq_history.proofs.Members.{In, from_In, to_In}
-use Rattle.acq_history.proofs.Keys.{bytes_eq_itself, eqb_itself}
+use Rattle.acq_soundness.proofs.Members.{In, from_In, to_In}
+use Rattle.acq_soundness.proofs.Keys.{bytes_eq_itself, eqb_itself}
 use Rattle.acq_history.proofs.PostingsOfRequests.{says_posting}
 use Rattle.acq_history.proofs.ConservationStep.{conserved}
 

@@ -18,13 +18,13 @@ use Rattle.acq_history.specs.Entries.{Entry, request_of, is_acceptance, is_past_
 use Rattle.acq_history.specs.History.{Found, newest, aged, recorded, referred, is_admission}
 use Rattle.acq_history.specs.History.{admitted, enrolled, used, prior}
 use Rattle.acq_history.specs.Isolation.{recording_first, all_recorded}
-use Rattle.acq_history.proofs.Lookups.{map_map, find-view, count-view, map-push, filter-push_in}
-use Rattle.acq_history.proofs.Lookups.{Each}
+use Rattle.acq_soundness.proofs.Lookups.{map_map, find-view, count-view, map-push, filter-push_in}
+use Rattle.acq_soundness.proofs.Lookups.{Each}
 use Rattle.acq_history.proofs.RecordedInHistory.{find_recorded, find_referred, count_admitted}
 use Rattle.acq_history.proofs.RecordedInHistory.{AdmitsOnlyEnrolled, IsFoundAgain, each_found_again}
 use Rattle.acq_history.proofs.RequestsAfterNewEntry.{line, shown, shown_aged}
-use Rattle.acq_history.proofs.RowsWithChanges.{changing, Edits, requests_of-changed}
-use Rattle.acq_history.proofs.CountsOfRows.{used_in-changed}
+use Rattle.acq_soundness.proofs.RowsWithChanges.{changing, Edits, requests_of-changed}
+use Rattle.acq_soundness.proofs.CountsOfRows.{used_in-changed}
 
 -- a merchant's rows say what its history says
 pub record Rows (m : List ℕ) (rows : List Request) (h : List Entry) : Type 0 where

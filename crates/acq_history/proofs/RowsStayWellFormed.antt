@@ -11,15 +11,15 @@ use Rattle.acq_core.specs.declared.merchant.Merchant.{Merchant}
 use Rattle.acq_core.specs.declared.status.Status.TheVariants.{Completed}
 use Rattle.acq_message.specs.Elements.{same_key}
 use Rattle.acq_core.specs.Tables.{requests_of, admitted_in, with_changed}
-use Rattle.acq_history.specs.Entries.{is_admissible, is_reversal}
+use Rattle.acq_soundness.specs.Requests.{is_admissible, is_reversal}
 use Rattle.acq_history.specs.Conservation.{is_reversal_leg}
-use Rattle.acq_history.proofs.Members.{In, In-first, In-push, In-map, In-mapped}
-use Rattle.acq_history.proofs.Keys.{bytes_eq_itself, same_key_is, same_key_itself}
-use Rattle.acq_history.proofs.Lookups.{some_is, count-view, count-same}
-use Rattle.acq_history.proofs.RowsWithChanges.{changing, changing_kept, Edits, IsChange}
-use Rattle.acq_history.proofs.RowsWithChanges.{requests_of-changed, Other, Made, changed_is}
-use Rattle.acq_history.proofs.Runs.{kept}
-use Rattle.acq_history.proofs.FoundRows.{merchant_among}
+use Rattle.acq_soundness.proofs.Members.{In, In-first, In-push, In-map, In-mapped}
+use Rattle.acq_soundness.proofs.Keys.{bytes_eq_itself, same_key_is, same_key_itself}
+use Rattle.acq_soundness.proofs.Lookups.{some_is, count-view, count-same}
+use Rattle.acq_soundness.proofs.RowsWithChanges.{changing, changing_kept, Edits, IsChange}
+use Rattle.acq_soundness.proofs.RowsWithChanges.{requests_of-changed, Other, Made, changed_is}
+use Rattle.acq_soundness.proofs.Runs.{kept}
+use Rattle.acq_soundness.proofs.FoundRows.{merchant_among}
 
 -- how many of a merchant's requests were admitted
 abbrev pub admitted_by : List ℕ → List Request → ℕ

@@ -31,8 +31,8 @@ use Rattle.acq_history.specs.Entries.{Entry, is_cutover, is_performed, enrolment
 use Rattle.acq_history.specs.History.{day_after, ranges_after, ranges_with, enrolled, has_terminal}
 use Rattle.acq_history.specs.History.{is_text, postings, facts_of}
 use Rattle.acq_history.specs.PartyHistory.{names, known_by}
-use Rattle.acq_history.proofs.Lookups.{filter-push_in, filter-push_out, count-filter}
-use Rattle.acq_history.proofs.Keys.{bytes_eq_is, bytes_eq_itself}
+use Rattle.acq_soundness.proofs.Lookups.{filter-push_in, filter-push_out, count-filter}
+use Rattle.acq_soundness.proofs.Keys.{bytes_eq_is, bytes_eq_itself}
 use Rattle.acq_history.proofs.RowsAgreeWithHistory.{Rows, recorded_in_is, referred_in_is}
 use Rattle.acq_history.proofs.RowsAgreeWithHistory.{admitted_in_is}
 

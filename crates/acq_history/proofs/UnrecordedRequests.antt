@@ -16,7 +16,8 @@ use Rattle.acq_core.specs.Outcome.{Outcome, outcome_of}
 use Rattle.acq_core.specs.Changes.{change_of}
 use Rattle.acq_core.proofs.DecisionCases.{is_refusal}
 use Rattle.acq_history.specs.Entries.{is_code, is_asked, is_performed, is_approved}
-use Rattle.acq_history.specs.Entries.{is_past_merchant, recordable, request_of, accepts}
+use Rattle.acq_soundness.specs.Requests.{recordable}
+use Rattle.acq_history.specs.Entries.{is_past_merchant, request_of, accepts}
 use Rattle.acq_history.specs.Entries.{is_acceptable}
 
 -- a code that refuses what is recorded

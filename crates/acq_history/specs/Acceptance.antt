@@ -19,7 +19,8 @@ use Rattle.acq_core.specs.declared.arrival.Arrival.TheVariants.{Requested}
 use Rattle.acq_core.specs.Decision.{is_expired, is_open_at, is_awaited, fits_acquirer}
 use Rattle.acq_core.specs.Outcome.{Outcome, Replied, Asked, outcome, query_of}
 use Rattle.acq_core.specs.Tables.{Opening}
-use Rattle.acq_history.specs.Entries.{Entry, is_admissible, is_reversal}
+use Rattle.acq_soundness.specs.Requests.{is_admissible, is_reversal}
+use Rattle.acq_history.specs.Entries.{Entry}
 use Rattle.acq_history.specs.History.{Found, enrolled, has_terminal, recorded, referred, day_after}
 use Rattle.acq_history.specs.History.{ranges_after, next_reference, used, amount_of, is_reversible}
 use Rattle.acq_history.specs.History.{prior, reply_state_of}

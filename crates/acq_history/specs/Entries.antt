@@ -3,10 +3,8 @@ use Rattle.std.specs.Prelude.{ℕ, ◌==◌, Bool, true, false, not, ◌&&◌, �
 use Rattle.std.specs.Prelude.{is_some}
 use Rattle.card_no.specs.declared.range.Range.{Range}
 use Rattle.acq_message.specs.declared.service.Service.{Service}
-use Rattle.acq_message.specs.declared.service.Service.TheVariants.{Authorization, Financial}
 use Rattle.acq_message.specs.declared.service.Service.TheVariants.{Completion, Reversal}
 use Rattle.acq_message.specs.declared.service.Service.TheVariants.{ReversalAdvice}
-use Rattle.acq_message.specs.declared.service.Service.TheVariants.{NetworkManagement}
 use Rattle.acq_message.specs.declared.request_key.RequestKey.{RequestKey}
 use Rattle.acq_core.specs.declared.merchant.Merchant.{Merchant}
 use Rattle.acq_message.specs.declared.verdict.Verdict.{Verdict}
@@ -21,6 +19,7 @@ use Rattle.acq_core.specs.declared.arrival.Arrival.{Arrival}
 use Rattle.acq_message.specs.declared.request_message.RequestMessage.{RequestMessage}
 use Rattle.acq_core.specs.declared.arrival.Arrival.TheVariants.{Requested, Answered, CutOver}
 use Rattle.acq_core.specs.declared.arrival.Arrival.TheVariants.{Enrolled, TerminalAdded}
+use Rattle.acq_soundness.specs.Requests.{recordable, is_reversal}
 use Rattle.acq_core.specs.Outcome.{Outcome, Replied, Repeated, Asked, Performed, Reported}
 
 -- what came, the day and the ranges that stood when it came, and its outcome
@@ -71,21 +70,10 @@ is_past_merchant (Reported output) = true
 
 -- ---- what came
 
--- the request that came, if it was one that is recorded
-abbrev pub recordable : RequestMessage → Service → Option RequestMessage
-recordable r NetworkManagement = None
-recordable r service = Some r
-
 -- the request that an arrival is, of those that are recorded
 abbrev pub request_of : Arrival → Option RequestMessage
 request_of (Requested r) = recordable r r.service
 request_of arrival = None
-
--- the requests that are admitted when the issuer is asked
-abbrev pub is_admissible : Service → Bool
-is_admissible Authorization = true
-is_admissible Financial = true
-is_admissible service = false
 
 -- the requests that the host itself accepts
 abbrev pub is_acceptable : Service → Bool
@@ -93,12 +81,6 @@ is_acceptable Completion = true
 is_acceptable Reversal = true
 is_acceptable ReversalAdvice = true
 is_acceptable service = false
-
--- either type of reversal
-abbrev pub is_reversal : Service → Bool
-is_reversal Reversal = true
-is_reversal ReversalAdvice = true
-is_reversal service = false
 
 -- a completion of a hold
 abbrev pub is_completion : Service → Bool

@@ -36,7 +36,8 @@ use Rattle.acq_core.specs.Changes.{reversal_posting, is_lowered}
 use Rattle.card_no.specs.Ranges.{between}
 use Rattle.acq_core.specs.Tables.{Opening, with_next_posting, totals_on}
 use Rattle.acq_history.specs.Entries.{Entry, reply_in, is_asked, is_performed, is_past_merchant}
-use Rattle.acq_history.specs.Entries.{request_of, is_admissible, accepts, is_acceptable}
+use Rattle.acq_soundness.specs.Requests.{is_admissible}
+use Rattle.acq_history.specs.Entries.{request_of, accepts, is_acceptable}
 use Rattle.acq_history.specs.Entries.{is_acceptance, is_completing, is_reversing, is_answer}
 use Rattle.acq_history.specs.Entries.{remaining_by}
 use Rattle.acq_history.specs.Entries.{approval_in, is_cutover, enrolment_in, terminal_in}

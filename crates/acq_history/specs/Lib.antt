@@ -3,14 +3,6 @@ pub mod History
 pub mod PartyHistory
 pub mod HistoryLaws
 pub mod LookUps
-pub mod Ranges
-pub mod Keys
-pub mod References
-pub mod Replies
-pub mod CardData
-pub mod Bounds
-pub mod Rows
-pub mod Books
 pub mod Isolation
 pub mod Reconciliations
 pub mod Splitting
@@ -22,4 +14,3 @@ pub mod Conservation
 pub mod Finality
 pub mod PostedRows
 pub mod Acceptance
-pub mod Widening

@@ -21,7 +21,8 @@ use Rattle.acq_core.specs.Changes.{reversal_leg}
 use Rattle.acq_core.specs.Outcome.{Replied, outcome}
 use Rattle.acq_core.specs.Arrivals.{arrival_of}
 use Rattle.acq_core.specs.Tables.{Opening, postings_before, postings_of}
-use Rattle.acq_history.specs.Entries.{Entry, is_completion, is_reversal, is_key}
+use Rattle.acq_soundness.specs.Requests.{is_reversal}
+use Rattle.acq_history.specs.Entries.{Entry, is_completion, is_key}
 use Rattle.acq_history.specs.History.{Found, referred, answer_to, is_reversed, posting_of, postings}
 use Rattle.acq_history.specs.History.{day_after}
 use Rattle.acq_history.specs.PartyHistory.{is_of, known_by, entry_for, history_of, book_after}

@@ -36,14 +36,14 @@ use Rattle.acq_core.specs.Tables.{after_any, step_tables}
 use Rattle.acq_core.proofs.DecisionCases.{by_request, by_answer}
 use Rattle.acq_book.specs.Fits.{Fits, IsPostedBy}
 use Rattle.acq_book.specs.Lookups.{used_at}
-use Rattle.acq_history.proofs.Members.{In-find}
-use Rattle.acq_history.proofs.StepCases.{by_step}
+use Rattle.acq_soundness.proofs.Members.{In-find}
+use Rattle.acq_soundness.proofs.StepCases.{by_step}
 use Rattle.acq_core.specs.Pasts.{IsBook}
-use Rattle.acq_history.specs.Books.{IsSound}
+use Rattle.acq_soundness.specs.Books.{IsSound}
 use Rattle.acq_core.specs.Events.{IsEvent, IsOpening}
-use Rattle.acq_history.specs.References.{merchant_in}
-use Rattle.acq_history.proofs.BooksAreSound.{books_are_sound}
-use Rattle.acq_history.proofs.BooksGoOn.{books_go_on}
+use Rattle.acq_soundness.specs.References.{merchant_in}
+use Rattle.acq_soundness.proofs.BooksAreSound.{books_are_sound}
+use Rattle.acq_soundness.proofs.BooksGoOn.{books_go_on}
 use Rattle.acq_host.proofs.NewRows.{any_member, unreferred_is_new, referred_is_new}
 use Rattle.acq_host.proofs.NewRows.{has_room_for_one}
 use Rattle.acq_host.proofs.NewRows.{has_room_for_posting}

@@ -3,5 +3,3 @@ pub mod LookedUp
 pub mod NewRows
 pub mod ChangesFit
 pub mod Runs
-pub mod PartiesAlone
-pub mod Closed

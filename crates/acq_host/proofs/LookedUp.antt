@@ -31,7 +31,7 @@ use Rattle.acq_core.specs.Tables.{Tables, prior_of, requests_of, recorded_in, fa
 use Rattle.acq_book.specs.Lookups.{merchant_at, has_terminal_at, request_at, referred_at}
 use Rattle.acq_book.specs.Lookups.{admitted_at, used_at, totals_at}
 use Rattle.acq_host.specs.Looked.{IsLooked}
-use Rattle.acq_history.proofs.Keys.{bytes_eq_from, same_key_is}
+use Rattle.acq_soundness.proofs.Keys.{bytes_eq_from, same_key_is}
 
 -- ---- what is wanted is of the merchant that is named
 

@@ -21,14 +21,14 @@ use Rattle.acq_core.specs.Tables.{totals_on}
 use Rattle.acq_core.specs.Tables.{postings_before, with_next_posting}
 use Rattle.acq_book.specs.Fits.{IsNew, HasRoom}
 use Rattle.acq_book.specs.Lookups.{request_at, referred_at, used_at}
-use Rattle.acq_history.proofs.FoundRows.{is_number_is}
-use Rattle.acq_history.proofs.FoundRows as found
-use Rattle.acq_history.proofs.Keys.{bytes_eq_itself, eqb_itself, same_key_is}
-use Rattle.acq_history.proofs.Lookups.{some_is, map-push, filter-push_in, clash}
-use Rattle.acq_history.proofs.Members.{In, In-find, any_none}
+use Rattle.acq_soundness.proofs.FoundRows.{is_number_is}
+use Rattle.acq_soundness.proofs.FoundRows as found
+use Rattle.acq_soundness.proofs.Keys.{bytes_eq_itself, eqb_itself, same_key_is}
+use Rattle.acq_soundness.proofs.Lookups.{some_is, map-push, filter-push_in, clash}
+use Rattle.acq_soundness.proofs.Members.{In, In-find, any_none}
 use Rattle.acq_core.specs.Events.{IsOpening}
-use Rattle.acq_history.specs.References.{AreRowsOf, references_in}
-use Rattle.acq_history.proofs.CountsOfRows.{one_if, count-filter_push}
+use Rattle.acq_soundness.specs.References.{AreRowsOf, references_in}
+use Rattle.acq_soundness.proofs.CountsOfRows.{one_if, count-filter_push}
 
 -- ---- what isn't there
 

@@ -15,8 +15,8 @@ use Rattle.acq_book.specs.declared.book.Book.{Ghosts}
 use Rattle.acq_book.specs.Calls.{Makes}
 use Rattle.acq_book.specs.Promise.{HasRisen}
 use Rattle.acq_book.proofs.Chains.{risen_after}
-use Rattle.acq_history.proofs.BooksGoOn.{books_go_on}
-use Rattle.acq_history.proofs.FinalDays.{tables_after-append}
+use Rattle.acq_soundness.proofs.BooksGoOn.{books_go_on}
+use Rattle.acq_soundness.proofs.Runs.{tables_after-append}
 use Rattle.acq_host.specs.Runs.{after_first}
 
 -- ---- outputs and tables

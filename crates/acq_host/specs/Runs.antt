@@ -5,7 +5,7 @@ use Rattle.acq_core.specs.declared.output.Output.{Output}
 use Rattle.acq_core.specs.declared.output.Output.TheVariants.{Reply}
 use Rattle.acq_core.specs.Tables.{Tables, outputs, tables_after}
 use Rattle.acq_book.specs.Promise.{CountsFault}
-use Rattle.acq_history.specs.Replies.{IsReplyText}
+use Rattle.acq_soundness.specs.Replies.{IsReplyText}
 use Rattle.acq_host.specs.declared.run_fault.RunFault.{RunFault}
 
 -- what the host says, if it is a reply, is the text of one

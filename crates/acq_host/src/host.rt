@@ -1,14 +1,12 @@
 //! A host over a book.
 
-ghost use Rattle.std.specs.Prelude.{◌≡◌, ◌⊎◌, ◌+◌, [], ◌∷◌, ◌++◌, is_ok, take};
+ghost use Rattle.std.specs.Prelude.{◌≡◌, ◌⊎◌, ◌+◌, [], ◌∷◌, ◌++◌, is_ok};
 ghost use Rattle.std.specs.Prelude.{IfOk, IfErr, OnOk, OnErr};
 ghost use Rattle.acq_core.specs.Arrivals.{arrival_of};
 ghost use Rattle.acq_core.specs.Tables.{Tables, new_tables, outputs, step_output, step_tables};
 ghost use Rattle.acq_core.specs.Tables.{tables_after};
 ghost use Rattle.acq_book.specs.Calls.{Makes};
 ghost use Rattle.acq_book.specs.Promise.{CountsFault, HasRisen};
-ghost use Rattle.acq_host.specs.Clearing.{KeptItsClearing};
-ghost use Rattle.acq_host.specs.Headline.{IsAlone, KeptItsPostings};
 ghost use Rattle.acq_core.specs.Pasts.{HasPast};
 ghost use Rattle.acq_host.specs.Runs.{CountsRun, IsWellSaid, StopsAt, after_first};
 
@@ -19,8 +17,8 @@ use crate::deciding::{apply, decide};
 use crate::run_fault::RunFault;
 use acq_book::{Book, BookFault, ListBook};
 use acq_core::{Event, Limit, Output};
-use acq_history::book_laws::books_are_sound;
-use acq_history::{every_event, every_opening};
+use acq_soundness::book_laws::books_are_sound;
+use acq_soundness::{every_event, every_opening};
 use day_totals::Day;
 use std::alloc::Global;
 use std::hash::RandomState;
@@ -113,18 +111,9 @@ impl<B: Book + Drop> Host<B> {
             StopsAt (B.tables self.old) events.now fault.at fault.outputs.items) }
         ensures fault_tables { B.is_open self.old → B.is_open self.new → IfErr result (λ fault.
             B.tables self.new ≡ after_first fault.at (B.tables self.old) events.now) }
-        // Each party got what its own events alone give.
-        ensures alone { B.is_honest self.new → B.is_open self.old → IfOk result (λ said.
-            IsAlone (B.tables self.old) events.now said.items (B.tables self.new)) }
-        ensures fault_alone { B.is_open self.old → B.is_open self.new → IfErr result (λ fault.
-            IsAlone (B.tables self.old) (take fault.at events.now) fault.outputs.items
-            (B.tables self.new)) }
-        // Nothing is posted or reversed twice, and closed days stay as they are.
-        ensures postings { B.is_open self.old → B.is_open self.new
-            → KeptItsPostings (B.tables self.old) (B.tables self.new) }
-        // What clearing gave of a day it gives again, and a clearing file sums up to the totals.
-        ensures clearing { B.is_open self.old → B.is_open self.new
-            → KeptItsClearing (B.tables self.old) (B.tables self.new) }
+        // Events alone led to the tables, before and after.
+        ensures began { B.is_open self.old → HasPast (B.tables self.old) }
+        ensures past { B.is_open self.new → HasPast (B.tables self.new) }
         // A stop leaves all events so far, each time in a book that stores them, and events lead to
         // what it leaves.
         ensures stop { B.is_honest self.new → B.is_open self.old

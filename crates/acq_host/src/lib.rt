@@ -4,11 +4,9 @@
 mod book_text;
 mod deciding;
 mod host;
-mod laws;
 mod looking_up;
 mod run_fault;
 
 pub use book_text::BookText;
 pub use host::Host;
-pub use laws::{repeats_are_quiet, same_in_two_runs};
 pub use run_fault::RunFault;

@@ -31,14 +31,15 @@ use Rattle.acq_sql_rows.specs.Rows.{posting_row}
 use Rattle.acq_sql_rows.specs.Schema.{merchants_tree, terminals_tree, ranges_tree, requests_tree}
 use Rattle.acq_sql_rows.specs.Schema.{postings_tree}
 use Rattle.acq_sql_changes.specs.Refused.{FailsAmong, HasNumberLeft, HasNumbersLeft, Takes}
-use Rattle.acq_sql_changes.specs.Widened.{FailsExcused}
+use Rattle.acq_sql_rows.specs.Standing.{FailsExcused}
 use Rattle.acq_sql_changes.proofs.TakenTables.{number_left}
 use Rattle.acq_sql_reads.specs.Failing.{CanBeWalked, IsTold}
 use Rattle.acq_sql.specs.Applied.{HasShortEnd}
 use Rattle.acq_sql.specs.Faults.{book_fault_of}
 use Rattle.acq_sql.specs.Kept.{Kept}
 use Rattle.acq_sql.specs.Opened.{IsOpenAt, tables, is_honest, is_open, has_room, store_faults}
-use Rattle.acq_sql.proofs.BookLooks.{looked, risen_by}
+use Rattle.acq_sql_opening.proofs.Blaming.{risen_by}
+use Rattle.acq_sql.proofs.BookLooks.{looked}
 use Rattle.acq_sql.proofs.PastRows.{past_ends, past_takes}
 
 -- ---- what a book tells of what its database answered

@@ -3,7 +3,6 @@ use Rattle.std.proofs.Common.{ℕ, inl, inr, true≢false, Result, Ok, Err, IfOk
 use Rattle.std.proofs.Common.{◌≡◌, ◌≤◌}
 use Rattle.std.proofs.Common.{IsErr, Bool, true, false, IsTrue, ⊎_elim, refl, sym, ap, subst, ◌∙◌}
 use Rattle.std.proofs.Common.{arith}
-use Rattle.sqlite_disk.specs.Disk.{MoreFaults}
 use Rattle.sqlite_trees.specs.declared.store.Store.{Ghosts}
 use Rattle.sqlite.specs.Effect.{Database}
 use Rattle.sqlite.specs.declared.error.Error.{Error}
@@ -14,15 +13,16 @@ use Rattle.acq_core.specs.Tables.{Tables}
 use Rattle.std.specs.List.{list_all}
 use Rattle.std.proofs.lemmas.Bool.{and_parts}
 use Rattle.card_no.specs.Ranges.{are_apart, is_valid_range}
-use Rattle.acq_history.proofs.BooksAreSound.{books_are_sound}
+use Rattle.acq_soundness.proofs.BooksAreSound.{books_are_sound}
 use Rattle.acq_book.specs.declared.book_fault.BookFault.{BookFault}
-use Rattle.acq_book.specs.Promise.{HasRisen, LooksBy}
+use Rattle.acq_book.specs.Promise.{LooksBy}
 use Rattle.acq_sql_rows.specs.Relation.{Holds}
 use Rattle.acq_sql_rows.specs.ReadBack.{tables_of}
-use Rattle.acq_sql_changes.specs.Changed.{IsAt}
+use Rattle.acq_sql_rows.specs.Standing.{IsAt}
 use Rattle.acq_sql_changes.specs.Refused.{HasNumbersLeft}
 use Rattle.acq_sql_reads.specs.Looked.{LooksOnly}
 use Rattle.acq_sql_reads.proofs.Leaves.{at_unchanged, kept}
+use Rattle.acq_sql_opening.proofs.Blaming.{risen_by}
 use Rattle.acq_sql.specs.Kept.{Kept}
 use Rattle.acq_sql.specs.Memos.{Recalls}
 use Rattle.acq_sql.specs.Opened.{tables, is_honest, is_open, may_leave}
@@ -54,10 +54,6 @@ relay_err P (Err e) (Err f) same is = is
 pub apart_of : (t : Tables) → HasPast t → are_apart t.ranges ≡ true
 apart_of t (opening, book) =
     (and_parts (list_all is_valid_range t.ranges) _ (books_are_sound opening t book).ranges).1
-
--- the disk's count rose
-pub risen_by : {old new : ℕ} → MoreFaults old new → HasRisen old new
-risen_by more = grind (arith, more)
 
 -- room is left where what is seen stays
 pub stays_roomy : (old new : State) → new.step_limit ≡ old.step_limit → new.now ≡ old.now

@@ -12,14 +12,15 @@ use Rattle.acq_book.specs.Fits.{Fits}
 use Rattle.acq_book.specs.Promise.{MakesBy}
 use Rattle.acq_sql_rows.specs.Rows.{version}
 use Rattle.acq_sql_rows.proofs.TablesReadBack.{tables_of-holds}
-use Rattle.acq_sql_changes.specs.Changed.{IsAt, LeadsTo, LeavesTables}
+use Rattle.acq_sql_rows.specs.Standing.{IsAt}
+use Rattle.acq_sql_changes.specs.Changed.{LeadsTo, LeavesTables}
 use Rattle.acq_sql.specs.Applied.{Applies, Suits}
 use Rattle.acq_sql.specs.Kept.{Kept}
 use Rattle.acq_sql.specs.Memos.{Recalls, nothing_recalled}
 use Rattle.acq_sql.specs.Opened.{tables, is_honest, is_open, may_leave}
 use Rattle.acq_sql.specs.Opened.{leaves_books, store_faults}
 use Rattle.acq_sql.specs.Laws.{LeavesCommit, settled_at, stored_at, stores_what_it_reads}
-use Rattle.acq_sql.proofs.BookLooks.{risen_by}
+use Rattle.acq_sql_opening.proofs.Blaming.{risen_by}
 
 module _ {S T : Type 0} (g : Ghosts S) (law : LeavesCommit g) (old new : Kept S) (change : Change)
     (result : Result T Error)

@@ -20,16 +20,16 @@ use Rattle.acq_core.specs.Tables.{postings_before, with_next_posting, reconcilia
 use Rattle.acq_core.specs.Tables.{with_next_reconciliation, with_changed, answered_row}
 use Rattle.acq_core.specs.Tables.{followed_row}
 use Rattle.acq_book.specs.Fits.{Fits, HasItsRequest}
-use Rattle.acq_history.specs.CardData.{KeepsNoSensitiveData, may_be_acquirer}
-use Rattle.acq_history.specs.Rows.{FitsPosting, FitsRequest, greatest_hold_end}
-use Rattle.acq_history.proofs.BooksAreSound.{books_are_sound}
-use Rattle.acq_history.proofs.Members.{In, In-push, In-find, In-last, In-map, from_In}
-use Rattle.acq_history.proofs.Runs.{kept}
+use Rattle.acq_soundness.specs.CardData.{KeepsNoSensitiveData, may_be_acquirer}
+use Rattle.acq_soundness.specs.Rows.{FitsPosting, FitsRequest, greatest_hold_end}
+use Rattle.acq_soundness.proofs.BooksAreSound.{books_are_sound}
+use Rattle.acq_soundness.proofs.Members.{In, In-push, In-find, In-last, In-map, from_In}
+use Rattle.acq_soundness.proofs.Runs.{kept}
 use Rattle.acq_sql_changes.specs.Refused.{HasBookRows, HasShortTexts, IsShortText, Takes}
 use Rattle.acq_sql_changes.specs.Written.{IsShortEnd}
 use Rattle.acq_sql.specs.Applied.{HasShortEnd}
 use Rattle.acq_sql_changes.proofs.writes.ReplyLengths.{spelling_few}
-use Rattle.acq_sql_changes.proofs.writes.RunningTotals.{bytes_itself, number_itself}
+use Rattle.acq_sql_rows.proofs.SameKeys.{bytes_itself, number_itself}
 
 -- ---- lists
 

@@ -1,3 +1,2 @@
 pub mod PostedByLegs
-pub mod LooksFirst
 pub mod ChangesFail

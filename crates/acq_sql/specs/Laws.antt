@@ -9,7 +9,7 @@ use Rattle.acq_core.specs.Tables.{Tables}
 use Rattle.acq_sql_rows.specs.Relation.{Holds}
 use Rattle.acq_sql_rows.specs.Schema.{book_schema}
 use Rattle.acq_sql_rows.proofs.TablesReadBack.{tables_of-holds}
-use Rattle.acq_sql_changes.specs.Changed.{IsAt, HoldsAfter}
+use Rattle.acq_sql_rows.specs.Standing.{IsAt, HoldsAfter}
 use Rattle.acq_sql.specs.Kept.{Kept}
 use Rattle.acq_sql.specs.Opened.{tables, tables_left, is_open, may_leave, leaves_books}
 

@@ -2,12 +2,5 @@ pub mod Memos
 pub mod Kept
 pub mod Opened
 pub mod Laws
-pub mod Files
 pub mod Applied
 pub mod Faults
-pub mod Made
-pub mod Blames
-pub mod Plain
-pub mod Checked
-pub mod Migrated
-pub mod Ordered

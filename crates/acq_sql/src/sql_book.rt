@@ -10,28 +10,28 @@ ghost use Rattle.acq_core.specs.Tables.{Tables, new_tables};
 ghost use Rattle.acq_core.specs.Widening.{widened_tables};
 ghost use Rattle.acq_sql_rows.specs.Rows.{version, version_of_six_digits};
 ghost use Rattle.acq_sql_rows.specs.Schema.{no_schema};
-ghost use Rattle.acq_sql_changes.specs.Changed.{HoldsAfter, IsAt, IsAtOf};
+ghost use Rattle.acq_sql_rows.specs.Standing.{HoldsAfter, IsAt, IsAtOf};
 ghost use Rattle.acq_sql_reads.specs.Looked.{LooksOnly};
-ghost use Rattle.acq_sql.specs.Blames.{OpeningBlamesStore};
-ghost use Rattle.acq_sql.specs.Checked.{HasBadVersion, IsFailure, Judges};
-ghost use Rattle.acq_sql.specs.declared.opening.opening_fault.OpeningFault.TheVariants.{NotABook};
-ghost use Rattle.acq_sql.specs.Made.{LeavesDatabase};
+ghost use Rattle.acq_sql_opening.specs.Blames.{OpeningBlamesStore};
+ghost use Rattle.acq_sql_opening.specs.Checked.{HasBadVersion, IsFailure, Judges};
+ghost use Rattle.acq_sql_opening.specs.declared.opening_fault.OpeningFault.TheVariants.{NotABook};
+ghost use Rattle.acq_sql_opening.specs.Made.{LeavesDatabase};
 ghost use Rattle.acq_sql.specs.Memos.{nothing_recalled};
-ghost use Rattle.acq_sql.specs.Migrated.{IsAsItSays, IsOfSixDigits};
+ghost use Rattle.acq_sql_opening.specs.Migrated.{IsAsItSays, IsOfSixDigits};
 ghost use Rattle.acq_sql.specs.Opened.{IsOpenAt, IsRoomy};
 
 use crate::answers::counted;
 use crate::memo::Memo;
-use crate::opening::{check_book, make_book, migrate_book};
 use crate::refusal::Refusal;
 use acq_book::{Book, BookFault, Visit};
 use acq_core::{
     AdmittedCount, Change, Limit, Merchant, MerchantId, Posting, Reconciliation, Reference,
     Request, RequestKey, TerminalId, UsedCount,
 };
-use acq_history::every_opening;
-use acq_history::widening_laws::pasts_are_widened;
+use acq_soundness::every_opening;
+use acq_sql_opening::{check_book, make_book, migrate_book};
 use acq_sql_rows::tables::VERSION;
+use acq_widening::laws::pasts_are_widened;
 use card_no::{Prefix, Range};
 use day_totals::{Day, Totals};
 use sqlite::{Alter, Connection};

@@ -19,8 +19,10 @@ use Rattle.acq_sql_rows.specs.Tallies.{Tally, Running, Tallies, FitsTally, plus,
 use Rattle.acq_sql_rows.specs.Rows.{version}
 use Rattle.acq_sql_rows.specs.Relation.{HoldsOf, Holds, HoldsRows}
 use Rattle.acq_sql_changes.specs.Written.{WritesInside, Changes, Raises}
-use Rattle.acq_sql_changes.proofs.writes.RunningTotals.{is_key, tally_raised, number_itself}
-use Rattle.acq_sql_changes.specs.Changed.{IsAt, IsAtOf, HoldsAfter, AnyTables, ChangesWholeOf}
+use Rattle.acq_sql_rows.proofs.SameKeys.{number_itself}
+use Rattle.acq_sql_changes.proofs.writes.RunningTotals.{is_key, tally_raised}
+use Rattle.acq_sql_rows.specs.Standing.{IsAt, IsAtOf, HoldsAfter}
+use Rattle.acq_sql_changes.specs.Changed.{AnyTables, ChangesWholeOf}
 use Rattle.acq_sql_changes.proofs.ListTallies.{LeavesTallies, ComesToMore, more_tallied}
 use Rattle.acq_sql_changes.proofs.Room.{HasShortDays}
 

@@ -15,7 +15,8 @@ use Rattle.acq_sql_rows.specs.Tallies.{Tally, FitsTally, IsShortLeg, plus, leg_p
 use Rattle.acq_sql_rows.specs.Tallies.{request_tally}
 use Rattle.acq_sql_rows.specs.Tallies.{posting_tally}
 use Rattle.acq_sql_changes.specs.Written.{with_request, with_posting}
-use Rattle.acq_sql_changes.proofs.writes.RunningTotals.{is_key, bytes_same, number_same}
+use Rattle.acq_sql_rows.proofs.SameKeys.{bytes_same, number_same}
+use Rattle.acq_sql_changes.proofs.writes.RunningTotals.{is_key}
 use Rattle.acq_sql_changes.specs.Changed.{HasRoomFor}
 use Rattle.acq_sql_changes.proofs.ListTallies.{LeavesDay, tally_requested, tally_posted}
 use Rattle.acq_sql_changes.proofs.ListTallies.{totals_plus, none_more}

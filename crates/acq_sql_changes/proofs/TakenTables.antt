@@ -48,7 +48,8 @@ use Rattle.acq_sql_changes.proofs.ListTallies.{ComesToMore, more_tallied}
 use Rattle.acq_sql_changes.proofs.Room.{HasShortDays}
 use Rattle.acq_sql_changes.proofs.writes.RaiseWrites.{none_find}
 use Rattle.acq_sql_changes.proofs.writes.RangeMoves.{narrow_of}
-use Rattle.acq_sql_changes.proofs.writes.RunningTotals.{bytes_same, number_same, find_none}
+use Rattle.acq_sql_rows.proofs.SameKeys.{bytes_same, number_same}
+use Rattle.acq_sql_changes.proofs.writes.RunningTotals.{find_none}
 
 -- ---- lists
 

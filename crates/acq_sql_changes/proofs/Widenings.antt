@@ -16,7 +16,7 @@ use Rattle.acq_sql_rows.specs.Relation.{HoldsRowsOf, HoldsTurnedOf}
 use Rattle.acq_sql_changes.specs.Written.{WritesInside}
 use Rattle.acq_sql_changes.specs.Widened.{HasRangesUnder, WidensRanges, TurnsRanges, SetsVersion}
 use Rattle.acq_sql_changes.specs.Widened.{IsNeverRefused, HasRangesOf, HasTurnedRangesOf}
-use Rattle.acq_sql_changes.specs.Widened.{FailsExcused}
+use Rattle.acq_sql_rows.specs.Standing.{FailsExcused}
 use Rattle.acq_sql_changes.proofs.Commits.{IsWithin, begins, same_rows, within_still, clean_before}
 use Rattle.acq_sql_changes.proofs.Commits.{MakesOf}
 use Rattle.acq_sql_changes.proofs.writes.RangeMoves.{all_valid}

@@ -1,4 +1,3 @@
-pub mod TableTurns
 pub mod ListWrites
 pub mod RangeWrites
 pub mod MovedTables

@@ -2,7 +2,6 @@
 use Rattle.std.specs.Prelude.{◌≡◌, ◌+◌, ℕ, Option, Some, true, false, Result, OnOk, OnErr, IsTrue}
 use Rattle.sqlite.specs.declared.error.Error.{Error}
 use Rattle.sqlite.specs.State.{State, HasCleanDisk, Survives}
-use Rattle.sqlite_trees.specs.Tree.{Trees}
 use Rattle.acq_core.specs.declared.request.Request.{Request}
 use Rattle.acq_core.specs.declared.status.Status.{Status}
 use Rattle.acq_core.specs.declared.remains.Remains.{Remains}
@@ -15,28 +14,8 @@ use Rattle.acq_core.specs.Numbers.{is_used_count}
 use Rattle.acq_core.specs.Tables.{Tables, after, postings_before, reconciliations_before}
 use Rattle.acq_book.specs.Lookups.{used_at}
 use Rattle.acq_book.specs.Fits.{HasRoom, IsPostedBy}
-use Rattle.acq_sql_rows.specs.Schema.{book_schema}
 use Rattle.acq_sql_rows.specs.Rows.{version}
-use Rattle.acq_sql_rows.specs.Relation.{HoldsOf}
-
--- the connection is open and stands between two transactions, and its database holds these tables
--- in a book of this version
-pub record IsAtOf (version : ℕ) (s : State) (t : Tables) : Type 0 where
-  pub is_open : IsTrue s.is_open
-  pub settled : s.in_transaction ≡ false
-  pub same : s.now ≡ s.committed
-  pub holds : HoldsOf version s.now t
-
--- what a stop left holds these tables in a book of this version
-abbrev pub HoldsAfterOf : ℕ → Tables → Trees → Type 0
-HoldsAfterOf version t trees = HoldsOf version (record { schema = book_schema; trees = trees }) t
-
--- the same of the version in force
-abbrev pub IsAt : State → Tables → Type 0
-IsAt = IsAtOf version
-
-abbrev pub HoldsAfter : Tables → Trees → Type 0
-HoldsAfter = HoldsAfterOf version
+use Rattle.acq_sql_rows.specs.Standing.{IsAtOf, IsAt, HoldsAfter}
 
 -- of tables of which this is so, in a book of that version, a change that succeeded leads to these
 -- in one of the version in force

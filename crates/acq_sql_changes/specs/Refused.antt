@@ -25,7 +25,7 @@ use Rattle.acq_sql_rows.specs.Schema.{running_tree}
 use Rattle.acq_sql_rows.specs.Rows.{version}
 use Rattle.acq_sql_rows.specs.Tallies.{Tally, Running, FitsTally, plus, tally_in}
 use Rattle.acq_sql_rows.specs.Relation.{HoldsRows}
-use Rattle.acq_sql_changes.specs.Widened.{FailsExcused}
+use Rattle.acq_sql_rows.specs.Standing.{FailsExcused}
 
 -- ---- what a write asks
 

@@ -11,7 +11,6 @@ use Rattle.acq_core.specs.Tables.{Tables}
 use Rattle.acq_core.specs.Widening.{widened_tables}
 use Rattle.acq_sql_rows.specs.Tallies.{Running}
 use Rattle.acq_sql_rows.specs.Relation.{HoldsRows, HoldsRowsOf, HoldsTurnedOf}
-use Rattle.acq_sql_changes.specs.Changed.{IsAtOf}
 
 -- each range is valid by prefixes of so many digits
 abbrev pub HasRangesUnder : PrefixProfile → Tables → Type 0
@@ -57,13 +56,3 @@ abbrev pub HasTurnedRangesOf : PrefixProfile → Database → Type 0
 HasTurnedRangesOf profile db =
     (version : ℕ) × (t : Tables) × (runs : List Running)
     × HasRangesUnder profile t × HoldsTurnedOf version db t runs
-
--- ---- the whole transaction
-
--- over a book of that version of which this is so, a change fails only for memory or since the
--- store failed
-abbrev pub FailsExcused : ℕ → {T : Type 0} →
-    State → State → Result T Error → (Tables → Type 0) → Type 0
-FailsExcused version old new result fits =
-    HasCleanDisk new → (t : Tables) → IsAtOf version old t → fits t → old.step_limit ≡ None
-    → IfErr result (IsExcused old new)

@@ -6,7 +6,8 @@ ghost use Rattle.card_no.specs.Prefix.{six_digits};
 ghost use Rattle.acq_core.specs.Widening.{widened_tables};
 ghost use Rattle.acq_sql_rows.specs.Rows.{version_of_six_digits};
 ghost use Rattle.acq_sql_changes.specs.Changed.{ChangesWholeOf};
-ghost use Rattle.acq_sql_changes.specs.Widened.{FailsExcused, HasRangesUnder};
+ghost use Rattle.acq_sql_rows.specs.Standing.{FailsExcused};
+ghost use Rattle.acq_sql_changes.specs.Widened.{HasRangesUnder};
 
 use crate::writes::{set_version, turn_ranges, widen_ranges};
 use sqlite::{Alter, Connection, Error};

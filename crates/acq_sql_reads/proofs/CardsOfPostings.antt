@@ -22,10 +22,10 @@ use Rattle.acq_core.specs.Changes.{reversal_posting, reversing_posting}
 use Rattle.acq_core.specs.Pasts.{HasPast}
 use Rattle.acq_core.specs.Tables.{Tables, prior_of, leg_by, with_next_posting, known_in, after_any}
 use Rattle.acq_core.specs.Tables.{step_tables}
-use Rattle.acq_history.specs.Entries.{is_reversal}
-use Rattle.acq_history.proofs.BooksGoOn.{kept_in_books}
-use Rattle.acq_history.proofs.RowsWithChanges.{All-with_changed, All-member}
-use Rattle.acq_history.proofs.StepCases.{by_step}
+use Rattle.acq_soundness.specs.Requests.{is_reversal}
+use Rattle.acq_soundness.proofs.BooksGoOn.{kept_in_books}
+use Rattle.acq_soundness.proofs.RowsWithChanges.{All-with_changed, All-member}
+use Rattle.acq_soundness.proofs.StepCases.{by_step}
 
 abbrev IsValid : Request → Type 0
 IsValid row = is_valid_card (or_empty row.card) ≡ true

@@ -52,14 +52,14 @@ use Rattle.acq_core.specs.Pasts.{HasPast}
 use Rattle.acq_core.specs.Tables.{Tables, requests_of}
 use Rattle.acq_book.specs.Lookups.{admitted_at, merchant_at, overlapping_at, referred_at}
 use Rattle.acq_book.specs.Lookups.{request_at}
-use Rattle.acq_history.specs.Rows.{FitsMerchant, FitsRequest, HasFittingRows}
-use Rattle.acq_history.proofs.BooksAreSound.{books_are_sound}
-use Rattle.acq_history.proofs.Members.{In, from_In, In-filtered, In-find}
+use Rattle.acq_soundness.specs.Rows.{FitsMerchant, FitsRequest, HasFittingRows}
+use Rattle.acq_soundness.proofs.BooksAreSound.{books_are_sound}
+use Rattle.acq_soundness.proofs.Members.{In, from_In, In-filtered, In-find}
 use Rattle.acq_sql_rows.specs.Rows.{version, key_row, merchant_row, request_row, tally_row}
 use Rattle.acq_sql_rows.specs.Tallies.{tally_of}
 use Rattle.acq_sql_rows.specs.Schema.{book_schema}
 use Rattle.acq_sql_rows.specs.Schema as schema
-use Rattle.acq_sql_changes.specs.Changed.{IsAtOf}
+use Rattle.acq_sql_rows.specs.Standing.{IsAtOf}
 use Rattle.acq_sql_reads.specs.Failing.{FailsForMemory, FailsOnlyExcused, IsBalanceRow}
 use Rattle.acq_sql_reads.specs.Failing.{IsMerchantRow, IsRangeRow, IsRequestRow, IsTallyRow}
 use Rattle.acq_sql_reads.specs.Failing.{IsTold}

@@ -25,12 +25,12 @@ use Rattle.acq_core.specs.declared.request.Request.{Request}
 use Rattle.acq_core.specs.Pasts.{HasPast}
 use Rattle.acq_core.specs.Tables.{Tables}
 use Rattle.acq_book.specs.Lookups.{holds_at, merchants_at, postings_at, waiting_at}
-use Rattle.acq_history.specs.Rows.{FitsMerchant, FitsPosting}
-use Rattle.acq_history.proofs.Members.{In, from_In}
+use Rattle.acq_soundness.specs.Rows.{FitsMerchant, FitsPosting}
+use Rattle.acq_soundness.proofs.Members.{In, from_In}
 use Rattle.acq_sql_rows.specs.Rows.{version, merchant_row, posting_row, request_row}
 use Rattle.acq_sql_rows.specs.Schema.{book_schema}
 use Rattle.acq_sql_rows.specs.Schema as schema
-use Rattle.acq_sql_changes.specs.Changed.{IsAtOf}
+use Rattle.acq_sql_rows.specs.Standing.{IsAtOf}
 use Rattle.acq_sql_reads.specs.Failing.{CanBeWalked, IsMerchantRow, IsPostingRow, IsRequestRow}
 use Rattle.acq_sql_reads.specs.Shown.{FailsToHandOver, ShowsOnly}
 use Rattle.acq_sql_reads.specs.WalkTexts as text

@@ -29,8 +29,8 @@ use Rattle.acq_core.specs.declared.request.Request.{Request}
 use Rattle.acq_core.specs.Pasts.{HasPast}
 use Rattle.acq_core.specs.Tables.{Tables, requests_of, admitted_in}
 use Rattle.acq_book.specs.Lookups.{merchant_at, admitted_at}
-use Rattle.acq_history.specs.References.{references_in, AreRowsOf}
-use Rattle.acq_history.proofs.BooksAreSound.{books_are_sound}
+use Rattle.acq_soundness.specs.References.{references_in, AreRowsOf}
+use Rattle.acq_soundness.proofs.BooksAreSound.{books_are_sound}
 use Rattle.acq_sql_rows.specs.Schema.{book_schema}
 use Rattle.acq_sql_rows.specs.Rows.{request_row}
 use Rattle.acq_sql_rows.specs.Tallies.{Running}

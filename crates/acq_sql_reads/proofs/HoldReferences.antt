@@ -16,14 +16,14 @@ use Rattle.acq_core.specs.Pasts.{HasPast}
 use Rattle.acq_core.specs.Tables.{Tables, new_tables, is_approved, known_in, with_changed}
 use Rattle.acq_core.specs.Tables.{after_any, step_tables, prior_of}
 use Rattle.acq_book.specs.Lookups.{is_authorization}
-use Rattle.acq_history.specs.Entries.{is_reversal}
-use Rattle.acq_history.proofs.Keys.{same_key_from, same_key_is}
-use Rattle.acq_history.proofs.Members.{In, In-push, In-mapped}
-use Rattle.acq_history.proofs.StepCases.{by_step}
-use Rattle.acq_history.proofs.WhatRemains.{original_approved, lowered_was_approved}
-use Rattle.acq_history.specs.Keys.{are_distinct, HasUniqueKeys}
-use Rattle.acq_history.proofs.KeysStayUnique.{unique_after_step}
-use Rattle.acq_history.proofs.Runs.{kept}
+use Rattle.acq_soundness.specs.Requests.{is_reversal}
+use Rattle.acq_soundness.proofs.Keys.{same_key_from, same_key_is}
+use Rattle.acq_soundness.proofs.Members.{In, In-push, In-mapped}
+use Rattle.acq_soundness.proofs.StepCases.{by_step}
+use Rattle.acq_soundness.proofs.WhatRemains.{original_approved, lowered_was_approved}
+use Rattle.acq_soundness.specs.Keys.{are_distinct, HasUniqueKeys}
+use Rattle.acq_soundness.proofs.KeysStayUnique.{unique_after_step}
+use Rattle.acq_soundness.proofs.Runs.{kept}
 
 -- if it is an approved authorization, it has a reference
 abbrev IsReferred : Request → Type 0

@@ -33,8 +33,8 @@ use Rattle.acq_sql_rows.specs.Schema as schema
 use Rattle.acq_sql_rows.specs.Rows.{book_row, merchant_row, terminal_row, running_row, tally_row}
 use Rattle.acq_sql_rows.specs.Tallies.{Running, is_for, tally_of}
 use Rattle.acq_sql_rows.specs.Relation.{HoldsRows, Holds}
-use Rattle.acq_sql_changes.proofs.writes.RunningTotals.{bytes_same, number_same}
-use Rattle.acq_sql_changes.proofs.writes.TableTurns as at
+use Rattle.acq_sql_rows.proofs.SameKeys.{bytes_same, number_same}
+use Rattle.acq_sql_rows.proofs.TableTurns as at
 use Rattle.acq_sql_reads.specs.Looked.{is_any, ShowsTally}
 use Rattle.acq_sql_reads.specs.Texts as text
 use Rattle.acq_sql_reads.specs.Queries as query

@@ -17,7 +17,7 @@ use Rattle.row_lemmas.specs.Selects.{IsSelect}
 use Rattle.row_lemmas.proofs.BareQueries.{understood_bare, IsBareIfAny}
 use Rattle.acq_core.specs.Tables.{Tables}
 use Rattle.acq_sql_rows.specs.Relation.{HoldsOf, Holds}
-use Rattle.acq_sql_changes.specs.Changed.{IsAtOf}
+use Rattle.acq_sql_rows.specs.Standing.{IsAtOf}
 use Rattle.acq_sql_reads.specs.Looked.{LooksOnly}
 
 pub at_unchanged : {number : ℕ} (old new : State) (t : Tables) → IsUnchanged old new

@@ -22,7 +22,7 @@ use Rattle.acq_sql_rows.specs.Schema.{book_schema}
 use Rattle.acq_sql_rows.specs.Rows.{merchant_row}
 use Rattle.acq_sql_rows.specs.Tallies.{Running}
 use Rattle.acq_sql_rows.specs.Relation.{Holds, HoldsRows}
-use Rattle.acq_sql_changes.proofs.writes.RunningTotals.{bytes_same}
+use Rattle.acq_sql_rows.proofs.SameKeys.{bytes_same}
 use Rattle.acq_sql_reads.proofs.KeyReads.{bytes_own, one_merchant}
 use Rattle.acq_sql_reads.specs.WalkTexts as text
 use Rattle.acq_sql_reads.specs.WalkQueries as query

@@ -38,8 +38,8 @@ use Rattle.acq_sql_rows.specs.Schema as schema
 use Rattle.acq_sql_rows.specs.Rows.{posting_row, leg_number}
 use Rattle.acq_sql_rows.specs.Tallies.{Running}
 use Rattle.acq_sql_rows.specs.Relation.{Holds, HoldsRows}
-use Rattle.acq_sql_changes.proofs.writes.RunningTotals.{bytes_same, number_same}
-use Rattle.acq_sql_changes.proofs.writes.TableTurns as at
+use Rattle.acq_sql_rows.proofs.SameKeys.{bytes_same, number_same}
+use Rattle.acq_sql_rows.proofs.TableTurns as at
 use Rattle.acq_sql_reads.proofs.KeyReads.{bytes_own, number_own}
 use Rattle.acq_sql_reads.proofs.RequestRows.{leg_same}
 use Rattle.acq_sql_reads.specs.WalkTexts as text

@@ -16,8 +16,8 @@ use Rattle.acq_core.specs.Pasts.{HasPast}
 use Rattle.acq_core.specs.Tables.{Tables, new_tables, known_in, after, after_any}
 use Rattle.acq_core.specs.Tables.{reconciliations_before, with_next_reconciliation}
 use Rattle.acq_book.specs.Order.{last_of}
-use Rattle.acq_history.proofs.Runs.{kept}
-use Rattle.acq_sql_changes.proofs.writes.RunningTotals.{bytes_same, number_same}
+use Rattle.acq_soundness.proofs.Runs.{kept}
+use Rattle.acq_sql_rows.proofs.SameKeys.{bytes_same, number_same}
 use Rattle.acq_sql_reads.specs.Looked.{reconciliations_of, last_numbered_at, number_or_zero}
 use Rattle.acq_sql_reads.specs.Looked.{CountsUpFrom}
 use Rattle.acq_sql_reads.specs.Looked.{HasNumberedReconciliations}

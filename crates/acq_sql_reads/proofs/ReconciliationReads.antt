@@ -28,7 +28,7 @@ use Rattle.acq_sql_rows.specs.Schema.{book_schema}
 use Rattle.acq_sql_rows.specs.Rows.{reconciliation_row, bit_of}
 use Rattle.acq_sql_rows.specs.Tallies.{Running}
 use Rattle.acq_sql_rows.specs.Relation.{HoldsRows}
-use Rattle.acq_sql_changes.proofs.writes.RunningTotals.{bytes_same, number_same}
+use Rattle.acq_sql_rows.proofs.SameKeys.{bytes_same, number_same}
 use Rattle.acq_sql_reads.specs.Looked.{reconciliations_of, last_numbered_at, CountsUpFrom}
 use Rattle.acq_sql_reads.specs.Looked.{balance_cells}
 use Rattle.acq_sql_reads.specs.Texts as text

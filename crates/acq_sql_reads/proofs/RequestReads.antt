@@ -37,17 +37,17 @@ use Rattle.acq_core.specs.declared.request.Request.{Request}
 use Rattle.acq_core.specs.Pasts.{HasPast}
 use Rattle.acq_core.specs.Tables.{Tables, requests_of}
 use Rattle.acq_book.specs.Lookups.{request_at, referred_at}
-use Rattle.acq_history.specs.Keys.{are_distinct}
-use Rattle.acq_history.specs.References.{references_in}
-use Rattle.acq_history.proofs.BooksAreSound.{books_are_sound}
+use Rattle.acq_soundness.specs.Keys.{are_distinct}
+use Rattle.acq_soundness.specs.References.{references_in}
+use Rattle.acq_soundness.proofs.BooksAreSound.{books_are_sound}
 use Rattle.acq_sql_rows.specs.Schema.{book_schema}
 use Rattle.acq_sql_rows.specs.Schema as schema
 use Rattle.acq_sql_rows.specs.Rows.{request_row, key_row}
 use Rattle.acq_sql_rows.specs.Queries.{key_is}
 use Rattle.acq_sql_rows.specs.Tallies.{Running}
 use Rattle.acq_sql_rows.specs.Relation.{HoldsRows, AreRecorded}
-use Rattle.acq_sql_changes.proofs.writes.RunningTotals.{bytes_same}
-use Rattle.acq_sql_changes.proofs.writes.TableTurns as at
+use Rattle.acq_sql_rows.proofs.SameKeys.{bytes_same}
+use Rattle.acq_sql_rows.proofs.TableTurns as at
 use Rattle.acq_sql_reads.specs.Recorded.{ShowsRequest}
 use Rattle.acq_sql_reads.specs.Texts as text
 use Rattle.acq_sql_reads.specs.Queries as query

@@ -29,10 +29,10 @@ use Rattle.acq_message.specs.Services.{digits_of, served, service_in, service_of
 use Rattle.acq_core.specs.declared.request.Request.{Request}
 use Rattle.acq_core.specs.declared.status.Status.{Status}
 use Rattle.acq_core.specs.Statuses.{status_number, status_numbered}
-use Rattle.acq_history.specs.Rows.{AreHoldDays}
+use Rattle.acq_soundness.specs.Rows.{AreHoldDays}
 use Rattle.acq_sql_rows.specs.Rows.{request_row, leg_number, bit_of}
 use Rattle.acq_sql_rows.specs.ReadBack.{request_at}
-use Rattle.acq_sql_changes.proofs.writes.RunningTotals.{bytes_same}
+use Rattle.acq_sql_rows.proofs.SameKeys.{bytes_same}
 use Rattle.acq_sql_reads.specs.Recorded.{request_cells, IsRowOf, HasKey, ShowsRequest}
 use Rattle.acq_sql_reads.specs.Recorded.{NamesNoService}
 use Rattle.acq_sql_reads.specs.Failing.{FailsForMemory}

@@ -19,10 +19,10 @@ use Rattle.acq_core.specs.declared.request.Request.{Request}
 use Rattle.acq_core.specs.Pasts.{HasPast}
 use Rattle.acq_core.specs.Tables.{Tables}
 use Rattle.acq_book.specs.Lookups.{merchant_at}
-use Rattle.acq_history.specs.Rows.{FitsMerchant, FitsPosting, FitsRequest}
+use Rattle.acq_soundness.specs.Rows.{FitsMerchant, FitsPosting, FitsRequest}
 use Rattle.acq_sql_rows.specs.Rows.{version, merchant_row, posting_row, tally_row}
 use Rattle.acq_sql_rows.specs.Tallies.{Tally}
-use Rattle.acq_sql_changes.specs.Widened.{FailsExcused}
+use Rattle.acq_sql_rows.specs.Standing.{FailsExcused}
 use Rattle.acq_sql_reads.specs.Looked.{balance_cells, range_cells}
 use Rattle.acq_sql_reads.specs.Recorded.{IsRowOf}
 

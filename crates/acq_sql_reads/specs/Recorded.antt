@@ -12,7 +12,7 @@ use Rattle.acq_message.specs.declared.service.Service.{Service}
 use Rattle.acq_core.specs.declared.request.Request.{Request}
 use Rattle.acq_core.specs.declared.status.Status.{Status}
 use Rattle.acq_core.specs.Statuses.{status_number}
-use Rattle.acq_history.specs.Rows.{FitsKey}
+use Rattle.acq_soundness.specs.Rows.{FitsKey}
 use Rattle.acq_sql_rows.specs.Rows.{request_row, leg_number, bit_of}
 
 -- the request's row, with this text for its reply

@@ -1,3 +1,5 @@
 pub mod SchemaLemmas
 pub mod TextLemmas
 pub mod TablesReadBack
+pub mod SameKeys
+pub mod TableTurns

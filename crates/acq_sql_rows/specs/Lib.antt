@@ -5,3 +5,4 @@ pub mod ReadBack
 pub mod Relation
 pub mod Queries
 pub mod Texts
+pub mod Standing

@@ -31,8 +31,8 @@ use Rattle.acq_core.specs.Events.{IsVerdict}
 use Rattle.acq_core.specs.Pasts.{HasPast}
 use Rattle.acq_core.specs.Tables.{Tables, is_pending}
 use Rattle.acq_book.specs.Lookups.{waiting_at}
-use Rattle.acq_history.specs.Rows.{FitsRequest}
-use Rattle.acq_history.proofs.BooksAreSound.{books_are_sound}
+use Rattle.acq_soundness.specs.Rows.{FitsRequest}
+use Rattle.acq_soundness.proofs.BooksAreSound.{books_are_sound}
 use Rattle.acq_out.specs.EventLines.{answer_event, event_of_fields}
 use Rattle.acq_out.specs.Fields.{filled, is_empty, is_number_text, merchant_of_text, moment_of_text}
 use Rattle.acq_out.specs.Fields.{number_of_text, passing}

@@ -45,7 +45,7 @@ use Rattle.acq_sql_rows.specs.Relation.{HoldsRows, AreRecorded}
 use Rattle.acq_sql_changes.specs.Written.{with_merchant, with_terminal, with_request, with_answer}
 use Rattle.acq_sql_changes.specs.Written.{with_remains}
 use Rattle.acq_sql_changes.specs.Written.{with_posting, with_reconciliation, on_day}
-use Rattle.acq_sql_changes.proofs.writes.TableTurns as at
+use Rattle.acq_sql_rows.proofs.TableTurns as at
 
 -- ---- replies stay messages
 

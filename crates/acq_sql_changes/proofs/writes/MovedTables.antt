@@ -13,8 +13,8 @@ use Rattle.row_lemmas.proofs.ShortRows.{IsNarrow}
 use Rattle.row_lemmas.proofs.StatementEffects.{bare}
 use Rattle.acq_sql_rows.specs.Schema.{book_schema}
 use Rattle.acq_sql_rows.specs.Schema as schema
-use Rattle.acq_sql_changes.proofs.writes.TableTurns as at
-use Rattle.acq_sql_changes.proofs.writes.TableTurns.{Others}
+use Rattle.acq_sql_rows.proofs.TableTurns as at
+use Rattle.acq_sql_rows.proofs.TableTurns.{Others}
 
 pub book_listed : Has book_schema.tables (bare at.the_book)
 unfolding book_schema schema.up_to_reconciliations schema.up_to_postings schema.up_to_requests

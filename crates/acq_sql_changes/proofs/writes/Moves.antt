@@ -28,7 +28,7 @@ use Rattle.acq_sql_rows.specs.Queries.{widen_ranges_query, turn_ranges_query, se
 use Rattle.acq_sql_rows.specs.Queries.{set_day_query}
 use Rattle.acq_sql_rows.specs.Relation.{HoldsRows, HoldsRowsOf, HoldsTurnedOf}
 use Rattle.acq_sql_changes.specs.Widened.{HasRangesUnder}
-use Rattle.acq_sql_changes.proofs.writes.TableTurns as at
+use Rattle.acq_sql_rows.proofs.TableTurns as at
 use Rattle.acq_sql_changes.proofs.writes.MovedTables as moved
 use Rattle.acq_sql_changes.proofs.writes.RangeWrites.{ranges_shaped}
 use Rattle.acq_sql_changes.proofs.writes.RangeMoves.{turned_shaped, still_rising, widen_moves}

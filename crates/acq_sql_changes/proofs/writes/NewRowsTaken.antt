@@ -58,7 +58,7 @@ use Rattle.acq_sql_changes.proofs.writes.MovedTables as moved
 use Rattle.acq_sql_changes.proofs.writes.MovedTables.{plain}
 use Rattle.acq_sql_changes.proofs.writes.RunningTotals.{find_none}
 use Rattle.acq_sql_changes.proofs.writes.TableRules as rule
-use Rattle.acq_sql_changes.proofs.writes.TableTurns as at
+use Rattle.acq_sql_rows.proofs.TableTurns as at
 
 -- ---- any table whose rows are numbered
 

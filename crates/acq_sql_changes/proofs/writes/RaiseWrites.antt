@@ -44,9 +44,9 @@ use Rattle.acq_sql_rows.specs.Tallies.{raised_at, raised_in}
 use Rattle.acq_sql_rows.specs.Rows.{running_row}
 use Rattle.acq_sql_rows.specs.Queries.{new_row, raise_query, raises}
 use Rattle.acq_sql_rows.specs.Relation.{HoldsRows}
-use Rattle.acq_sql_changes.proofs.writes.RunningTotals.{bytes_same, number_same, number_itself}
+use Rattle.acq_sql_rows.proofs.SameKeys.{bytes_same, number_same, number_itself}
 use Rattle.acq_sql_changes.proofs.writes.RunningTotals.{raised_apart, found_first}
-use Rattle.acq_sql_changes.proofs.writes.TableTurns as at
+use Rattle.acq_sql_rows.proofs.TableTurns as at
 
 pub laid_running : (r : Running)
     → cast_row at.the_running (Null ∷ running_row r) ≡ Null ∷ running_row r

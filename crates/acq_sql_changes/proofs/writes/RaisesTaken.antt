@@ -41,9 +41,9 @@ use Rattle.acq_sql_changes.proofs.writes.MovedTables.{plain}
 use Rattle.acq_sql_changes.proofs.writes.NewRowsTaken.{other, all_two, merchant_few}
 use Rattle.acq_sql_changes.proofs.writes.RaiseWrites.{it, raise, laid_running, laid_at, shows}
 use Rattle.acq_sql_changes.proofs.writes.RaiseWrites.{conflict_test, never_two, fits_there}
-use Rattle.acq_sql_changes.proofs.writes.RunningTotals.{bytes_same}
+use Rattle.acq_sql_rows.proofs.SameKeys.{bytes_same}
 use Rattle.acq_sql_changes.proofs.writes.TableRules as rule
-use Rattle.acq_sql_changes.proofs.writes.TableTurns as at
+use Rattle.acq_sql_rows.proofs.TableTurns as at
 
 running_few : (r : Running) → length r.merchant ≤ 10 ^ 6 → AreShort (running_row r)
 running_few r few =

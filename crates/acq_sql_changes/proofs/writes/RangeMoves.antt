@@ -40,7 +40,7 @@ use Rattle.acq_sql_rows.specs.Schema.{book_schema}
 use Rattle.acq_sql_rows.specs.Rows.{range_row, range_rows, turned_row, turned_rows}
 use Rattle.acq_sql_rows.specs.Queries.{widened_columns, turned_columns}
 use Rattle.acq_sql_rows.specs.Relation.{AreRising}
-use Rattle.acq_sql_changes.proofs.writes.TableTurns.{the_ranges}
+use Rattle.acq_sql_rows.proofs.TableTurns.{the_ranges}
 use Rattle.acq_sql_changes.proofs.writes.RangeWrites.{ranges_shaped}
 use Rattle.acq_sql_changes.proofs.writes.MovedTables.{ranges_narrow}
 

@@ -40,7 +40,7 @@ use Rattle.acq_sql_rows.specs.Rows.{range_row, range_rows}
 use Rattle.acq_sql_rows.specs.Queries.{new_range, ends_are, drop_range_query}
 use Rattle.acq_sql_rows.specs.Relation.{HoldsRows, AreRising}
 use Rattle.acq_sql_changes.specs.Written.{with_added_range, with_dropped_range}
-use Rattle.acq_sql_changes.proofs.writes.TableTurns as at
+use Rattle.acq_sql_rows.proofs.TableTurns as at
 
 lower : (a b : ℕ) → nat_lt a b ≡ true → a < b
 lower a b h = grind (arith, nat_tests, h)

@@ -39,7 +39,7 @@ use Rattle.acq_sql_changes.proofs.writes.NewRowsTaken.{other, none_at}
 use Rattle.acq_sql_changes.proofs.writes.RangeMoves.{short_range, narrow_of, low_of}
 use Rattle.acq_sql_changes.proofs.writes.RangeWrites.{IsFree, range_params, ranges_shaped}
 use Rattle.acq_sql_changes.proofs.writes.RangeWrites.{laid_range}
-use Rattle.acq_sql_changes.proofs.writes.TableTurns as at
+use Rattle.acq_sql_rows.proofs.TableTurns as at
 
 -- ---- a range that no other begins with
 

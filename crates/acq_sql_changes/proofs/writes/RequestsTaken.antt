@@ -67,9 +67,10 @@ use Rattle.acq_sql_changes.proofs.writes.MovedTables.{plain}
 use Rattle.acq_sql_changes.proofs.writes.NewRowsTaken.{row_succeeds, other}
 use Rattle.acq_sql_changes.proofs.writes.NewRowsTaken.{merchant_few, terminal_few, trace_few}
 use Rattle.acq_sql_changes.proofs.writes.ReplyLengths.{spelling_few}
-use Rattle.acq_sql_changes.proofs.writes.RunningTotals.{find_none, bytes_same, bytes_itself}
+use Rattle.acq_sql_rows.proofs.SameKeys.{bytes_same, bytes_itself}
+use Rattle.acq_sql_changes.proofs.writes.RunningTotals.{find_none}
 use Rattle.acq_sql_changes.proofs.writes.TableRules as rule
-use Rattle.acq_sql_changes.proofs.writes.TableTurns as at
+use Rattle.acq_sql_rows.proofs.TableTurns as at
 
 -- ---- values that may be absent
 

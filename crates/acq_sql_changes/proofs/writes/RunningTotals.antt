@@ -1,14 +1,11 @@
 -- What the running totals say after a merchant's day is raised.
 use Rattle.std.proofs.Common.{◌≡◌, ◌+◌, ◌==◌, ◌&&◌, inl, inr, ℕ, Bool, true, false, cond, List, []}
 use Rattle.std.proofs.Common.{◌∷◌, ◌++◌, map, find}
-use Rattle.std.proofs.Common.{Option, None, Some, option_map, refl, sym, ap, ap₂, subst, ◌∙◌, arith}
-use Rattle.std.proofs.Common.{true≢false}
+use Rattle.std.proofs.Common.{Option, None, Some, option_map, refl, sym, ap, ap₂, ◌∙◌, arith}
 use Rattle.std.specs.List.{AllByRecursion}
 use Rattle.std.specs.Option.{option_or}
 use Rattle.std.specs.Str.{bytes_eq}
 use Rattle.std.proofs.lemmas.Bool.{and_parts}
-use Rattle.std.proofs.lemmas.Bool.Decides.{nat_tests}
-use Rattle.std.proofs.lemmas.Slice.Eq.{bytes_eq-Decides}
 use Rattle.sqlite_rules.specs.Lists.{Has}
 use Rattle.sqlite_rules.proofs.ListLemmas.{all_has, all_from, has_found}
 use Rattle.sqlite_trees.proofs.ListLemmas.{ascending-append, ascending-map, ascending_weaker}
@@ -16,36 +13,10 @@ use Rattle.day_totals.specs.declared.leg_total.LegTotal.{LegTotal}
 use Rattle.acq_sql_rows.specs.Tallies.{Tally, Running, AreApart, no_tally, plus, leg_plus, is_for}
 use Rattle.acq_sql_rows.specs.Tallies.{or_no_tally, tally_in}
 use Rattle.acq_sql_rows.specs.Tallies.{raised, raised_at}
+use Rattle.acq_sql_rows.proofs.SameKeys.{bytes_same, number_same}
+use Rattle.acq_sql_rows.proofs.SameKeys.{bytes_back, number_back}
 
--- ---- keys
-
-pub bytes_same : (a b : List ℕ) → bytes_eq a b ≡ true → a ≡ b
-bytes_same a b h = (bytes_eq-Decides a b).0 h
-
-pub bytes_itself : (a : List ℕ) → bytes_eq a a ≡ true
-bytes_itself a = (bytes_eq-Decides a a).1 refl
-
-pub number_same : (a b : ℕ) → (a == b) ≡ true → a ≡ b
-number_same a b h = grind (arith, nat_tests, h)
-
-pub number_itself : (a : ℕ) → (a == a) ≡ true
-number_itself a = grind (arith, nat_tests)
-
-bytes_back : (a b : List ℕ) → bytes_eq a b ≡ bytes_eq b a
-bytes_back a b = go (bytes_eq a b) (bytes_eq b a) refl refl
-  where
-    go : (x y : Bool) → bytes_eq a b ≡ x → bytes_eq b a ≡ y → x ≡ y
-    go true true h k = refl
-    go false false h k = refl
-    go true false h k =
-        let other = subst (λ c. bytes_eq c a ≡ false) (sym (bytes_same a b h)) k in
-        absurd (true≢false (sym (bytes_itself a) ∙ other))
-    go false true h k =
-        let other = subst (λ c. bytes_eq c b ≡ false) (sym (bytes_same b a k)) h in
-        absurd (true≢false (sym (bytes_itself b) ∙ other))
-
-number_back : (a b : ℕ) → (a == b) ≡ (b == a)
-number_back a b = grind (arith, nat_tests)
+-- ---- rows
 
 pub find_none : {X : Type 0} (p : X → Bool) (xs : List X) (x : X) → find p xs ≡ None → Has xs x →
     p x ≡ false

@@ -5,7 +5,7 @@ use Rattle.row_lemmas.proofs.ShortRows.{IsNarrow}
 use Rattle.row_lemmas.proofs.StatementEffects.{bare}
 use Rattle.acq_sql_rows.specs.Schema.{book_schema}
 use Rattle.acq_sql_rows.specs.Schema as schema
-use Rattle.acq_sql_changes.proofs.writes.TableTurns as at
+use Rattle.acq_sql_rows.proofs.TableTurns as at
 use Rattle.acq_sql_changes.proofs.writes.MovedTables.{book_narrow}
 
 pub merchants_listed : Has book_schema.tables (bare at.the_merchants)

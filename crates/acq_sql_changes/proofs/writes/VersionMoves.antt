@@ -21,7 +21,7 @@ use Rattle.acq_sql_rows.specs.Rows.{version, book_row, book_row_of}
 use Rattle.row_lemmas.specs.Queries.{column, param}
 use Rattle.sqlite_sql.specs.Term.{Term}
 use Rattle.acq_sql_rows.specs.Queries.{version_columns}
-use Rattle.acq_sql_changes.proofs.writes.TableTurns.{the_book}
+use Rattle.acq_sql_rows.proofs.TableTurns.{the_book}
 use Rattle.acq_sql_changes.proofs.writes.MovedTables.{book_narrow}
 
 -- the rows of the table: one

@@ -1,4 +1,4 @@
-use Rattle.acq_history.proofs.Keys.{same_key_is, same_key_from}
+use Rattle.acq_soundness.proofs.Keys.{same_key_is, same_key_from}
 use Rattle.acq_history.proofs.history_laws.same_keys_are_one.Goals as goal
 
 pub returns : goal.returns

@@ -1,10 +1,8 @@
 -- what the host took so far, and one event more
-use Rattle.std.proofs.Common.{take, [], Err, inl, refl, sym, ap, ◌∙◌, subst, arith}
+use Rattle.std.proofs.Common.{[], Err, inl, ⊎_elim, refl, sym, ap, ◌∙◌, subst, arith}
 use Rattle.std.proofs.lemmas.List.{take_all}
 use Rattle.acq_core.specs.Tables.{outputs, tables_after}
 use Rattle.acq_core.specs.Pasts.{HasPast}
-use Rattle.acq_host.proofs.PartiesAlone.{is_alone, keeps_postings}
-use Rattle.acq_host.proofs.Closed.{keeps_clearing}
 use Rattle.acq_host.proofs.Runs.{HasTaken, took_none, took_next, may_stop_at}
 use Rattle.acq_host.proofs.Runs.{leaves_books_at, shut_at}
 use Rattle.acq_host.proofs.Chains.{counts_more}
@@ -44,28 +42,6 @@ returns-in-Err-clause-fault_tables g c = λ o end.
     let first = c.loop-at.invariant.took in
     let before = makes.was_honest (g.met.B.Book.honest c.take_next.new.self end) in
     makes.unmade refl (first.stays_open before o) end ∙ first.leads before o
-
-pub returns-in-Err-clause-fault_alone : goal.returns-in-Err-clause-fault_alone
-returns-in-Err-clause-fault_alone g c = λ o end.
-    let makes = c.in-Err.ensures.tables in
-    let first = c.loop-at.invariant.took in
-    let before = makes.was_honest (g.met.B.Book.honest c.take_next.new.self end) in
-    is_alone (g.B.Book.tables c.args.self.now) (g.B.Book.tables c.take_next.new.self)
-    (take c.loop-at.at c.args.events.now)
-    c.take_next.new.said.items
-    (c.in-Err.ensures.kept ∙ first.says before o)
-    (makes.unmade refl (first.stays_open before o) end ∙ first.leads before o)
-
-pub returns-in-Err-clause-postings : goal.returns-in-Err-clause-postings
-returns-in-Err-clause-postings g c = λ o end.
-    let makes = c.in-Err.ensures.tables in
-    let first = c.loop-at.invariant.took in
-    let before = makes.was_honest (g.met.B.Book.honest c.take_next.new.self end) in
-    keeps_postings (g.B.Book.tables c.args.self.now) (g.B.Book.tables c.take_next.new.self)
-    (take c.loop-at.at c.args.events.now)
-    (subst (λ b. g.B.Book.is_open b → HasPast (g.B.Book.tables b)) c.self.view_is c.self.invariant
-    o)
-    (makes.unmade refl (first.stays_open before o) end ∙ first.leads before o)
 
 pub returns-in-Err-clause-fault_stop : goal.returns-in-Err-clause-fault_stop
 returns-in-Err-clause-fault_stop g c = λ h o.
@@ -111,51 +87,6 @@ returns-clause-stop g c = λ h o t l.
     g.met.B.Book.settled c.loop-at.self (first.stays_open h o) t l
     ∙ (first.leads h o ∙ ap (tables_after (g.B.Book.tables c.args.self.now)) whole)
 
-pub returns-clause-alone : goal.returns-clause-alone
-returns-clause-alone g c = λ h o.
-    let all = c.args.events.now in
-    let whole = take_all c.loop-at.at all c.loop-at-test.false in
-    let t = g.B.Book.tables c.args.self.now in
-    let first = c.loop-at.invariant.took in
-    is_alone t (g.B.Book.tables c.loop-at.self) all c.loop-at.said.items
-    (first.says h o ∙ ap (outputs t) whole) (first.leads h o ∙ ap (tables_after t) whole)
-
-pub returns-clause-postings : goal.returns-clause-postings
-returns-clause-postings g c = λ o end.
-    let all = c.args.events.now in
-    let whole = take_all c.loop-at.at all c.loop-at-test.false in
-    let t = g.B.Book.tables c.args.self.now in
-    let first = c.loop-at.invariant.took in
-    keeps_postings t (g.B.Book.tables c.loop-at.self) all
-    (subst (λ b. g.B.Book.is_open b → HasPast (g.B.Book.tables b)) c.self.view_is c.self.invariant
-    o)
-    (first.leads (g.met.B.Book.honest c.loop-at.self end) o ∙ ap (tables_after t) whole)
-
-pub returns-in-Err-clause-clearing : goal.returns-in-Err-clause-clearing
-returns-in-Err-clause-clearing g c = λ o end.
-    let makes = c.in-Err.ensures.tables in
-    let first = c.loop-at.invariant.took in
-    let before = makes.was_honest (g.met.B.Book.honest c.take_next.new.self end) in
-    let between = first.stays_open before o in
-    keeps_clearing (g.B.Book.tables c.args.self.now) (g.B.Book.tables c.take_next.new.self)
-    (take c.loop-at.at c.args.events.now)
-    (subst (λ b. g.B.Book.is_open b → HasPast (g.B.Book.tables b)) c.self.view_is c.self.invariant
-    o)
-    (subst HasPast (sym (makes.unmade refl between end)) (c.loop-at.invariant.past between))
-    (makes.unmade refl between end ∙ first.leads before o)
-
-pub returns-clause-clearing : goal.returns-clause-clearing
-returns-clause-clearing g c = λ o end.
-    let all = c.args.events.now in
-    let whole = take_all c.loop-at.at all c.loop-at-test.false in
-    let t = g.B.Book.tables c.args.self.now in
-    let first = c.loop-at.invariant.took in
-    keeps_clearing t (g.B.Book.tables c.loop-at.self) all
-    (subst (λ b. g.B.Book.is_open b → HasPast (g.B.Book.tables b)) c.self.view_is c.self.invariant
-    o)
-    (c.loop-at.invariant.past end)
-    (first.leads (g.met.B.Book.honest c.loop-at.self end) o ∙ ap (tables_after t) whole)
-
 pub returns-in-Err-clause-left : goal.returns-in-Err-clause-left
 returns-in-Err-clause-left g c = λ h o.
     let was = c.in-Err.ensures.tables.was_honest h in
@@ -175,3 +106,22 @@ returns-in-Err-clause-store g c =
 
 pub returns-clause-store : goal.returns-clause-store
 returns-clause-store g c = c.loop-at.invariant.took.failed
+
+pub returns-in-Err-clause-began : goal.returns-in-Err-clause-began
+returns-in-Err-clause-began g c =
+    subst (λ b. g.B.Book.is_open b → HasPast (g.B.Book.tables b)) c.self.view_is c.self.invariant
+
+pub returns-clause-began : goal.returns-clause-began
+returns-clause-began g c =
+    subst (λ b. g.B.Book.is_open b → HasPast (g.B.Book.tables b)) c.self.view_is c.self.invariant
+
+pub returns-in-Err-clause-past : goal.returns-in-Err-clause-past
+returns-in-Err-clause-past g c = λ end.
+    let makes = c.in-Err.ensures.tables in
+    let t = g.B.Book.tables c.take_next.new.self in
+    let kept : g.B.Book.is_open c.loop-at.self → HasPast t = λ between.
+    subst HasPast (sym (makes.unmade refl between end)) (c.loop-at.invariant.past between) in
+    ⊎_elim kept (λ past. past) (makes.was_open end)
+
+pub returns-clause-past : goal.returns-clause-past
+returns-clause-past g c = c.loop-at.invariant.past

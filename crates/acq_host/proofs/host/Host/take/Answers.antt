@@ -6,8 +6,8 @@ use Rattle.acq_core.specs.Tables.{after_any, step_output, step_tables}
 use Rattle.acq_book.specs.Fits.{Fits}
 use Rattle.acq_book.specs.Calls.{Makes}
 use Rattle.acq_core.specs.Pasts.{IsBook, HasPast}
-use Rattle.acq_history.proofs.BooksAreSound.{books_are_sound}
-use Rattle.acq_history.proofs.BooksGoOn.{books_go_on}
+use Rattle.acq_soundness.proofs.BooksAreSound.{books_are_sound}
+use Rattle.acq_soundness.proofs.BooksGoOn.{books_go_on}
 use Rattle.acq_host.proofs.Chains.{counts_on, makes_after}
 use Rattle.acq_host.proofs.Runs.{past_of_left}
 use Rattle.acq_host.proofs.ChangesFit.{changes_fit}

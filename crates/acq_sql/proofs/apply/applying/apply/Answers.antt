@@ -1,7 +1,7 @@
 use Rattle.sqlite.specs.Held.{state}
 use Rattle.acq_sql_changes.specs.Changed.{AnyTables}
 use Rattle.acq_sql.proofs.apply.ChangesFail.{fails_for}
-use Rattle.acq_sql.proofs.apply.LooksFirst.{whole_for}
+use Rattle.acq_sql_opening.proofs.LooksFirst.{whole_for}
 use Rattle.acq_sql.proofs.apply.applying.apply.Goals as goal
 
 pub returns-in-AddMerchant-clause-whole : goal.returns-in-AddMerchant-clause-whole

@@ -5,7 +5,7 @@ use Rattle.acq_sql_rows.specs.Schema.{reconciliations_tree}
 use Rattle.acq_sql_changes.specs.Refused.{HasNumberLeft, IsNextReconciliation}
 use Rattle.acq_sql_changes.proofs.TakenTables.{number_left}
 use Rattle.acq_sql.proofs.apply.ChangesFail.{fails_for_memory, fails_from, looks_fail}
-use Rattle.acq_sql.proofs.apply.LooksFirst.{fails_looking, refuses, whole_from}
+use Rattle.acq_sql_opening.proofs.LooksFirst.{fails_looking, refuses, whole_from}
 use Rattle.acq_sql.proofs.apply.requests.add_reconciliation.Goals as goal
 
 pub returns-clause-whole : goal.returns-clause-whole

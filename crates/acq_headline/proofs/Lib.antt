@@ -1,0 +1,4 @@
+pub mod PartiesAlone
+pub mod Closed
+pub mod ServedAlone
+pub mod RunsEnd

@@ -1,0 +1,3 @@
+pub mod Headline
+pub mod Clearing
+pub mod ServedAlone

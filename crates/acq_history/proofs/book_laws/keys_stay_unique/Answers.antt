@@ -1,5 +1,0 @@
-use Rattle.acq_history.proofs.KeysStayUnique.{keys_stay_unique}
-use Rattle.acq_history.proofs.book_laws.keys_stay_unique.Goals as goal
-
-pub returns : goal.returns
-returns c = keys_stay_unique

@@ -1,5 +1,0 @@
-use Rattle.acq_history.proofs.NumbersStayBounded.{numbers_stay_bounded}
-use Rattle.acq_history.proofs.book_laws.numbers_stay_bounded.Goals as goal
-
-pub returns : goal.returns
-returns c = numbers_stay_bounded

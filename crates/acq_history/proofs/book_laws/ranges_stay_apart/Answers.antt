@@ -1,5 +1,0 @@
-use Rattle.acq_history.proofs.RangesStayApart.{ranges_stay_apart}
-use Rattle.acq_history.proofs.book_laws.ranges_stay_apart.Goals as goal
-
-pub returns : goal.returns
-returns c = ranges_stay_apart

@@ -1,5 +1,0 @@
-use Rattle.acq_history.proofs.ReferencesAreConsecutive.{references_are_consecutive}
-use Rattle.acq_history.proofs.book_laws.references_are_consecutive.Goals as goal
-
-pub returns : goal.returns
-returns c = references_are_consecutive

@@ -1,5 +1,0 @@
-use Rattle.acq_history.proofs.RepliesAreMessages.{replies_are_messages}
-use Rattle.acq_history.proofs.book_laws.replies_are_messages.Goals as goal
-
-pub returns : goal.returns
-returns c = replies_are_messages

@@ -1,5 +1,0 @@
-use Rattle.acq_history.proofs.RepeatsTakenOut.{repeats}
-use Rattle.acq_host.proofs.laws.repeats_are_quiet.Goals as goal
-
-pub returns : goal.returns
-returns c = repeats

@@ -1,0 +1,46 @@
+-- Requests that are recorded: which they are, and what they want to be looked up.
+use Rattle.std.proofs.Common.{◌≡◌, ℕ, Some, true, ◌⊎◌, inl, inr, refl, ap}
+use Rattle.iso_codec.specs.Message.{IsoMessage}
+use Rattle.acq_message.specs.declared.service.Service.{Service}
+use Rattle.acq_message.specs.declared.service.Service.TheVariants.{Authorization, Financial}
+use Rattle.acq_message.specs.declared.service.Service.TheVariants.{Reversal, ReversalAdvice}
+use Rattle.acq_message.specs.declared.service.Service.TheVariants.{NetworkManagement}
+use Rattle.acq_core.specs.declared.lookup.Wanted.{Wanted}
+use Rattle.acq_message.specs.Elements.{text_at, key_of}
+use Rattle.acq_message.specs.declared.request_message.RequestMessage.{RequestMessage}
+use Rattle.acq_core.specs.Known.{wanted_for}
+use Rattle.acq_soundness.specs.Requests.{recordable, is_admissible, is_reversal}
+
+-- ---- services
+
+-- network management alone isn't recorded
+pub recordable_some : (s : Service) (r : RequestMessage) → (s ≡ NetworkManagement → ⊥) →
+    recordable r s ≡ Some r
+recordable_some NetworkManagement r other = absurd (other refl)
+recordable_some service r other = refl
+
+pub recordable_is : (s : Service) (q r : RequestMessage) → recordable q s ≡ Some r → q ≡ r
+recordable_is NetworkManagement q r e = absurd (cc)
+recordable_is service q r e = cc
+
+pub is_admissible_true : (s : Service) → (s ≡ Authorization) ⊎ (s ≡ Financial) →
+    is_admissible s ≡ true
+is_admissible_true s (inl is) = ap is_admissible is
+is_admissible_true s (inr is) = ap is_admissible is
+
+pub is_reversal_true : (s : Service) → (s ≡ Reversal) ⊎ (s ≡ ReversalAdvice) → is_reversal s ≡ true
+is_reversal_true s (inl is) = ap is_reversal is
+is_reversal_true s (inr is) = ap is_reversal is
+
+-- ---- look-ups
+
+-- each request that is recorded wants its merchant, its terminal and its key
+pub record WantsByKey (w : Wanted) (s : Service) (m : IsoMessage) : Type 0 where
+  pub merchant : w.merchant ≡ Some (text_at m 42)
+  pub terminal : w.terminal ≡ Some (text_at m 41)
+  pub key : w.key ≡ Some (key_of s m)
+
+pub wants_by_key : (day : ℕ) (s : Service) (q r : RequestMessage) (m : IsoMessage) →
+    recordable q s ≡ Some r → WantsByKey (wanted_for day s m) s m
+wants_by_key day NetworkManagement q r m e = absurd (cc)
+wants_by_key day service q r m e = record { merchant = refl; terminal = refl; key = refl }

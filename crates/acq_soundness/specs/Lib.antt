@@ -1,0 +1,9 @@
+pub mod Requests
+pub mod Ranges
+pub mod Keys
+pub mod References
+pub mod Replies
+pub mod CardData
+pub mod Bounds
+pub mod Rows
+pub mod Books

@@ -1,7 +1,0 @@
-use Rattle.sqlite.specs.Held.{state}
-use Rattle.acq_sql.proofs.opening.OpenedBooks.{opened_at}
-use Rattle.acq_sql.proofs.opening.laws.an_open_finds_a_book_of_any_version.Goals as goal
-
-pub returns : goal.returns
-returns g c version t opens live left =
-    opened_at (state g.S.Store c.args.conn.now) t opens live left

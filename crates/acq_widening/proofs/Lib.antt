@@ -1,0 +1,4 @@
+pub mod RangeListsWidened
+pub mod WidenedDecisions
+pub mod WidenedSteps
+pub mod WidenedRuns
