@@ -15,7 +15,7 @@ use Rattle.acq_out.specs.EventLines.{events_of_text}
 use Rattle.acq_commands.specs.DayReports.{Takes, TakesFirst, TakesSome}
 use Rattle.acq_commands.specs.Replay.{IsUntaken, Replays, Stops, TakesUpTo}
 use Rattle.acq_commands.specs.Streams.{Course, Stream}
-use Rattle.acq_commands.specs.declared.fault.Fault as fault
+use Rattle.acq_faults.specs.declared.fault.Fault as fault
 
 module _ {S : Type 0} (book : Ghosts S) (settled : LeavesTables book) where
   -- all of them were

@@ -3,7 +3,7 @@ use Rattle.std.proofs.Common.{◌≡◌, ℕ, ◌+◌, ◌++◌, List, Option, S
 use Rattle.std.proofs.Common.{◌∙◌, append-nil, arith, inl, inr, subst}
 use Rattle.std.specs.Prelude.{IfErr, OnErr, OnOk, Ok, Result}
 use Rattle.std.specs.Io.KnownBytes.{Consumes, IsAtEnd}
-use Rattle.acq_book.specs.Promise.{CountsFault, HasRisen}
+use Rattle.acq_book.specs.Promise.{CountsFault}
 use Rattle.acq_book.specs.declared.book.Book.{Ghosts}
 use Rattle.acq_book.specs.declared.book_fault.BookFault as book
 use Rattle.acq_core.specs.declared.output.Output.{Output}
@@ -19,14 +19,15 @@ use Rattle.acq_out.specs.declared.out_fault.OutFault as out
 use Rattle.acq_reports.specs.Faults as reports
 use Rattle.acq_reports.specs.declared.report_fault.ReportFault as report
 use Rattle.acq_commands.specs.DayReports.{StopsTaking, TakesSome, told}
-use Rattle.acq_commands.specs.Faults.{failed_reads, failed_writes, of_book, of_hex, of_input}
-use Rattle.acq_commands.specs.Faults.{IsReporting}
-use Rattle.acq_commands.specs.Faults.{of_out, CountsStore, TellsStore}
-use Rattle.acq_commands.specs.Listening.{going_on}
+use Rattle.acq_faults.specs.Faults.{failed_reads, failed_writes, of_book, of_hex, of_input}
+use Rattle.acq_faults.specs.Faults.{IsReporting}
+use Rattle.acq_faults.specs.Faults.{of_out, CountsStore, TellsStore}
+use Rattle.acq_faults.specs.Ends.{going_on}
 use Rattle.acq_commands.specs.Once.{told_of}
+use Rattle.acq_faults.proofs.ToldLater.{tells_later}
 use Rattle.acq_commands.specs.Replay.{AfterReading, StopsAt, StopsEvents}
 use Rattle.acq_commands.specs.Streams.{Course, Stream}
-use Rattle.acq_commands.specs.declared.fault.Fault as fault
+use Rattle.acq_faults.specs.declared.fault.Fault as fault
 
 -- what holds whatever the end is said of each
 pub any_end : (result : Result (Unit {0}) fault.Fault) (whole : Type 0) → whole →
@@ -144,14 +145,6 @@ pub tells_counted : (result : Result (Unit {0}) fault.Fault) (P : Type 0) (a b :
     CountsStore result a b → TellsStore result a b P
 tells_counted (Err fault.TheVariants.Store) P a b counts = inl counts
 tells_counted result P a b counts = counts
-
--- what is told is told with a weaker reason, and of a longer time in which nothing more failed
-pub tells_later : (result : Result (Unit {0}) fault.Fault) (P Q : Type 0) {a b : ℕ} (c : ℕ) →
-    b ≡ a → (P → Q) → TellsStore result b c P → TellsStore result a c Q
-tells_later (Err fault.TheVariants.Store) P Q c same so (inl risen) =
-    inl (subst (λ (n : ℕ). HasRisen n c) same risen)
-tells_later (Err fault.TheVariants.Store) P Q c same so (inr p) = inr (so p)
-tells_later result P Q c same so is = is ∙ same
 
 -- what is told of the store by the reports on a book, and by the events before them
 pub tells_both : {S : Type 0} (it : Ghosts S) (taken result : Result (Unit {0}) fault.Fault)

@@ -13,7 +13,7 @@ use Rattle.acq_book.specs.declared.book_fault.BookFault as book
 use Rattle.acq_host.specs.Runs.{after_first}
 use Rattle.acq_out.specs.OutputLines.{WritesLine, line_of}
 use Rattle.acq_out.specs.declared.out_fault.OutFault as out
-use Rattle.acq_commands.specs.Faults.{of_book, of_out}
+use Rattle.acq_faults.specs.Faults.{of_book, of_out}
 use Rattle.acq_commands.specs.Replay.{Reaches}
 
 -- the lines of one output more

@@ -8,10 +8,10 @@ use Rattle.acq_book.specs.declared.book.Book.{Ghosts}
 use Rattle.acq_core.specs.Tables.{Opening, Tables, new_tables}
 use Rattle.acq_front.specs.Stops.{left_of, open_at}
 use Rattle.acq_reports.specs.declared.report_fault.ReportFault.{ReportFault}
-use Rattle.acq_commands.specs.declared.day_report.DayReport.{DayReport}
-use Rattle.acq_commands.specs.declared.fault.Fault.{Fault}
+use Rattle.acq_faults.specs.declared.day_report.DayReport.{DayReport}
+use Rattle.acq_faults.specs.declared.fault.Fault.{Fault}
 use Rattle.acq_commands.specs.DayReports.{StopsTaking, Takes, WritesReports, told}
-use Rattle.acq_commands.specs.Faults.{IsReporting, failed_reads, failed_writes}
+use Rattle.acq_faults.specs.Faults.{IsReporting, failed_reads, failed_writes}
 use Rattle.acq_commands.specs.Replay.{Replays}
 use Rattle.acq_commands.specs.Runs.{EndsWithReports, RunsIn}
 use Rattle.acq_commands.specs.Streams.{Stream}

@@ -11,8 +11,9 @@ use Rattle.acq_core.specs.Tables.{Tables}
 use Rattle.acq_reports.specs.Refusals.{day_refusal}
 use Rattle.acq_reports.specs.Writing.{Reports}
 use Rattle.acq_reports.specs.declared.report_fault.ReportFault.{ReportFault}
-use Rattle.acq_commands.specs.declared.day_report.DayReport.{DayReport}
-use Rattle.acq_commands.specs.DayReports.{AreGiven, StopsReports, report_text, report_texts}
+use Rattle.acq_faults.specs.declared.day_report.DayReport.{DayReport}
+use Rattle.acq_faults.specs.DayReport.{report_text}
+use Rattle.acq_commands.specs.DayReports.{AreGiven, StopsReports, report_texts}
 
 module _ (t : Tables) (reports : List DayReport) (i : ℕ) (r : DayReport)
     (within : i < length reports)

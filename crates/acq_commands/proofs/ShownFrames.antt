@@ -11,8 +11,8 @@ use Rattle.acq_link.specs.declared.hex_frames.hex_fault.HexFault as hex
 use Rattle.acq_link.specs.declared.input_fault.InputFault as input
 use Rattle.acq_commands.specs.declared.input_form.InputForm.{InputForm}
 use Rattle.acq_commands.specs.declared.input_form.InputForm.TheVariants as form
-use Rattle.acq_commands.specs.declared.fault.Fault as fault
-use Rattle.acq_commands.specs.Faults.{failed_reads, failed_writes, of_hex, of_input}
+use Rattle.acq_faults.specs.declared.fault.Fault as fault
+use Rattle.acq_faults.specs.Faults.{failed_reads, failed_writes, of_hex, of_input}
 use Rattle.acq_commands.specs.Show.{FrameFault, Shows, ShowsAll, ShowsFirst, ShowsHex, ShowsInput}
 use Rattle.acq_commands.specs.Show.{ShowsOne, ShowsUntil, entries, entry}
 use Rattle.acq_commands.proofs.FramesInOrder.{taken_all, taken_more, taken_none}

@@ -7,25 +7,14 @@ use Rattle.acq_core.specs.Tables.{Tables, tables_after}
 use Rattle.acq_host.specs.Runs.{after_first}
 use Rattle.acq_front.specs.Stops.{Left, LeavesAll, StopLeaves}
 use Rattle.acq_out.specs.EventLines.{events_of_text}
-use Rattle.acq_reports.specs.ClearingFile.{clearing_text}
-use Rattle.acq_reports.specs.SettlementReport.{settlement_text}
 use Rattle.acq_reports.specs.Refusals.{day_refusal}
 use Rattle.acq_reports.specs.Writing.{Reports}
 use Rattle.acq_reports.specs.declared.report_fault.ReportFault.{ReportFault}
-use Rattle.acq_commands.specs.declared.day_report.DayReport.{DayReport}
-use Rattle.acq_commands.specs.declared.report_kind.ReportKind.{ReportKind}
-use Rattle.acq_commands.specs.declared.report_kind.ReportKind.TheVariants.{Clearing, Settlement}
-use Rattle.acq_commands.specs.declared.fault.Fault as fault
-use Rattle.acq_commands.specs.Faults.{of_report}
+use Rattle.acq_faults.specs.declared.day_report.DayReport.{DayReport}
+use Rattle.acq_faults.specs.declared.fault.Fault as fault
+use Rattle.acq_faults.specs.Faults.{of_report}
+use Rattle.acq_faults.specs.DayReport.{report_text}
 use Rattle.acq_commands.specs.Streams.{Course, Stream, left_after, tables_before}
-
--- what is written of a day
-abbrev pub text_on : ReportKind → Tables → ℕ → List ℕ
-text_on Clearing t day = clearing_text t day
-text_on Settlement t day = settlement_text t day
-
-abbrev pub report_text : Tables → DayReport → List ℕ
-report_text t report = text_on report.kind t report.day
 
 -- the texts of reports, one after the other
 abbrev pub report_texts : Tables → List DayReport → List ℕ

@@ -1,6 +1,5 @@
 pub mod ClockMoments
 pub mod DayReports
-pub mod Faults
 pub mod Listening
 pub mod Once
 pub mod Replay

@@ -1,34 +1,19 @@
 -- Connections that are served one after the other.
-use Rattle.std.specs.Prelude.{◌≡◌, ◌≤◌, ◌+◌, ℕ, List, [], ◌∷◌, ◌++◌, length, Result, Ok, Err}
+use Rattle.std.specs.Prelude.{◌≡◌, ◌+◌, ℕ, List, [], ◌∷◌, ◌++◌, length, Result, Ok, Err}
 use Rattle.std.specs.List.{All}
-use Rattle.acq_core.specs.declared.event.Event.{Event}
-use Rattle.acq_core.specs.Tables.{Tables, tables_after}
+use Rattle.acq_core.specs.Tables.{Tables}
 use Rattle.acq_front.specs.Faults.{failed_reads, failed_writes}
 use Rattle.acq_front.specs.Serving.{Connection, Serves}
-use Rattle.acq_front.specs.Stops.{Left, LeavesAll, LeavesSome, open_at}
+use Rattle.acq_front.specs.Stops.{Left, LeavesAll, open_at}
 use Rattle.acq_front.specs.Talk.{Saying}
 use Rattle.acq_front.specs.declared.front_fault.FrontFault as front
-use Rattle.acq_commands.specs.Faults.{fault_line, of_front}
-use Rattle.acq_commands.specs.declared.fault.Fault.{Fault}
-use Rattle.acq_commands.specs.declared.fault.Fault.TheVariants.{Memory, Store}
+use Rattle.acq_faults.specs.Ends.{going_on}
+use Rattle.acq_faults.specs.declared.fault.Fault.{Fault}
 
 -- a connection that was served, and how it ended
 pub record Served : Type 0 where
   pub connection : Connection
   pub ended : Result (Unit {0}) front.FrontFault
-
--- want of memory and the store's fault end the program, and no other fault of a connection does
-abbrev pub going_on : Result (Unit {0}) front.FrontFault → Result (Unit {0}) Fault
-going_on (Err front.TheVariants.Memory) = Err Memory
-going_on (Err front.TheVariants.Store) = Err Store
-going_on other = Ok tt
-
--- what is told of a connection's end: a fault that doesn't end the program, by its line
-abbrev pub told_line : Result (Unit {0}) front.FrontFault → List ℕ
-told_line (Ok u) = []
-told_line (Err front.TheVariants.Memory) = []
-told_line (Err front.TheVariants.Store) = []
-told_line (Err fault) = fault_line (of_front fault)
 
 -- What passed over connections so far: all that came and all that went out, and how many reads and
 -- writes failed.
@@ -84,24 +69,3 @@ module _ (may_give : ℕ → Type 0) (may_say : Saying) where
       (before : List Served) × (last : Served) × (mid : Tables) × ServesEach old mid before
       × ServesOne mid left last × (going_on last.ended ≡ Err fault)
       × (passes ≡ with_served (traffic_after passed before) last)
-
--- the host took some events, and a stop leaves them
-pub record Reaches (old : Tables) (left : Left) : Type 0 where
-  pub events : List Event
-  pub tables : left.tables ≡ tables_after old events
-  pub stop : LeavesAll left old events
-
--- So it is, but memory or the store refused a call, perhaps with one more event in hand. A stop
--- leaves the events that were taken, or these and the one in hand.
-pub record ReachesSome (old : Tables) (left : Left) : Type 0 where
-  pub events : List Event
-  pub in_hand : List Event
-  pub at_most_one : length in_hand ≤ 1
-  pub tables : left.is_open → left.tables ≡ tables_after old events
-  pub stop : LeavesSome left old events in_hand
-
--- what the host took, by how the program ended
-abbrev pub ReachesBy : Tables → Left → Result (Unit {0}) Fault → Type 0
-ReachesBy old left (Err Memory) = ReachesSome old left
-ReachesBy old left (Err Store) = ReachesSome old left
-ReachesBy old left other = Reaches old left

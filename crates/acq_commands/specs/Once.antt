@@ -6,9 +6,9 @@ use Rattle.acq_front.specs.Serving.{Connection, Serves}
 use Rattle.acq_front.specs.Stops.{Left, open_at}
 use Rattle.acq_front.specs.Talk.{Saying}
 use Rattle.acq_front.specs.declared.front_fault.FrontFault.{FrontFault}
-use Rattle.acq_commands.specs.Faults.{of_front}
+use Rattle.acq_faults.specs.Faults.{of_front}
 use Rattle.acq_commands.specs.Streams.{Stream}
-use Rattle.acq_commands.specs.declared.fault.Fault.{Fault}
+use Rattle.acq_faults.specs.declared.fault.Fault.{Fault}
 
 -- what a book begins with that is made for one run: the greatest limit, and the first day
 abbrev pub widest_opening : Opening

@@ -10,7 +10,7 @@ use Rattle.acq_out.specs.EventLines.{events_of_text}
 use Rattle.acq_out.specs.OutputLines.{line_of}
 use Rattle.acq_front.specs.Stops.{LeavesAll, StopLeaves}
 use Rattle.acq_commands.specs.Streams.{Course, Stream, left_after, tables_before}
-use Rattle.acq_commands.specs.declared.fault.Fault as fault
+use Rattle.acq_faults.specs.declared.fault.Fault as fault
 
 -- the lines of what the host says to events
 abbrev pub lines : Tables → List Event → List ℕ

@@ -7,8 +7,8 @@ use Rattle.acq_core.specs.Tables.{Opening, Tables, new_tables, tables_after}
 use Rattle.acq_front.specs.Stops.{open_at}
 use Rattle.acq_out.specs.EventLines.{events_of_text}
 use Rattle.acq_reports.specs.declared.report_fault.ReportFault.{ReportFault}
-use Rattle.acq_commands.specs.declared.day_report.DayReport.{DayReport}
-use Rattle.acq_commands.specs.declared.fault.Fault.{Fault}
+use Rattle.acq_faults.specs.declared.day_report.DayReport.{DayReport}
+use Rattle.acq_faults.specs.declared.fault.Fault.{Fault}
 use Rattle.acq_commands.specs.declared.replay_options.ReplayOptions.{ReplayOptions}
 use Rattle.acq_commands.specs.DayReports.{StopsTaking, WritesReports, told}
 use Rattle.acq_commands.specs.Replay.{Replays}

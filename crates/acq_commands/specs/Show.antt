@@ -7,7 +7,7 @@ use Rattle.acq_link.specs.Frames.{Frames, FramesThen, framed, is_partial, has_ba
 use Rattle.acq_link.specs.FramesAt.{BeginsWithFrame}
 use Rattle.acq_show.specs.Shown.{shown}
 use Rattle.acq_commands.specs.Streams.{Stream}
-use Rattle.acq_commands.specs.declared.fault.Fault as fault
+use Rattle.acq_faults.specs.declared.fault.Fault as fault
 use Rattle.acq_commands.specs.declared.input_form.InputForm.{InputForm}
 use Rattle.acq_commands.specs.declared.input_form.InputForm.TheVariants as form
 

@@ -1,6 +1,6 @@
 //! A report on the book in a file.
 
-use crate::day_report::DayReport;
+use acq_faults::DayReport;
 
 /// A report on the book in a file.
 #[derive(Drop)]

@@ -6,13 +6,12 @@ ghost use Rattle.acq_reports.specs.Faults.{TellsStore, failed_writes, is_settled
 ghost use Rattle.acq_reports.specs.Refusals.{day_refusal};
 ghost use Rattle.acq_reports.specs.Writing.{Reports};
 ghost use Rattle.acq_reports.specs.declared.report_fault.ReportFault as report_fault;
-ghost use Rattle.acq_commands.specs.DayReports.{WritesReports, report_text, told};
-ghost use Rattle.acq_commands.specs.Faults as faults;
+ghost use Rattle.acq_faults.specs.DayReport.{report_text};
+ghost use Rattle.acq_commands.specs.DayReports.{WritesReports, told};
+ghost use Rattle.acq_faults.specs.Faults as faults;
 
-use crate::day_report::DayReport;
-use crate::fault::Fault;
-use crate::report_kind::ReportKind;
 use acq_book::Book;
+use acq_faults::{DayReport, Fault, ReportKind};
 use acq_link::Sink;
 use acq_reports::{ReportFault, clearing, settlement};
 use std::alloc::Global;

@@ -1,31 +1,24 @@
 //! The commands of the host over any book: event lines in, output lines or reports out; frames in,
 //! reply frames out, of one connection or of many; messages shown to a person. What they are given
 //! beside their streams: the moments of a machine's clock, how far a long run is, and fault lines
-//! that hold up nobody.
+//! that hold up nobody. Their faults stand in `acq_faults`.
 #![tactic(auto)]
 
 mod book_commands;
 mod book_report;
-mod day_report;
 mod day_reports;
-mod fault;
-mod fault_line;
-mod gathering;
 mod holds_options;
 mod input_form;
-mod listen_options;
 mod listening;
 mod new_book;
 mod no_progress;
 mod once;
 mod once_options;
-mod patience;
 mod progress;
 mod prompt_lines;
 mod replay_options;
 mod replaying;
 mod replaying_in_memory;
-mod report_kind;
 mod showing;
 mod system_clock;
 mod taking_events;
@@ -35,26 +28,19 @@ mod widest_opening;
 
 pub use book_commands::{holds_of, replay_on, report_on};
 pub use book_report::BookReport;
-pub use day_report::DayReport;
 pub use day_reports::write_reports;
-pub use fault::Fault;
-pub use fault_line::write_fault_line;
-pub use gathering::Gathering;
 pub use holds_options::HoldsOptions;
 pub use input_form::InputForm;
-pub use listen_options::ListenOptions;
-pub use listening::{end_connection, listen_on, listen_together_on};
+pub use listening::{listen_on, listen_together_on};
 pub use new_book::NewBook;
 pub use no_progress::NoProgress;
 pub use once::{once_in_memory, once_on};
 pub use once_options::OnceOptions;
-pub use patience::Patience;
 pub use progress::Progress;
 pub use prompt_lines::{Outlet, PromptLines};
 pub use replay_options::ReplayOptions;
 pub use replaying::replay;
 pub use replaying_in_memory::replay_in_memory;
-pub use report_kind::ReportKind;
 pub use showing::show;
 pub use system_clock::{SystemClock, moment_near};
 pub use taking_events::take_events;

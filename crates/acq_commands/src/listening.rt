@@ -1,19 +1,19 @@
 //! Connections served, one after the other or at once.
 
-ghost use Rattle.std.specs.Prelude.{◌≡◌, ◌++◌, ℕ, OnOk};
+ghost use Rattle.std.specs.Prelude.{◌≡◌, ℕ, OnOk};
 ghost use Rattle.acq_core.specs.Pasts.{HasPast};
 ghost use Rattle.acq_front.specs.Stops.{left_of};
-ghost use Rattle.acq_commands.specs.Faults.{TellsStore};
-ghost use Rattle.acq_commands.specs.Listening.{ReachesBy, Served, ServesConnections};
-ghost use Rattle.acq_commands.specs.Listening.{ServesOne, going_on, told_line, traffic};
+ghost use Rattle.acq_faults.specs.Faults.{TellsStore};
+ghost use Rattle.acq_faults.specs.Reaching.{ReachesBy};
+ghost use Rattle.acq_commands.specs.Listening.{Served, ServesConnections};
+ghost use Rattle.acq_faults.specs.Ends.{going_on};
+ghost use Rattle.acq_commands.specs.Listening.{ServesOne, traffic};
 ghost use Rattle.acq_commands.specs.Listening.{with_served};
 
-use crate::fault::Fault;
-use crate::fault_line::write_fault_line;
-use crate::gathering::Gathering;
 use acq_book::Book;
 use acq_core::{Query, Verdict};
-use acq_front::{Clock, Connections, FrontFault, Issuer};
+use acq_faults::{Fault, Gathering, end_connection};
+use acq_front::{Clock, Connections, Issuer};
 use acq_host::Host;
 use acq_link::Sink;
 use std::alloc::Global;
@@ -124,40 +124,4 @@ fn serve_one<B: Book + Drop, N: Connections, C: Clock, I: Issuer, F: Sink>(
 {
     let ended = connections.serve_next(alloc, host, clock, issuer);
     end_connection(ended, faults)
-}
-
-/// Ends a connection: want of memory and the store's fault end the program too, and any other fault
-/// is a line of `faults`.
-pub fn end_connection<F: Sink>(ended: Result<(), FrontFault>, faults: &mut F) -> Result<(), Fault>
-    ensures which { result ≡ going_on ended }
-    ensures told { F.failures faults.new ≡ F.failures faults.old
-        → F.sent faults.new ≡ F.sent faults.old ++ told_line ended }
-{
-    tell(&ended, faults);
-    going_on(ended)
-}
-
-/// What a connection's end is for the program: want of memory and the store's fault end it, and no
-/// other fault does.
-fn going_on(ended: Result<(), FrontFault>) -> Result<(), Fault>
-    ensures { result ≡ going_on ended }
-{
-    match ended {
-        Err(FrontFault::Memory) => Err(Fault::Memory),
-        Err(FrontFault::Store) => Err(Fault::Store),
-        Ok(()) | Err(_) => Ok(()),
-    }
-}
-
-/// Tells a fault that doesn't end the program: its line goes out, unless a write fails.
-fn tell<F: Sink>(ended: &Result<(), FrontFault>, faults: &mut F)
-    ensures { F.failures faults.new ≡ F.failures faults.old
-        → F.sent faults.new ≡ F.sent faults.old ++ told_line ended.now }
-{
-    match ended {
-        Ok(()) | Err(FrontFault::Memory | FrontFault::Store) => {}
-        Err(fault) => {
-            let _ = write_fault_line(&Fault::from(*fault), faults);
-        }
-    }
 }

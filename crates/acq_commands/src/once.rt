@@ -5,13 +5,13 @@ ghost use Rattle.acq_core.specs.Pasts.{HasPast};
 ghost use Rattle.acq_front.specs.Serving.{FrameCame};
 ghost use Rattle.acq_front.specs.Stops.{left_of};
 ghost use Rattle.acq_link.specs.Moves.{TakesAll};
-ghost use Rattle.acq_commands.specs.Faults.{TellsStore, failed_reads, failed_writes};
+ghost use Rattle.acq_faults.specs.Faults.{TellsStore, failed_reads, failed_writes};
 ghost use Rattle.acq_commands.specs.Once.{ServesInMemory, ServesOnce};
 
 use crate::book_commands::end_of;
-use crate::fault::Fault;
 use crate::widest_opening::{first_day_of_all, greatest_limit};
 use acq_book::{Book, ListBook};
+use acq_faults::Fault;
 use acq_front::{Clock, Issuer, serve};
 use acq_host::Host;
 use acq_link::{Sink, Source};

@@ -1,7 +1,7 @@
 //! What a replay is asked for.
 
-use crate::day_report::DayReport;
 use acq_core::Limit;
+use acq_faults::DayReport;
 use day_totals::Day;
 
 /// What a replay is asked for.

@@ -10,14 +10,14 @@ ghost use Rattle.acq_front.specs.Stops.{LeavesAll, left_of};
 ghost use Rattle.acq_out.specs.OutputLines.{WritesLine, line_of};
 ghost use Rattle.acq_link.specs.Moves.{TakesAll};
 ghost use Rattle.acq_out.specs.declared.out_fault.OutFault.{OutFault};
-ghost use Rattle.acq_commands.specs.Faults.{CountsStore, failed_reads, failed_writes};
-ghost use Rattle.acq_commands.specs.Faults.{of_book, of_out};
+ghost use Rattle.acq_faults.specs.Faults.{CountsStore, failed_reads, failed_writes};
+ghost use Rattle.acq_faults.specs.Faults.{of_book, of_out};
 ghost use Rattle.acq_commands.specs.Replay.{AfterReading, Replays, Stops, StopsEvents, lines};
 
-use crate::fault::Fault;
 use crate::progress::Progress;
 use acq_book::Book;
 use acq_core::Event;
+use acq_faults::Fault;
 use acq_host::Host;
 use acq_link::{Sink, Source};
 use acq_out::{read_events, write_output};

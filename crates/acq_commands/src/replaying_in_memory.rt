@@ -5,9 +5,9 @@ ghost use Rattle.acq_commands.specs.Replay.{AfterReading};
 ghost use Rattle.acq_commands.specs.Runs.{RunsReplay};
 
 use crate::book_commands::{end_of, replay_on};
-use crate::fault::Fault;
 use crate::progress::Progress;
 use crate::replay_options::ReplayOptions;
+use acq_faults::Fault;
 use acq_host::Host;
 use acq_link::{Sink, Source};
 use std::alloc::Global;

@@ -3,12 +3,12 @@
 ghost use Rattle.std.specs.Prelude.{◌≡◌, ◌+◌, ◌<◌, ◌++◌, ℕ, List, length, IfErr, IfOk};
 ghost use Rattle.acq_link.specs.FramesAt.{BeginsWithFrame};
 ghost use Rattle.acq_link.specs.Moves.{TakesAll};
-ghost use Rattle.acq_commands.specs.Faults.{failed_reads, failed_writes};
+ghost use Rattle.acq_faults.specs.Faults.{failed_reads, failed_writes};
 ghost use Rattle.acq_commands.specs.Replay.{AfterReading};
 ghost use Rattle.acq_commands.specs.Show.{FrameFault, RunsShow, Shows, ShowsHex, ShowsOne, entry};
 
-use crate::fault::Fault;
 use crate::input_form::InputForm;
+use acq_faults::Fault;
 use acq_link::hex_frames::frames_of_hex;
 use acq_link::{Front, Sink, Source, frame_at, read_to_end, write_out};
 use acq_show::show_message;

@@ -6,13 +6,13 @@ ghost use Rattle.acq_book.specs.Promise.{CountsFault};
 ghost use Rattle.acq_front.specs.Stops.{LeavesAll, left_of};
 ghost use Rattle.acq_link.specs.Moves.{TakesAll};
 ghost use Rattle.acq_commands.specs.DayReports.{Takes, TakesFirst};
-ghost use Rattle.acq_commands.specs.Faults.{CountsStore, failed_reads, failed_writes};
+ghost use Rattle.acq_faults.specs.Faults.{CountsStore, failed_reads, failed_writes};
 ghost use Rattle.acq_commands.specs.Replay.{AfterReading};
 
-use crate::fault::Fault;
 use crate::progress::Progress;
 use acq_book::{Book, BookFault};
 use acq_core::Event;
+use acq_faults::Fault;
 use acq_host::Host;
 use acq_link::Source;
 use acq_out::read_events;

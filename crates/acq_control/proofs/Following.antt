@@ -9,7 +9,7 @@ use Rattle.std.proofs.lemmas.List.{map-append}
 use Rattle.std.proofs.lemmas.List.Elements.{All-append, All-cons, All-nil}
 use Rattle.acq_core.specs.declared.event.Event.{Event}
 use Rattle.acq_core.specs.Tables.{Tables, tables_after}
-use Rattle.acq_history.proofs.FinalDays.{tables_after-append}
+use Rattle.acq_soundness.proofs.Runs.{tables_after-append}
 use Rattle.acq_front.specs.Log.{Entry, after_log, by, events_of}
 use Rattle.acq_control.specs.declared.question.Question.{Question}
 use Rattle.acq_control.specs.Answers.{answer_of}

@@ -9,7 +9,7 @@ use Rattle.std.proofs.lemmas.Bool.{le-leb}
 use Rattle.std.proofs.lemmas.Bool.Decides.{nat_tests}
 use Rattle.std.proofs.lemmas.Fmt.{decimal_is_IsNumeral, length-decimal-le}
 use Rattle.std.proofs.lemmas.Str.Parse.{digit_from_value}
-use Rattle.acq_commands.specs.declared.fault.Fault.TheVariants as fault
+use Rattle.acq_faults.specs.declared.fault.Fault.TheVariants as fault
 use Rattle.acq_control.specs.Answers.{text_answer}
 use Rattle.acq_control.specs.Lines.{IsInLine, is_in_line, line_feed}
 use Rattle.acq_control.specs.HostAnswers.{Answer, is_length_text, length_of_text}

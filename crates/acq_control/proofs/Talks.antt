@@ -8,7 +8,7 @@ use Rattle.std.proofs.lemmas.Grind.{flat_map-append}
 use Rattle.std.proofs.lemmas.List.Concat.{flat_map-cons}
 use Rattle.std.proofs.lemmas.List.Folds.{list_any-append}
 use Rattle.std.proofs.lemmas.List.Elements.{All-append, All-cons, All-nil}
-use Rattle.acq_commands.specs.declared.fault.Fault.{Fault}
+use Rattle.acq_faults.specs.declared.fault.Fault.{Fault}
 use Rattle.acq_control.specs.Lines.{BeginsWithLine, IsInLine, LinesThen, all_ended, ended}
 use Rattle.acq_control.specs.HostAnswers.{Answer, IsAnswer, is_fault, is_fault_kind}
 use Rattle.acq_control.specs.HostAnswers.{kind_of_line, said, shown, spelled, told, told_of}

@@ -2,8 +2,8 @@
 use Rattle.std.proofs.Common.{◌≡◌, ◌<◌, ℕ, Bool, List, [], ◌++◌, length, take, refl, ap, ◌∙◌}
 use Rattle.std.proofs.Common.{Ok, Err, inl, inr}
 use Rattle.std.specs.Prelude.{Result}
-use Rattle.acq_commands.specs.declared.fault.Fault.{Fault}
-use Rattle.acq_commands.specs.declared.fault.Fault.TheVariants as fault
+use Rattle.acq_faults.specs.declared.fault.Fault.{Fault}
+use Rattle.acq_faults.specs.declared.fault.Fault.TheVariants as fault
 use Rattle.acq_control.specs.Lines.{ended}
 use Rattle.acq_control.specs.HostAnswers.{Answer, BeginsWithAnswer, is_fault_kind, kind_of_line}
 use Rattle.acq_control.specs.HostAnswers.{said}

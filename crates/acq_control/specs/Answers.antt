@@ -13,9 +13,9 @@ use Rattle.acq_reports.specs.declared.report_fault.ReportFault.{ReportFault}
 use Rattle.acq_status.specs.Figures.{figures_at}
 use Rattle.acq_status.specs.Texts.{text_in}
 use Rattle.acq_stand_in.specs.Pending.{pending_text}
-use Rattle.acq_commands.specs.DayReports.{report_text}
-use Rattle.acq_commands.specs.Faults.{fault_line, of_report}
-use Rattle.acq_commands.specs.declared.fault.Fault.TheVariants.{BadLine, OtherDay}
+use Rattle.acq_faults.specs.DayReport.{report_text}
+use Rattle.acq_faults.specs.Faults.{fault_line, of_report}
+use Rattle.acq_faults.specs.declared.fault.Fault.TheVariants.{BadLine, OtherDay}
 use Rattle.acq_control.specs.declared.question.Question.{Question}
 use Rattle.acq_control.specs.declared.question.Question.TheVariants as question
 

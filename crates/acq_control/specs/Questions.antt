@@ -12,8 +12,8 @@ use Rattle.day_totals.specs.Day.{IsNoDateText, date_text_of}
 use Rattle.acq_core.specs.declared.event.Event.{Event}
 use Rattle.acq_out.specs.EventLines.{events_of_text}
 use Rattle.acq_out.specs.Fields.{merchant_of_text, moment_of_text}
-use Rattle.acq_commands.specs.declared.report_kind.ReportKind.{ReportKind}
-use Rattle.acq_commands.specs.declared.report_kind.ReportKind.TheVariants as report
+use Rattle.acq_faults.specs.declared.report_kind.ReportKind.{ReportKind}
+use Rattle.acq_faults.specs.declared.report_kind.ReportKind.TheVariants as report
 use Rattle.acq_status.specs.declared.serving.Serving.{Serving}
 use Rattle.acq_status.specs.declared.status_form.StatusForm.{StatusForm}
 use Rattle.acq_status.specs.declared.status_form.StatusForm.TheVariants as form

@@ -1,7 +1,7 @@
 -- What a host says, as it comes to whoever asked.
 use Rattle.std.specs.Prelude.{◌≡◌, ℕ, List, []}
-use Rattle.acq_commands.specs.Faults.{fault_line}
-use Rattle.acq_commands.specs.declared.fault.Fault.{Fault}
+use Rattle.acq_faults.specs.Faults.{fault_line}
+use Rattle.acq_faults.specs.declared.fault.Fault.{Fault}
 use Rattle.acq_control.specs.Answers.{text_answer}
 use Rattle.acq_control.specs.HostAnswers.{Answer, BeginsWithAnswer, shown, told}
 

@@ -3,9 +3,9 @@ use Rattle.std.specs.Prelude.{◌≡◌, ◌⊎◌, ◌<◌, ℕ, Bool, List, []
 use Rattle.std.specs.Prelude.{true, Option, Some, None, Result, Ok, Err, Vec}
 use Rattle.std.specs.declared.alloc.Global.{Global}
 use Rattle.std.specs.List.{All, flat_map, list_any}
-use Rattle.acq_commands.specs.declared.fault.Fault.{Fault}
-use Rattle.acq_commands.specs.declared.fault.Fault.TheVariants.{Memory, BadLength, Ended, Read}
-use Rattle.acq_commands.specs.declared.fault.Fault.TheVariants.{Write}
+use Rattle.acq_faults.specs.declared.fault.Fault.{Fault}
+use Rattle.acq_faults.specs.declared.fault.Fault.TheVariants.{Memory, BadLength, Ended, Read}
+use Rattle.acq_faults.specs.declared.fault.Fault.TheVariants.{Write}
 use Rattle.acq_control.specs.Lines.{BeginsWithLine, IsInLine, LinesThen, all_ended, ended}
 use Rattle.acq_control.specs.Lines.{longest_line}
 use Rattle.acq_control.specs.HostAnswers.{Answer, BeginsWithAnswer, HasBadHeading, IsAnswer}

@@ -2,7 +2,7 @@
 
 ghost use Rattle.std.specs.Prelude.{◌≡◌, ◌+◌, ◌<◌, IfErr, IfNone, IfOk, IfSome};
 ghost use Rattle.std.specs.Prelude.{None, OnErr, length};
-ghost use Rattle.acq_commands.specs.declared.fault.Fault.TheVariants.{BadLength};
+ghost use Rattle.acq_faults.specs.declared.fault.Fault.TheVariants.{BadLength};
 ghost use Rattle.acq_control.specs.HostAnswers.{Answer, BeginsWithAnswer, HasBadHeading};
 ghost use Rattle.acq_control.specs.HostAnswers.{IsInAnswer, kind_of_line, length_by_kind};
 ghost use Rattle.acq_control.specs.HostAnswers.{length_of_text, said, said_by_kind};
@@ -10,7 +10,7 @@ ghost use Rattle.acq_control.specs.Telling.{CannotTake, ComesOf, failed_reads};
 
 use crate::answer_kind::AnswerKind;
 use crate::line_buffer::line_end;
-use acq_commands::Fault;
+use acq_faults::Fault;
 use acq_link::{Failed, Source};
 use acq_message::digits_value;
 use iso_codec::all_digits;

@@ -6,7 +6,7 @@ ghost use Rattle.std.specs.Io.KnownBytes.{Consumes, IsAtEnd};
 ghost use Rattle.acq_control.specs.Lines.{IsInLine, ended};
 
 use crate::line_buffer::LineBuffer;
-use acq_commands::Fault;
+use acq_faults::Fault;
 use acq_link::{Failed, Source};
 use std::alloc::{AllocError, Global};
 

@@ -1,7 +1,7 @@
 //! What a line of a control connection asks.
 
-use acq_commands::DayReport;
 use acq_core::{Event, MerchantId, Moment};
+use acq_faults::DayReport;
 use acq_status::{Serving, StatusForm};
 use day_totals::Day;
 

@@ -9,7 +9,7 @@ ghost use Rattle.acq_control.specs.Telling.{failed_writes};
 use crate::answer_kind::AnswerKind;
 use crate::host_answer::HostAnswer;
 use crate::input_lines::InputLines;
-use acq_commands::Fault;
+use acq_faults::Fault;
 use acq_link::{Sink, Source, write_out};
 use std::alloc::Global;
 

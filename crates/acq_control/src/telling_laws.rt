@@ -1,7 +1,7 @@
 //! Laws of what a host says, as it is told.
 
 ghost use Rattle.std.specs.Prelude.{◌<◌, ◌^◌, ℕ, List, length};
-ghost use Rattle.acq_commands.specs.declared.fault.Fault.TheVariants as fault;
+ghost use Rattle.acq_faults.specs.declared.fault.Fault.TheVariants as fault;
 ghost use Rattle.acq_control.specs.SaidAnswers.{ComesAsFault, ComesAsText};
 
 /// What a host gives as a text comes as one, and its bytes alone are shown; and the fault of a bad

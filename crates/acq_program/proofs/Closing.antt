@@ -1,7 +1,7 @@
 -- Why a book was not closed is among why it was not opened or made.
 use Rattle.acq_program.specs.BookFaults.{IsClosing, IsOpening}
-use Rattle.acq_commands.specs.declared.fault.Fault.{Fault}
-use Rattle.acq_commands.specs.declared.fault.Fault.TheVariants as fault
+use Rattle.acq_faults.specs.declared.fault.Fault.{Fault}
+use Rattle.acq_faults.specs.declared.fault.Fault.TheVariants as fault
 
 pub closing_is_opening : (f : Fault) → IsClosing f → IsOpening f
 closing_is_opening fault.Memory h = h

@@ -1,9 +1,9 @@
 -- How commands end.
 use Rattle.std.proofs.Common.{◌≤◌, ℕ, Ok, Err, arith}
 use Rattle.std.specs.Prelude.{IfOk, Result}
-use Rattle.acq_commands.specs.Faults.{status_of}
-use Rattle.acq_commands.specs.declared.fault.Fault.{Fault}
-use Rattle.acq_commands.specs.declared.fault.Fault.TheVariants as fault
+use Rattle.acq_faults.specs.Faults.{status_of}
+use Rattle.acq_faults.specs.declared.fault.Fault.{Fault}
+use Rattle.acq_faults.specs.declared.fault.Fault.TheVariants as fault
 use Rattle.acq_program.specs.Runs.{status_in}
 
 within : (f : Fault) → status_of f ≤ 3

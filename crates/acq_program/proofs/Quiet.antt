@@ -6,9 +6,9 @@ use Rattle.acq_program.specs.declared.action.Action.{Action}
 use Rattle.acq_program.specs.declared.action.Action.TheVariants.{Init, Migrate, Once, Listen}
 use Rattle.acq_program.specs.declared.action.Action.TheVariants.{Replay, Report, Holds, Show}
 use Rattle.acq_program.specs.declared.action.Action.TheVariants.{Pending, Status, Tell}
-use Rattle.acq_commands.specs.Faults.{status_of}
-use Rattle.acq_commands.specs.declared.fault.Fault.{Fault}
-use Rattle.acq_commands.specs.declared.fault.Fault.TheVariants as fault
+use Rattle.acq_faults.specs.Faults.{status_of}
+use Rattle.acq_faults.specs.declared.fault.Fault.{Fault}
+use Rattle.acq_faults.specs.declared.fault.Fault.TheVariants as fault
 use Rattle.acq_program.specs.Runs.{IsQuiet, Tells, status_in}
 
 -- a fault's status is not 0

@@ -8,8 +8,8 @@ use Rattle.std.specs.Borrow.{Bor}
 use Rattle.std.specs.Prelude.{Option, Some, None, ok_or, Ok, Err, slice_get}
 use Rattle.clap.specs.Words.{Text}
 use Rattle.day_totals.specs.Day.{date_text_of}
-use Rattle.acq_commands.specs.declared.day_report.DayReport.{DayReport}
-use Rattle.acq_commands.specs.declared.report_kind.ReportKind.{ReportKind}
+use Rattle.acq_faults.specs.declared.day_report.DayReport.{DayReport}
+use Rattle.acq_faults.specs.declared.report_kind.ReportKind.{ReportKind}
 use Rattle.acq_program.specs.Arguments.{report_on}
 use Rattle.acq_program.specs.WantedReports.{each_text}
 

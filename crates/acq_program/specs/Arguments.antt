@@ -28,17 +28,17 @@ use Rattle.acq_program.specs.declared.action.Action.{Action}
 use Rattle.acq_program.specs.declared.action.Action.TheVariants.{Init, Migrate, Once, Listen}
 use Rattle.acq_program.specs.declared.action.Action.TheVariants.{Replay, Report, Holds, Show}
 use Rattle.acq_program.specs.declared.action.Action.TheVariants.{Pending, Status, Tell}
-use Rattle.acq_commands.specs.declared.day_report.DayReport.{DayReport}
+use Rattle.acq_faults.specs.declared.day_report.DayReport.{DayReport}
 use Rattle.acq_commands.specs.declared.input_form.InputForm.{InputForm}
 use Rattle.acq_commands.specs.declared.input_form.InputForm.TheVariants as form
-use Rattle.acq_commands.specs.declared.listen_options.ListenOptions.{ListenOptions}
-use Rattle.acq_commands.specs.declared.patience.Patience.{Patience}
+use Rattle.acq_faults.specs.declared.listen_options.ListenOptions.{ListenOptions}
+use Rattle.acq_faults.specs.declared.patience.Patience.{Patience}
 use Rattle.acq_program.specs.declared.bounds.Bounds.{Bounds}
 use Rattle.acq_program.specs.Apart.{clash_of}
 use Rattle.acq_program.specs.declared.option_name.OptionName.{OptionName}
 use Rattle.acq_program.specs.declared.option_name.OptionName.TheVariants as option
-use Rattle.acq_commands.specs.declared.report_kind.ReportKind.{ReportKind}
-use Rattle.acq_commands.specs.declared.report_kind.ReportKind.TheVariants as kinds
+use Rattle.acq_faults.specs.declared.report_kind.ReportKind.{ReportKind}
+use Rattle.acq_faults.specs.declared.report_kind.ReportKind.TheVariants as kinds
 use Rattle.acq_program.specs.declared.usage_fault.UsageFault.{UsageFault}
 use Rattle.acq_program.specs.declared.usage_fault.UsageFault.TheVariants.{Words, BadValue}
 

@@ -1,9 +1,9 @@
 -- Why a book is not opened, and why what is pending in it is not answered.
 use Rattle.std.specs.Prelude.{◌⊎◌}
-use Rattle.acq_commands.specs.Faults.{IsOfAnswers, IsReporting}
-use Rattle.acq_commands.specs.declared.fault.Fault.{Fault}
-use Rattle.acq_commands.specs.declared.fault.Fault.TheVariants.{Memory, Store, NotABook}
-use Rattle.acq_commands.specs.declared.fault.Fault.TheVariants.{OtherVersion}
+use Rattle.acq_faults.specs.Faults.{IsOfAnswers, IsReporting}
+use Rattle.acq_faults.specs.declared.fault.Fault.{Fault}
+use Rattle.acq_faults.specs.declared.fault.Fault.TheVariants.{Memory, Store, NotABook}
+use Rattle.acq_faults.specs.declared.fault.Fault.TheVariants.{OtherVersion}
 
 -- why a book was not opened or made: memory, its store, or that the file holds none of this version
 abbrev pub IsOpening : Fault → Type 0

@@ -9,10 +9,10 @@ use Rattle.acq_program.specs.declared.action.Action.TheVariants.{Pending, Status
 use Rattle.acq_program.specs.declared.option_name.OptionName.{OptionName}
 use Rattle.acq_program.specs.Arguments.{AsksFor}
 use Rattle.acq_front.specs.Talk.{Saying, says_nothing}
-use Rattle.acq_commands.specs.declared.fault.Fault.{Fault}
-use Rattle.acq_commands.specs.declared.listen_options.ListenOptions.{ListenOptions}
+use Rattle.acq_faults.specs.declared.fault.Fault.{Fault}
+use Rattle.acq_faults.specs.declared.listen_options.ListenOptions.{ListenOptions}
 use Rattle.acq_commands.specs.declared.once_options.OnceOptions.{OnceOptions}
-use Rattle.acq_commands.specs.Faults.{status_of}
+use Rattle.acq_faults.specs.Faults.{status_of}
 use Rattle.acq_commands.specs.Once.{ServesInMemory}
 use Rattle.acq_commands.specs.Runs.{RunsReplay}
 use Rattle.acq_commands.specs.Show.{RunsShow}

@@ -1,8 +1,8 @@
 -- The lines of an input, and the answers of the host that they were sent to.
 use Rattle.std.specs.Prelude.{◌≡◌, ◌⊎◌, ◌++◌, ℕ, Bool, true, false, List, Result, Ok, Err}
 use Rattle.acq_commands.specs.Streams.{Stream}
-use Rattle.acq_commands.specs.declared.fault.Fault.{Fault}
-use Rattle.acq_commands.specs.declared.fault.Fault.TheVariants.{Read, Silent}
+use Rattle.acq_faults.specs.declared.fault.Fault.{Fault}
+use Rattle.acq_faults.specs.declared.fault.Fault.TheVariants.{Read, Silent}
 use Rattle.acq_control.specs.Telling.{Talk, Tells}
 
 -- the status is 1 where an answer was a fault's line

@@ -2,7 +2,7 @@
 use Rattle.std.specs.Prelude.{List, [], map, Option, unwrap_or, option_map, Err}
 use Rattle.std.specs.Borrow.{Bor}
 use Rattle.clap.specs.Words.{Text}
-use Rattle.acq_commands.specs.declared.report_kind.ReportKind.{ReportKind}
+use Rattle.acq_faults.specs.declared.report_kind.ReportKind.{ReportKind}
 use Rattle.acq_program.specs.declared.usage_fault.UsageFault.{UsageFault}
 use Rattle.acq_program.specs.Arguments.{Reads, ReportsAre}
 

@@ -2,9 +2,8 @@
 
 use crate::pending_options::PendingOptions;
 use crate::tell_options::TellOptions;
-use acq_commands::{
-    BookReport, HoldsOptions, InputForm, ListenOptions, NewBook, OnceOptions, ReplayOptions,
-};
+use acq_commands::{BookReport, HoldsOptions, InputForm, NewBook, OnceOptions, ReplayOptions};
+use acq_faults::ListenOptions;
 
 /// What the program is asked to do.
 #[derive(Drop)]

@@ -4,7 +4,7 @@ ghost use Rattle.std.specs.Prelude.{◌≡◌, option_map, string_bytes};
 ghost use Rattle.acq_program.specs.Apart.{are_alike, clash_of, is_of_book, path_of};
 
 use crate::option_name::OptionName;
-use acq_commands::ListenOptions;
+use acq_faults::ListenOptions;
 
 /// What stands behind a book's path in that of its log.
 const LOG_OF_BOOK: &[u8] = b"-wal";

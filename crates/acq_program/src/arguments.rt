@@ -27,10 +27,11 @@ use crate::tell_options::TellOptions;
 use crate::usage_fault::UsageFault;
 use crate::wanted_reports::add_reports;
 use acq_commands::{
-    BookReport, DayReport, HoldsOptions, InputForm, ListenOptions, NewBook, OnceOptions, Patience,
-    ReplayOptions, ReportKind, first_day_of_all, greatest_limit,
+    BookReport, HoldsOptions, InputForm, NewBook, OnceOptions, ReplayOptions, first_day_of_all,
+    greatest_limit,
 };
 use acq_core::{Limit, MerchantId, Moment};
+use acq_faults::{DayReport, ListenOptions, Patience, ReportKind};
 use acq_out::{merchant_of, moment_of};
 use clap::{ArgMatches, Error};
 use day_totals::Day;

@@ -1,8 +1,8 @@
 //! What a command finds on its machine.
 
 use acq_book::Book;
-use acq_commands::{Fault, Gathering, ListenOptions, Patience};
 use acq_core::Limit;
+use acq_faults::{Fault, Gathering, ListenOptions, Patience};
 use acq_front::Connections;
 use acq_link::{Sink, Source};
 use acq_stand_in::StandIn;
@@ -15,8 +15,8 @@ use std::net::SocketAddrV4;
 pub trait Machine<B: Book + Drop>: Sized {
     ghost use Rattle.std.specs.Prelude.{◌≡◌, ◌⊎◌, IfErr, IfOk};
     ghost use Rattle.acq_core.specs.Pasts.{HasPast};
-    ghost use Rattle.acq_commands.specs.declared.fault.Fault.TheVariants.{Read, Silent};
-    ghost use Rattle.acq_commands.specs.Faults.{IsOfAnswers, IsOfGathering};
+    ghost use Rattle.acq_faults.specs.declared.fault.Fault.TheVariants.{Read, Silent};
+    ghost use Rattle.acq_faults.specs.Faults.{IsOfAnswers, IsOfGathering};
     ghost use Rattle.acq_program.specs.BookFaults.{IsClosing, IsOpening};
 
     /// The connections that come in at a port.

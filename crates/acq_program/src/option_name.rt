@@ -1,6 +1,6 @@
 //! Options that have a value.
 
-use acq_commands::ReportKind;
+use acq_faults::ReportKind;
 use std::fmt;
 
 /// An option that has a value. Its text is its name on the command line.

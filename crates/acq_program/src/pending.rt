@@ -1,14 +1,14 @@
 //! Answers to the requests that are pending in the book in a file.
 
 ghost use Rattle.std.specs.Prelude.{IfErr};
-ghost use Rattle.acq_commands.specs.Faults.{IsOfAnswers};
+ghost use Rattle.acq_faults.specs.Faults.{IsOfAnswers};
 ghost use Rattle.acq_program.specs.BookFaults.{IsOfPending};
 
 use crate::machine::Machine;
 use crate::pending_options::PendingOptions;
 use acq_book::Book;
-use acq_commands::Fault;
 use acq_core::Moment;
+use acq_faults::Fault;
 use acq_front::Clock;
 use acq_link::Sink;
 use acq_stand_in::{StandIn, answers_to_pending};

@@ -17,10 +17,11 @@ use crate::telling::tell_host;
 use crate::{Action, UsageFault, action_of};
 use acq_book::Book;
 use acq_commands::{
-    BookReport, Fault, HoldsOptions, ListenOptions, NewBook, OnceOptions, Progress, ReplayOptions,
-    TextSink, holds_of, listen_on, listen_together_on, once_in_memory, once_on, replay_in_memory,
-    replay_on, report_on, show,
+    BookReport, HoldsOptions, NewBook, OnceOptions, Progress, ReplayOptions, TextSink, holds_of,
+    listen_on, listen_together_on, once_in_memory, once_on, replay_in_memory, replay_on, report_on,
+    show,
 };
+use acq_faults::{Fault, ListenOptions};
 use acq_front::{Clock, FixedClock, Issuer, NoIssuer};
 use acq_link::{Sink, Source};
 use clap::error::ErrorKind;

@@ -2,7 +2,7 @@
 
 use crate::machine::Machine;
 use acq_book::Book;
-use acq_commands::Fault;
+use acq_faults::Fault;
 use acq_link::Sink;
 use acq_status::{StatusForm, write_status};
 use std::alloc::Global;

@@ -7,8 +7,8 @@ ghost use Rattle.acq_program.specs.Telling.{TellsHost};
 use crate::machine::Machine;
 use crate::tell_options::TellOptions;
 use acq_book::Book;
-use acq_commands::Fault;
 use acq_control::tell;
+use acq_faults::Fault;
 use acq_link::{Sink, Source};
 use std::alloc::Global;
 

@@ -6,7 +6,7 @@ ghost use Rattle.acq_program.specs.WantedReports.{MayRefuse, each_text, texts_in
 
 use crate::option_name::OptionName;
 use crate::usage_fault::UsageFault;
-use acq_commands::{DayReport, ReportKind};
+use acq_faults::{DayReport, ReportKind};
 use day_totals::Day;
 
 /// Puts the reports of a kind that an option's values ask for behind those that are there; an

@@ -5,7 +5,6 @@ use Rattle.acq_core.specs.declared.request.Request.{Request}
 use Rattle.acq_core.specs.Tables.{Tables, count, is_pending}
 use Rattle.acq_book.specs.Lookups.{pending_at, waiting_at, waiting_count_at}
 use Rattle.acq_status.specs.Figures.{first_of, first_waiting, pending_to}
-use Rattle.acq_status.specs.declared.pending_day.PendingDay.{PendingDay}
 
 -- none is the first of none
 pub none_first : (t : Tables) → waiting_count_at t ≡ 0 → first_waiting t ≡ None

@@ -1,5 +1,6 @@
 pub mod Figures
 pub mod Visitors
 pub mod Names
+pub mod Replies
 pub mod Texts
 pub mod Worked

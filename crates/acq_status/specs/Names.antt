@@ -1,15 +1,17 @@
 -- The figures' names, as a status has them, and behind `acqd_` Prometheus's text format.
 use Rattle.std.specs.Prelude.{ℕ, List, codes}
 use Rattle.acq_status.specs.declared.figure.Figure.{Figure}
-use Rattle.acq_status.specs.declared.figure.Figure.TheVariants.{BusinessDay, Connections, Events}
+use Rattle.acq_status.specs.declared.figure.Figure.TheVariants.{BookBytes, BusinessDay}
+use Rattle.acq_status.specs.declared.figure.Figure.TheVariants.{Connections, Events}
 use Rattle.acq_status.specs.declared.figure.Figure.TheVariants.{LastEventAge, Limit, Lines}
 use Rattle.acq_status.specs.declared.figure.Figure.TheVariants.{LostLines, Merchants}
 use Rattle.acq_status.specs.declared.figure.Figure.TheVariants.{OldestPendingAge, OpenPlaces}
 use Rattle.acq_status.specs.declared.figure.Figure.TheVariants.{Pending, Places, Ranges}
-use Rattle.acq_status.specs.declared.figure.Figure.TheVariants.{RefusedFrames, RequestsToday}
+use Rattle.acq_status.specs.declared.figure.Figure.TheVariants.{RefusedFrames, Replies}
+use Rattle.acq_status.specs.declared.figure.Figure.TheVariants.{ReplySeconds, RequestsToday}
 use Rattle.acq_status.specs.declared.figure.Figure.TheVariants.{Terminals, UnansweredLate}
 use Rattle.acq_status.specs.declared.figure.Figure.TheVariants.{UnansweredUnserved}
-use Rattle.acq_status.specs.declared.figure.Figure.TheVariants.{UnansweredWaiting}
+use Rattle.acq_status.specs.declared.figure.Figure.TheVariants.{UnansweredWaiting, WalBytes}
 
 abbrev pub key_of : Figure → List ℕ
 key_of BusinessDay = codes "business_day_timestamp_seconds"
@@ -31,6 +33,10 @@ key_of UnansweredLate = codes "unanswered_late_total"
 key_of LostLines = codes "log_lines_lost_total"
 key_of LastEventAge = codes "last_event_age_seconds"
 key_of OldestPendingAge = codes "oldest_pending_age_seconds"
+key_of BookBytes = codes "book_bytes"
+key_of WalBytes = codes "wal_bytes"
+key_of Replies = codes "replies_total"
+key_of ReplySeconds = codes "reply_seconds"
 
 abbrev pub help_of : Figure → List ℕ
 help_of BusinessDay = codes "When the date of the business day begins."
@@ -52,6 +58,10 @@ help_of UnansweredLate = codes "Messages reversed before their issuer answered."
 help_of LostLines = codes "Lines of the log that were lost."
 help_of LastEventAge = codes "Time since a terminal's message was last taken."
 help_of OldestPendingAge = codes "Time since the first that waits was first seen."
+help_of BookBytes = codes "Bytes of the book's file."
+help_of WalBytes = codes "Bytes of its WAL file."
+help_of Replies = codes "Replies to terminals, by response code."
+help_of ReplySeconds = codes "Time from a message's last byte to its reply's first."
 
 abbrev pub kind_of : Figure → List ℕ
 kind_of Connections = codes "counter"
@@ -62,4 +72,6 @@ kind_of UnansweredUnserved = codes "counter"
 kind_of UnansweredWaiting = codes "counter"
 kind_of UnansweredLate = codes "counter"
 kind_of LostLines = codes "counter"
+kind_of Replies = codes "counter"
+kind_of ReplySeconds = codes "histogram"
 kind_of other = codes "gauge"

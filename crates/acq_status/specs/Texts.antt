@@ -2,10 +2,10 @@
 -- Prometheus, exposition formats, text-based format).
 use Rattle.std.specs.Prelude.{ℕ, ◌+◌, ◌*◌, List, [], ◌∷◌, ◌++◌, codes}
 use Rattle.std.specs.Prelude.{Option, Some, None, flat_map}
-use Rattle.std.specs.Fmt.{decimal}
 use Rattle.day_totals.specs.Day.{date_text_of}
 use Rattle.acq_status.specs.Figures.{Figures}
 use Rattle.acq_status.specs.Names.{help_of, key_of, kind_of}
+use Rattle.acq_status.specs.Replies.{duration_samples, reply_lines, value_text}
 use Rattle.acq_status.specs.declared.figure.Figure.{Figure}
 use Rattle.acq_status.specs.declared.figure.Figure.TheVariants as figure
 use Rattle.acq_status.specs.declared.pending_day.PendingDay.{PendingDay}
@@ -20,10 +20,10 @@ use Rattle.acq_status.specs.declared.unanswered_counts.UnansweredCounts.{Unanswe
 abbrev pub reading : Figure → ℕ → Reading
 reading figure value = record { figure = figure; value = value }
 
--- an age, where there is one
-abbrev pub age_reading : Figure → Option ℕ → List Reading
-age_reading figure None = []
-age_reading figure (Some age) = reading figure age ∷ []
+-- a figure that isn't always known
+abbrev pub known_reading : Figure → Option ℕ → List Reading
+known_reading figure None = []
+known_reading figure (Some value) = reading figure value ∷ []
 
 -- what was taken in
 abbrev pub taken_readings : Serving → List Reading
@@ -38,15 +38,17 @@ missing_readings c lost_lines =
     reading figure.UnansweredUnserved c.unserved ∷ reading figure.UnansweredWaiting c.waiting
     ∷ reading figure.UnansweredLate c.late ∷ reading figure.LostLines lost_lines ∷ []
 
-abbrev pub age_readings : Serving → List Reading
-age_readings s =
-    age_reading figure.LastEventAge s.last_event_age
-    ++ age_reading figure.OldestPendingAge s.oldest_pending_age
+-- ages, and how much the book's files hold
+abbrev pub known_readings : Serving → List Reading
+known_readings s =
+    known_reading figure.LastEventAge s.last_event_age
+    ++ known_reading figure.OldestPendingAge s.oldest_pending_age
+    ++ known_reading figure.BookBytes s.book_bytes ++ known_reading figure.WalBytes s.wal_bytes
 
 abbrev pub serving_readings : Option Serving → List Reading
 serving_readings None = []
 serving_readings (Some s) =
-    taken_readings s ++ missing_readings s.unanswered s.lost_lines ++ age_readings s
+    taken_readings s ++ missing_readings s.unanswered s.lost_lines ++ known_readings s
 
 abbrev pub book_readings : Figures → List Reading
 book_readings f =
@@ -71,14 +73,10 @@ readings_of f serving = book_readings f ++ serving_readings serving
 
 -- the program's version
 abbrev pub version : List ℕ
-version = codes "0.1.0"
+version = codes "0.2.0"
 
 abbrev pub version_line : List ℕ
 version_line = codes "version " ++ version ++ codes "\n"
-
--- a value ends its line
-abbrev pub value_text : ℕ → List ℕ
-value_text value = decimal value ++ codes "\n"
 
 abbrev pub status_line : Reading → List ℕ
 status_line r = key_of r.figure ++ codes " " ++ value_text r.value
@@ -90,11 +88,18 @@ dated before day behind = before ++ date_text_of day ++ behind
 unfoldable pub pending_line : PendingDay → List ℕ
 pending_line p = dated (codes "pending.") p.day (codes " ") ++ value_text p.requests
 
--- a status: its version, the business day, the figures, and what is pending of each day
+-- in a status, the replies of a host that serves
+abbrev pub status_replies : Option Serving → List ℕ
+status_replies None = []
+status_replies (Some s) = reply_lines (codes "replies_total.") (codes " ") s.replies
+
+-- a status: its version, the business day, the figures, the replies of each response code, and what
+-- is pending of each day
 abbrev pub status_of : Figures → Option Serving → List ℕ
 status_of f serving =
     version_line ++ dated (codes "day ") f.day (codes "\n")
-    ++ flat_map status_line (readings_of f serving) ++ flat_map pending_line f.pending
+    ++ flat_map status_line (readings_of f serving) ++ status_replies serving
+    ++ flat_map pending_line f.pending
 
 -- a line about a figure
 abbrev pub about_line : List ℕ → Figure → List ℕ → List ℕ
@@ -118,11 +123,19 @@ version_metric =
     codes "# HELP acqd_info The program's version.\n# TYPE acqd_info gauge\n"
     ++ codes "acqd_info{version=\"" ++ version ++ codes "\"} 1\n"
 
+-- its replies as metrics, and how long they took
+abbrev pub reply_metrics : Option Serving → List ℕ
+reply_metrics None = []
+reply_metrics (Some s) =
+    about figure.Replies
+    ++ reply_lines (codes "acqd_replies_total{code=\"") (codes "\"} ") s.replies
+    ++ about figure.ReplySeconds ++ duration_samples s.durations
+
 -- the same figures as metrics
 abbrev pub metrics_of : Figures → Option Serving → List ℕ
 metrics_of f serving =
     version_metric ++ metric (reading figure.BusinessDay (begin_of f.day))
-    ++ flat_map metric (readings_of f serving)
+    ++ flat_map metric (readings_of f serving) ++ reply_metrics serving
     ++ about figure.Pending ++ flat_map pending_sample f.pending
 
 abbrev pub text_in : StatusForm → Figures → Option Serving → List ℕ

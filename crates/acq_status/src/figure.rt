@@ -26,6 +26,10 @@ pub enum Figure {
     LostLines,
     LastEventAge,
     OldestPendingAge,
+    BookBytes,
+    WalBytes,
+    Replies,
+    ReplySeconds,
 }
 
 impl Figure {
@@ -54,6 +58,10 @@ impl Figure {
             Figure::LostLines => "log_lines_lost_total",
             Figure::LastEventAge => "last_event_age_seconds",
             Figure::OldestPendingAge => "oldest_pending_age_seconds",
+            Figure::BookBytes => "book_bytes",
+            Figure::WalBytes => "wal_bytes",
+            Figure::Replies => "replies_total",
+            Figure::ReplySeconds => "reply_seconds",
         }
     }
 
@@ -81,6 +89,10 @@ impl Figure {
             Figure::LostLines => "Lines of the log that were lost.",
             Figure::LastEventAge => "Time since a terminal's message was last taken.",
             Figure::OldestPendingAge => "Time since the first that waits was first seen.",
+            Figure::BookBytes => "Bytes of the book's file.",
+            Figure::WalBytes => "Bytes of its WAL file.",
+            Figure::Replies => "Replies to terminals, by response code.",
+            Figure::ReplySeconds => "Time from a message's last byte to its reply's first.",
         }
     }
 
@@ -96,7 +108,9 @@ impl Figure {
             | Figure::UnansweredUnserved
             | Figure::UnansweredWaiting
             | Figure::UnansweredLate
-            | Figure::LostLines => "counter",
+            | Figure::LostLines
+            | Figure::Replies => "counter",
+            Figure::ReplySeconds => "histogram",
             _ => "gauge",
         }
     }

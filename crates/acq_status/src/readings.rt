@@ -2,9 +2,9 @@
 
 ghost use Rattle.std.specs.Prelude.{◌≡◌, ◌++◌, IfOk, OnOk};
 ghost use Rattle.acq_status.specs.Figures.{figures_of};
-ghost use Rattle.acq_status.specs.Texts.{age_reading, age_readings, begin_of, book_readings};
-ghost use Rattle.acq_status.specs.Texts.{missing_readings, readings_of, serving_readings};
-ghost use Rattle.acq_status.specs.Texts.{taken_readings};
+ghost use Rattle.acq_status.specs.Texts.{begin_of, book_readings, known_reading};
+ghost use Rattle.acq_status.specs.Texts.{known_readings, missing_readings, readings_of};
+ghost use Rattle.acq_status.specs.Texts.{serving_readings, taken_readings};
 
 use crate::book_figures::BookFigures;
 use crate::figure::Figure;
@@ -15,7 +15,7 @@ use day_totals::Day;
 use std::alloc::{AllocError, Global};
 
 /// How many figures there may be.
-const MOST: usize = 17;
+const MOST: usize = 19;
 
 /// 2000-01-01, in days since 1970-01-01.
 const FIRST_DAY: u64 = 10_957;
@@ -57,7 +57,7 @@ fn put_serving(readings: &mut Vec<Reading>, serving: Serving) -> Result<(), Allo
 {
     put_taken(readings, serving)?;
     put_missing(readings, serving.unanswered, serving.lost_lines)?;
-    put_ages(readings, serving)
+    put_known(readings, serving)
 }
 
 /// Puts how much was taken in.
@@ -89,25 +89,28 @@ fn put_missing(
     Ok(())
 }
 
-/// Puts the ages that there are.
-fn put_ages(readings: &mut Vec<Reading>, serving: Serving) -> Result<(), AllocError>
-    ensures { OnOk result (readings.new.items ≡ readings.old.items ++ age_readings serving) }
+/// Puts the ages and the sizes that are known.
+fn put_known(readings: &mut Vec<Reading>, serving: Serving) -> Result<(), AllocError>
+    ensures { OnOk result (readings.new.items ≡ readings.old.items ++ known_readings serving) }
 {
-    put_age(readings, Figure::LastEventAge, serving.last_event_age)?;
-    put_age(
-        readings,
-        Figure::OldestPendingAge,
-        serving.oldest_pending_age,
-    )
+    let oldest = serving.oldest_pending_age;
+    put_if_known(readings, Figure::LastEventAge, serving.last_event_age)?;
+    put_if_known(readings, Figure::OldestPendingAge, oldest)?;
+    put_if_known(readings, Figure::BookBytes, serving.book_bytes)?;
+    put_if_known(readings, Figure::WalBytes, serving.wal_bytes)
 }
 
-/// Puts an age, where there is one.
-fn put_age(readings: &mut Vec<Reading>, figure: Figure, age: Option<u64>) -> Result<(), AllocError>
+/// Puts a figure, where its value is known.
+fn put_if_known(
+    readings: &mut Vec<Reading>,
+    figure: Figure,
+    value: Option<u64>,
+) -> Result<(), AllocError>
     ensures { OnOk result (readings.new.items
-        ≡ readings.old.items ++ age_reading figure age) }
+        ≡ readings.old.items ++ known_reading figure value) }
 {
-    if let Some(age) = age {
-        readings.push(Reading::new(figure, age))?;
+    if let Some(value) = value {
+        readings.push(Reading::new(figure, value))?;
     }
     Ok(())
 }

@@ -4,28 +4,30 @@ ghost use Rattle.std.specs.Prelude.{◌≡◌, ◌++◌, IfOk, OnOk, codes};
 ghost use Rattle.std.specs.List.{flat_map};
 ghost use Rattle.acq_status.specs.Figures.{figures_of};
 ghost use Rattle.acq_status.specs.Names.{key_of};
+ghost use Rattle.acq_status.specs.Replies.{value_text};
 ghost use Rattle.acq_status.specs.Texts.{about, about_line, dated, metric, metrics_of};
 ghost use Rattle.acq_status.specs.Texts.{pending_line, pending_sample, status_line, status_of};
-ghost use Rattle.acq_status.specs.Texts.{value_text, version};
+ghost use Rattle.acq_status.specs.Texts.{version};
 
 use crate::book_figures::BookFigures;
 use crate::figure::Figure;
 use crate::pending_day::PendingDay;
 use crate::reading::Reading;
 use crate::readings::{begin_of, readings_of};
+use crate::reply_texts::{put_reply_metrics, put_status_replies};
 use crate::serving::Serving;
 use day_totals::Day;
 use itoa::Buffer;
 use std::alloc::{AllocError, Global};
 
 /// The program's version.
-pub const VERSION: &str = "0.1.0";
+pub const VERSION: &str = "0.2.0";
 
 /// What stands before it in metrics.
 const ABOUT_VERSION: &[u8] = b"# HELP acqd_info The program's version.\n# TYPE acqd_info gauge\n";
 
 /// Room for a text.
-const TEXT: usize = 2048;
+const TEXT: usize = 4096;
 
 /// The figures of a book, and of what is served (own profile; `specs/Texts.antt`): a
 /// line for each, its key and its value, the version of these lines and the business day first.
@@ -42,6 +44,7 @@ pub(crate) fn status_text(
     put_version(&mut text, b"version ", b"\n")?;
     put_dated(&mut text, b"day ", figures.day, b"\n")?;
     put_status_lines(&mut text, readings.as_slice())?;
+    put_status_replies(&mut text, serving)?;
     put_pending_lines(&mut text, figures.pending.as_slice())?;
     Ok(text)
 }
@@ -64,6 +67,7 @@ pub(crate) fn metrics_text(
         Reading::new(Figure::BusinessDay, begin_of(figures.day)),
     )?;
     put_metrics(&mut text, readings.as_slice())?;
+    put_reply_metrics(&mut text, serving)?;
     put_about(&mut text, Figure::Pending)?;
     put_pending_samples(&mut text, figures.pending.as_slice())?;
     Ok(text)
@@ -134,7 +138,7 @@ fn put_metric(text: &mut Vec<u8>, reading: Reading) -> Result<(), AllocError>
 }
 
 /// Puts what stands before a figure's values.
-fn put_about(text: &mut Vec<u8>, figure: Figure) -> Result<(), AllocError>
+pub(crate) fn put_about(text: &mut Vec<u8>, figure: Figure) -> Result<(), AllocError>
     ensures { OnOk result (text.new.items ≡ text.old.items ++ about figure) }
 {
     put_about_line(text, b"# HELP acqd_", figure, figure.help().as_bytes())?;
@@ -192,7 +196,8 @@ fn put_dated(text: &mut Vec<u8>, before: &[u8], day: Day, behind: &[u8]) -> Resu
     text.extend_from_slice(behind)
 }
 
-fn put_value(text: &mut Vec<u8>, value: u64) -> Result<(), AllocError>
+/// Puts a value, which ends its line.
+pub(crate) fn put_value(text: &mut Vec<u8>, value: u64) -> Result<(), AllocError>
     ensures { OnOk result (text.new.items ≡ text.old.items ++ value_text value) }
 {
     text.extend_from_slice(Buffer::new().format(value).as_bytes())?;

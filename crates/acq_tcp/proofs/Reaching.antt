@@ -8,13 +8,14 @@ use Rattle.acq_book.specs.declared.book.Book.{Ghosts}
 use Rattle.acq_book.specs.declared.book_fault.BookFault as book_fault
 use Rattle.acq_core.specs.Tables.{Tables, tables_after}
 use Rattle.acq_core.specs.declared.event.Event.TheVariants.{Frame}
-use Rattle.acq_history.proofs.FinalDays.{tables_after-append}
+use Rattle.acq_soundness.proofs.Runs.{tables_after-append}
 use Rattle.acq_host.proofs.Runs.{LeavesTables}
 use Rattle.acq_reports.specs.Faults.{CountsStore, is_settled}
 use Rattle.acq_reports.specs.declared.report_fault.ReportFault as report
-use Rattle.acq_commands.specs.Faults.{TellsStore, of_book, of_report}
-use Rattle.acq_commands.specs.Listening.{Reaches, ReachesSome, ReachesBy, going_on}
-use Rattle.acq_commands.specs.declared.fault.Fault as fault
+use Rattle.acq_faults.specs.Faults.{TellsStore, of_book, of_report}
+use Rattle.acq_faults.specs.Ends.{going_on}
+use Rattle.acq_faults.specs.Reaching.{Reaches, ReachesSome, ReachesBy}
+use Rattle.acq_faults.specs.declared.fault.Fault as fault
 use Rattle.acq_front.proofs.StopsLeave.{all_behind, some_behind}
 use Rattle.acq_front.specs.Ends.{Steps}
 use Rattle.acq_front.specs.Exchanges.{Goes, Passed, late_fault}

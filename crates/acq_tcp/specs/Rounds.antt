@@ -5,7 +5,7 @@ use Rattle.acq_front.specs.Faults.{TellsStore}
 use Rattle.acq_front.specs.Stops.{Left}
 use Rattle.acq_front.specs.declared.front_fault.FrontFault.{FrontFault}
 use Rattle.acq_front.specs.declared.front_fault.FrontFault.TheVariants.{Memory, Store}
-use Rattle.acq_commands.specs.Listening.{Reaches, ReachesSome}
+use Rattle.acq_faults.specs.Reaching.{Reaches, ReachesSome}
 
 -- this holds where neither memory nor the store ended the connection
 abbrev pub UnlessRefused : Option (Result (Unit {0}) FrontFault) → Type 0 → Type 0

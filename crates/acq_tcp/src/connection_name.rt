@@ -4,7 +4,7 @@ use std::net::SocketAddr;
 
 /// What a connection is called in the log: its number, from 1, and whence it came.
 #[derive(Clone, Copy)]
-pub enum ConnectionName {
+pub(crate) enum ConnectionName {
     /// A terminal's, from this address.
     Terminal(u64, SocketAddr),
     /// One at the control socket.

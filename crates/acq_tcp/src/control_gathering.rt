@@ -1,8 +1,8 @@
 //! Control connections that are served beside those of terminals.
 
 ghost use Rattle.std.specs.Prelude.{IfErr, OnOk};
-ghost use Rattle.acq_commands.specs.Faults.{IsOfGathering, TellsStore};
-ghost use Rattle.acq_commands.specs.Listening.{ReachesBy};
+ghost use Rattle.acq_faults.specs.Faults.{IsOfGathering, TellsStore};
+ghost use Rattle.acq_faults.specs.Reaching.{ReachesBy};
 ghost use Rattle.acq_front.specs.Stops.{left_of};
 
 use crate::ending::Ending;
@@ -14,7 +14,7 @@ use crate::places::Places;
 use crate::tcp_connections::PAUSE;
 use crate::time_limits::{TimeLimits, left_of, shorter};
 use acq_book::Book;
-use acq_commands::{Fault, end_connection};
+use acq_faults::{Fault, end_connection};
 use acq_front::{Clock, FrontFault};
 use acq_host::Host;
 use acq_link::Sink;
@@ -92,8 +92,8 @@ impl ControlGathering {
             .any(|place| place.as_ref().is_some_and(asks_figures))
     }
 
-    /// How much is left of the pause behind a connection that couldn't be had: nothing, where one may
-    /// be had.
+    /// How much is left of the pause behind a connection that couldn't be had: nothing, where one
+    /// may be had.
     fn pause_left(&self, now: Option<Instant>) -> Duration {
         match self.refused {
             Some(_) => left_of(Duration::from_millis(PAUSE), self.refused, now),
@@ -118,8 +118,8 @@ impl ControlGathering {
         }
     }
 
-    /// Takes in the connections that came, while there are places. One that can't be had is told, and
-    /// tried again after a pause.
+    /// Takes in the connections that came, while there are places. One that can't be had is told,
+    /// and tried again after a pause.
     pub(crate) fn admit<T: time::Clock, W: LogTarget, F: Sink>(
         &mut self,
         alloc: Global,
@@ -225,8 +225,8 @@ impl ControlGathering {
     }
 }
 
-/// Gives the connection in a place a round, notes whether it asked that the host ends, and frees the
-/// place at its end.
+/// Gives the connection in a place a round, notes whether it asked that the host ends, and frees
+/// the place at its end.
 fn give_round<B: Book + Drop, C: Clock, T: time::Clock, W: LogTarget, F: Sink>(
     place: &mut Option<OpenControl>,
     stopped: &mut bool,

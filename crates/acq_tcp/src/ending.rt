@@ -2,7 +2,7 @@
 
 /// What ends a connection.
 #[derive(Clone, Copy, PartialEq, Eq)]
-pub enum Ending {
+pub(crate) enum Ending {
     /// What came over it, or what its line said.
     Own,
     /// It took too long.

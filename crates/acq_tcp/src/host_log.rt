@@ -2,6 +2,8 @@
 
 use crate::connection_name::ConnectionName;
 use crate::ending::Ending;
+use crate::first_bytes::FirstBytes;
+use crate::frame_head::FrameHead;
 use crate::line_rate::LineRate;
 use crate::log_line::LogLine;
 use crate::log_target::LogTarget;
@@ -9,14 +11,15 @@ use crate::log_time::{LogTime, second_of};
 use acq_front::{FrontFault, Silence, Unanswered};
 use card_no::CardNumber;
 use day_totals::Day;
-use iso_codec::{DecodeFault, Message, decode};
+use iso_codec::{DecodeFault, Message};
 use std::alloc::Global;
 use std::net::SocketAddr;
 use std::time::Duration;
 use std::{io, time};
 
 /// The elements of a reply that its line has as they stand, each under its key.
-const ELEMENTS: [(&str, u8); 5] = [
+const ELEMENTS: [(&str, u8); 6] = [
+    ("processing", 3),
     ("merchant", 42),
     ("terminal", 41),
     ("trace", 11),
@@ -29,10 +32,10 @@ const ELEMENTS: [(&str, u8); 5] = [
 const LEAST_MASKED: usize = 13;
 
 /// The log of a host: a line in logfmt for its beginning, for each connection's begin and end, and
-/// for each message and each line of a control connection that was taken (own profile). No line has a
-/// card number or a track. Each line goes out in one write, and one that can't is lost and counted:
-/// nothing waits for a log, or ends by it. Lines of which anybody may cause as many as they like are
-/// left out past the first ones of a second, and counted, too.
+/// for each message and each line of a control connection that was taken (own profile). No line has
+/// a card number or a track. Each line goes out in one write, and one that can't is lost and
+/// counted: nothing waits for a log, or ends by it. Lines of which anybody may cause as many as
+/// they like are left out past the first ones of a second, and counted, too.
 #[derive(Drop)]
 pub struct HostLog<W> {
     alloc: Global,
@@ -44,8 +47,8 @@ pub struct HostLog<W> {
     /// How many lines were lost, and how many of them no line has told yet.
     lost: u64,
     lost_untold: u64,
-    /// Connections that begin, replies of network management, and frames that are refused or of a type
-    /// that isn't served.
+    /// Connections that begin, replies of network management, and frames that are refused or of a
+    /// type that isn't served.
     opened: LineRate,
     echoes: LineRate,
     refused: LineRate,
@@ -69,12 +72,12 @@ impl<W: LogTarget> HostLog<W> {
     }
 
     /// How many lines were lost.
-    pub fn lost(&self) -> u64 {
+    pub(crate) fn lost(&self) -> u64 {
         self.lost
     }
 
     /// The log goes on in the file that stands at its path now, if that can be had, and says so.
-    pub fn reopen<T: time::Clock>(&mut self, clock: &T) -> io::Result<()> {
+    pub(crate) fn reopen<T: time::Clock>(&mut self, clock: &T) -> io::Result<()> {
         let opened = self.target.reopen();
         self.begin_line(clock, "reopened");
         if opened.is_err() {
@@ -87,7 +90,12 @@ impl<W: LogTarget> HostLog<W> {
     }
 
     /// The host listens at this address, on this business day.
-    pub fn listening<T: time::Clock>(&mut self, clock: &T, address: Option<SocketAddr>, day: Day) {
+    pub(crate) fn listening<T: time::Clock>(
+        &mut self,
+        clock: &T,
+        address: Option<SocketAddr>,
+        day: Day,
+    ) {
         self.begin_line(clock, "listening");
         if let Some(address) = address {
             self.put_address("address", address);
@@ -97,7 +105,7 @@ impl<W: LogTarget> HostLog<W> {
     }
 
     /// A connection was taken.
-    pub fn opened<T: time::Clock>(&mut self, clock: &T, name: ConnectionName) {
+    pub(crate) fn opened<T: time::Clock>(&mut self, clock: &T, name: ConnectionName) {
         if !self.opened.admits(second_of(clock)) {
             return;
         }
@@ -108,7 +116,7 @@ impl<W: LogTarget> HostLog<W> {
 
     /// A connection ended, perhaps by a fault; by one of reading or writing perhaps since it took
     /// too long, or since the host ended.
-    pub fn closed<T: time::Clock>(
+    pub(crate) fn closed<T: time::Clock>(
         &mut self,
         clock: &T,
         name: ConnectionName,
@@ -121,38 +129,59 @@ impl<W: LogTarget> HostLog<W> {
         self.begin_line(clock, "closed");
         self.put_connection(name);
         if let Some(fault) = fault {
-            self.line.put_number("fault", u64::from(fault.number()));
-            self.put_reason(fault, name, ending);
+            self.put_fault(fault, name, ending);
+        }
+        self.end_line();
+    }
+
+    /// A terminal's connection ended for this fault of a frame, which begins so, if that is known.
+    pub(crate) fn closed_at_frame<T: time::Clock>(
+        &mut self,
+        clock: &T,
+        name: ConnectionName,
+        fault: FrontFault,
+        frame: Option<FrameHead>,
+    ) {
+        if !self.refused.admits(second_of(clock)) {
+            return;
+        }
+        self.begin_line(clock, "closed");
+        self.put_connection(name);
+        self.put_fault(fault, name, Ending::Own);
+        if let FrontFault::Undecodable(cause) = fault {
+            if cause.element() > 0 {
+                self.line.put_number("element", u64::from(cause.element()));
+            }
+        }
+        if let Some(frame) = frame {
+            self.put_frame(fault, frame);
         }
         self.end_line();
     }
 
     /// A terminal gets this reply, for which the host took so long of the time since the message's
     /// last byte came.
-    pub fn replied<T: time::Clock>(
+    pub(crate) fn replied<T: time::Clock>(
         &mut self,
         clock: &T,
         name: ConnectionName,
-        reply: &[u8],
+        message: &Message,
         took: Option<Duration>,
         total: Option<Duration>,
     ) {
-        let Ok(message) = decode(self.alloc, reply) else {
-            return;
-        };
         if is_of_network(&message.kind()) && !self.echoes.admits(second_of(clock)) {
             return;
         }
         self.begin_line(clock, "reply");
         self.put_connection(name);
-        self.put_elements(&message);
+        self.put_elements(message);
         self.put_duration("microseconds", took);
         self.put_duration("total_microseconds", total);
         self.end_line();
     }
 
     /// A message of a terminal gets no reply.
-    pub fn unanswered<T: time::Clock>(
+    pub(crate) fn unanswered<T: time::Clock>(
         &mut self,
         clock: &T,
         name: ConnectionName,
@@ -170,7 +199,7 @@ impl<W: LogTarget> HostLog<W> {
 
     /// A control connection gets this answer to a line that begins with this word, for which the
     /// host took so long.
-    pub fn answered<T: time::Clock>(
+    pub(crate) fn answered<T: time::Clock>(
         &mut self,
         clock: &T,
         name: ConnectionName,
@@ -185,6 +214,26 @@ impl<W: LogTarget> HostLog<W> {
             self.line.put("fault", number);
         }
         self.put_duration("microseconds", took);
+        self.end_line();
+    }
+
+    /// The host ended by the fault of this number and this name. Its cause is in these words, and
+    /// is about this path, address or option, if it is about one.
+    pub fn failed<T: time::Clock>(
+        &mut self,
+        clock: &T,
+        number: u64,
+        name: &str,
+        cause: &str,
+        about: Option<&str>,
+    ) {
+        self.begin_line(clock, "fault");
+        self.line.put_number("number", number);
+        self.line.put("name", name.as_bytes());
+        self.line.put("cause", cause.as_bytes());
+        if let Some(about) = about {
+            self.line.put("path", about.as_bytes());
+        }
         self.end_line();
     }
 
@@ -300,6 +349,27 @@ impl<W: LogTarget> HostLog<W> {
         }
     }
 
+    /// Puts what is known of a bad frame: its length, where that is what is wrong with it, and its
+    /// first bytes, from its length on or of its message.
+    fn put_frame(&mut self, fault: FrontFault, frame: FrameHead) {
+        let mut bytes = frame.message();
+        if fault == FrontFault::BadLength {
+            bytes = frame.bytes();
+            if let Some(length) = frame.length() {
+                self.line.put_number("length", length);
+            }
+        }
+        let first = FirstBytes::of(bytes);
+        if !first.text().is_empty() {
+            self.line.put("first", first.text());
+        }
+    }
+
+    fn put_fault(&mut self, fault: FrontFault, name: ConnectionName, ending: Ending) {
+        self.line.put_number("fault", u64::from(fault.number()));
+        self.put_reason(fault, name, ending);
+    }
+
     fn put_reason(&mut self, fault: FrontFault, name: ConnectionName, ending: Ending) {
         if let FrontFault::Undecodable(cause) = fault {
             self.put_cause(cause);
@@ -332,8 +402,8 @@ fn is_of_frame(fault: FrontFault) -> bool {
     )
 }
 
-/// Whether a type is one of network management: an echo test, a sign-on or a sign-off (ISO 8583:1987,
-/// message class 8).
+/// Whether a type is one of network management: an echo test, a sign-on or a sign-off (ISO
+/// 8583:1987, message class 8).
 fn is_of_network(kind: &[u8; 4]) -> bool {
     kind[1] == b'8'
 }

@@ -3,9 +3,11 @@
 ghost use Rattle.acq_book.specs.Calls.{Looks};
 ghost use Rattle.acq_reports.specs.Faults.{CountsStore, is_settled};
 
+use crate::book_files::BookSizes;
 use crate::connection_name::ConnectionName;
 use crate::ending::Ending;
 use crate::first_seen::FirstSeen;
+use crate::frame_head::FrameHead;
 use crate::host_log::HostLog;
 use crate::log_target::LogTarget;
 use crate::places::Places;
@@ -18,6 +20,7 @@ use acq_link::MemorySink;
 use acq_reports::ReportFault;
 use acq_status::Serving;
 use day_totals::Day;
+use iso_codec::decode;
 use std::alloc::Global;
 use std::net::SocketAddr;
 use std::time;
@@ -30,10 +33,13 @@ const HEADER: usize = 2;
 /// one.
 #[derive(Drop)]
 pub(crate) struct Journal<'a, T, W> {
+    alloc: Global,
     time: &'a T,
     log: Option<HostLog<W>>,
     counts: ServingCounts,
     first_waiting: FirstSeen,
+    /// How many bytes the book's files had when figures were last asked for.
+    book_sizes: BookSizes,
     /// How many control connections were taken.
     controls: u64,
 }
@@ -42,10 +48,15 @@ impl<'a, T: time::Clock, W: LogTarget> Journal<'a, T, W> {
     /// Nothing was noted yet.
     pub(crate) fn new(alloc: Global, time: &'a T, log: Option<HostLog<W>>) -> Journal<'a, T, W> {
         Journal {
+            alloc,
             time,
             log,
             counts: ServingCounts::new(),
             first_waiting: FirstSeen::nobody(alloc),
+            book_sizes: BookSizes {
+                book: None,
+                wal: None,
+            },
             controls: 0,
         }
     }
@@ -65,9 +76,13 @@ impl<'a, T: time::Clock, W: LogTarget> Journal<'a, T, W> {
             lines: self.counts.lines,
             refused_frames: self.counts.refused_frames,
             unanswered: self.counts.unanswered,
+            replies: self.counts.replies,
+            durations: self.counts.durations,
             lost_lines: self.lost_lines(),
             last_event_age: age_of(self.counts.last_event, now),
             oldest_pending_age: self.first_waiting.age(now),
+            book_bytes: self.book_sizes.book,
+            wal_bytes: self.book_sizes.wal,
         }
     }
 
@@ -79,8 +94,8 @@ impl<'a, T: time::Clock, W: LogTarget> Journal<'a, T, W> {
         }
     }
 
-    /// The log goes on in the file that stands at its path now. Returns whether that could be had, or
-    /// there is no log.
+    /// The log goes on in the file that stands at its path now. Returns whether that could be had,
+    /// or there is no log.
     pub(crate) fn reopen(&mut self) -> bool {
         match &mut self.log {
             Some(log) => log.reopen(self.time).is_ok(),
@@ -104,6 +119,11 @@ impl<'a, T: time::Clock, W: LogTarget> Journal<'a, T, W> {
             self.first_waiting.saw(name, now);
         }
         looked
+    }
+
+    /// The book's files have so many bytes.
+    pub(crate) fn saw_files(&mut self, sizes: BookSizes) {
+        self.book_sizes = sizes;
     }
 
     /// The time, where there is a log and the system tells it.
@@ -162,13 +182,21 @@ impl<'a, T: time::Clock, W: LogTarget> Journal<'a, T, W> {
         }
     }
 
-    /// A terminal's connection ended for a frame's fault.
-    pub(crate) fn refused_frame(&mut self) {
+    /// A terminal's connection ended for this fault of a frame, which begins so, if that is known.
+    pub(crate) fn refused_frame(
+        &mut self,
+        name: ConnectionName,
+        fault: FrontFault,
+        frame: Option<FrameHead>,
+    ) {
         self.counts.refused_frames = self.counts.refused_frames.saturating_add(1);
+        if let Some(log) = &mut self.log {
+            log.closed_at_frame(self.time, name, fault, frame);
+        }
     }
 
-    /// A message of a terminal was taken, at which the host began then, and has a reply. Returns how
-    /// long it took.
+    /// A message of a terminal was taken, at which the host began then, and has a reply. Returns
+    /// how long it took.
     pub(crate) fn took(
         &mut self,
         began: Option<Instant>,
@@ -188,10 +216,13 @@ impl<'a, T: time::Clock, W: LogTarget> Journal<'a, T, W> {
         came: Option<Instant>,
     ) {
         let total = self.since(came);
-        if let Some(log) = &mut self.log {
-            if frame.len() > HEADER {
-                log.replied(self.time, name, &frame[HEADER..], took, total);
-            }
+        let reply = frame
+            .get(HEADER..)
+            .and_then(|text| decode(self.alloc, text).ok());
+        let code = reply.as_ref().and_then(|reply| reply.get(39));
+        self.counts.replied(code.unwrap_or(b""), total);
+        if let (Some(log), Some(reply)) = (&mut self.log, &reply) {
+            log.replied(self.time, name, reply, took, total);
         }
     }
 
@@ -208,8 +239,8 @@ impl<'a, T: time::Clock, W: LogTarget> Journal<'a, T, W> {
         }
     }
 
-    /// A control connection gets this answer to a line that begins with this word, at which the host
-    /// began then.
+    /// A control connection gets this answer to a line that begins with this word, at which the
+    /// host began then.
     pub(crate) fn answered(
         &mut self,
         name: ConnectionName,

@@ -5,11 +5,15 @@
 //! [`HostLog`].
 #![tactic(auto)]
 
+mod book_files;
 mod connection_name;
 mod control_gathering;
 mod ending;
+mod first_bytes;
 mod first_seen;
 mod frame_clock;
+mod frame_head;
+mod frame_heads;
 mod frame_place;
 mod host_log;
 mod journal;
@@ -29,8 +33,6 @@ mod tcp_gathering;
 mod time_limits;
 mod timed_stream;
 
-pub use connection_name::ConnectionName;
-pub use ending::Ending;
 pub use host_log::HostLog;
 pub use log_target::LogTarget;
 pub use tcp_connections::TcpConnections;

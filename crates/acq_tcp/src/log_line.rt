@@ -3,8 +3,8 @@
 use itoa::Buffer;
 use std::alloc::{AllocError, Global};
 
-/// A line in logfmt: keys and their values, `key=value`, with a blank between two. It is kept in one
-/// piece of memory, line after line. One that memory runs out for is lost whole.
+/// A line in logfmt: keys and their values, `key=value`, with a blank between two. It is kept in
+/// one piece of memory, line after line. One that memory runs out for is lost whole.
 #[derive(Drop)]
 pub(crate) struct LogLine {
     text: Vec<u8>,

@@ -6,8 +6,8 @@ use std::io;
 pub trait LogTarget {
     ghost use Rattle.std.specs.Prelude.{◌≤◌, length};
 
-    /// Takes as many bytes of a line as it can at once, and returns how many: none where there is no
-    /// room, or the write would wait.
+    /// Takes as many bytes of a line as it can at once, and returns how many: none where there is
+    /// no room, or the write would wait.
     fn take(&mut self, line: &[u8]) -> usize
         ensures { result ≤ length line.now };
 

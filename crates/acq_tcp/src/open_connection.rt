@@ -5,6 +5,7 @@ ghost use Rattle.acq_front.specs.Stops.{left_of};
 ghost use Rattle.acq_tcp.specs.Rounds.{IsNotStores, RoundReaches, RoundTells, UnlessRefused};
 
 use crate::connection_name::ConnectionName;
+use crate::frame_head::FrameHead;
 use crate::parting::{PIECE, Parting};
 use crate::time_limits::{TimeLimits, left_of, shorter};
 use crate::timed_stream::TimedStream;
@@ -26,6 +27,8 @@ pub(crate) struct OpenConnection<'a, T> {
     is_ready: bool,
     /// When something last happened.
     last_moved: Option<Instant>,
+    /// How many messages were taken.
+    taken: u64,
     /// A reply is held of which nothing was written yet.
     held: Option<HeldReply>,
     /// It is parted with: its fault was told.
@@ -55,6 +58,7 @@ impl<'a, T: time::Clock> OpenConnection<'a, T> {
             exchange: Exchange::new(line),
             is_ready: true,
             last_moved: now,
+            taken: 0,
             held: None,
             parting: None,
         }
@@ -75,8 +79,19 @@ impl<'a, T: time::Clock> OpenConnection<'a, T> {
         self.exchange.unanswered()
     }
 
-    /// A reply was held, for which the host took so long.
+    /// A message was taken that gets no reply.
+    pub(crate) fn hold_nothing(&mut self) {
+        self.taken = self.taken.saturating_add(1);
+    }
+
+    /// How the frame begins whose message wasn't taken yet, if it is known.
+    pub(crate) fn next_frame(&self) -> Option<FrameHead> {
+        self.stream().head_behind(self.taken)
+    }
+
+    /// A message was taken, and its reply is held, for which the host took so long.
     pub(crate) fn hold(&mut self, took: Option<Duration>) {
+        self.taken = self.taken.saturating_add(1);
         self.held = Some(HeldReply {
             took,
             came: self.stream().last_came(),

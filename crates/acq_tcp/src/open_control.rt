@@ -74,7 +74,8 @@ impl OpenControl {
         mem::take(&mut self.reopens)
     }
 
-    /// What it is that the host cuts it off: an answer wasn't written whole, or it was read in vain.
+    /// What it is that the host cuts it off: an answer wasn't written whole, or it was read in
+    /// vain.
     pub(crate) fn cut_off(&self) -> FrontFault {
         if self.is_answering() {
             FrontFault::Write(self.exchange.gone() as u64)

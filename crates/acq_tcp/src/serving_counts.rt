@@ -1,8 +1,8 @@
 //! Counts of what was served.
 
 use acq_front::Silence;
-use acq_status::UnansweredCounts;
-use std::time::Instant;
+use acq_status::{ReplyCounts, ReplyDurations, UnansweredCounts};
+use std::time::{Duration, Instant};
 
 /// Counts of what a gathering has served since it began.
 #[derive(Clone, Copy)]
@@ -15,8 +15,12 @@ pub(crate) struct ServingCounts {
     pub(crate) lines: u64,
     /// Messages of terminals that got no reply.
     pub(crate) unanswered: UnansweredCounts,
-    /// Connections of terminals that ended for a frame's fault: a bad length, an end inside a frame,
-    /// or a frame that spells no message.
+    /// Replies whose first bytes went out.
+    pub(crate) replies: ReplyCounts,
+    /// How long these took, where the times were known.
+    pub(crate) durations: ReplyDurations,
+    /// Connections of terminals that ended for a frame's fault: a bad length, an end inside a
+    /// frame, or a frame that spells no message.
     pub(crate) refused_frames: u64,
     /// When a message of a terminal was last taken, where the time was known.
     pub(crate) last_event: Option<Instant>,
@@ -34,6 +38,8 @@ impl ServingCounts {
                 waiting: 0,
                 late: 0,
             },
+            replies: ReplyCounts::new(),
+            durations: ReplyDurations::new(),
             refused_frames: 0,
             last_event: None,
         }
@@ -43,6 +49,14 @@ impl ServingCounts {
     pub(crate) fn answered(&mut self, now: Option<Instant>) {
         self.events = self.events.saturating_add(1);
         self.last_event = now;
+    }
+
+    /// One terminal more gets a reply, with this response code, so long behind its message.
+    pub(crate) fn replied(&mut self, code: &[u8], total: Option<Duration>) {
+        self.replies.count(code);
+        if let Some(total) = total {
+            self.durations.count(total);
+        }
     }
 
     /// One message of a terminal more got no reply, at this time.

@@ -4,7 +4,7 @@ use crate::parting::{PIECE, Parting, ends_in_bad_frame};
 use crate::patient_stream::{PatientReader, PatientWriter};
 use crate::time_limits::TimeLimits;
 use acq_book::Book;
-use acq_commands::Patience;
+use acq_faults::Patience;
 use acq_front::{Clock, Connections, FrontFault, Issuer, LaterEnd, serve_ends};
 use acq_host::Host;
 use acq_link::{Call, ReadSource, Transcript, WriteSink};

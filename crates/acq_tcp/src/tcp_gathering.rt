@@ -1,10 +1,11 @@
 //! Connections over TCP that are served at once.
 
 ghost use Rattle.std.specs.Prelude.{◌≤◌, IfErr, OnOk};
-ghost use Rattle.acq_commands.specs.Faults.{IsOfGathering, TellsStore};
-ghost use Rattle.acq_commands.specs.Listening.{ReachesBy};
+ghost use Rattle.acq_faults.specs.Faults.{IsOfGathering, TellsStore};
+ghost use Rattle.acq_faults.specs.Reaching.{ReachesBy};
 ghost use Rattle.acq_front.specs.Stops.{left_of};
 
+use crate::book_files::BookFiles;
 use crate::control_gathering::{CONTROLS, ControlGathering};
 use crate::ending::Ending;
 use crate::host_log::HostLog;
@@ -16,13 +17,14 @@ use crate::places::Places;
 use crate::tcp_connections::PAUSE;
 use crate::time_limits::{TimeLimits, left_of, shorter};
 use acq_book::Book;
-use acq_commands::{Fault, Gathering, ListenOptions, end_connection};
+use acq_faults::{Fault, Gathering, ListenOptions, end_connection};
 use acq_front::{Clock, FrontFault, Issuer};
 use acq_host::Host;
 use acq_link::Sink;
 use mio::net::{TcpListener, TcpStream, UnixListener};
 use mio::{Events, Interest, Poll, Token};
 use std::alloc::Global;
+use std::fs::Files;
 use std::io::ErrorKind;
 use std::net::{Net, SocketAddr, SocketAddrV4};
 use std::time::{Duration, Instant};
@@ -48,12 +50,13 @@ pub struct TcpGathering<'a, T, W> {
     control: Option<ControlGathering>,
     /// When the host was asked to end, where that time is known.
     stopping: Option<Instant>,
+    book_files: BookFiles,
     /// Whether it was looked which request waits the longest.
     has_looked: bool,
     journal: Journal<'a, T, W>,
 }
 
-impl<'a, T: time::Clock, W: LogTarget + Drop> TcpGathering<'a, T, W> {
+impl<'a, T: time::Clock + Files, W: LogTarget + Drop> TcpGathering<'a, T, W> {
     /// Listens at the address and the port that are asked for, for so many connections at once. One
     /// that takes longer than its patience lasts is closed. Beside them control connections come to
     /// `control`. What is served is told to the log, where there is one.
@@ -79,6 +82,7 @@ impl<'a, T: time::Clock, W: LogTarget + Drop> TcpGathering<'a, T, W> {
             return Err(Fault::Read);
         };
         let control = control_at(alloc, control, &poll, together)?;
+        let book_files = BookFiles::at(time, alloc, asked.path.as_str())?;
         Ok(TcpGathering {
             listener,
             poll,
@@ -91,6 +95,7 @@ impl<'a, T: time::Clock, W: LogTarget + Drop> TcpGathering<'a, T, W> {
             waiting: None,
             control,
             stopping: None,
+            book_files,
             has_looked: false,
             journal: Journal::new(alloc, time, log),
         })
@@ -209,8 +214,8 @@ impl<'a, T: time::Clock, W: LogTarget + Drop> TcpGathering<'a, T, W> {
         Some(left_of(Duration::from_millis(PAUSE), Some(since), now))
     }
 
-    /// Waits until a connection has something to do, or has taken too long, or one comes, where more
-    /// are taken.
+    /// Waits until a connection has something to do, or has taken too long, or one comes, where
+    /// more are taken.
     fn wait(&mut self, takes_more: bool) -> io::Result<()> {
         let longest = self.longest_wait(takes_more && self.waiting.is_none());
         self.poll.poll(&mut self.events, longest)?;
@@ -254,7 +259,8 @@ impl<'a, T: time::Clock, W: LogTarget + Drop> TcpGathering<'a, T, W> {
         longest
     }
 
-    /// Where the host was asked to end, how much is left to those that are there, if they have a limit.
+    /// Where the host was asked to end, how much is left to those that are there, if they have a
+    /// limit.
     fn stop_left(&self, now: Option<Instant>) -> Option<Duration> {
         match (self.limits.stop, self.stopping) {
             (Some(stop), Some(_)) => Some(left_of(stop, self.stopping, now)),
@@ -373,8 +379,9 @@ impl<'a, T: time::Clock, W: LogTarget + Drop> TcpGathering<'a, T, W> {
         }
     }
 
-    /// Looks which request waits the longest, at first and where figures are about to be asked for.
-    fn look_at_waiting<B: Book + Drop>(
+    /// Looks which request waits the longest, and how many bytes the book's files have, at first
+    /// and where figures are about to be asked for.
+    fn look_at_book<B: Book + Drop>(
         &mut self,
         alloc: Global,
         host: &mut Host<B>,
@@ -394,6 +401,7 @@ impl<'a, T: time::Clock, W: LogTarget + Drop> TcpGathering<'a, T, W> {
             return Ok(());
         }
         self.has_looked = true;
+        self.journal.saw_files(self.book_files.sizes(self.time));
         let now = self.now();
         match self.journal.look_at_waiting(alloc, host, now) {
             Ok(()) => Ok(()),
@@ -501,13 +509,7 @@ fn give_round<'a, T: time::Clock, B: Book + Drop, C: Clock, I: Issuer, W: LogTar
     match ended {
         None => Ok(()),
         Some(ended) => {
-            let ending = if connection.is_ready() {
-                Ending::Own
-            } else {
-                Ending::Late
-            };
-            journal.closed(connection.name(), &ended, ending);
-            if !has_bad_frame(&ended, journal) || !connection.part(now) {
+            if !note_end(connection, &ended, journal) || !connection.part(now) {
                 *place = None;
             }
             end_connection(ended, faults)
@@ -539,6 +541,7 @@ fn note_message<T: time::Clock, W: LogTarget>(
     if connection.is_answering() {
         connection.hold(journal.took(began, now));
     } else if let Some(message) = connection.unanswered() {
+        connection.hold_nothing();
         journal.unanswered(connection.name(), message, now);
     }
 }
@@ -558,20 +561,32 @@ fn cut_off<'a, T: time::Clock, W: LogTarget, F: Sink>(
     }
 }
 
-/// Whether a connection ended with a fault of its frames, which is counted.
-fn has_bad_frame<T: time::Clock, W: LogTarget>(
+/// Notes how a connection ended in a round, and returns whether by a fault of a frame.
+fn note_end<T: time::Clock, W: LogTarget>(
+    connection: &OpenConnection<'_, T>,
     ended: &Result<(), FrontFault>,
     journal: &mut Journal<'_, T, W>,
 ) -> bool {
-    let is_bad = ends_in_bad_frame(ended);
-    if is_bad {
-        journal.refused_frame();
+    let name = connection.name();
+    match ended {
+        Err(fault) if ends_in_bad_frame(ended) => {
+            journal.refused_frame(name, *fault, connection.next_frame());
+            true
+        }
+        _ => {
+            let ending = if connection.is_ready() {
+                Ending::Own
+            } else {
+                Ending::Late
+            };
+            journal.closed(name, ended, ending);
+            false
+        }
     }
-    is_bad
 }
 
-/// Parts with the connection in a place, if it has its replies: what it still sends is read away, or
-/// the system would throw away replies that it has yet to send.
+/// Parts with the connection in a place, if it has its replies: what it still sends is read away,
+/// or the system would throw away replies that it has yet to send.
 fn close_if_answered<'a, T: time::Clock, W: LogTarget>(
     place: &mut Option<OpenConnection<'a, T>>,
     journal: &mut Journal<'a, T, W>,
@@ -589,7 +604,7 @@ fn close_if_answered<'a, T: time::Clock, W: LogTarget>(
     }
 }
 
-impl<T: time::Clock, W: LogTarget + Drop> Gathering for TcpGathering<'_, T, W> {
+impl<T: time::Clock + Files, W: LogTarget + Drop> Gathering for TcpGathering<'_, T, W> {
     fn serve_all<B: Book + Drop, C: Clock, I: Issuer, F: Sink>(
         &mut self,
         alloc: Global,
@@ -614,7 +629,7 @@ impl<T: time::Clock, W: LogTarget + Drop> Gathering for TcpGathering<'_, T, W> {
                 return Err(Fault::Read);
             }
             self.give_rounds(alloc, host, clock, issuer, faults)?;
-            self.look_at_waiting(alloc, host)?;
+            self.look_at_book(alloc, host)?;
             self.give_control_rounds(alloc, host, clock, faults)?;
             self.make_room(faults);
         }

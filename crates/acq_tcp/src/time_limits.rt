@@ -1,6 +1,6 @@
 //! How long connections may take.
 
-use acq_commands::Patience;
+use acq_faults::Patience;
 use std::time::{Duration, Instant};
 
 /// How long connections may take; `None` is for ever.

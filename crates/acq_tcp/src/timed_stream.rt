@@ -1,6 +1,7 @@
 //! A stream that knows when its frames begin.
 
 use crate::frame_clock::FrameClock;
+use crate::frame_head::FrameHead;
 use mio::net::TcpStream;
 use std::io::{Read, Write};
 use std::net::Shutdown;
@@ -32,6 +33,12 @@ impl<'a, T: time::Clock> TimedStream<'a, T> {
     /// message that wasn't taken then.
     pub(crate) fn last_came(&self) -> Option<Instant> {
         self.frames.last_came()
+    }
+
+    /// How the frame begins that came behind so many, all that came before the last piece among
+    /// them.
+    pub(crate) fn head_behind(&self, frames: u64) -> Option<FrameHead> {
+        self.frames.head_behind(frames)
     }
 
     /// Ends the sending side.

@@ -1,15 +1,15 @@
 //! Files that are named twice.
 
-use acq_commands::ListenOptions;
+use acq_faults::ListenOptions;
 use std::fs;
 use std::os::unix::fs::MetadataExt;
 
 /// What stands for standard error in place of a log's path.
 const STANDARD_ERROR: &str = "-";
 
-/// Whether one file stands at two of the paths: the book's and that of the log beside it, those of a
-/// log for operators, of the control socket and of issuers' answers. Their texts may differ, as where
-/// one is a link.
+/// Whether one file stands at two of the paths: the book's and that of the log beside it, those of
+/// a log for operators, of the control socket and of issuers' answers. Their texts may differ, as
+/// where one is a link.
 pub(crate) fn names_a_file_twice(rt: &HostRuntime, asked: &ListenOptions) -> bool {
     let beside: Result<String, _> = format!(in rt.alloc(); "{}-wal", asked.path.as_str());
     let files = [

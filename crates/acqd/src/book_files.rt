@@ -1,7 +1,7 @@
 //! The files of a book as they stand before it is opened: the book and, beside it, its log.
 
 use crate::book_signs::may_hold_book;
-use acq_sql::OpeningFault;
+use acq_sql_opening::OpeningFault;
 use std::fs::{self, Permissions};
 use std::io::{self, ErrorKind, IsTerminal};
 use std::os::unix::fs::PermissionsExt;
@@ -28,7 +28,8 @@ pub(crate) fn find_book(rt: &HostRuntime, path: &str) -> Result<(), OpeningFault
     Ok(())
 }
 
-/// The size of the file at a path, 0 where there is none, where the system tells it. A folder has none.
+/// The size of the file at a path, 0 where there is none, where the system tells it. A folder has
+/// none.
 pub(crate) fn size_of(rt: &HostRuntime, path: &str) -> Option<u64> {
     match fs::metadata(rt, path) {
         Ok(found) if found.is_dir() => None,

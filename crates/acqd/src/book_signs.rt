@@ -1,7 +1,7 @@
 //! What of a book can be seen in files before they are opened, which writes to them.
 
 use crate::book_files::size_of;
-use acq_sql::OpeningFault;
+use acq_sql_opening::OpeningFault;
 use memchr::memmem::find;
 use std::fs::File;
 use std::io::{self, ErrorKind, Read, Seek, SeekFrom};
@@ -28,8 +28,8 @@ const PIECE: u64 = 64 << 10;
 const TWICE: u64 = 64;
 
 /// Whether the file at a path and its log may be a book: it is a database and has the book's table,
-/// or where a stop came while the log was copied into it, its log says so. What can't be read may be
-/// one: the open says why.
+/// or where a stop came while the log was copied into it, its log says so. What can't be read may
+/// be one: the open says why.
 pub(crate) fn may_hold_book(rt: &HostRuntime, path: &str, log: &str) -> Result<bool, OpeningFault> {
     if size_of(rt, path).is_some_and(|size| size < LEAST_PAGE) {
         return Ok(false);

@@ -1,9 +1,9 @@
 //! The socket at which control connections come.
 
 ghost use Rattle.std.specs.Prelude.{IfErr};
-ghost use Rattle.acq_commands.specs.Faults.{IsOfGathering};
+ghost use Rattle.acq_faults.specs.Faults.{IsOfGathering};
 
-use acq_commands::Fault;
+use acq_faults::Fault;
 use mio::net::{UnixListener, UnixStream};
 use std::fs::{self, DirBuilder, File, Permissions};
 use std::io::{self, ErrorKind};
@@ -58,8 +58,9 @@ fn is_taken(rt: &HostRuntime, path: &str) -> bool {
     }
 }
 
-/// Makes the socket in a folder that its owner alone may enter, and moves it to its path once nobody
-/// else may open it. On the way there it has a path by the folder's descriptor, which is short.
+/// Makes the socket in a folder that its owner alone may enter, and moves it to its path once
+/// nobody else may open it. On the way there it has a path by the folder's descriptor, which is
+/// short.
 fn guarded_socket(rt: &HostRuntime, path: &str, folder: &str) -> io::Result<UnixListener> {
     match DirBuilder::new().mode(OWNERS_FOLDER).create(rt, folder) {
         Err(fault) if fault.kind() != ErrorKind::AlreadyExists => return Err(fault),

@@ -1,9 +1,10 @@
 //! A connection to a host's control socket.
 
 ghost use Rattle.std.specs.Prelude.{◌≡◌, ◌⊎◌, IfErr};
-ghost use Rattle.acq_commands.specs.declared.fault.Fault.TheVariants.{Read, Silent};
+ghost use Rattle.acq_faults.specs.declared.fault.Fault.TheVariants.{Read, Silent};
 
-use acq_commands::Fault;
+use acq_causes::{Lack, Signs};
+use acq_faults::Fault;
 use mio::net;
 use std::cell::Cell;
 use std::io::{self, ErrorKind, Read, Write};
@@ -14,7 +15,8 @@ use std::time::{Duration, Instant};
 /// For how many milliseconds it pauses while the host takes no connection.
 const PAUSE: u64 = 50;
 
-/// One side of a connection to a host's control socket, whose reads and writes wait so long at most.
+/// One side of a connection to a host's control socket, whose reads and writes wait so long at
+/// most.
 #[derive(Drop)]
 pub struct HostLine<'a> {
     stream: UnixStream,
@@ -22,18 +24,19 @@ pub struct HostLine<'a> {
     silent: &'a Cell<bool>,
 }
 
-/// Both sides of a connection to the host that takes control connections at a path, for which so many
-/// seconds are waited, and for each answer; 0 is for ever. The first is for lines, the second for
-/// answers, and says there whether one was waited for too long.
+/// Both sides of a connection to the host that takes control connections at a path, for which so
+/// many seconds are waited, and for each answer; 0 is for ever. The first is for lines, the second
+/// for answers, and says there whether one was waited for too long.
 pub(crate) fn host_lines<'a>(
     rt: &HostRuntime,
     path: &str,
     within: u64,
-    silent: &'a Cell<bool>,
+    signs: &'a Signs,
 ) -> Result<(HostLine<'a>, HostLine<'a>), Fault>
     ensures { IfErr result (λ fault. fault ≡ Read ⊎ fault ≡ Silent) }
 {
     let limit = (within > 0).then(|| Duration::from_secs(within));
+    let silent = &signs.silent;
     match connected(rt, path, limit) {
         Ok((lines, answers)) => Ok((
             HostLine {
@@ -46,12 +49,15 @@ pub(crate) fn host_lines<'a>(
             },
         )),
         Err(fault) if fault.kind() == ErrorKind::WouldBlock => Err(Fault::Silent),
-        Err(_) => Err(Fault::Read),
+        Err(fault) => {
+            signs.note(Lack::Host(fault.kind()));
+            Err(Fault::Read)
+        }
     }
 }
 
-/// A connection to the socket at a path, to write to and to read from. A host that takes none at once
-/// is asked again, until the time is over.
+/// A connection to the socket at a path, to write to and to read from. A host that takes none at
+/// once is asked again, until the time is over.
 fn connected(
     rt: &HostRuntime,
     path: &str,

@@ -1,11 +1,12 @@
 //! Where a log for operators goes.
 
 ghost use Rattle.std.specs.Prelude.{◌≤◌, IfErr, length};
-ghost use Rattle.acq_commands.specs.Faults.{IsOfGathering};
+ghost use Rattle.acq_faults.specs.Faults.{IsOfGathering};
 
 use crate::at_once::open_at_once;
 use crate::standard_error::StandardError;
-use acq_commands::{Fault, Outlet};
+use acq_commands::Outlet;
+use acq_faults::Fault;
 use acq_tcp::LogTarget;
 use std::fs::File;
 use std::io;
@@ -94,8 +95,8 @@ impl LogFile<'_> {
         n
     }
 
-    /// Whether so many bytes more fit. Where they seem not to, the system is asked how many there are:
-    /// another program may have cut the file off.
+    /// Whether so many bytes more fit. Where they seem not to, the system is asked how many there
+    /// are: another program may have cut the file off.
     fn has_room(&mut self, more: u64) -> bool {
         if self.most_bytes == 0 || self.bytes.saturating_add(more) <= self.most_bytes {
             return true;

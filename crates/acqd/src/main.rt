@@ -9,25 +9,26 @@ mod at_once;
 mod book_files;
 mod book_signs;
 mod control_socket;
+mod fault_event;
 mod host_line;
 mod log_output;
 mod new_book_file;
 mod no_book;
 mod open_book;
-mod signs;
 mod standard_descriptors;
 mod standard_error;
 mod stopped_runs;
 mod this_machine;
 
 use acq_book::Book;
+use acq_causes::{Asked, Emptiness, Explained, Signs};
 use acq_commands::{Progress, PromptLines, SystemClock, TerminalProgress};
 use acq_link::{ReadSource, Sink, Source, WriteSink};
 use acq_program::{Machine, command, memory_fault, read_fault, utf8_fault};
 use acq_sql::SqlBook;
+use fault_event::log_fault;
 pub use no_book::NoBook;
 pub use open_book::{make_book, migrate_book, open_book};
-pub use signs::Signs;
 use sqlite::Alter;
 use sqlite_disk::{Start, Unknown};
 use standard_descriptors::take_closed;
@@ -48,21 +49,40 @@ fn main(rt: HostRuntime) -> ExitCode {
 }
 
 /// Runs the program over the streams and the files of this machine; `D` says what the file that is
-/// opened holds before.
+/// opened holds before. Where a person reads what it tells, that is explained.
 fn run<D: Start>(rt: &HostRuntime, start: D) -> u8 {
     let terminal = rt.stderr();
-    let terminal = terminal.is_terminal().then_some(terminal);
+    let is_read = terminal.is_terminal();
+    let terminal = is_read.then_some(terminal);
     let signs = Signs::new();
+    let words = args(rt).unwrap_or_else(|_| Vec::new(rt.alloc()));
+    let asked = Asked::new(words.as_slice());
     let faults = PromptLines::new(rt.alloc(), StandardError::new(rt), &signs.listens);
-    run_over_files(
+    let mut faults = WriteSink::new(Explained::new(rt, faults, asked, &signs, is_read));
+    let mut output = WriteSink::new(Emptiness::new(rt.stdout(), asked));
+    let status = run_over_files(
         rt,
         start,
         &signs,
         &mut ReadSource::new(rt.stdin()),
-        &mut WriteSink::new(rt.stdout()),
-        &mut WriteSink::new(faults),
+        &mut output,
+        &mut faults,
         &mut TerminalProgress::new(rt, terminal),
-    )
+    );
+    if let Some(ended) = faults.into_inner().ended() {
+        log_fault(rt, asked, &signs, ended);
+    }
+    if is_read && status == 0 && output.into_inner().is_of(asked) {
+        tell_of_nothing(rt, asked);
+    }
+    status
+}
+
+/// Tells a person, and no script, that a report has nothing in it.
+fn tell_of_nothing(rt: &HostRuntime, asked: Asked<'_>) {
+    if let Some(day) = asked.value("--day") {
+        let _ = eprintln!(rt; "acqd: note: {day}: no posting of that day is in the book");
+    }
 }
 
 /// Runs the program over the files of this machine. It is apart from the streams, since a proof

@@ -1,8 +1,8 @@
 //! The file of a new book, which comes to its place whole.
 
-use crate::book_files::{log_of, size_of};
+use crate::book_files::log_of;
 use crate::book_signs::{LEAST_PAGE, is_begun, may_be_log_of_book};
-use acq_sql::OpeningFault;
+use acq_sql_opening::OpeningFault;
 use sqlite::Connection;
 use std::fs::{self, File, OpenOptions, Permissions};
 use std::io::{self, ErrorKind};
@@ -43,17 +43,14 @@ impl NewBookFile {
         }
         let file = NewBookFile::at(rt, path)?;
         file.remove(rt)?;
-        if file.make_beside(rt).is_err() {
-            return Err(OpeningFault::Store);
-        }
+        file.make_beside(rt).map_err(fault_of)?;
         Ok(file)
     }
 
-    /// The paths of a new book. Its place is taken by an empty file, which tells where a link leads.
+    /// The paths of a new book. Its place is taken by an empty file, which tells where a link
+    /// leads.
     fn at(rt: &HostRuntime, path: &str) -> Result<NewBookFile, OpeningFault> {
-        let Ok(place) = taken_place(rt, path) else {
-            return Err(OpeningFault::Store);
-        };
+        let place = taken_place(rt, path).map_err(fault_of)?;
         let log = log_of(rt, path)?;
         let beside = format!(in rt.alloc(); "{}-new", place.as_str());
         let beside = beside.map_err(|_| OpeningFault::Memory)?;
@@ -89,10 +86,7 @@ impl NewBookFile {
         if !is_free(rt, self.place.as_str(), self.log.as_str())? {
             return Err(OpeningFault::NotABook);
         }
-        match self.rename(rt) {
-            Ok(()) => Ok(()),
-            Err(_) => Err(OpeningFault::Store),
-        }
+        self.rename(rt).map_err(fault_of)
     }
 
     fn rename(&self, rt: &HostRuntime) -> io::Result<()> {
@@ -108,20 +102,34 @@ impl NewBookFile {
     /// Removes what stands beside the place.
     pub(crate) fn remove(&self, rt: &HostRuntime) -> Result<(), OpeningFault> {
         for path in [self.beside(), self.beside_log.as_str()] {
-            if remove(rt, path).is_err() {
-                return Err(OpeningFault::Store);
-            }
+            remove(rt, path).map_err(fault_of)?;
         }
         Ok(())
+    }
+}
+
+/// The size of the file at a path, 0 where there is none; a folder is in the way.
+fn room_taken(rt: &HostRuntime, path: &str) -> Result<u64, OpeningFault> {
+    match fs::metadata(rt, path) {
+        Ok(found) if found.is_dir() => Err(OpeningFault::Store),
+        Ok(found) => Ok(found.len()),
+        Err(fault) if fault.kind() == ErrorKind::NotFound => Ok(0),
+        Err(fault) => Err(fault_of(fault)),
+    }
+}
+
+/// What a call of the system failed for, as an open of a book tells it.
+fn fault_of(fault: io::Error) -> OpeningFault {
+    match fault.kind() {
+        ErrorKind::OutOfMemory => OpeningFault::Memory,
+        _ => OpeningFault::Store,
     }
 }
 
 /// Whether a new book may come to a path: the file is away or empty, and its log has no change, or
 /// they are what a stop left while a book was made there.
 fn is_free(rt: &HostRuntime, path: &str, log: &str) -> Result<bool, OpeningFault> {
-    let (Some(size), Some(logged)) = (size_of(rt, path), size_of(rt, log)) else {
-        return Err(OpeningFault::Store);
-    };
+    let (size, logged) = (room_taken(rt, path)?, room_taken(rt, log)?);
     if size == 0 {
         return Ok(logged < LEAST_LOG);
     }

@@ -2,7 +2,8 @@
 
 ghost use Rattle.std.specs.Prelude.{◌≡◌, None, Some};
 
-use acq_sql::{OpeningFault, Refusal};
+use acq_sql::Refusal;
+use acq_sql_opening::OpeningFault;
 use sqlite::{Alter, Connection};
 
 /// Why files weren't opened as a book, with the connection to them, where they were opened.

@@ -12,18 +12,20 @@ ghost use Rattle.acq_core.specs.Tables.{Tables, new_tables};
 ghost use Rattle.acq_core.specs.Widening.{widened_tables};
 ghost use Rattle.acq_sql_rows.specs.Rows.{version_of_six_digits};
 ghost use Rattle.acq_sql_rows.specs.Schema.{no_schema};
-ghost use Rattle.acq_sql_changes.specs.Changed.{HoldsAfter, IsAtOf};
-ghost use Rattle.acq_sql.specs.Checked.{IsFailure};
-ghost use Rattle.acq_sql.specs.Files.{FilesHold, FilesHoldOf};
+ghost use Rattle.acq_sql_rows.specs.Standing.{HoldsAfter, IsAtOf};
+ghost use Rattle.acq_sql_opening.specs.Checked.{IsFailure};
+ghost use Rattle.acq_sql_opening.specs.Files.{FilesHold, FilesHoldOf};
 ghost use Rattle.acq_sql.specs.Memos.{nothing_recalled};
-ghost use Rattle.acq_sql.specs.Migrated.{IsOfSixDigits};
+ghost use Rattle.acq_sql_opening.specs.Migrated.{IsOfSixDigits};
 ghost use Rattle.acq_sql.specs.Opened.{IsOpenAt, IsRoomy};
-ghost use Rattle.acq_sql.specs.declared.opening.opening_fault.OpeningFault.TheVariants.{NotABook};
+ghost use Rattle.acq_sql_opening.specs.declared.opening_fault.OpeningFault.TheVariants.{NotABook};
 
 use crate::no_book::NoBook;
 use acq_core::Limit;
-use acq_sql::opening::{an_open_finds_a_book_of_any_version, an_open_finds_the_book, put_in_order};
-use acq_sql::{OpeningFault, Refusal, SqlBook};
+use acq_sql::{Refusal, SqlBook};
+use acq_sql_opening::{
+    OpeningFault, an_open_finds_a_book_of_any_version, an_open_finds_the_book, put_in_order,
+};
 use day_totals::Day;
 use sqlite::{Alter, Connection};
 use sqlite_disk::Start;

@@ -34,8 +34,8 @@ impl StandardError {
         StandardError { stream, terminal }
     }
 
-    /// Whether the write of a line would not wait. A pipe is ready where it has room for a page, which
-    /// a line fits.
+    /// Whether the write of a line would not wait. A pipe is ready where it has room for a page,
+    /// which a line fits.
     fn is_ready(&self) -> bool {
         let mut asked = [pollfd {
             fd: self.stream.as_raw_fd(),

@@ -9,7 +9,7 @@ ghost use Rattle.sqlite.specs.Files.{file_state, over_files};
 ghost use Rattle.sqlite.specs.State.{HasCleanDisk};
 ghost use Rattle.acq_core.specs.Pasts.{HasPast};
 ghost use Rattle.acq_core.specs.Tables.{Tables};
-ghost use Rattle.acq_sql.specs.Files.{FilesHold};
+ghost use Rattle.acq_sql_opening.specs.Files.{FilesHold};
 ghost use Rattle.acq_sql.specs.Opened.{IsOpenAt, is_open, tables};
 ghost use Rattle.acqd.specs.StoppedRuns.{IsLeftBy, IsNoRefusal};
 
@@ -17,8 +17,7 @@ use crate::no_book::NoBook;
 use crate::open_book::open_book;
 use acq_core::{Event, Output};
 use acq_host::{Host, RunFault};
-use acq_sql::SqlBook;
-use acq_sql::opening::a_stop_leaves_a_book;
+use acq_sql::{SqlBook, a_stop_leaves_a_book};
 use sqlite_disk::{Disk, Start};
 use sqlite_std_file::FileFrom;
 use sqlite_store::FileStore;

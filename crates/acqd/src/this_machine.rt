@@ -1,6 +1,7 @@
 //! The machine that the program runs on.
 
 ghost use Rattle.std.specs.Prelude.{◌≡◌, IfErr};
+ghost use Rattle.acq_faults.specs.Faults.{IsOfAnswers, IsOfGathering};
 ghost use Rattle.acq_program.specs.BookFaults.{IsClosing, IsOpening};
 ghost use Rattle.acqd.specs.BookFiles.{of_opening};
 
@@ -11,15 +12,17 @@ use crate::host_line::{HostLine, host_lines};
 use crate::log_output::LogOutput;
 use crate::new_book_file::NewBookFile;
 use crate::open_book::{make_book, migrate_book, open_book};
-use crate::signs::Signs;
-use acq_commands::{Fault, ListenOptions, Patience};
+use acq_causes::{Lack, Signs};
 use acq_core::Limit;
+use acq_faults::{Fault, ListenOptions, Patience};
 use acq_link::{ReadSource, WriteSink};
 use acq_program::Machine;
-use acq_sql::{OpeningFault, SqlBook};
+use acq_sql::SqlBook;
+use acq_sql_opening::OpeningFault;
 use acq_stand_in::StandIn;
 use acq_tcp::{HostLog, TcpConnections, TcpGathering};
 use day_totals::Day;
+use mio::net::UnixListener;
 use sqlite::{Error, ErrorCode};
 use sqlite_disk::Start;
 use sqlite_std_file::FileFrom;
@@ -57,7 +60,10 @@ impl<'a, D: Start> Machine<SqlBook<FileStore<FileFrom<D>>>> for ThisMachine<'a, 
             return Err(fault_of_opening(cause));
         }
         match open_book(self.rt, path, self.start) {
-            Ok(book) => Ok(book),
+            Ok(book) => {
+                self.signs.opened_book();
+                Ok(book)
+            }
             Err(none) => Err(fault_of_opening(none.into_fault())),
         }
     }
@@ -97,10 +103,11 @@ impl<'a, D: Start> Machine<SqlBook<FileStore<FileFrom<D>>>> for ThisMachine<'a, 
     }
 
     fn read_answers(&self, alloc: Global, path: &str) -> Result<StandIn, Fault> {
-        let Ok(file) = File::open(self.rt, path) else {
-            return Err(Fault::Read);
-        };
-        Ok(StandIn::read(alloc, &mut ReadSource::new(file))?)
+        let answers = answers_in(self.rt, alloc, path);
+        if answers.is_err() {
+            self.signs.note(Lack::Issuers);
+        }
+        answers
     }
 
     fn listen_at(
@@ -111,7 +118,10 @@ impl<'a, D: Start> Machine<SqlBook<FileStore<FileFrom<D>>>> for ThisMachine<'a, 
         self.signs.listens.set(true);
         match TcpListener::bind(self.rt, endpoint) {
             Ok(listener) => Ok(TcpConnections::new(listener, self.rt, patience)),
-            Err(_) => Err(Fault::Read),
+            Err(fault) => {
+                self.signs.note(Lack::Port(fault.kind()));
+                Err(Fault::Read)
+            }
         }
     }
 
@@ -122,20 +132,16 @@ impl<'a, D: Start> Machine<SqlBook<FileStore<FileFrom<D>>>> for ThisMachine<'a, 
     ) -> Result<TcpGathering<'a, HostRuntime, LogOutput<'a>>, Fault> {
         self.signs.listens.set(true);
         if names_a_file_twice(self.rt, asked) {
+            self.signs.note(Lack::SameFile);
             return Err(Fault::Read);
         }
-        let log = match &asked.log {
-            Some(path) => {
-                let output = LogOutput::open(self.rt, path.as_str(), asked.log_bytes)?;
-                Some(HostLog::new(alloc, output))
-            }
-            None => None,
-        };
-        let control = match &asked.control {
-            Some(path) => Some(control_socket(self.rt, path.as_str())?),
-            None => None,
-        };
-        TcpGathering::listen(self.rt, self.rt, alloc, asked, control, log)
+        let log = log_asked(self.rt, alloc, self.signs, asked)?;
+        let control = control_asked(self.rt, self.signs, asked)?;
+        let listening = TcpGathering::listen(self.rt, self.rt, alloc, asked, control, log);
+        if listening.is_err() {
+            note_port(self.rt, self.signs, asked.endpoint);
+        }
+        listening
     }
 
     fn end_gathering(
@@ -154,12 +160,73 @@ impl<'a, D: Start> Machine<SqlBook<FileStore<FileFrom<D>>>> for ThisMachine<'a, 
         path: &str,
         within: u64,
     ) -> Result<(WriteSink<HostLine<'a>>, ReadSource<HostLine<'a>>), Fault> {
-        let (lines, answers) = host_lines(self.rt, path, within, &self.signs.silent)?;
+        let (lines, answers) = host_lines(self.rt, path, within, self.signs)?;
         Ok((WriteSink::new(lines), ReadSource::new(answers)))
     }
 
     fn was_silent(&self) -> bool {
         self.signs.silent.get()
+    }
+}
+
+/// What the file at a path says that issuers answer.
+fn answers_in(rt: &HostRuntime, alloc: Global, path: &str) -> Result<StandIn, Fault>
+    ensures { IfErr result IsOfAnswers }
+{
+    let Ok(file) = File::open(rt, path) else {
+        return Err(Fault::Read);
+    };
+    Ok(StandIn::read(alloc, &mut ReadSource::new(file))?)
+}
+
+/// The log that is asked for, if one is.
+fn log_asked<'a>(
+    rt: &'a HostRuntime,
+    alloc: Global,
+    signs: &Signs,
+    asked: &ListenOptions,
+) -> Result<Option<HostLog<LogOutput<'a>>>, Fault>
+    ensures { IfErr result IsOfGathering }
+{
+    let Some(path) = &asked.log else {
+        return Ok(None);
+    };
+    match LogOutput::open(rt, path.as_str(), asked.log_bytes) {
+        Ok(output) => {
+            signs.log.set(Some(asked.log_bytes));
+            Ok(Some(HostLog::new(alloc, output)))
+        }
+        Err(fault) => {
+            signs.note(Lack::Log);
+            Err(fault)
+        }
+    }
+}
+
+/// The control socket that is asked for, if one is.
+fn control_asked(
+    rt: &HostRuntime,
+    signs: &Signs,
+    asked: &ListenOptions,
+) -> Result<Option<UnixListener>, Fault>
+    ensures { IfErr result IsOfGathering }
+{
+    let Some(path) = &asked.control else {
+        return Ok(None);
+    };
+    match control_socket(rt, path.as_str()) {
+        Ok(listener) => Ok(Some(listener)),
+        Err(fault) => {
+            signs.note(Lack::Control);
+            Err(fault)
+        }
+    }
+}
+
+/// Notes why a port couldn't be listened at, by trying it once more.
+fn note_port(rt: &HostRuntime, signs: &Signs, endpoint: SocketAddrV4) {
+    if let Err(fault) = TcpListener::bind(rt, endpoint) {
+        signs.note(Lack::Port(fault.kind()));
     }
 }
 

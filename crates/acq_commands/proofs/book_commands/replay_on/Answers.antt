@@ -2,7 +2,7 @@ use Rattle.std.proofs.Common.{◌≡◌, ◌==◌, [], length, true≢false, sym
 use Rattle.std.specs.Prelude.{OnOk}
 use Rattle.acq_front.specs.Stops.{left_of}
 use Rattle.acq_commands.specs.DayReports.{Takes}
-use Rattle.acq_commands.specs.Faults.{CountsStore, TellsStore}
+use Rattle.acq_faults.specs.Faults.{CountsStore, TellsStore}
 use Rattle.acq_commands.specs.Replay.{Replays, TakesUpTo}
 use Rattle.acq_commands.specs.Runs.{EndsWithReports}
 use Rattle.acq_commands.specs.Streams.{Stream}

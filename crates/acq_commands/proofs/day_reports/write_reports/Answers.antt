@@ -8,7 +8,8 @@ use Rattle.acq_reports.proofs.Chains.{tells_later}
 use Rattle.acq_reports.specs.Faults.{is_settled}
 use Rattle.acq_reports.specs.Refusals.{day_refusal}
 use Rattle.acq_reports.specs.Writing.{Reports}
-use Rattle.acq_commands.specs.DayReports.{AreGiven, report_text, report_texts}
+use Rattle.acq_faults.specs.DayReport.{report_text}
+use Rattle.acq_commands.specs.DayReports.{AreGiven, report_texts}
 use Rattle.acq_commands.proofs.ReportsWritten.{given_next, sent_next, stops_here}
 use Rattle.acq_commands.proofs.day_reports.write_reports.Goals as goal
 

@@ -1,6 +1,6 @@
 use Rattle.std.proofs.Common.{◌∙◌, List, subst}
 use Rattle.acq_core.specs.Tables.{Opening}
-use Rattle.acq_commands.specs.declared.day_report.DayReport.{DayReport}
+use Rattle.acq_faults.specs.declared.day_report.DayReport.{DayReport}
 use Rattle.acq_commands.specs.Runs.{RunsIn}
 use Rattle.acq_commands.specs.Streams.{Stream}
 use Rattle.acq_commands.proofs.ReportsEnd.{runs_either}

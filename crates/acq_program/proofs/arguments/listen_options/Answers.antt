@@ -2,7 +2,7 @@ use Rattle.std.proofs.Common.{refl}
 use Rattle.std.proofs.lemmas.Result.{err_from_is_err_and}
 use Rattle.std.specs.Prelude.{Err, Ok, Result}
 use Rattle.clap.specs.Words.{found_of}
-use Rattle.acq_commands.specs.declared.listen_options.ListenOptions.{ListenOptions}
+use Rattle.acq_faults.specs.declared.listen_options.ListenOptions.{ListenOptions}
 use Rattle.acq_program.specs.declared.usage_fault.UsageFault.{UsageFault}
 use Rattle.acq_program.specs.Arguments.{BoundsAre, CountIs, FileIs, IsListened, ListenAt}
 use Rattle.acq_program.specs.Arguments.{ListenBeside, ListenFor, ListenIn, ListenOn, ListenedIs}

@@ -2,7 +2,7 @@ use Rattle.std.proofs.lemmas.Result.{err_from_is_err_and}
 use Rattle.std.proofs.Common.{refl}
 use Rattle.std.specs.Prelude.{Err, Ok, Result}
 use Rattle.clap.specs.Words.{found_of}
-use Rattle.acq_commands.specs.declared.patience.Patience.{Patience}
+use Rattle.acq_faults.specs.declared.patience.Patience.{Patience}
 use Rattle.acq_program.specs.declared.usage_fault.UsageFault.{UsageFault}
 use Rattle.acq_program.specs.Arguments.{FrameWithinIs, IdleIs, IdleWhenFullIs, IsPatience}
 use Rattle.acq_program.specs.Arguments.{PatienceFor, PatienceUpTo, PatienceWith, StopWithinIs}

@@ -4,7 +4,7 @@ use Rattle.std.specs.Prelude.{Err, Ok, Result}
 use Rattle.clap.specs.Words.{Text, found_of}
 use Rattle.acq_program.specs.declared.action.Action.{Action}
 use Rattle.acq_program.specs.declared.action.Action.TheVariants.{Replay}
-use Rattle.acq_commands.specs.declared.report_kind.ReportKind.TheVariants as kinds
+use Rattle.acq_faults.specs.declared.report_kind.ReportKind.TheVariants as kinds
 use Rattle.acq_program.specs.declared.usage_fault.UsageFault.{UsageFault}
 use Rattle.acq_program.specs.Arguments.{AsksReplay, DayIs, GivesReports, LimitIs, Reads}
 use Rattle.acq_program.specs.Arguments.{ReplayBehind, ReplayOn}

@@ -8,7 +8,7 @@ use Rattle.acq_program.specs.Arguments.{AsksPending}
 use Rattle.acq_program.specs.Program.{program}
 use Rattle.acq_program.specs.declared.action.Action.TheVariants.{Show}
 use Rattle.acq_commands.specs.declared.input_form.InputForm.{InputForm}
-use Rattle.acq_commands.specs.declared.report_kind.ReportKind.TheVariants as kinds
+use Rattle.acq_faults.specs.declared.report_kind.ReportKind.TheVariants as kinds
 use Rattle.acq_program.proofs.AskedCommands.{named, reads_command}
 use Rattle.acq_program.proofs.arguments.reports_asked_in.Goals as goal
 

@@ -1,6 +1,6 @@
 use Rattle.std.proofs.Common.{subst, sym}
 use Rattle.sqlite.specs.Held.{state}
-use Rattle.acq_sql_changes.specs.Changed.{IsAtOf}
+use Rattle.acq_sql_rows.specs.Standing.{IsAtOf}
 use Rattle.acqd.proofs.open_book.in_order.Goals as goal
 
 pub returns-in-Ok-clause-at : goal.returns-in-Ok-clause-at

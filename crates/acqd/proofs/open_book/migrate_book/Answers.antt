@@ -2,7 +2,7 @@ use Rattle.std.proofs.Common.{subst, sym, arith}
 use Rattle.sqlite.specs.Files.{file_state}
 use Rattle.sqlite.specs.State.{HasCleanDisk}
 use Rattle.acq_sql_rows.specs.Rows.{version_of_six_digits}
-use Rattle.acq_sql_changes.specs.Changed.{HoldsAfterOf}
+use Rattle.acq_sql_rows.specs.Standing.{HoldsAfterOf}
 use Rattle.acqd.proofs.open_book.migrate_book.Goals as goal
 
 pub returns-in-Ok-migrated-clause-done : goal.returns-in-Ok-migrated-clause-done

@@ -2,7 +2,7 @@ use Rattle.std.proofs.Common.{subst, sym, arith, ◌∙◌}
 use Rattle.sqlite.specs.Files.{file_state}
 use Rattle.sqlite.specs.State.{HasCleanDisk}
 use Rattle.acq_sql_rows.specs.Rows.{version}
-use Rattle.acq_sql_changes.specs.Changed.{HoldsAfter}
+use Rattle.acq_sql_rows.specs.Standing.{HoldsAfter}
 use Rattle.acqd.proofs.open_book.open_book.Goals as goal
 
 pub returns-in-Ok-adopt-clause-same : goal.returns-in-Ok-adopt-clause-same

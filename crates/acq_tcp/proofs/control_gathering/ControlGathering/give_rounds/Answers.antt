@@ -3,7 +3,7 @@ use Rattle.std.proofs.lemmas.Result.{err_from_is_err_and}
 use Rattle.std.proofs.lemmas.List.{length-set}
 use Rattle.acq_front.specs.Stops.{left_of}
 use Rattle.acq_front.proofs.StopsLeave.{none_stop}
-use Rattle.acq_commands.proofs.FaultsTold.{tells_later}
+use Rattle.acq_faults.proofs.ToldLater.{tells_later}
 use Rattle.acq_tcp.proofs.Reaching.{reached_on, reaches_none, refused_on}
 use Rattle.acq_tcp.proofs.control_gathering.ControlGathering.give_rounds.Goals as goal
 

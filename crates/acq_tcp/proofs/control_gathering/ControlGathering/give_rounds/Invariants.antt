@@ -1,6 +1,6 @@
 -- each place stays, the host took events, and no call of its store failed
 use Rattle.std.proofs.Common.{◌≡◌, length}
-use Rattle.acq_commands.specs.Listening.{Reaches}
+use Rattle.acq_faults.specs.Reaching.{Reaches}
 use Rattle.acq_front.specs.Stops.{left_of}
 use Rattle.acq_tcp.proofs.control_gathering.ControlGathering.give_rounds.Given as goal
 

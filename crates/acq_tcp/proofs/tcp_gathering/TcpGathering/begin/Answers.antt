@@ -1,6 +1,5 @@
 -- nothing is taken, whether the day is told or not
 use Rattle.std.proofs.Common.{ℕ, false}
-use Rattle.acq_front.specs.Stops.{left_of}
 use Rattle.acq_tcp.proofs.Reaching.{looked_all, looked_refused, tells_looked}
 use Rattle.acq_tcp.proofs.tcp_gathering.TcpGathering.begin.Goals as goal
 

@@ -1,7 +1,7 @@
 use Rattle.std.proofs.Common.{Err, ◌∙◌}
 use Rattle.std.proofs.lemmas.Result.{err_from_is_err_and}
 use Rattle.acq_front.specs.Stops.{left_of}
-use Rattle.acq_commands.proofs.FaultsTold.{tells_later}
+use Rattle.acq_faults.proofs.ToldLater.{tells_later}
 use Rattle.acq_tcp.proofs.Reaching.{reached_on, refused_on}
 use Rattle.acq_tcp.proofs.tcp_gathering.TcpGatheringGathering.serve_all.Goals as goal
 
@@ -34,30 +34,30 @@ returns-in_err-give_rounds g c = record {
       (λ no h o. no h (inv.0 (one.was_honest h) o).1) one.store);
 }
 
-pub returns-in_err-look_at_waiting : goal.returns-in_err-look_at_waiting
-returns-in_err-look_at_waiting g c = record {
+pub returns-in_err-look_at_book : goal.returns-in_err-look_at_book
+returns-in_err-look_at_book g c = record {
   reaches = λ h o.
       let inv = c.loop.invariant in
       let one = c.in_ok-give_rounds.ensures in
-      let two = c.in_err-look_at_waiting.ensures in
+      let two = c.in_err-look_at_book.ensures in
       let was = two.was_honest h in
       let before = inv.0 (one.was_honest was) o in
-      let p = err_from_is_err_and c.from_residual-in_err-look_at_waiting.result
-      c.from_residual-in_err-look_at_waiting.ensures.1 in
+      let p = err_from_is_err_and c.from_residual-in_err-look_at_book.result
+      c.from_residual-in_err-look_at_book.ensures.1 in
       rw (p.1, p.2)
       (refused_on (g.B.Book.tables c.args.host.now) (left_of g.B.Book c.give_rounds.new.host)
-      (left_of g.B.Book c.look_at_waiting.new.host)
-      c.in_err-look_at_waiting.field-0.0
+      (left_of g.B.Book c.look_at_book.new.host)
+      c.in_err-look_at_book.field-0.0
       (reached_on (g.B.Book.tables c.args.host.now) (left_of g.B.Book c.loop.host)
       (left_of g.B.Book c.give_rounds.new.host) before.0 (one.reaches was before.1))
       (two.reaches h (one.stays_open was before.1)));
   store =
       let inv = c.loop.invariant in
       let one = c.in_ok-give_rounds.ensures in
-      let two = c.in_err-look_at_waiting.ensures in
-      let p = err_from_is_err_and c.from_residual-in_err-look_at_waiting.result
-      c.from_residual-in_err-look_at_waiting.ensures.1 in
-      rw (p.1, p.2) (tells_later (Err c.in_err-look_at_waiting.field-0.0) _ _ _
+      let two = c.in_err-look_at_book.ensures in
+      let p = err_from_is_err_and c.from_residual-in_err-look_at_book.result
+      c.from_residual-in_err-look_at_book.ensures.1 in
+      rw (p.1, p.2) (tells_later (Err c.in_err-look_at_book.field-0.0) _ _ _
       (one.store ∙ inv.2)
       (λ no h o.
       let was = two.was_honest h in
@@ -69,7 +69,7 @@ returns-in_err-give_control_rounds g c = record {
   reaches = λ h o.
       let inv = c.loop.invariant in
       let one = c.in_ok-give_rounds.ensures in
-      let two = c.in_ok-look_at_waiting.ensures in
+      let two = c.in_ok-look_at_book.ensures in
       let three = c.in_err-give_control_rounds.ensures in
       let looked = three.was_honest h in
       let was = two.was_honest looked in
@@ -78,11 +78,11 @@ returns-in_err-give_control_rounds g c = record {
       let p = err_from_is_err_and c.from_residual-in_err-give_control_rounds.result
       c.from_residual-in_err-give_control_rounds.ensures.1 in
       rw (p.1, p.2)
-      (refused_on (g.B.Book.tables c.args.host.now) (left_of g.B.Book c.look_at_waiting.new.host)
+      (refused_on (g.B.Book.tables c.args.host.now) (left_of g.B.Book c.look_at_book.new.host)
       (left_of g.B.Book c.give_control_rounds.new.host)
       c.in_err-give_control_rounds.field-0.0
       (reached_on (g.B.Book.tables c.args.host.now) (left_of g.B.Book c.give_rounds.new.host)
-      (left_of g.B.Book c.look_at_waiting.new.host)
+      (left_of g.B.Book c.look_at_book.new.host)
       (reached_on (g.B.Book.tables c.args.host.now) (left_of g.B.Book c.loop.host)
       (left_of g.B.Book c.give_rounds.new.host) before.0 (one.reaches was before.1))
       (two.reaches looked mid))
@@ -90,7 +90,7 @@ returns-in_err-give_control_rounds g c = record {
   store =
       let inv = c.loop.invariant in
       let one = c.in_ok-give_rounds.ensures in
-      let two = c.in_ok-look_at_waiting.ensures in
+      let two = c.in_ok-look_at_book.ensures in
       let three = c.in_err-give_control_rounds.ensures in
       let p = err_from_is_err_and c.from_residual-in_err-give_control_rounds.result
       c.from_residual-in_err-give_control_rounds.ensures.1 in
@@ -107,7 +107,7 @@ pub loop-preserved : goal.loop-preserved
 loop-preserved g c =
     let inv = c.loop.invariant in
     let one = c.in_ok-give_rounds.ensures in
-    let two = c.in_ok-look_at_waiting.ensures in
+    let two = c.in_ok-look_at_book.ensures in
     let three = c.in_ok-give_control_rounds.ensures in (
       (λ h o.
           let looked = three.was_honest h in
@@ -115,11 +115,11 @@ loop-preserved g c =
           let before = inv.0 (one.was_honest was) o in
           let mid = one.stays_open was before.1 in
           let behind = two.stays_open looked mid in (
-            reached_on (g.B.Book.tables c.args.host.now) (left_of g.B.Book c.look_at_waiting.new.host)
+            reached_on (g.B.Book.tables c.args.host.now) (left_of g.B.Book c.look_at_book.new.host)
                 (left_of g.B.Book c.give_control_rounds.new.host)
                 (reached_on (g.B.Book.tables c.args.host.now)
                 (left_of g.B.Book c.give_rounds.new.host)
-                (left_of g.B.Book c.look_at_waiting.new.host)
+                (left_of g.B.Book c.look_at_book.new.host)
                 (reached_on (g.B.Book.tables c.args.host.now) (left_of g.B.Book c.loop.host)
                 (left_of g.B.Book c.give_rounds.new.host) before.0 (one.reaches was before.1))
                 (two.reaches looked mid))

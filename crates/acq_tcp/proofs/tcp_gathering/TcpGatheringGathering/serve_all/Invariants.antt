@@ -1,6 +1,6 @@
 -- the host took events, and no call of its store failed
 use Rattle.std.proofs.Common.{◌≡◌}
-use Rattle.acq_commands.specs.Listening.{Reaches}
+use Rattle.acq_faults.specs.Reaching.{Reaches}
 use Rattle.acq_front.specs.Stops.{left_of}
 use Rattle.acq_tcp.proofs.tcp_gathering.TcpGatheringGathering.serve_all.Given as goal
 

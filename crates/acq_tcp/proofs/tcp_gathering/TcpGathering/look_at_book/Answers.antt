@@ -1,6 +1,6 @@
 -- nothing is taken, whether what waits is told or not
 use Rattle.acq_tcp.proofs.Reaching.{looked_report, tells_report}
-use Rattle.acq_tcp.proofs.tcp_gathering.TcpGathering.look_at_waiting.Goals as goal
+use Rattle.acq_tcp.proofs.tcp_gathering.TcpGathering.look_at_book.Goals as goal
 
 pub returns-in-Err-clause-reaches : goal.returns-in-Err-clause-reaches
 returns-in-Err-clause-reaches g c = λ h o.

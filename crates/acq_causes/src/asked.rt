@@ -1,0 +1,48 @@
+//! What the program was asked for.
+
+/// The words of a command line, the program's own name first.
+#[derive(Clone, Copy)]
+pub struct Asked<'a> {
+    words: &'a [String],
+}
+
+impl<'a> Asked<'a> {
+    /// By these words.
+    pub fn new(words: &'a [String]) -> Asked<'a> {
+        Asked { words }
+    }
+
+    /// The command.
+    pub fn command(self) -> &'a str {
+        match self.words.get(1) {
+            Some(word) => word.as_str(),
+            None => "",
+        }
+    }
+
+    /// The path that `tell` takes, which is no option's value.
+    pub(crate) fn path(self) -> Option<&'a str> {
+        let mut is_value = false;
+        for word in self.words.iter().skip(2) {
+            if !is_value && !word.as_str().starts_with("--") {
+                return Some(word.as_str());
+            }
+            is_value = !is_value && !word.as_str().contains('=');
+        }
+        None
+    }
+
+    /// The value of an option, which stands behind it or behind its `=`.
+    pub fn value(self, option: &str) -> Option<&'a str> {
+        for (place, word) in self.words.iter().enumerate() {
+            if word.as_str() == option {
+                return Some(self.words.get(place.checked_add(1)?)?.as_str());
+            }
+            let behind = word.as_str().strip_prefix(option);
+            if let Some(value) = behind.and_then(|rest| rest.strip_prefix('=')) {
+                return Some(value);
+            }
+        }
+        None
+    }
+}

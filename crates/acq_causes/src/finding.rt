@@ -1,0 +1,87 @@
+//! What a fault is about, by what was asked for and what is found on the machine now.
+
+use crate::advice::{of_connection, of_fault, of_host, of_value};
+use crate::asked::Asked;
+use crate::cause::Cause;
+use crate::explained::is_of_connection;
+use crate::files::{
+    why_no_host, why_no_port, why_no_socket, why_unread, why_unusable, why_unwritten,
+};
+use crate::lack::Lack;
+use crate::signs::Signs;
+use crate::told::Told;
+
+/// What each record of a file of issuers' answers is.
+const RECORDS: &str = "each record is CARD,approved,ID or CARD,declined,CODE or CARD,none,";
+
+/// What a fault is about, if there is more to say than its line does.
+pub(crate) fn cause_of(
+    rt: &HostRuntime,
+    asked: Asked<'_>,
+    signs: &Signs,
+    told: Told<'_>,
+) -> Option<Cause> {
+    match told {
+        Told::BadValue(option) => Some(Cause::about(rt.alloc(), option, of_value(option))),
+        Told::Fault(number, _) if is_of_connection(number, signs) => {
+            Some(Cause::plain(of_connection(number)?))
+        }
+        Told::Fault(53, _) if signs.lack.get().is_some() => {
+            Some(cause_of_lack(rt, asked, signs.lack.get()?))
+        }
+        Told::Fault(number, _) if asked.command() == "tell" => {
+            Some(Cause::plain(of_host(number)?))
+        }
+        Told::Fault(number, _) => match of_fault(number) {
+            Some(words) => Some(Cause::plain(words)),
+            None => cause_in_file(rt, asked, number),
+        },
+    }
+}
+
+/// What a fault is about that has a file: the book's, or that of issuers' answers.
+fn cause_in_file(rt: &HostRuntime, asked: Asked<'_>, number: u64) -> Option<Cause> {
+    let book = asked.value("--db");
+    let (about, words) = match number {
+        2 => (book, why_unusable(rt, book?)),
+        23 => (asked.value("--issuers"), RECORDS),
+        40 if asked.command() == "init" => (book, "something stands there, and stays as it is"),
+        40 => (book, "no book stands there; `acqd init` makes one"),
+        41 => (
+            book,
+            "`acqd migrate --db FILE` makes a book of version 1 one of version 2",
+        ),
+        60 => (
+            book,
+            "`acqd status --db FILE` says which day it is; a cutover ends it",
+        ),
+        61 => (
+            book,
+            "`acqd pending --db FILE` lists them, as lines for `acqd replay`",
+        ),
+        _ => return None,
+    };
+    Some(Cause::of_value(rt.alloc(), about, words))
+}
+
+/// What is in the way of what a command can't have.
+fn cause_of_lack(rt: &HostRuntime, asked: Asked<'_>, lack: Lack) -> Cause {
+    let about = match lack {
+        Lack::Issuers => asked.value("--issuers"),
+        Lack::Log => asked.value("--log"),
+        Lack::Control => asked.value("--control"),
+        Lack::Port(_) => asked.value("--port"),
+        Lack::Host(_) => asked.path(),
+        Lack::SameFile => None,
+    };
+    let path = about.unwrap_or("");
+    let words = match lack {
+        Lack::Issuers => why_unread(rt, path),
+        Lack::Log => why_unwritten(rt, path),
+        Lack::Control => why_no_socket(rt, path),
+        Lack::Port(kind) => why_no_port(kind),
+        Lack::Host(kind) => why_no_host(kind),
+        Lack::SameFile => "two of --db, --log, --control and --issuers are one file",
+    };
+    Cause::of_value(rt.alloc(), about, words)
+}
