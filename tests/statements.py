@@ -1,7 +1,8 @@
 #!/usr/bin/env python3
-"""statements.py [--write]: whether the definitions and statements that docs/BELIEVE.md has a reader
-read are those that were read: `tests/statements` has the checksum of each file, as sha256sum writes
-them. With `--write` the list is written anew, and what changed is said: read these files first."""
+"""statements.py [--write]: whether the definitions and statements that docs/inside/BELIEVE.md has a
+reader read are those that were read: `tests/statements` has the checksum of each file, as sha256sum
+writes them. With `--write` the list is written anew, and what changed is said: read these files
+first."""
 import hashlib
 import os
 import re
@@ -13,8 +14,9 @@ LIST = f"{HERE}/statements"
 
 
 def folders():
-    """The crates that the table of docs/BELIEVE.md names: all that their `specs` say is read."""
-    with open(f"{TOP}/docs/BELIEVE.md", encoding="utf-8") as it:
+    """The crates that the table of docs/inside/BELIEVE.md names: all that their `specs` say is
+    read."""
+    with open(f"{TOP}/docs/inside/BELIEVE.md", encoding="utf-8") as it:
         lines = [line for line in it if re.match(r"\| [0-9]+ \|", line)]
     words = {word for line in lines for word in re.findall("`([a-z_0-9]+)`", line.split("|")[2])}
     named = sorted(it for it in words if os.path.isdir(f"{TOP}/crates/{it}/specs"))

@@ -1,7 +1,7 @@
 #!/usr/bin/env python3
 """logs.py PROGRAM: what stands in the log of a host, over real sockets: of cards their masks alone,
-in each type of reply, and nowhere else anything of them; the clock's time; a line for each thing
-that happened; and behind a restart all that was there."""
+in each type of reply, and nowhere else anything of them; how bad frames begin; the clock's time; a
+line for each thing that happened; and behind a restart all that was there."""
 import datetime
 import stat
 import os
@@ -9,8 +9,8 @@ import sys
 import time
 
 from terminal import (
-    CARD, MODES, MOMENT, Book, Host, Wrong, code_of, elements_of, frame, log_lines, main, merchant,
-    request, sale, spelled, wanted,
+    BAD, CARD, ECHO, MODES, MOMENT, Book, Host, Wrong, code_of, elements_of, frame, log_lines, main,
+    merchant, message, request, sale, spelled, split_frames, wanted,
 )
 
 MASK = "411111******1111"
@@ -128,6 +128,85 @@ def bad_frames(program, mode):
         wanted("cards in the log and the faults", whole_cards(host.log() + str(said)), [])
 
 
+# What others speak, or a terminal that is set up for another profile: what it sends, and what the
+# line of its connection's end has of it.
+TEXT = spelled("0200", {2: CARD, 3: "000000", 11: "000001"})
+TYPE = bytes.fromhex("0200723C448028C08010")
+TPDU = bytes.fromhex("6000030000")
+STRANGERS = [
+    # A record of TLS, whose type and version are taken for a length.
+    ("1603010200010001FC0303", {"fault": "50", "length": "5635", "first": "160301.."}),
+    (b"GET / HTTP/1.1\r\n\r\n", {"fault": "50", "length": "18245", "first": "........"}),
+    (b"POST / HTTP/1.1\r\n\r\n", {"fault": "50", "length": "20559", "first": "..4f...."}),
+    # Packed digits, without and with a TPDU, and without a length.
+    (frame(TYPE), {"fault": "52", "first": "0200..3c"}),
+    (frame(TPDU + TYPE), {"fault": "52", "first": "600003.."}),
+    (TPDU + TYPE, {"fault": "50", "length": "24576", "first": "600003.."}),
+    (frame(TEXT.encode("cp500")), {"fault": "52", "first": "f0f2f0f0"}),
+    # A length in four digits, or none.
+    (b"0087" + TEXT.encode(), {"fault": "50", "length": "12336", "first": "30303837"}),
+    (TEXT.encode(), {"fault": "50", "length": "12338", "first": "30323030"}),
+    # Of a card nothing, in characters or packed. Its digits pass for a type and a bitmap, 0x11.
+    (frame(CARD + TEXT), {"fault": "52", "element": "8", "first": "........"}),
+    (frame(CARD.encode("cp500")), {"fault": "52", "first": "........"}),
+    (frame(bytes.fromhex(CARD) + TYPE), {"fault": "52", "first": "........"}),
+    (CARD.encode(), {"fault": "50", "length": "13361", "first": "........"}),
+    (frame(f"A={CARD}"), {"fault": "52", "first": "..3d...."}),
+    (b"\0\0", {"fault": "50", "length": "0", "first": "0000"}),
+    (b"\0\0" + CARD.encode(), {"fault": "50", "length": "0", "first": "0000"}),
+    (b"\x10\x01ABCD", {"fault": "50", "length": "4097", "first": "........"}),
+    (frame("JKLM"), {"fault": "52", "first": "4a4b4c4d"}),
+    (frame("JKL"), {"fault": "52", "first": "4a4b4c"}),
+    (message("0200", {3: "00000x"}), {"fault": "52", "element": "3", "first": "30323030"}),
+    (frame(TEXT[:-1]), {"fault": "52", "element": "11", "first": "30323030"}),
+    (frame(TEXT + CARD), {"fault": "52", "first": "30323030"}),
+    # The frame that is bad, not those before it or behind it.
+    (ECHO * 40 + frame("JKLM") + ECHO, {"fault": "52", "first": "4a4b4c4d"}),
+    (frame("JKLM") + BAD + frame("NONO"), {"fault": "52", "first": "4a4b4c4d"}),
+    (ECHO + BAD + ECHO, {"fault": "50", "length": "0", "first": "0000"}),
+]
+# The same of an input that ends inside a frame.
+CUT_OFF = [
+    (sale()[:-5], {"fault": "51", "first": "30323030"}),
+    (ECHO * 3 + frame(CARD)[:-5], {"fault": "51", "first": "........"}),
+    (frame("JKLM")[:4], {"fault": "51", "first": "4a4b"}),
+    (frame("JKLM")[:2], {"fault": "51"}),
+    (frame("JKLM")[:1], {"fault": "51"}),
+]
+
+
+def strangers(program, mode):
+    """The line of a connection that ended for a frame has its length, the element at fault and the
+    first bytes, and of these none that may be a digit of a card."""
+    with Book(program) as book, Host(book, *mode, log=True) as host:
+        sent = [(bytes.fromhex(it) if isinstance(it, str) else it, want) for it, want in STRANGERS]
+        for it, _ in sent:
+            with host.terminal(it) as terminal:
+                wanted("whole replies", split_frames(terminal.rest())[1], b"")
+        for it, _ in CUT_OFF:
+            with host.terminal(it) as terminal:
+                wanted("whole replies", split_frames(terminal.finish())[1], b"")
+        # Bytes that come one by one are the same frame.
+        with host.terminal() as terminal:
+            for byte in frame("JKLM"):
+                terminal.send(bytes([byte]))
+                time.sleep(0.01)
+            wanted("a reply", terminal.rest(), b"")
+        host.end()
+        keys = ("fault", "length", "element", "first")
+        lines = [it for it in log_lines(host.log()) if it["event"] == "closed"]
+        said = [{key: it[key] for key in keys if key in it} for it in lines]
+        wants = [*(it[1] for it in sent + CUT_OFF), {"fault": "52", "first": "4a4b4c4d"}]
+        for (line, want), (it, _) in zip(zip(said, wants), [*sent, *CUT_OFF, (b"", {})]):
+            wanted(f"the end of a connection that sent {it[:6].hex()}", line, want)
+        wanted("ends of connections", len(said), len(wants))
+        cards = CARD, CARD.encode().hex(), CARD.encode("cp500").hex()
+        told = host.log() + str(host.faults())
+        for length, text in zip((6, 12, 12), cards):
+            pieces = {text[at : at + length] for at in range(0, len(text) - length + 1)}
+            wanted("digits of a card in the log", [it for it in pieces if it in told], [])
+
+
 def without_what_varies(lines):
     keys = ("event", "day", "connection", "fault", *REPLY_KEYS)
     return [{key: line[key] for key in keys if key in line} for line in lines]
@@ -183,7 +262,8 @@ def times(program, mode):
                 raise Wrong(f"times in a log of {before} to {after}: {said}")
 
 
-TRIES = [(it, mode) for it in (masks, no_masks, bad_frames, a_restart, times) for mode in MODES]
+SCENES = (masks, no_masks, bad_frames, strangers, a_restart, times)
+TRIES = [(it, mode) for it in SCENES for mode in MODES]
 
 if __name__ == "__main__":
     sys.exit(main(TRIES, at_once=4))

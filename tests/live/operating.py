@@ -235,8 +235,12 @@ def the_age_that_grows(program):
 def no_descriptors_for_control(program):
     """A control connection that found no descriptor is tried again, and answered."""
     with Book(program) as book, Host(book, "--together", "8", control=True) as host:
-        host.tell("status")
-        host.allow(host.descriptors())
+        first = host.control()
+        first.ask("status")
+        with_it = host.descriptors()
+        first.end.close()
+        when("a descriptor is given back", lambda: host.descriptors() < with_it)
+        host.allow(with_it - 1)
         late = Control(host.control_path)
         late.end.sendall(b"status\n")
         late.end.settimeout(2)

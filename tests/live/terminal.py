@@ -289,10 +289,26 @@ def cleared_sales(sales):
 # A host, and who talks to it.
 
 
+# The system gives no connection's own end one of these.
+PORTS = range(20000, 32000)
+# The mark of each port that this process was given, as long as it runs.
+marks = []
+
+
 def free_port():
-    with socket.socket() as free:
-        free.bind(("127.0.0.1", 0))
-        return free.getsockname()[1]
+    """A port that nobody listens at, and that no other test is given: of two hosts at one port the
+    second ends, and till then its terminals talk to the first."""
+    while True:
+        port, mark = random.choice(PORTS), socket.socket(socket.AF_UNIX)
+        try:
+            mark.bind(f"\0acqd.test.{port}")
+            with socket.socket() as free:
+                free.bind(("127.0.0.1", port))
+        except OSError:
+            mark.close()
+        else:
+            marks.append(mark)
+            return port
 
 
 class Host:

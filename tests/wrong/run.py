@@ -37,8 +37,23 @@ SCRIPTS = [
     ("control tell_answers", [("text enrol,TOLD", "lines that are told")]),
     ("control a_day 5", [
         ("reply 4", "replies to terminal"),
-        ("text clearing,", "told clearing"),
+        # A day of few terminals may be cleared before its first sale.
+        ("text report,", "told report"),
         ("log card=411111[*]{6}1111", "digits of a card in the log"),
+    ]),
+    ("examples", [
+        ("reply 1", "what the block at line"),
+        ("lost 1", "what the block at line"),
+        ("text clearing", "what the block at line"),
+    ]),
+    ("help", [("text help listen", "the text listen.txt"), ("text show --help", "show --help")]),
+    ("clone help_at_once before_the_proof", [
+        ("text report --help", "acqd report --help"),
+        ("text once", "an echo test"),
+    ]),
+    ("units started_and_stopped a_backup", [
+        ("reply 1", "the reply to a sale"),
+        ("lost 1", "the reply to a sale"),
     ]),
     ("merchants 2", [("text replay", "what a day comes to")]),
     ("migration", [("text replay", "the kiosk"), ("text clearing", "the clearing file")]),
@@ -46,6 +61,23 @@ SCRIPTS = [
     ("foreign version_one", [("text replay", "the day's first lines")]),
     ("file_stops modes_and_links", [("text replay", "a book behind a link: the day")]),
     ("operating a_moved_log a_flood", [("reply 1", "the reply to sale 1"), ("lost 2", "replies")]),
+    ("failing_calls a_cut_reply a_reply_before_more", [
+        ("reply 1", "ten bytes of a reply"),
+        ("text once", "a_reply_before_more: reply 0"),
+    ]),
+    ("failing_calls reads_that_fail", [
+        ("reply 2", "replies of the first day, sent again"),
+        ("lost 4", "replies of the first day, sent again"),
+    ]),
+    ("failing_calls writes_that_fail 5", [
+        ("reply 1", "replies of the first day, sent again"),
+        ("lost 2", "replies of the first day, sent again"),
+    ]),
+    ("clocks moments", [
+        ("text pending", "the moment of a command"),
+        ("text pending,", "the moment of a line"),
+    ]),
+    ("causes connections", [("reply 1", "a reply"), ("lost 1", "a reply")]),
     ("stops 1", [
         ("reply 1", "the reply to sale"),
         ("text clearing", "the sales that are cleared"),
