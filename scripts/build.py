@@ -1,11 +1,12 @@
-"""Proves and builds acqd: crates side by side, lowest first, as many as processors and memory allow.
+"""Proves and builds acqd: crates side by side, lowest first, as many as processors and memory
+allow.
 
-It shows on standard error each crate that is finished, how many are left, and the minutes so far. What
-is finished stays in each crate's folder `out`, so a build that was interrupted goes on where it was.
-`./acqd build` calls it.
+It shows on standard error each crate that is finished, how many are left, and the minutes so far.
+What is finished stays in each crate's folder `out`, so a build that was interrupted goes on where
+it was. `./acqd build` calls it.
 
-The crates are handed to the kit's own command, `rt`, through the module that it is made of, since one
-`rt` in a folder keeps others out of all crates below; with a kit whose module is another one,
+The crates are handed to the kit's own command, `rt`, through the module that it is made of, since
+one `rt` in a folder keeps others out of all crates below; with a kit whose module is another one,
 `rt all check` does the same work, a crate at a time where it must.
 """
 
@@ -51,7 +52,9 @@ class Build:
 
     def __init__(self, module):
         self.crates = {it.name: it for it in module.crates_below(f"{TOP}/crates")}
-        self.below = {name: {it.name for it in crate.below()} for name, crate in self.crates.items()}
+        self.below = {
+            name: {it.name for it in crate.below()} for name, crate in self.crates.items()
+        }
         self.needed = self.below[PROGRAM]
         self.chain = self.chains(module)
         self.done = {it for it in self.needed if self.crates[it].is_built()}
@@ -108,7 +111,8 @@ class Build:
             sys.stderr.writelines(it.readlines()[-20:])
 
     def build_program(self):
-        """Proves and builds the program, has it say its version, and returns whether that went well."""
+        """Proves and builds the program, has it say its version, and returns whether that went
+        well."""
         self.say("at work on the program")
         self.crates[PROGRAM].held = []
         jobs = min(3, self.processors)
@@ -119,12 +123,13 @@ class Build:
         return True
 
     def begin_what_fits(self):
-        """Begins the crates that are ready, those with most above them first. Where processors would
-        stand idle, a crate gets up to three."""
+        """Begins the crates that are ready, those with most above them first. Where processors
+        would stand idle, a crate gets up to three."""
         while True:
             idle = self.processors - sum(self.jobs[it] for it in self.at_work.values())
             left = self.needed - self.done - set(self.at_work.values())
-            ready = sorted((it for it in left if self.below[it] <= self.done), key=lambda it: -self.chain[it])
+            ready = [it for it in left if self.below[it] <= self.done]
+            ready.sort(key=lambda it: -self.chain[it])
             if not ready or idle < 1 or (self.at_work and free_memory() < 2 * MEMORY_OF_A_CHECK):
                 return
             self.prove(ready[0], max(1, min(3, idle - len(ready) + 1)))
@@ -139,7 +144,8 @@ class Build:
         self.done.add(name)
         left = len(self.needed) - len(self.done)
         others = ", ".join(sorted(self.at_work.values()))
-        self.say(f"{name} is proved; {left} crates left" + (f", at work on {others}" if others else ""))
+        now = f", at work on {others}" if others else ""
+        self.say(f"{name} is proved; {left} crates left{now}")
         return True
 
     def run(self):
@@ -171,24 +177,34 @@ def build_by_rt():
     jobs = str(len(os.sched_getaffinity(0)))
     words = [("rt", "all", "check", "--jobs", jobs), ("rt", "run", "--", "--version")]
     folders = [f"{TOP}/crates", f"{TOP}/crates/{PROGRAM}"]
-    return not any(subprocess.run(it, cwd=at, check=False).returncode for it, at in zip(words, folders))
+    runs = (subprocess.run(it, cwd=at, check=False) for it, at in zip(words, folders))
+    return not any(it.returncode for it in runs)
+
+
+def sum_of_sources():
+    """The sum of the sources as they are now, by which ./acqd knows what the program is built
+    of."""
+    words = ["sh", f"{TOP}/scripts/sources"]
+    return subprocess.run(words, stdout=subprocess.PIPE, check=True).stdout
 
 
 def build():
     """Builds the program, and returns the status."""
     began, since = time.time(), time.monotonic()
+    sources = sum_of_sources()
     module = kit()
     if not (build_by(module) if module else build_by_rt()):
         return 1
     folder = f"{TOP}/crates/{PROGRAM}"
     stamp = f"{folder}/out/{PROGRAM}.built"
-    with open(stamp, "w", encoding="ascii"):
-        pass
-    # A source that was changed in the meantime is newer than this.
+    with open(stamp, "wb") as it:
+        it.write(sources)
+    # A source that was changed in the meantime is newer than this, and has another sum.
     os.utime(stamp, (began, began))
     minutes, seconds = divmod(int(time.monotonic() - since), 60)
     print(
-        f"acqd: built in {minutes}:{seconds:02}: {os.path.relpath(folder)}/out/{PROGRAM}, one file that needs the C library alone",
+        f"acqd: built in {minutes}:{seconds:02}: {os.path.relpath(folder)}/out/{PROGRAM},"
+        " one file that needs the C library alone",
         file=sys.stderr,
     )
     return 0
