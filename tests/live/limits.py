@@ -116,24 +116,28 @@ def deaf(host):
     """A terminal that stopped reading, so that the host can't write a reply whole; the host has
     read all that it sent, and has some of its sales still to take."""
     terminal, sent, taken, few = host.terminal(room=2048), 0, 0, 8
-    with open(host.log_path, encoding="latin-1") as log:
+    control = host.control()
+    with control.end, open(host.log_path, encoding="latin-1") as log:
         while taken == sent:
             terminal.send(sales(DEAF, sent + 1, few))
             sent += few
-            while (taken := replies_until(sent, taken, log)) == sent - few:
+            while (taken := replies_until(control, sent, taken, log)) == sent - few:
                 # The reply before these can't be written yet, and so they weren't read.
                 for _ in range(10):
                     terminal.more(0.1)
     return terminal
 
 
-def replies_until(most, count, log):
-    """How many replies to it the log has: so many, or else as many as before for two seconds."""
-    until = time.monotonic() + 2
-    while count < most and time.monotonic() < until:
-        time.sleep(0.005)
-        if more := log.read().count(merchant(DEAF)):
-            count, until = count + more, time.monotonic() + 2
+def replies_until(control, most, count, log):
+    """How many replies to it the log has: so many, or else as many as before while the host
+    answered a hundred lines of a control connection. Between any two it gives each terminal a
+    round, so it waits for this one, however slow the machine is."""
+    answered = 0
+    while count < most and answered < 100:
+        control.ask("status")
+        more = log.read().count(merchant(DEAF))
+        answered = 0 if more else answered + 1
+        count += more
     return count
 
 
