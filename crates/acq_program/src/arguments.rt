@@ -48,7 +48,8 @@ const USUAL_FRAME_WITHIN: u64 = 30;
 /// For how many seconds one may be silent while others wait, where nothing else is asked for.
 const USUAL_IDLE_WHEN_FULL: u64 = 10;
 
-/// How many seconds one may be there once the host was asked to end, where nothing else is asked for.
+/// How many seconds one may be there once the host was asked to end, where nothing else is asked
+/// for.
 const USUAL_STOP_WITHIN: u64 = 10;
 
 /// How many seconds an answer of a host may take, where nothing else is asked for.
@@ -491,7 +492,8 @@ fn idle_when_full_option(options: &ArgMatches) -> Result<u64, UsageFault>
     }
 }
 
-/// How many seconds a connection may be there once the host was asked to end: without the option 10.
+/// How many seconds a connection may be there once the host was asked to end: without the option
+/// 10.
 fn stop_within_option(options: &ArgMatches) -> Result<u64, UsageFault>
     ensures { Reads (StopWithinIs (found_texts (found_of options.now))) result }
 {

@@ -66,8 +66,8 @@ pub trait Machine<B: Book + Drop>: Sized {
         ensures { IfErr result (λ fault. fault ≡ Read) };
 
     /// Listens as it is asked for, as `listen_at` does, for so many connections at once, and at the
-    /// socket for control connections, if one is asked for. A file, or for `-` standard error, takes a
-    /// log for operators, if one is asked for.
+    /// socket for control connections, if one is asked for. A file, or for `-` standard error,
+    /// takes a log for operators, if one is asked for.
     fn gather_at(&self, alloc: Global, asked: &ListenOptions) -> Result<Self::Gathering, Fault>
         ensures { IfErr result IsOfGathering };
 

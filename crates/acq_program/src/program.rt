@@ -107,11 +107,11 @@ With --control PATH, control connections are taken at this Unix socket's file, t
 alone may open. Each line gets its answer: an event line, where `now` may stand for the moment, the
 line that `replay` writes; `end,DAY` cuts over if that is the business day; `clearing,DAY`,
 `report,DAY`, `pending,DAY`, `holds,MERCHANT,MOMENT`, `status` and `metrics` get the line `text N`
-and the N bytes of the text; a bad line or a refused text its fault; `reopen` opens the log anew; and
-`stop` ends the program, once what was answered is written, or after --stop-within. `acqd tell PATH`
-sends such lines. With --log FILE, what operators want to see is put behind what this file holds, in
-lines, up to --log-bytes; one that isn't there is made for its owner alone. With --log - the lines
-go to standard error. A line that would wait, or has no room, is lost and counted.
+and the N bytes of the text; a bad line or a refused text its fault; `reopen` opens the log anew;
+and `stop` ends the program, once what was answered is written, or after --stop-within. `acqd tell
+PATH` sends such lines. With --log FILE, what operators want to see is put behind what this file
+holds, in lines, up to --log-bytes; one that isn't there is made for its owner alone. With --log -
+the lines go to standard error. A line that would wait, or has no room, is lost and counted.
 
 A connection that is silent for the SECONDS of --idle, or takes nothing of a reply for so long, is
 closed as one whose read or write failed. So is one whose frame takes longer than --frame-within,
@@ -280,8 +280,9 @@ const MORE_OF_TELL: &str = "\
 PATH is the socket's file at which `acqd listen --control PATH` takes control connections. Each line
 is sent once the answer to the one before it is whole: an event line, where `now` may stand for the
 moment; `end,DAY`, which cuts over if that is the business day; `clearing,DAY`, `report,DAY`,
-`holds,MERCHANT,MOMENT`, `pending,DAY`, `status` or `metrics`; `reopen`, for the log; or `stop`. An answer's line goes to standard output as it comes, and of a text its bytes alone. A
-fault's line goes to standard error, and the lines behind it are sent all the same.
+`holds,MERCHANT,MOMENT`, `pending,DAY`, `status` or `metrics`; `reopen`, for the log; or `stop`. An
+answer's line goes to standard output as it comes, and of a text its bytes alone. A fault's line
+goes to standard error, and the lines behind it are sent all the same.
 
 The status is 0 where no answer was a fault's line, 1 for a fault, 2 for wrong usage, 3 where memory
 ran out. A fault of its own is one line on standard error, and no further line is sent:

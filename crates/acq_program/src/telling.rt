@@ -12,8 +12,8 @@ use acq_faults::Fault;
 use acq_link::{Sink, Source};
 use std::alloc::Global;
 
-/// Sends the lines of the input to a host, writes what it answers, and returns the status: 1 where an
-/// answer was a fault's line.
+/// Sends the lines of the input to a host, writes what it answers, and returns the status: 1 where
+/// an answer was a fault's line.
 pub(crate) fn tell_host<B: Book + Drop, M: Machine<B> + Drop, S: Source, K: Sink, F: Sink>(
     alloc: Global,
     machine: M,

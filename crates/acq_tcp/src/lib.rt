@@ -19,6 +19,7 @@ mod host_log;
 mod journal;
 mod line_rate;
 mod line_word;
+mod listening;
 mod log_line;
 mod log_target;
 mod log_time;

@@ -6,10 +6,11 @@ ghost use Rattle.acq_faults.specs.Reaching.{ReachesBy};
 ghost use Rattle.acq_front.specs.Stops.{left_of};
 
 use crate::book_files::BookFiles;
-use crate::control_gathering::{CONTROLS, ControlGathering};
+use crate::control_gathering::ControlGathering;
 use crate::ending::Ending;
 use crate::host_log::HostLog;
 use crate::journal::Journal;
+use crate::listening::Listening;
 use crate::log_target::LogTarget;
 use crate::open_connection::OpenConnection;
 use crate::parting::ends_in_bad_frame;
@@ -26,7 +27,7 @@ use mio::{Events, Interest, Poll, Token};
 use std::alloc::Global;
 use std::fs::Files;
 use std::io::ErrorKind;
-use std::net::{Net, SocketAddr, SocketAddrV4};
+use std::net::{Net, SocketAddr};
 use std::time::{Duration, Instant};
 use std::{io, time};
 
@@ -70,35 +71,40 @@ impl<'a, T: time::Clock + Files, W: LogTarget + Drop> TcpGathering<'a, T, W> {
     ) -> Result<TcpGathering<'a, T, W>, Fault>
         ensures { IfErr result IsOfGathering }
     {
-        let together = asked.together;
-        let mut places = Vec::with_capacity(alloc, together)?;
-        for _ in 0..together {
-            if places.push(None).is_err() {
-                return Err(Fault::Memory);
-            }
+        match Listening::begin(net, time, alloc, asked, control) {
+            Ok(listening) => Ok(TcpGathering::new(
+                listening,
+                time,
+                TimeLimits::new(asked.patience),
+                Journal::new(alloc, time, log),
+            )),
+            Err(fault) => Err(fault),
         }
-        let events = Events::with_capacity(alloc, together.saturating_add(CONTROLS))?;
-        let Ok((listener, poll)) = listener_at(net, asked.endpoint, Token(together)) else {
-            return Err(Fault::Read);
-        };
-        let control = control_at(alloc, control, &poll, together)?;
-        let book_files = BookFiles::at(time, alloc, asked.path.as_str())?;
-        Ok(TcpGathering {
-            listener,
-            poll,
-            events,
+    }
+
+    /// Nothing has come yet.
+    fn new(
+        listening: Listening<'a, T>,
+        time: &'a T,
+        limits: TimeLimits,
+        journal: Journal<'a, T, W>,
+    ) -> TcpGathering<'a, T, W> {
+        TcpGathering {
+            listener: listening.listener,
+            poll: listening.poll,
+            events: listening.events,
             time,
-            limits: TimeLimits::new(asked.patience),
-            places,
+            limits,
+            places: listening.places,
             may_come: true,
             refused: None,
             waiting: None,
-            control,
+            control: listening.control,
             stopping: None,
-            book_files,
+            book_files: listening.book_files,
             has_looked: false,
-            journal: Journal::new(alloc, time, log),
-        })
+            journal,
+        }
     }
 
     /// The clock that it was given.
@@ -635,39 +641,4 @@ impl<T: time::Clock + Files, W: LogTarget + Drop> Gathering for TcpGathering<'_,
         }
         Ok(())
     }
-}
-
-/// Control connections to a listener, if there is one, which waits under the token behind that of
-/// the listener for terminals.
-fn control_at(
-    alloc: Global,
-    listener: Option<UnixListener>,
-    poll: &Poll,
-    together: usize,
-) -> Result<Option<ControlGathering>, Fault>
-    ensures { IfErr result IsOfGathering }
-{
-    let Some(listener) = listener else {
-        return Ok(None);
-    };
-    let (Some(token), Some(first)) = (together.checked_add(1), together.checked_add(2)) else {
-        return Err(Fault::Memory);
-    };
-    match ControlGathering::new(alloc, listener, poll.registry(), Token(token), first) {
-        Ok(control) => Ok(Some(control)),
-        Err(fault) => Err(fault),
-    }
-}
-
-/// A listener at an address and a port of this machine, and what waits for it under this token.
-fn listener_at<N: Net>(
-    net: &N,
-    endpoint: SocketAddrV4,
-    token: Token,
-) -> io::Result<(TcpListener, Poll)> {
-    let mut listener = TcpListener::bind(net, SocketAddr::V4(endpoint))?;
-    let poll = Poll::new(net)?;
-    poll.registry()
-        .register(&mut listener, token, Interest::READABLE)?;
-    Ok((listener, poll))
 }

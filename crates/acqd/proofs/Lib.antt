@@ -1,1 +1,2 @@
+pub mod FoundIn
 pub mod RunsLeft

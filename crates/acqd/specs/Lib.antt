@@ -1,2 +1,3 @@
 pub mod BookFiles
+pub mod Found
 pub mod StoppedRuns

@@ -1,6 +1,6 @@
 //! Why files weren't opened as a book.
 
-ghost use Rattle.std.specs.Prelude.{◌≡◌, None, Some};
+ghost use Rattle.std.specs.Prelude.{◌≡◌, Some};
 
 use acq_sql::Refusal;
 use acq_sql_opening::OpeningFault;
@@ -14,17 +14,6 @@ pub struct NoBook<S: Alter> {
 }
 
 impl<S: Alter> NoBook<S> {
-    /// The files weren't opened.
-    pub fn unopened(fault: OpeningFault) -> NoBook<S>
-        ensures fault { result.fault ≡ fault }
-        ensures connection { result.connection ≡ None }
-    {
-        NoBook {
-            fault,
-            connection: None,
-        }
-    }
-
     /// What they hold was refused.
     pub fn refused(refusal: Refusal<S>) -> NoBook<S>
         ensures fault { result.fault ≡ refusal.fault }
@@ -34,14 +23,5 @@ impl<S: Alter> NoBook<S> {
             fault: refusal.fault,
             connection: Some(refusal.connection),
         }
-    }
-}
-
-impl<S: Alter + Drop> NoBook<S> {
-    /// The fault; the connection is closed.
-    pub fn into_fault(self) -> OpeningFault
-        ensures { result ≡ self.fault }
-    {
-        self.fault
     }
 }

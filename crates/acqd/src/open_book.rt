@@ -5,20 +5,20 @@ ghost use Rattle.sqlite_wal.specs.Files.{image_at};
 ghost use Rattle.sqlite.specs.Files.{IsOpened, file_state};
 ghost use Rattle.sqlite.specs.Held.{state};
 ghost use Rattle.sqlite.specs.Start.{FindsIn};
-ghost use Rattle.sqlite.specs.State.{HasCleanDisk, Survives};
+ghost use Rattle.sqlite.specs.State.{HasCleanDisk};
 ghost use Rattle.card_no.specs.Prefix.{six_digits};
 ghost use Rattle.acq_core.specs.Pasts.{HasPast, HasPastUnder};
 ghost use Rattle.acq_core.specs.Tables.{Tables, new_tables};
 ghost use Rattle.acq_core.specs.Widening.{widened_tables};
-ghost use Rattle.acq_sql_rows.specs.Rows.{version_of_six_digits};
+ghost use Rattle.acq_sql_rows.specs.Rows.{version, version_of_six_digits};
 ghost use Rattle.acq_sql_rows.specs.Schema.{no_schema};
-ghost use Rattle.acq_sql_rows.specs.Standing.{HoldsAfter, IsAtOf};
+ghost use Rattle.acq_sql_rows.specs.Standing.{IsAtOf};
 ghost use Rattle.acq_sql_opening.specs.Checked.{IsFailure};
 ghost use Rattle.acq_sql_opening.specs.Files.{FilesHold, FilesHoldOf};
 ghost use Rattle.acq_sql.specs.Memos.{nothing_recalled};
-ghost use Rattle.acq_sql_opening.specs.Migrated.{IsOfSixDigits};
 ghost use Rattle.acq_sql.specs.Opened.{IsOpenAt, IsRoomy};
 ghost use Rattle.acq_sql_opening.specs.declared.opening_fault.OpeningFault.TheVariants.{NotABook};
+ghost use Rattle.acqd.specs.Found.{IsFound};
 
 use crate::no_book::NoBook;
 use acq_core::Limit;
@@ -50,18 +50,12 @@ pub fn open_book<D: Start>(
         HasCleanDisk (file_state connection)) → (t : Tables) → FilesHold (image_at D.Start) t
         → IsFailure none.fault) }
 {
-    let connection = match connect(rt, path, start) {
-        Ok(connection) => connection,
-        Err(fault) => return Err(NoBook::unopened(fault)),
-    };
-    an_open_finds_the_book(&connection);
-    let ordered = match in_order(rt.alloc(), connection) {
-        Ok(ordered) => ordered,
-        Err(refusal) => return Err(NoBook::refused(refusal)),
-    };
-    match SqlBook::adopt(rt.alloc(), ordered) {
-        Ok(book) => Ok(book),
-        Err(refusal) => Err(NoBook::refused(refusal)),
+    match connect(rt, path, start) {
+        Ok(connection) => opened(rt.alloc(), connection),
+        Err(fault) => Err(NoBook {
+            fault,
+            connection: None,
+        }),
     }
 }
 
@@ -101,14 +95,8 @@ pub fn migrate_book<D: Start>(
         → IsOpenAt (file_state book.connection) (widened_tables t)) }
     ensures recalls { IfOk result (λ book. book.memo ≡ nothing_recalled) }
 {
-    let connection = connect(rt, path, start)?;
-    an_open_finds_a_book_of_any_version(&connection);
-    let ordered = match in_order(rt.alloc(), connection) {
-        Ok(ordered) => ordered,
-        Err(refusal) => return Err(refusal.fault),
-    };
-    match migrated(rt.alloc(), ordered) {
-        Ok(book) => Ok(book),
+    match connect(rt, path, start) {
+        Ok(connection) => migrated(rt.alloc(), connection),
         Err(fault) => Err(fault),
     }
 }
@@ -139,6 +127,54 @@ fn created<S: Alter + Drop>(
     }
 }
 
+/// The book that a database holds, put in order if its tables stand in another one.
+fn opened<S: Alter>(alloc: Global, connection: Connection<S>) -> Result<SqlBook<S>, NoBook<S>>
+    requires settled { connection.in_transaction ≡ false }
+    ensures same { IfOk result (λ book. HasCleanDisk (state S.Store book.connection)
+        → (t : Tables) → IsFound version (state S.Store connection) t → HasPast t
+        → IsOpenAt (state S.Store book.connection) t) }
+    ensures limit { IfOk result (λ book. (state S.Store book.connection).step_limit
+        ≡ (state S.Store connection).step_limit) }
+    ensures recalls { IfOk result (λ book. book.memo ≡ nothing_recalled) }
+    ensures accepts { IfErr result (λ none.
+        IfSome none.connection (λ left. HasCleanDisk (state S.Store left)) → (t : Tables)
+        → IsFound version (state S.Store connection) t → IsFailure none.fault) }
+{
+    an_open_finds_the_book(&connection);
+    let ordered = match in_order(alloc, connection) {
+        Ok(ordered) => ordered,
+        Err(refusal) => return Err(NoBook::refused(refusal)),
+    };
+    match SqlBook::adopt(alloc, ordered) {
+        Ok(book) => Ok(book),
+        Err(refusal) => Err(NoBook::refused(refusal)),
+    }
+}
+
+/// The book of version 1 that a database holds, put in order and migrated. One that is refused is
+/// closed.
+fn migrated<S: Alter + Drop>(
+    alloc: Global,
+    connection: Connection<S>,
+) -> Result<SqlBook<S>, OpeningFault>
+    requires settled { connection.in_transaction ≡ false }
+    ensures done { IfOk result (λ book. HasCleanDisk (state S.Store book.connection)
+        → (t : Tables) → IsFound version_of_six_digits (state S.Store connection) t
+        → HasPastUnder six_digits t
+        → IsOpenAt (state S.Store book.connection) (widened_tables t)) }
+    ensures recalls { IfOk result (λ book. book.memo ≡ nothing_recalled) }
+{
+    an_open_finds_a_book_of_any_version(&connection);
+    let ordered = match in_order(alloc, connection) {
+        Ok(ordered) => ordered,
+        Err(refusal) => return Err(refusal.fault),
+    };
+    match SqlBook::migrate(alloc, ordered) {
+        Ok(book) => Ok(book),
+        Err(refusal) => Err(refusal.fault),
+    }
+}
+
 /// A database whose tables are put in order, if they are a book's and stand in another one.
 fn in_order<S: Alter>(
     alloc: Global,
@@ -159,27 +195,6 @@ fn in_order<S: Alter>(
     match put_in_order(&mut connection, alloc) {
         Ok(()) => Ok(connection),
         Err(fault) => Err(Refusal { fault, connection }),
-    }
-}
-
-/// The book of version 1 that a database holds, migrated. One that is refused is closed.
-fn migrated<S: Alter + Drop>(
-    alloc: Global,
-    connection: Connection<S>,
-) -> Result<SqlBook<S>, OpeningFault>
-    requires settled { connection.in_transaction ≡ false }
-    ensures done { IfOk result (λ book. HasCleanDisk (state S.Store book.connection)
-        → (t : Tables) → IsOfSixDigits (state S.Store connection) t
-        → IsOpenAt (state S.Store book.connection) (widened_tables t)) }
-    ensures recalls { IfOk result (λ book. book.memo ≡ nothing_recalled) }
-    ensures stop { IfOk result (λ book.
-        Survives (state S.Store connection) (state S.Store book.connection)
-        (λ trees. (t : Tables) → IsOfSixDigits (state S.Store connection) t
-        → HoldsAfter (widened_tables t) trees)) }
-{
-    match SqlBook::migrate(alloc, connection) {
-        Ok(book) => Ok(book),
-        Err(refusal) => Err(refusal.fault),
     }
 }
 

@@ -10,7 +10,14 @@ ghost use Rattle.sqlite.specs.State.{HasCleanDisk};
 ghost use Rattle.acq_core.specs.Pasts.{HasPast};
 ghost use Rattle.acq_core.specs.Tables.{Tables};
 ghost use Rattle.acq_sql_opening.specs.Files.{FilesHold};
-ghost use Rattle.acq_sql.specs.Opened.{IsOpenAt, is_open, tables};
+ghost use Rattle.acq_sql.specs.Opened.{
+  IsOpenAt,
+  is_honest,
+  is_open,
+  leaves_books,
+  may_leave,
+  tables,
+};
 ghost use Rattle.acqd.specs.StoppedRuns.{IsLeftBy, IsNoRefusal};
 
 use crate::no_book::NoBook;
@@ -18,6 +25,7 @@ use crate::open_book::open_book;
 use acq_core::{Event, Output};
 use acq_host::{Host, RunFault};
 use acq_sql::{SqlBook, a_stop_leaves_a_book};
+use sqlite::Alter;
 use sqlite_disk::{Disk, Start};
 use sqlite_std_file::FileFrom;
 use sqlite_store::FileStore;
@@ -26,7 +34,7 @@ use sqlite_store::FileStore;
 /// files that are left then hold a book, at the tables after all these events, or after a fault
 /// those before it, perhaps with the one at which it came.
 pub fn stopped_run<D: Disk + Drop>(
-    mut host: Host<SqlBook<FileStore<D>>>,
+    host: Host<SqlBook<FileStore<D>>>,
     events: &[Event],
 ) -> (FileStore<D>, Result<Vec<Output>, RunFault>)
     ensures { IsClean (files.view result.0) → is_open over_files host → (left : Image)
@@ -34,8 +42,24 @@ pub fn stopped_run<D: Disk + Drop>(
         → ∥ ((t : Tables) × IsLeftBy (tables over_files host) events.now result.1 t × HasPast t
         × FilesHold left t) ∥₁ }
 {
+    let (book, ran) = given_up(host, events);
+    (a_stop_leaves_a_book(book), ran)
+}
+
+/// Takes events over a book, and gives it up as it then is. It is said of any store: a proof over
+/// that of this machine alone takes minutes.
+fn given_up<S: Alter + Drop>(
+    mut host: Host<SqlBook<S>>,
+    events: &[Event],
+) -> (SqlBook<S>, Result<Vec<Output>, RunFault>)
+    ensures books { is_honest S.Store result.0 → is_open S.Store host
+        → leaves_books S.Store result.0 }
+    ensures left { is_honest S.Store result.0 → is_open S.Store host
+        → (t : Tables) → may_leave S.Store result.0 t
+        → IsLeftBy (tables S.Store host) events.now result.1 t × HasPast t }
+{
     let ran = host.run(events);
-    (a_stop_leaves_a_book(host.into_book()), ran)
+    (host.into_book(), ran)
 }
 
 /// Takes events over a book in files, gives it up as a stop does, and opens the files at a path,
