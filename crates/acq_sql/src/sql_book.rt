@@ -3,7 +3,7 @@
 ghost use Rattle.std.specs.Prelude.{◌≡◌, ◌≢◌, ◌↔◌, Err, IfErr, IfOk, IsTrue, Ok, false, true};
 ghost use Rattle.std.specs.Prelude.{None, option_map};
 ghost use Rattle.sqlite.specs.Held.{state};
-ghost use Rattle.sqlite.specs.State.{HasCleanDisk, Survives};
+ghost use Rattle.sqlite.specs.State.{HasCleanDisk, Survives, store_error};
 ghost use Rattle.row_lemmas.specs.Ready.{LeavesOnly};
 ghost use Rattle.acq_core.specs.Pasts.{HasPast};
 ghost use Rattle.acq_core.specs.Tables.{Tables, new_tables};
@@ -34,7 +34,9 @@ use acq_sql_rows::tables::VERSION;
 use acq_widening::laws::pasts_are_widened;
 use card_no::{Prefix, Range};
 use day_totals::{Day, Totals};
-use sqlite::{Alter, Connection};
+use sqlite::{Alter, Connection, Error};
+use sqlite_disk::Disk;
+use sqlite_store::FileStore;
 use std::alloc::Global;
 use std::marker::Model;
 
@@ -214,7 +216,7 @@ impl<S: Alter> SqlBook<S> {
     }
 
     /// The connection.
-    pub fn release(self) -> Connection<S>
+    pub(crate) fn release(self) -> Connection<S>
         ensures connection { result ≡ self.connection }
         ensures settled { result.in_transaction ≡ false }
     {
@@ -228,6 +230,15 @@ impl<S: Alter> SqlBook<S> {
             ≡ (state S.Store self.now.connection).committed }
     {
         self.connection.is_autocommit();
+    }
+}
+
+impl<D: Disk + Drop> SqlBook<FileStore<D>> {
+    /// Copies what the log holds into the database file, and closes both.
+    pub fn close(self) -> Result<(), Error>
+        ensures { IfErr result (λ error. (cause : _) × (error ≡ store_error cause)) }
+    {
+        self.connection.close()
     }
 }
 

@@ -96,7 +96,7 @@ impl<'a, D: Start> Machine<SqlBook<FileStore<FileFrom<D>>>> for ThisMachine<'a, 
     fn close_book(book: SqlBook<FileStore<FileFrom<D>>>) -> Result<(), Fault>
         ensures { IfErr result IsClosing }
     {
-        match book.release().close() {
+        match book.close() {
             Ok(()) => Ok(()),
             Err(error) => Err(fault_of_closing(&error)),
         }
@@ -239,7 +239,7 @@ fn made_in<D: Start>(
     first_day: Day,
 ) -> Result<(), OpeningFault> {
     let book = make_book(rt, file.beside(), start, limit, first_day)?;
-    book.release().close()?;
+    book.close()?;
     file.put(rt)
 }
 
