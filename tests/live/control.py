@@ -26,8 +26,8 @@ import threading
 from collections import Counter
 
 from terminal import (
-    APPROVING, DAY, MOMENT, Book, Host, free_port, log_lines, main, merchant,
-    output, run, sale, size, split_frames, wanted,
+    APPROVING, DAY, MOMENT, PATIENCE, Book, Host, free_port, log_lines, main, merchant, output,
+    run, sale, size, split_frames, wanted,
 )
 
 TERMINALS = size(64)
@@ -173,7 +173,7 @@ def log_to_standard_error(program):
             wanted("answers beside a log that nobody reads", said,
                    wants + Counter(["acqd: 37 NoSuchMerchant"]))
             asked.ask("stop")
-            lines = host.process.communicate(timeout=60)[1].decode().splitlines()
+            lines = host.process.communicate(timeout=PATIENCE)[1].decode().splitlines()
             wanted("lines of the log on standard error", 100 < len(lines) < count, True)
             wanted("the first of them", " event=listening " in lines[0], True)
             wanted("other lines", [it for it in lines if not it.startswith("time=20")], [])

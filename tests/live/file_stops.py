@@ -18,7 +18,7 @@ import tempfile
 
 from foreign import Books, as_earlier
 from migration import HERE, TOP, acqd
-from terminal import main, wanted
+from terminal import PATIENCE, main, wanted
 
 DAY = ["--day", "2024-05-01"]
 NOT_A_BOOK = (1, "", "acqd: 40 NotABook\n")
@@ -56,7 +56,7 @@ def stopped(words, library, call, is_half):
     """Whether a command was stopped at this call, in the middle of what it writes or before."""
     settings = {"LD_PRELOAD": library, "STOP_AT": str(call), "STOP_HALF": str(int(is_half))}
     settings = {**os.environ, **settings}
-    ran = subprocess.run(words, env=settings, capture_output=True, timeout=60, check=False)
+    ran = subprocess.run(words, env=settings, capture_output=True, timeout=PATIENCE, check=False)
     if ran.returncode == 0:
         return False
     wanted(f"{words[1]} stopped at call {call}", ran.returncode, -9)

@@ -29,7 +29,7 @@ HEADING = "day,merchant,number,leg,amount,reference,card,terminal,trace\n"
 MODES = ([], ["--together", "8"])
 # How many seconds anything may take on a machine that has much else to do; less if it's known not
 # to come.
-PATIENCE = int(os.environ.get("LIVE_PATIENCE", "60"))
+PATIENCE = int(os.environ.get("LIVE_PATIENCE", "120"))
 READ, ENDED = "acqd: 53 Read", "acqd: 51 Ended"
 
 

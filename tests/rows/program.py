@@ -12,7 +12,7 @@ from preloaded import Preloaded
 # What the program is called by.
 NAME = "acqd"
 # After so many seconds a run has hung, if no more is said of it.
-LONGEST = 60
+LONGEST = 300
 # Where an output that takes so many bytes alone has its end: no file that the program writes is as
 # long, so the limit on what a process may write meets its output alone.
 END = 1 << 30
