@@ -38,7 +38,7 @@ use Rattle.acq_sql.specs.Applied.{HasShortEnd}
 use Rattle.acq_sql.specs.Faults.{book_fault_of}
 use Rattle.acq_sql.specs.Kept.{Kept}
 use Rattle.acq_sql.specs.Opened.{IsOpenAt, tables, is_honest, is_open, has_room, store_faults}
-use Rattle.acq_sql_opening.proofs.Blaming.{risen_by}
+use Rattle.acq_sql_checking.proofs.Blaming.{risen_by}
 use Rattle.acq_sql.proofs.BookLooks.{looked}
 use Rattle.acq_sql.proofs.PastRows.{past_ends, past_takes}
 

@@ -22,7 +22,7 @@ use Rattle.acq_sql_rows.specs.Standing.{IsAt}
 use Rattle.acq_sql_changes.specs.Refused.{HasNumbersLeft}
 use Rattle.acq_sql_reads.specs.Looked.{LooksOnly}
 use Rattle.acq_sql_reads.proofs.Leaves.{at_unchanged, kept}
-use Rattle.acq_sql_opening.proofs.Blaming.{risen_by}
+use Rattle.acq_sql_checking.proofs.Blaming.{risen_by}
 use Rattle.acq_sql.specs.Kept.{Kept}
 use Rattle.acq_sql.specs.Memos.{Recalls}
 use Rattle.acq_sql.specs.Opened.{tables, is_honest, is_open, may_leave}

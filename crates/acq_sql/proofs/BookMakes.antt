@@ -20,7 +20,7 @@ use Rattle.acq_sql.specs.Memos.{Recalls, nothing_recalled}
 use Rattle.acq_sql.specs.Opened.{tables, is_honest, is_open, may_leave}
 use Rattle.acq_sql.specs.Opened.{leaves_books, store_faults}
 use Rattle.acq_sql.specs.Laws.{LeavesCommit, settled_at, stored_at, stores_what_it_reads}
-use Rattle.acq_sql_opening.proofs.Blaming.{risen_by}
+use Rattle.acq_sql_checking.proofs.Blaming.{risen_by}
 
 module _ {S T : Type 0} (g : Ghosts S) (law : LeavesCommit g) (old new : Kept S) (change : Change)
     (result : Result T Error)

@@ -1,6 +1,6 @@
 //! Why a database was not taken for a book, and its connection.
 
-use acq_sql_opening::OpeningFault;
+use acq_sql_checking::OpeningFault;
 use sqlite::{Alter, Connection};
 
 /// Why a database was not taken for a book. The connection is handed back.

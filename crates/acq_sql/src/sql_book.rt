@@ -12,10 +12,10 @@ ghost use Rattle.acq_sql_rows.specs.Rows.{version, version_of_six_digits};
 ghost use Rattle.acq_sql_rows.specs.Schema.{no_schema};
 ghost use Rattle.acq_sql_rows.specs.Standing.{HoldsAfter, IsAt, IsAtOf};
 ghost use Rattle.acq_sql_reads.specs.Looked.{LooksOnly};
-ghost use Rattle.acq_sql_opening.specs.Blames.{OpeningBlamesStore};
-ghost use Rattle.acq_sql_opening.specs.Checked.{HasBadVersion, IsFailure, Judges};
-ghost use Rattle.acq_sql_opening.specs.declared.opening_fault.OpeningFault.TheVariants.{NotABook};
-ghost use Rattle.acq_sql_opening.specs.Made.{LeavesDatabase};
+ghost use Rattle.acq_sql_checking.specs.Blames.{OpeningBlamesStore};
+ghost use Rattle.acq_sql_checking.specs.Checked.{HasBadVersion, IsFailure, Judges};
+ghost use Rattle.acq_sql_checking.specs.declared.opening_fault.OpeningFault.TheVariants.{NotABook};
+ghost use Rattle.acq_sql_checking.specs.Made.{LeavesDatabase};
 ghost use Rattle.acq_sql.specs.Memos.{nothing_recalled};
 ghost use Rattle.acq_sql_opening.specs.Migrated.{IsAsItSays, IsOfSixDigits};
 ghost use Rattle.acq_sql.specs.Opened.{IsOpenAt, IsRoomy};
@@ -29,7 +29,8 @@ use acq_core::{
     Request, RequestKey, TerminalId, UsedCount,
 };
 use acq_soundness::every_opening;
-use acq_sql_opening::{check_book, make_book, migrate_book};
+use acq_sql_checking::check_book;
+use acq_sql_opening::{make_book, migrate_book};
 use acq_sql_rows::tables::VERSION;
 use acq_widening::laws::pasts_are_widened;
 use card_no::{Prefix, Range};

@@ -1,12 +1,3 @@
-pub mod TablesMade
 pub mod NewBook
 pub mod OpenedBooks
-pub mod AllPlain
-pub mod Versions
-pub mod PlainBook
-pub mod GoingOn
-pub mod Failures
-pub mod CreatesSucceed
-pub mod Reaching
-pub mod Blaming
 pub mod LooksFirst

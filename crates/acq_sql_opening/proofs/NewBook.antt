@@ -8,7 +8,7 @@ use Rattle.acq_core.specs.Tables.{Opening, new_tables}
 use Rattle.acq_sql_rows.specs.Relation.{Holds, HoldsRows}
 use Rattle.acq_sql_changes.specs.Refused.{HasNumberLeft, HasNumbersLeft}
 use Rattle.acq_sql_changes.proofs.Commits.{at_commit}
-use Rattle.acq_sql_opening.specs.Made.{IsNewBook}
+use Rattle.acq_sql_checking.specs.Made.{IsNewBook}
 
 -- nothing was counted or posted
 pub new_holds : (db : Database) (opening : Opening) → HoldsRows db (new_tables opening) []

@@ -6,7 +6,7 @@ use Rattle.acq_core.specs.Pasts.{HasPastUnder}
 use Rattle.acq_core.specs.Tables.{Tables}
 use Rattle.acq_sql_rows.specs.Rows.{version_of_six_digits}
 use Rattle.acq_sql_rows.specs.Standing.{IsAtOf}
-use Rattle.acq_sql_opening.specs.Checked.{HasBadVersion, Judges}
+use Rattle.acq_sql_checking.specs.Checked.{HasBadVersion, Judges}
 
 -- the connection is at these tables in a book of that version, and events by six digits led to them
 pub record IsOfSixDigits (s : State) (t : Tables) : Type 0 where

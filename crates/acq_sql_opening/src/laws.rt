@@ -5,7 +5,7 @@ ghost use Rattle.sqlite.specs.Held.{state};
 ghost use Rattle.sqlite.specs.State.{Opens, IsLive};
 ghost use Rattle.acq_core.specs.Tables.{Tables};
 ghost use Rattle.acq_sql_rows.specs.Standing.{IsAt, IsAtOf, HoldsAfter, HoldsAfterOf};
-ghost use Rattle.acq_sql_opening.specs.Checked.{HasBadVersion};
+ghost use Rattle.acq_sql_checking.specs.Checked.{HasBadVersion};
 ghost use Rattle.acq_sql_opening.specs.Migrated.{IsAsItSays, IsOfSixDigits};
 
 use sqlite::{Alter, Connection};

@@ -1,22 +1,16 @@
-//! A book in SQL is made, or the one that a database holds is checked, put in order or migrated.
+//! A book in SQL is made, or the one that a database holds is put in order or migrated.
 //!
 //! A book is made whole in one transaction, so a stop leaves none of it or all of it
-//! (`specs/Made.antt`); and it is migrated in one, so a stop leaves all of the one of the earlier
-//! version or all of the new one (`specs/Migrated.antt`).
+//! (`acq_sql_checking/specs/Made.antt`); and it is migrated in one, so a stop leaves all of the one
+//! of the earlier version or all of the new one (`specs/Migrated.antt`).
 #![tactic(auto)]
 
-mod alike;
-mod checking;
 mod laws;
 mod making;
 mod migrating;
-mod opening_fault;
 mod ordering;
-mod tables;
 
-pub use checking::check_book;
 pub use laws::{a_book_is_as_it_says, an_open_finds_a_book_of_any_version, an_open_finds_the_book};
 pub use making::make_book;
 pub use migrating::migrate_book;
-pub use opening_fault::OpeningFault;
 pub use ordering::put_in_order;

@@ -11,14 +11,13 @@ ghost use Rattle.acq_sql_changes.specs.Written.{StaysInside, KeepsCommitted, Com
 ghost use Rattle.acq_sql_rows.specs.Standing.{IsAt, HoldsAfter};
 ghost use Rattle.acq_sql_changes.specs.Refused.{HasNumbersLeft};
 ghost use Rattle.acq_sql_changes.specs.Widened.{IsNeverRefused};
-ghost use Rattle.acq_sql_opening.specs.Blames.{OpeningBlamesStore, FailsExcusably};
-ghost use Rattle.acq_sql_opening.specs.Made.{IsNewBook, LeavesDatabase};
-ghost use Rattle.acq_sql_opening.specs.declared.opening_fault.OpeningFault.TheVariants.{NotABook};
+ghost use Rattle.acq_sql_checking.specs.Blames.{OpeningBlamesStore, FailsExcusably};
+ghost use Rattle.acq_sql_checking.specs.Made.{IsNewBook, LeavesDatabase};
+ghost use Rattle.acq_sql_checking.specs.declared.opening_fault.OpeningFault.TheVariants.{NotABook};
 
-use crate::opening_fault::OpeningFault;
-use crate::tables::{create_enrolments, create_records};
 use acq_core::Limit;
 use acq_sql_changes::writes::add_book;
+use acq_sql_checking::{OpeningFault, create_enrolments, create_records};
 use day_totals::Day;
 use sqlite::{Alter, Connection, Error, Transaction};
 use sqlite_schema::schema::Schema;

@@ -8,13 +8,12 @@ ghost use Rattle.acq_core.specs.Widening.{widened_tables};
 ghost use Rattle.acq_sql_rows.specs.Rows.{version_of_six_digits};
 ghost use Rattle.acq_sql_rows.specs.Standing.{IsAt, IsAtOf, HoldsAfter};
 ghost use Rattle.acq_sql_reads.specs.Looked.{LooksOnly};
-ghost use Rattle.acq_sql_opening.specs.Blames.{OpeningBlamesStore};
-ghost use Rattle.acq_sql_opening.specs.Checked.{Judges, IsFailure};
+ghost use Rattle.acq_sql_checking.specs.Blames.{OpeningBlamesStore};
+ghost use Rattle.acq_sql_checking.specs.Checked.{Judges, IsFailure};
 ghost use Rattle.acq_sql_opening.specs.Migrated.{IsAsItSays, IsOfSixDigits};
 
-use crate::checking::check_book;
-use crate::opening_fault::OpeningFault;
 use acq_sql_changes::widen_book;
+use acq_sql_checking::{OpeningFault, check_book};
 use acq_sql_rows::tables::VERSION_OF_SIX_DIGITS;
 use acq_widening::laws::ranges_fit_their_profile;
 use sqlite::{Alter, Connection};

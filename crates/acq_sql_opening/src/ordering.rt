@@ -5,12 +5,10 @@ ghost use Rattle.std.specs.Prelude.{◌≡◌, false, IfErr, IfOk, None};
 ghost use Rattle.sqlite.specs.Held.{state};
 ghost use Rattle.acq_sql_rows.specs.Schema.{book_schema};
 ghost use Rattle.acq_sql_changes.specs.Written.{CommitsNothing};
-ghost use Rattle.acq_sql_opening.specs.Checked.{IsFailure};
+ghost use Rattle.acq_sql_checking.specs.Checked.{IsFailure};
 ghost use Rattle.acq_sql_opening.specs.Ordered.{LeavesWhole};
 
-use crate::alike::{Alike, has_same_columns};
-use crate::checking::{create_tables, is_book_schema};
-use crate::opening_fault::OpeningFault;
+use acq_sql_checking::{Alike, OpeningFault, create_tables, has_same_columns, is_book_schema};
 use acq_sql_rows::{tables, texts};
 use sqlite::types::ValueRef;
 use sqlite::{Alter, Connection, Error, Row, Transaction};

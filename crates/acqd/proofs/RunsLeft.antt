@@ -6,8 +6,8 @@ use Rattle.acq_core.specs.declared.event.Event.{Event}
 use Rattle.acq_core.specs.Tables.{Tables, tables_after}
 use Rattle.acq_host.specs.declared.run_fault.RunFault.{RunFault}
 use Rattle.acq_host.specs.Runs.{after_first}
-use Rattle.acq_sql_opening.specs.Checked.{IsFailure}
-use Rattle.acq_sql_opening.specs.declared.opening_fault.OpeningFault.{OpeningFault}
+use Rattle.acq_sql_checking.specs.Checked.{IsFailure}
+use Rattle.acq_sql_checking.specs.declared.opening_fault.OpeningFault.{OpeningFault}
 use Rattle.acqd.specs.StoppedRuns.{IsLeftBy, IsNoRefusal}
 
 pub left_by : {T : Type 0} (old t : Tables) (events : List Event) (ran : Result T RunFault)

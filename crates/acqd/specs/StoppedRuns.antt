@@ -4,9 +4,9 @@ use Rattle.acq_core.specs.declared.event.Event.{Event}
 use Rattle.acq_core.specs.Tables.{Tables, tables_after}
 use Rattle.acq_host.specs.declared.run_fault.RunFault.{RunFault}
 use Rattle.acq_host.specs.Runs.{after_first}
-use Rattle.acq_sql_opening.specs.declared.opening_fault.OpeningFault.{OpeningFault}
-use Rattle.acq_sql_opening.specs.declared.opening_fault.OpeningFault.TheVariants.{NotABook}
-use Rattle.acq_sql_opening.specs.declared.opening_fault.OpeningFault.TheVariants.{OtherVersion}
+use Rattle.acq_sql_checking.specs.declared.opening_fault.OpeningFault.{OpeningFault}
+use Rattle.acq_sql_checking.specs.declared.opening_fault.OpeningFault.TheVariants.{NotABook}
+use Rattle.acq_sql_checking.specs.declared.opening_fault.OpeningFault.TheVariants.{OtherVersion}
 
 -- the tables after all events of a run; where it ended with a fault, after those before it, or
 -- these and the one at which it came

@@ -1,7 +1,7 @@
 //! The files of a book as they stand before it is opened: the book and, beside it, its log.
 
 use crate::book_signs::may_hold_book;
-use acq_sql_opening::OpeningFault;
+use acq_sql_checking::OpeningFault;
 use std::fs::{self, Permissions};
 use std::io::{self, ErrorKind, IsTerminal};
 use std::os::unix::fs::PermissionsExt;

@@ -1,7 +1,7 @@
 //! What of a book can be seen in files before they are opened, which writes to them.
 
 use crate::book_files::size_of;
-use acq_sql_opening::OpeningFault;
+use acq_sql_checking::OpeningFault;
 use memchr::memmem::find;
 use std::fs::File;
 use std::io::{self, ErrorKind, Read, Seek, SeekFrom};

@@ -2,7 +2,7 @@
 
 use crate::book_files::log_of;
 use crate::book_signs::{LEAST_PAGE, is_begun, may_be_log_of_book};
-use acq_sql_opening::OpeningFault;
+use acq_sql_checking::OpeningFault;
 use sqlite::Connection;
 use std::fs::{self, File, OpenOptions, Permissions};
 use std::io::{self, ErrorKind};

@@ -3,7 +3,7 @@
 ghost use Rattle.std.specs.Prelude.{◌≡◌, Some};
 
 use acq_sql::Refusal;
-use acq_sql_opening::OpeningFault;
+use acq_sql_checking::OpeningFault;
 use sqlite::{Alter, Connection};
 
 /// Why files weren't opened as a book, with the connection to them, where they were opened.

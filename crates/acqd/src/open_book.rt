@@ -13,19 +13,18 @@ ghost use Rattle.acq_core.specs.Widening.{widened_tables};
 ghost use Rattle.acq_sql_rows.specs.Rows.{version, version_of_six_digits};
 ghost use Rattle.acq_sql_rows.specs.Schema.{no_schema};
 ghost use Rattle.acq_sql_rows.specs.Standing.{IsAtOf};
-ghost use Rattle.acq_sql_opening.specs.Checked.{IsFailure};
+ghost use Rattle.acq_sql_checking.specs.Checked.{IsFailure};
 ghost use Rattle.acq_sql_opening.specs.Files.{FilesHold, FilesHoldOf};
 ghost use Rattle.acq_sql.specs.Memos.{nothing_recalled};
 ghost use Rattle.acq_sql.specs.Opened.{IsOpenAt, IsRoomy};
-ghost use Rattle.acq_sql_opening.specs.declared.opening_fault.OpeningFault.TheVariants.{NotABook};
+ghost use Rattle.acq_sql_checking.specs.declared.opening_fault.OpeningFault.TheVariants.{NotABook};
 ghost use Rattle.acqd.specs.Found.{IsFound};
 
 use crate::no_book::NoBook;
 use acq_core::Limit;
 use acq_sql::{Refusal, SqlBook};
-use acq_sql_opening::{
-    OpeningFault, an_open_finds_a_book_of_any_version, an_open_finds_the_book, put_in_order,
-};
+use acq_sql_checking::OpeningFault;
+use acq_sql_opening::{an_open_finds_a_book_of_any_version, an_open_finds_the_book, put_in_order};
 use day_totals::Day;
 use sqlite::{Alter, Connection};
 use sqlite_disk::Start;

@@ -18,7 +18,7 @@ use acq_faults::{Fault, ListenOptions, Patience};
 use acq_link::{ReadSource, WriteSink};
 use acq_program::Machine;
 use acq_sql::SqlBook;
-use acq_sql_opening::OpeningFault;
+use acq_sql_checking::OpeningFault;
 use acq_stand_in::StandIn;
 use acq_tcp::{HostLog, TcpConnections, TcpGathering};
 use day_totals::Day;

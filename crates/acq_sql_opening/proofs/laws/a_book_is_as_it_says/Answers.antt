@@ -1,5 +1,5 @@
 use Rattle.sqlite.specs.Held.{state}
-use Rattle.acq_sql_opening.proofs.Versions.{has_number}
+use Rattle.acq_sql_checking.proofs.Versions.{has_number}
 use Rattle.acq_sql_opening.proofs.laws.a_book_is_as_it_says.Goals as goal
 
 pub returns : goal.returns

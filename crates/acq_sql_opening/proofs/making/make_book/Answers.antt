@@ -1,6 +1,6 @@
 use Rattle.std.proofs.lemmas.Result.{err_from_is_err_and}
 use Rattle.sqlite.specs.Held.{state}
-use Rattle.acq_sql_opening.proofs.Blaming.{excused_blames}
+use Rattle.acq_sql_checking.proofs.Blaming.{excused_blames}
 use Rattle.acq_sql_opening.proofs.making.make_book.Goals as goal
 
 pub returns-in_err-write_book-clause-blames : goal.returns-in_err-write_book-clause-blames

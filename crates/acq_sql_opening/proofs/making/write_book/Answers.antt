@@ -10,9 +10,9 @@ use Rattle.acq_sql_rows.specs.Schema.{no_schema}
 use Rattle.acq_sql_rows.specs.Relation.{Holds}
 use Rattle.acq_sql_rows.specs.Standing.{HoldsAfter}
 use Rattle.acq_sql_changes.proofs.Commits.{left_holds, was_clean}
-use Rattle.acq_sql_opening.specs.Made.{IsNewBook}
-use Rattle.acq_sql_opening.proofs.Blaming.{commit_fails, drop_fails}
-use Rattle.acq_sql_opening.proofs.GoingOn.{GoesOn}
+use Rattle.acq_sql_checking.specs.Made.{IsNewBook}
+use Rattle.acq_sql_checking.proofs.Blaming.{commit_fails, drop_fails}
+use Rattle.acq_sql_checking.proofs.GoingOn.{GoesOn}
 use Rattle.acq_sql_opening.proofs.NewBook.{new_holds, new_shown}
 use Rattle.acq_sql_opening.proofs.making.write_book.Goals as goal
 

@@ -5,8 +5,8 @@ use Rattle.row_lemmas.specs.Created.{IsBlank}
 use Rattle.acq_sql_rows.specs.Schema.{no_schema, up_to_ranges}
 use Rattle.acq_sql_changes.specs.Refused.{IsEmptyBook}
 use Rattle.acq_sql_changes.proofs.Commits.{was_clean}
-use Rattle.acq_sql_opening.proofs.GoingOn.{GoesOn, goes_then, kept_then, not_ok, stop_then}
-use Rattle.acq_sql_opening.proofs.Reaching.{fails_first, fails_then, reached, reached_then}
+use Rattle.acq_sql_checking.proofs.GoingOn.{GoesOn, goes_then, kept_then, not_ok, stop_then}
+use Rattle.acq_sql_checking.proofs.Reaching.{fails_first, fails_then, reached, reached_then}
 use Rattle.acq_sql_opening.proofs.making.write_tables.Goals as goal
 
 pub returns-in_err-create_enrolments : goal.returns-in_err-create_enrolments

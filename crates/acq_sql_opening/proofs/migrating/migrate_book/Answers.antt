@@ -8,9 +8,9 @@ use Rattle.acq_sql_reads.proofs.Leaves.{at_unchanged, kept}
 use Rattle.acq_sql_changes.proofs.Commits.{was_clean}
 use Rattle.acq_sql_rows.specs.Rows.{version_of_six_digits}
 use Rattle.acq_sql_opening.proofs.LooksFirst.{whole_from}
-use Rattle.acq_sql_opening.proofs.Blaming.{excused_blames}
-use Rattle.acq_sql_opening.proofs.Failures.{error_fails, failure_judges, on_err}
-use Rattle.acq_sql_opening.proofs.GoingOn.{not_ok}
+use Rattle.acq_sql_checking.proofs.Blaming.{excused_blames}
+use Rattle.acq_sql_checking.proofs.Failures.{error_fails, failure_judges, on_err}
+use Rattle.acq_sql_checking.proofs.GoingOn.{not_ok}
 use Rattle.acq_sql_opening.proofs.migrating.migrate_book.Goals as goal
 
 pub returns-in_err-check_book : goal.returns-in_err-check_book

@@ -1,0 +1,9 @@
+pub mod TablesMade
+pub mod AllPlain
+pub mod Versions
+pub mod PlainBook
+pub mod GoingOn
+pub mod Failures
+pub mod CreatesSucceed
+pub mod Reaching
+pub mod Blaming

@@ -1,0 +1,45 @@
+use Rattle.std.proofs.Common.{◌≡◌, refl, rules}
+use Rattle.std.proofs.lemmas.Result.{err_from_is_err_and}
+use Rattle.sqlite.specs.Held.{state}
+use Rattle.acq_sql_rows.specs.Schema.{book_schema}
+use Rattle.acq_sql_reads.proofs.Leaves.{looks_nowhere}
+use Rattle.acq_sql_checking.proofs.Blaming.{excused_blames, memory_blames}
+use Rattle.acq_sql_checking.proofs.Failures.{error_fails, failure_judges}
+use Rattle.acq_sql_checking.proofs.checking.check_book.Goals as goal
+
+pub returns-in_err-is_book_schema : goal.returns-in_err-is_book_schema
+returns-in_err-is_book_schema g c =
+    let p = err_from_is_err_and c.from_residual.result c.from_residual.ensures.1 in
+    let fails = error_fails c.in_err-is_book_schema.field-0.0 in
+    record {
+      judged = λ clean. rw (p.1, p.2) (failure_judges (Unit {0}) c.args.wanted
+          (state g.S.Store c.args.conn.now).now _ fails);
+      accepts = λ clean t at. rw (p.1, p.2) fails;
+      looks = rw p.1 (looks_nowhere (state g.S.Store c.args.conn.now));
+      unchanged = λ other. refl;
+      settled = λ out. out;
+      blames = rw (p.1, p.2) (λ good. memory_blames (state g.S.Store c.args.conn.now)
+          (state g.S.Store c.args.conn.now) c.in_err-is_book_schema.field-0.0
+          c.in_err-is_book_schema.ensures.fails);
+    }
+
+pub returns-in_err-version : goal.returns-in_err-version
+returns-in_err-version g c =
+    let result = c.from_residual-in_err-version.result in
+    let p = err_from_is_err_and result c.from_residual-in_err-version.ensures.1 in
+    let fails = error_fails c.in_err-version.field-0.0 in
+    let has : c.args.conn.now.schema ≡ book_schema = search rules in
+    record {
+      judged = λ clean. rw (p.1, p.2) (failure_judges (Unit {0}) c.args.wanted
+          (state g.S.Store c.args.conn.now).now _ fails);
+      accepts = λ clean t at. rw (p.1, p.2) fails;
+      looks = rw p.1 c.in_err-version.ensures.looks;
+      unchanged = search rules;
+      settled = c.version.ensures.settled;
+      blames = rw (p.1, p.2) (λ good. excused_blames (state g.S.Store c.args.conn.now)
+          (state g.S.Store c.version.new.conn) c.in_err-version.field-0.0
+          (c.in_err-version.ensures.fails has (λ bad. good (has, bad))));
+    }
+
+pub returns-then-not-branch-clause-looks : goal.returns-then-not-branch-clause-looks
+returns-then-not-branch-clause-looks g c = looks_nowhere (state g.S.Store c.args.conn.now)
