@@ -162,7 +162,10 @@ def a_reset(program, mode):
     with Book(program) as book, Host(book, *mode) as host:
         for sent in (ECHO[:9], ECHO, ECHO + ECHO[:1]):
             terminal = host.terminal(sent)
-            time.sleep(0.1)
+            if sent.startswith(ECHO):
+                terminal.has_come()
+            else:
+                time.sleep(0.1)
             terminal.reset()
         wanted("terminals behind it", [host.terminal().is_served() for _ in range(3)], [True] * 3)
         wanted("the host", host.process.poll(), None)

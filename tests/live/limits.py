@@ -129,14 +129,15 @@ def deaf(host):
 
 
 def replies_until(control, most, count, log):
-    """How many replies to it the log has: so many, or else as many as before while the host
-    answered a hundred lines of a control connection. Between any two it gives each terminal a
-    round, so it waits for this one, however slow the machine is."""
-    answered = 0
-    while count < most and answered < 100:
+    """How many replies to it the log has: so many, or else as many as before for three seconds in
+    which the host answered a hundred lines of a control connection. Between any two it gives each
+    terminal a round, so it waits for this one, however slow the machine is."""
+    answered, until = 0, time.monotonic() + 3
+    while count < most and (answered < 100 or time.monotonic() < until):
         control.ask("status")
+        time.sleep(0.01)
         more = log.read().count(merchant(DEAF))
-        answered = 0 if more else answered + 1
+        answered, until = (0, time.monotonic() + 3) if more else (answered + 1, until)
         count += more
     return count
 
