@@ -7,7 +7,9 @@ import subprocess
 import sys
 import time
 
-from terminal import BAD, ECHO, ENDED, MODES, READ, REPLY, Book, Host, Wrong, main, wanted
+from terminal import (
+    BAD, ECHO, ENDED, MODES, PATIENCE, READ, REPLY, Book, Host, Wrong, main, wanted,
+)
 
 
 def drips(program, mode):
@@ -92,12 +94,17 @@ def a_bad_frame_holds_up_nobody(program):
     with Book(program) as book, Host(book, "--together", "8") as host:
         other = host.terminal()
         wanted("a terminal", other.is_served(), True)
-        bad, began = host.terminal(BAD), time.monotonic()
-        wanted("replies beside a bad frame", [other.is_served() for _ in range(50)], [True] * 50)
-        if (took := time.monotonic() - began) >= 0.9:
-            raise Wrong(f"fifty echoes beside a bad frame took {took} seconds")
-        bad.send(b"x")
-        wanted("who comes behind it", host.terminal().is_served(), True)
+        # On a slow machine one try may take as long for another cause.
+        for _ in range(5):
+            bad, began = host.terminal(BAD), time.monotonic()
+            served = [other.is_served() for _ in range(50)]
+            took = time.monotonic() - began
+            wanted("replies beside a bad frame", served, [True] * 50)
+            bad.send(b"x")
+            wanted("who comes behind it", host.terminal().is_served(), True)
+            if took < 0.9:
+                return
+        raise Wrong(f"fifty echoes beside a bad frame took {took} seconds")
 
 
 def nobody_reads_the_faults(program, mode):
@@ -111,10 +118,10 @@ def nobody_reads_the_faults(program, mode):
         while piece := stream.read(65536):
             told += piece
         host.terminal(BAD).end.close()
-        until = time.monotonic() + 5
+        until = time.monotonic() + PATIENCE
         while time.monotonic() < until and b"dropped" not in told:
-            told += stream.read(65536) or b""
-        told += (time.sleep(0.2), stream.read(65536) or b"")[1]
+            told += (time.sleep(0.05), stream.read(65536) or b"")[1]
+        told += (time.sleep(1), stream.read(65536) or b"")[1]
         lines = told.decode().splitlines()
         dropped = [int(it.split()[2]) for it in lines if it.startswith("acqd: dropped ")]
         lines = [it for it in lines if not it.startswith("acqd: dropped ")]

@@ -8,8 +8,8 @@ import sys
 import time
 
 from terminal import (
-    APPROVING, BAD, CARD, DECLINED, ECHO, REPLY, UNKNOWN, Book, Host, Wrong, approved, code_of,
-    frame, log_lines, main, message, request, sale, wanted,
+    APPROVING, BAD, CARD, DECLINED, ECHO, PATIENCE, REPLY, UNKNOWN, Book, Host, Wrong, approved,
+    code_of, frame, log_lines, main, message, request, sale, wanted,
 )
 
 # What a status says behind `scripted`; docs/FORMATS.md, "Status", says what each figure is.
@@ -99,7 +99,7 @@ def counts(program, figures):
         kept = scripted(host, control)
         lines = len(control.words)
         # A connection with a bad frame holds its place until both sides have closed it.
-        until = time.monotonic() + 20
+        until = time.monotonic() + PATIENCE
         while status(control)["open_places"] != CONNECTIONS["open_places"]:
             if time.monotonic() > until:
                 break
