@@ -1,4 +1,3 @@
 pub mod Statuses
 pub mod DecisionCases
-pub mod PaddedTexts
 pub mod Counts

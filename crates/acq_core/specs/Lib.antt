@@ -12,4 +12,3 @@ pub mod Events
 pub mod Pasts
 pub mod Looking
 pub mod NewBook
-pub mod Meaning

@@ -4,26 +4,15 @@ ghost use Rattle.std.specs.Prelude.{◌≡◌, IfOk};
 ghost use Rattle.acq_message.specs.Services.{service_of};
 ghost use Rattle.acq_core.specs.Arrivals.{arrival_of, arrival_of_message, arrival_of_reading};
 ghost use Rattle.acq_core.specs.Arrivals.{checked, merchant_named};
-ghost use Rattle.acq_core.specs.Changes.{change_for};
-ghost use Rattle.acq_core.specs.Known.{wanted_by};
-ghost use Rattle.acq_core.specs.Looking.{known_of};
-ghost use Rattle.acq_core.specs.Outcome.{outcome, output_of};
 ghost use Rattle.iso_codec.specs.Reading.{reading_of};
 
-use crate::change::Change;
-use crate::deciding::decision;
-use crate::effects::carry_out;
 use crate::event::Event;
-use crate::looking_up::wanted_by;
-use crate::lookup::{Looked, Wanted};
 use crate::merchant::Merchant;
-use crate::output::Output;
 use crate::terminal::Terminal;
 use acq_message::{
     CheckedRequest, MerchantId, Moment, Reference, RequestMessage, Service, Verdict, merchant_in,
 };
 use card_no::Range;
-use day_totals::Day;
 use iso_codec::{DecodeFault, Message, decode};
 use std::alloc::{AllocError, Global};
 
@@ -143,27 +132,5 @@ impl Arrival {
             | Arrival::RangeAdded(_)
             | Arrival::RangeDropped { .. } => None,
         }
-    }
-
-    /// What has to be looked up for it on a business day. It takes no memory.
-    pub fn wanted(&self, today: Day) -> Wanted
-        ensures { result ≡ wanted_by today self.now }
-    {
-        wanted_by(today, self)
-    }
-
-    /// What the host says to it, over what was looked up, and what changes. All memory of both is
-    /// taken here.
-    pub fn decide(
-        &self,
-        alloc: Global,
-        looked: &Looked,
-    ) -> Result<(Output, Option<Change>), AllocError>
-        ensures output { IfOk result (λ x. x.0
-            ≡ output_of (merchant_named self.now) (outcome (known_of looked.now) self.now)) }
-        ensures change { IfOk result (λ x. x.1 ≡ change_for (known_of looked.now) self.now) }
-    {
-        let decision = decision(alloc, looked, self)?;
-        carry_out(alloc, looked, self.merchant(), decision)
     }
 }

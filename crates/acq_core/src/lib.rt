@@ -1,8 +1,7 @@
-//! The decision on one event, over what was looked up for it; it has no store.
+//! What the host's events, tables and decisions are; nothing here decides, and there is no store.
 //!
-//! An [`Event`] is read once, into an [`Arrival`]. [`Arrival::wanted`] says what to look up for it,
-//! and [`Arrival::decide`] what goes out and what changes, over what was looked up; [`wanted`] and
-//! [`decide`] do the same of an event. The definitions stand in `specs`: events as the host sees
+//! An [`Event`] is read once, into an [`Arrival`]. What was looked up for it is [`Looked`], and what
+//! it changes in the tables a [`Change`]. The definitions stand in `specs`: events as the host sees
 //! them (`Arrivals.antt`), what has to be known to decide on one (`Known.antt`), the order of the
 //! checks (`Decision.antt`), what it results in (`Outcome.antt`), and what it changes in the tables
 //! (`Changes.antt`, `Tables.antt`). The messages themselves are those of `acq_message`, whose types
@@ -12,24 +11,16 @@
 mod admitted_count;
 mod arrival;
 mod change;
-mod deciding;
-mod decision;
-mod effects;
 mod event;
 pub mod examples;
 mod first_reference;
 mod limit;
-mod looking_up;
 mod lookup;
 mod merchant;
-mod of_events;
 mod output;
-mod posted;
 mod posting;
 mod query;
-mod reconciled_day;
 mod reconciliation;
-mod recording;
 mod remains;
 mod reply_state;
 mod request;
@@ -50,7 +41,6 @@ pub use first_reference::FirstReference;
 pub use limit::Limit;
 pub use lookup::{Looked, Wanted};
 pub use merchant::Merchant;
-pub use of_events::{decide, wanted};
 pub use output::Output;
 pub use posting::Posting;
 pub use query::Query;

@@ -70,10 +70,17 @@ impl Request {
             reply,
         })
     }
+
+    /// A copy of its card number.
+    pub fn card_copied(&self, alloc: Global) -> Result<Option<ElementContent>, AllocError>
+        ensures { IfOk result (λ copy. copy ≡ self.now.card) }
+    {
+        content_copied(alloc, &self.card)
+    }
 }
 
 /// A copy of an element's content, where it is there.
-pub(crate) fn content_copied(
+fn content_copied(
     alloc: Global,
     content: &Option<ElementContent>,
 ) -> Result<Option<ElementContent>, AllocError>

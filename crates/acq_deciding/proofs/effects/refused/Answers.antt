@@ -1,0 +1,10 @@
+use Rattle.std.proofs.Common.{refl}
+use Rattle.acq_deciding.proofs.effects.refused.Goals as goal
+
+pub returns-clause-output : goal.returns-clause-output
+returns-clause-output c =
+    rw (c.in_ok-output.ensures.output, c.in_ok-reply.ensures, c.as_request.ensures.value) refl
+
+pub returns-clause-change : goal.returns-clause-change
+returns-clause-change c =
+    rw (c.in_ok-output.ensures.row, c.in_ok-reply.ensures, c.as_request.ensures.value) refl
