@@ -74,7 +74,7 @@ fn decide_over<B: Book>(
     ensures store { CountsFault result (B.failures book.old) (B.failures book.new) }
 {
     look_up(book, arrival, looked)?;
-    Ok(arrival.decide(alloc, looked)?)
+    Ok(acq_deciding::decide_arrival(alloc, looked, arrival)?)
 }
 
 /// Makes a change, if there is one. It is lent, so that the caller lets it go, once.

@@ -16,6 +16,7 @@ use acq_core::{
     AdmittedCount, Arrival, Limit, Looked, Merchant, MerchantId, Reference, Request, RequestKey,
     TerminalId, UsedCount, Wanted,
 };
+use acq_deciding::wanted_by;
 use card_no::{Prefix, Range};
 use day_totals::{Day, Totals};
 
@@ -31,7 +32,7 @@ pub(crate) fn look_up<B: Book>(
     ensures looks { Looks B.Book book.old book.new (is_ok result) }
     ensures store { CountsFault result (B.failures book.old) (B.failures book.new) }
 {
-    let wanted = arrival.wanted(looked.today);
+    let wanted = wanted_by(looked.today, arrival);
     if is_nothing(&wanted) {
         return Ok(());
     }
