@@ -11,6 +11,6 @@ mod migrating;
 mod ordering;
 
 pub use laws::{a_book_is_as_it_says, an_open_finds_a_book_of_any_version, an_open_finds_the_book};
-pub use making::make_book;
+pub use making::{has_no_tables, make_book};
 pub use migrating::migrate_book;
 pub use ordering::put_in_order;

@@ -1,6 +1,6 @@
 //! New books.
 
-ghost use Rattle.std.specs.Prelude.{◌≡◌, ◌≢◌, ◌↔◌, false, [], IsTrue, Err, IfErr, OnOk};
+ghost use Rattle.std.specs.Prelude.{◌≡◌, ◌≢◌, ◌↔◌, false, [], IsTrue, Err, IfErr, IfOk, OnOk};
 ghost use Rattle.sqlite.specs.State.{HasCleanDisk, Survives};
 ghost use Rattle.sqlite.specs.Held.{state};
 ghost use Rattle.row_lemmas.specs.Created.{IsBlank};
@@ -20,7 +20,9 @@ use acq_sql_changes::writes::add_book;
 use acq_sql_checking::{OpeningFault, create_enrolments, create_records};
 use day_totals::Day;
 use sqlite::{Alter, Connection, Error, Transaction};
+use sqlite_disk::Disk;
 use sqlite_schema::schema::Schema;
+use sqlite_store::FileStore;
 
 /// Makes a new book in an empty database: how many messages of a merchant a day admits, and the
 /// first business day. A database that has a table, an index or a view is no book, and is left as
@@ -50,6 +52,17 @@ pub fn make_book<S: Alter>(
         return Err(OpeningFault::NotABook);
     }
     Ok(write_book(conn, limit, first_day)?)
+}
+
+/// Whether a database in files has no table, no index and no view. It is closed.
+pub fn has_no_tables<D: Disk + Drop>(
+    connection: Connection<FileStore<D>>,
+) -> Result<bool, OpeningFault>
+    ensures { IfOk result (λ is_empty. IsTrue is_empty ↔ (connection.schema ≡ no_schema)) }
+{
+    let is_empty = is_empty(connection.schema());
+    connection.close()?;
+    Ok(is_empty)
 }
 
 fn is_empty(schema: &Schema) -> bool

@@ -3,6 +3,7 @@
 use crate::book_files::log_of;
 use crate::book_signs::{LEAST_PAGE, is_begun, may_be_log_of_book};
 use acq_sql_checking::OpeningFault;
+use acq_sql_opening::has_no_tables;
 use sqlite::Connection;
 use std::fs::{self, File, OpenOptions, Permissions};
 use std::io::{self, ErrorKind};
@@ -141,18 +142,9 @@ fn is_free(rt: &HostRuntime, path: &str, log: &str) -> Result<bool, OpeningFault
         return Ok(size >= LEAST_PAGE || logged > 0);
     }
     if size >= LEAST_PAGE && may_be_log_of_book(rt, log) {
-        return has_no_tables(rt, path);
+        return has_no_tables(Connection::open(rt, path)?);
     }
     Ok(false)
-}
-
-/// Whether the database at a path has no table, no index and no view.
-fn has_no_tables(rt: &HostRuntime, path: &str) -> Result<bool, OpeningFault> {
-    let connection = Connection::open(rt, path)?;
-    let schema = connection.schema();
-    let is_empty = schema.tables.is_empty() && schema.indexes.is_empty() && schema.views.is_empty();
-    connection.close()?;
-    Ok(is_empty)
 }
 
 /// The place where a path leads, where an empty file is made if there is none.
