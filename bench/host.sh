@@ -13,8 +13,8 @@ else
     work=$(mktemp -d)
     trap 'rm -rf "$work"' EXIT
 fi
-crates='iso_codec card_no day_totals acq_message acq_core acq_history acq_book
-acq_host'
+crates='acq_link iso_codec card_no day_totals acq_message acq_core acq_soundness acq_book
+acq_list_book acq_reports acq_host'
 mkdir -p "$work/crates/host_bench/src"
 : >"$work/crates.txt"
 for crate in $crates; do
@@ -27,7 +27,7 @@ for crate in $crates; do
 done
 cp "$top/bench/host/main.txt" "$work/crates/host_bench/src/main.rt"
 : >"$work/crates/host_bench/stdin"
-echo 'host_bench: acq_host acq_book acq_core acq_message card_no day_totals indexmap anyhow' >>"$work/crates.txt"
+echo 'host_bench: acq_host acq_list_book acq_book acq_soundness acq_core acq_message card_no day_totals anyhow' >>"$work/crates.txt"
 (cd "$work/crates/host_bench" && rt run) >"$work/log" 2>&1 || { cat "$work/log" >&2; exit 1; }
 python3 - "$work/crates/host_bench/out/host_bench" <<'PY'
 import os, subprocess, sys

@@ -9,12 +9,10 @@ use Rattle.acq_message.specs.declared.service.Service.TheVariants.{Completion, R
 use Rattle.acq_message.specs.declared.service.Service.TheVariants.{ReversalAdvice, Reconciliation}
 use Rattle.acq_message.specs.declared.service.Service.TheVariants.{NetworkManagement}
 use Rattle.acq_message.specs.contracts.service.ServicePartialEq.TheImpl as service_block
-use Rattle.acq_core.specs.declared.terminal.Terminal.{Terminal}
-use Rattle.acq_book.specs.declared.lists.merchant_terminal.MerchantTerminal.{MerchantTerminal}
 use Rattle.acq_message.specs.declared.request_key.RequestKey.{RequestKey}
 use Rattle.acq_message.specs.Services.{same_service}
 use Rattle.acq_message.specs.Elements.{same_key}
-use Rattle.acq_book.specs.Keys.{key_eq, terminal_eq, key_of_terminal}
+use Rattle.acq_book.specs.Keys.{key_eq}
 
 service_eq-same : (a b : Service) → (service_block.ghosts).eq a b ≡ same_service b a
 service_eq-same Authorization Authorization = refl
@@ -85,8 +83,3 @@ key_eq-same a b =
     ∙ (λ i. text_swap a.merchant b.merchant i && text_swap a.terminal b.terminal i
     && service_eq-same a.service b.service i && text_swap a.trace b.trace i
     && text_swap a.transmission b.transmission i)
-
-pub terminal_eq-same : (k : MerchantTerminal) (row : Terminal)
-    → terminal_eq k (key_of_terminal row)
-    ≡ (bytes_eq row.merchant k.merchant && bytes_eq row.id k.id)
-terminal_eq-same k row i = text_swap k.merchant row.merchant i && text_swap k.id row.id i

@@ -1,10 +1,4 @@
-pub mod Keyed
 pub mod KeyTests
-pub mod Places
-pub mod Edits
 pub mod Counting
 pub mod Days
-pub mod Edited
-pub mod Showing
-pub mod Sorting
 pub mod Chains

@@ -3,9 +3,5 @@ pub mod Lookups
 pub mod Fits
 pub mod Promise
 pub mod Visits
-pub mod Stored
 pub mod Keys
-pub mod Rows
-pub mod Sums
-pub mod Indexes
 pub mod Calls

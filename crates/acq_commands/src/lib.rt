@@ -11,6 +11,7 @@ mod holds_options;
 mod input_form;
 mod listening;
 mod new_book;
+mod new_list_book;
 mod no_progress;
 mod once;
 mod once_options;

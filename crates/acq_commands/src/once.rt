@@ -9,8 +9,9 @@ ghost use Rattle.acq_faults.specs.Faults.{TellsStore, failed_reads, failed_write
 ghost use Rattle.acq_commands.specs.Once.{ServesInMemory, ServesOnce};
 
 use crate::book_commands::end_of;
+use crate::new_list_book::new_list_book;
 use crate::widest_opening::{first_day_of_all, greatest_limit};
-use acq_book::{Book, ListBook};
+use acq_book::Book;
 use acq_faults::Fault;
 use acq_front::{Clock, Issuer, serve};
 use acq_host::Host;
@@ -74,7 +75,7 @@ pub fn once_in_memory<C: Clock, I: Issuer, S: Source, K: Sink>(
     ensures reads { S.failures input.new ≡ S.failures input.old + failed_reads result }
     ensures writes { K.failures output.new ≡ K.failures output.old + failed_writes result }
 {
-    let host = Host::in_memory(alloc, keys, greatest_limit(), first_day_of_all());
-    let ran = once_on(alloc, host.into_book(), clock, issuer, input, output);
+    let book = new_list_book(alloc, keys, greatest_limit(), first_day_of_all());
+    let ran = once_on(alloc, book, clock, issuer, input, output);
     end_of(ran)
 }

@@ -5,10 +5,10 @@ ghost use Rattle.acq_commands.specs.Replay.{AfterReading};
 ghost use Rattle.acq_commands.specs.Runs.{RunsReplay};
 
 use crate::book_commands::{end_of, replay_on};
+use crate::new_list_book::new_list_book;
 use crate::progress::Progress;
 use crate::replay_options::ReplayOptions;
 use acq_faults::Fault;
-use acq_host::Host;
 use acq_link::{Sink, Source};
 use std::alloc::Global;
 use std::hash::RandomState;
@@ -29,8 +29,8 @@ pub fn replay_in_memory<S: Source, K: Sink, P: Progress>(
     ensures whole { AfterReading result
         (TakesAll (S.remaining input.old) (S.received input.old) (S.received input.new)) }
 {
-    let host = Host::in_memory(alloc, keys, options.limit, options.first_day);
+    let book = new_list_book(alloc, keys, options.limit, options.first_day);
     let reports = options.reports.as_slice();
-    let ran = replay_on(alloc, host.into_book(), reports, input, output, progress);
+    let ran = replay_on(alloc, book, reports, input, output, progress);
     end_of(ran)
 }

@@ -3,8 +3,7 @@
 ghost use Rattle.std.specs.Prelude.{◌≡◌, ◌⊎◌, ◌+◌, [], ◌∷◌, ◌++◌, is_ok};
 ghost use Rattle.std.specs.Prelude.{IfOk, IfErr, OnOk, OnErr};
 ghost use Rattle.acq_core.specs.Arrivals.{arrival_of};
-ghost use Rattle.acq_core.specs.Tables.{Tables, new_tables, outputs, step_output, step_tables};
-ghost use Rattle.acq_core.specs.Tables.{tables_after};
+ghost use Rattle.acq_core.specs.Tables.{Tables, outputs, step_output, step_tables, tables_after};
 ghost use Rattle.acq_book.specs.Calls.{Makes};
 ghost use Rattle.acq_book.specs.Promise.{CountsFault, HasRisen};
 ghost use Rattle.acq_core.specs.Pasts.{HasPast};
@@ -15,13 +14,10 @@ mod reporting;
 
 use crate::deciding::{apply, decide};
 use crate::run_fault::RunFault;
-use acq_book::{Book, BookFault, ListBook};
-use acq_core::{Event, Limit, Output};
-use acq_soundness::book_laws::books_are_sound;
-use acq_soundness::{every_event, every_opening};
-use day_totals::Day;
+use acq_book::{Book, BookFault};
+use acq_core::{Event, Output};
+use acq_soundness::every_event;
 use std::alloc::Global;
-use std::hash::RandomState;
 use std::marker::Model;
 
 /// A host over a book that began new, and that events alone have changed. Contracts see it as its
@@ -40,23 +36,6 @@ impl<B: Book + Drop> Model for Host<B> {
     ghost view = { λ host. host.book };
 
     ghost invariant = { λ host. B.is_open host.book → HasPast (B.tables host.book) };
-}
-
-impl Host<ListBook> {
-    /// A host over a new book in memory, whose rows are found by hash under these keys. It takes no
-    /// memory.
-    pub fn in_memory(
-        alloc: Global,
-        keys: RandomState,
-        limit: Limit,
-        first_day: Day,
-    ) -> Host<ListBook>
-        ensures { result ≡ new_tables (record { limit = limit; first_day = first_day }) }
-    {
-        every_opening(limit, first_day);
-        books_are_sound();
-        Host::new(alloc, ListBook::new(alloc, keys, limit, first_day))
-    }
 }
 
 impl<B: Book + Drop> Host<B> {

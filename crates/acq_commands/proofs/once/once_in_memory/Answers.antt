@@ -5,8 +5,8 @@ use Rattle.acq_commands.proofs.once.once_in_memory.Goals as goal
 
 pub returns-clause-served : goal.returns-clause-served
 returns-clause-served g c =
-    let book : c.into_book.result ≡ new_tables widest_opening =
-    c.into_book.ensures.book ∙ c.in_memory-host.ensures
+    let book : c.new_list_book-book.result ≡ new_tables widest_opening =
+    c.new_list_book-book.ensures.book
     ∙ ap₂ (λ limit day. new_tables (record { limit = limit; first_day = day }))
     c.greatest_limit.ensures
     c.first_day_of_all.ensures in

@@ -1,4 +1,4 @@
-use Rattle.std.proofs.Common.{◌∙◌, List, subst}
+use Rattle.std.proofs.Common.{List, subst}
 use Rattle.acq_core.specs.Tables.{Opening}
 use Rattle.acq_faults.specs.declared.day_report.DayReport.{DayReport}
 use Rattle.acq_commands.specs.Runs.{RunsIn}
@@ -22,6 +22,6 @@ returns-clause-runs g c =
     rw c.end_of.ensures (subst
     (λ (asked : List DayReport). RunsIn options.book opening asked received sent ran.result.1)
     c.as_slice-reports.ensures.value
-    (runs_either opening options.book c.as_slice-reports.result.now c.into_book.result ran.result.0
-    received sent ran.result.1 (c.into_book.ensures.book ∙ c.in_memory-host.ensures)
+    (runs_either opening options.book c.as_slice-reports.result.now c.new_list_book-book.result
+    ran.result.0 received sent ran.result.1 c.new_list_book-book.ensures.book
     (λ none. ran.ensures.lines none tt tt) (λ some. ran.ensures.reports some tt tt)))

@@ -1,0 +1,5 @@
+pub mod Stored
+pub mod Keys
+pub mod Rows
+pub mod Sums
+pub mod Indexes

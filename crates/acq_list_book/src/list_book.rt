@@ -1,0 +1,355 @@
+//! A book in memory.
+
+ghost use Rattle.std.specs.Prelude.{◌≡◌, OnOk, OnErr};
+ghost use Rattle.acq_core.specs.declared.change.Change.TheVariants as change;
+ghost use Rattle.acq_core.specs.Tables.{after, new_tables};
+ghost use Rattle.acq_book.specs.Fits.{Fits};
+
+use crate::copies::{found_copied, range_copied};
+use crate::lists::{Merchants, Postings, Reconciliations, Requests, Terminals};
+use crate::walks::{in_order_of_names, in_order_of_numbers, in_order_of_references, show};
+use acq_book::{Book, BookFault, Visit};
+use acq_core::{
+    AdmittedCount, Change, Limit, Merchant, MerchantId, Posting, Reconciliation, Reference,
+    Remains, Request, RequestKey, Status, Terminal, TerminalId, UsedCount,
+};
+use card_no::{Prefix, Range, RangeFault, RangeList};
+use day_totals::{Day, Totals};
+use iso_codec::Message;
+use std::alloc::{AllocError, Global};
+use std::hash::RandomState;
+use std::marker::Model;
+
+/// The tables, in memory. Contracts see them alone. No look-up goes over all rows of a table, but
+/// that of an overlap, which goes over the ranges, and those of the pending requests and the walks,
+/// which serve reports.
+#[derive(Drop)]
+pub struct ListBook {
+    alloc: Global,
+    limit: Limit,
+    day: Day,
+    merchants: Merchants,
+    terminals: Terminals,
+    ranges: RangeList,
+    requests: Requests,
+    postings: Postings,
+    reconciliations: Reconciliations,
+}
+
+impl Model for ListBook {
+    ghost use Rattle.acq_core.specs.Tables.{Tables};
+
+    ghost Value = { Tables };
+
+    ghost view = { λ b. record {
+      limit = b.limit;
+      day = b.day;
+      merchants = b.merchants.rows;
+      terminals = b.terminals.rows;
+      ranges = b.ranges;
+      requests = b.requests.rows;
+      postings = b.postings.rows;
+      reconciliations = b.reconciliations.rows;
+    } };
+}
+
+impl ListBook {
+    /// A new book. It takes no memory. Terminals choose much of what rows are found by, so the keys
+    /// of the hashes are random ones.
+    pub fn new(alloc: Global, keys: RandomState, limit: Limit, first_day: Day) -> ListBook
+        ensures { result ≡ new_tables (record { limit = limit; first_day = first_day }) }
+    {
+        ListBook {
+            alloc,
+            limit,
+            day: first_day,
+            merchants: Merchants::new(alloc, keys),
+            terminals: Terminals::new(alloc, keys),
+            ranges: RangeList::new(alloc),
+            requests: Requests::new(alloc, keys),
+            postings: Postings::new(alloc, keys),
+            reconciliations: Reconciliations::new(alloc, keys),
+        }
+    }
+
+    fn add_merchant(&mut self, merchant: Merchant) -> Result<(), AllocError>
+        requires { Fits self.old (change.AddMerchant merchant) }
+        ensures ok { OnOk result (self.new ≡ after self.old (change.AddMerchant merchant)) }
+        ensures err { OnErr result (self.new ≡ self.old) }
+    {
+        self.merchants.reserve()?;
+        self.merchants.push(merchant);
+        Ok(())
+    }
+
+    fn add_terminal(&mut self, terminal: Terminal) -> Result<(), AllocError>
+        requires { Fits self.old (change.AddTerminal terminal) }
+        ensures ok { OnOk result (self.new ≡ after self.old (change.AddTerminal terminal)) }
+        ensures err { OnErr result (self.new ≡ self.old) }
+    {
+        self.terminals.reserve()?;
+        self.terminals.push(terminal);
+        Ok(())
+    }
+
+    fn add_range(&mut self, range: &Range) -> Result<(), AllocError>
+        requires { Fits self.old (change.AddRange range.now) }
+        ensures ok { OnOk result (self.new ≡ after self.old (change.AddRange range.now)) }
+        ensures err { OnErr result (self.new ≡ self.old) }
+    {
+        let range = range.copied(self.alloc)?;
+        match self.ranges.add(range) {
+            Ok(()) => Ok(()),
+            Err(RangeFault::Memory) => Err(AllocError),
+            Err(_) => unreachable!(),
+        }
+    }
+
+    fn drop_range(&mut self, low: u32, high: u32)
+        requires { Fits self.old (change.DropRange low high) }
+        ensures { self.new ≡ after self.old (change.DropRange low high) }
+    {
+        let Ok(()) = self.ranges.remove(low, high) else {
+            unreachable!();
+        };
+    }
+
+    fn add_request(&mut self, row: &Request) -> Result<(), AllocError>
+        requires { Fits self.old (change.AddRequest row.now) }
+        ensures ok { OnOk result (self.new ≡ after self.old (change.AddRequest row.now)) }
+        ensures err { OnErr result (self.new ≡ self.old) }
+    {
+        let row = self.requests.reserve_for(self.alloc, row)?;
+        self.requests.push(row);
+        Ok(())
+    }
+
+    fn answered(
+        &mut self,
+        key: &RequestKey,
+        status: Status,
+        reply: &Message,
+        hold_end: Option<u64>,
+        posting: &Option<Posting>,
+    ) -> Result<(), AllocError>
+        requires { Fits self.old
+            (change.Answered key.now status reply.now hold_end posting.now) }
+        ensures ok { OnOk result (self.new ≡ after self.old
+            (change.Answered key.now status reply.now hold_end posting.now)) }
+        ensures err { OnErr result (self.new ≡ self.old) }
+    {
+        let posting = self.postings.reserve_for(self.alloc, posting)?;
+        let reply = reply.copied(self.alloc)?;
+        self.requests.answer(key, status, reply, hold_end);
+        self.postings.push_if(posting);
+        Ok(())
+    }
+
+    fn follow(
+        &mut self,
+        request: &Request,
+        original: &RequestKey,
+        remains: Remains,
+        posting: &Option<Posting>,
+    ) -> Result<(), AllocError>
+        requires { Fits self.old
+            (change.Follow request.now original.now remains posting.now) }
+        ensures ok { OnOk result (self.new ≡ after self.old
+            (change.Follow request.now original.now remains posting.now)) }
+        ensures err { OnErr result (self.new ≡ self.old) }
+    {
+        let posting = self.postings.reserve_for(self.alloc, posting)?;
+        let request = self.requests.reserve_for(self.alloc, request)?;
+        self.requests.follow(original, remains);
+        self.requests.push(request);
+        self.postings.push_if(posting);
+        Ok(())
+    }
+
+    fn reconciled(
+        &mut self,
+        request: &Request,
+        reconciliation: &Reconciliation,
+    ) -> Result<(), AllocError>
+        requires { Fits self.old (change.Reconciled request.now reconciliation.now) }
+        ensures ok { OnOk result (self.new ≡ after self.old
+            (change.Reconciled request.now reconciliation.now)) }
+        ensures err { OnErr result (self.new ≡ self.old) }
+    {
+        self.reconciliations.reserve()?;
+        let request = self.requests.reserve_for(self.alloc, request)?;
+        self.requests.push(request);
+        self.reconciliations.push(reconciliation);
+        Ok(())
+    }
+
+    fn make(&mut self, change: &Change) -> Result<(), AllocError>
+        requires { Fits self.old change.now }
+        ensures ok { OnOk result (self.new ≡ after self.old change.now) }
+        ensures err { OnErr result (self.new ≡ self.old) }
+    {
+        match change {
+            Change::AddMerchant(merchant) => self.add_merchant(*merchant),
+            Change::AddTerminal(terminal) => self.add_terminal(*terminal),
+            Change::AddRange(range) => self.add_range(range),
+            Change::DropRange { low, high } => {
+                self.drop_range(*low, *high);
+                Ok(())
+            }
+            Change::SetDay(day) => {
+                self.day = *day;
+                Ok(())
+            }
+            Change::AddRequest(row) => self.add_request(row),
+            Change::Answered {
+                key,
+                status,
+                reply,
+                hold_end,
+                posting,
+            } => self.answered(key, *status, reply, *hold_end, posting),
+            Change::Follow {
+                request,
+                original,
+                remains,
+                posting,
+            } => self.follow(request, original, *remains, posting),
+            Change::Reconciled {
+                request,
+                reconciliation,
+            } => self.reconciled(request, reconciliation),
+        }
+    }
+}
+
+impl Book for ListBook {
+    ghost tables = { λ t. t };
+
+    ghost is_honest = { λ t. Unit {0} };
+
+    ghost is_open = { λ t. Unit {0} };
+
+    ghost may_leave = { λ t left. left ≡ t };
+
+    ghost leaves_books = { λ t. Unit {0} };
+
+    ghost failures = { λ t. 0 };
+
+    ghost store_faults = { λ t. 0 };
+
+    ghost has_room = { λ t. Unit {0} };
+
+    ghost honest = { λ t is. is };
+
+    ghost settled = { λ t is left same. same };
+
+    ghost stored = { λ t is. is };
+
+    fn limit(&mut self) -> Result<Limit, BookFault> {
+        Ok(self.limit)
+    }
+
+    fn day(&mut self) -> Result<Day, BookFault> {
+        Ok(self.day)
+    }
+
+    fn merchant(&mut self, id: MerchantId) -> Result<Option<Merchant>, BookFault> {
+        Ok(self.merchants.get(id).copied())
+    }
+
+    fn has_terminal(&mut self, merchant: MerchantId, id: TerminalId) -> Result<bool, BookFault> {
+        Ok(self.terminals.has(merchant, id))
+    }
+
+    fn terminal_count(&mut self) -> Result<u64, BookFault> {
+        Ok(self.terminals.count())
+    }
+
+    fn range(&mut self, prefix: Prefix) -> Result<Option<Range>, BookFault> {
+        range_copied(self.alloc, self.ranges.find(prefix))
+    }
+
+    fn overlapping(&mut self, low: u32, high: u32) -> Result<Option<Range>, BookFault> {
+        range_copied(self.alloc, self.ranges.overlapping(low, high))
+    }
+
+    fn range_count(&mut self) -> Result<u64, BookFault> {
+        Ok(self.ranges.as_slice().len() as u64)
+    }
+
+    fn request(&mut self, key: RequestKey) -> Result<Option<Request>, BookFault> {
+        found_copied(self.alloc, self.requests.get(&key))
+    }
+
+    fn by_reference(
+        &mut self,
+        merchant: MerchantId,
+        reference: Reference,
+    ) -> Result<Option<Request>, BookFault> {
+        let found = self.requests.by_reference(merchant, reference);
+        found_copied(self.alloc, found)
+    }
+
+    fn admitted(&mut self, merchant: MerchantId) -> Result<AdmittedCount, BookFault> {
+        Ok(self.requests.admitted(merchant))
+    }
+
+    fn used(&mut self, merchant: MerchantId, day: Day) -> Result<UsedCount, BookFault> {
+        Ok(self.requests.used(merchant, day))
+    }
+
+    fn used_on(&mut self, day: Day) -> Result<u64, BookFault> {
+        Ok(self.requests.used_on(day))
+    }
+
+    fn totals(&mut self, merchant: MerchantId, day: Day) -> Result<Totals, BookFault> {
+        Ok(self.postings.totals(merchant, day))
+    }
+
+    fn pending(&mut self, day: Day) -> Result<u64, BookFault> {
+        Ok(self.requests.pending(day))
+    }
+
+    fn waiting_count(&mut self) -> Result<u64, BookFault> {
+        Ok(self.requests.waiting_count())
+    }
+
+    fn last_reconciliation(
+        &mut self,
+        merchant: MerchantId,
+        day: Day,
+    ) -> Result<Option<Reconciliation>, BookFault> {
+        Ok(self.reconciliations.last(merchant, day))
+    }
+
+    fn walk_postings<V: Visit<(u64, Posting)>>(
+        &mut self,
+        day: Day,
+        visitor: &mut V,
+    ) -> Result<(), BookFault> {
+        let rows = self.postings.of_day(self.alloc, day);
+        show(in_order_of_numbers(rows), visitor)
+    }
+
+    fn walk_merchants<V: Visit<Merchant>>(&mut self, visitor: &mut V) -> Result<(), BookFault> {
+        let rows = self.merchants.all(self.alloc);
+        show(in_order_of_names(rows), visitor)
+    }
+
+    fn walk_holds<V: Visit<Request>>(
+        &mut self,
+        merchant: MerchantId,
+        visitor: &mut V,
+    ) -> Result<(), BookFault> {
+        let rows = self.requests.holds(self.alloc, merchant);
+        show(in_order_of_references(rows), visitor)
+    }
+
+    fn walk_pending<V: Visit<Request>>(&mut self, visitor: &mut V) -> Result<(), BookFault> {
+        show(self.requests.waiting(self.alloc), visitor)
+    }
+
+    fn apply(&mut self, change: &Change) -> Result<(), BookFault> {
+        Ok(self.make(change)?)
+    }
+}
