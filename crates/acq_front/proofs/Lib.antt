@@ -1,5 +1,4 @@
 pub mod StopsLeave
-mod FilledFrames
 pub mod GivenInOrder
 pub mod MessagesTaken
 pub mod Reading

@@ -1,14 +1,13 @@
 //! One connection, from its first byte on.
 
-ghost use Rattle.std.specs.Prelude.{◌≡◌, ◌+◌, ◌≤◌, ◌++◌, ℕ, List, length, true};
+ghost use Rattle.std.specs.Prelude.{◌≡◌, ◌+◌, ◌≤◌, ◌++◌, ℕ, List};
 ghost use Rattle.std.specs.List.{All};
-ghost use Rattle.acq_link.specs.Frames.{fits_frame, length_bytes};
 ghost use Rattle.acq_link.specs.Moves.{TakesAll};
 ghost use Rattle.acq_front.specs.Coming.{GivesAll};
 ghost use Rattle.acq_front.specs.Talk.{first_moment};
 ghost use Rattle.acq_front.specs.Faults.{AtEnd, CountsStore, IfStore, TellsStore, UnlessRefused};
 ghost use Rattle.acq_front.specs.Faults.{failed_reads, failed_writes};
-ghost use Rattle.acq_front.specs.Turns.{OfMessage, OfTaking, ReplyFits, Sends, SendsReply};
+ghost use Rattle.acq_front.specs.Turns.{OfMessage, OfTaking, ReplyFits, SendsReply};
 ghost use Rattle.acq_front.specs.Turns.{Takes, Turns};
 ghost use Rattle.acq_front.specs.Serving.{Connection, FrameCame, Serves};
 ghost use Rattle.acq_front.specs.Stops.{left_of};
@@ -19,20 +18,8 @@ use crate::issuer::Issuer;
 use acq_book::Book;
 use acq_core::{Event, MessageText, Output, Query, Verdict};
 use acq_host::Host;
-use acq_link::{Deframer, Sink, Source, write_out};
+use acq_link::{Deframer, LONGEST_FRAME, LONGEST_MESSAGE, Sink, Source, send_frame};
 use std::alloc::Global;
-
-/// The bytes of a length.
-const HEADER: usize = 2;
-
-/// The most bytes of a message.
-pub(crate) const LONGEST: usize = 4096;
-
-/// The most bytes of a frame.
-const LONGEST_FRAME: usize = HEADER + LONGEST;
-
-/// The most bytes of most frames: a short buffer is sooner ready for them.
-const USUAL_FRAME: usize = 256;
 
 /// Serves one connection: takes each message as soon as its frame is whole, asks the issuer where
 /// the host says so, and reads on only once the reply, if there is one, is written.
@@ -177,69 +164,14 @@ fn send_reply<K: Sink>(said: &Output, sink: &mut K) -> Result<(), FrontFault>
     match said {
         Output::Reply(_, reply) => {
             let text = reply.as_bytes();
-            if text.is_empty() || text.len() > LONGEST {
+            if text.is_empty() || text.len() > LONGEST_MESSAGE {
                 return Err(FrontFault::Store);
             }
-            send(text, sink)
+            match send_frame(text, sink) {
+                Ok(()) => Ok(()),
+                Err(bytes) => Err(FrontFault::Write(bytes)),
+            }
         }
         _ => Ok(()),
     }
-}
-
-/// Writes a text as a frame. It takes no memory, so nothing can fail between an event that was
-/// taken and its reply's first byte.
-fn send<K: Sink>(text: &[u8], sink: &mut K) -> Result<(), FrontFault>
-    requires { fits_frame text.now ≡ true }
-    ensures sent { Sends text.now (K.sent sink.old) (K.sent sink.new) result }
-    ensures writes { K.failures sink.new ≡ K.failures sink.old + failed_writes result }
-{
-    if text.len() <= USUAL_FRAME - HEADER {
-        send_usual(text, sink)
-    } else {
-        send_any(text, sink)
-    }
-}
-
-/// Writes a text of a usual length as a frame. It is apart, since a function pays for the size of
-/// its buffers, whether or not they are used.
-fn send_usual<K: Sink>(text: &[u8], sink: &mut K) -> Result<(), FrontFault>
-    requires fits { fits_frame text.now ≡ true }
-    requires usual { 2 + length text.now ≤ 256 }
-    ensures sent { Sends text.now (K.sent sink.old) (K.sent sink.new) result }
-    ensures writes { K.failures sink.new ≡ K.failures sink.old + failed_writes result }
-{
-    send_in(&mut [0; USUAL_FRAME], text, sink)
-}
-
-/// Writes any text as a frame.
-fn send_any<K: Sink>(text: &[u8], sink: &mut K) -> Result<(), FrontFault>
-    requires { fits_frame text.now ≡ true }
-    ensures sent { Sends text.now (K.sent sink.old) (K.sent sink.new) result }
-    ensures writes { K.failures sink.new ≡ K.failures sink.old + failed_writes result }
-{
-    send_in(&mut [0; LONGEST_FRAME], text, sink)
-}
-
-/// Writes a text as a frame, out of this buffer.
-fn send_in<K: Sink>(frame: &mut [u8], text: &[u8], sink: &mut K) -> Result<(), FrontFault>
-    requires fits { fits_frame text.now ≡ true }
-    requires room { 2 + length text.now ≤ length frame.old }
-    ensures sent { Sends text.now (K.sent sink.old) (K.sent sink.new) result }
-    ensures writes { K.failures sink.new ≡ K.failures sink.old + failed_writes result }
-{
-    let end = HEADER + text.len();
-    frame[..HEADER].copy_from_slice(&length_of(text));
-    frame[HEADER..end].copy_from_slice(text);
-    match write_out(sink, &frame[..end]) {
-        Ok(()) => Ok(()),
-        Err(bytes) => Err(FrontFault::Write(bytes)),
-    }
-}
-
-/// A text's length, high byte first.
-pub(crate) fn length_of(text: &[u8]) -> [u8; HEADER]
-    requires { fits_frame text.now ≡ true }
-    ensures { result ≡ length_bytes (length text.now) }
-{
-    (text.len() as u16).to_be_bytes()
 }
