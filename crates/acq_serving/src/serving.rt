@@ -5,18 +5,16 @@ ghost use Rattle.std.specs.List.{All};
 ghost use Rattle.acq_link.specs.Moves.{TakesAll};
 ghost use Rattle.acq_front.specs.Coming.{GivesAll};
 ghost use Rattle.acq_front.specs.Talk.{first_moment};
-ghost use Rattle.acq_front.specs.Faults.{AtEnd, CountsStore, IfStore, TellsStore, UnlessRefused};
+ghost use Rattle.acq_front.specs.Faults.{AtEnd, IfStore, TellsStore, UnlessRefused};
 ghost use Rattle.acq_front.specs.Faults.{failed_reads, failed_writes};
-ghost use Rattle.acq_front.specs.Turns.{OfMessage, OfTaking, ReplyFits, SendsReply};
-ghost use Rattle.acq_front.specs.Turns.{Takes, Turns};
-ghost use Rattle.acq_front.specs.Serving.{Connection, FrameCame, Serves};
+ghost use Rattle.acq_front.specs.Turns.{ReplyFits, Turns};
 ghost use Rattle.acq_front.specs.Stops.{left_of};
+ghost use Rattle.acq_serving.specs.Sending.{OfMessage, SendsReply};
+ghost use Rattle.acq_serving.specs.Serving.{Connection, FrameCame, Serves};
 
-use crate::clock::Clock;
-use crate::front_fault::FrontFault;
-use crate::issuer::Issuer;
 use acq_book::Book;
-use acq_core::{Event, MessageText, Output, Query, Verdict};
+use acq_core::{Output, Query, Verdict};
+use acq_front::{Clock, FrontFault, Issuer, take_message};
 use acq_host::Host;
 use acq_link::{Deframer, LONGEST_FRAME, LONGEST_MESSAGE, Sink, Source, send_frame};
 use std::alloc::Global;
@@ -110,46 +108,6 @@ pub fn answer_message<B: Book + Drop, K: Sink, C: Clock, I: Issuer>(
 {
     let said = take_message(message, host, clock, issuer)?;
     send_reply(&said, sink)
-}
-
-/// Takes one message, and the issuer's answer where it is asked, and returns what the host said
-/// last.
-pub(crate) fn take_message<B: Book + Drop, C: Clock, I: Issuer>(
-    message: Vec<u8>,
-    host: &mut Host<B>,
-    clock: &mut C,
-    issuer: &mut I,
-) -> Result<Output, FrontFault>
-    ensures takes { B.is_honest host.new → B.is_open host.old → (moments : List ℕ)
-        × (verdicts : List Verdict)
-        × GivesAll first_moment (C.coming clock.old) (C.coming clock.new) moments
-        × All (C.may_give clock.old) moments
-        × GivesAll Verdict.NoAnswer (I.coming issuer.old) (I.coming issuer.new) verdicts
-        × Takes (I.may_say issuer.old) (B.tables host.old) (left_of B.Book host.new)
-        (record { message = message.items; moments = moments; verdicts = verdicts }) result }
-    ensures was_honest { B.is_honest host.new → B.is_honest host.old }
-    ensures stays_open { B.is_honest host.new → B.is_open host.old
-        → UnlessRefused result (B.is_open host.new) }
-    ensures later { (q : Query) (v : Verdict) → I.may_say issuer.new q v
-        → I.may_say issuer.old q v }
-    ensures moments_later { (m : ℕ) → C.may_give clock.new m → C.may_give clock.old m }
-    ensures fault { OfTaking result }
-    ensures rise { B.failures host.old ≤ B.failures host.new }
-    ensures store { CountsStore result (B.failures host.old) (B.failures host.new) }
-{
-    let came = Event::Frame(clock.now(), MessageText::from_vec(message));
-    let said = host.take(&came)?;
-    drop(came);
-    match said {
-        Output::Undecodable(fault) => Err(FrontFault::Undecodable(fault)),
-        Output::Ask(query) => {
-            let verdict = issuer.answer(&query);
-            let answer = Event::Answer(clock.now(), query.merchant, query.reference, verdict);
-            let said = host.take(&answer)?;
-            Ok(said)
-        }
-        _ => Ok(said),
-    }
 }
 
 /// Writes what the host said, if it is a reply, as a frame. A reply that fits no frame can only

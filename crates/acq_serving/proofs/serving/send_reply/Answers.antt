@@ -1,6 +1,6 @@
 use Rattle.std.proofs.Common.{◌∙◌, sym, ap, inl, inr, length, ◌==◌, ◌<◌, List, ℕ, subst}
 use Rattle.acq_front.proofs.Turned.{empty_unfit, long_unfit}
-use Rattle.acq_front.proofs.serving.send_reply.Goals as goal
+use Rattle.acq_serving.proofs.serving.send_reply.Goals as goal
 
 pub returns-then-is_empty-clause-store : goal.returns-then-is_empty-clause-store
 returns-then-is_empty-clause-store g c = λ fits.

@@ -7,10 +7,10 @@ use Rattle.acq_message.specs.declared.verdict.Verdict.{Verdict}
 use Rattle.acq_message.specs.declared.verdict.Verdict.TheVariants.{NoAnswer}
 use Rattle.acq_front.specs.Coming.{GivesAll}
 use Rattle.acq_front.specs.Talk.{first_moment}
-use Rattle.acq_front.specs.Serving.{Connection}
+use Rattle.acq_serving.specs.Serving.{Connection}
 use Rattle.acq_front.specs.Stops.{left_of}
-use Rattle.acq_front.proofs.Served.{Going}
-use Rattle.acq_front.proofs.serving.serve.Given as goal
+use Rattle.acq_serving.proofs.Served.{Going}
+use Rattle.acq_serving.proofs.serving.serve.Given as goal
 
 abbrev pub invariant-loop-message : goal.invariant-loop-message
 invariant-loop-message g l = (g.B.Book.is_honest l.host → g.B.Book.is_open l.fn.host →

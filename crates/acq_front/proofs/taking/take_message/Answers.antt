@@ -9,7 +9,7 @@ use Rattle.acq_front.proofs.StopsLeave.{taken_stop, refused_stop}
 use Rattle.acq_front.proofs.Turned.{book_stops, counts_book, message_refused, plain_said}
 use Rattle.acq_front.proofs.Turned.{reply_fits, unread}
 use Rattle.acq_front.proofs.Turned.{answer_refused, answer_said}
-use Rattle.acq_front.proofs.serving.take_message.Goals as goal
+use Rattle.acq_front.proofs.taking.take_message.Goals as goal
 
 pub returns-in_err-said-clause-takes : goal.returns-in_err-said-clause-takes
 returns-in_err-said-clause-takes g c = λ h o.

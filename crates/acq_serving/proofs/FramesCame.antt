@@ -4,7 +4,7 @@ use Rattle.std.proofs.Common.{◌≡◌, ℕ, List, [], ◌++◌, sym, ap, ◌�
 use Rattle.std.proofs.Common.{append-nil}
 use Rattle.acq_link.specs.Frames.{frame}
 use Rattle.acq_link.specs.FramesAt.{BeginsWithFrame}
-use Rattle.acq_front.specs.Serving.{FrameCame}
+use Rattle.acq_serving.specs.Serving.{FrameCame}
 
 -- these bytes were taken since, and those are held
 abbrev pub TookAndHolds : (old now held : List ℕ) → Type 0

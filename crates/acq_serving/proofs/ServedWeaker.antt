@@ -7,8 +7,9 @@ use Rattle.acq_core.specs.Tables.{Tables, tables_after}
 use Rattle.acq_front.specs.declared.front_fault.FrontFault as fault
 use Rattle.acq_front.specs.Stops.{Left, StopLeaves}
 use Rattle.acq_front.specs.Talk.{queries, Saying}
-use Rattle.acq_front.specs.Serving.{Connection, AllAnswered, CutsLast, LeavesOff, Serves, events_of}
-use Rattle.acq_front.proofs.TalkGoesOn.{said_weaker}
+use Rattle.acq_serving.specs.Serving.{Connection, AllAnswered, CutsLast, LeavesOff, Serves}
+use Rattle.acq_serving.specs.Serving.{events_of}
+use Rattle.acq_serving.proofs.TalkGoesOn.{said_weaker}
 
 -- Less is known of what is left: the book stays open in fewer cases, and a stop may leave what it
 -- might, or the tables of a book that is open.

@@ -2,7 +2,7 @@
 use Rattle.std.specs.Prelude.{◌≡◌, ◌<◌, ℕ, true, false, List, [], ◌∷◌, ◌++◌, ◌⊎◌, length, take}
 use Rattle.std.specs.Prelude.{Result, Ok, Err}
 use Rattle.std.specs.List.{list_all}
-use Rattle.acq_link.specs.Frames.{fits_frame, frame, framed, Frames, FramesThen, has_frame}
+use Rattle.acq_link.specs.Frames.{frame, framed, Frames, FramesThen, has_frame}
 use Rattle.acq_link.specs.Frames.{has_bad_length}
 use Rattle.acq_link.specs.Frames.{is_partial}
 use Rattle.acq_link.specs.FramesAt.{BeginsWithFrame}
@@ -13,6 +13,7 @@ use Rattle.acq_core.specs.declared.event.Event.{Event}
 use Rattle.acq_core.specs.declared.event.Event.TheVariants.{Frame}
 use Rattle.acq_core.specs.Tables.{Tables, tables_after}
 use Rattle.acq_front.specs.declared.front_fault.FrontFault as fault
+use Rattle.acq_front.specs.Ends.{HoldsFrame}
 use Rattle.acq_front.specs.Stops.{Left, LeavesAll, LeavesSome}
 use Rattle.acq_front.specs.Talk.{talk, replies, queries, Saying, AreSaid}
 use Rattle.acq_front.specs.Turns.{is_read, IsAnswer}
@@ -31,13 +32,7 @@ pub record Connection : Type 0 where
 abbrev pub events_of : Tables → Connection → List Event
 events_of t c = talk t c.messages c.moments c.verdicts
 
--- some message's whole frame stands in these bytes
-abbrev pub HoldsFrame : List ℕ → Type 0
-HoldsFrame bytes =
-    (before message after : List ℕ) × (fits_frame message ≡ true)
-    × (bytes ≡ before ++ (frame message ++ after))
-
--- one came since
+-- some message's whole frame came since
 abbrev pub FrameCame : (old new : List ℕ) → Type 0
 FrameCame old new = (came : List ℕ) × (new ≡ old ++ came) × HoldsFrame came
 

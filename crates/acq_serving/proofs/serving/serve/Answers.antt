@@ -11,16 +11,17 @@ use Rattle.std.proofs.lemmas.List.Elements.{All-nil}
 use Rattle.acq_front.proofs.GivenInOrder.{gives_none, gives_append, gives_along, may_append}
 use Rattle.acq_front.proofs.StreamRead.{consumes_none, consumes_append, received_more}
 use Rattle.acq_front.proofs.StreamRead.{received_none, empty_of, not_empty_of}
-use Rattle.acq_front.proofs.FramesCame.{none_came, piece_came, frame_taken, frame_came}
+use Rattle.acq_serving.proofs.FramesCame.{none_came, piece_came, frame_taken, frame_came}
 use Rattle.acq_front.proofs.Turned.{tells_on}
 use Rattle.acq_front.proofs.StopsLeave.{none_stop}
-use Rattle.acq_front.proofs.FaultsApart.{stream_unended, stream_unread, stream_unwritten}
-use Rattle.acq_front.proofs.FaultsApart.{stream_unstored, message_unended, message_unread}
+use Rattle.acq_serving.proofs.FaultsApart.{stream_unended, stream_unread, stream_unwritten}
+use Rattle.acq_front.proofs.Turning.{stream_unstored}
+use Rattle.acq_serving.proofs.FaultsApart.{message_unended, message_unread}
 use Rattle.acq_front.proofs.Rounds.{unless_refused}
-use Rattle.acq_front.proofs.Served.{nothing_yet, going_none, going_held, with_piece, going_read}
-use Rattle.acq_front.proofs.Served.{with_message, going_more, stream_stops, read_stops, ends_well}
-use Rattle.acq_front.proofs.Served.{ends_inside, stopped, turns_weaker}
-use Rattle.acq_front.proofs.serving.serve.Goals as goal
+use Rattle.acq_serving.proofs.Served.{nothing_yet, going_none, going_held, with_piece, going_read}
+use Rattle.acq_serving.proofs.Served.{with_message, going_more, stream_stops, read_stops, ends_well}
+use Rattle.acq_serving.proofs.Served.{ends_inside, stopped, turns_weaker}
+use Rattle.acq_serving.proofs.serving.serve.Goals as goal
 
 pub loop-message-init : goal.loop-message-init
 loop-message-init g c =

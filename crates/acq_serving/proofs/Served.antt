@@ -1,8 +1,8 @@
 -- A connection so far, and how it goes on and ends.
-use Rattle.std.proofs.Common.{◌≡◌, ℕ, Bool, true, false, List, [], ◌∷◌, ◌++◌, take, Result, Ok, Err}
+use Rattle.std.proofs.Common.{◌≡◌, ℕ, true, false, List, [], ◌∷◌, ◌++◌, take, Result, Ok, Err}
 use Rattle.std.proofs.Common.{refl, sym, ap, subst, ◌∙◌, append_assoc, append-nil, inl, inr}
 use Rattle.std.specs.List.{list_all}
-use Rattle.std.proofs.lemmas.Bool.{and_parts, and_from}
+use Rattle.std.proofs.lemmas.Bool.{and_from}
 use Rattle.acq_link.specs.Frames.{frame, framed, fits_frame, Frames, FramesThen, has_frame}
 use Rattle.acq_link.specs.Frames.{has_bad_length, is_partial}
 use Rattle.acq_link.specs.FramesAt.{BeginsWithFrame, MayBecomeFrame}
@@ -21,10 +21,11 @@ use Rattle.acq_front.specs.Talk.{talk, replies, queries, Saying, AreSaid}
 use Rattle.acq_front.specs.Stops.{Left, LeavesAll}
 use Rattle.acq_front.specs.Turns.{is_read, Makes, Incoming, TookMessage, TookNone, TookAllButAnswer}
 use Rattle.acq_front.specs.Turns.{Answered, Refused, CutShort, Turns}
-use Rattle.acq_front.specs.Serving.{Connection, AllAnswered, CutsLast, LeavesOff, Serves, AllRead}
+use Rattle.acq_serving.specs.Serving.{Connection, AllAnswered, CutsLast, LeavesOff, Serves, AllRead}
+use Rattle.acq_front.proofs.Following.{all-append}
 use Rattle.acq_front.proofs.StopsLeave.{all_behind, some_behind, some_next}
-use Rattle.acq_front.proofs.TalkGoesOn.{GoesOn, goes_on_none, goes_on_more, talk_is, talk_ends}
-use Rattle.acq_front.proofs.TalkGoesOn.{replies-append, said_more, said_weaker}
+use Rattle.acq_serving.proofs.TalkGoesOn.{GoesOn, goes_on_none, goes_on_more, talk_is, talk_ends}
+use Rattle.acq_serving.proofs.TalkGoesOn.{replies-append, said_more, said_weaker}
 
 -- the host took these messages' events
 pub record TookAll (may_say : Saying) (old : Tables) (now : Left) (c : Connection)
@@ -47,14 +48,6 @@ pub record Going (may_say : Saying) (old : Tables) (now : Left) (c : Connection)
 abbrev pub nothing_yet : Connection
 nothing_yet =
     record { input = []; output = []; moments = []; verdicts = []; messages = []; rest = [] }
-
--- what each of two lists' elements do, those of both do
-pub all-append : {X : Type 0} (p : X → Bool) (xs ys : List X) → list_all p xs ≡ true →
-    list_all p ys ≡ true → list_all p (xs ++ ys) ≡ true
-all-append p [] ys h k = k
-all-append p (x ∷ xs) ys h k =
-    let parts = and_parts (p x) (list_all p xs) h in
-    and_from (p x) (list_all p (xs ++ ys)) parts.0 (all-append p xs ys parts.1 k)
 
 all_read : (messages : List (List ℕ)) (message : List ℕ) → AllRead messages →
     is_read message ≡ true → AllRead (messages ++ message ∷ [])

@@ -1,10 +1,11 @@
--- What passed over the two ends of a connection, where it was had, and behind those of earlier ones.
+-- What passed over the two ends of a connection, where it was had, and behind those of earlier
+-- ones.
 use Rattle.std.specs.Prelude.{◌≡◌, ◌+◌, ℕ, List, [], ◌++◌, Option, Some, None, Result, Err}
 use Rattle.acq_front.specs.declared.front_fault.FrontFault.{FrontFault}
 use Rattle.acq_front.specs.declared.front_fault.FrontFault.TheVariants.{Read}
 use Rattle.acq_front.specs.Faults.{failed_reads, failed_writes}
-use Rattle.acq_front.specs.Serving.{Connection}
-use Rattle.acq_front.specs.declared.later_end.LaterEnd.{LaterEnd}
+use Rattle.acq_serving.specs.Serving.{Connection}
+use Rattle.acq_serving.specs.declared.later_end.LaterEnd.{LaterEnd}
 
 module _ {S K : Type 0} where
   -- this came and went out over its ends; over none nothing did

@@ -2,8 +2,9 @@ use Rattle.std.proofs.Common.{[], sym, append-nil}
 use Rattle.std.proofs.lemmas.Result.{err_from_is_err_and}
 use Rattle.acq_core.specs.declared.output.Output.{Output}
 use Rattle.acq_front.specs.Stops.{left_of}
-use Rattle.acq_front.proofs.Turned.{take_stops, tells_counted, tells_unfit, was_sent}
-use Rattle.acq_front.proofs.serving.answer_message.Goals as goal
+use Rattle.acq_front.proofs.Turned.{take_stops, tells_counted, tells_unfit}
+use Rattle.acq_serving.proofs.ReplySent.{was_sent}
+use Rattle.acq_serving.proofs.serving.answer_message.Goals as goal
 
 pub returns-in_err-said-clause-turns : goal.returns-in_err-said-clause-turns
 returns-in_err-said-clause-turns g c = λ h o.

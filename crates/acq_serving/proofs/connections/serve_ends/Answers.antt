@@ -3,8 +3,8 @@ use Rattle.std.proofs.lemmas.List.Elements.{All-nil}
 use Rattle.acq_front.specs.Stops.{left_of}
 use Rattle.acq_front.proofs.GivenInOrder.{gives_none}
 use Rattle.acq_front.proofs.StopsLeave.{none_stop}
-use Rattle.acq_front.proofs.Served.{none_served, nothing_yet}
-use Rattle.acq_front.proofs.connections.serve_ends.Goals as goal
+use Rattle.acq_serving.proofs.Served.{none_served, nothing_yet}
+use Rattle.acq_serving.proofs.connections.serve_ends.Goals as goal
 
 pub returns-in-None-clause-served : goal.returns-in-None-clause-served
 returns-in-None-clause-served g c = λ h o. (

@@ -1,9 +1,9 @@
 -- What faults of the stream of frames, and of a message, are not.
-use Rattle.std.proofs.Common.{◌≡◌, ℕ, Err, refl}
+use Rattle.std.proofs.Common.{◌≡◌, Err, refl}
 use Rattle.acq_link.specs.declared.deframe_fault.DeframeFault as deframe
 use Rattle.acq_front.specs.declared.front_fault.FrontFault as fault
-use Rattle.acq_front.specs.Faults.{AtEnd, TellsStore, failed_reads, failed_writes, of_stream}
-use Rattle.acq_front.specs.Turns.{OfMessage}
+use Rattle.acq_front.specs.Faults.{AtEnd, failed_reads, failed_writes, of_stream}
+use Rattle.acq_serving.specs.Sending.{OfMessage}
 
 -- ---- a fault of the stream of frames
 
@@ -20,11 +20,6 @@ pub stream_unwritten : (X : Type 0) (e : deframe.DeframeFault) →
     failed_writes {X = X} (Err (of_stream e)) ≡ 0
 stream_unwritten X deframe.TheVariants.Memory = refl
 stream_unwritten X deframe.TheVariants.BadLength = refl
-
-pub stream_unstored : (X p : Type 0) (e : deframe.DeframeFault) (a b : ℕ) → b ≡ a →
-    TellsStore {X = X} (Err (of_stream e)) a b p
-stream_unstored X p deframe.TheVariants.Memory a b same = same
-stream_unstored X p deframe.TheVariants.BadLength a b same = same
 
 -- ---- a fault of a message
 

@@ -13,7 +13,7 @@ pub struct LaterEnd<E> {
 }
 
 impl<E: Drop> LaterEnd<E> {
-    ghost use Rattle.acq_front.specs.Passing.{bytes_of, end_of, failures_of};
+    ghost use Rattle.acq_serving.specs.Passing.{bytes_of, end_of, failures_of};
 
     /// This end, behind those over which so much passed.
     pub fn new(end: E, so_far: &Transcript) -> LaterEnd<E>
@@ -37,7 +37,7 @@ impl<E: Drop> LaterEnd<E> {
 }
 
 impl<S: Source> Source for LaterEnd<S> {
-    ghost use Rattle.acq_front.specs.Passing.{bytes_of, end_of, failures_of};
+    ghost use Rattle.acq_serving.specs.Passing.{bytes_of, end_of, failures_of};
 
     ghost received = { bytes_of };
 
@@ -66,7 +66,7 @@ impl<S: Source> Source for LaterEnd<S> {
 }
 
 impl<K: Sink> Sink for LaterEnd<K> {
-    ghost use Rattle.acq_front.specs.Passing.{bytes_of, failures_of};
+    ghost use Rattle.acq_serving.specs.Passing.{bytes_of, failures_of};
 
     ghost sent = { bytes_of };
 
