@@ -4,7 +4,7 @@ use Rattle.std.proofs.lemmas.List.Elements.{All-weaker}
 use Rattle.acq_message.specs.declared.verdict.Verdict.{Verdict}
 use Rattle.acq_core.specs.declared.query.Query.{Query}
 use Rattle.acq_core.specs.Tables.{Tables}
-use Rattle.acq_front.proofs.ServedWeaker.{SaysLess, serves_weaker}
+use Rattle.acq_serving.proofs.ServedWeaker.{SaysLess, serves_weaker}
 use Rattle.acq_front.specs.Stops.{Left, open_at}
 use Rattle.acq_front.specs.Talk.{Saying}
 use Rattle.acq_commands.specs.Listening.{Served, ServesOne, ServesEach, Traffic, traffic_after}

@@ -3,7 +3,7 @@ use Rattle.std.specs.Prelude.{◌≡◌, ◌+◌, ℕ, List, [], ◌∷◌, ◌+
 use Rattle.std.specs.List.{All}
 use Rattle.acq_core.specs.Tables.{Tables}
 use Rattle.acq_front.specs.Faults.{failed_reads, failed_writes}
-use Rattle.acq_front.specs.Serving.{Connection, Serves}
+use Rattle.acq_serving.specs.Serving.{Connection, Serves}
 use Rattle.acq_front.specs.Stops.{Left, LeavesAll, open_at}
 use Rattle.acq_front.specs.Talk.{Saying}
 use Rattle.acq_front.specs.declared.front_fault.FrontFault as front

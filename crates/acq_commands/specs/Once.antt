@@ -2,7 +2,7 @@
 use Rattle.std.specs.Prelude.{◌≡◌, ℕ, ◌++◌, Result, Ok, Err}
 use Rattle.std.specs.List.{All}
 use Rattle.acq_core.specs.Tables.{Opening, Tables, new_tables}
-use Rattle.acq_front.specs.Serving.{Connection, Serves}
+use Rattle.acq_serving.specs.Serving.{Connection, Serves}
 use Rattle.acq_front.specs.Stops.{Left, open_at}
 use Rattle.acq_front.specs.Talk.{Saying}
 use Rattle.acq_front.specs.declared.front_fault.FrontFault.{FrontFault}

@@ -13,9 +13,10 @@ ghost use Rattle.acq_commands.specs.Listening.{with_served};
 use acq_book::Book;
 use acq_core::{Query, Verdict};
 use acq_faults::{Fault, Gathering, end_connection};
-use acq_front::{Clock, Connections, Issuer};
+use acq_front::{Clock, Issuer};
 use acq_host::Host;
 use acq_link::Sink;
+use acq_serving::Connections;
 use std::alloc::Global;
 
 /// Serves so many connections over a book, one after the other. A connection's fault is a line of

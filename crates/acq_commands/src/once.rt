@@ -2,7 +2,7 @@
 
 ghost use Rattle.std.specs.Prelude.{◌≡◌, ◌+◌, OnOk};
 ghost use Rattle.acq_core.specs.Pasts.{HasPast};
-ghost use Rattle.acq_front.specs.Serving.{FrameCame};
+ghost use Rattle.acq_serving.specs.Serving.{FrameCame};
 ghost use Rattle.acq_front.specs.Stops.{left_of};
 ghost use Rattle.acq_link.specs.Moves.{TakesAll};
 ghost use Rattle.acq_faults.specs.Faults.{TellsStore, failed_reads, failed_writes};
@@ -13,9 +13,10 @@ use crate::new_list_book::new_list_book;
 use crate::widest_opening::{first_day_of_all, greatest_limit};
 use acq_book::Book;
 use acq_faults::Fault;
-use acq_front::{Clock, Issuer, serve};
+use acq_front::{Clock, Issuer};
 use acq_host::Host;
 use acq_link::{Sink, Source};
+use acq_serving::serve;
 use std::alloc::Global;
 use std::hash::RandomState;
 

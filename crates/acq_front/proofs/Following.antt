@@ -3,8 +3,8 @@ use Rattle.std.proofs.Common.{◌≡◌, ◌≢◌, ◌==◌, ℕ, Bool, true, f
 use Rattle.std.proofs.Common.{cond, refl, sym, ap, subst, ◌∙◌, append_assoc, append-nil}
 use Rattle.std.proofs.Common.{take-append-drop, arith}
 use Rattle.std.specs.Prelude.{map}
-use Rattle.std.specs.List.{flat_map}
-use Rattle.std.proofs.lemmas.Bool.{and_from}
+use Rattle.std.specs.List.{flat_map, list_all}
+use Rattle.std.proofs.lemmas.Bool.{and_parts, and_from}
 use Rattle.std.proofs.lemmas.Bool.Decides.{nat_tests}
 use Rattle.std.proofs.lemmas.Grind.{flat_map-append}
 use Rattle.std.proofs.lemmas.List.{map-append}
@@ -19,12 +19,19 @@ use Rattle.acq_core.specs.declared.output.Output.TheVariants.{Ask}
 use Rattle.acq_core.specs.Arrivals.{arrival_of}
 use Rattle.acq_core.specs.Tables.{Tables, step_output, step_tables, tables_after}
 use Rattle.acq_soundness.proofs.Runs.{tables_after-append}
-use Rattle.acq_front.proofs.Served.{all-append}
 use Rattle.acq_front.specs.Coming.{next_or, later_than}
 use Rattle.acq_front.specs.Talk.{Taking, first_moment, replies, reply_in, taking_said}
 use Rattle.acq_front.specs.Turns.{Makes}
 use Rattle.acq_front.specs.Log.{Entry, Follows, after_log, by, events_of, message_in}
 use Rattle.acq_front.specs.Log.{messages_by, only, replies_to}
+
+-- what each of two lists' elements do, those of both do
+pub all-append : {X : Type 0} (p : X → Bool) (xs ys : List X) → list_all p xs ≡ true →
+    list_all p ys ≡ true → list_all p (xs ++ ys) ≡ true
+all-append p [] ys h k = k
+all-append p (x ∷ xs) ys h k =
+    let parts = and_parts (p x) (list_all p xs) h in
+    and_from (p x) (list_all p (xs ++ ys)) parts.0 (all-append p xs ys parts.1 k)
 
 same : (k : ℕ) → (k == k) ≡ true
 same k = grind (arith, nat_tests)

@@ -1,10 +1,10 @@
 -- How one message was taken and answered.
-use Rattle.std.proofs.Common.{◌≡◌, ◌==◌, ◌<◌, subst, ℕ, true, List, [], ◌∷◌, ◌++◌, Result, Ok, Err}
-use Rattle.std.proofs.Common.{refl, sym, ap, ◌∙◌, append-nil, arith, inl, inr}
+use Rattle.std.proofs.Common.{◌≡◌, ◌==◌, ◌<◌, subst, ℕ, true, List, [], ◌∷◌, Result, Ok, Err}
+use Rattle.std.proofs.Common.{refl, sym, ap, ◌∙◌, arith, inl, inr}
 use Rattle.std.proofs.lemmas.Bool.{and_from, le-leb, lt-ltb}
 use Rattle.std.proofs.lemmas.Bool.Decides.{nat_tests}
 use Rattle.std.specs.Prelude.{length}
-use Rattle.acq_link.specs.Frames.{frame, Frames, fits_frame}
+use Rattle.acq_link.specs.Frames.{Frames, fits_frame}
 use Rattle.acq_message.specs.declared.verdict.Verdict.{Verdict}
 use Rattle.iso_codec.specs.declared.decode_fault.DecodeFault.{DecodeFault}
 use Rattle.acq_core.specs.declared.event.Event.{Event}
@@ -21,8 +21,8 @@ use Rattle.acq_front.specs.declared.front_fault.FrontFault as fault
 use Rattle.acq_front.specs.Faults.{of_book, CountsStore, IfStore, TellsStore}
 use Rattle.acq_front.specs.Stops.{Left, LeavesAll, LeavesSome}
 use Rattle.acq_front.specs.Talk.{Saying, reply_in, replies}
-use Rattle.acq_front.specs.Turns.{is_read, Incoming, TookMessage, TookNone, TookAllButAnswer}
-use Rattle.acq_front.specs.Turns.{Answered, Refused, Said, Takes, Turns, ReplyFits, Sends, SendsReply}
+use Rattle.acq_front.specs.Turns.{Incoming, TookNone, TookAllButAnswer}
+use Rattle.acq_front.specs.Turns.{Answered, Refused, Said, Takes, Turns, ReplyFits}
 use Rattle.acq_front.specs.Outgoing.{frame_said}
 use Rattle.acq_front.proofs.Reading.{undecodable_is, reads}
 use Rattle.acq_front.proofs.MessagesTaken.{AsksNothing, makes_asking, replies_one, replies_two}
@@ -105,75 +105,6 @@ take_stops may_say old left m fault.TheVariants.Ended h = absurd h
 take_stops may_say old left m (fault.TheVariants.Undecodable u) h = h
 take_stops may_say old left m fault.TheVariants.Read h = absurd h
 take_stops may_say old left m (fault.TheVariants.Write n) h = absurd h
-
-module _ (may_say : Saying) (old : Tables) (left : Left) (m : Incoming) (events : List Event)
-    (reads : is_read m.message ≡ true)
-    (took : TookMessage may_say old left m events) where
-  -- a reply's frame went out, or its first bytes
-  reply_sent : (text before now : List ℕ) (r : Result (Unit {0}) fault.FrontFault) →
-      replies old events ≡ text ∷ [] →
-      fits_frame text ≡ true → Sends text before now r →
-      (out : List ℕ) × (now ≡ before ++ out) × Turns may_say old left m out r
-  reply_sent text before now (Ok u) one fits sent = (
-    frame text,
-    sent,
-    (
-      record {
-        events = events;
-        took = took;
-        written =
-            frames_one text (replies old events) one fits;
-      },
-      reads,
-    ),
-  )
-  reply_sent text before now (Err (fault.TheVariants.Write n)) one fits sent = (
-    _,
-    sent.1,
-    record {
-      events = events;
-      reply = text;
-      took = took;
-      reads = reads;
-      replied = one;
-      short =
-          sent.0;
-      written = refl;
-    },
-  )
-  reply_sent text before now (Err fault.TheVariants.Memory) one fits sent = absurd sent
-  reply_sent text before now (Err fault.TheVariants.Store) one fits sent = absurd sent
-  reply_sent text before now (Err fault.TheVariants.BadLength) one fits sent = absurd sent
-  reply_sent text before now (Err fault.TheVariants.Ended) one fits sent = absurd sent
-  reply_sent text before now (Err fault.TheVariants.Read) one fits sent = absurd sent
-  reply_sent text before now (Err (fault.TheVariants.Undecodable f)) one fits sent = absurd sent
-
-  -- nothing was to go out
-  nothing_sent : (before now : List ℕ) → replies old events ≡ [] → now ≡ before →
-      (out : List ℕ) × (now ≡ before ++ out) × Turns may_say old left m out (Ok tt)
-  nothing_sent before now none same = (
-    [],
-    same ∙ sym (append-nil before),
-    (record { events = events; took = took; written = frames_none none }, reads),
-  )
-
-  -- what the host said last was sent, if it is a reply
-  pub said_sent : (o : Output) (before now : List ℕ) (r : Result (Unit {0}) fault.FrontFault) →
-      replies old events ≡ reply_in o → ReplyFits o → SendsReply o before now r →
-      (out : List ℕ) × (now ≡ before ++ out) × Turns may_say old left m out r
-  said_sent (Reply party text) before now r are fits sent = reply_sent text before now r are
-      (fits party text refl) sent
-  said_sent o before now (Ok u) are fits sent = nothing_sent before now are sent
-  said_sent o before now (Err f) are fits sent = absurd sent
-
--- what the host said last was sent, if it is a reply
-pub was_sent : (may_say : Saying) (old : Tables) (left : Left) (m : Incoming) (o : Output)
-    (before now : List ℕ) (r : Result (Unit {0}) fault.FrontFault) →
-    Said may_say old left m o → SendsReply o before now r →
-    (out : List ℕ) × (now ≡ before ++ out) × Turns may_say old left m out r
-was_sent may_say old left m o before now r s sent =
-    said_sent may_say old left m s.events s.reads s.took o before now r s.replied s.fits
-    sent
 
 -- what the host said last is held as a frame, if it is a reply
 pub was_held : (may_say : Saying) (old : Tables) (left : Left) (m : Incoming) (o : Output) →

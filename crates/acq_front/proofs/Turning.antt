@@ -5,7 +5,7 @@ use Rattle.acq_link.specs.Frames.{has_bad_length}
 use Rattle.acq_link.specs.FramesAt.{BeginsWithFrame}
 use Rattle.acq_link.specs.declared.deframe_fault.DeframeFault as deframe
 use Rattle.acq_core.specs.Tables.{Tables}
-use Rattle.acq_front.specs.Faults.{of_stream}
+use Rattle.acq_front.specs.Faults.{TellsStore, of_stream}
 use Rattle.acq_front.specs.Stops.{Left}
 use Rattle.acq_front.specs.Talk.{Saying}
 use Rattle.acq_front.specs.declared.front_fault.FrontFault as fault
@@ -48,6 +48,12 @@ module _ (may_give : ℕ → Type 0) (may_say : Saying) (old : Tables) (left : L
     turns = subst (λ (l : List ℕ). Turns may_say old left m l (Err f)) (sym none)
         (take_stops may_say old left m f taken);
   })
+
+-- a fault of the stream of frames is none of the store
+pub stream_unstored : (X p : Type 0) (e : deframe.DeframeFault) (a b : ℕ) → b ≡ a →
+    TellsStore {X = X} (Err (of_stream e)) a b p
+stream_unstored X p deframe.TheVariants.Memory a b same = same
+stream_unstored X p deframe.TheVariants.BadLength a b same = same
 
 -- where it stopped so, what stands in front
 pub stream_stops : (held unsent : List ℕ) (e : deframe.DeframeFault) →

@@ -1,7 +1,7 @@
 -- One end of a connection, a turn at a time.
-use Rattle.std.specs.Prelude.{◌≡◌, ◌⊎◌, ℕ, true, List, [], Option, Result, Ok, Err}
+use Rattle.std.specs.Prelude.{◌≡◌, ◌⊎◌, ◌++◌, ℕ, true, List, [], Option, Result, Ok, Err}
 use Rattle.std.specs.List.{All}
-use Rattle.acq_link.specs.Frames.{has_bad_length}
+use Rattle.acq_link.specs.Frames.{fits_frame, frame, has_bad_length}
 use Rattle.acq_link.specs.FramesAt.{BeginsWithFrame, MayBecomeFrame}
 use Rattle.acq_message.specs.declared.verdict.Verdict.{Verdict}
 use Rattle.acq_core.specs.Tables.{Tables}
@@ -33,6 +33,12 @@ gone_of c = gone_from c.output
 -- the message that the last turn took, if it gets no reply
 abbrev pub unanswered_of : Conversation → Option Unanswered
 unanswered_of c = c.unanswered
+
+-- some message's whole frame stands in these bytes
+abbrev pub HoldsFrame : List ℕ → Type 0
+HoldsFrame bytes =
+    (before message after : List ℕ) × (fits_frame message ≡ true)
+    × (bytes ≡ before ++ (frame message ++ after))
 
 -- nothing was taken, and a stop leaves the tables as they are
 pub record TookNothing (old : Tables) (left : Left) (held rest unsent : List ℕ) : Type 0 where

@@ -4,11 +4,9 @@ pub mod Talk
 pub mod Faults
 pub mod Stops
 pub mod Turns
-pub mod Serving
 pub mod Exchanges
 pub mod Lines
 pub mod Log
-pub mod Passing
 pub mod Outgoing
 pub mod Ends
 pub mod Silences

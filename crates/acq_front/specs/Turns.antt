@@ -132,19 +132,6 @@ Turns may_say old left m out (Err (fault.TheVariants.Write n)) =
     CutShort may_say old left m out n
 Turns may_say old left m out (Err other) = ⊥
 
--- a text's frame went out, or its first n bytes
-abbrev pub Sends : List ℕ → List ℕ → List ℕ → Result (Unit {0}) fault.FrontFault → Type 0
-Sends text old new (Ok u) = new ≡ old ++ frame text
-Sends text old new (Err (fault.TheVariants.Write n)) =
-    (n < length (frame text)) × (new ≡ old ++ take n (frame text))
-Sends text old new (Err other) = ⊥
-
--- where the host's output is a reply, its frame went out, or its first n bytes
-abbrev pub SendsReply : Output → List ℕ → List ℕ → Result (Unit {0}) fault.FrontFault → Type 0
-SendsReply (Reply party text) old new result = Sends text old new result
-SendsReply other old new (Ok u) = new ≡ old
-SendsReply other old new (Err f) = ⊥
-
 -- it is no fault of the input, nor of a write
 abbrev pub OfTaking : {X : Type 0} → Result X fault.FrontFault → Type 0
 OfTaking (Ok x) = Unit {0}
@@ -152,10 +139,3 @@ OfTaking (Err fault.TheVariants.Memory) = Unit {0}
 OfTaking (Err fault.TheVariants.Store) = Unit {0}
 OfTaking (Err (fault.TheVariants.Undecodable f)) = Unit {0}
 OfTaking (Err other) = ⊥
-
--- it is no fault of the input
-abbrev pub OfMessage : Result (Unit {0}) fault.FrontFault → Type 0
-OfMessage (Err fault.TheVariants.BadLength) = ⊥
-OfMessage (Err fault.TheVariants.Ended) = ⊥
-OfMessage (Err fault.TheVariants.Read) = ⊥
-OfMessage other = Unit {0}

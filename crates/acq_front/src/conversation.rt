@@ -5,13 +5,12 @@ ghost use Rattle.std.specs.Prelude.{IfSome};
 ghost use Rattle.acq_link.specs.Deframing.{longest_frame};
 ghost use Rattle.acq_link.specs.FramesAt.{MayBecomeFrame};
 ghost use Rattle.acq_front.specs.Ends.{held_of, unsent_of, hand_of, gone_of, Steps, StopsAt};
-ghost use Rattle.acq_front.specs.Ends.{unanswered_of};
+ghost use Rattle.acq_front.specs.Ends.{HoldsFrame, unanswered_of};
 ghost use Rattle.acq_front.specs.Faults.{TellsStore, UnlessRefused};
-ghost use Rattle.acq_front.specs.Serving.{HoldsFrame};
 ghost use Rattle.acq_front.specs.Stops.{left_of};
 
 use crate::outgoing::Outgoing;
-use crate::serving::take_message;
+use crate::taking::take_message;
 use crate::turn::Turn;
 use crate::unanswered::{Unanswered, kind_of};
 use crate::{Clock, FrontFault, Issuer};

@@ -6,10 +6,9 @@ ghost use Rattle.acq_link.specs.FramesAt.{MayBecomeFrame};
 ghost use Rattle.acq_front.specs.Exchanges.{line_of, held_of, unsent_of, hand_of, gone_of, passed};
 ghost use Rattle.acq_front.specs.Exchanges.{EndsInFirst, EndsWith, Goes, IfWaits, IfWrite};
 ghost use Rattle.acq_front.specs.Exchanges.{late_fault, tells_end};
-ghost use Rattle.acq_front.specs.Ends.{Steps};
+ghost use Rattle.acq_front.specs.Ends.{HoldsFrame, Steps};
 ghost use Rattle.acq_front.specs.Faults.{IfRefused, IfStore, TellsStore, UnlessRefused};
 ghost use Rattle.acq_front.specs.Faults.{failed_reads, failed_writes};
-ghost use Rattle.acq_front.specs.Serving.{HoldsFrame};
 ghost use Rattle.acq_front.specs.Stops.{left_of};
 
 use crate::conversation::Conversation;

@@ -3,10 +3,8 @@
 ghost use Rattle.std.specs.Prelude.{◌≡◌, ◌+◌, ◌≤◌, ◌++◌, [], length};
 ghost use Rattle.acq_link.specs.Deframing.{longest_frame};
 
+use acq_link::LONGEST_FRAME;
 use std::marker::Model;
-
-/// The most bytes of a frame.
-const LONGEST_FRAME: usize = 2 + 4096;
 
 /// Bytes of one frame, in order. Contracts see the list of them.
 #[derive(Drop)]

@@ -7,8 +7,8 @@ ghost use Rattle.acq_front.specs.Turns.{OfTaking, ReplyFits};
 
 use crate::frame_buffer::FrameBuffer;
 use crate::front_fault::FrontFault;
-use crate::serving::{LONGEST, length_of};
 use acq_core::Output;
+use acq_link::LONGEST_MESSAGE;
 
 /// Bytes of one frame that are still to be written.
 #[derive(Drop)]
@@ -80,10 +80,11 @@ impl Outgoing {
             return Ok(());
         };
         let text = reply.as_bytes();
-        if text.is_empty() || text.len() > LONGEST {
+        if text.is_empty() || text.len() > LONGEST_MESSAGE {
             return Err(FrontFault::Store);
         }
-        self.frame.push(&length_of(text));
+        let length = text.len() as u16;
+        self.frame.push(&length.to_be_bytes());
         self.frame.push(text);
         Ok(())
     }

@@ -5,7 +5,7 @@ use Rattle.acq_front.specs.declared.front_fault.FrontFault.{FrontFault}
 use Rattle.acq_front.specs.declared.front_fault.FrontFault.TheVariants.{Memory, Store, BadLength}
 use Rattle.acq_front.specs.declared.front_fault.FrontFault.TheVariants.{Ended, Undecodable, Read}
 use Rattle.acq_front.specs.declared.front_fault.FrontFault.TheVariants.{Write}
-use Rattle.acq_front.specs.Serving.{Connection, LeavesOff, Serves, events_of}
+use Rattle.acq_serving.specs.Serving.{Connection, LeavesOff, Serves, events_of}
 use Rattle.acq_front.specs.Stops.{Left}
 use Rattle.acq_front.specs.Talk.{Saying}
 use Rattle.acq_headline.specs.Headline.{IsAlone}

@@ -6,7 +6,7 @@ ghost use Rattle.acq_core.specs.Pasts.{HasPast};
 ghost use Rattle.acq_core.specs.Tables.{Tables, outputs, tables_after};
 ghost use Rattle.acq_front.specs.declared.front_fault.FrontFault.{FrontFault};
 ghost use Rattle.acq_front.specs.Log.{Entry, after_log, events_of};
-ghost use Rattle.acq_front.specs.Serving.{Connection, Serves};
+ghost use Rattle.acq_serving.specs.Serving.{Connection, Serves};
 ghost use Rattle.acq_front.specs.Stops.{left_of};
 ghost use Rattle.acq_history.specs.PartyHistory.{Party};
 ghost use Rattle.acq_history.specs.Isolation.{IsSameInTwoRuns};

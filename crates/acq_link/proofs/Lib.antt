@@ -1,4 +1,5 @@
 pub mod EmptyStruct
+mod FilledFrames
 pub mod FramesReadOnce
 pub mod RestKept
 pub mod WholeTransfers

@@ -20,6 +20,12 @@ WritesFrame message old new (Err Memory) = new ≡ old
 WritesFrame message old new (Err (Write n)) =
     (n < length (frame message)) × (new ≡ old ++ take n (frame message))
 
+-- the frame of a message went out, or its first n bytes
+abbrev pub SendsFrame : List ℕ → List ℕ → List ℕ → Result (Unit {0}) ℕ → Type 0
+SendsFrame message old new (Ok u) = new ≡ old ++ frame message
+SendsFrame message old new (Err n) =
+    (n < length (frame message)) × (new ≡ old ++ take n (frame message))
+
 -- how many writes failed
 abbrev pub failed_writes : Result (Unit {0}) WriteFault → ℕ
 failed_writes (Ok u) = 0

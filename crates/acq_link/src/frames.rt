@@ -14,13 +14,13 @@ use byteorder::{BigEndian, ByteOrder};
 use std::alloc::{AllocError, Global};
 
 /// The bytes of a length.
-const HEADER: usize = 2;
+pub(crate) const HEADER: usize = 2;
 
 /// The most bytes of a message.
-const LONGEST: usize = 4096;
+pub const LONGEST_MESSAGE: usize = 4096;
 
 /// The most bytes of a frame.
-pub(crate) const LONGEST_FRAME: usize = HEADER + LONGEST;
+pub const LONGEST_FRAME: usize = HEADER + LONGEST_MESSAGE;
 
 /// What stands at the front of these bytes. It takes no memory.
 pub fn frame_at(bytes: &[u8]) -> Front<'_>
@@ -30,7 +30,7 @@ pub fn frame_at(bytes: &[u8]) -> Front<'_>
         return Front::Partial;
     }
     let length = BigEndian::read_u16(bytes) as usize;
-    if length == 0 || length > LONGEST {
+    if length == 0 || length > LONGEST_MESSAGE {
         return Front::BadLength;
     }
     let (_, rest) = bytes.split_at(HEADER);

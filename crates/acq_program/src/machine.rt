@@ -3,8 +3,8 @@
 use acq_book::Book;
 use acq_core::Limit;
 use acq_faults::{Fault, Gathering, ListenOptions, Patience};
-use acq_front::Connections;
 use acq_link::{Sink, Source};
+use acq_serving::Connections;
 use acq_stand_in::StandIn;
 use day_totals::Day;
 use std::alloc::Global;

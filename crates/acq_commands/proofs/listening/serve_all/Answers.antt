@@ -3,7 +3,7 @@ use Rattle.std.proofs.lemmas.Result.{err_from_is_err_and}
 use Rattle.std.proofs.lemmas.List.{length_push}
 use Rattle.acq_commands.specs.Listening.{Traffic, with_served}
 use Rattle.acq_front.specs.Stops.{left_of, open_at}
-use Rattle.acq_front.proofs.ServedWeaker.{says_same}
+use Rattle.acq_serving.proofs.ServedWeaker.{says_same}
 use Rattle.acq_front.proofs.StopsLeave.{none_stop}
 use Rattle.acq_faults.proofs.ToldLater.{tells_later}
 use Rattle.acq_commands.proofs.ConnectionsServed.{weaker_one, says_open, one_more, passes_more}

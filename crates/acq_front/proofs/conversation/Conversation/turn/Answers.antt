@@ -6,11 +6,11 @@ use Rattle.acq_front.specs.Ends.{held_of, unsent_of}
 use Rattle.acq_front.specs.declared.conversation.Conversation.{Conversation}
 use Rattle.acq_front.specs.declared.turn.Turn.{Turn}
 use Rattle.acq_front.specs.Stops.{left_of}
-use Rattle.acq_front.proofs.FaultsApart.{stream_unstored}
 use Rattle.acq_front.proofs.Rounds.{unless_refused}
 use Rattle.acq_front.proofs.StopsLeave.{none_stop}
 use Rattle.acq_front.proofs.Turned.{tells_counted, tells_unfit, was_held}
-use Rattle.acq_front.proofs.Turning.{no_message, taking_ends, stream_stops, taking_stops}
+use Rattle.acq_front.proofs.Turning.{no_message, stream_unstored, taking_ends, stream_stops}
+use Rattle.acq_front.proofs.Turning.{taking_stops}
 use Rattle.acq_front.proofs.conversation.Conversation.turn.Goals as goal
 
 pub returns-clause-steps : goal.returns-clause-steps
