@@ -14,10 +14,7 @@ use Rattle.acq_core.specs.declared.request.Request.{Request}
 use Rattle.acq_core.specs.declared.posting.Posting.{Posting}
 use Rattle.acq_core.specs.Tables.{Tables, requests_of, postings_of, used_in, totals_on}
 use Rattle.acq_core.specs.Tables.{with_changed}
-use Rattle.acq_book.specs.declared.lists.day_sums.DaySums.{DaySums}
-use Rattle.acq_book.specs.declared.lists.merchant_day.MerchantDay.{MerchantDay}
-use Rattle.acq_book.specs.Sums.{sums_in, with_one}
-use Rattle.acq_book.proofs.Days.{sums-push}
+use Rattle.acq_book.proofs.Days.{totals-push}
 use Rattle.acq_book.proofs.Counting.{count-filter-push, count-filter-map}
 use Rattle.acq_sql_rows.specs.Tallies.{Tally, Running, Tallies, no_tally, plus, leg_plus, tally_of}
 use Rattle.acq_sql_rows.specs.Tallies.{raised}
@@ -87,20 +84,12 @@ totals_plus a DebitReversal amount = λ i. record {
 }
 
 module _ (t : Tables) (n : ℕ) (p : Posting) (m : List ℕ) (d : ℕ) where
-  abbrev key : MerchantDay
-  key = record { merchant = m; day = d }
-
   abbrev was : DayTotals
   was = totals_on (postings_of m t.postings) d
 
   posted : totals_on (postings_of m (t.postings ++ (n, p) ∷ [])) d
       ≡ cond (is_key p.merchant p.day m d) (with_leg_amount was p.leg p.amount) was
-  posted =
-      ap (λ (s : DaySums). s.totals) (sums-push t.postings (n, p) key)
-      ∙ elim (is_key p.merchant p.day m d)
-      as (λ b. (cond b (with_one (sums_in t.postings key) p.leg p.amount)
-      (sums_in t.postings key)).totals
-      ≡ cond b (with_leg_amount was p.leg p.amount) was) [ true ↦ refl | false ↦ refl ]
+  posted = totals-push t.postings (n, p) m d
 
   -- what a posting makes of a day
   pub tally_posted : tally_of (with_posting n p t) m d
