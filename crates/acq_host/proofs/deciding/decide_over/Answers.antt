@@ -9,13 +9,13 @@ use Rattle.acq_host.proofs.deciding.decide_over.Goals as goal
 pub returns-clause-output : goal.returns-clause-output
 returns-clause-output g c = λ o nothing.
     let a = c.args.arrival.now in
-    c.in_ok-decide.ensures.output
+    c.in_ok-decide_arrival.ensures.output
     ∙ ap (λ k. output_of (merchant_named a) (outcome k a))
     (c.in_ok-look_up.ensures.known o nothing)
 
 pub returns-clause-change : goal.returns-clause-change
 returns-clause-change g c = λ o nothing.
-    c.in_ok-decide.ensures.change
+    c.in_ok-decide_arrival.ensures.change
     ∙ ap (λ k. change_for k c.args.arrival.now) (c.in_ok-look_up.ensures.known o nothing)
 
 pub returns-in_err-look_up-clause-store : goal.returns-in_err-look_up-clause-store

@@ -20,7 +20,7 @@ returns-clause-looks g c =
 
 pub returns-clause-known : goal.returns-clause-known
 returns-clause-known g c = λ o nothing.
-    let wanted = c.wanted-wanted.result in
+    let wanted = c.wanted_by-wanted.result in
     let between = c.look_up_of_merchant.ensures.looks.was_open o in
     let same = c.in_ok-look_up_rows.ensures.looks.same between in
     let rows = c.in_ok-look_up_rows.ensures.looked between nothing in
@@ -29,7 +29,7 @@ returns-clause-known g c = λ o nothing.
     known_if (g.B.Book.tables c.args.book.now) c.args.arrival.now wanted
     c.look_up_of_merchant.new.looked
     c.look_up_of_merchant.result
-    (c.wanted-wanted.ensures ∙ ap (λ day. wanted_by day c.args.arrival.now) nothing.today)
+    (c.wanted_by-wanted.ensures ∙ ap (λ day. wanted_by day c.args.arrival.now) nothing.today)
     (subst (λ t. OnOk c.look_up_of_merchant.result (IsLooked t wanted
     c.look_up_of_merchant.new.looked)) same all)
 
