@@ -5,3 +5,4 @@ pub mod OptionsRead
 pub mod ProgramIsSimple
 pub mod WantedReports
 mod Ends
+mod TablesRead

@@ -5,4 +5,5 @@ pub mod Apart
 pub mod Arguments
 pub mod Program
 pub mod WantedReports
+pub mod Parameters
 pub mod Commands

@@ -42,30 +42,17 @@ once =
     with_rule (with_rule (with_rule (new_app (codes "once"))
     (option (codes "db"))) (option (codes "issuers"))) (option (codes "at"))
 
--- `listen --db FILE --port P [--address ADDRESS] [--count N]`, without its other options
-abbrev pub listen_at_port : App
-listen_at_port =
-    with_rule (with_rule (with_rule (with_rule (new_app (codes "listen"))
-    (required (codes "db"))) (required (codes "port"))) (option (codes "address")))
-    (option (codes "count"))
-
--- with `[--issuers FILE] [--at MOMENT] [--idle SECONDS]` behind them
-abbrev pub listen_at_moment : App
-listen_at_moment =
-    with_rule (with_rule (with_rule listen_at_port
-    (option (codes "issuers"))) (option (codes "at"))) (option (codes "idle"))
-
--- and `[--frame-within SECONDS] [--idle-when-full SECONDS] [--stop-within SECONDS] [--together M]`
-abbrev pub listen_together : App
-listen_together =
-    with_rule (with_rule (with_rule (with_rule listen_at_moment
-    (option (codes "frame-within"))) (option (codes "idle-when-full")))
-    (option (codes "stop-within"))) (option (codes "together"))
-
--- and `[--control PATH] [--log FILE] [--log-bytes N]`
+-- `listen --db FILE --port P [--address ADDRESS] [--count N] [--issuers FILE] [--at MOMENT]
+-- [--idle SECONDS] [--frame-within SECONDS] [--idle-when-full SECONDS] [--stop-within SECONDS]
+-- [--together M] [--control PATH] [--log FILE] [--log-bytes N]`
 abbrev pub listen : App
 listen =
-    with_rule (with_rule (with_rule listen_together (option (codes "control")))
+    with_rule (with_rule (with_rule (with_rule (with_rule (with_rule (with_rule (with_rule
+    (with_rule (with_rule (with_rule (with_rule (with_rule (with_rule (new_app (codes "listen"))
+    (required (codes "db"))) (required (codes "port"))) (option (codes "address")))
+    (option (codes "count"))) (option (codes "issuers"))) (option (codes "at")))
+    (option (codes "idle"))) (option (codes "frame-within"))) (option (codes "idle-when-full")))
+    (option (codes "stop-within"))) (option (codes "together"))) (option (codes "control")))
     (option (codes "log"))) (option (codes "log-bytes"))
 
 -- `replay [--db FILE] [--limit N] [--day DAY] [--clearing DAY].. [--report DAY]..`
@@ -113,19 +100,11 @@ acqd =
       top = record (new_app (codes "acqd")).top { has_version = true; subcommand_required = true };
     }
 
--- with the commands that make a book, or take what comes in
-abbrev pub making : App
-making =
-    with_subcommand (with_subcommand (with_subcommand (with_subcommand
-    (with_subcommand acqd init.top) migrate.top) once.top) listen.top) replay.top
-
--- and with those that only write texts
-abbrev pub writing : App
-writing =
-    with_subcommand (with_subcommand (with_subcommand (with_subcommand (with_subcommand making
-    (on_a_day (codes "clearing")).top) (on_a_day (codes "report")).top) holds.top) pending.top)
-    show.top
-
--- the program and its commands, the last of which talk to a host, or tell how it is
+-- the program and its commands
 abbrev pub program : App
-program = with_subcommand (with_subcommand writing tell.top) status.top
+program =
+    with_subcommand (with_subcommand (with_subcommand (with_subcommand (with_subcommand
+    (with_subcommand (with_subcommand (with_subcommand (with_subcommand (with_subcommand
+    (with_subcommand (with_subcommand acqd init.top) migrate.top) once.top) listen.top) replay.top)
+    (on_a_day (codes "clearing")).top) (on_a_day (codes "report")).top) holds.top) pending.top)
+    show.top) tell.top) status.top

@@ -1,6 +1,0 @@
-use Rattle.acq_program.proofs.program.listen_together.Goals as goal
-
-pub returns : goal.returns
-returns c =
-    c.with_option.ensures _ (c.with_option-command-3.ensures _ (c.with_option-command-2.ensures _
-    (c.with_option-command.ensures _ c.listen_at_moment-command.ensures)))

@@ -1,0 +1,305 @@
+//! What the program's help says of it and of each command.
+
+pub(crate) const ABOUT: &str = "An acquirer host for cards: ISO 8583:1987 in, replies out.
+
+A book holds merchants, terminals, card ranges, requests, holds, postings and reconciliations. It is
+kept in a file, which `acqd init` makes; `once` and `replay` without a file work on a book of their
+own, which is kept in memory and given back at the end.";
+
+pub(crate) const ABOUT_INIT: &str = "Makes a new book in a file";
+
+pub(crate) const MORE_OF_INIT: &str = "\
+The file is a database of SQLite; its log stands beside it, under the same name with -wal behind it,
+and the two are one: move and copy them together. Where the file holds a book already, or another
+database that isn't empty, it is left as it is.
+
+The status is 0 where all is well, 1 for a fault, 2 for wrong usage, 3 where memory ran out or the
+file can't be used. A fault is one line on standard error:
+  acqd: 1 Memory
+  acqd: 2 Store                    the file can't be opened or written
+  acqd: 40 NotABook                the file isn't empty
+
+Example:
+  acqd init --db book.db --limit 999999 --day 2024-05-01";
+
+pub(crate) const ABOUT_MIGRATE: &str = "Migrates the book of an earlier version in a file";
+
+pub(crate) const MORE_OF_MIGRATE: &str = "\
+Books of version 1 have card ranges of six digits, those of version 2 of eight, as issuers are
+numbered since ISO/IEC 7812-1:2017. Each range LOW to HIGH becomes LOW00 to HIGH99, which are the
+same cards; all else stays as it is. A stop at any moment leaves the whole book of version 1 or the
+whole one of version 2, so that the command may be called again. Take a copy first: no command leads
+back.
+
+The status is 0 where all is well, 1 for a fault, 2 for wrong usage, 3 where memory ran out or the
+file can't be used. A fault is one line on standard error:
+  acqd: 1 Memory
+  acqd: 2 Store                    the file can't be opened, read or written
+  acqd: 40 NotABook                the file holds no book
+  acqd: 41 OtherVersion VERSION    the file holds a book of this other version: with 2 nothing is
+                                   left to do
+
+Example:
+  acqd migrate --db book.db";
+
+pub(crate) const ABOUT_ONCE: &str =
+    "Answers the frames on standard input with reply frames on standard output";
+
+pub(crate) const MORE_OF_ONCE: &str = "\
+A frame is two bytes of length, high byte first, and then so many bytes of a message, 1 to 4,096.
+Each is answered as soon as it is whole, and its reply is out before more is read. With --db they
+are taken over the book in this file, where what they change is in the file before the reply goes
+out. Without it nobody is enrolled: network management (0800 and 0801: echo tests, sign-ons and
+sign-offs) is answered, a merchant's request gets code 03, or 30 where it is malformed, and any
+other type gets no reply. MOMENT counts seconds since 1970-01-01 00:00:00 UTC.
+
+With --issuers this file stands in for the cards' issuers: a record of three fields of CSV for each
+card, `CARD,approved,ID`, `CARD,declined,CODE` or `CARD,none,`, of which the first with a card
+decides. Without it, and for a card that isn't there, no issuer can be reached, so what one is asked
+for gets code 91.
+
+The status is 0 where all is well, 1 for a fault, 2 for wrong usage, 3 where memory ran out or the
+file failed. A fault is one line on standard error, and what was written before it stands:
+  acqd: 1 Memory
+  acqd: 2 Store                    the file can't be opened, read or written
+  acqd: 23 BadLine RECORD          this record of the issuers' file is out of its form
+  acqd: 40 NotABook                the file holds no book
+  acqd: 41 OtherVersion VERSION    the file holds a book of this other version
+  acqd: 50 BadLength               a frame's length is 0 or above 4,096
+  acqd: 51 Ended                   the input ends inside a frame
+  acqd: 52 Undecodable FAULT ELEMENT   a frame spells no message
+  acqd: 53 Read                    a read failed, of the input or the issuers' file
+  acqd: 54 Write BYTES             a write failed after so many bytes of a reply's frame
+
+Example: an echo test
+  printf '\\000\\067%s' 0800822000000000000004000000000000000101120000000001301 |
+      acqd once | od -c";
+
+pub(crate) const ABOUT_LISTEN: &str = "Answers the frames of connections over TCP";
+
+pub(crate) const MORE_OF_LISTEN: &str = "\
+Connections are taken at this port of 127.0.0.1, so that a proxy on the same machine can stand in
+front; or, with --address, of another address of this machine (0.0.0.0 is all of them), for a proxy
+on another one. Nothing is encrypted: who can reach that address can send messages, and who can read
+the network reads card numbers, so it belongs to a network of the hosts and their proxy alone, or
+behind TLS. The frames of each are answered as `once` answers those on standard input; then the next
+one is served. With --together M, up to M connections are served at once, one message of each in
+turn, so that none waits for another one's bytes. What they change is in the file before the reply
+goes out; a stop at any moment leaves all events so far, and may leave a request without its
+issuer's answer, which `acqd pending` then writes.
+
+With --control PATH, control connections are taken at this Unix socket's file, too, which its owner
+alone may open. Each line gets its answer: an event line, where `now` may stand for the moment, the
+line that `replay` writes; `end,DAY` cuts over if that is the business day; `clearing,DAY`,
+`report,DAY`, `pending,DAY`, `holds,MERCHANT,MOMENT`, `status` and `metrics` get the line `text N`
+and the N bytes of the text; a bad line or a refused text its fault; `reopen` opens the log anew;
+and `stop` ends the program, once what was answered is written, or after --stop-within. `acqd tell
+PATH` sends such lines. With --log FILE, what operators want to see is put behind what this file
+holds, in lines, up to --log-bytes; one that isn't there is made for its owner alone. With --log -
+the lines go to standard error. A line that would wait, or has no room, is lost and counted.
+
+A connection that is silent for the SECONDS of --idle, or takes nothing of a reply for so long, is
+closed as one whose read or write failed. So is one whose frame takes longer than --frame-within,
+from its first byte to its last; and while all M places are taken and another connection waits, the
+one that is silent the longest, once that is longer than --idle-when-full. A connection's fault is
+one line on standard error, and the next one is served. A line that can't go out at once is dropped,
+and the next one that goes out says how many were. 1 and 2 end the program. The status is 0 where
+all connections were served, 1 for another fault, 2 for wrong usage, 3 where memory ran out or the
+file failed:
+  acqd: 1 Memory
+  acqd: 2 Store                    the file can't be opened, read or written
+  acqd: 23 BadLine RECORD          this record of the issuers' file is out of its form
+  acqd: 40 NotABook                the file holds no book
+  acqd: 41 OtherVersion VERSION    the file holds a book of this other version
+  acqd: 50 BadLength               a frame's length is 0 or above 4,096
+  acqd: 51 Ended                   a connection ends inside a frame
+  acqd: 52 Undecodable FAULT ELEMENT   a frame spells no message
+  acqd: 53 Read                    a read failed, or the port, the control socket, the log or a
+                                   connection can't be had, or a connection was silent, or a frame
+                                   took, too long
+  acqd: 54 Write BYTES             a write failed after so many bytes of a reply's frame
+
+Example:
+  acqd listen --db book.db --port 8583 --issuers issuers.csv";
+
+pub(crate) const ABOUT_REPLAY: &str =
+    "Takes the event lines on standard input, and writes a line of what comes of each";
+
+pub(crate) const MORE_OF_REPLAY: &str = "\
+An event line is a record of six fields of CSV, with no header line; fields not used are empty:
+  addrange,LOW,HIGH,ISSUER,HOLD,       an issuer's card range, and how many days a hold lasts
+  droprange,LOW,HIGH,,,                no such range any more
+  enrol,MERCHANT,CURRENCY,FIRST,,      a merchant, its currency and its first reference
+  terminal,MERCHANT,TERMINAL,,,        a terminal of a merchant
+  frame,MOMENT,HEX,,,                  a terminal's message, in hexadecimal
+  answer,MOMENT,MERCHANT,REFERENCE,VERDICT,TEXT
+                                       an issuer's answer to what was asked: `approved` and an
+                                       authorization id, `declined` and a code, or `none`
+  cutover,MOMENT,,,,                   the business day ends, and the next begins
+LOW and HIGH are the first eight digits of card numbers. MOMENT counts seconds since 1970-01-01
+00:00:00 UTC.
+
+What comes of an event is one line:
+  reply MESSAGE                        this goes to the terminal
+  ask MERCHANT REFERENCE CARD AMOUNT ISSUER
+                                       this is asked of the issuer, whose answer is an event
+  done                                 it is in the book
+  refused NUMBER ..                    it isn't: 20 to 22 a range, 30 and 31 a message, 32 and 33 a
+                                       repeat or an answer come late, 34 and 35 an answer, 36 and 37
+                                       a merchant, 38 the last day
+
+With --db the book is the one in this file, and --limit and --day are not used. Each event is in the
+file, whole, before its line is written; a stop at any moment leaves all events so far.
+
+With --clearing or --report these texts are written in place of the lines, once all events are
+taken: first the clearing files in the order given, then the settlement reports.
+
+All lines are read before the first event is taken. The status is 0 where all is well, 1 for a
+fault, 2 for wrong usage, 3 where memory ran out or the file failed. A fault is one line on standard
+error, and what was written before it stands:
+  acqd: 1 Memory
+  acqd: 2 Store                        the file can't be opened, read or written
+  acqd: 40 NotABook                    the file holds no book
+  acqd: 41 OtherVersion VERSION        the file holds a book of this other version
+  acqd: 53 Read                        a read failed; no event was taken
+  acqd: 54 Write BYTES                 a write failed after so many bytes of a line or a report
+  acqd: 60 DayNotOver                  the business day of this report isn't over
+  acqd: 61 StillPending REQUESTS       so many requests of that day have no answer yet
+  acqd: 62 BadLine RECORD              this record is out of its form; no event was taken
+
+Examples:
+  acqd replay --day 2024-05-01 < examples/day.csv
+  acqd replay --day 2024-05-01 --clearing 2024-05-01 < examples/day.csv
+  acqd replay --db book.db < examples/day.csv";
+
+pub(crate) const ABOUT_CLEARING: &str = "Writes the clearing file of a business day that is over";
+
+pub(crate) const ABOUT_REPORT: &str = "Writes the settlement report of a business day that is over";
+
+pub(crate) const MORE_OF_REPORTS: &str = "\
+The text goes to standard output. Nothing in the book is changed.
+
+The status is 0 where all is well, 1 for a fault, 2 for wrong usage, 3 where memory ran out or the
+file failed. A fault is one line on standard error, and what was written before it stands:
+  acqd: 1 Memory
+  acqd: 2 Store                    the file can't be opened or read
+  acqd: 40 NotABook                the file holds no book
+  acqd: 41 OtherVersion VERSION    the file holds a book of this other version
+  acqd: 54 Write BYTES             a write failed after so many bytes of the text
+  acqd: 60 DayNotOver              the business day isn't over
+  acqd: 61 StillPending REQUESTS   so many requests of that day have no answer yet; `acqd pending`
+                                   writes answers";
+
+pub(crate) const ABOUT_HOLDS: &str = "Writes the open holds of a merchant at a moment";
+
+pub(crate) const MORE_OF_HOLDS: &str = "\
+A hold is an approved authorization that was neither completed nor reversed, up to its last second.
+They are CSV with a header line, in order of reference, the card numbers masked. MOMENT counts
+seconds since 1970-01-01 00:00:00 UTC. Nothing in the book is changed.
+
+The status is 0 where all is well, 1 for a fault, 2 for wrong usage, 3 where memory ran out or the
+file failed. A fault is one line on standard error, and what was written before it stands:
+  acqd: 1 Memory
+  acqd: 2 Store                    the file can't be opened or read
+  acqd: 37 NoSuchMerchant          the merchant isn't enrolled
+  acqd: 40 NotABook                the file holds no book
+  acqd: 41 OtherVersion VERSION    the file holds a book of this other version
+  acqd: 54 Write BYTES             a write failed after so many bytes of the text
+
+Example:
+  acqd holds --db book.db --merchant MERCHANT0000001 --at 1714555800";
+
+pub(crate) const ABOUT_PENDING: &str =
+    "Writes answers to the requests that wait for their issuer's";
+
+pub(crate) const MORE_OF_PENDING: &str = "\
+A request whose issuer was asked waits until the answer comes as an event. A stop of `listen` in
+between leaves it so: its repeats get nothing, and its day can't be cleared. For each such request,
+of all days or of one, a line goes to standard output that `acqd replay` takes as it stands, in the
+order in which the requests came:
+  answer,MOMENT,MERCHANT,REFERENCE,VERDICT,TEXT
+Nothing in the book is changed until these lines are replayed. Put them into a file, and no pipe:
+one program has a book at a time.
+
+With --issuers the verdict is what this file says of the request's card, as for `once`. Without it,
+and for a card that isn't there, it is `none`: the reply is then code 91, and nothing is posted.
+MOMENT counts seconds since 1970-01-01 00:00:00 UTC.
+
+The status is 0 where all is well, 1 for a fault, 2 for wrong usage, 3 where memory ran out or the
+file failed. A fault is one line on standard error, and what was written before it stands:
+  acqd: 1 Memory
+  acqd: 2 Store                    the file can't be opened or read
+  acqd: 23 BadLine RECORD          this record of the issuers' file is out of its form
+  acqd: 40 NotABook                the file holds no book
+  acqd: 41 OtherVersion VERSION    the file holds a book of this other version
+  acqd: 53 Read                    the issuers' file can't be read
+  acqd: 54 Write BYTES             a write failed after so many bytes of the text
+
+Example:
+  acqd pending --db book.db > answers.csv
+  acqd replay --db book.db < answers.csv";
+
+pub(crate) const ABOUT_SHOW: &str = "Shows the messages on standard input to a person";
+
+pub(crate) const MORE_OF_SHOW: &str = "\
+The messages stand on standard input as frames, as `acqd once` reads and writes them, or with --hex
+as lines, each a message in hexadecimal. Each is shown by its type, and by the number, the name and
+the content of each element; card numbers and tracks are masked, PIN blocks and chip data left out.
+What spells no message is shown by what is wrong with it, and where, and the next is shown all the
+same.
+
+The status is 0 where all is well, 1 for a fault, 2 for wrong usage, 3 where memory ran out. A
+fault is one line on standard error, and what was written before it stands:
+  acqd: 1 Memory
+  acqd: 50 BadLength               a frame's length is 0 or above 4,096
+  acqd: 51 Ended                   the input ends inside a frame
+  acqd: 53 Read                    a read failed
+  acqd: 54 Write BYTES             a write failed after so many bytes of a message's text
+  acqd: 62 BadLine LINE            this line holds no message in hexadecimal; nothing is shown
+
+Example: what comes back for an echo test
+  acqd once < examples/echo.frame | acqd show";
+
+pub(crate) const ABOUT_TELL: &str =
+    "Sends the lines on standard input to a host, and writes its answers";
+
+pub(crate) const MORE_OF_TELL: &str = "\
+PATH is the socket's file at which `acqd listen --control PATH` takes control connections. Each line
+is sent once the answer to the one before it is whole: an event line, where `now` may stand for the
+moment; `end,DAY`, which cuts over if that is the business day; `clearing,DAY`, `report,DAY`,
+`holds,MERCHANT,MOMENT`, `pending,DAY`, `status` or `metrics`; `reopen`, for the log; or `stop`. An
+answer's line goes to standard output as it comes, and of a text its bytes alone. A fault's line
+goes to standard error, and the lines behind it are sent all the same.
+
+The status is 0 where no answer was a fault's line, 1 for a fault, 2 for wrong usage, 3 where memory
+ran out. A fault of its own is one line on standard error, and no further line is sent:
+  acqd: 1 Memory
+  acqd: 50 BadLength               a line has 16,384 bytes or more, and isn't sent; or a text came
+                                   without its length
+  acqd: 51 Ended                   the host ended the connection before an answer was whole
+  acqd: 53 Read                    nobody listens at PATH, or a read failed
+  acqd: 54 Write BYTES             a write failed after so many bytes of a line, or of an answer
+  acqd: 55 Silent                  the host gave no answer within the SECONDS of --within
+
+Examples:
+  echo end,2024-05-01 | acqd tell host.control
+  echo clearing,2024-05-01 | acqd tell host.control > clearing.csv";
+
+pub(crate) const ABOUT_STATUS: &str = "Writes the figures of the book in a file";
+
+pub(crate) const MORE_OF_STATUS: &str = "\
+The figures go to standard output, a line for each, its key and its value: the business day and its
+limit; how many merchants, terminals and ranges there are; how many messages of the day count
+against the limit; how many requests of each day wait for their issuer's answer. Nothing in the book
+is changed. A host that runs is asked `status` by `acqd tell`.
+
+The status is 0 where all is well, 1 for a fault, 2 for wrong usage, 3 where memory ran out or the
+file failed. A fault is one line on standard error:
+  acqd: 1 Memory
+  acqd: 2 Store                    the file can't be opened or read
+  acqd: 40 NotABook                the file holds no book
+  acqd: 41 OtherVersion VERSION    the file holds a book of this other version
+  acqd: 54 Write BYTES             a write failed after so many bytes of the text
+
+Example:
+  acqd status --db book.db";
