@@ -5,6 +5,8 @@ ghost use Rattle.std.specs.Prelude.{◌≡◌, Some};
 use acq_sql::Refusal;
 use acq_sql_checking::OpeningFault;
 use sqlite::{Alter, Connection};
+use sqlite_disk::Disk;
+use sqlite_store::FileStore;
 
 /// Why files weren't opened as a book, with the connection to them, where they were opened.
 #[derive(Drop)]
@@ -23,5 +25,15 @@ impl<S: Alter> NoBook<S> {
             fault: refusal.fault,
             connection: Some(refusal.connection),
         }
+    }
+}
+
+impl<D: Disk + Drop> NoBook<FileStore<D>> {
+    /// Why they weren't opened. The connection is let go here: over this machine's files alone its
+    /// caller's proof would walk through all that it holds.
+    pub fn into_fault(self) -> OpeningFault
+        ensures { result ≡ self.fault }
+    {
+        self.fault
     }
 }

@@ -64,7 +64,7 @@ impl<'a, D: Start> Machine<SqlBook<FileStore<FileFrom<D>>>> for ThisMachine<'a, 
                 self.signs.opened_book();
                 Ok(book)
             }
-            Err(none) => Err(fault_of_opening(none.fault)),
+            Err(none) => Err(fault_of_opening(none.into_fault())),
         }
     }
 
