@@ -1,6 +1,5 @@
 pub mod EventsTaken
 pub mod ConnectionsServed
-pub mod FramesInOrder
 pub mod LinesWritten
 pub mod ReportsEnd
 pub mod ReportsWritten

@@ -15,7 +15,7 @@ use Rattle.acq_faults.specs.declared.fault.Fault as fault
 use Rattle.acq_faults.specs.Faults.{failed_reads, failed_writes, of_hex, of_input}
 use Rattle.acq_commands.specs.Show.{FrameFault, Shows, ShowsAll, ShowsFirst, ShowsHex, ShowsInput}
 use Rattle.acq_commands.specs.Show.{ShowsOne, ShowsUntil, entries, entry}
-use Rattle.acq_commands.proofs.FramesInOrder.{taken_all, taken_more, taken_none}
+use Rattle.acq_link.proofs.FramesInOrder.{taken_all, taken_more, taken_none}
 
 pub shows_none : (bytes : List ℕ) → ShowsFirst bytes [] [] bytes
 shows_none bytes = record { taken = taken_none bytes; given = refl }

@@ -3,14 +3,14 @@ use Rattle.std.proofs.Common.{◌≡◌, ◌≢◌, ◌==◌, ℕ, Bool, true, f
 use Rattle.std.proofs.Common.{cond, refl, sym, ap, subst, ◌∙◌, append_assoc, append-nil}
 use Rattle.std.proofs.Common.{take-append-drop, arith}
 use Rattle.std.specs.Prelude.{map}
-use Rattle.std.specs.List.{flat_map, list_all}
-use Rattle.std.proofs.lemmas.Bool.{and_parts, and_from}
+use Rattle.std.specs.List.{flat_map}
 use Rattle.std.proofs.lemmas.Bool.Decides.{nat_tests}
 use Rattle.std.proofs.lemmas.Grind.{flat_map-append}
 use Rattle.std.proofs.lemmas.List.{map-append}
-use Rattle.acq_link.specs.Frames.{frame, framed, fits_frame, Frames, FramesThen}
+use Rattle.acq_link.specs.Frames.{framed, Frames, FramesThen}
 use Rattle.acq_link.specs.FramesAt.{BeginsWithFrame}
-use Rattle.acq_link.proofs.WrittenFrames.{framed-append, framed-push}
+use Rattle.acq_link.proofs.FramesInOrder.{taken_more}
+use Rattle.acq_link.proofs.WrittenFrames.{framed-append}
 use Rattle.acq_message.specs.declared.verdict.Verdict.{Verdict}
 use Rattle.acq_core.specs.declared.event.Event.{Event}
 use Rattle.acq_core.specs.declared.event.Event.TheVariants.{Frame}
@@ -24,14 +24,6 @@ use Rattle.acq_front.specs.Talk.{Taking, first_moment, replies, reply_in, taking
 use Rattle.acq_front.specs.Turns.{Makes}
 use Rattle.acq_front.specs.Log.{Entry, Follows, after_log, by, events_of, message_in}
 use Rattle.acq_front.specs.Log.{messages_by, only, replies_to}
-
--- what each of two lists' elements do, those of both do
-pub all-append : {X : Type 0} (p : X → Bool) (xs ys : List X) → list_all p xs ≡ true →
-    list_all p ys ≡ true → list_all p (xs ++ ys) ≡ true
-all-append p [] ys h k = k
-all-append p (x ∷ xs) ys h k =
-    let parts = and_parts (p x) (list_all p xs) h in
-    and_from (p x) (list_all p (xs ++ ys)) parts.0 (all-append p xs ys parts.1 k)
 
 same : (k : ℕ) → (k == k) ≡ true
 same k = grind (arith, nat_tests)
@@ -168,13 +160,7 @@ module _ (k : ℕ) (t : Tables) (log : List Entry)
       (messages_own k events ∙ makes_brings (after_log t log) message moments verdicts events makes)
 
   came_more : FramesThen input (messages_by k log ++ message ∷ []) left
-  came_more = record {
-    each = all-append fits_frame (messages_by k log) (message ∷ []) f.came.each
-        (and_from (fits_frame message) true begins.fits refl);
-    whole = f.came.whole ∙ ap (λ (l : List ℕ). framed (messages_by k log) ++ l) begins.whole
-        ∙ sym (append_assoc (framed (messages_by k log)) (frame message) left)
-        ∙ ap (λ (l : List ℕ). l ++ left) (sym (framed-push (messages_by k log) message));
-  }
+  came_more = taken_more input held message left (messages_by k log) f.came begins.whole begins.fits
 
   written_more : output ++ unsent ≡ framed (replies_to k t (log ++ more))
   written_more =

@@ -1,12 +1,9 @@
 -- The texts of faults.
-use Rattle.std.specs.Prelude.{ℕ, List, ◌++◌, codes}
-use Rattle.std.specs.Fmt.{decimal}
+use Rattle.std.specs.Prelude.{ℕ, List, codes}
 use Rattle.acq_link.specs.declared.deframe_fault.DeframeFault.{DeframeFault}
 use Rattle.acq_link.specs.declared.deframe_fault.DeframeFault.TheVariants as deframe
 use Rattle.acq_link.specs.declared.input_fault.InputFault.{InputFault}
 use Rattle.acq_link.specs.declared.input_fault.InputFault.TheVariants as input
-use Rattle.acq_link.specs.declared.write_fault.WriteFault.{WriteFault}
-use Rattle.acq_link.specs.declared.write_fault.WriteFault.TheVariants.{Memory, Write}
 
 abbrev pub text_of_failed : List ℕ
 text_of_failed = codes "a read or a write failed"
@@ -14,10 +11,6 @@ text_of_failed = codes "a read or a write failed"
 abbrev pub text_of_input_fault : InputFault → List ℕ
 text_of_input_fault input.Memory = codes "out of memory"
 text_of_input_fault input.Read = codes "a read failed"
-
-abbrev pub text_of_write_fault : WriteFault → List ℕ
-text_of_write_fault Memory = codes "out of memory"
-text_of_write_fault (Write n) = codes "a write failed after " ++ decimal n ++ codes " bytes"
 
 abbrev pub text_of_deframe_fault : DeframeFault → List ℕ
 text_of_deframe_fault deframe.Memory = codes "out of memory"

@@ -26,6 +26,13 @@ const COMING_AT: &str =
 const FRAME_WITHIN: &str =
     "How long a frame may take, first byte to last, 0 to 999999, 0 for ever [default: 30]";
 
+/// The file of a book that is there.
+const BOOK: Parameter<'static> = Parameter {
+    name: "db",
+    kind: Required("FILE"),
+    help: "The file of the book",
+};
+
 /// What `init` takes.
 const INIT: [Parameter<'static>; 3] = [
     Parameter {
@@ -46,11 +53,7 @@ const INIT: [Parameter<'static>; 3] = [
 ];
 
 /// What `migrate` takes.
-const MIGRATE: [Parameter<'static>; 1] = [Parameter {
-    name: "db",
-    kind: Required("FILE"),
-    help: "The file of the book",
-}];
+const MIGRATE: [Parameter<'static>; 1] = [BOOK];
 
 /// What `once` takes.
 const ONCE: [Parameter<'static>; 3] = [
@@ -73,11 +76,7 @@ const ONCE: [Parameter<'static>; 3] = [
 
 /// What `listen` takes: its file, its port, how many connections come, and what is said of each.
 const LISTEN: [Parameter<'static>; 14] = [
-    Parameter {
-        name: "db",
-        kind: Required("FILE"),
-        help: "The file of the book",
-    },
+    BOOK,
     Parameter {
         name: "port",
         kind: Required("P"),
@@ -176,11 +175,7 @@ const REPLAY: [Parameter<'static>; 5] = [
 
 /// What `clearing` and `report` take.
 const ON_A_DAY: [Parameter<'static>; 2] = [
-    Parameter {
-        name: "db",
-        kind: Required("FILE"),
-        help: "The file of the book",
-    },
+    BOOK,
     Parameter {
         name: "day",
         kind: Required("YYYY-MM-DD"),
@@ -190,11 +185,7 @@ const ON_A_DAY: [Parameter<'static>; 2] = [
 
 /// What `holds` takes.
 const HOLDS: [Parameter<'static>; 3] = [
-    Parameter {
-        name: "db",
-        kind: Required("FILE"),
-        help: "The file of the book",
-    },
+    BOOK,
     Parameter {
         name: "merchant",
         kind: Required("MERCHANT"),
@@ -209,11 +200,7 @@ const HOLDS: [Parameter<'static>; 3] = [
 
 /// What `pending` takes.
 const PENDING: [Parameter<'static>; 4] = [
-    Parameter {
-        name: "db",
-        kind: Required("FILE"),
-        help: "The file of the book",
-    },
+    BOOK,
     Parameter {
         name: "day",
         kind: Optional("YYYY-MM-DD"),
@@ -253,11 +240,7 @@ const TELL: [Parameter<'static>; 2] = [
 ];
 
 /// What `status` takes.
-const STATUS: [Parameter<'static>; 1] = [Parameter {
-    name: "db",
-    kind: Required("FILE"),
-    help: "The file of the book",
-}];
+const STATUS: [Parameter<'static>; 1] = [BOOK];
 
 /// The commands, in the order in which the help has them.
 const COMMANDS: [CommandText<'static>; 12] = [

@@ -1,13 +1,12 @@
 -- A connection so far, and how it goes on and ends.
 use Rattle.std.proofs.Common.{◌≡◌, ℕ, true, false, List, [], ◌∷◌, ◌++◌, take, Result, Ok, Err}
 use Rattle.std.proofs.Common.{refl, sym, ap, subst, ◌∙◌, append_assoc, append-nil, inl, inr}
-use Rattle.std.specs.List.{list_all}
-use Rattle.std.proofs.lemmas.Bool.{and_from}
+use Rattle.std.proofs.lemmas.List.Folds.{list_all-append}
 use Rattle.acq_link.specs.Frames.{frame, framed, fits_frame, Frames, FramesThen, has_frame}
 use Rattle.acq_link.specs.Frames.{has_bad_length, is_partial}
 use Rattle.acq_link.specs.FramesAt.{BeginsWithFrame, MayBecomeFrame}
 use Rattle.acq_link.specs.declared.deframe_fault.DeframeFault as deframe
-use Rattle.acq_link.proofs.WrittenFrames.{framed-append, framed-push}
+use Rattle.acq_link.proofs.FramesInOrder.{frames_append, taken_more}
 use Rattle.acq_link.proofs.FramesReadOnce.{partial_is}
 use Rattle.acq_message.specs.declared.verdict.Verdict.{Verdict}
 use Rattle.acq_core.specs.declared.event.Event.{Event}
@@ -22,7 +21,6 @@ use Rattle.acq_front.specs.Stops.{Left, LeavesAll}
 use Rattle.acq_front.specs.Turns.{is_read, Makes, Incoming, TookMessage, TookNone, TookAllButAnswer}
 use Rattle.acq_front.specs.Turns.{Answered, Refused, CutShort, Turns}
 use Rattle.acq_serving.specs.Serving.{Connection, AllAnswered, CutsLast, LeavesOff, Serves, AllRead}
-use Rattle.acq_front.proofs.Following.{all-append}
 use Rattle.acq_front.proofs.StopsLeave.{all_behind, some_behind, some_next}
 use Rattle.acq_serving.proofs.TalkGoesOn.{GoesOn, goes_on_none, goes_on_more, talk_is, talk_ends}
 use Rattle.acq_serving.proofs.TalkGoesOn.{replies-append, said_more, said_weaker}
@@ -51,16 +49,8 @@ nothing_yet =
 
 all_read : (messages : List (List ℕ)) (message : List ℕ) → AllRead messages →
     is_read message ≡ true → AllRead (messages ++ message ∷ [])
-all_read messages message all reads = all-append is_read messages (message ∷ []) all
-    (and_from (is_read message) true reads refl)
-
-frames_append : {a b : List ℕ} {rs ss : List (List ℕ)} → Frames a rs → Frames b ss →
-    Frames (a ++ b) (rs ++ ss)
-frames_append {a = a} {b = b} {rs = rs} {ss = ss} x y = record {
-  each = all-append fits_frame rs ss x.each y.each;
-  whole = ap (λ (l : List ℕ). l ++ b) x.whole ∙ ap (λ (l : List ℕ). framed rs ++ l) y.whole
-      ∙ sym (framed-append rs ss);
-}
+all_read messages message all reads =
+    list_all-append is_read messages (message ∷ []) ∙ rw (all, reads) refl
 
 frames_and_no_more : (out now : List ℕ) (rs : List (List ℕ)) → now ≡ [] → Frames out rs →
     Frames (out ++ now) rs
@@ -146,13 +136,8 @@ module _ (S : Saying) where
   frames_then_more : (c : Connection) (held message left : List ℕ) →
       FramesThen c.input c.messages c.rest → c.rest ≡ held →
       BeginsWithFrame held message left → FramesThen c.input (c.messages ++ message ∷ []) left
-  frames_then_more c held message left so is begins = record {
-    each = all-append fits_frame c.messages (message ∷ []) so.each
-        (and_from (fits_frame message) true begins.fits refl);
-    whole = so.whole ∙ ap (λ (l : List ℕ). framed c.messages ++ l) (is ∙ begins.whole)
-        ∙ sym (append_assoc (framed c.messages) (frame message) left)
-        ∙ ap (λ (l : List ℕ). l ++ left) (sym (framed-push c.messages message));
-  }
+  frames_then_more c held message left so is begins =
+      taken_more c.input c.rest message left c.messages so (is ∙ begins.whole) begins.fits
 
   -- the next message's events were taken too
   took_more : (old : Tables) (mid now : Left) (c : Connection) (held : List ℕ) (made : List Event)

@@ -2,17 +2,14 @@
 use Rattle.std.proofs.Common.{◌≡◌, ℕ, Bool, true, List, [], ◌∷◌, ◌++◌, refl, sym, ap, ◌∙◌}
 use Rattle.std.proofs.Common.{append_assoc, append-nil}
 use Rattle.std.specs.List.{list_all}
-use Rattle.std.proofs.lemmas.Bool.{and_parts, and_from}
-use Rattle.acq_link.specs.Frames.{Frames, FramesThen, fits_frame, frame, framed}
-use Rattle.acq_link.proofs.WrittenFrames.{framed-push}
+use Rattle.std.proofs.lemmas.List.Folds.{list_all-append}
+use Rattle.acq_link.specs.Frames.{Frames, FramesThen, fit_frames, fits_frame, frame, framed}
+use Rattle.acq_link.proofs.WrittenFrames.{framed-append, framed-push}
 
-pub all_append : {X : Type 0} (p : X → Bool) (xs ys : List X) → list_all p xs ≡ true →
-    list_all p ys ≡ true →
-    list_all p (xs ++ ys) ≡ true
-all_append p [] ys h k = k
-all_append p (x ∷ xs) ys h k =
-    let parts = and_parts (p x) (list_all p xs) h in
-    and_from (p x) (list_all p (xs ++ ys)) parts.0 (all_append p xs ys parts.1 k)
+fit_both : (messages more : List (List ℕ)) → fit_frames messages ≡ true → fit_frames more ≡ true →
+    fit_frames (messages ++ more) ≡ true
+fit_both messages more first second =
+    list_all-append fits_frame messages more ∙ rw (first, second) refl
 
 pub taken_none : (bytes : List ℕ) → FramesThen bytes [] bytes
 taken_none bytes = record { each = refl; whole = refl }
@@ -23,8 +20,7 @@ pub taken_more : (bytes rest message later : List ℕ) (messages : List (List �
     rest ≡ frame message ++ later → fits_frame message ≡ true →
     FramesThen bytes (messages ++ message ∷ []) later
 taken_more bytes rest message later messages taken front fits = record {
-  each = all_append fits_frame messages (message ∷ []) taken.each
-      (and_from (fits_frame message) true fits refl);
+  each = fit_both messages (message ∷ []) taken.each (rw fits refl);
   whole = taken.whole ∙ ap (λ (x : List ℕ). framed messages ++ x) front
       ∙ sym (append_assoc (framed messages) (frame message) later)
       ∙ ap (λ (x : List ℕ). x ++ later) (sym (framed-push messages message));
@@ -38,4 +34,14 @@ taken_all bytes rest messages taken empty = record {
   each = taken.each;
   whole = taken.whole ∙ ap (λ (x : List ℕ). framed messages ++ x) empty
       ∙ append-nil (framed messages);
+}
+
+-- the frames of two lists, one after the other
+pub frames_append : {a b : List ℕ} {messages more : List (List ℕ)} → Frames a messages →
+    Frames b more → Frames (a ++ b) (messages ++ more)
+frames_append {a = a} {b = b} {messages = messages} {more = more} first second = record {
+  each = fit_both messages more first.each second.each;
+  whole = ap (λ (l : List ℕ). l ++ b) first.whole
+      ∙ ap (λ (l : List ℕ). framed messages ++ l) second.whole
+      ∙ sym (framed-append messages more);
 }
