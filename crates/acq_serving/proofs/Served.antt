@@ -1,6 +1,7 @@
 -- A connection so far, and how it goes on and ends.
 use Rattle.std.proofs.Common.{◌≡◌, ℕ, true, false, List, [], ◌∷◌, ◌++◌, take, Result, Ok, Err}
 use Rattle.std.proofs.Common.{refl, sym, ap, subst, ◌∙◌, append_assoc, append-nil, inl, inr}
+use Rattle.std.specs.List.{list_all}
 use Rattle.std.proofs.lemmas.List.Folds.{list_all-append}
 use Rattle.acq_link.specs.Frames.{frame, framed, fits_frame, Frames, FramesThen, has_frame}
 use Rattle.acq_link.specs.Frames.{has_bad_length, is_partial}
