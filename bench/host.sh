@@ -14,7 +14,7 @@ else
     trap 'rm -rf "$work"' EXIT
 fi
 crates='acq_link iso_codec card_no day_totals acq_message acq_core acq_deciding acq_soundness
-acq_book acq_list_book acq_reports acq_host'
+acq_book acq_list_book acq_reports acq_clearing acq_host'
 mkdir -p "$work/crates/host_bench/src"
 : >"$work/crates.txt"
 for crate in $crates; do

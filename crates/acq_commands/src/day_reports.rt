@@ -11,9 +11,10 @@ ghost use Rattle.acq_commands.specs.DayReports.{WritesReports, told};
 ghost use Rattle.acq_faults.specs.Faults as faults;
 
 use acq_book::Book;
+use acq_clearing::clearing;
 use acq_faults::{DayReport, Fault, ReportKind};
 use acq_link::Sink;
-use acq_reports::{ReportFault, clearing, settlement};
+use acq_reports::{ReportFault, settlement};
 use std::alloc::Global;
 
 /// Writes reports on a book, one after the other. It ends at the first that is refused, or that

@@ -1,8 +1,8 @@
 -- What is written of a day.
 use Rattle.std.specs.Prelude.{ℕ, List}
 use Rattle.acq_core.specs.Tables.{Tables}
-use Rattle.acq_reports.specs.ClearingFile.{clearing_text}
 use Rattle.acq_reports.specs.SettlementReport.{settlement_text}
+use Rattle.acq_clearing.specs.ClearingFile.{clearing_text}
 use Rattle.acq_faults.specs.declared.day_report.DayReport.{DayReport}
 use Rattle.acq_faults.specs.declared.report_kind.ReportKind.{ReportKind}
 use Rattle.acq_faults.specs.declared.report_kind.ReportKind.TheVariants.{Clearing, Settlement}

@@ -14,10 +14,10 @@ use Rattle.acq_book.specs.Order.{in_order}
 use Rattle.acq_soundness.proofs.BooksAreSound.{books_are_sound}
 use Rattle.acq_reports.specs.declared.report_fault.ReportFault.TheVariants.{DayNotOver}
 use Rattle.acq_reports.specs.declared.report_fault.ReportFault.TheVariants.{StillPending}
-use Rattle.acq_reports.specs.ClearedSums.{HasAmounts, cleared_totals}
-use Rattle.acq_reports.specs.ClearingFile.{clearing_header, clearing_text, posting_line}
 use Rattle.acq_reports.specs.Refusals.{day_refusal, pending_refusal}
-use Rattle.acq_reports.proofs.Cleared.{clears}
+use Rattle.acq_clearing.specs.ClearedSums.{HasAmounts, cleared_totals}
+use Rattle.acq_clearing.specs.ClearingFile.{clearing_header, clearing_text, posting_line}
+use Rattle.acq_clearing.proofs.Cleared.{clears}
 use Rattle.acq_headline.specs.Clearing.{GivesAgain, KeptItsClearing}
 use Rattle.acq_core.specs.Pasts.{HasPast}
 

@@ -2,9 +2,9 @@
 use Rattle.std.specs.Prelude.{◌≡◌, ℕ, List, None}
 use Rattle.acq_core.specs.Tables.{Tables}
 use Rattle.acq_book.specs.Lookups.{totals_at}
-use Rattle.acq_reports.specs.ClearedSums.{Clears}
-use Rattle.acq_reports.specs.ClearingFile.{clearing_text}
 use Rattle.acq_reports.specs.Refusals.{day_refusal}
+use Rattle.acq_clearing.specs.ClearedSums.{Clears}
+use Rattle.acq_clearing.specs.ClearingFile.{clearing_text}
 
 -- a day's clearing file is given again, byte for byte, and each merchant's totals of the day are as
 -- they were

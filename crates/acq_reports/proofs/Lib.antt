@@ -6,7 +6,5 @@ pub mod Refused
 pub mod Naming
 pub mod Settling
 pub mod LinesReadBack
-pub mod ReadBack
 pub mod SumsInOrder
-pub mod Cleared
 pub mod Adding

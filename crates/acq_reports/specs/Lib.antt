@@ -1,8 +1,6 @@
 pub mod Faults
 pub mod Marks
-pub mod ClearingFile
 pub mod SettlementReport
-pub mod ClearedSums
 pub mod OpenHolds
 pub mod Refusals
 pub mod Writing

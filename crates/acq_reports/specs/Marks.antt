@@ -3,20 +3,11 @@ use Rattle.std.specs.Prelude.{ℕ, ◌-◌, ◌/◌, ◌%◌, min, List, ◌++�
 use Rattle.std.specs.Prelude.{codes}
 use Rattle.csv.specs.Writing.{row_text, default_writer}
 use Rattle.day_totals.specs.Day.{date_text_of, two_digits}
-use Rattle.day_totals.specs.declared.leg.Leg.{Leg}
-use Rattle.day_totals.specs.declared.leg.Leg.TheVariants.{Credit, CreditReversal, Debit}
-use Rattle.day_totals.specs.declared.leg.Leg.TheVariants.{DebitReversal}
 
 -- a record of these fields as the crate `csv` writes it by default: a field with a comma, a quote
 -- or a line's end stands in quotes, each quote in it twice; behind the last one a line feed
 abbrev pub csv_line : List (List ℕ) → List ℕ
 csv_line fields = row_text default_writer fields
-
-abbrev pub leg_name : Leg → List ℕ
-leg_name Credit = codes "credit"
-leg_name CreditReversal = codes "credit-reversal"
-leg_name Debit = codes "debit"
-leg_name DebitReversal = codes "debit-reversal"
 
 -- a text to the right of so many places, which dots fill
 abbrev pub dotted : ℕ → List ℕ → List ℕ

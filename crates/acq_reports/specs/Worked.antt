@@ -3,8 +3,6 @@
 use Rattle.std.specs.Prelude.{ℕ, true, List, [], ◌∷◌, codes, Some, None}
 use Rattle.day_totals.specs.declared.leg.Leg.{Leg}
 use Rattle.day_totals.specs.declared.leg.Leg.TheVariants.{Credit, Debit, DebitReversal}
-use Rattle.day_totals.specs.declared.leg_total.LegTotal.{LegTotal}
-use Rattle.day_totals.specs.Totals.{DayTotals, zero_totals}
 use Rattle.acq_message.specs.declared.service.Service.TheVariants.{Authorization}
 use Rattle.acq_core.specs.declared.merchant.Merchant.{Merchant}
 use Rattle.acq_core.specs.declared.posting.Posting.{Posting}
@@ -81,10 +79,3 @@ worked_tables =
 
 abbrev pub worked_reconciliation : Reconciliation
 worked_reconciliation = record { merchant = first_merchant; day = 8887; in_balance = true }
-
-abbrev pub worked_total : LegTotal
-worked_total = record { count = 1; amount = 1000 }
-
--- those of the sale and its reversal
-abbrev pub worked_totals : DayTotals
-worked_totals = record zero_totals { debits = worked_total; debit_reversals = worked_total }

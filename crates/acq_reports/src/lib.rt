@@ -1,15 +1,14 @@
-//! Reports over any book: the clearing file and the settlement report of a day that is over, and a
-//! merchant's open holds.
+//! Reports over any book: the settlement report of a day that is over, a merchant's open holds, and
+//! what other reports are made of.
 //!
-//! [`clearing`] and [`open_holds`] write a line for each row that the book hands over, and keep
-//! none of them. [`clearing`] and [`settlement`] compare the day's postings with its totals first,
-//! and keep the merchants' names and sums meanwhile. The texts are defined over the
-//! tables in `specs/ClearingFile.antt`, `specs/SettlementReport.antt` and `specs/OpenHolds.antt`.
-//! What writes another text of a book's rows holds a [`Report`], which tells how far it went out,
-//! and makes its lines by [`record_text`].
+//! [`open_holds`] writes a line for each row that the book hands over, and keeps none of them.
+//! [`settlement`] compares the day's postings with its totals first, and keeps the merchants' names
+//! and sums meanwhile. The texts are defined over the tables in `specs/SettlementReport.antt` and
+//! `specs/OpenHolds.antt`. What writes another text of a book's rows holds a [`Report`], which
+//! tells how far it went out, and makes its lines by [`record_text`]; what reports on a day calls
+//! [`check_day`] and [`check_sums`] first.
 #![tactic(auto)]
 
-mod clearing_file;
 mod hold_ends;
 mod holds;
 pub mod laws;
@@ -25,10 +24,11 @@ mod settlement_report;
 mod stop;
 mod sums;
 
-pub use clearing_file::clearing;
 pub use holds::open_holds;
 pub use names::merchant_names;
 pub use records::{content_bytes, record_text, reference_text};
+pub use refusals::check_day;
 pub use report::Report;
 pub use report_fault::ReportFault;
 pub use settlement_report::settlement;
+pub use sums::check_sums;

@@ -13,7 +13,7 @@ use day_totals::Day;
 
 /// Refuses a day that isn't over, and then one some of whose requests are pending.
 #[tactic(auto, using(crate::proofs::Chains::looks_more))]
-pub(crate) fn check_day<B: Book>(book: &mut B, day: Day) -> Result<(), ReportFault>
+pub fn check_day<B: Book>(book: &mut B, day: Day) -> Result<(), ReportFault>
     ensures refuses { B.is_open book.new → Allows (day_refusal (B.tables book.old) day) result }
     ensures unwritten { failed_writes result ≡ 0 }
     ensures looks { Looks B.Book book.old book.new (is_settled result) }

@@ -90,7 +90,7 @@ fn sums_at(by_merchant: &HashMap<MerchantId, MerchantSums>, merchant: MerchantId
 /// for these besides. Where they differ it fails with `Store`: another program or the disk has
 /// changed a row.
 #[tactic(auto, using(crate::proofs::Chains::looks_more, crate::proofs::Chains::failed_later))]
-pub(crate) fn check_sums<B: Book>(
+pub fn check_sums<B: Book>(
     alloc: Global,
     book: &mut B,
     day: Day,

@@ -2,19 +2,20 @@
 
 ghost use Rattle.std.specs.Prelude.{◌≡◌, ◌+◌, None};
 ghost use Rattle.acq_book.specs.Calls.{Looks};
-ghost use Rattle.acq_reports.specs.ClearingFile.{clearing_text};
 ghost use Rattle.acq_reports.specs.Faults.{CountsStore, TellsStore, failed_writes, is_settled};
 ghost use Rattle.acq_reports.specs.OpenHolds.{holds_text};
 ghost use Rattle.acq_reports.specs.Refusals.{day_refusal, merchant_refusal};
 ghost use Rattle.acq_reports.specs.SettlementReport.{settlement_text};
 ghost use Rattle.acq_reports.specs.Writing.{Reports};
+ghost use Rattle.acq_clearing.specs.ClearingFile.{clearing_text};
 
 use crate::book_text::BookText;
 use crate::host::Host;
 use acq_book::Book;
+use acq_clearing::clearing;
 use acq_core::{MerchantId, Moment};
 use acq_link::Sink;
-use acq_reports::{ReportFault, clearing, open_holds, settlement};
+use acq_reports::{ReportFault, open_holds, settlement};
 use day_totals::Day;
 
 impl<B: Book + Drop> Host<B> {

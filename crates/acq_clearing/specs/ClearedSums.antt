@@ -9,9 +9,8 @@ use Rattle.day_totals.specs.Totals.{DayTotals, all_legs, totals_of}
 use Rattle.acq_message.specs.Numbers.{is_amount}
 use Rattle.acq_core.specs.Tables.{Tables}
 use Rattle.acq_book.specs.Lookups.{postings_at, totals_at, last_reconciliation_at}
-use Rattle.acq_reports.specs.ClearingFile.{clearing_text, posting_fields}
-use Rattle.acq_reports.specs.Marks.{leg_name}
 use Rattle.acq_reports.specs.SettlementReport.{line_of, merchant_line}
+use Rattle.acq_clearing.specs.ClearingFile.{clearing_text, leg_name, posting_fields}
 
 -- the records of a text of CSV below its first, which names the fields
 abbrev pub records_below_header : List ℕ → List (List (List ℕ))

@@ -4,13 +4,22 @@ use Rattle.std.specs.Prelude.{ℕ, List, [], ◌∷◌, ◌++◌, flat_map, code
 use Rattle.std.specs.Fmt.{decimal}
 use Rattle.day_totals.specs.Day.{date_text_of}
 use Rattle.day_totals.specs.Digits.{zero_padded}
+use Rattle.day_totals.specs.declared.leg.Leg.{Leg}
+use Rattle.day_totals.specs.declared.leg.Leg.TheVariants.{Credit, CreditReversal, Debit}
+use Rattle.day_totals.specs.declared.leg.Leg.TheVariants.{DebitReversal}
 use Rattle.acq_core.specs.declared.posting.Posting.{Posting}
 use Rattle.acq_core.specs.Tables.{Tables}
 use Rattle.acq_book.specs.Lookups.{postings_at}
-use Rattle.acq_reports.specs.Marks.{csv_line, leg_name}
+use Rattle.acq_reports.specs.Marks.{csv_line}
 
 abbrev pub clearing_header : List ℕ
 clearing_header = codes "day,merchant,number,leg,amount,reference,card,terminal,trace\n"
+
+abbrev pub leg_name : Leg → List ℕ
+leg_name Credit = codes "credit"
+leg_name CreditReversal = codes "credit-reversal"
+leg_name Debit = codes "debit"
+leg_name DebitReversal = codes "debit-reversal"
 
 -- a posting with its number; the card is whole
 abbrev pub posting_fields : ℕ × Posting → List (List ℕ)

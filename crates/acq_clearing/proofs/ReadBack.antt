@@ -8,9 +8,9 @@ use Rattle.csv.specs.declared.parser.State.TheVariants as st
 use Rattle.csv.proofs.OnLiterals.{csv_on_literals}
 use Rattle.acq_core.specs.Tables.{Tables}
 use Rattle.acq_book.specs.Lookups.{postings_at}
-use Rattle.acq_reports.specs.ClearingFile.{clearing_header, posting_fields, posting_line}
-use Rattle.acq_reports.specs.ClearedSums.{ReadsBack}
 use Rattle.acq_reports.proofs.LinesReadBack.{fewer_records, read_lines}
+use Rattle.acq_clearing.specs.ClearingFile.{clearing_header, posting_fields, posting_line}
+use Rattle.acq_clearing.specs.ClearedSums.{ReadsBack}
 
 -- no byte order mark stands before it
 same_text : (text : List ℕ) → strip_bom (clearing_header ++ text) ≡ clearing_header ++ text
@@ -34,4 +34,5 @@ reads_back t day =
     let parts = length-append clearing_header lines in
     let fewer = fewer_records posting_fields (λ row. refl) rows in
     ap (λ n. drop 1 (records_from default_config n st.StartRecord text)) (add-one (length text))
-    ∙ (read_below (length text) lines ∙ read_lines posting_fields (λ row. refl) (length text) rows (omega arith))
+    ∙ (read_below (length text) lines
+    ∙ read_lines posting_fields (λ row. refl) (length text) rows (omega arith))

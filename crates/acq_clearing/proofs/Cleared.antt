@@ -19,12 +19,12 @@ use Rattle.acq_core.specs.Tables.{Tables, postings_of}
 use Rattle.acq_book.specs.Lookups.{is_posting_before, postings_at, totals_at}
 use Rattle.acq_book.specs.Lookups.{last_reconciliation_at}
 use Rattle.acq_book.specs.Order.{put_in_order, in_order}
-use Rattle.acq_reports.specs.ClearedSums.{Clears, HasAmounts, cleared_in, cleared_totals, leg_named}
-use Rattle.acq_reports.specs.ClearingFile.{clearing_text, posting_fields}
-use Rattle.acq_reports.specs.Marks.{leg_name}
 use Rattle.acq_reports.specs.SettlementReport.{line_of}
-use Rattle.acq_reports.proofs.ReadBack.{reads_back}
 use Rattle.acq_reports.proofs.SumsInOrder.{leg_and_amount, totals_of_day}
+use Rattle.acq_clearing.specs.ClearedSums.{Clears, HasAmounts, cleared_in, cleared_totals}
+use Rattle.acq_clearing.specs.ClearedSums.{leg_named}
+use Rattle.acq_clearing.specs.ClearingFile.{clearing_text, leg_name, posting_fields}
+use Rattle.acq_clearing.proofs.ReadBack.{reads_back}
 
 -- ---- a record
 

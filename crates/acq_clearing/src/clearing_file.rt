@@ -2,21 +2,16 @@
 
 ghost use Rattle.std.specs.Prelude.{◌≡◌, ◌+◌, ◌∷◌, [], IfOk};
 ghost use Rattle.acq_book.specs.Calls.{Looks};
-ghost use Rattle.acq_reports.specs.ClearingFile.{clearing_text, posting_line};
 ghost use Rattle.acq_reports.specs.Faults.{CountsStore, TellsStore, failed_writes, is_settled};
-ghost use Rattle.acq_reports.specs.Marks.{csv_line, leg_name};
+ghost use Rattle.acq_reports.specs.Marks.{csv_line};
 ghost use Rattle.acq_reports.specs.Refusals.{day_refusal};
 ghost use Rattle.acq_reports.specs.Writing.{Reports, Writes};
+ghost use Rattle.acq_clearing.specs.ClearingFile.{clearing_text, leg_name, posting_line};
 
-use crate::names::merchant_names;
-use crate::records::record_text;
-use crate::refusals::check_day;
-use crate::report::Report;
-use crate::report_fault::ReportFault;
-use crate::sums::check_sums;
 use acq_book::{Book, Visit};
 use acq_core::Posting;
 use acq_link::Sink;
+use acq_reports::{Report, ReportFault, check_day, check_sums, merchant_names, record_text};
 use day_totals::{Day, Leg};
 use itoa::Buffer;
 use std::alloc::{AllocError, Global};
@@ -34,7 +29,7 @@ const HEADER: &[u8] = b"day,merchant,number,leg,amount,reference,card,terminal,t
 /// tells how many bytes of the text went out; with `Memory` and `Store` a beginning of it may have.
 ///
 /// The merchants' names are held in memory, and of those that have postings the sums.
-#[tactic(auto, using(crate::proofs::Chains::looks_more, crate::proofs::Chains::failed_later))]
+#[tactic(auto, using(acq_book::proofs::Chains::looks_more, acq_reports::proofs::Chains::failed_later))]
 pub fn clearing<B: Book, K: Sink>(
     alloc: Global,
     book: &mut B,
@@ -67,25 +62,33 @@ fn write_postings<B: Book, K: Sink>(
     ensures looks { Looks B.Book book.old book.new (is_settled result) }
     ensures store { CountsStore result (B.failures book.old) (B.failures book.new) }
 {
-    let mut report = Report::new(alloc, writer);
-    let walked = if report.put(HEADER) {
-        book.walk_postings(day, &mut report)
+    let mut postings = Postings {
+        report: Report::new(alloc, writer),
+    };
+    let walked = if postings.report.put(HEADER) {
+        book.walk_postings(day, &mut postings)
     } else {
         Ok(())
     };
-    report.end(walked)
+    postings.report.end(walked)
 }
 
-/// Writes a posting's record.
-impl<K: Sink> Visit<(u64, Posting)> for Report<'_, K> {
-    ghost use Rattle.acq_reports.specs.ClearingFile.{posting_line};
-    ghost use Rattle.acq_reports.specs.Writing.{Puts};
+/// Writes each posting's record.
+#[derive(Drop)]
+struct Postings<'a, K> {
+    report: Report<'a, K>,
+}
 
-    ghost sees = { λ old row more new. Puts K.sent K.failures (posting_line row) old more new };
+impl<K: Sink> Visit<(u64, Posting)> for Postings<'_, K> {
+    ghost use Rattle.acq_reports.specs.Writing.{Puts};
+    ghost use Rattle.acq_clearing.specs.ClearingFile.{posting_line};
+
+    ghost sees = { λ old row more new.
+        Puts K.sent K.failures (posting_line row) old.report more new.report };
 
     fn row(&mut self, row: &(u64, Posting)) -> bool {
-        let line = posting_text(self.alloc(), row);
-        self.put_made(line)
+        let line = posting_text(self.report.alloc(), row);
+        self.report.put_made(line)
     }
 }
 

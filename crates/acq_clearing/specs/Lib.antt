@@ -1,0 +1,3 @@
+pub mod ClearingFile
+pub mod ClearedSums
+pub mod Worked

@@ -1,0 +1,12 @@
+//! The clearing file of a day that is over, over any book.
+//!
+//! [`clearing`] compares the day's postings with its totals first, and keeps the merchants' names
+//! and sums meanwhile; then it writes a line for each posting that the book hands over, and keeps
+//! none of them. The text is defined over the tables in `specs/ClearingFile.antt`, and what is read
+//! from it in `specs/ClearedSums.antt`.
+#![tactic(auto)]
+
+mod clearing_file;
+pub mod laws;
+
+pub use clearing_file::clearing;

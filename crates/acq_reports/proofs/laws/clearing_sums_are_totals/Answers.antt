@@ -1,5 +1,0 @@
-use Rattle.acq_reports.proofs.Cleared.{clears}
-use Rattle.acq_reports.proofs.laws.clearing_sums_are_totals.Goals as goal
-
-pub returns : goal.returns
-returns c = clears
