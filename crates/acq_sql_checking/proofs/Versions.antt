@@ -1,7 +1,7 @@
 -- What the look-up of the version answers, and why it fails.
-use Rattle.std.proofs.Common.{◌≤◌, ◌<◌, get_or, ◌≡◌, ◌≢◌, ◌⊎◌, inl, inr, ℕ, true, List, [], ◌∷◌}
-use Rattle.std.proofs.Common.{map, filter, length, codes, Result, IfErr}
-use Rattle.std.proofs.Common.{None, Some, refl, sym, ap, subst, ◌∙◌, arith}
+use Rattle.std.proofs.Common.{◌≤◌, ◌<◌, get_or, ◌≡◌, ◌≢◌, ◌⊎◌, inl, inr, ℕ, Bool, true, List, []}
+use Rattle.std.proofs.Common.{◌∷◌, map, filter, length, codes, Result, IfErr}
+use Rattle.std.proofs.Common.{Option, None, Some, Ok, Err, refl, sym, ap, subst, ◌∙◌, arith}
 use Rattle.std.specs.List.Sorted.{IsPermutation}
 use Rattle.std.proofs.lemmas.List.Sorted.{IsPermutation-sym, length_permutation}
 use Rattle.sqlite_value.specs.declared.value.Value.TheVariants.{Null}
@@ -26,11 +26,17 @@ use Rattle.acq_core.specs.Tables.{Tables}
 use Rattle.acq_sql_rows.specs.Relation.{HoldsOf}
 use Rattle.acq_sql_rows.specs.Schema.{book_schema}
 use Rattle.acq_sql_rows.specs.Schema as schema
+use Rattle.acq_sql_reads.specs.Looked.{LooksOnly}
 use Rattle.acq_sql_reads.proofs.Failing.{IsAlone}
 use Rattle.acq_sql_reads.proofs.TextLemmas.{Asks}
-use Rattle.acq_sql_checking.specs.Blames.{FailsExcusably}
+use Rattle.acq_sql_checking.specs.declared.opening_fault.OpeningFault.{OpeningFault}
+use Rattle.acq_sql_checking.specs.declared.opening_fault.OpeningFault.TheVariants.{Memory, Store}
+use Rattle.acq_sql_checking.specs.declared.opening_fault.OpeningFault.TheVariants.{NotABook}
+use Rattle.acq_sql_checking.specs.declared.opening_fault.OpeningFault.TheVariants.{OtherVersion}
+use Rattle.acq_sql_checking.specs.Blames.{FailsExcusably, OpeningBlamesStore}
 use Rattle.acq_sql_checking.specs.Checked.{version_text, version_query, versions_in, HasVersion}
-use Rattle.acq_sql_checking.specs.Checked.{HasBadVersion, HasNoNumber}
+use Rattle.acq_sql_checking.specs.Checked.{HasBadVersion, HasNoNumber, Judges, JudgesVersion}
+use Rattle.acq_sql_checking.specs.Checked.{IsFailure}
 
 pub version_asks : Asks version_text version_query (codes "version" ∷ [])
 unfolding understood everything book_schema schema.up_to_reconciliations schema.up_to_postings
@@ -150,10 +156,60 @@ only_row (r ∷ s ∷ rows) row some few is = absurd (omega (arith, few))
 
 -- ---- the version of a book
 
+book_version : {version : ℕ} (db : Database) (t : Tables) → HoldsOf version db t
+    → versions_in db.trees ≡ number version ∷ []
+book_version db t holds = ap (map (λ (row : Row). column row 1)) holds.rows.book
+
 pub has_number : {version : ℕ} (db : Database) (t : Tables) → HoldsOf version db t
     → ¬ HasBadVersion db
 has_number {version} db t holds (has, (v, one, none)) =
-    let row : versions_in db.trees ≡ number version ∷ [] =
-    ap (map (λ (row : Row). column row 1)) holds.rows.book in
+    let row = book_version db t holds in
     let same : v ∷ [] ≡ number version ∷ [] = sym one ∙ row in
     none version (cc)
+
+-- ---- what a check answers of the version that it read
+
+-- what was looked at is as it was, whatever is answered of it
+pub looks_still : (old new : State) (accepted : Bool) → LooksOnly old new true
+    → LooksOnly old new accepted
+looks_still old new accepted looks =
+    record {
+      same = λ clean is. looks.same clean refl;
+      undone = looks.undone;
+      settled = looks.settled;
+      stop = looks.stop;
+    }
+
+module _ (wanted : ℕ) (found : Option ℕ) where
+  pub judges : (db : Database) → HasVersion db.trees found
+      → (result : Result (Unit {0}) OpeningFault) → db.schema ≡ book_schema
+      → JudgesVersion wanted found result → Judges wanted db result
+  judges db read (Ok x) has is = (has, subst (HasVersion db.trees) is read)
+  judges db read (Err NotABook) has is = inr (has, subst (HasVersion db.trees) is read)
+  judges db read (Err (OtherVersion n)) has is =
+      (has, subst (HasVersion db.trees) is.0 read, is.1)
+  judges db read (Err Memory) has is = tt
+  judges db read (Err Store) has is = tt
+
+  pub accepts : (db : Database) → HasVersion db.trees found → (t : Tables) → HoldsOf wanted db t
+      → (result : Result (Unit {0}) OpeningFault)
+      → JudgesVersion wanted found result → IfErr result IsFailure
+  accepts db read t holds (Ok x) is = tt
+  accepts db read t holds (Err NotABook) is =
+      absurd (subst (HasVersion db.trees) is read (ap length (book_version db t holds)))
+  accepts db read t holds (Err (OtherVersion n)) is =
+      let one : versions_in db.trees ≡ number n ∷ [] = subst (HasVersion db.trees) is.0 read in
+      let same : number n ∷ [] ≡ number wanted ∷ [] = sym one ∙ book_version db t holds in
+      let equal : n ≡ wanted = cc in
+      absurd (is.1 equal)
+  accepts db read t holds (Err Memory) is = inl refl
+  accepts db read t holds (Err Store) is = inr refl
+
+  -- none of its answers blames the store
+  pub blames_none : (result : Result (Unit {0}) OpeningFault) (old new : State)
+      → JudgesVersion wanted found result → IfErr result (OpeningBlamesStore old new)
+  blames_none (Ok x) old new is = tt
+  blames_none (Err NotABook) old new is = λ clean opened free none. absurd (cc)
+  blames_none (Err (OtherVersion n)) old new is = λ clean opened free none. absurd (cc)
+  blames_none (Err Memory) old new is = absurd is
+  blames_none (Err Store) old new is = absurd is

@@ -52,6 +52,14 @@ Judges wanted db (Err (OtherVersion n)) =
 Judges wanted db (Err Memory) = Unit {0}
 Judges wanted db (Err Store) = Unit {0}
 
+-- what each answer says of the version of the book's one row, or of none
+abbrev pub JudgesVersion : {T : Type 0} → ℕ → Option ℕ → Result T OpeningFault → Type 0
+JudgesVersion wanted found (Ok x) = found ≡ Some wanted
+JudgesVersion wanted found (Err NotABook) = found ≡ None
+JudgesVersion wanted found (Err (OtherVersion n)) = (found ≡ Some n) × (n ≢ wanted)
+JudgesVersion wanted found (Err Memory) = ⊥
+JudgesVersion wanted found (Err Store) = ⊥
+
 -- a failure of the memory or the store
 abbrev pub IsFailure : OpeningFault → Type 0
 IsFailure fault = (fault ≡ Memory) ⊎ (fault ≡ Store)

@@ -12,7 +12,8 @@ ghost use Rattle.acq_sql_rows.specs.Standing.{IsAtOf};
 ghost use Rattle.acq_sql_reads.specs.Failing.{FailsForMemory};
 ghost use Rattle.acq_sql_reads.specs.Looked.{LooksOnly};
 ghost use Rattle.acq_sql_checking.specs.Blames.{OpeningBlamesStore, FailsExcusably};
-ghost use Rattle.acq_sql_checking.specs.Checked.{Judges, IsFailure, HasVersion, HasBadVersion, HasNoNumber};
+ghost use Rattle.acq_sql_checking.specs.Checked.{Judges, JudgesVersion, IsFailure, HasVersion};
+ghost use Rattle.acq_sql_checking.specs.Checked.{HasBadVersion, HasNoNumber};
 
 use crate::alike::Alike;
 use crate::opening_fault::OpeningFault;
@@ -44,7 +45,14 @@ pub fn check_book<S: Alter>(
     if !is_book_schema(alloc, conn.schema())? {
         return Err(OpeningFault::NotABook);
     }
-    match version(conn)? {
+    judge(version(conn)?, wanted)
+}
+
+/// What a check answers of the version that a book has, or of none.
+fn judge(found: Option<u64>, wanted: u32) -> Result<(), OpeningFault>
+    ensures { JudgesVersion wanted found result }
+{
+    match found {
         Some(version) if version == u64::from(wanted) => Ok(()),
         Some(version) => Err(OpeningFault::OtherVersion(version)),
         None => Err(OpeningFault::NotABook),

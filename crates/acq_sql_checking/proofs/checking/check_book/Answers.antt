@@ -1,10 +1,11 @@
-use Rattle.std.proofs.Common.{◌≡◌, refl, rules}
-use Rattle.std.proofs.lemmas.Result.{err_from_is_err_and}
+use Rattle.std.proofs.Common.{◌≡◌, is_ok, refl, rules}
+use Rattle.std.proofs.lemmas.Result.{err_from_is_err_and, IfErr-weaker}
 use Rattle.sqlite.specs.Held.{state}
 use Rattle.acq_sql_rows.specs.Schema.{book_schema}
 use Rattle.acq_sql_reads.proofs.Leaves.{looks_nowhere}
 use Rattle.acq_sql_checking.proofs.Blaming.{excused_blames, memory_blames}
 use Rattle.acq_sql_checking.proofs.Failures.{error_fails, failure_judges}
+use Rattle.acq_sql_checking.proofs.Versions.{accepts, blames_none, judges, looks_still}
 use Rattle.acq_sql_checking.proofs.checking.check_book.Goals as goal
 
 pub returns-in_err-is_book_schema : goal.returns-in_err-is_book_schema
@@ -43,3 +44,23 @@ returns-in_err-version g c =
 
 pub returns-then-not-branch-clause-looks : goal.returns-then-not-branch-clause-looks
 returns-then-not-branch-clause-looks g c = looks_nowhere (state g.S.Store c.args.conn.now)
+
+pub returns : goal.returns
+returns g c =
+    let old = state g.S.Store c.args.conn.now in
+    let new = state g.S.Store c.version.new.conn in
+    let wanted = c.args.wanted in
+    let found = c.in_ok-version.field-0 in
+    let result = c.judge.result in
+    let has : c.args.conn.now.schema ≡ book_schema = search rules in
+    record {
+      judged = λ clean. judges wanted found old.now (c.in_ok-version.ensures.read clean has) result
+          has c.judge.ensures;
+      accepts = λ clean t at. accepts wanted found old.now (c.in_ok-version.ensures.read clean has)
+          t at.holds result c.judge.ensures;
+      looks = looks_still old new (is_ok result) c.in_ok-version.ensures.looks;
+      unchanged = search rules;
+      settled = c.version.ensures.settled;
+      blames = IfErr-weaker result _ _ (λ fault blamed good. blamed)
+          (blames_none wanted found result old new c.judge.ensures);
+    }
