@@ -1,4 +1,5 @@
 use Rattle.std.proofs.Common.{◌≡◌, ◌∙◌, ℕ, ◌++◌, ◌∷◌, [], ap, sym, arith, eqb, true, if◌then◌else◌}
+use Rattle.std.proofs.Common.{rules}
 use Rattle.std.specs.Prelude.{◌&&◌, is_ok}
 use Rattle.std.specs.Str.{bytes_eq}
 use Rattle.acq_core.specs.declared.posting.Posting.{Posting}
@@ -20,6 +21,9 @@ count_posting-number-requires-clause-small c =
       rows.ok,
       rows.small,
     )
+
+pub count_posting-number-requires-clause-fits : goal.count_posting-number-requires-clause-fits
+count_posting-number-requires-clause-fits c = search rules
 
 pub invariant_of-self : goal.invariant_of-self
 invariant_of-self c =
@@ -50,3 +54,6 @@ invariant_of-self c =
           );
       room_sums = omega (arith, c.self.invariant.room_sums, c.count_posting-number.ensures.spare);
     }
+
+pub returns-clause-rows : goal.returns-clause-rows
+returns-clause-rows c = search rules
