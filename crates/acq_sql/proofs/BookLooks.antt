@@ -19,7 +19,7 @@ use Rattle.acq_book.specs.Promise.{LooksBy}
 use Rattle.acq_sql_rows.specs.Relation.{Holds}
 use Rattle.acq_sql_rows.specs.ReadBack.{tables_of}
 use Rattle.acq_sql_rows.specs.Standing.{IsAt}
-use Rattle.acq_sql_changes.specs.Refused.{HasNumbersLeft}
+use Rattle.acq_sql_writes.specs.Refused.{HasNumbersLeft}
 use Rattle.acq_sql_reads.specs.Looked.{LooksOnly}
 use Rattle.acq_sql_reads.proofs.Leaves.{at_unchanged, kept}
 use Rattle.acq_sql_checking.proofs.Blaming.{risen_by}

@@ -25,10 +25,11 @@ use Rattle.acq_soundness.specs.Rows.{FitsPosting, FitsRequest, greatest_hold_end
 use Rattle.acq_soundness.proofs.BooksAreSound.{books_are_sound}
 use Rattle.acq_soundness.proofs.Members.{In, In-push, In-find, In-last, In-map, from_In}
 use Rattle.acq_soundness.proofs.Runs.{kept}
-use Rattle.acq_sql_changes.specs.Refused.{HasBookRows, HasShortTexts, IsShortText, Takes}
-use Rattle.acq_sql_changes.specs.Written.{IsShortEnd}
+use Rattle.acq_sql_changes.specs.Refused.{HasBookRows, Takes}
+use Rattle.acq_sql_writes.specs.Refused.{HasShortTexts, IsShortText}
+use Rattle.acq_sql_writes.specs.Written.{IsShortEnd}
 use Rattle.acq_sql.specs.Applied.{HasShortEnd}
-use Rattle.acq_sql_changes.proofs.writes.ReplyLengths.{spelling_few}
+use Rattle.acq_sql_writes.proofs.ReplyLengths.{spelling_few}
 use Rattle.acq_sql_rows.proofs.SameKeys.{bytes_itself, number_itself}
 
 -- ---- lists

@@ -8,7 +8,7 @@ use Rattle.acq_core.specs.Pasts.{HasPast}
 use Rattle.acq_core.specs.Tables.{Tables, after}
 use Rattle.acq_book.specs.Fits.{Fits}
 use Rattle.acq_sql_changes.specs.Changed.{ChangesWhole}
-use Rattle.acq_sql_changes.specs.Written.{IsShortEnd}
+use Rattle.acq_sql_writes.specs.Written.{IsShortEnd}
 
 -- the change fits the tables, and these are a book's
 abbrev pub Suits : Change → Tables → Type 0

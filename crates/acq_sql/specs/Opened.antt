@@ -9,7 +9,7 @@ use Rattle.acq_core.specs.Tables.{Tables}
 use Rattle.acq_sql_rows.specs.Schema.{book_schema}
 use Rattle.acq_sql_rows.specs.ReadBack.{tables_of}
 use Rattle.acq_sql_rows.specs.Standing.{IsAt, HoldsAfter}
-use Rattle.acq_sql_changes.specs.Refused.{HasNumbersLeft}
+use Rattle.acq_sql_writes.specs.Refused.{HasNumbersLeft}
 use Rattle.acq_sql.specs.Kept.{Kept}
 use Rattle.acq_sql.specs.Memos.{Recalls}
 use Rattle.acq_sql.specs.declared.memo.Memo.{Memo}

@@ -1,6 +1,6 @@
 -- What a transaction has written so far, and what its end leaves.
-use Rattle.std.proofs.Common.{◌≡◌, ◌≤◌, inl, inr, ℕ, true, false, true≢false, cond, refl, sym}
-use Rattle.std.proofs.Common.{subst, ◌∙◌, arith, List, [], Ok, Err, Result, OnOk, IfErr, IsErr}
+use Rattle.std.proofs.Common.{◌≡◌, inl, inr, ℕ, true, false, true≢false, cond, refl, sym}
+use Rattle.std.proofs.Common.{subst, ◌∙◌, List, [], Ok, Err, Result, OnOk, IfErr, IsErr}
 use Rattle.std.proofs.Common.{IsTrue}
 use Rattle.std.proofs.lemmas.Result.{IfOk-weaker, IfErr-weaker}
 use Rattle.std.proofs.lemmas.Slice.Eq.{bytes_eq-Decides}
@@ -13,103 +13,37 @@ use Rattle.sqlite.specs.State.{State, HasCleanDisk, Shows, KeepsCounts, KeepsCom
 use Rattle.sqlite.specs.State.{Survives}
 use Rattle.sqlite.specs.Steps.{FailsToCommit}
 use Rattle.sqlite.proofs.StateLemmas.{survives_then}
-use Rattle.sqlite.proofs.Callers.{survives_begin}
 use Rattle.acq_core.specs.Tables.{Tables}
 use Rattle.acq_sql_rows.specs.Tallies.{Tally, Running, Tallies, FitsTally, plus, tally_in, raised}
 use Rattle.acq_sql_rows.specs.Rows.{version}
 use Rattle.acq_sql_rows.specs.Relation.{HoldsOf, Holds, HoldsRows}
-use Rattle.acq_sql_changes.specs.Written.{WritesInside, Changes, Raises}
+use Rattle.acq_sql_writes.specs.Written.{WritesInside, Changes, Raises}
 use Rattle.acq_sql_rows.proofs.SameKeys.{number_itself}
-use Rattle.acq_sql_changes.proofs.writes.RunningTotals.{is_key, tally_raised}
+use Rattle.acq_sql_writes.proofs.RunningTotals.{is_key, tally_raised}
 use Rattle.acq_sql_rows.specs.Standing.{IsAt, IsAtOf, HoldsAfter}
-use Rattle.acq_sql_changes.specs.Changed.{AnyTables, ChangesWholeOf}
+use Rattle.acq_sql_writes.specs.Refused.{AnyTables}
+use Rattle.acq_sql_changes.specs.Changed.{ChangesWholeOf}
 use Rattle.acq_sql_changes.proofs.ListTallies.{LeavesTallies, ComesToMore, more_tallied}
 use Rattle.acq_sql_changes.proofs.Room.{HasShortDays}
-
--- a disk that is clean after a call was so before it
-pub was_clean : (a b : ℕ) → a ≤ b → b ≡ 0 → a ≡ 0
-was_clean a b up late = omega (arith, up, late)
+use Rattle.acq_sql_writes.proofs.Within.{was_clean, IsWithin, begins, same_rows, clean_before}
+use Rattle.acq_sql_writes.proofs.Within.{kept_still, stop_still, within_still}
 
 -- ---- what was written so far
 
--- a transaction that began here is open, with nothing committed, and a stop leaves nothing of it
-pub record IsWithin (old now : State) : Type 0 where
-  pub inside : HasCleanDisk now → IsTrue now.in_transaction
-  pub is_open : HasCleanDisk now → IsTrue old.is_open → IsTrue now.is_open
-  pub kept : HasCleanDisk now → KeepsCommit old now
-  pub stop : Survives old now (λ _. ⊥)
-
--- and has changed the tables so
+-- a transaction that began here has changed the tables so
 pub record Wrote (old now : State) (changed : Tables → Tables) : Type 0 where
   pub within : IsWithin old now
   pub rows : HasCleanDisk now → (t : Tables) (runs : List Running) → HoldsRows old.now t runs
       → HoldsRows now.now (changed t) runs
 
--- where nothing is done, a stop leaves what it might before
-survives_itself : (s : State) → Survives s s (λ _. ⊥)
-survives_itself s =
-    record {
-      clean = omega arith;
-      shield = λ h. h;
-      counts = omega arith;
-      limit = refl;
-      closes = λ clean h. inl h;
-      crash = λ clean db h. inl h;
-    }
-
 module _ {S : Type 0} (g : store.Ghosts S) (old begin : Held S)
     (is : begin ≡ record old { in_transaction = true }) where
-  pub begins : IsWithin (state g old) (state g begin)
-  begins =
-      rw is (record {
-        inside = λ clean. refl;
-        is_open = λ clean h. h;
-        kept = λ clean. record { was_open = λ h. h; committed = λ _. refl };
-        stop = survives_begin g old (state g (record old { in_transaction = true })) (λ _. ⊥)
-            (survives_itself (state g (record old { in_transaction = true })));
-      })
-
-  pub same_rows : (state g begin).now ≡ (state g old).now
-  same_rows = rw is refl
-
   pub began : Wrote (state g old) (state g begin) (λ t. t)
   began =
       record {
-        within = begins;
-        rows = λ clean t runs rows. subst (λ d. HoldsRows d t runs) (sym same_rows) rows;
-      }
-
-module _ (old mid new : State) (so_far : IsWithin old mid) {T : Type 0} (result : Result T Error)
-    (Leads : Database → Database → Type 0) (write : WritesInside mid new result Leads) where
-  pub clean_before : HasCleanDisk new → HasCleanDisk mid
-  clean_before clean = was_clean _ _ write.stop.clean clean
-
-  kept_still : HasCleanDisk new → KeepsCommit old new
-  kept_still clean =
-      let early = clean_before clean in
-      let first = so_far.kept early in
-      let then = write.kept clean (so_far.inside early) in
-      record {
-        was_open = λ opened. first.was_open (then.was_open opened);
-        committed = λ opened. then.committed opened ∙ first.committed (then.was_open opened);
-      }
-
-  stop_still : Survives old new (λ _. ⊥)
-  stop_still =
-      survives_then old mid new _ _ (λ _. ⊥) (λ _ db none. none) (λ _ db none. none) so_far.stop
-      write.stop
-
-module _ {old mid new : State} {done : Unit {0}} {Leads : Database → Database → Type 0} where
-  -- one that succeeded leaves it open
-  pub within_still : IsWithin old mid → WritesInside mid new (Ok done) Leads → IsWithin old new
-  within_still so_far write =
-      let shows = λ (clean : HasCleanDisk new). write.inside clean
-      (so_far.inside (clean_before _ _ _ so_far _ _ write clean)) in
-      record {
-        inside = λ clean. (shows clean).mode;
-        is_open = λ clean h. (shows clean).is_open;
-        kept = kept_still _ _ _ so_far _ _ write;
-        stop = stop_still _ _ _ so_far _ _ write;
+        within = begins g old begin is;
+        rows = λ clean t runs rows.
+            subst (λ d. HoldsRows d t runs) (sym (same_rows g old begin is)) rows;
       }
 
 -- with one write more

@@ -14,12 +14,13 @@ use Rattle.row_lemmas.specs.Excused.{IsExcused}
 use Rattle.acq_core.specs.declared.change.Change.{Change}
 use Rattle.acq_core.specs.Tables.{Tables}
 use Rattle.acq_sql_rows.specs.Relation.{HoldsRows, Holds}
-use Rattle.acq_sql_changes.specs.Written.{WritesInside}
+use Rattle.acq_sql_writes.specs.Written.{WritesInside}
 use Rattle.acq_sql_changes.specs.Changed.{ChangesWhole}
-use Rattle.acq_sql_changes.specs.Widened.{IsNeverRefused}
-use Rattle.acq_sql_changes.specs.Refused.{HasNumbersLeft, Takes, FailsAmong}
-use Rattle.acq_sql_changes.proofs.Commits.{IsWithin, Wrote, Makes, Committed, Dropped, was_clean}
-use Rattle.acq_sql_changes.proofs.Commits.{clean_before, commits, gives_up}
+use Rattle.acq_sql_writes.specs.Widened.{IsNeverRefused}
+use Rattle.acq_sql_writes.specs.Refused.{HasNumbersLeft}
+use Rattle.acq_sql_changes.specs.Refused.{Takes, FailsAmong}
+use Rattle.acq_sql_writes.proofs.Within.{IsWithin, was_clean, clean_before}
+use Rattle.acq_sql_changes.proofs.Commits.{Wrote, Makes, Committed, Dropped, commits, gives_up}
 
 -- what is known of the tables that a change is made of
 pub record IsTaken (change : Change) (fits : Tables → Type 0) (db : Database) (t : Tables) : Type 0

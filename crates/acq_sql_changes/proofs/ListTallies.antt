@@ -20,8 +20,8 @@ use Rattle.acq_sql_rows.specs.Tallies.{Tally, Running, Tallies, no_tally, plus, 
 use Rattle.acq_sql_rows.specs.Tallies.{raised}
 use Rattle.acq_sql_rows.specs.Tallies.{request_tally, posting_tally}
 use Rattle.acq_book.specs.Fits.{IsPostedBy}
-use Rattle.acq_sql_changes.specs.Written.{with_request, with_posting, tally_from}
-use Rattle.acq_sql_changes.proofs.writes.RunningTotals.{is_key, tally_raised}
+use Rattle.acq_sql_writes.specs.Written.{with_request, with_posting, tally_from}
+use Rattle.acq_sql_writes.proofs.RunningTotals.{is_key, tally_raised}
 
 no_more : (n : ℕ) → n + 0 ≡ n
 no_more n = omega arith

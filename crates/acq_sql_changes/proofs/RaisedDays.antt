@@ -9,7 +9,7 @@ use Rattle.acq_core.specs.declared.request.Request.{Request}
 use Rattle.acq_core.specs.declared.status.Status.{Status}
 use Rattle.acq_core.specs.Tables.{Tables, answered_row, followed_row}
 use Rattle.acq_sql_rows.specs.Tallies.{request_tally, posting_tally}
-use Rattle.acq_sql_changes.specs.Written.{with_answer, with_posting, with_remains, with_request}
+use Rattle.acq_sql_writes.specs.Written.{with_answer, with_posting, with_remains, with_request}
 use Rattle.acq_sql_changes.specs.Changed.{HasRoomFor, HasRoomToPost, HasRoomToFollow}
 use Rattle.acq_sql_changes.proofs.ListTallies.{ComesToMore, LeavesDay, request_and_posting_tally}
 use Rattle.acq_sql_changes.proofs.ListTallies.{changed_tally, comes_after, tally_followed}

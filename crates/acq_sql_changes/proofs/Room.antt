@@ -14,13 +14,12 @@ use Rattle.acq_book.specs.Lookups.{used_at, totals_at}
 use Rattle.acq_sql_rows.specs.Tallies.{Tally, FitsTally, IsShortLeg, plus, leg_plus, tally_of}
 use Rattle.acq_sql_rows.specs.Tallies.{request_tally}
 use Rattle.acq_sql_rows.specs.Tallies.{posting_tally}
-use Rattle.acq_sql_changes.specs.Written.{with_request, with_posting}
+use Rattle.acq_sql_writes.specs.Written.{with_request, with_posting}
 use Rattle.acq_sql_rows.proofs.SameKeys.{bytes_same, number_same}
-use Rattle.acq_sql_changes.proofs.writes.RunningTotals.{is_key}
+use Rattle.acq_sql_writes.proofs.RunningTotals.{is_key}
 use Rattle.acq_sql_changes.specs.Changed.{HasRoomFor}
 use Rattle.acq_sql_changes.proofs.ListTallies.{LeavesDay, tally_requested, tally_posted}
-use Rattle.acq_sql_changes.proofs.ListTallies.{totals_plus, none_more}
-use Rattle.acq_sql_changes.proofs.ListTallies.{changed_tally}
+use Rattle.acq_sql_changes.proofs.ListTallies.{totals_plus, none_more, changed_tally}
 
 -- each day's columns can keep what it comes to
 abbrev pub HasShortDays : Tables → Type 0

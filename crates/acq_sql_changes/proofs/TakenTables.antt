@@ -35,21 +35,20 @@ use Rattle.acq_sql_rows.specs.Rows.{reconciliation_row, running_row}
 use Rattle.acq_sql_rows.specs.Schema.{merchants_tree, terminals_tree, requests_tree}
 use Rattle.acq_sql_rows.specs.Schema.{postings_tree, reconciliations_tree, running_tree}
 use Rattle.acq_sql_rows.specs.Tallies.{Tally}
-use Rattle.acq_sql_changes.specs.Written.{with_remains}
-use Rattle.acq_sql_changes.specs.Changed.{AnyTables}
-use Rattle.acq_sql_changes.specs.Refused.{HasNumberLeft, HasShortTexts, HasShortRequests}
-use Rattle.acq_sql_changes.specs.Refused.{IsShortText, IsNextPosting, IsNextReconciliation}
-use Rattle.acq_sql_changes.specs.Refused.{TakesMerchant, TakesTerminal, TakesRange, TakesRequest}
-use Rattle.acq_sql_changes.specs.Refused.{TakesPosting, TakesReconciliation, TakesMore, is_posting}
-use Rattle.acq_sql_changes.specs.Refused.{is_reconciliation}
+use Rattle.acq_sql_writes.specs.Written.{with_remains}
+use Rattle.acq_sql_writes.specs.Refused.{AnyTables, HasNumberLeft, HasShortTexts, HasShortRequests}
+use Rattle.acq_sql_writes.specs.Refused.{IsShortText, TakesMerchant, TakesTerminal, TakesRange}
+use Rattle.acq_sql_writes.specs.Refused.{TakesRequest, TakesPosting, TakesReconciliation, TakesMore}
+use Rattle.acq_sql_writes.specs.Refused.{is_posting, is_reconciliation}
+use Rattle.acq_sql_changes.specs.Refused.{IsNextPosting, IsNextReconciliation}
 use Rattle.acq_sql_changes.proofs.Commits.{has_room}
 use Rattle.acq_sql_changes.proofs.Failures.{IsTaken}
 use Rattle.acq_sql_changes.proofs.ListTallies.{ComesToMore, more_tallied}
 use Rattle.acq_sql_changes.proofs.Room.{HasShortDays}
-use Rattle.acq_sql_changes.proofs.writes.RaiseWrites.{none_find}
-use Rattle.acq_sql_changes.proofs.writes.RangeMoves.{narrow_of}
+use Rattle.acq_sql_writes.proofs.RaiseWrites.{none_find}
+use Rattle.acq_sql_writes.proofs.RangeMoves.{narrow_of}
 use Rattle.acq_sql_rows.proofs.SameKeys.{bytes_same, number_same}
-use Rattle.acq_sql_changes.proofs.writes.RunningTotals.{find_none}
+use Rattle.acq_sql_writes.proofs.RunningTotals.{find_none}
 
 -- ---- lists
 

@@ -13,13 +13,13 @@ use Rattle.acq_core.specs.Tables.{Tables}
 use Rattle.acq_core.specs.Widening.{widened_tables}
 use Rattle.acq_sql_rows.specs.Tallies.{Running}
 use Rattle.acq_sql_rows.specs.Relation.{HoldsRowsOf, HoldsTurnedOf}
-use Rattle.acq_sql_changes.specs.Written.{WritesInside}
-use Rattle.acq_sql_changes.specs.Widened.{HasRangesUnder, WidensRanges, TurnsRanges, SetsVersion}
-use Rattle.acq_sql_changes.specs.Widened.{IsNeverRefused, HasRangesOf, HasTurnedRangesOf}
+use Rattle.acq_sql_writes.specs.Written.{WritesInside}
+use Rattle.acq_sql_writes.specs.Widened.{HasRangesUnder, WidensRanges, TurnsRanges, SetsVersion}
+use Rattle.acq_sql_writes.specs.Widened.{IsNeverRefused, HasRangesOf, HasTurnedRangesOf}
 use Rattle.acq_sql_rows.specs.Standing.{FailsExcused}
-use Rattle.acq_sql_changes.proofs.Commits.{IsWithin, begins, same_rows, within_still, clean_before}
+use Rattle.acq_sql_writes.proofs.Within.{IsWithin, begins, same_rows, within_still, clean_before}
 use Rattle.acq_sql_changes.proofs.Commits.{MakesOf}
-use Rattle.acq_sql_changes.proofs.writes.RangeMoves.{all_valid}
+use Rattle.acq_sql_writes.proofs.RangeMoves.{all_valid}
 
 -- ---- the stages, by the tables from before
 

@@ -51,10 +51,6 @@ abbrev pub ChangesWhole : {T : Type 0} →
     State → State → Result T Error → (Tables → Type 0) → (Tables → Tables) → Type 0
 ChangesWhole = ChangesWholeOf version
 
--- so of any tables
-abbrev pub AnyTables : Tables → Type 0
-AnyTables t = Unit {0}
-
 -- ---- a request that counts against its day
 
 -- its day has room for it, where it counts

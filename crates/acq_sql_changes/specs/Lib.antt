@@ -1,4 +1,2 @@
 pub mod Changed
-pub mod Written
-pub mod Widened
 pub mod Refused

@@ -5,13 +5,13 @@ ghost use Rattle.sqlite.specs.Held.{state};
 ghost use Rattle.acq_core.specs.declared.change.Change.TheVariants as change;
 ghost use Rattle.iso_codec.specs.Message.{IsMessage};
 ghost use Rattle.iso_codec.specs.Reading.{spelling};
-ghost use Rattle.acq_sql_changes.specs.Written.{IsShortEnd};
-ghost use Rattle.acq_sql_changes.specs.Changed.{ChangesWhole, AnyTables};
-ghost use Rattle.acq_sql_changes.specs.Changed.{with_whole_answer};
+ghost use Rattle.acq_sql_writes.specs.Written.{IsShortEnd};
+ghost use Rattle.acq_sql_changes.specs.Changed.{ChangesWhole, with_whole_answer};
+ghost use Rattle.acq_sql_writes.specs.Refused.{AnyTables};
 ghost use Rattle.acq_sql_changes.specs.Refused.{FailsAmong};
 
 use crate::issuer_answer::IssuerAnswer;
-use crate::writes::answer_request;
+use acq_sql_writes::answer_request;
 use sqlite::{Alter, Connection, Error};
 
 /// Answers a request. Nothing is posted.

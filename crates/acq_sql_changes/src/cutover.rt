@@ -3,11 +3,12 @@
 ghost use Rattle.std.specs.Prelude.{◌≡◌, false};
 ghost use Rattle.sqlite.specs.Held.{state};
 ghost use Rattle.acq_core.specs.declared.change.Change.TheVariants as change;
-ghost use Rattle.acq_sql_changes.specs.Written.{on_day};
-ghost use Rattle.acq_sql_changes.specs.Changed.{ChangesWhole, AnyTables};
+ghost use Rattle.acq_sql_writes.specs.Written.{on_day};
+ghost use Rattle.acq_sql_changes.specs.Changed.{ChangesWhole};
+ghost use Rattle.acq_sql_writes.specs.Refused.{AnyTables};
 ghost use Rattle.acq_sql_changes.specs.Refused.{FailsAmong};
 
-use crate::writes::set_day;
+use acq_sql_writes::set_day;
 use day_totals::Day;
 use sqlite::{Alter, Connection, Error};
 

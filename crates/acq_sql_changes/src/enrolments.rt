@@ -3,12 +3,13 @@
 ghost use Rattle.std.specs.Prelude.{◌≡◌, false};
 ghost use Rattle.sqlite.specs.Held.{state};
 ghost use Rattle.acq_core.specs.declared.change.Change.TheVariants as change;
-ghost use Rattle.acq_sql_changes.specs.Written.{with_merchant, with_terminal};
-ghost use Rattle.acq_sql_changes.specs.Changed.{ChangesWhole, AnyTables};
+ghost use Rattle.acq_sql_writes.specs.Written.{with_merchant, with_terminal};
+ghost use Rattle.acq_sql_changes.specs.Changed.{ChangesWhole};
+ghost use Rattle.acq_sql_writes.specs.Refused.{AnyTables};
 ghost use Rattle.acq_sql_changes.specs.Refused.{FailsAmong};
 
-use crate::writes::{add_merchant, add_terminal};
 use acq_core::{Merchant, Terminal};
+use acq_sql_writes::{add_merchant, add_terminal};
 use sqlite::{Alter, Connection, Error};
 
 /// Enrols a merchant.

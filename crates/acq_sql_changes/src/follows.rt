@@ -5,14 +5,15 @@ ghost use Rattle.sqlite.specs.Held.{state};
 ghost use Rattle.acq_core.specs.declared.change.Change.TheVariants as change;
 ghost use Rattle.iso_codec.specs.Message.{IsMessage};
 ghost use Rattle.iso_codec.specs.Reading.{spelling};
-ghost use Rattle.acq_sql_changes.specs.Written.{IsShortEnd};
-ghost use Rattle.acq_sql_changes.specs.Changed.{ChangesWhole, AnyTables};
-ghost use Rattle.acq_sql_changes.specs.Changed.{HasRoomFor, HasRoomToFollow, with_follow};
+ghost use Rattle.acq_sql_writes.specs.Written.{IsShortEnd};
+ghost use Rattle.acq_sql_changes.specs.Changed.{ChangesWhole, HasRoomFor, HasRoomToFollow};
+ghost use Rattle.acq_sql_changes.specs.Changed.{with_follow};
+ghost use Rattle.acq_sql_writes.specs.Refused.{AnyTables};
 ghost use Rattle.acq_sql_changes.specs.Refused.{FailsAmong, IsNextPosting};
 
 use crate::tallies::{totals_of_posting, used_by};
-use crate::writes::{add_posting, add_request, follow_request, raise};
 use acq_core::{Posting, Remains, Request, RequestKey};
+use acq_sql_writes::{add_posting, add_request, follow_request, raise};
 use day_totals::Totals;
 use sqlite::{Alter, Connection, Error};
 

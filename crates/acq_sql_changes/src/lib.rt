@@ -2,7 +2,7 @@
 //!
 //! A change that succeeded leads to the tables with the whole of it, one that failed leaves them as
 //! they were, and a stop leaves either, never a part (`specs/Changed.antt`). The running totals
-//! stay those of the lists. Each of its [`writes`] is one statement inside the transaction.
+//! stay those of the lists. Each write is one statement inside the transaction (`acq_sql_writes`).
 #![tactic(auto)]
 
 mod answers;
@@ -16,7 +16,6 @@ mod reconciliations;
 mod requests;
 mod tallies;
 mod widening;
-pub mod writes;
 
 pub use answers::answer;
 pub use cutover::cut_over;

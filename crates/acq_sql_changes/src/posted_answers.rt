@@ -5,15 +5,14 @@ ghost use Rattle.sqlite.specs.Held.{state};
 ghost use Rattle.acq_core.specs.declared.change.Change.TheVariants as change;
 ghost use Rattle.iso_codec.specs.Message.{IsMessage};
 ghost use Rattle.iso_codec.specs.Reading.{spelling};
-ghost use Rattle.acq_sql_changes.specs.Written.{IsShortEnd};
-ghost use Rattle.acq_sql_changes.specs.Changed.{ChangesWhole};
-ghost use Rattle.acq_sql_changes.specs.Changed.{HasRoomToPost, with_whole_answer};
+ghost use Rattle.acq_sql_writes.specs.Written.{IsShortEnd};
+ghost use Rattle.acq_sql_changes.specs.Changed.{ChangesWhole, HasRoomToPost, with_whole_answer};
 ghost use Rattle.acq_sql_changes.specs.Refused.{FailsAmong, IsNextPosting};
 
 use crate::issuer_answer::IssuerAnswer;
 use crate::tallies::totals_of_posting;
-use crate::writes::{add_posting, answer_request, raise};
 use acq_core::Posting;
+use acq_sql_writes::{add_posting, answer_request, raise};
 use sqlite::{Alter, Connection, Error};
 
 /// Answers a request, and posts.

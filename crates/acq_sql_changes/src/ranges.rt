@@ -3,8 +3,9 @@
 ghost use Rattle.std.specs.Prelude.{◌≡◌, false};
 ghost use Rattle.sqlite.specs.Held.{state};
 ghost use Rattle.acq_core.specs.declared.change.Change.TheVariants as change;
-ghost use Rattle.acq_sql_changes.specs.Written.{with_added_range, with_dropped_range};
-ghost use Rattle.acq_sql_changes.specs.Changed.{ChangesWhole, AnyTables};
+ghost use Rattle.acq_sql_writes.specs.Written.{with_added_range, with_dropped_range};
+ghost use Rattle.acq_sql_changes.specs.Changed.{ChangesWhole};
+ghost use Rattle.acq_sql_writes.specs.Refused.{AnyTables};
 ghost use Rattle.acq_sql_changes.specs.Refused.{FailsAmong};
 
 use card_no::Range;
@@ -19,7 +20,7 @@ pub fn add_range<S: Alter>(conn: &mut Connection<S>, range: &Range) -> Result<()
         (change.AddRange range.now) AnyTables }
 {
     let mut tx = conn.transaction();
-    crate::writes::add_range(&mut tx, range)?;
+    acq_sql_writes::add_range(&mut tx, range)?;
     tx.commit()
 }
 
@@ -32,6 +33,6 @@ pub fn drop_range<S: Alter>(conn: &mut Connection<S>, low: u32, high: u32) -> Re
         (change.DropRange low high) AnyTables }
 {
     let mut tx = conn.transaction();
-    crate::writes::drop_range(&mut tx, low, high)?;
+    acq_sql_writes::drop_range(&mut tx, low, high)?;
     tx.commit()
 }

@@ -5,14 +5,13 @@ ghost use Rattle.sqlite.specs.Held.{state};
 ghost use Rattle.acq_core.specs.declared.change.Change.TheVariants as change;
 ghost use Rattle.iso_codec.specs.Message.{IsMessage};
 ghost use Rattle.iso_codec.specs.Reading.{spelling};
-ghost use Rattle.acq_sql_changes.specs.Written.{IsShortEnd};
-ghost use Rattle.acq_sql_changes.specs.Changed.{ChangesWhole};
-ghost use Rattle.acq_sql_changes.specs.Changed.{HasRoomToReconcile, with_reconciled};
+ghost use Rattle.acq_sql_writes.specs.Written.{IsShortEnd};
+ghost use Rattle.acq_sql_changes.specs.Changed.{ChangesWhole, HasRoomToReconcile, with_reconciled};
 ghost use Rattle.acq_sql_changes.specs.Refused.{FailsAmong, IsNextReconciliation};
 
 use crate::tallies::used_by;
-use crate::writes::{add_reconciliation, add_request, raise};
 use acq_core::{Reconciliation, Request};
+use acq_sql_writes::{add_reconciliation, add_request, raise};
 use day_totals::Totals;
 use sqlite::{Alter, Connection, Error};
 

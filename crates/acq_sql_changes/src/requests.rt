@@ -5,14 +5,14 @@ ghost use Rattle.sqlite.specs.Held.{state};
 ghost use Rattle.acq_core.specs.declared.change.Change.TheVariants as change;
 ghost use Rattle.iso_codec.specs.Message.{IsMessage};
 ghost use Rattle.iso_codec.specs.Reading.{spelling};
-ghost use Rattle.acq_sql_changes.specs.Written.{with_request, IsShortEnd};
-ghost use Rattle.acq_sql_changes.specs.Changed.{ChangesWhole};
-ghost use Rattle.acq_sql_changes.specs.Changed.{AnyTables, HasRoomFor};
+ghost use Rattle.acq_sql_writes.specs.Written.{with_request, IsShortEnd};
+ghost use Rattle.acq_sql_changes.specs.Changed.{ChangesWhole, HasRoomFor};
+ghost use Rattle.acq_sql_writes.specs.Refused.{AnyTables};
 ghost use Rattle.acq_sql_changes.specs.Refused.{FailsAmong};
 
 use crate::tallies::used_by;
-use crate::writes::{add_request, raise};
 use acq_core::Request;
+use acq_sql_writes::{add_request, raise};
 use day_totals::Totals;
 use sqlite::{Alter, Connection, Error};
 

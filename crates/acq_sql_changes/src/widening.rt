@@ -7,9 +7,9 @@ ghost use Rattle.acq_core.specs.Widening.{widened_tables};
 ghost use Rattle.acq_sql_rows.specs.Rows.{version_of_six_digits};
 ghost use Rattle.acq_sql_changes.specs.Changed.{ChangesWholeOf};
 ghost use Rattle.acq_sql_rows.specs.Standing.{FailsExcused};
-ghost use Rattle.acq_sql_changes.specs.Widened.{HasRangesUnder};
+ghost use Rattle.acq_sql_writes.specs.Widened.{HasRangesUnder};
 
-use crate::writes::{set_version, turn_ranges, widen_ranges};
+use acq_sql_writes::{set_version, turn_ranges, widen_ranges};
 use sqlite::{Alter, Connection, Error};
 
 /// Makes a book whose ranges are of six digits one of the version in force: the tables stay, but

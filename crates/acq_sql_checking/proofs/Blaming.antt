@@ -17,9 +17,9 @@ use Rattle.sqlite.specs.State.{State, HasCleanDisk, Survives}
 use Rattle.sqlite.specs.Steps.{FailsToCommit, over_memory}
 use Rattle.row_lemmas.specs.Excused.{IsExcused}
 use Rattle.row_lemmas.proofs.StatementFailures.{excused_only, excused_wider}
-use Rattle.acq_sql_changes.specs.Widened.{IsNeverRefused}
-use Rattle.acq_sql_changes.specs.Written.{CommitsNothing}
-use Rattle.acq_sql_changes.proofs.Commits.{begins, same_rows, was_clean}
+use Rattle.acq_sql_writes.specs.Widened.{IsNeverRefused}
+use Rattle.acq_sql_writes.specs.Written.{CommitsNothing}
+use Rattle.acq_sql_writes.proofs.Within.{begins, same_rows, was_clean}
 use Rattle.acq_sql_checking.specs.Blames.{OpeningBlamesStore, FailsExcusably}
 use Rattle.acq_sql_checking.specs.Faults.{fault_of}
 use Rattle.acq_sql_checking.specs.declared.opening_fault.OpeningFault.TheVariants.{Memory, Store}

@@ -2,8 +2,8 @@
 use Rattle.std.proofs.Common.{Ok, Err, Result, OnOk, IsErr, IsTrue, true, ◌∙◌, inl, refl, arith}
 use Rattle.sqlite.specs.State.{State, HasCleanDisk, Shows}
 use Rattle.sqlite.proofs.StateLemmas.{survives_then}
-use Rattle.acq_sql_changes.proofs.Commits.{was_clean}
-use Rattle.acq_sql_changes.specs.Written.{KeepsCommitted, CommitsNothing}
+use Rattle.acq_sql_writes.proofs.Within.{was_clean}
+use Rattle.acq_sql_writes.specs.Written.{KeepsCommitted, CommitsNothing}
 
 -- all succeeded, the transaction is still open, and nothing was committed
 pub record GoesOn (old new : State) : Type 0 where

@@ -8,9 +8,9 @@ use Rattle.sqlite.specs.State.{State}
 use Rattle.row_lemmas.specs.Created.{IsBlank}
 use Rattle.row_lemmas.specs.Excused.{IsExcused}
 use Rattle.row_lemmas.proofs.StatementFailures.{excused_wider}
-use Rattle.acq_sql_changes.specs.Widened.{IsNeverRefused}
-use Rattle.acq_sql_changes.specs.Written.{CommitsNothing, KeepsCommitted, StaysInside}
-use Rattle.acq_sql_changes.proofs.Commits.{was_clean}
+use Rattle.acq_sql_writes.specs.Widened.{IsNeverRefused}
+use Rattle.acq_sql_writes.specs.Written.{CommitsNothing, KeepsCommitted, StaysInside}
+use Rattle.acq_sql_writes.proofs.Within.{was_clean}
 use Rattle.acq_sql_checking.specs.Made.{IsNew, Extends}
 use Rattle.acq_sql_checking.proofs.GoingOn.{GoesOn, goes_then}
 

@@ -31,7 +31,7 @@ use Rattle.row_lemmas.proofs.CreatedIndexes.{index_made, blank_indexed}
 use Rattle.row_lemmas.proofs.StatementFailures.{tail_of, names_of}
 use Rattle.acq_sql_rows.specs.Schema as schema
 use Rattle.acq_sql_rows.proofs.SchemaLemmas as text_is
-use Rattle.acq_sql_changes.specs.Written.{CommitsNothing, KeepsCommitted, StaysInside}
+use Rattle.acq_sql_writes.specs.Written.{CommitsNothing, KeepsCommitted, StaysInside}
 use Rattle.acq_sql_checking.specs.Made.{IsNew, AddsTable, AddsIndex, IsAlone, TakesTable, TakesIndex}
 use Rattle.acq_sql_checking.proofs.Reaching.{Reached, reached}
 

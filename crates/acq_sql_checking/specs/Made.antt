@@ -17,8 +17,8 @@ use Rattle.row_lemmas.specs.Created.{Makes, Indexes, IsBlank, IsAllowed, are_asc
 use Rattle.row_lemmas.proofs.StatementFailures.{tail_of, names_of}
 use Rattle.acq_core.specs.Tables.{Opening, new_tables}
 use Rattle.acq_sql_rows.specs.Standing.{IsAt}
-use Rattle.acq_sql_changes.specs.Refused.{HasNumbersLeft}
-use Rattle.acq_sql_changes.specs.Widened.{IsNeverRefused}
+use Rattle.acq_sql_writes.specs.Refused.{HasNumbersLeft}
+use Rattle.acq_sql_writes.specs.Widened.{IsNeverRefused}
 
 -- the database is sound and has this schema, with no rows
 pub record IsNew (schema : Schema) (db : Database) : Type 0 where

@@ -4,8 +4,8 @@ ghost use Rattle.std.specs.Prelude.{◌≡◌};
 ghost use Rattle.sqlite.specs.Held.{state};
 ghost use Rattle.row_lemmas.specs.Created.{IsBlank};
 ghost use Rattle.acq_sql_rows.specs.Schema.{no_schema, up_to_ranges, book_schema};
-ghost use Rattle.acq_sql_changes.specs.Widened.{IsNeverRefused};
-ghost use Rattle.acq_sql_changes.specs.Written.{StaysInside, KeepsCommitted, CommitsNothing};
+ghost use Rattle.acq_sql_writes.specs.Widened.{IsNeverRefused};
+ghost use Rattle.acq_sql_writes.specs.Written.{StaysInside, KeepsCommitted, CommitsNothing};
 ghost use Rattle.acq_sql_checking.specs.Made.{AddsTable, AddsIndex, Extends};
 ghost use Rattle.acq_sql_checking.specs.Made.{RefusesNoTable, RefusesNoIndex};
 

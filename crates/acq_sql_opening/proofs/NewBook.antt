@@ -6,7 +6,7 @@ use Rattle.sqlite.specs.State.{State, Shows}
 use Rattle.day_totals.specs.Totals.{totals_of}
 use Rattle.acq_core.specs.Tables.{Opening, new_tables}
 use Rattle.acq_sql_rows.specs.Relation.{Holds, HoldsRows}
-use Rattle.acq_sql_changes.specs.Refused.{HasNumberLeft, HasNumbersLeft}
+use Rattle.acq_sql_writes.specs.Refused.{HasNumberLeft, HasNumbersLeft}
 use Rattle.acq_sql_changes.proofs.Commits.{at_commit}
 use Rattle.acq_sql_checking.specs.Made.{IsNewBook}
 

@@ -4,7 +4,7 @@
 ghost use Rattle.std.specs.Prelude.{◌≡◌, false, IfErr, IfOk, None};
 ghost use Rattle.sqlite.specs.Held.{state};
 ghost use Rattle.acq_sql_rows.specs.Schema.{book_schema};
-ghost use Rattle.acq_sql_changes.specs.Written.{CommitsNothing};
+ghost use Rattle.acq_sql_writes.specs.Written.{CommitsNothing};
 ghost use Rattle.acq_sql_checking.specs.Checked.{IsFailure};
 ghost use Rattle.acq_sql_opening.specs.Ordered.{LeavesWhole};
 

@@ -15,7 +15,8 @@ use Rattle.acq_core.specs.Tables.{Tables}
 use Rattle.acq_sql_rows.specs.Relation.{Holds}
 use Rattle.acq_sql_rows.specs.Standing.{IsAt}
 use Rattle.acq_sql_changes.specs.Changed.{ChangesWhole}
-use Rattle.acq_sql_changes.specs.Refused.{FailsAmong, HasNumbersLeft}
+use Rattle.acq_sql_changes.specs.Refused.{FailsAmong}
+use Rattle.acq_sql_writes.specs.Refused.{HasNumbersLeft}
 use Rattle.acq_sql_reads.specs.Looked.{LooksOnly}
 use Rattle.acq_sql_reads.proofs.Leaves.{at_unchanged}
 

@@ -6,7 +6,7 @@ ghost use Rattle.iso_codec.specs.Message.{IsMessage};
 ghost use Rattle.iso_codec.specs.Reading.{spelling};
 ghost use Rattle.acq_core.specs.declared.change.Change.TheVariants as change;
 ghost use Rattle.acq_core.specs.Pasts.{HasPast};
-ghost use Rattle.acq_sql_changes.specs.Written.{IsShortEnd};
+ghost use Rattle.acq_sql_writes.specs.Written.{IsShortEnd};
 ghost use Rattle.acq_sql_changes.specs.Refused.{FailsAmong};
 ghost use Rattle.acq_sql.specs.Applied.{Applies};
 

@@ -6,7 +6,7 @@ ghost use Rattle.sqlite.specs.Held.{state};
 ghost use Rattle.day_totals.specs.Totals.{greatest_count};
 ghost use Rattle.acq_core.specs.Pasts.{HasPast};
 ghost use Rattle.acq_core.specs.Tables.{postings_before, reconciliations_before};
-ghost use Rattle.acq_sql_changes.specs.Refused.{HasNumberLeft};
+ghost use Rattle.acq_sql_writes.specs.Refused.{HasNumberLeft};
 ghost use Rattle.acq_sql_reads.specs.Failing.{FailsOnlyExcused, FailsOnlyExcusedWhere};
 ghost use Rattle.acq_sql_reads.specs.Looked.{Answers, AnswersWhere, LooksOnly, number_or_zero};
 

@@ -4,7 +4,7 @@ ghost use Rattle.std.specs.Prelude.{◌≡◌, ◌↔◌, IfOk, IsOk, OnOk, OnEr
 ghost use Rattle.sqlite.specs.declared.error.Error.TheVariants as error;
 ghost use Rattle.iso_codec.specs.Message.{IsMessage};
 ghost use Rattle.iso_codec.specs.Reading.{spelling};
-ghost use Rattle.acq_sql_changes.specs.Written.{IsShortEnd};
+ghost use Rattle.acq_sql_writes.specs.Written.{IsShortEnd};
 ghost use Rattle.acq_sql_reads.specs.Failing.{FailsForMemory};
 
 use crate::apply::numbers::GREATEST_INTEGER;

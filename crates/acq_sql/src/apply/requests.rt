@@ -5,7 +5,7 @@ ghost use Rattle.sqlite.specs.Held.{state};
 ghost use Rattle.acq_core.specs.declared.change.Change.TheVariants as change;
 ghost use Rattle.acq_core.specs.Pasts.{HasPast};
 ghost use Rattle.acq_sql_changes.specs.Refused.{FailsAmong};
-ghost use Rattle.acq_sql_changes.specs.Written.{IsShortEnd};
+ghost use Rattle.acq_sql_writes.specs.Written.{IsShortEnd};
 ghost use Rattle.acq_sql.specs.Applied.{Applies};
 
 use crate::apply::numbers::number_of_reconciliation;

@@ -1,9 +1,8 @@
 use Rattle.std.proofs.Common.{◌≡◌, None, refl, rules}
 use Rattle.acq_core.specs.declared.change.Change.TheVariants as change
 use Rattle.acq_core.specs.Tables.{answered_row}
-use Rattle.acq_sql_changes.specs.Written.{with_answer}
-use Rattle.acq_sql_changes.specs.Changed.{AnyTables}
-use Rattle.acq_sql_changes.specs.Refused.{HasTables, HasShortRequests}
+use Rattle.acq_sql_writes.specs.Written.{with_answer}
+use Rattle.acq_sql_writes.specs.Refused.{AnyTables, HasTables, HasShortRequests}
 use Rattle.acq_sql_changes.proofs.Commits.{began, wrote, makes}
 use Rattle.acq_sql_changes.proofs.Failures.{ends, drops}
 use Rattle.acq_sql_changes.proofs.ListTallies.{LeavesDay, changed_tally}

@@ -1,8 +1,7 @@
 use Rattle.std.proofs.Common.{◌≡◌, refl, rules}
 use Rattle.acq_core.specs.declared.change.Change.TheVariants as change
-use Rattle.acq_sql_changes.specs.Written.{on_day}
-use Rattle.acq_sql_changes.specs.Changed.{AnyTables}
-use Rattle.acq_sql_changes.specs.Refused.{HasTables}
+use Rattle.acq_sql_writes.specs.Written.{on_day}
+use Rattle.acq_sql_writes.specs.Refused.{AnyTables, HasTables}
 use Rattle.acq_sql_changes.proofs.Commits.{began, wrote, makes}
 use Rattle.acq_sql_changes.proofs.Failures.{ends, drops}
 use Rattle.acq_sql_changes.proofs.cutover.cut_over.Goals as goal

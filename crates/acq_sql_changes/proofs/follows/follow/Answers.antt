@@ -1,10 +1,10 @@
 use Rattle.std.proofs.Common.{◌≡◌, None, refl, rules}
 use Rattle.acq_core.specs.declared.change.Change.TheVariants as change
 use Rattle.acq_sql_rows.specs.Tallies.{request_tally}
-use Rattle.acq_sql_changes.specs.Written.{with_remains, with_request}
-use Rattle.acq_sql_changes.specs.Changed.{AnyTables, HasRoomFor, with_follow}
-use Rattle.acq_sql_changes.specs.Refused.{HasTables, HasRuns, HasShortRequests, TakesRequest}
-use Rattle.acq_sql_changes.specs.Refused.{TakesMore}
+use Rattle.acq_sql_writes.specs.Written.{with_remains, with_request}
+use Rattle.acq_sql_writes.specs.Refused.{AnyTables, HasTables, HasRuns, HasShortRequests}
+use Rattle.acq_sql_writes.specs.Refused.{TakesRequest, TakesMore}
+use Rattle.acq_sql_changes.specs.Changed.{HasRoomFor, with_follow}
 use Rattle.acq_sql_changes.proofs.Commits.{began, wrote, makes_raised}
 use Rattle.acq_sql_changes.proofs.Failures.{ends, drops}
 use Rattle.acq_sql_changes.proofs.RaisedDays.{follow_comes, follow_short}

@@ -1,9 +1,10 @@
 use Rattle.std.proofs.Common.{◌≡◌, Some, refl, ap, rules}
 use Rattle.acq_core.specs.declared.change.Change.TheVariants as change
-use Rattle.acq_sql_changes.specs.Written.{with_remains, with_request, with_posting}
+use Rattle.acq_sql_writes.specs.Written.{with_remains, with_request, with_posting}
 use Rattle.acq_sql_changes.specs.Changed.{HasRoomToFollow, with_follow}
-use Rattle.acq_sql_changes.specs.Refused.{HasTables, HasRuns, HasShortRequests, IsNextPosting}
-use Rattle.acq_sql_changes.specs.Refused.{TakesRequest, TakesPosting, TakesMore}
+use Rattle.acq_sql_writes.specs.Refused.{HasTables, HasRuns, HasShortRequests, TakesRequest}
+use Rattle.acq_sql_writes.specs.Refused.{TakesPosting, TakesMore}
+use Rattle.acq_sql_changes.specs.Refused.{IsNextPosting}
 use Rattle.acq_sql_changes.proofs.Commits.{began, wrote, makes_raised}
 use Rattle.acq_sql_changes.proofs.Failures.{ends, drops}
 use Rattle.acq_sql_changes.proofs.ListTallies.{request_and_posting_tally}

@@ -1,10 +1,11 @@
 use Rattle.std.proofs.Common.{◌≡◌, Some, refl, ap, rules}
 use Rattle.acq_core.specs.declared.change.Change.TheVariants as change
 use Rattle.acq_sql_rows.specs.Tallies.{posting_tally}
-use Rattle.acq_sql_changes.specs.Written.{with_answer, with_posting}
+use Rattle.acq_sql_writes.specs.Written.{with_answer, with_posting}
 use Rattle.acq_sql_changes.specs.Changed.{HasRoomToPost, with_whole_answer}
-use Rattle.acq_sql_changes.specs.Refused.{HasTables, HasShortRequests, HasRuns, IsNextPosting}
-use Rattle.acq_sql_changes.specs.Refused.{TakesPosting, TakesMore}
+use Rattle.acq_sql_writes.specs.Refused.{HasTables, HasShortRequests, HasRuns, TakesPosting}
+use Rattle.acq_sql_writes.specs.Refused.{TakesMore}
+use Rattle.acq_sql_changes.specs.Refused.{IsNextPosting}
 use Rattle.acq_sql_changes.proofs.Commits.{began, wrote, makes_raised}
 use Rattle.acq_sql_changes.proofs.Failures.{ends, drops}
 use Rattle.acq_sql_changes.proofs.RaisedDays.{answer_comes, answer_short}

@@ -1,10 +1,11 @@
 use Rattle.std.proofs.Common.{◌≡◌, refl, ap, rules}
 use Rattle.acq_core.specs.declared.change.Change.TheVariants as change
 use Rattle.acq_sql_rows.specs.Tallies.{request_tally}
-use Rattle.acq_sql_changes.specs.Written.{with_request, with_reconciliation}
+use Rattle.acq_sql_writes.specs.Written.{with_request, with_reconciliation}
 use Rattle.acq_sql_changes.specs.Changed.{HasRoomToReconcile, with_reconciled}
-use Rattle.acq_sql_changes.specs.Refused.{HasTables, HasRuns, IsNextReconciliation, TakesRequest}
-use Rattle.acq_sql_changes.specs.Refused.{TakesReconciliation, TakesMore}
+use Rattle.acq_sql_writes.specs.Refused.{HasTables, HasRuns, TakesRequest, TakesReconciliation}
+use Rattle.acq_sql_writes.specs.Refused.{TakesMore}
+use Rattle.acq_sql_changes.specs.Refused.{IsNextReconciliation}
 use Rattle.acq_sql_changes.proofs.Commits.{began, wrote, makes_raised}
 use Rattle.acq_sql_changes.proofs.Failures.{ends, drops}
 use Rattle.acq_sql_changes.proofs.ListTallies.{tally_requested}

@@ -1,9 +1,9 @@
 use Rattle.std.proofs.Common.{◌≡◌, refl, rules}
 use Rattle.acq_core.specs.declared.change.Change.TheVariants as change
 use Rattle.acq_sql_rows.specs.Tallies.{request_tally}
-use Rattle.acq_sql_changes.specs.Written.{with_request}
-use Rattle.acq_sql_changes.specs.Changed.{AnyTables, HasRoomFor}
-use Rattle.acq_sql_changes.specs.Refused.{HasTables, HasRuns, TakesRequest, TakesMore}
+use Rattle.acq_sql_writes.specs.Written.{with_request}
+use Rattle.acq_sql_writes.specs.Refused.{AnyTables, HasTables, HasRuns, TakesRequest, TakesMore}
+use Rattle.acq_sql_changes.specs.Changed.{HasRoomFor}
 use Rattle.acq_sql_changes.proofs.Commits.{began, wrote, makes_raised}
 use Rattle.acq_sql_changes.proofs.Failures.{ends, drops}
 use Rattle.acq_sql_changes.proofs.ListTallies.{tally_requested}

@@ -1,9 +1,8 @@
 use Rattle.std.proofs.Common.{◌≡◌, rules}
 use Rattle.acq_sql_rows.specs.Rows.{version_of_six_digits}
 use Rattle.acq_sql_changes.proofs.Commits.{commits}
-use Rattle.acq_sql_changes.proofs.Widenings.{starts, has_turned}
-use Rattle.acq_sql_changes.proofs.Widenings.{has_widened, makes_widened, turning_gives_up}
-use Rattle.acq_sql_changes.proofs.Widenings.{setting_gives_up}
+use Rattle.acq_sql_changes.proofs.Widenings.{starts, has_turned, has_widened, makes_widened}
+use Rattle.acq_sql_changes.proofs.Widenings.{turning_gives_up, setting_gives_up}
 use Rattle.acq_sql_changes.proofs.widening.widen_book.Goals as goal
 
 pub returns-in_err-turn_ranges-clause-refused : goal.returns-in_err-turn_ranges-clause-refused

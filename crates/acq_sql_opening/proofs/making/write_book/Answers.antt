@@ -9,7 +9,8 @@ use Rattle.acq_core.specs.Tables.{Opening, new_tables}
 use Rattle.acq_sql_rows.specs.Schema.{no_schema}
 use Rattle.acq_sql_rows.specs.Relation.{Holds}
 use Rattle.acq_sql_rows.specs.Standing.{HoldsAfter}
-use Rattle.acq_sql_changes.proofs.Commits.{left_holds, was_clean}
+use Rattle.acq_sql_changes.proofs.Commits.{left_holds}
+use Rattle.acq_sql_writes.proofs.Within.{was_clean}
 use Rattle.acq_sql_checking.specs.Made.{IsNewBook}
 use Rattle.acq_sql_checking.proofs.Blaming.{commit_fails, drop_fails}
 use Rattle.acq_sql_checking.proofs.GoingOn.{GoesOn}

@@ -3,8 +3,8 @@ use Rattle.sqlite.specs.Held.{state}
 use Rattle.sqlite.specs.State.{HasCleanDisk}
 use Rattle.row_lemmas.specs.Created.{IsBlank}
 use Rattle.acq_sql_rows.specs.Schema.{no_schema, up_to_ranges}
-use Rattle.acq_sql_changes.specs.Refused.{IsEmptyBook}
-use Rattle.acq_sql_changes.proofs.Commits.{was_clean}
+use Rattle.acq_sql_writes.specs.Refused.{IsEmptyBook}
+use Rattle.acq_sql_writes.proofs.Within.{was_clean}
 use Rattle.acq_sql_checking.proofs.GoingOn.{GoesOn, goes_then, kept_then, not_ok, stop_then}
 use Rattle.acq_sql_checking.proofs.Reaching.{fails_first, fails_then, reached, reached_then}
 use Rattle.acq_sql_opening.proofs.making.write_tables.Goals as goal

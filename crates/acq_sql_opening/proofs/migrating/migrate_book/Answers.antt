@@ -5,7 +5,7 @@ use Rattle.sqlite.specs.State.{HasCleanDisk}
 use Rattle.sqlite.proofs.StateLemmas.{survives_weaker}
 use Rattle.row_lemmas.proofs.StatementFailures.{excused_wider}
 use Rattle.acq_sql_reads.proofs.Leaves.{at_unchanged, kept}
-use Rattle.acq_sql_changes.proofs.Commits.{was_clean}
+use Rattle.acq_sql_writes.proofs.Within.{was_clean}
 use Rattle.acq_sql_rows.specs.Rows.{version_of_six_digits}
 use Rattle.acq_sql_opening.proofs.LooksFirst.{whole_from}
 use Rattle.acq_sql_checking.proofs.Blaming.{excused_blames}

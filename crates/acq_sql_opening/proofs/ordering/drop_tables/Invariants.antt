@@ -1,6 +1,6 @@
 use Rattle.std.proofs.Common.{◌≡◌}
 use Rattle.sqlite.specs.Held.{state}
-use Rattle.acq_sql_changes.specs.Written.{CommitsNothing}
+use Rattle.acq_sql_writes.specs.Written.{CommitsNothing}
 use Rattle.acq_sql_opening.proofs.ordering.drop_tables.Given as goal
 
 abbrev pub invariant-loop-table : goal.invariant-loop-table

@@ -1,6 +1,6 @@
 use Rattle.std.proofs.Common.{◌≡◌}
 use Rattle.sqlite.specs.Held.{state}
-use Rattle.acq_sql_changes.specs.Written.{CommitsNothing}
+use Rattle.acq_sql_writes.specs.Written.{CommitsNothing}
 use Rattle.acq_sql_opening.proofs.ordering.fill_table.Given as goal
 
 abbrev pub invariant-loop-row : goal.invariant-loop-row

@@ -1,5 +1,5 @@
 use Rattle.sqlite.specs.Held.{state}
-use Rattle.acq_sql_changes.specs.Changed.{AnyTables}
+use Rattle.acq_sql_writes.specs.Refused.{AnyTables}
 use Rattle.acq_sql.proofs.apply.ChangesFail.{fails_for}
 use Rattle.acq_sql_opening.proofs.LooksFirst.{whole_for}
 use Rattle.acq_sql.proofs.apply.applying.apply.Goals as goal

@@ -1,7 +1,7 @@
 use Rattle.std.proofs.Common.{true≢false, sym}
 use Rattle.sqlite.specs.Held.{state}
 use Rattle.acq_sql_changes.specs.Refused.{IsNextPosting}
-use Rattle.acq_sql_changes.specs.Changed.{AnyTables}
+use Rattle.acq_sql_writes.specs.Refused.{AnyTables}
 use Rattle.acq_sql.proofs.apply.ChangesFail.{fails_for, fails_for_memory, fails_from, looks_fail}
 use Rattle.acq_sql_opening.proofs.LooksFirst.{fails_looking, refuses, whole_for, whole_from}
 use Rattle.acq_sql.proofs.apply.follows.follow.Goals as goal

@@ -2,7 +2,8 @@ use Rattle.std.proofs.Common.{true≢false, sym}
 use Rattle.sqlite.specs.Held.{state}
 use Rattle.acq_sql_rows.specs.Rows.{reconciliation_row}
 use Rattle.acq_sql_rows.specs.Schema.{reconciliations_tree}
-use Rattle.acq_sql_changes.specs.Refused.{HasNumberLeft, IsNextReconciliation}
+use Rattle.acq_sql_writes.specs.Refused.{HasNumberLeft}
+use Rattle.acq_sql_changes.specs.Refused.{IsNextReconciliation}
 use Rattle.acq_sql_changes.proofs.TakenTables.{number_left}
 use Rattle.acq_sql.proofs.apply.ChangesFail.{fails_for_memory, fails_from, looks_fail}
 use Rattle.acq_sql_opening.proofs.LooksFirst.{fails_looking, refuses, whole_from}

@@ -1,6 +1,6 @@
 use Rattle.std.proofs.Common.{true≢false, sym}
 use Rattle.sqlite.specs.Held.{state}
-use Rattle.acq_sql_changes.specs.Changed.{AnyTables}
+use Rattle.acq_sql_writes.specs.Refused.{AnyTables}
 use Rattle.acq_sql.proofs.apply.ChangesFail.{fails_for, fails_for_memory}
 use Rattle.acq_sql_opening.proofs.LooksFirst.{refuses, whole_for}
 use Rattle.acq_sql.proofs.apply.requests.add_request.Goals as goal

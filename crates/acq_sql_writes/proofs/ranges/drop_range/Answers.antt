@@ -1,0 +1,18 @@
+use Rattle.acq_sql_writes.proofs.Inside.{range_dropped_inside}
+use Rattle.acq_sql_writes.proofs.Refusals.{drop_excused}
+use Rattle.acq_sql_writes.proofs.ranges.drop_range.Goals as goal
+
+pub returns : goal.returns
+returns g c =
+    let ran =
+    rw (
+      c.short_value.ensures,
+      c.short_value-2.ensures,
+    ) at c.execute.ensures.runs in
+    record {
+      same_reference = c.execute.ensures.same_reference;
+      writes = range_dropped_inside _ _ c.execute.result c.execute.ensures.survives
+          c.execute.ensures.ended
+          c.args.low c.args.high ran;
+      fails = drop_excused _ _ c.execute.result c.args.low c.args.high ran;
+    }

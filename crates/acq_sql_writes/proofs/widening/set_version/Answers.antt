@@ -1,0 +1,11 @@
+use Rattle.acq_sql_writes.proofs.Inside.{setting_inside}
+use Rattle.acq_sql_writes.proofs.Refusals.{setting_excused}
+use Rattle.acq_sql_writes.proofs.widening.set_version.Goals as goal
+
+pub returns-clause-writes : goal.returns-clause-writes
+returns-clause-writes g c =
+    setting_inside _ _ c.execute.result c.execute.ensures.survives
+    c.execute.ensures.ended c.execute.ensures.runs
+
+pub returns-clause-refused : goal.returns-clause-refused
+returns-clause-refused g c = setting_excused _ _ c.execute.result c.execute.ensures.runs
