@@ -1,5 +1,5 @@
 pub mod PutLines
-pub mod PutAmounts
+pub mod PutParts
 pub mod ElementsInTurn
 pub mod HiddenContents
 pub mod OnLiterals

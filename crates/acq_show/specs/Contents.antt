@@ -1,11 +1,12 @@
 -- What is shown of an element's content (own profile).
 use Rattle.std.specs.Prelude.{ℕ, ◌==◌, nat_le, ◌||◌, List, ◌++◌, length, take, drop, map, replicate}
-use Rattle.std.specs.Prelude.{codes}
-use Rattle.std.specs.Prelude.{Option, Some, None, if◌then◌else◌}
+use Rattle.std.specs.Prelude.{[], codes, Option, Some, None, if◌then◌else◌}
 use Rattle.std.specs.Fmt.{decimal}
 use Rattle.iso_codec.specs.Content.{is_printable}
 use Rattle.card_no.specs.CardNumbers.{masked_of}
 use Rattle.card_no.specs.Track2.{track2_of}
+use Rattle.acq_show.specs.Names.{is_empty}
+use Rattle.acq_show.specs.Meanings.{meaning}
 
 abbrev pub stars : ℕ → List ℕ
 stars n = replicate n 42
@@ -49,12 +50,29 @@ amounts_shown content =
     ++ part_shown (codes ", settlement fee ") (drop 9 (drop 12 (drop 12 content)))
     else printable content
 
+-- the original of a reversal: its type, trace number, date and time, acquirer and forwarder (ISO
+-- 8583:1987, original data elements)
+abbrev pub original_shown : List ℕ → List ℕ
+original_shown content =
+    if length content == 42
+    then part_shown (codes "type ") (take 4 content)
+    ++ part_shown (codes ", trace number ") (take 6 (drop 4 content))
+    ++ part_shown (codes ", transmitted ") (take 10 (drop 6 (drop 4 content)))
+    ++ part_shown (codes ", acquirer ") (take 11 (drop 10 (drop 6 (drop 4 content))))
+    ++ part_shown (codes ", forwarder ") (drop 11 (drop 10 (drop 6 (drop 4 content))))
+    else printable content
+
+-- behind a content, what it means
+abbrev pub meaning_shown : List ℕ → List ℕ
+meaning_shown words = if is_empty words then [] else codes ": " ++ words
+
 -- what is shown of element n with this content: 2 is the card number, 35 track 2, 45 track 1, 52
--- the PIN block, 55 chip data, 95 the replacement amounts
+-- the PIN block, 55 chip data, 90 the original of a reversal, 95 the replacement amounts
 abbrev pub content_shown : ℕ → List ℕ → List ℕ
 content_shown n content =
     if n == 2 then number_shown content
     else if n == 35 then track_shown content
     else if n == 45 || n == 52 || n == 55 then length_shown (length content)
+    else if n == 90 then original_shown content
     else if n == 95 then amounts_shown content
-    else printable content
+    else printable content ++ meaning_shown (meaning n content)

@@ -1,4 +1,5 @@
 pub mod Names
+pub mod Meanings
 pub mod Contents
 pub mod Shown
 pub mod Hidden

@@ -4,8 +4,9 @@
 ghost use Rattle.std.specs.Prelude.{◌≡◌, ◌++◌, OnOk, replicate};
 ghost use Rattle.acq_show.specs.Contents.{content_shown, number_shown, track_shown};
 ghost use Rattle.acq_show.specs.Contents.{length_shown, byte_shown, printable, part_shown};
-ghost use Rattle.acq_show.specs.Contents.{amounts_shown};
+ghost use Rattle.acq_show.specs.Contents.{amounts_shown, original_shown, meaning_shown};
 
+use crate::meanings::meaning;
 use card_no::split_track2;
 use itoa::Buffer;
 use std::alloc::AllocError;
@@ -13,6 +14,9 @@ use std::alloc::AllocError;
 /// How many digits a card number has at least where its mask is shown. A shorter one's mask would
 /// leave little of it out.
 const LEAST_MASKED: usize = 13;
+
+/// How many bytes the original data elements have.
+const ORIGINAL_LEN: usize = 42;
 
 /// How many bytes the replacement amounts have.
 const AMOUNTS_LEN: usize = 42;
@@ -29,10 +33,26 @@ pub(crate) fn put_content(text: &mut Vec<u8>, number: u8, content: &[u8]) -> Res
         35 => put_track(text, content),
         // track 1, the PIN block, chip data
         45 | 52 | 55 => put_length(text, content.len()),
+        // the original of a reversal
+        90 => put_original(text, content),
         // the replacement amounts
         95 => put_amounts(text, content),
-        _ => put_printable(text, content),
+        _ => {
+            put_printable(text, content)?;
+            put_meaning(text, meaning(number, content))
+        }
     }
+}
+
+/// Puts what a content means, if that is known.
+fn put_meaning(text: &mut Vec<u8>, words: &str) -> Result<(), AllocError>
+    ensures { OnOk result (text.new.items ≡ text.old.items ++ meaning_shown words.now) }
+{
+    if words.is_empty() {
+        return Ok(());
+    }
+    text.extend_from_slice(b": ")?;
+    text.extend_from_slice(words.as_bytes())
 }
 
 /// Puts a card number masked: the first six digits, a `*` for each between, and the last four.
@@ -84,6 +104,24 @@ fn put_amounts(text: &mut Vec<u8>, content: &[u8]) -> Result<(), AllocError>
     put_part(text, b", settlement amount ", settlement_amount)?;
     put_part(text, b", fee ", fee)?;
     put_part(text, b", settlement fee ", settlement_fee)
+}
+
+/// Puts the original of a reversal, each of its parts behind its name.
+fn put_original(text: &mut Vec<u8>, content: &[u8]) -> Result<(), AllocError>
+    ensures { OnOk result (text.new.items ≡ text.old.items ++ original_shown content.now) }
+{
+    if content.len() != ORIGINAL_LEN {
+        return put_printable(text, content);
+    }
+    let (kind, after) = content.split_at(4);
+    let (trace, after) = after.split_at(6);
+    let (transmitted, after) = after.split_at(10);
+    let (acquirer, forwarder) = after.split_at(11);
+    put_part(text, b"type ", kind)?;
+    put_part(text, b", trace number ", trace)?;
+    put_part(text, b", transmitted ", transmitted)?;
+    put_part(text, b", acquirer ", acquirer)?;
+    put_part(text, b", forwarder ", forwarder)
 }
 
 /// Puts a part of a content behind its name.

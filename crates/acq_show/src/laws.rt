@@ -40,6 +40,16 @@ pub fn worked_contents()
         (codes "000000003000" ++ codes "000000000000" ++ codes "C00000000" ++ codes "C00000000")
         ≡ codes "amount 000000003000, settlement amount 000000000000, "
         ++ codes "fee C00000000, settlement fee C00000000" }
+    ensures original { content_shown 90
+        (codes "0200" ++ codes "000001" ++ codes "0501093000" ++ codes "00000012345"
+        ++ codes "00000000000")
+        ≡ codes "type 0200, trace number 000001, transmitted 0501093000, "
+        ++ codes "acquirer 00000012345, forwarder 00000000000" }
+    ensures transaction { content_shown 3 (codes "200030") ≡ codes "200030: return" }
+    ensures response { content_shown 39 (codes "51") ≡ codes "51: not sufficient funds" }
+    ensures unknown { content_shown 39 (codes "Z9") ≡ codes "Z9" }
+    ensures settlement { content_shown 66 (codes "2") ≡ codes "2: out of balance" }
+    ensures network { content_shown 70 (codes "001") ≡ codes "001: sign-on" }
 {}
 
 /// What is shown of an echo test, and of texts that are no messages.
@@ -47,7 +57,7 @@ pub fn worked_texts()
     ensures echo { shown echo_request_text ≡ codes "0800 network management request\n"
         ++ codes "    7  transmission date and time        0101120000\n"
         ++ codes "   11  trace number                      000001\n"
-        ++ codes "   70  network management code           301\n" }
+        ++ codes "   70  network management code           301: echo test\n" }
     ensures bit_65 { shown (codes "0800" ++ codes "8220000000000000"
         ++ codes "8400000000000000" ++ codes "0101120000" ++ codes "000001" ++ codes "301")
         ≡ codes "not a message: element 65 is not in the profile (fault 4 65), at byte 20\n" }

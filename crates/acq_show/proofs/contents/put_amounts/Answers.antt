@@ -2,7 +2,7 @@ use Rattle.std.proofs.Common.{◌≡◌, ◌++◌, ap, length, ◌∙◌}
 use Rattle.std.specs.Prelude.{codes}
 use Rattle.std.proofs.lemmas.Result.{on_ok_weaker}
 use Rattle.acq_show.specs.Contents.{part_shown}
-use Rattle.acq_show.proofs.PutAmounts.{four_in_turn, amounts_of}
+use Rattle.acq_show.proofs.PutParts.{four_in_turn, amounts_of}
 use Rattle.acq_show.proofs.contents.put_amounts.Goals as goal
 
 pub returns : goal.returns

@@ -13,4 +13,10 @@ returns c = record {
   block = refl;
   bytes = refl;
   amounts = refl;
+  original = refl;
+  transaction = refl;
+  response = refl;
+  unknown = refl;
+  settlement = refl;
+  network = refl;
 }
