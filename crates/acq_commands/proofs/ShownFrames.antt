@@ -1,6 +1,6 @@
 -- What is shown of frames, one after another.
-use Rattle.std.proofs.Common.{◌≡◌, ℕ, true, List, [], ◌∷◌, ◌++◌, refl, sym, ap, ◌∙◌, append-nil}
-use Rattle.std.proofs.Common.{append_assoc, take, inl, inr, Ok, Err}
+use Rattle.std.proofs.Common.{◌≡◌, ℕ, Bool, true, false, List, [], ◌∷◌, ◌++◌, refl, sym, ap, ◌∙◌}
+use Rattle.std.proofs.Common.{append-nil, append_assoc, take, inl, inr, Ok, Err}
 use Rattle.std.specs.Prelude.{Result}
 use Rattle.std.proofs.lemmas.List.Concat.{flat_map-append}
 use Rattle.acq_link.specs.Frames.{fits_frame, frame, framed}
@@ -14,7 +14,7 @@ use Rattle.acq_commands.specs.declared.input_form.InputForm.TheVariants as form
 use Rattle.acq_faults.specs.declared.fault.Fault as fault
 use Rattle.acq_faults.specs.Faults.{failed_reads, failed_writes, of_hex, of_input}
 use Rattle.acq_commands.specs.Show.{FrameFault, Shows, ShowsAll, ShowsFirst, ShowsHex, ShowsInput}
-use Rattle.acq_commands.specs.Show.{ShowsOne, ShowsUntil, entries, entry}
+use Rattle.acq_commands.specs.Show.{ShowsBy, ShowsOne, ShowsUntil, entries, entry, is_text}
 use Rattle.acq_link.proofs.FramesInOrder.{taken_all, taken_more, taken_none}
 
 pub shows_none : (bytes : List ℕ) → ShowsFirst bytes [] [] bytes
@@ -38,11 +38,18 @@ pub shows_all : (bytes out rest : List ℕ) (messages : List (List ℕ)) →
 shows_all bytes out rest messages so empty =
     (messages, taken_all bytes rest messages so.taken empty, so.given)
 
+plain_unshown : (is : Bool) (e : input.InputFault) (bytes : List ℕ) →
+    ShowsBy is bytes [] (Err (of_input e))
+plain_unshown true input.TheVariants.Memory bytes = refl
+plain_unshown true input.TheVariants.Read bytes = refl
+plain_unshown false input.TheVariants.Memory bytes = ([], bytes, shows_none bytes)
+plain_unshown false input.TheVariants.Read bytes = refl
+
+
 -- the input could not be read, so nothing was shown
 pub input_unshown : (form : InputForm) (e : input.InputFault) (bytes : List ℕ) →
     ShowsInput form bytes [] (Err (of_input e))
-input_unshown form.Frames input.TheVariants.Memory bytes = ([], bytes, shows_none bytes)
-input_unshown form.Frames input.TheVariants.Read bytes = refl
+input_unshown form.Plain e bytes = plain_unshown (is_text bytes) e bytes
 input_unshown form.HexLines input.TheVariants.Memory bytes = inl refl
 input_unshown form.HexLines input.TheVariants.Read bytes = refl
 

@@ -1,11 +1,12 @@
 -- Messages in, text for a person out.
-use Rattle.std.specs.Prelude.{◌≡◌, ◌⊎◌, ◌<◌, ℕ, true, List, [], ◌++◌, codes, length, take}
-use Rattle.std.specs.Prelude.{Result, Ok, Err}
+use Rattle.std.specs.Prelude.{◌≡◌, ◌⊎◌, ◌<◌, ℕ, nat_le, Bool, true, false, List, [], ◌∷◌, ◌++◌}
+use Rattle.std.specs.Prelude.{codes, length, take, Result, Ok, Err}
 use Rattle.std.specs.List.{flat_map}
 use Rattle.acq_link.specs.HexLines.{messages_of_text}
 use Rattle.acq_link.specs.Frames.{Frames, FramesThen, framed, is_partial, has_bad_length}
 use Rattle.acq_link.specs.FramesAt.{BeginsWithFrame}
 use Rattle.acq_show.specs.Shown.{shown}
+use Rattle.acq_show.specs.Lines.{lines_shown}
 use Rattle.acq_commands.specs.Streams.{Stream}
 use Rattle.acq_faults.specs.declared.fault.Fault as fault
 use Rattle.acq_commands.specs.declared.input_form.InputForm.{InputForm}
@@ -77,9 +78,29 @@ ShowsHex input out ended =
     (messages : List (List ℕ)) × (messages_of_text input ≡ Ok messages)
     × Shows (framed messages) out ended
 
+-- How lines as `replay` reads and writes them were shown, and what went out.
+abbrev pub ShowsText : List ℕ → List ℕ → Result (Unit {0}) fault.Fault → Type 0
+ShowsText input out (Ok u) = out ≡ lines_shown input
+ShowsText input out (Err fault.TheVariants.Memory) = out ≡ []
+ShowsText input out (Err (fault.TheVariants.Write n)) =
+    (n < length (lines_shown input)) × (out ≡ take n (lines_shown input))
+ShowsText input out (Err fault.TheVariants.Read) = out ≡ []
+ShowsText input out (Err other) = ⊥
+
+-- A text begins with a byte that can be printed, and a frame with one of 16 at most: so great is
+-- the first byte of the greatest length.
+abbrev pub is_text : List ℕ → Bool
+is_text [] = false
+is_text (byte ∷ rest) = nat_le 32 byte
+
+-- as lines, or as frames
+abbrev pub ShowsBy : Bool → List ℕ → List ℕ → Result (Unit {0}) fault.Fault → Type 0
+ShowsBy true = ShowsText
+ShowsBy false = Shows
+
 -- how an input was shown, by the form of its messages
 abbrev pub ShowsInput : InputForm → List ℕ → List ℕ → Result (Unit {0}) fault.Fault → Type 0
-ShowsInput form.Frames input out ended = Shows input out ended
+ShowsInput form.Plain input out ended = ShowsBy (is_text input) input out ended
 ShowsInput form.HexLines input out ended = ShowsHex input out ended
 
 -- What was read was shown so, and this was written.

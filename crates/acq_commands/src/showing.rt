@@ -5,18 +5,19 @@ ghost use Rattle.acq_link.specs.FramesAt.{BeginsWithFrame};
 ghost use Rattle.acq_link.specs.Moves.{TakesAll};
 ghost use Rattle.acq_faults.specs.Faults.{failed_reads, failed_writes};
 ghost use Rattle.acq_commands.specs.Replay.{AfterReading};
-ghost use Rattle.acq_commands.specs.Show.{FrameFault, RunsShow, Shows, ShowsHex, ShowsOne, entry};
+ghost use Rattle.acq_commands.specs.Show.{FrameFault, RunsShow, Shows, ShowsBy, ShowsHex, ShowsOne};
+ghost use Rattle.acq_commands.specs.Show.{ShowsText, entry, is_text};
 
 use crate::input_form::InputForm;
 use acq_faults::Fault;
 use acq_link::hex_frames::frames_of_hex;
 use acq_link::{Front, Sink, Source, frame_at, read_to_end, write_out};
-use acq_show::show_message;
+use acq_show::{show_lines, show_message};
 use std::alloc::{AllocError, Global};
 
 /// Reads the whole input, and then writes what a person is shown of each message of it, and an
 /// empty line behind each. What spells no message is shown by what is wrong with it, and the next
-/// message all the same.
+/// message all the same. Lines as `replay` reads and writes them are told by their first byte.
 pub fn show<S: Source, K: Sink>(
     alloc: Global,
     form: InputForm,
@@ -36,7 +37,7 @@ pub fn show<S: Source, K: Sink>(
 {
     let bytes = read_to_end(alloc, input)?;
     match form {
-        InputForm::Frames => show_frames(alloc, bytes.as_slice(), output),
+        InputForm::Plain => show_plain(alloc, bytes.as_slice(), output),
         InputForm::HexLines => show_hex(alloc, bytes.as_slice(), output),
     }
 }
@@ -50,6 +51,44 @@ fn show_hex<K: Sink>(alloc: Global, lines: &[u8], output: &mut K) -> Result<(), 
 {
     let frames = frames_of_hex(alloc, lines)?;
     show_frames(alloc, frames.as_slice(), output)
+}
+
+/// Shows the messages of frames, or of lines as `replay` reads and writes them.
+fn show_plain<K: Sink>(alloc: Global, input: &[u8], output: &mut K) -> Result<(), Fault>
+    ensures shown { (out : List ℕ) × (K.sent output.new ≡ K.sent output.old ++ out)
+        × ShowsBy (is_text input.now) input.now out result }
+    ensures reads { failed_reads result ≡ 0 }
+    ensures writes { K.failures output.new ≡ K.failures output.old + failed_writes result }
+{
+    if is_text(input) {
+        show_text(alloc, input, output)
+    } else {
+        show_frames(alloc, input, output)
+    }
+}
+
+/// Whether an input begins as lines do, and no frame can.
+fn is_text(input: &[u8]) -> bool
+    ensures { result ≡ is_text input.now }
+{
+    match input {
+        [byte, ..] => *byte >= b' ',
+        [] => false,
+    }
+}
+
+/// Shows lines as `replay` reads and writes them.
+fn show_text<K: Sink>(alloc: Global, lines: &[u8], output: &mut K) -> Result<(), Fault>
+    ensures shown { (out : List ℕ) × (K.sent output.new ≡ K.sent output.old ++ out)
+        × ShowsText lines.now out result }
+    ensures reads { failed_reads result ≡ 0 }
+    ensures writes { K.failures output.new ≡ K.failures output.old + failed_writes result }
+{
+    let text = show_lines(alloc, lines)?;
+    match write_out(output, text.as_slice()) {
+        Ok(()) => Ok(()),
+        Err(bytes) => Err(Fault::Write(bytes)),
+    }
 }
 
 /// Shows the messages of frames.

@@ -330,10 +330,10 @@ abbrev pub ReportsAre : ReportKind → List Text → Result (List DayReport) Opt
 ReportsAre kind texts (Ok reports) = GivesReports kind texts reports
 ReportsAre kind texts (Err name) = (name ≡ option.Report kind) × GivesNoReports texts
 
--- the form of the input: lines of hexadecimal where the flag is there, else frames
+-- the form of the input: lines of hexadecimal where the flag is there, else what it is by itself
 abbrev pub form_of_flag : Option Text → InputForm
-form_of_flag None = form.Frames
-form_of_flag (Some text) = if bytes_eq text (codes "true") then form.HexLines else form.Frames
+form_of_flag None = form.Plain
+form_of_flag (Some text) = if bytes_eq text (codes "true") then form.HexLines else form.Plain
 
 -- ---- what a command is asked for
 

@@ -551,6 +551,6 @@ fn form_of(options: &ArgMatches) -> InputForm
 {
     match options.get_str("hex") {
         Some("true") => InputForm::HexLines,
-        _ => InputForm::Frames,
+        _ => InputForm::Plain,
     }
 }

@@ -1,5 +1,6 @@
 pub mod PutLines
 pub mod PutParts
 pub mod ElementsInTurn
+pub mod LinesInTurn
 pub mod HiddenContents
 pub mod OnLiterals

@@ -2,4 +2,5 @@ pub mod Names
 pub mod Meanings
 pub mod Contents
 pub mod Shown
+pub mod Lines
 pub mod Hidden

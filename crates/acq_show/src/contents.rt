@@ -81,7 +81,7 @@ fn put_track(text: &mut Vec<u8>, track: &[u8]) -> Result<(), AllocError>
 }
 
 /// Puts the length of what is not shown.
-fn put_length(text: &mut Vec<u8>, len: usize) -> Result<(), AllocError>
+pub(crate) fn put_length(text: &mut Vec<u8>, len: usize) -> Result<(), AllocError>
     ensures { OnOk result (text.new.items ≡ text.old.items ++ length_shown len) }
 {
     let mut digits = Buffer::new();
@@ -133,7 +133,7 @@ fn put_part(text: &mut Vec<u8>, name: &[u8], part: &[u8]) -> Result<(), AllocErr
 }
 
 /// Puts bytes, and a `.` for each that can't be printed.
-fn put_printable(text: &mut Vec<u8>, content: &[u8]) -> Result<(), AllocError>
+pub(crate) fn put_printable(text: &mut Vec<u8>, content: &[u8]) -> Result<(), AllocError>
     ensures { OnOk result (text.new.items ≡ text.old.items ++ printable content.now) }
 {
     for b in content {

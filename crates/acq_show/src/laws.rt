@@ -8,6 +8,7 @@ ghost use Rattle.iso_codec.specs.FaultPlaces.{fault_place};
 ghost use Rattle.iso_codec.specs.Examples.{echo_request_text};
 ghost use Rattle.acq_show.specs.Contents.{content_shown};
 ghost use Rattle.acq_show.specs.Hidden.{DifferHidden, EachDiffersHidden};
+ghost use Rattle.acq_show.specs.Lines.{lines_shown};
 ghost use Rattle.acq_show.specs.Shown.{shown};
 
 /// What is shown depends on no more of a card number than its length, its first six and its last
@@ -63,4 +64,19 @@ pub fn worked_texts()
         ≡ codes "not a message: element 65 is not in the profile (fault 4 65), at byte 20\n" }
     ensures short { shown (codes "08")
         ≡ codes "not a message: the text ends in element 0 (fault 5 0), at byte 2\n" }
+{}
+
+/// What is shown of lines.
+pub fn worked_lines()
+    ensures reply { lines_shown (codes "reply " ++ echo_request_text ++ codes "\r\n")
+        ≡ codes "reply\n" ++ shown echo_request_text ++ codes "\n" }
+    ensures frame { lines_shown (codes "frame,1714546800,3038,,,\n")
+        ≡ codes "frame,1714546800\n"
+        ++ codes "not a message: the text ends in element 0 (fault 5 0), at byte 2\n\n" }
+    ensures no_digits { lines_shown (codes "frame,now,0g") ≡ codes "frame,now\n"
+        ++ codes "not a message: no hexadecimal digits\n\n" }
+    ensures others { lines_shown (codes "done\nrefused 30 4 65\ncutover,1714608000,,,,\n")
+        ≡ codes "done\nrefused 30 4 65\ncutover,1714608000,,,,\n" }
+    ensures unknown { lines_shown (codes "\n\"frame\",4111111111111111\n")
+        ≡ codes "\n(length 24, not shown)\n" }
 {}

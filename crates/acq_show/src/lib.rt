@@ -3,13 +3,16 @@
 //! [`show_message`] gives the text: the type and its name, and a line for each element; or why the
 //! bytes spell no message, and where. What the text is stands in `specs/Shown.antt`, and what codes
 //! mean in `specs/Meanings.antt`. No card number is shown whole, and of tracks, PIN blocks and chip
-//! data nothing else.
+//! data nothing else. [`show_lines`] does so of the messages in lines as `replay` reads and writes
+//! them.
 #![tactic(auto)]
 
 mod contents;
+mod event_lines;
 pub mod laws;
 mod lines;
 mod meanings;
 mod names;
 
+pub use event_lines::show_lines;
 pub use lines::show_message;

@@ -52,9 +52,9 @@ returns-clause-whole g c =
     any_end c.show_hex.result _ (all_taken _ _ _ _ _ c.in_ok-bytes.ensures.known
     c.in_ok-bytes.ensures.end c.in_ok-bytes.ensures.received)
 
-pub returns-in-Frames-clause-whole : goal.returns-in-Frames-clause-whole
-returns-in-Frames-clause-whole g c =
-    any_end c.show_frames.result _ (all_taken _ _ _ _ _ c.in_ok-bytes.ensures.known
+pub returns-in-Plain-clause-whole : goal.returns-in-Plain-clause-whole
+returns-in-Plain-clause-whole g c =
+    any_end c.show_plain.result _ (all_taken _ _ _ _ _ c.in_ok-bytes.ensures.known
     c.in_ok-bytes.ensures.end c.in_ok-bytes.ensures.received)
 
 pub returns-clause-reads : goal.returns-clause-reads
@@ -63,22 +63,22 @@ returns-clause-reads g c = omega (arith, c.in_ok-bytes.ensures.well, c.show_hex.
 pub returns-clause-writes : goal.returns-clause-writes
 returns-clause-writes g c = c.show_hex.ensures.writes
 
-pub returns-in-Frames-clause-reads : goal.returns-in-Frames-clause-reads
-returns-in-Frames-clause-reads g c =
-    omega (arith, c.in_ok-bytes.ensures.well, c.show_frames.ensures.reads)
+pub returns-in-Plain-clause-reads : goal.returns-in-Plain-clause-reads
+returns-in-Plain-clause-reads g c =
+    omega (arith, c.in_ok-bytes.ensures.well, c.show_plain.ensures.reads)
 
-pub returns-in-Frames-clause-writes : goal.returns-in-Frames-clause-writes
-returns-in-Frames-clause-writes g c = c.show_frames.ensures.writes
+pub returns-in-Plain-clause-writes : goal.returns-in-Plain-clause-writes
+returns-in-Plain-clause-writes g c = c.show_plain.ensures.writes
 
-pub returns-in-Frames-clause-shown : goal.returns-in-Frames-clause-shown
-returns-in-Frames-clause-shown g c =
-    let more = c.show_frames.ensures.shown in (
+pub returns-in-Plain-clause-shown : goal.returns-in-Plain-clause-shown
+returns-in-Plain-clause-shown g c =
+    let more = c.show_plain.ensures.shown in (
       c.as_slice.result.now,
       more.0,
       c.in_ok-bytes.ensures.received
           ∙ ap (λ (bytes : List ℕ). g.S.Source.received c.args.input.now ++ bytes)
           (sym c.as_slice.ensures.value),
       more.1,
-      rw c.in-Frames.is
+      rw c.in-Plain.is
           more.2,
     )
