@@ -245,8 +245,9 @@ pub(crate) const MORE_OF_SHOW: &str = "\
 The messages stand on standard input as frames, as `acqd once` reads and writes them, or in lines,
 as `acqd replay` reads and writes them; or with --hex as lines, each a message in hexadecimal. Each
 is shown by its type, and by the number, the name and the content of each element, with what codes
-mean; card numbers and tracks are masked, PIN blocks and chip data left out. What spells no message
-is shown by what is wrong with it, and where, and the next is shown all the same.
+mean; card numbers and tracks are masked, PIN blocks and chip data left out. Of a request for whose
+elements the host replies 30 the first such element is told. What spells no message is shown by what
+is wrong with it, and where, and the next is shown all the same.
 
 The status is 0 where all is well, 1 for a fault, 2 for wrong usage, 3 where memory ran out. A
 fault is one line on standard error, and what was written before it stands:

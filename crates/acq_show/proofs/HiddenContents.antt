@@ -1,17 +1,26 @@
 -- What is shown of contents that differ in what is hidden alone.
 use Rattle.std.proofs.Common.{◌≡◌, ℕ, ◌-◌, List, [], ◌∷◌, ◌++◌, length, Option, Some, None, Ok, Err}
-use Rattle.std.proofs.Common.{refl, sym, ap, ◌∙◌, inl, inr}
+use Rattle.std.proofs.Common.{refl, sym, ap, ◌∙◌, inl, inr, is_some, Bool, ◌==◌}
+use Rattle.std.specs.Prelude.{not, find}
+use Rattle.std.specs.List.{list_any}
+use Rattle.std.proofs.lemmas.Bool.{cases_Bool}
 use Rattle.std.specs.Prelude.{replicate, nat_le, if◌then◌else◌, flat_map, take, drop, codes, ◌⊎◌}
 use Rattle.std.proofs.lemmas.List.Concat.{flat_map-cons}
 use Rattle.iso_codec.specs.declared.decode_fault.DecodeFault.{DecodeFault}
-use Rattle.iso_codec.specs.Message.{IsoMessage}
+use Rattle.iso_codec.specs.Message.{IsoMessage, content_of}
 use Rattle.iso_codec.specs.Reading.{reading_of}
 use Rattle.iso_codec.specs.FaultPlaces.{fault_place}
 use Rattle.card_no.specs.Track2.{track2_of}
+use Rattle.acq_message.specs.declared.service.Service.{Service}
+use Rattle.acq_message.specs.Services.{needed, needed_card, service_of}
+use Rattle.acq_message.specs.Elements.{has}
+use Rattle.acq_message.specs.FirstCheck.{has_one_of, unverifiable}
 use Rattle.acq_show.specs.Contents.{stars, number_shown, parts_shown, length_shown, content_shown}
 use Rattle.acq_show.specs.Hidden.{LookAlike, PartsLookAlike, DifferHidden, Equal, CardNumbers}
 use Rattle.acq_show.specs.Hidden.{Tracks, Lengths, EachDiffersHidden}
-use Rattle.acq_show.specs.Shown.{shown, type_line, element_line, fault_line}
+use Rattle.acq_show.specs.Remarks.{first_missing, first_unverifiable, first_remark}
+use Rattle.acq_show.specs.Remarks.{message_remark, remark_by}
+use Rattle.acq_show.specs.Shown.{shown, message_shown, type_line, element_line, fault_line}
 
 -- what is shown of a number, by its length and its ends
 abbrev by_ends : ℕ → List ℕ → List ℕ → List ℕ
@@ -64,14 +73,53 @@ lines_alike (e ∷ es) (f ∷ fs) h =
 lines_alike [] (f ∷ fs) h = absurd h
 lines_alike (e ∷ es) [] h = absurd h
 
+-- which elements are there
+there_alike : (es fs : List (ℕ × List ℕ)) (n : ℕ) → EachDiffersHidden es fs
+    → is_some (content_of es n) ≡ is_some (content_of fs n)
+there_alike [] [] n h = refl
+there_alike (e ∷ es) (f ∷ fs) n h =
+    let later = there_alike es fs n h.2 in
+    ap (λ (k : ℕ). is_some (if n == k then Some e.1 else content_of es n)) h.0
+    ∙ elim (cases_Bool (n == f.0)) [
+      | inl same ↦ rw same refl
+      | inr other ↦ rw other later
+    ]
+there_alike [] (f ∷ fs) n h = absurd h
+there_alike (e ∷ es) [] n h = absurd h
+
+-- so the same is told of both
+module _ (m n : IsoMessage) (h : EachDiffersHidden m.elements n.elements) where
+  have_alike : has m ≡ has n
+  have_alike = λ i k. there_alike m.elements n.elements k h i
+
+  one_alike : (numbers : List ℕ) → has_one_of m numbers ≡ has_one_of n numbers
+  one_alike [] = refl
+  one_alike (k ∷ ks) = ap (λ (there : ℕ → Bool). list_any there (k ∷ ks)) have_alike
+
+  remark_alike : (service : Option Service) → remark_by service m ≡ remark_by service n
+  remark_alike None = refl
+  remark_alike (Some service) =
+      ap (λ (there : ℕ → Bool). first_remark (find (λ k. not (there k)) (needed service))
+      (has_one_of m (needed_card service)) (find there unverifiable)) have_alike
+      ∙ ap (λ (card : Bool). first_remark (first_missing n (needed service)) card
+      (first_unverifiable n)) (one_alike (needed_card service))
+
+  remarks_alike : m.kind ≡ n.kind → message_remark m ≡ message_remark n
+  remarks_alike kinds =
+      ap (λ (kind : List ℕ). remark_by (service_of kind) m) kinds
+      ∙ remark_alike (service_of n.kind)
+
 pub messages_alike : (text other : List ℕ) (m n : IsoMessage) → reading_of text ≡ Ok m →
     reading_of other ≡ Ok n
     → m.kind ≡ n.kind → EachDiffersHidden m.elements n.elements → shown text ≡ shown other
 unfolding shown
 messages_alike text other m n read read' kinds h =
+    let lines : message_shown m ≡ message_shown n =
+    ap (λ (kind : List ℕ). type_line kind ++ flat_map element_line m.elements) kinds
+    ∙ ap (λ (lines : List ℕ). type_line n.kind ++ lines) (lines_alike m.elements n.elements h) in
     rw (read, read')
-    (ap (λ (kind : List ℕ). type_line kind ++ flat_map element_line m.elements) kinds
-    ∙ ap (λ (lines : List ℕ). type_line n.kind ++ lines) (lines_alike m.elements n.elements h))
+    (ap (λ (l : List ℕ). l ++ message_remark m) lines
+    ∙ ap (λ (l : List ℕ). message_shown n ++ l) (remarks_alike m n h kinds))
 
 pub faults_alike : (text other : List ℕ) (f : DecodeFault) → reading_of text ≡ Err f →
     reading_of other ≡ Err f

@@ -9,6 +9,7 @@ use Rattle.iso_codec.specs.FaultTexts.{number_of_fault, element_of_fault, text_o
 use Rattle.iso_codec.specs.declared.decode_fault.DecodeFault.{DecodeFault}
 use Rattle.acq_show.specs.Names.{class_name, function_name, origin_name, is_named, element_name}
 use Rattle.acq_show.specs.Contents.{content_shown}
+use Rattle.acq_show.specs.Remarks.{message_remark}
 
 abbrev pub spaces : ℕ → List ℕ
 spaces n = replicate n 32
@@ -46,7 +47,7 @@ fault_line fault place =
     ++ codes "), at byte " ++ decimal place ++ codes "\n"
 
 abbrev pub reading_shown : List ℕ → Result IsoMessage DecodeFault → List ℕ
-reading_shown text (Ok m) = message_shown m
+reading_shown text (Ok m) = message_shown m ++ message_remark m
 reading_shown text (Err fault) = fault_line fault (fault_place text fault)
 
 -- what is shown of a text

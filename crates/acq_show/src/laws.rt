@@ -1,14 +1,18 @@
 //! Laws of what is shown, and worked rows of the definitions.
 
-ghost use Rattle.std.specs.Prelude.{◌≡◌, ◌++◌, ℕ, List, Ok, Err, codes};
+ghost use Rattle.std.specs.Prelude.{◌≡◌, ◌++◌, ◌∷◌, [], ℕ, List, Ok, Err, None, Some, true, false, codes};
 ghost use Rattle.iso_codec.specs.declared.decode_fault.DecodeFault.{DecodeFault};
 ghost use Rattle.iso_codec.specs.Message.{IsoMessage};
 ghost use Rattle.iso_codec.specs.Reading.{reading_of};
 ghost use Rattle.iso_codec.specs.FaultPlaces.{fault_place};
 ghost use Rattle.iso_codec.specs.Examples.{echo_request_text};
+ghost use Rattle.acq_message.specs.FirstCheck.{is_malformed};
+ghost use Rattle.acq_message.specs.declared.service.Service.{Service};
+ghost use Rattle.acq_message.specs.declared.service.Service.TheVariants.{NetworkManagement};
 ghost use Rattle.acq_show.specs.Contents.{content_shown};
 ghost use Rattle.acq_show.specs.Hidden.{DifferHidden, EachDiffersHidden};
 ghost use Rattle.acq_show.specs.Lines.{lines_shown};
+ghost use Rattle.acq_show.specs.Remarks.{first_remark, remark_on};
 ghost use Rattle.acq_show.specs.Shown.{shown};
 
 /// What is shown depends on no more of a card number than its length, its first six and its last
@@ -24,6 +28,23 @@ pub fn no_card_is_shown()
     ensures fault { (text other : List ℕ) (f : DecodeFault) → reading_of text ≡ Err f
         → reading_of other ≡ Err f → fault_place text f ≡ fault_place other f
         → shown text ≡ shown other }
+{}
+
+/// Where the host's first check passes a request, nothing is remarked on it.
+pub fn remarks_are_refusals()
+    ensures { (service : Service) (m : IsoMessage) → is_malformed service m ≡ false
+        → remark_on service m ≡ [] }
+{}
+
+/// What is remarked on requests.
+pub fn worked_remarks()
+    ensures missing { remark_on NetworkManagement
+        (record { kind = codes "0800"; elements = (7, codes "0101120000") ∷ (70, codes "301") ∷ [] })
+        ≡ codes "the host replies 30: element 11, trace number, is missing\n" }
+    ensures card { first_remark None false (Some 52)
+        ≡ codes "the host replies 30: neither element 2 nor 35 is there\n" }
+    ensures block { first_remark None true (Some 52)
+        ≡ codes "the host replies 30: element 52, PIN block, is there, and can't be checked\n" }
 {}
 
 /// What is shown of contents.

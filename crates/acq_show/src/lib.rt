@@ -13,6 +13,7 @@ pub mod laws;
 mod lines;
 mod meanings;
 mod names;
+mod remarks;
 
 pub use event_lines::show_lines;
 pub use lines::show_message;

@@ -5,9 +5,11 @@ ghost use Rattle.iso_codec.specs.Message.{IsMessage};
 ghost use Rattle.acq_show.specs.Names.{element_name};
 ghost use Rattle.acq_show.specs.Shown.{shown, message_shown, type_line, element_line, fault_line};
 ghost use Rattle.acq_show.specs.Shown.{name_words, spaces};
+ghost use Rattle.acq_show.specs.Remarks.{message_remark};
 
 use crate::contents::{put_content, put_repeated};
 use crate::names::{class_name, element_name, function_name, is_named, origin_name};
+use crate::remarks::put_message_remark;
 use iso_codec::{DecodeFault, Message, decode, fault_place};
 use itoa::Buffer;
 use std::alloc::{AllocError, Global};
@@ -27,13 +29,24 @@ pub fn show_message(alloc: Global, message: &[u8]) -> Result<Vec<u8>, AllocError
     ensures { IfOk result (λ text. text.items ≡ shown message.now) }
 {
     let fault = match decode(alloc, message) {
-        Ok(decoded) => return message_text(alloc, &decoded),
+        Ok(decoded) => return remarked_text(alloc, &decoded),
         Err(fault) => fault,
     };
     match fault {
         DecodeFault::Memory => Err(AllocError),
         _ => fault_text(alloc, fault, fault_place(message, fault)),
     }
+}
+
+/// The lines of a message, and behind them why the host replies 30 to it, if that is told.
+fn remarked_text(alloc: Global, message: &Message) -> Result<Vec<u8>, AllocError>
+    requires { IsMessage message.now }
+    ensures { IfOk result (λ text. text.items
+        ≡ message_shown message.now ++ message_remark message.now) }
+{
+    let mut text = message_text(alloc, message)?;
+    put_message_remark(&mut text, message)?;
+    Ok(text)
 }
 
 /// The lines of a message.

@@ -15,7 +15,7 @@ own_fault text f not (inr read) = read
 
 pub returns-in-Ok : goal.returns-in-Ok
 unfolding shown
-returns-in-Ok c = rw c.in-Ok.ensures.exact c.message_text.ensures
+returns-in-Ok c = rw c.in-Ok.ensures.exact c.remarked_text.ensures
 
 pub returns-in_default : goal.returns-in_default
 unfolding shown
