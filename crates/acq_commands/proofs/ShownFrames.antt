@@ -45,7 +45,6 @@ plain_unshown true input.TheVariants.Read bytes = refl
 plain_unshown false input.TheVariants.Memory bytes = ([], bytes, shows_none bytes)
 plain_unshown false input.TheVariants.Read bytes = refl
 
-
 -- the input could not be read, so nothing was shown
 pub input_unshown : (form : InputForm) (e : input.InputFault) (bytes : List ℕ) →
     ShowsInput form bytes [] (Err (of_input e))
