@@ -1,6 +1,7 @@
 //! Laws of what is shown, and worked rows of the definitions.
 
-ghost use Rattle.std.specs.Prelude.{◌≡◌, ◌++◌, ◌∷◌, [], ℕ, List, Ok, Err, None, Some, true, false, codes};
+ghost use Rattle.std.specs.Prelude.{◌≡◌, ◌++◌, ◌∷◌, [], ℕ, List, Ok, Err, None, Some, true, false};
+ghost use Rattle.std.specs.Prelude.{codes};
 ghost use Rattle.iso_codec.specs.declared.decode_fault.DecodeFault.{DecodeFault};
 ghost use Rattle.iso_codec.specs.Message.{IsoMessage};
 ghost use Rattle.iso_codec.specs.Reading.{reading_of};
@@ -39,7 +40,10 @@ pub fn remarks_are_refusals()
 /// What is remarked on requests.
 pub fn worked_remarks()
     ensures missing { remark_on NetworkManagement
-        (record { kind = codes "0800"; elements = (7, codes "0101120000") ∷ (70, codes "301") ∷ [] })
+        (record {
+          kind = codes "0800";
+          elements = (7, codes "0101120000") ∷ (70, codes "301") ∷ [];
+        })
         ≡ codes "the host replies 30: element 11, trace number, is missing\n" }
     ensures card { first_remark None false (Some 52)
         ≡ codes "the host replies 30: neither element 2 nor 35 is there\n" }
