@@ -115,20 +115,20 @@ fn put_message(alloc: Global, text: &mut Vec<u8>, message: &[u8]) -> Result<(), 
 }
 
 /// A record's first field, and those behind it.
-fn fields_of(record: &[u8]) -> (&[u8], &[u8])
-    ensures first { result.0.now ≡ first_field record.now }
-    ensures later { result.1.now ≡ later_fields record.now }
+fn fields_of(fields: &[u8]) -> (&[u8], &[u8])
+    ensures first { result.0.now ≡ first_field fields.now }
+    ensures later { result.1.now ≡ later_fields fields.now }
 {
-    match comma(record) {
-        Some(end) => (&record[..end], &record[end + 1..]),
-        None => (record, &[]),
+    match comma(fields) {
+        Some(end) => (&fields[..end], &fields[end + 1..]),
+        None => (fields, &[]),
     }
 }
 
-fn comma(record: &[u8]) -> Option<usize>
-    ensures { result ≡ comma record.now }
+fn comma(fields: &[u8]) -> Option<usize>
+    ensures { result ≡ comma fields.now }
 {
-    record.iter().position(|byte| *byte == b',')
+    fields.iter().position(|byte| *byte == b',')
 }
 
 /// The first line of a text that isn't empty, and the text behind it.
