@@ -1,12 +1,13 @@
 -- What a person is shown of the lines that `replay` reads and writes (own profile): of a message
 -- what is shown of messages, of lines that have none what stands there.
 use Rattle.std.specs.Prelude.{ℕ, ◌+◌, ◌==◌, nat_eq, Bool, List, [], ◌∷◌, ◌++◌, length, take}
-use Rattle.std.specs.Prelude.{drop, codes, ◌||◌}
+use Rattle.std.specs.Prelude.{drop, codes, ◌&&◌, ◌||◌}
 use Rattle.std.specs.Prelude.{Option, Some, None, if◌then◌else◌}
 use Rattle.std.specs.Prelude.{flat_map}
-use Rattle.std.specs.List.{list_any, position, starts_with}
+use Rattle.std.specs.List.{list_all, list_any, position, starts_with}
 use Rattle.std.specs.Result.{result_ok}
 use Rattle.hex.specs.Hex.{decode_of}
+use Rattle.iso_codec.specs.Content.{is_printable}
 use Rattle.acq_link.specs.HexLines.{lines_of, without_return}
 use Rattle.acq_show.specs.Contents.{length_shown, printable}
 use Rattle.acq_show.specs.Names.{is_empty}
@@ -55,14 +56,17 @@ frame_lines fields =
 abbrev pub begins : List ℕ → List ℕ → Bool
 begins front line = starts_with nat_eq line front
 
--- how the other lines begin: none of them has a whole card number
+-- How the other lines begin, none of which has a whole card number. A carriage return within may
+-- end one, and have a message behind it.
 abbrev pub known : List (List ℕ)
 known =
     codes "answer," ∷ codes "cutover," ∷ codes "addrange," ∷ codes "droprange," ∷ codes "enrol,"
     ∷ codes "terminal," ∷ codes "ask " ∷ codes "done" ∷ codes "refused " ∷ []
 
 abbrev pub is_known : List ℕ → Bool
-is_known line = is_empty line || list_any (λ front. begins front line) known
+is_known line =
+    is_empty line
+    || (list_all is_printable line && list_any (λ front. begins front line) known)
 
 -- an empty line or one of these as it stands, and of any other one the length alone
 abbrev pub other_line : List ℕ → List ℕ

@@ -1,18 +1,19 @@
 //! The lines that `replay` reads and writes, as a person is shown them.
 
 ghost use Rattle.std.specs.Prelude.{◌≡◌, ◌<◌, ◌++◌, ◌∷◌, ◌==◌, IfOk, OnOk, length};
-ghost use Rattle.std.specs.List.{position};
+ghost use Rattle.std.specs.List.{list_any, position};
 ghost use Rattle.std.specs.Result.{result_ok};
 ghost use Rattle.hex.specs.Hex.{decode_of};
 ghost use Rattle.acq_link.specs.HexLines as text;
 ghost use Rattle.acq_link.specs.HexLines.{lines_of};
 ghost use Rattle.acq_show.specs.Lines.{lines_shown, line_shown, reply_lines, frame_lines};
 ghost use Rattle.acq_show.specs.Lines.{digits_lines, message_lines, first_field, later_fields};
-ghost use Rattle.acq_show.specs.Lines.{comma, is_known, other_line};
+ghost use Rattle.acq_show.specs.Lines.{begins, comma, is_known, known, other_line};
 
 use crate::contents::{put_length, put_printable};
 use crate::lines::show_message;
 use hex::FromHexError;
+use iso_codec::all_printable;
 use std::alloc::{AllocError, Global};
 
 /// The text that a person is shown of lines as `replay` reads and writes them: of `frame` and
@@ -61,8 +62,14 @@ fn put_other(text: &mut Vec<u8>, line: &[u8]) -> Result<(), AllocError>
 fn is_known(line: &[u8]) -> bool
     ensures { result ≡ is_known line.now }
 {
-    line.is_empty()
-        || line.starts_with(b"answer,")
+    line.is_empty() || (all_printable(line) && begins_known(line))
+}
+
+/// Whether it begins so.
+fn begins_known(line: &[u8]) -> bool
+    ensures { result ≡ list_any (λ front. begins front line.now) known }
+{
+    line.starts_with(b"answer,")
         || line.starts_with(b"cutover,")
         || line.starts_with(b"addrange,")
         || line.starts_with(b"droprange,")

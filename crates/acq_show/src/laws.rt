@@ -104,4 +104,5 @@ pub fn worked_lines()
         ≡ codes "done\nrefused 30 4 65\ncutover,1714608000,,,,\n" }
     ensures unknown { lines_shown (codes "\n\"frame\",4111111111111111\n")
         ≡ codes "\n(length 24, not shown)\n" }
+    ensures returns { lines_shown (codes "done\rframe,1,34\n") ≡ codes "(length 15, not shown)\n" }
 {}

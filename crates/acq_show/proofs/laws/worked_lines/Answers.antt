@@ -5,4 +5,4 @@ use Rattle.acq_show.proofs.laws.worked_lines.Goals as goal
 
 pub returns : goal.returns
 unfolding shown_on_literals lines_shown
-returns c = record { reply = refl; frame = refl; no_digits = refl; others = refl; unknown = refl }
+returns c = record { reply = refl; frame = refl; no_digits = refl; others = refl; unknown = refl; returns = refl }
