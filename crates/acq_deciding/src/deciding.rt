@@ -4,7 +4,7 @@ ghost use Rattle.std.specs.Prelude.{◌≡◌, nat_lt, true, IfOk, if◌then◌e
 ghost use Rattle.std.specs.List.{list_any};
 ghost use Rattle.std.specs.Str.{bytes_eq};
 ghost use Rattle.day_totals.specs.Day.{last_day};
-ghost use Rattle.acq_message.specs.Elements.{essence_of};
+ghost use Rattle.acq_message.specs.Elements.{essence_of, transaction_in};
 ghost use Rattle.acq_message.specs.Services.{is_recordable};
 ghost use Rattle.acq_core.specs.Decision as decided;
 ghost use Rattle.acq_core.specs.Decision.{decision, decision_of_request, decision_of_merchant};
@@ -138,7 +138,7 @@ fn decision_of_repeat<'a>(
 }
 
 /// Whether a request is alike in its essence to a recorded one.
-fn has_essence_of(
+pub fn has_essence_of(
     alloc: Global,
     request: &RequestMessage,
     recorded: &Request,
@@ -185,7 +185,7 @@ fn decision_by_service<'a>(
 }
 
 /// Whether the merchant's day admits no more.
-fn is_full(looked: &Looked) -> bool
+pub fn is_full(looked: &Looked) -> bool
     ensures { result ≡ is_full (known_of looked.now) }
 {
     looked.used.number() >= looked.limit.number()
@@ -196,14 +196,16 @@ fn is_full(looked: &Looked) -> bool
 fn is_other_transaction(merchant: &Merchant, request: &RequestMessage) -> bool
     ensures { result ≡ is_other_transaction merchant.now request.now }
 {
-    !has_transaction(request.service, transaction_in(&request.message))
+    !has_transaction(request)
         || text_at(&request.message, 49) != merchant.currency.to_bytes().as_slice()
 }
 
 /// Purchases are authorized and completed, sold or returned.
-fn has_transaction(service: Service, transaction: &[u8]) -> bool
-    ensures { result ≡ list_any (bytes_eq transaction.now) (transactions service) }
+pub fn has_transaction(request: &RequestMessage) -> bool
+    ensures { result ≡ list_any (bytes_eq (transaction_in request.now.message))
+        (transactions request.now.service) }
 {
-    let is_return = service == Service::Financial && transaction == b"20".as_slice();
+    let transaction = transaction_in(&request.message);
+    let is_return = request.service == Service::Financial && transaction == b"20".as_slice();
     is_return || transaction == b"00".as_slice()
 }

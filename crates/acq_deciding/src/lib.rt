@@ -7,6 +7,7 @@
 //! (`Outcome.antt`), and what it changes in the tables (`Changes.antt`, `Tables.antt`).
 #![tactic(auto)]
 
+pub mod checks;
 mod deciding;
 mod decision;
 mod effects;

@@ -10,7 +10,7 @@ use iso_codec::Message;
 
 /// The day that a reconciliation is of: today, or the latest day with the month and day of element
 /// 15, or none.
-pub(crate) fn reconciled_day(today: Day, message: &Message) -> Option<Day>
+pub fn reconciled_day(today: Day, message: &Message) -> Option<Day>
     ensures { result ≡ reconciled_day today (content_of message.now.elements 15) }
 {
     match settlement_date(message) {

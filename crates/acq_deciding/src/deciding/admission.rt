@@ -63,14 +63,14 @@ pub(super) fn admission<'a>(
 }
 
 /// Whether a message has a valid card number.
-fn has_valid_card(message: &Message) -> bool
+pub fn has_valid_card(message: &Message) -> bool
     ensures { result ≡ is_valid_card (or_empty (card_of message.now)) }
 {
     CardNumber::read(card_of(message).unwrap_or(&[])).is_some()
 }
 
 /// Whether the expiry of a message's card, where it is known, has passed on a day.
-fn is_expired(today: Day, message: &Message) -> bool
+pub fn is_expired(today: Day, message: &Message) -> bool
     ensures { result ≡ is_expired today (expiry_of message.now) }
 {
     let Some(expiry) = expiry_of(message) else {

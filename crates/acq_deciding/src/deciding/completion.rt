@@ -54,7 +54,7 @@ pub(super) fn completion<'a>(
 }
 
 /// Whether a request is a hold that is open at a moment.
-fn is_open_at(moment: Moment, request: &Request) -> bool
+pub fn is_open_at(moment: Moment, request: &Request) -> bool
     ensures { result ≡ is_open_at moment (prior_of request.now).hold_end }
 {
     match request.hold_end {

@@ -78,7 +78,7 @@ pub(crate) fn reconciled(
 }
 
 /// Whether the claimed totals are the day's.
-fn is_in_balance(looked: &Looked, request: &CheckedRequest) -> bool
+pub fn is_in_balance(looked: &Looked, request: &CheckedRequest) -> bool
     ensures { result ≡ is_in_balance (known_of looked.now) request.now }
 {
     looked

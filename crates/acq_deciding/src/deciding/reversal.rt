@@ -56,7 +56,7 @@ pub(super) fn reversal<'a>(looked: &'a Looked, request: &'a CheckedRequest) -> D
 }
 
 /// Whether a request that stands so can't be reversed, or not in part, since it is pending.
-fn is_final_for(remaining: Amount, status: Status) -> bool
+pub fn is_final_for(remaining: Amount, status: Status) -> bool
     ensures { (reply : IsoMessage) → result ≡ (not (is_reversible status)
         || (is_awaited (reply_state_of status reply) && nat_lt 0 remaining)) }
 {
@@ -72,7 +72,7 @@ const ZEROS: [u8; 11] = *b"00000000000";
 
 /// Whether the acquirer that a reversal names is zeros or the original's, right-justified with
 /// zeros. Where the original had none, it is free.
-fn fits_acquirer(named: &[u8], acquirer: &Option<ElementContent>) -> bool
+pub fn fits_acquirer(named: &[u8], acquirer: &Option<ElementContent>) -> bool
     ensures { result ≡ fits_acquirer named.now acquirer.now }
 {
     let Some(acquirer) = acquirer else {

@@ -1,0 +1,2 @@
+pub mod FirstChecks
+pub mod Explained

@@ -1,0 +1,4 @@
+pub mod Codes
+pub mod Reasons
+pub mod Truths
+pub mod Laws
