@@ -10,22 +10,27 @@ ghost use Rattle.acq_book.specs.Fits.{Fits};
 ghost use Rattle.acq_book.specs.Calls.{Looks, Makes};
 ghost use Rattle.acq_book.specs.Promise.{CountsFault};
 ghost use Rattle.acq_host.specs.Looked.{IsLooked};
+ghost use Rattle.acq_reasons.specs.Reasons.{reason_for};
 
 use crate::looking_up::{look_up, nothing_looked};
 use acq_book::{Book, BookFault};
 use acq_core::{Arrival, Change, Event, Looked, Output};
+use acq_reasons::{Reason, reason_for};
 use std::alloc::Global;
 
-/// Reads an event, looks up what it needs, and returns what the host says to it and what changes.
+/// Reads an event, looks up what it needs, and returns what the host says to it, what changes, and
+/// why it gets another code than 00, if it does.
 pub(crate) fn decide<B: Book>(
     alloc: Global,
     book: &mut B,
     event: &Event,
-) -> Result<(Output, Option<Change>), BookFault>
+) -> Result<(Output, Option<Change>, Option<Reason>), BookFault>
     ensures output { B.is_open book.new → IfOk result (λ x.
         x.0 ≡ step_output (B.tables book.old) (arrival_of event.now)) }
     ensures change { B.is_open book.new → IfOk result (λ x. let a = arrival_of event.now in
         x.1 ≡ change_for (known_in (B.tables book.old) a) a) }
+    ensures reason { B.is_open book.new → IfOk result (λ x. let a = arrival_of event.now in
+        x.2 ≡ reason_for (known_in (B.tables book.old) a) a) }
     ensures looks { Looks B.Book book.old book.new (is_ok result) }
     ensures store { CountsFault result (B.failures book.old) (B.failures book.new) }
 {
@@ -33,18 +38,19 @@ pub(crate) fn decide<B: Book>(
     decide_arrival(alloc, book, &arrival)
 }
 
-/// Looks up what an event needs that was read, and returns what the host says to it and what
-/// changes.
+/// Looks up what an event needs that was read, and returns the same of it.
 #[tactic(auto, using(crate::proofs::Chains::looks_more))]
 fn decide_arrival<B: Book>(
     alloc: Global,
     book: &mut B,
     arrival: &Arrival,
-) -> Result<(Output, Option<Change>), BookFault>
+) -> Result<(Output, Option<Change>, Option<Reason>), BookFault>
     ensures output { B.is_open book.new → IfOk result (λ x.
         x.0 ≡ step_output (B.tables book.old) arrival.now) }
     ensures change { B.is_open book.new → IfOk result (λ x.
         x.1 ≡ change_for (known_in (B.tables book.old) arrival.now) arrival.now) }
+    ensures reason { B.is_open book.new → IfOk result (λ x.
+        x.2 ≡ reason_for (known_in (B.tables book.old) arrival.now) arrival.now) }
     ensures looks { Looks B.Book book.old book.new (is_ok result) }
     ensures store { CountsFault result (B.failures book.old) (B.failures book.new) }
 {
@@ -64,17 +70,23 @@ fn decide_over<B: Book>(
     book: &mut B,
     arrival: &Arrival,
     looked: &mut Looked,
-) -> Result<(Output, Option<Change>), BookFault>
+) -> Result<(Output, Option<Change>, Option<Reason>), BookFault>
     ensures output { B.is_open book.new → IsLooked (B.tables book.old) nothing looked.old
         → IfOk result (λ x. x.0 ≡ step_output (B.tables book.old) arrival.now) }
     ensures change { B.is_open book.new → IsLooked (B.tables book.old) nothing looked.old
         → IfOk result (λ x.
         x.1 ≡ change_for (known_in (B.tables book.old) arrival.now) arrival.now) }
+    ensures reason { B.is_open book.new → IsLooked (B.tables book.old) nothing looked.old
+        → IfOk result (λ x.
+        x.2 ≡ reason_for (known_in (B.tables book.old) arrival.now) arrival.now) }
     ensures looks { Looks B.Book book.old book.new (is_ok result) }
     ensures store { CountsFault result (B.failures book.old) (B.failures book.new) }
 {
     look_up(book, arrival, looked)?;
-    Ok(acq_deciding::decide_arrival(alloc, looked, arrival)?)
+    // The reason is found first: nothing of it has to be let go if memory runs out behind it.
+    let reason = reason_for(alloc, looked, arrival)?;
+    let (output, change) = acq_deciding::decide_arrival(alloc, looked, arrival)?;
+    Ok((output, change, reason))
 }
 
 /// Makes a change, if there is one. It is lent, so that the caller lets it go, once.

@@ -16,6 +16,7 @@ use crate::deciding::{apply, decide};
 use crate::run_fault::RunFault;
 use acq_book::{Book, BookFault};
 use acq_core::{Event, Output};
+use acq_reasons::Reason;
 use acq_soundness::every_event;
 use std::alloc::Global;
 use std::marker::Model;
@@ -26,6 +27,8 @@ use std::marker::Model;
 pub struct Host<B: Book + Drop> {
     alloc: Global,
     book: B,
+    /// Why the last event that was taken got another code than 00, if it did.
+    reason: Option<Reason>,
 }
 
 impl<B: Book + Drop> Model for Host<B> {
@@ -44,7 +47,11 @@ impl<B: Book + Drop> Host<B> {
         requires past { B.is_open book → HasPast (B.tables book) }
         ensures { result ≡ book }
     {
-        Host { alloc, book }
+        Host {
+            alloc,
+            book,
+            reason: None,
+        }
     }
 
     /// The book.
@@ -71,11 +78,18 @@ impl<B: Book + Drop> Host<B> {
         ensures store { CountsFault result (B.failures self.old) (B.failures self.new) }
     {
         every_event(event);
-        let (output, change) = decide(self.alloc, &mut self.book, event)?;
+        let (output, change, reason) = decide(self.alloc, &mut self.book, event)?;
+        self.reason = reason;
         let made = apply(&mut self.book, &change);
         drop(change);
         made?;
         Ok(output)
+    }
+
+    /// Why the last event that was taken got another code than 00, for logs. A repeat gets the code
+    /// that was kept, and no reason.
+    pub fn reason(&self) -> Option<Reason> {
+        self.reason
     }
 
     /// Takes events in order, to the last or to the first fault, and returns what the host says to

@@ -2,6 +2,7 @@
 use Rattle.std.proofs.Common.{◌≡◌, IfOk, subst}
 use Rattle.acq_core.specs.Changes.{change_for}
 use Rattle.acq_core.specs.Tables.{known_in, step_output}
+use Rattle.acq_reasons.specs.Reasons.{reason_for}
 use Rattle.acq_host.proofs.deciding.decide.Goals as goal
 
 pub returns-clause-output : goal.returns-clause-output
@@ -15,3 +16,9 @@ returns-clause-change g c = λ o.
     subst (λ a. IfOk c.decide_arrival.result (λ x.
     x.1 ≡ change_for (known_in (g.B.Book.tables c.args.book.now) a) a))
     c.in_ok-arrival.ensures (c.decide_arrival.ensures.change o)
+
+pub returns-clause-reason : goal.returns-clause-reason
+returns-clause-reason g c = λ o.
+    subst (λ a. IfOk c.decide_arrival.result (λ x.
+    x.2 ≡ reason_for (known_in (g.B.Book.tables c.args.book.now) a) a))
+    c.in_ok-arrival.ensures (c.decide_arrival.ensures.reason o)

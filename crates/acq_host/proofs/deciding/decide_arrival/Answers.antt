@@ -2,6 +2,7 @@
 use Rattle.std.proofs.Common.{◌≡◌, ◌∙◌, IfOk, refl, sym, ap, subst}
 use Rattle.acq_core.specs.Changes.{change_for}
 use Rattle.acq_core.specs.Tables.{known_in, step_output}
+use Rattle.acq_reasons.specs.Reasons.{reason_for}
 use Rattle.acq_host.proofs.Chains.{counts_more, counts_on, looks_then}
 use Rattle.acq_host.proofs.deciding.decide_arrival.Goals as goal
 
@@ -32,6 +33,20 @@ returns-clause-change g c = λ o3.
     subst (λ t. IfOk c.decide_over-decided.result (λ x.
     x.1 ≡ change_for (known_in t c.args.arrival.now) c.args.arrival.now)) same
     (c.decide_over-decided.ensures.change o3 nothing)
+
+pub returns-clause-reason : goal.returns-clause-reason
+returns-clause-reason g c = λ o3.
+    let o2 = c.decide_over-decided.ensures.looks.was_open o3 in
+    let o1 = c.limit.ensures.looks.was_open o2 in
+    let t1 = c.day.ensures.looks.same o1 in
+    let same = c.limit.ensures.looks.same o2 ∙ t1 in
+    let today = c.in_ok-today.ensures.value o1 ∙ sym (ap (λ t. t.day) same) in
+    let limit = c.in_ok-limit.ensures.value o2 ∙ ap (λ t. t.limit) t1 ∙ sym (ap (λ t. t.limit) same)
+    in
+    let nothing = c.nothing_looked-looked.ensures (g.B.Book.tables c.limit.new.self) today limit in
+    subst (λ t. IfOk c.decide_over-decided.result (λ x.
+    x.2 ≡ reason_for (known_in t c.args.arrival.now) c.args.arrival.now)) same
+    (c.decide_over-decided.ensures.reason o3 nothing)
 
 pub returns-clause-looks : goal.returns-clause-looks
 returns-clause-looks g c =
