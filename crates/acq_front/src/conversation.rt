@@ -18,6 +18,7 @@ use acq_book::Book;
 use acq_core::{Query, Verdict};
 use acq_host::Host;
 use acq_link::Deframer;
+use acq_reasons::Reason;
 use std::alloc::Global;
 
 /// One end of a connection: what came and belongs to no message yet, and what of a reply is still
@@ -28,6 +29,8 @@ pub struct Conversation {
     output: Outgoing,
     /// The message that the last turn took, if it gets no reply.
     unanswered: Option<Unanswered>,
+    /// Why its reply has another code than 00, if it has.
+    reason: Option<Reason>,
 }
 
 impl Conversation {
@@ -41,6 +44,7 @@ impl Conversation {
             input: Deframer::new(),
             output: Outgoing::new(),
             unanswered: None,
+            reason: None,
         }
     }
 
@@ -90,6 +94,11 @@ impl Conversation {
         self.unanswered
     }
 
+    /// Why the reply to the message that the last turn took has another code than 00, for logs.
+    pub fn reason(&self) -> Option<Reason> {
+        self.reason
+    }
+
     /// So many bytes of it were written.
     pub fn advance(&mut self, n: usize)
         requires { n ≤ length (unsent_of self.old) }
@@ -135,12 +144,14 @@ impl Conversation {
     {
         self.output.clear();
         self.unanswered = None;
+        self.reason = None;
         let Some(message) = self.input.take_message(alloc)? else {
             return Ok(Turn::Waits);
         };
         let kind = kind_of(message.as_slice());
         let said = take_message(message, host, clock, issuer)?;
         self.unanswered = Unanswered::of(kind, &said);
+        self.reason = host.reason();
         self.output.hold(&said)?;
         Ok(Turn::Took)
     }

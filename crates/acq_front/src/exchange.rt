@@ -20,6 +20,7 @@ use crate::{Clock, FrontFault, Issuer};
 use acq_book::Book;
 use acq_core::{Query, Verdict};
 use acq_host::Host;
+use acq_reasons::Reason;
 use std::alloc::Global;
 
 /// The most bytes that are read at once.
@@ -64,6 +65,11 @@ impl<L: Line> Exchange<L> {
     /// The message that the last round took, if it gets no reply.
     pub fn unanswered(&self) -> Option<Unanswered> {
         self.conversation.unanswered()
+    }
+
+    /// Why the reply to the message that the last round took has another code than 00, for logs.
+    pub fn reason(&self) -> Option<Reason> {
+        self.conversation.reason()
     }
 
     /// One round: writes on what is to be written; or else has the host take the next message, with

@@ -11,6 +11,7 @@ mod first_check;
 pub mod laws;
 mod reason;
 mod reasons;
+mod words;
 
 pub use reason::Reason;
 pub use reasons::reason_for;

@@ -8,6 +8,7 @@ use crate::line_rate::LineRate;
 use crate::log_line::LogLine;
 use crate::log_target::LogTarget;
 use crate::log_time::{LogTime, second_of};
+use crate::open_connection::HeldReply;
 use acq_front::{FrontFault, Silence, Unanswered};
 use card_no::CardNumber;
 use day_totals::Day;
@@ -159,14 +160,14 @@ impl<W: LogTarget> HostLog<W> {
         self.end_line();
     }
 
-    /// A terminal gets this reply, for which the host took so long of the time since the message's
-    /// last byte came.
+    /// A terminal gets this reply, of which this is known, so long after the message's last byte
+    /// came.
     pub(crate) fn replied<T: time::Clock>(
         &mut self,
         clock: &T,
         name: ConnectionName,
         message: &Message,
-        took: Option<Duration>,
+        held: HeldReply,
         total: Option<Duration>,
     ) {
         if is_of_network(&message.kind()) && !self.echoes.admits(second_of(clock)) {
@@ -175,7 +176,10 @@ impl<W: LogTarget> HostLog<W> {
         self.begin_line(clock, "reply");
         self.put_connection(name);
         self.put_elements(message);
-        self.put_duration("microseconds", took);
+        if let Some(reason) = held.reason {
+            self.line.put_why(reason);
+        }
+        self.put_duration("microseconds", held.took);
         self.put_duration("total_microseconds", total);
         self.end_line();
     }

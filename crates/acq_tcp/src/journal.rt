@@ -10,6 +10,7 @@ use crate::first_seen::FirstSeen;
 use crate::frame_head::FrameHead;
 use crate::host_log::HostLog;
 use crate::log_target::LogTarget;
+use crate::open_connection::HeldReply;
 use crate::places::Places;
 use crate::serving_counts::ServingCounts;
 use acq_book::Book;
@@ -206,23 +207,16 @@ impl<'a, T: time::Clock, W: LogTarget> Journal<'a, T, W> {
         self.since(began)
     }
 
-    /// A terminal gets the first bytes of this frame now, for which the host took so long; the
-    /// message's last byte came then.
-    pub(crate) fn replied(
-        &mut self,
-        name: ConnectionName,
-        frame: &[u8],
-        took: Option<Duration>,
-        came: Option<Instant>,
-    ) {
-        let total = self.since(came);
+    /// A terminal gets the first bytes of this frame now, of which this is known.
+    pub(crate) fn replied(&mut self, name: ConnectionName, frame: &[u8], held: HeldReply) {
+        let total = self.since(held.came);
         let reply = frame
             .get(HEADER..)
             .and_then(|text| decode(self.alloc, text).ok());
         let code = reply.as_ref().and_then(|reply| reply.get(39));
         self.counts.replied(code.unwrap_or(b""), total);
         if let (Some(log), Some(reply)) = (&mut self.log, &reply) {
-            log.replied(self.time, name, reply, took, total);
+            log.replied(self.time, name, reply, held, total);
         }
     }
 

@@ -1,5 +1,6 @@
 //! Lines in logfmt.
 
+use acq_reasons::Reason;
 use itoa::Buffer;
 use std::alloc::{AllocError, Global};
 
@@ -36,6 +37,20 @@ impl LogLine {
     /// Puts a key and a number.
     pub(crate) fn put_number(&mut self, key: &str, number: u64) {
         self.put(key, Buffer::new().format(number).as_bytes());
+    }
+
+    /// Puts the reason of a reply: its word, with the number of its element behind it.
+    pub(crate) fn put_why(&mut self, reason: Reason) {
+        self.put("why", reason.word().as_bytes());
+        if let Some(number) = reason.element() {
+            let mut digits = Buffer::new();
+            let put = self.text.push(b'-').is_ok()
+                && self
+                    .text
+                    .extend_from_slice(digits.format(number).as_bytes())
+                    .is_ok();
+            self.is_lost |= !put;
+        }
     }
 
     /// The line with its line feed, unless memory ran out for it.

@@ -12,6 +12,7 @@ use crate::timed_stream::TimedStream;
 use acq_book::Book;
 use acq_front::{Clock, Exchange, FrontFault, Issuer, Round, StreamLine, Unanswered};
 use acq_host::Host;
+use acq_reasons::Reason;
 use mio::net::TcpStream;
 use std::alloc::Global;
 use std::io::ErrorKind;
@@ -42,6 +43,8 @@ pub(crate) struct HeldReply {
     pub(crate) took: Option<Duration>,
     /// When the last byte of its message came.
     pub(crate) came: Option<Instant>,
+    /// Why it has another code than 00, if it has.
+    pub(crate) reason: Option<Reason>,
 }
 
 impl<'a, T: time::Clock> OpenConnection<'a, T> {
@@ -95,6 +98,7 @@ impl<'a, T: time::Clock> OpenConnection<'a, T> {
         self.held = Some(HeldReply {
             took,
             came: self.stream().last_came(),
+            reason: self.exchange.reason(),
         });
     }
 

@@ -529,7 +529,7 @@ fn tell_reply<T: time::Clock, W: LogTarget>(
     journal: &mut Journal<'_, T, W>,
 ) {
     if let Some(held) = connection.begin_reply() {
-        journal.replied(connection.name(), connection.unsent(), held.took, held.came);
+        journal.replied(connection.name(), connection.unsent(), held);
     }
 }
 

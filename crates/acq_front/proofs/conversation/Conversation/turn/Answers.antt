@@ -59,7 +59,12 @@ pub returns-in_err-message-clause-stops : goal.returns-in_err-message-clause-sto
 returns-in_err-message-clause-stops g c =
     let p = err_from_is_err_and c.from_residual.result c.from_residual.ensures.1 in
     let it : Conversation =
-    record { input = c.take_message.new.self; output = c.clear.new.self; unanswered = None } in
+    record {
+      input = c.take_message.new.self;
+      output = c.clear.new.self;
+      unanswered = None;
+      reason = None;
+    } in
     rw (p.1, p.2) (stream_stops (held_of it) (unsent_of it) c.in_err-message.field-0.0
     (λ is. ap has_bad_length c.in_err-message.ensures.kept
     ∙ c.in_err-message.ensures.bad (ap Err is)))
@@ -89,7 +94,12 @@ returns-in_err-said-clause-stops g c =
     let p = err_from_is_err_and c.from_residual-in_err-said.result
     c.from_residual-in_err-said.ensures.1 in
     let it : Conversation =
-    record { input = c.take_message.new.self; output = c.clear.new.self; unanswered = None } in
+    record {
+      input = c.take_message.new.self;
+      output = c.clear.new.self;
+      unanswered = None;
+      reason = None;
+    } in
     rw (p.1, p.2) (taking_stops Output (held_of it) (unsent_of it) c.in_err-said.field-0.0
     c.in_err-said.ensures.fault)
 
@@ -111,7 +121,12 @@ returns-in_err-hold-clause-stops g c =
     let p = err_from_is_err_and c.from_residual-in_err-hold.result
     c.from_residual-in_err-hold.ensures.1 in
     let it : Conversation =
-    record { input = c.take_message.new.self; output = c.hold.new.self; unanswered = None } in
+    record {
+      input = c.take_message.new.self;
+      output = c.hold.new.self;
+      unanswered = None;
+      reason = None;
+    } in
     rw (p.1, p.2) (taking_stops (Unit {0}) (held_of it) (unsent_of it) c.in_err-hold.field-0.0
     c.in_err-hold.ensures.fault)
 
