@@ -22,7 +22,7 @@ use day_totals::{Day, Totals};
 
 /// Looks up all that an event needs, over what is known of the day alone.
 #[tactic(auto, using(crate::proofs::Chains::looks_more))]
-pub(crate) fn look_up<B: Book>(
+pub fn look_up<B: Book>(
     book: &mut B,
     arrival: &Arrival,
     looked: &mut Looked,
@@ -60,7 +60,7 @@ fn is_nothing(wanted: &Wanted) -> bool
 }
 
 /// What is looked up where nothing is wanted.
-pub(crate) fn nothing_looked(today: Day, limit: Limit) -> Looked
+pub fn nothing_looked(today: Day, limit: Limit) -> Looked
     ensures { (t : Tables) → today ≡ t.day → limit ≡ t.limit → IsLooked t nothing result }
 {
     Looked {

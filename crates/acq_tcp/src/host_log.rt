@@ -167,7 +167,7 @@ impl<W: LogTarget> HostLog<W> {
         clock: &T,
         name: ConnectionName,
         message: &Message,
-        held: HeldReply,
+        held: &HeldReply,
         total: Option<Duration>,
     ) {
         if is_of_network(&message.kind()) && !self.echoes.admits(second_of(clock)) {
@@ -176,7 +176,7 @@ impl<W: LogTarget> HostLog<W> {
         self.begin_line(clock, "reply");
         self.put_connection(name);
         self.put_elements(message);
-        if let Some(reason) = held.reason {
+        if let Some(reason) = &held.reason {
             self.line.put_why(reason);
         }
         self.put_duration("microseconds", held.took);

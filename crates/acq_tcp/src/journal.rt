@@ -216,7 +216,7 @@ impl<'a, T: time::Clock, W: LogTarget> Journal<'a, T, W> {
         let code = reply.as_ref().and_then(|reply| reply.get(39));
         self.counts.replied(code.unwrap_or(b""), total);
         if let (Some(log), Some(reply)) = (&mut self.log, &reply) {
-            log.replied(self.time, name, reply, held, total);
+            log.replied(self.time, name, reply, &held, total);
         }
     }
 

@@ -40,7 +40,7 @@ impl LogLine {
     }
 
     /// Puts the reason of a reply: its word, with the number of its element behind it.
-    pub(crate) fn put_why(&mut self, reason: Reason) {
+    pub(crate) fn put_why(&mut self, reason: &Reason) {
         self.put("why", reason.word().as_bytes());
         if let Some(number) = reason.element() {
             let mut digits = Buffer::new();
