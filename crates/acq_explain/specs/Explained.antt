@@ -94,14 +94,13 @@ decisive other = None
 abbrev pub detail : List ℕ → List ℕ → List ℕ
 detail name text = codes "    " ++ name ++ codes ": " ++ text ++ codes "\n"
 
-abbrev pub element_line : ℕ → List ℕ → List ℕ
-element_line n content =
-    codes "    element " ++ decimal n ++ codes ": " ++ content ++ codes "\n"
+unfoldable pub element_name : ℕ → List ℕ
+element_name n = codes "element " ++ decimal n
 
 -- that element of the request
 abbrev pub element_detail : IsoMessage → Option ℕ → List ℕ
 element_detail m None = []
-element_detail m (Some n) = element_line n (text_at m n)
+element_detail m (Some n) = detail (element_name n) (text_at m n)
 
 -- what it was compared with
 abbrev pub currency_detail : Option Merchant → List ℕ

@@ -14,7 +14,7 @@ ghost use Rattle.acq_reports.specs.Writing.{Writes};
 ghost use Rattle.acq_reports.specs.declared.report_fault.ReportFault.TheVariants.{Store};
 ghost use Rattle.acq_explain.specs.Explained.{explained, explained_in, said, coded, numbered};
 ghost use Rattle.acq_explain.specs.Explained.{code_read, why_line, detail, element_detail};
-ghost use Rattle.acq_explain.specs.Explained.{compared, request_details, decisive, element_line};
+ghost use Rattle.acq_explain.specs.Explained.{compared, request_details, decisive, element_name};
 ghost use Rattle.acq_explain.specs.Explained.{currency_detail, amount_detail};
 
 use acq_book::{Book, BookFault};
@@ -238,13 +238,23 @@ fn put_element(text: &mut Vec<u8>, message: &Message, number: Option<u8>) -> Res
 
 /// Puts the line of an element.
 fn put_element_line(text: &mut Vec<u8>, number: u8, content: &[u8]) -> Result<(), AllocError>
-    ensures { OnOk result (text.new.items ≡ text.old.items ++ element_line number content.now) }
+    ensures { OnOk result (text.new.items
+        ≡ text.old.items ++ detail (element_name number) content.now) }
 {
-    text.extend_from_slice(b"    element ")?;
-    text.extend_from_slice(Buffer::new().format(number).as_bytes())?;
+    text.extend_from_slice(b"    ")?;
+    put_element_name(text, number)?;
     text.extend_from_slice(b": ")?;
     text.extend_from_slice(content)?;
     text.extend_from_slice(b"\n")
+}
+
+/// Puts how an element is called.
+#[tactic(auto, unfolding(crate::specs::Explained::element_name))]
+fn put_element_name(text: &mut Vec<u8>, number: u8) -> Result<(), AllocError>
+    ensures { OnOk result (text.new.items ≡ text.old.items ++ element_name number) }
+{
+    text.extend_from_slice(b"element ")?;
+    text.extend_from_slice(Buffer::new().format(number).as_bytes())
 }
 
 /// The element of a request that a reason is about, if it is about one that may be shown.
