@@ -1,0 +1,4 @@
+pub mod Words
+pub mod Ended
+pub mod Steps
+pub mod SaidInTurn

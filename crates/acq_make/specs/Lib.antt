@@ -1,0 +1,5 @@
+pub mod FaultTexts
+pub mod Lines
+pub mod Contents
+pub mod Said
+pub mod Written
