@@ -13,7 +13,7 @@ pub record SaysFirst (text : List ℕ) (messages : List IsoMessage) (d : Option 
     (rest : List ℕ) : Type 0 where
   pub says : messages_said text ≡ in_front messages (said_behind d n (lines_of rest))
 
-none_in_front : (r : Result (List IsoMessage) MakeFault) → r ≡ in_front [] r
+pub none_in_front : (r : Result (List IsoMessage) MakeFault) → r ≡ in_front [] r
 unfolding in_front
 none_in_front (Ok messages) = refl
 none_in_front (Err f) = refl

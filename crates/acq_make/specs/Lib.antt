@@ -3,3 +3,4 @@ pub mod Lines
 pub mod Contents
 pub mod Said
 pub mod Written
+pub mod WrittenOut

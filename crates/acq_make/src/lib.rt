@@ -7,6 +7,7 @@
 
 mod contents;
 mod draft;
+pub mod laws;
 mod line_kind;
 mod lines;
 mod made_form;
