@@ -12,3 +12,4 @@ pub mod Inner
 pub mod Remarks
 pub mod ShownSaid
 pub mod OnLiterals
+pub mod Messages

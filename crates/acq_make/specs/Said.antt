@@ -1,9 +1,9 @@
 -- What messages the lines of a text say (own profile).
-use Rattle.std.specs.Prelude.{ℕ, ◌+◌, List, [], ◌∷◌, ◌++◌, Option, Some, None}
-use Rattle.std.specs.Prelude.{Result, Ok, Err, is_some, if◌then◌else◌}
+use Rattle.std.specs.Prelude.{◌≡◌, ℕ, ◌+◌, List, [], ◌∷◌, ◌++◌, Option, Some, None}
+use Rattle.std.specs.Prelude.{Result, Ok, Err, true, is_some, if◌then◌else◌}
 use Rattle.std.specs.List.{list_all}
 use Rattle.std.specs.Char.{is_ascii_digit}
-use Rattle.iso_codec.specs.Message.{IsoMessage, content_of, with_content}
+use Rattle.iso_codec.specs.Message.{IsMessage, IsoMessage, content_of, with_content}
 use Rattle.iso_codec.specs.Reading.{spelling}
 use Rattle.iso_codec.specs.Setting.{set_fault}
 use Rattle.iso_codec.specs.declared.set_fault.SetFault.{SetFault}
@@ -103,3 +103,8 @@ said_behind draft number (line ∷ lines) = do
 -- The messages that a text says, or its first fault.
 unfoldable pub messages_said : List ℕ → Result (List IsoMessage) MakeFault
 messages_said text = said_behind None 0 (lines_of text)
+
+-- a message that a frame can have
+pub record IsSent (m : IsoMessage) : Type 0 where
+  pub is : IsMessage m
+  pub fits : fits_frame (spelling m) ≡ true

@@ -1,7 +1,7 @@
 //! Laws of what texts say, and worked rows of the definitions.
 
 ghost use Rattle.std.specs.Prelude.{◌≡◌, ◌++◌, ◌∷◌, [], ℕ, List, Ok, Err, None, Some, true, codes};
-ghost use Rattle.std.specs.List.{list_all};
+ghost use Rattle.std.specs.List.{All, list_all};
 ghost use Rattle.iso_codec.specs.declared.set_fault.SetFault.TheVariants.{BadContent, BadLength};
 ghost use Rattle.iso_codec.specs.declared.set_fault.SetFault.TheVariants.{UnknownElement};
 ghost use Rattle.iso_codec.specs.Message.{IsMessage, IsoMessage};
@@ -11,7 +11,7 @@ ghost use Rattle.acq_show.specs.Shown.{shown};
 ghost use Rattle.acq_make.specs.declared.make_fault.MakeFault.TheVariants.{BadLine, BadMessage};
 ghost use Rattle.acq_make.specs.Contents.{content_said};
 ghost use Rattle.acq_make.specs.Lines.{said_text};
-ghost use Rattle.acq_make.specs.Said.{messages_said};
+ghost use Rattle.acq_make.specs.Said.{IsSent, messages_said};
 ghost use Rattle.acq_make.specs.WrittenOut.{is_open, is_writable, written_out};
 
 /// What is shown of a message, with what is hidden there written whole, says that message: of each
@@ -22,6 +22,12 @@ pub fn what_is_shown_says_the_message()
         → fits_frame (spelling m) ≡ true → messages_said (written_out m) ≡ Ok (m ∷ []) }
     ensures shown { (m : IsoMessage) → IsMessage m → list_all is_open m.elements ≡ true
         → fits_frame (spelling m) ≡ true → messages_said (shown (spelling m)) ≡ Ok (m ∷ []) }
+{}
+
+/// What a text says are messages, each of which a frame can have.
+pub fn texts_say_messages()
+    ensures { (text : List ℕ) (messages : List IsoMessage) → messages_said text ≡ Ok messages
+        → All IsSent messages }
 {}
 
 /// What texts say.
