@@ -55,6 +55,10 @@ SCRIPTS = [
         ("reply 1", "the reply to a sale"),
         ("lost 1", "the reply to a sale"),
     ]),
+    ("making 20", [
+        ("text make", "what was shown, made again"),
+        ("text show", "what was shown, made again"),
+    ]),
     ("merchants 2", [("text replay", "what a day comes to")]),
     ("migration", [("text replay", "the kiosk"), ("text clearing", "the clearing file")]),
     ("files one_file rows_changed", [("text replay", "the database alone")]),

@@ -1,7 +1,7 @@
 //! What may be said of a fault without a look at the machine.
 
 /// What an option's value has to be.
-const VALUES: [(&str, &str); 17] = [
+const VALUES: [(&str, &str); 18] = [
     ("--db", "a path"),
     ("--limit", "1 to 999999, as in --limit 999999"),
     ("--day", DAY),
@@ -11,6 +11,10 @@ const VALUES: [(&str, &str); 17] = [
     (
         "--at",
         "seconds since 1970-01-01 UTC, 946684800 to 4102444799, as in --at 1714555800",
+    ),
+    (
+        "--event",
+        "seconds since 1970-01-01 UTC, 946684800 to 4102444799, as in --event 1714555800",
     ),
     ("--port", "1 to 65535, as in --port 8583"),
     (
@@ -67,6 +71,7 @@ pub(crate) fn of_fault(number: u64) -> Option<&'static str> {
         53 => "the input couldn't be read",
         54 => "the output couldn't be written: its reader left, or the disk is full",
         62 => "this record or line of the input is out of its form",
+        64 => "the element's content is refused: 4 not in the profile, 6 its length, 7 a byte",
         _ => return None,
     })
 }

@@ -4,5 +4,6 @@ pub mod Listening
 pub mod Once
 pub mod Replay
 pub mod Runs
+pub mod Make
 pub mod Show
 pub mod Streams

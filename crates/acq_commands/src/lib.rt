@@ -1,7 +1,7 @@
 //! The commands of the host over any book: event lines in, output lines or reports out; frames in,
-//! reply frames out, of one connection or of many; messages shown to a person. What they are given
-//! beside their streams: the moments of a machine's clock, how far a long run is, and fault lines
-//! that hold up nobody. Their faults stand in `acq_faults`.
+//! reply frames out, of one connection or of many; messages shown to a person, and made of text.
+//! What they are given beside their streams: the moments of a machine's clock, how far a long run
+//! is, and fault lines that hold up nobody. Their faults stand in `acq_faults`.
 #![tactic(auto)]
 
 mod book_commands;
@@ -10,6 +10,7 @@ mod day_reports;
 mod holds_options;
 mod input_form;
 mod listening;
+mod making;
 mod new_book;
 mod new_list_book;
 mod once;
@@ -32,6 +33,7 @@ pub use day_reports::write_reports;
 pub use holds_options::HoldsOptions;
 pub use input_form::InputForm;
 pub use listening::{listen_on, listen_together_on};
+pub use making::make;
 pub use new_book::NewBook;
 pub use once::{once_in_memory, once_on};
 pub use once_options::OnceOptions;

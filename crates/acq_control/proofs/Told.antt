@@ -50,6 +50,7 @@ answer_stopped items it held came fault.DayNotOver is why = absurd why
 answer_stopped items it held came (fault.StillPending n) is why = absurd why
 answer_stopped items it held came (fault.BadLine n) is why = absurd why
 answer_stopped items it held came (fault.OtherDay day) is why = absurd why
+answer_stopped items it held came (fault.BadMessage line cause) is why = absurd why
 
 -- the answer came, and was written, or not whole
 module _ (items it held came after : List ℕ) (answer : Answer) (kind : AnswerKind)
@@ -95,3 +96,4 @@ module _ (items it held came after : List ℕ) (answer : Answer) (kind : AnswerK
   turn_taken (Err (fault.BadLine n)) w = absurd w
   turn_taken (Err fault.Silent) w = absurd w
   turn_taken (Err (fault.OtherDay day)) w = absurd w
+  turn_taken (Err (fault.BadMessage line cause)) w = absurd w

@@ -3,11 +3,13 @@ use Rattle.std.specs.Prelude.{◌≡◌, ◌⊎◌, ℕ, List, ◌++◌, [], cod
 use Rattle.std.specs.Fmt.{decimal}
 use Rattle.day_totals.specs.Day.{date_text_of}
 use Rattle.iso_codec.specs.FaultTexts.{number_of_fault, element_of_fault}
+use Rattle.iso_codec.specs.FaultTexts.{number_of_set_fault, element_of_set_fault}
 use Rattle.acq_book.specs.Promise.{HasRisen}
 use Rattle.acq_book.specs.declared.book_fault.BookFault as book
 use Rattle.acq_front.specs.declared.front_fault.FrontFault as front
 use Rattle.acq_link.specs.declared.hex_frames.hex_fault.HexFault as hex
 use Rattle.acq_link.specs.declared.input_fault.InputFault as input
+use Rattle.acq_make.specs.declared.make_fault.MakeFault as make
 use Rattle.acq_out.specs.declared.out_fault.OutFault as out
 use Rattle.acq_out.specs.declared.records.record_fault.RecordFault as records
 use Rattle.acq_reports.specs.declared.report_fault.ReportFault as report
@@ -17,7 +19,7 @@ use Rattle.acq_faults.specs.declared.fault.Fault.TheVariants.{NoSuchMerchant}
 use Rattle.acq_faults.specs.declared.fault.Fault.TheVariants.{NotABook, OtherVersion, BadLength}
 use Rattle.acq_faults.specs.declared.fault.Fault.TheVariants.{Ended, Undecodable, Read, Write}
 use Rattle.acq_faults.specs.declared.fault.Fault.TheVariants.{Silent, DayNotOver, StillPending}
-use Rattle.acq_faults.specs.declared.fault.Fault.TheVariants.{BadLine, OtherDay}
+use Rattle.acq_faults.specs.declared.fault.Fault.TheVariants.{BadLine, OtherDay, BadMessage}
 
 -- a fault's number and name
 abbrev pub heading_of : Fault → List ℕ
@@ -37,6 +39,7 @@ heading_of DayNotOver = codes "60 DayNotOver"
 heading_of (StillPending n) = codes "61 StillPending"
 heading_of (BadLine n) = codes "62 BadLine"
 heading_of (OtherDay day) = codes "63 OtherDay"
+heading_of (BadMessage line fault) = codes "64 BadMessage"
 
 -- its values, each behind a space
 abbrev pub values_of : Fault → List ℕ
@@ -48,6 +51,9 @@ values_of (Write n) = codes " " ++ decimal n
 values_of (StillPending n) = codes " " ++ decimal n
 values_of (BadLine n) = codes " " ++ decimal n
 values_of (OtherDay day) = codes " " ++ date_text_of day
+values_of (BadMessage line fault) =
+    codes " " ++ decimal line ++ codes " " ++ decimal (number_of_set_fault fault) ++ codes " "
+    ++ decimal (element_of_set_fault fault)
 values_of other = []
 
 -- the fault as printed lines have it
@@ -76,6 +82,7 @@ status_of DayNotOver = 1
 status_of (StillPending n) = 1
 status_of (BadLine n) = 1
 status_of (OtherDay day) = 1
+status_of (BadMessage line fault) = 1
 
 -- what a fault of a book is
 abbrev pub of_book : book.BookFault → Fault
@@ -108,6 +115,12 @@ of_out (out.TheVariants.BadLine n) = BadLine n
 abbrev pub of_hex : hex.HexFault → Fault
 of_hex hex.TheVariants.Memory = Memory
 of_hex (hex.TheVariants.BadLine n) = BadLine n
+
+-- what a fault of a text that messages are made of is
+abbrev pub of_make : make.MakeFault → Fault
+of_make make.TheVariants.Memory = Memory
+of_make (make.TheVariants.BadLine n) = BadLine n
+of_make (make.TheVariants.BadMessage n fault) = BadMessage n fault
 
 -- what a fault of the file of issuers' answers is
 abbrev pub of_answers : records.RecordFault → Fault

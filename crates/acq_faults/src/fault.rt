@@ -6,11 +6,12 @@ use acq_book::BookFault;
 use acq_front::FrontFault;
 use acq_link::InputFault;
 use acq_link::hex_frames::HexFault;
+use acq_make::MakeFault;
 use acq_out::OutFault;
 use acq_out::records::RecordFault;
 use acq_reports::ReportFault;
 use day_totals::Day;
-use iso_codec::DecodeFault;
+use iso_codec::{DecodeFault, SetFault};
 use std::alloc::AllocError;
 use std::error::Error;
 use std::{fmt, str};
@@ -49,11 +50,14 @@ pub enum Fault {
     DayNotOver,
     /// 61: so many requests of that day are pending.
     StillPending(u64),
-    /// 62: the record of event lines, or the line of messages in hexadecimal, with this number,
-    /// counted from 1, is out of its form.
+    /// 62: the record of event lines, or the line of messages in hexadecimal or as text, with this
+    /// number, counted from 1, is out of its form.
     BadLine(u64),
     /// 63: the day that was to be ended isn't the business day, which is this one.
     OtherDay(Day),
+    /// 64: an element can't have the content that this line says, or no frame can have the message
+    /// whose type it says; lines are counted from 1.
+    BadMessage(u64, SetFault),
 }
 
 impl Fault {
@@ -90,6 +94,7 @@ impl Fault {
             Fault::StillPending(_) => "61 StillPending",
             Fault::BadLine(_) => "62 BadLine",
             Fault::OtherDay(_) => "63 OtherDay",
+            Fault::BadMessage(..) => "64 BadMessage",
         }
     }
 }
@@ -104,6 +109,10 @@ impl fmt::Display for Fault {
         match self {
             Fault::Undecodable(cause) => {
                 write!(f, "52 Undecodable {} {}", cause.number(), cause.element())
+            }
+            Fault::BadMessage(line, cause) => {
+                let (number, element) = (cause.number(), cause.element());
+                write!(f, "64 BadMessage {line} {number} {element}")
             }
             Fault::OtherVersion(n)
             | Fault::Write(n)
@@ -199,6 +208,20 @@ impl From<HexFault> for Fault {
         match e {
             HexFault::Memory => Fault::Memory,
             HexFault::BadLine(line) => Fault::BadLine(line),
+        }
+    }
+}
+
+impl From<MakeFault> for Fault {
+    ghost use Rattle.acq_faults.specs.Faults.{of_make};
+
+    ghost from_gives = { λ e f. f ≡ of_make e };
+
+    fn from(e: MakeFault) -> Fault {
+        match e {
+            MakeFault::Memory => Fault::Memory,
+            MakeFault::BadLine(line) => Fault::BadLine(line),
+            MakeFault::BadMessage(line, fault) => Fault::BadMessage(line, fault),
         }
     }
 }

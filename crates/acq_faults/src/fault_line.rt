@@ -32,6 +32,11 @@ fn put_values<F: Sink>(faults: &mut F, fault: &Fault) -> Result<(), Failed>
             put_value(faults, u64::from(cause.number()))?;
             put_value(faults, u64::from(cause.element()))
         }
+        Fault::BadMessage(line, cause) => {
+            put_value(faults, *line)?;
+            put_value(faults, u64::from(cause.number()))?;
+            put_value(faults, u64::from(cause.element()))
+        }
         Fault::OtherVersion(n)
         | Fault::Write(n)
         | Fault::StillPending(n)

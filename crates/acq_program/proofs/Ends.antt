@@ -23,6 +23,7 @@ within fault.DayNotOver = omega arith
 within (fault.StillPending n) = omega arith
 within (fault.BadLine n) = omega arith
 within (fault.OtherDay day) = omega arith
+within (fault.BadMessage line cause) = omega arith
 
 pub status_within : (ended : Result ℕ Fault) → IfOk ended (λ status. status ≤ 1) →
     status_in ended ≤ 3

@@ -4,7 +4,7 @@ use Rattle.std.specs.Prelude.{Result, OnOk}
 use Rattle.acq_program.specs.Arguments.{AsksFor}
 use Rattle.acq_program.specs.declared.action.Action.{Action}
 use Rattle.acq_program.specs.declared.action.Action.TheVariants.{Init, Migrate, Once, Listen}
-use Rattle.acq_program.specs.declared.action.Action.TheVariants.{Replay, Report, Holds, Show}
+use Rattle.acq_program.specs.declared.action.Action.TheVariants.{Replay, Report, Holds, Show, Make}
 use Rattle.acq_program.specs.declared.action.Action.TheVariants.{Pending, Status, Tell}
 use Rattle.acq_faults.specs.Faults.{status_of}
 use Rattle.acq_faults.specs.declared.fault.Fault.{Fault}
@@ -29,6 +29,7 @@ not_well fault.DayNotOver h = omega (arith, h)
 not_well (fault.StillPending n) h = omega (arith, h)
 not_well (fault.BadLine n) h = omega (arith, h)
 not_well (fault.OtherDay day) h = omega (arith, h)
+not_well (fault.BadMessage line cause) h = omega (arith, h)
 
 where_well : (ended : Result ℕ Fault) (P : Type 0) → OnOk ended P → status_in ended ≡ 0 → P
 where_well (Ok status) P p h = p
@@ -59,6 +60,8 @@ still_quiet words (Holds options) ended told mid after asks same quiet well =
 still_quiet words (Pending asked) ended told mid after asks same quiet well =
     inl (where_well ended (after ≡ mid) quiet well ∙ same)
 still_quiet words (Show form) ended told mid after asks same quiet well =
+    inl (where_well ended (after ≡ mid) quiet well ∙ same)
+still_quiet words (Make form) ended told mid after asks same quiet well =
     inl (where_well ended (after ≡ mid) quiet well ∙ same)
 still_quiet words (Status asked) ended told mid after asks same quiet well =
     inl (where_well ended (after ≡ mid) quiet well ∙ same)

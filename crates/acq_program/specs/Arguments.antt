@@ -22,11 +22,13 @@ use Rattle.clap.specs.declared.error.kind.ErrorKind.TheVariants.{OutOfMemory}
 use Rattle.clap.specs.declared.parser.matches.Found.{Found}
 use Rattle.day_totals.specs.Day.{IsNoDateText, date_text_of}
 use Rattle.acq_core.specs.Numbers.{is_limit}
+use Rattle.acq_make.specs.declared.made_form.MadeForm.{MadeForm}
+use Rattle.acq_make.specs.declared.made_form.MadeForm.TheVariants as made
 use Rattle.acq_out.specs.Fields.{merchant_of_text, moment_of_text}
 use Rattle.acq_program.specs.Program.{program}
 use Rattle.acq_program.specs.declared.action.Action.{Action}
 use Rattle.acq_program.specs.declared.action.Action.TheVariants.{Init, Migrate, Once, Listen}
-use Rattle.acq_program.specs.declared.action.Action.TheVariants.{Replay, Report, Holds, Show}
+use Rattle.acq_program.specs.declared.action.Action.TheVariants.{Replay, Report, Holds, Show, Make}
 use Rattle.acq_program.specs.declared.action.Action.TheVariants.{Pending, Status, Tell}
 use Rattle.acq_faults.specs.declared.day_report.DayReport.{DayReport}
 use Rattle.acq_commands.specs.declared.input_form.InputForm.{InputForm}
@@ -62,6 +64,7 @@ name_of_option option.Control = codes "--control"
 name_of_option option.Log = codes "--log"
 name_of_option option.LogBytes = codes "--log-bytes"
 name_of_option option.Within = codes "--within"
+name_of_option option.Event = codes "--event"
 name_of_option option.Path = codes "PATH"
 name_of_option (option.Report kinds.Clearing) = codes "--clearing"
 name_of_option (option.Report kinds.Settlement) = codes "--report"
@@ -89,6 +92,7 @@ pub record OptionTexts : Type 0 where
   pub log : Option Text
   pub log_bytes : Option Text
   pub within : Option Text
+  pub event : Option Text
   pub path : Option Text
 
 -- all values of an option
@@ -119,6 +123,7 @@ option_texts rows = record {
   log = first_of (codes "log") rows;
   log_bytes = first_of (codes "log-bytes") rows;
   within = first_of (codes "within") rows;
+  event = first_of (codes "event") rows;
   path = first_of (codes "path") rows;
 }
 
@@ -150,6 +155,7 @@ found_texts found = record {
   log = first_value found (codes "log");
   log_bytes = first_value found (codes "log-bytes");
   within = first_value found (codes "within");
+  event = first_value found (codes "event");
   path = first_value found (codes "path");
 }
 
@@ -334,6 +340,20 @@ ReportsAre kind texts (Err name) = (name ≡ option.Report kind) × GivesNoRepor
 abbrev pub form_of_flag : Option Text → InputForm
 form_of_flag None = form.Plain
 form_of_flag (Some text) = if bytes_eq text (codes "true") then form.HexLines else form.Plain
+
+-- the form in which messages are written: lines of hexadecimal where the flag is there
+abbrev pub made_by : InputForm → MadeForm
+made_by form.Plain = made.Frames
+made_by form.HexLines = made.HexLines
+
+-- event lines where their moment is there
+abbrev pub made_form_by : Option Text → InputForm → Result MadeForm OptionName
+made_form_by None form = Ok (made_by form)
+made_form_by (Some text) form =
+    ok_or (option_map (λ m. made.EventLines m) (moment_of_text text)) option.Event
+
+abbrev pub MadeFormIs : OptionTexts → Result MadeForm OptionName → Type 0
+MadeFormIs texts read = read ≡ made_form_by texts.event (form_of_flag texts.hex)
 
 -- ---- what a command is asked for
 
@@ -584,6 +604,14 @@ AsksStatus texts = Then (FileIs texts) IsStatus
 abbrev pub AsksShow : OptionTexts → Result Action OptionName → Type 0
 AsksShow texts read = read ≡ Ok (Show (form_of_flag texts.hex))
 
+-- messages in this form
+abbrev pub IsMake : MadeForm → Result Action OptionName → Type 0
+IsMake form read = read ≡ Ok (Make form)
+
+-- what `make` is asked for
+abbrev pub AsksMake : OptionTexts → Result Action OptionName → Type 0
+AsksMake texts = Then (MadeFormIs texts) IsMake
+
 -- ---- what the arguments ask for
 
 -- the command has this name, and asks for this by its options
@@ -608,6 +636,7 @@ Asks (Some command) asked =
     ⊎ Names (codes "pending") AsksPending command asked
     ⊎ Names (codes "tell") AsksTell command asked
     ⊎ Names (codes "status") AsksStatus command asked
+    ⊎ Names (codes "make") AsksMake command asked
 
 -- nothing is wrong with the words by clap's rules, and they ask for this
 abbrev pub AsksFor : List Text → Result Action OptionName → Type 0

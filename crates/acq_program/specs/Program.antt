@@ -84,6 +84,10 @@ pending =
 abbrev pub show : App
 show = with_rule (new_app (codes "show")) (flag (codes "hex"))
 
+-- `make [--hex] [--event MOMENT]`
+abbrev pub make : App
+make = with_rule (with_rule (new_app (codes "make")) (flag (codes "hex"))) (option (codes "event"))
+
 -- `tell [--within SECONDS] PATH`
 abbrev pub tell : App
 tell =
@@ -105,6 +109,6 @@ abbrev pub program : App
 program =
     with_subcommand (with_subcommand (with_subcommand (with_subcommand (with_subcommand
     (with_subcommand (with_subcommand (with_subcommand (with_subcommand (with_subcommand
-    (with_subcommand (with_subcommand acqd init.top) migrate.top) once.top) listen.top) replay.top)
+    (with_subcommand (with_subcommand (with_subcommand acqd init.top) migrate.top) once.top) listen.top) replay.top)
     (on_a_day (codes "clearing")).top) (on_a_day (codes "report")).top) holds.top) pending.top)
-    show.top) tell.top) status.top
+    show.top) make.top) tell.top) status.top

@@ -4,7 +4,7 @@ use Rattle.std.specs.declared.alloc.Global.{Global}
 use Rattle.acq_link.specs.Moves.{TakesAll}
 use Rattle.acq_program.specs.declared.action.Action.{Action}
 use Rattle.acq_program.specs.declared.action.Action.TheVariants.{Init, Migrate, Once, Listen}
-use Rattle.acq_program.specs.declared.action.Action.TheVariants.{Replay, Report, Holds, Show}
+use Rattle.acq_program.specs.declared.action.Action.TheVariants.{Replay, Report, Holds, Show, Make}
 use Rattle.acq_program.specs.declared.action.Action.TheVariants.{Pending, Status, Tell}
 use Rattle.acq_program.specs.declared.option_name.OptionName.{OptionName}
 use Rattle.acq_program.specs.Arguments.{AsksFor}
@@ -15,6 +15,7 @@ use Rattle.acq_commands.specs.declared.once_options.OnceOptions.{OnceOptions}
 use Rattle.acq_faults.specs.Faults.{status_of}
 use Rattle.acq_commands.specs.Once.{ServesInMemory}
 use Rattle.acq_commands.specs.Runs.{RunsReplay}
+use Rattle.acq_commands.specs.Make.{RunsMake}
 use Rattle.acq_commands.specs.Show.{RunsShow}
 use Rattle.acq_commands.specs.Streams.{Stream}
 use Rattle.acq_program.specs.Telling.{TellsHost}
@@ -98,6 +99,9 @@ Does (Status asked) remaining received sent told ended =
     EndsPlainly (λ _. received.after ≡ received.before) ended
 Does (Show form) remaining received sent told ended =
     EndsPlainly (λ plain. RunsShow form received sent plain
+    × ReadsWhole remaining received.before received.after plain) ended
+Does (Make form) remaining received sent told ended =
+    EndsPlainly (λ plain. RunsMake form received sent plain
     × ReadsWhole remaining received.before received.after plain) ended
 Does (Tell path) remaining received sent told ended =
     TellsHost received sent told ended

@@ -4,6 +4,7 @@ use crate::pending_options::PendingOptions;
 use crate::tell_options::TellOptions;
 use acq_commands::{BookReport, HoldsOptions, InputForm, NewBook, OnceOptions, ReplayOptions};
 use acq_faults::ListenOptions;
+use acq_make::MadeForm;
 
 /// What the program is asked to do.
 #[derive(Drop)]
@@ -26,6 +27,8 @@ pub enum Action {
     Pending(PendingOptions),
     /// Show the messages of the input, which stand there in this form, to a person.
     Show(InputForm),
+    /// Make the messages that the text of the input says, and write them in this form.
+    Make(MadeForm),
     /// Send the lines of the input to a host that takes control connections.
     Tell(TellOptions),
     /// Write the figures of the book in the file at this path.

@@ -13,7 +13,7 @@ ghost use Rattle.acq_program.specs.Arguments.{FileIs, FrameWithinIs, IdleIs, Idl
 ghost use Rattle.acq_program.specs.Arguments.{IsNoMemory, LimitIs, MerchantIs};
 ghost use Rattle.acq_program.specs.Arguments.{MomentIfThere, MomentIs, PathIs, PatienceIs, PortIs, Reads};
 ghost use Rattle.acq_program.specs.Arguments.{ReadsArguments, StopWithinIs, TogetherIs, WithinIs};
-ghost use Rattle.acq_program.specs.Arguments.{form_of_flag};
+ghost use Rattle.acq_program.specs.Arguments.{AsksMake, MadeFormIs, form_of_flag, made_by};
 ghost use Rattle.acq_program.specs.Arguments.{found_texts};
 
 use crate::action::Action;
@@ -32,6 +32,7 @@ use acq_commands::{
 };
 use acq_core::{Limit, MerchantId, Moment};
 use acq_faults::{DayReport, ListenOptions, Patience, ReportKind};
+use acq_make::MadeForm;
 use acq_out::{merchant_of, moment_of};
 use clap::{ArgMatches, Error};
 use day_totals::Day;
@@ -101,12 +102,13 @@ fn reports_asked_in(alloc: Global, matches: &ArgMatches) -> Result<Action, Usage
     }
 }
 
-/// The same of the commands that talk to a host, or tell how it is.
+/// The same of the commands that make messages, talk to a host, or tell how it is.
 fn talks_asked_in(alloc: Global, matches: &ArgMatches) -> Result<Action, UsageFault>
     ensures { (words : List Text) → fault_of program words ≡ []
         → HasMatchesOf program words matches.now → ReadsArguments words result }
 {
     match matches.subcommand() {
+        Some(("make", options)) => make_of(options),
         Some(("tell", options)) => tell_of(alloc, options),
         Some(("status", options)) => status_of(alloc, options),
         _ => Err(Error::from(AllocError).into()),
@@ -542,6 +544,37 @@ fn together_option(options: &ArgMatches) -> Result<usize, UsageFault>
     match options.get_str("together") {
         Some(text) => together_of(text).ok_or(UsageFault::BadValue(OptionName::Together)),
         None => Ok(1),
+    }
+}
+
+/// What `make` is asked for.
+fn make_of(options: &ArgMatches) -> Result<Action, UsageFault>
+    ensures { Reads (AsksMake (found_texts (found_of options.now))) result }
+{
+    let form = made_form_option(options)?;
+    Ok(Action::Make(form))
+}
+
+/// The form in which `make` is to write: event lines where their moment is there.
+fn made_form_option(options: &ArgMatches) -> Result<MadeForm, UsageFault>
+    ensures { Reads (MadeFormIs (found_texts (found_of options.now))) result }
+{
+    let Some(text) = options.get_str("event") else {
+        return Ok(plain_form(options));
+    };
+    match moment_of(text.as_bytes()) {
+        Some(moment) => Ok(MadeForm::EventLines(moment)),
+        None => Err(UsageFault::BadValue(OptionName::Event)),
+    }
+}
+
+/// The form in which it is to write without that.
+fn plain_form(options: &ArgMatches) -> MadeForm
+    ensures { result ≡ made_by (form_of_flag (first_value (found_of options.now) (codes "hex"))) }
+{
+    match form_of(options) {
+        InputForm::Plain => MadeForm::Frames,
+        InputForm::HexLines => MadeForm::HexLines,
     }
 }
 

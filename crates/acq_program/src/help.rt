@@ -261,6 +261,31 @@ fault is one line on standard error, and what was written before it stands:
 Example: what comes back for an echo test
   acqd once < examples/echo.frame | acqd show";
 
+pub(crate) const ABOUT_MAKE: &str = "Makes messages of text on standard input";
+
+pub(crate) const MORE_OF_MAKE: &str = "\
+The text has a line for each message's type, four digits, and behind it a line for each element: its
+number, a blank and its content, as in `41 TERM0001`. An empty line ends a message, and a line that
+begins with # says nothing. What `acqd show` prints is such a text, once the masked card number and
+what else it hides is written out. Bitmaps and lengths are made. The messages go to standard output
+as frames; with --hex as lines, each a message in hexadecimal; with --event as event lines for
+`acqd replay`. All lines are read first, and where one is refused nothing is written.
+
+The status is 0 where all is well, 1 for a fault, 2 for wrong usage, 3 where memory ran out. A
+fault is one line on standard error:
+  acqd: 1 Memory
+  acqd: 53 Read                    a read failed
+  acqd: 54 Write BYTES             a write failed after so many bytes of the messages
+  acqd: 62 BadLine LINE            this line is neither of a type nor of an element; or its element
+                                   belongs to no message, or stands twice, or isn't shown
+  acqd: 64 BadMessage LINE FAULT ELEMENT
+                                   an element can't have this content: fault 4, it isn't in the
+                                   profile; 6, its length; 7, a byte; or, with 6 0, the message
+                                   whose type this line has is longer than 4,096 bytes
+
+Example:
+  acqd make < examples/sale.txt > sale.frame";
+
 pub(crate) const ABOUT_TELL: &str =
     "Sends the lines on standard input to a host, and writes its answers";
 

@@ -42,6 +42,8 @@ pub enum OptionName {
     LogBytes,
     /// How many seconds an answer of a host may take.
     Within,
+    /// The moment at which messages that are made come.
+    Event,
     /// The path of a socket's file.
     Path,
     /// A day of which a report is asked for.
@@ -74,6 +76,7 @@ impl fmt::Display for OptionName {
             OptionName::Log => "--log",
             OptionName::LogBytes => "--log-bytes",
             OptionName::Within => "--within",
+            OptionName::Event => "--event",
             OptionName::Path => "PATH",
             OptionName::Report(ReportKind::Clearing) => "--clearing",
             OptionName::Report(ReportKind::Settlement) => "--report",

@@ -225,6 +225,20 @@ const SHOW: [Parameter<'static>; 1] = [Parameter {
     help: "The input is lines, each a message in hexadecimal",
 }];
 
+/// What `make` takes.
+const MAKE: [Parameter<'static>; 2] = [
+    Parameter {
+        name: "hex",
+        kind: Flag,
+        help: "The output is lines, each a message in hexadecimal",
+    },
+    Parameter {
+        name: "event",
+        kind: Optional("MOMENT"),
+        help: "The output is event lines: the messages come then, 946684800 to 4102444799",
+    },
+];
+
 /// What `tell` takes.
 const TELL: [Parameter<'static>; 2] = [
     Parameter {
@@ -243,7 +257,7 @@ const TELL: [Parameter<'static>; 2] = [
 const STATUS: [Parameter<'static>; 1] = [BOOK];
 
 /// The commands, in the order in which the help has them.
-const COMMANDS: [CommandText<'static>; 12] = [
+const COMMANDS: [CommandText<'static>; 13] = [
     CommandText {
         name: "init",
         about: help::ABOUT_INIT,
@@ -303,6 +317,12 @@ const COMMANDS: [CommandText<'static>; 12] = [
         about: help::ABOUT_SHOW,
         more: help::MORE_OF_SHOW,
         parameters: &SHOW,
+    },
+    CommandText {
+        name: "make",
+        about: help::ABOUT_MAKE,
+        more: help::MORE_OF_MAKE,
+        parameters: &MAKE,
     },
     CommandText {
         name: "tell",

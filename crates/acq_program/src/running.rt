@@ -18,8 +18,8 @@ use crate::{Action, UsageFault, action_of};
 use acq_book::Book;
 use acq_commands::{
     BookReport, HoldsOptions, NewBook, OnceOptions, Progress, ReplayOptions, TextSink, holds_of,
-    listen_on, listen_together_on, once_in_memory, once_on, replay_in_memory, replay_on, report_on,
-    show,
+    listen_on, listen_together_on, make, once_in_memory, once_on, replay_in_memory, replay_on,
+    report_on, show,
 };
 use acq_faults::{Fault, ListenOptions};
 use acq_front::{Clock, FixedClock, Issuer, NoIssuer};
@@ -122,6 +122,7 @@ fn run<B: Book + Drop, M: Machine<B> + Drop, C: Clock, S: Source, K: Sink, F: Si
         Action::Holds(options) => plainly(holds(alloc, machine, &options, output)),
         Action::Pending(asked) => plainly(answer_pending(alloc, machine, &asked, clock, output)),
         Action::Show(form) => plainly(show(alloc, form, input, output)),
+        Action::Make(form) => plainly(make(alloc, &form, input, output)),
         Action::Status(path) => plainly(tell_status(alloc, machine, &path, output)),
         Action::Tell(asked) => tell_host(alloc, machine, &asked, input, output, faults),
     }

@@ -21,8 +21,9 @@ const ORIGINAL_LEN: usize = 42;
 /// How many bytes the replacement amounts have.
 const AMOUNTS_LEN: usize = 42;
 
-/// Puts what is shown of an element's content behind other bytes.
-pub(crate) fn put_content(text: &mut Vec<u8>, number: u8, content: &[u8]) -> Result<(), AllocError>
+/// Puts what is shown of an element's content behind other bytes. After an `Err` a part of it may
+/// stand there.
+pub fn put_content(text: &mut Vec<u8>, number: u8, content: &[u8]) -> Result<(), AllocError>
     ensures { OnOk result (text.new.items
         ≡ text.old.items ++ content_shown number content.now) }
 {

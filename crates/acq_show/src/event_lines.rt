@@ -138,8 +138,8 @@ fn comma(fields: &[u8]) -> Option<usize>
     fields.iter().position(|byte| *byte == b',')
 }
 
-/// The first line of a text that isn't empty, and the text behind it.
-fn line_at(text: &[u8]) -> (&[u8], &[u8])
+/// The first line of a text that isn't empty, and the text behind it. It takes no memory.
+pub fn line_at(text: &[u8]) -> (&[u8], &[u8])
     requires { 0 < length text.now }
     ensures lines { lines_of text.now ≡ result.0.now ∷ lines_of result.1.now }
     ensures shorter { length result.1.now < length text.now }
@@ -157,8 +157,8 @@ fn line_end(text: &[u8]) -> Option<usize>
     text.iter().position(|byte| *byte == b'\n')
 }
 
-/// A line without the carriage return at its end.
-fn without_return(line: &[u8]) -> &[u8]
+/// A line without the carriage return at its end. It takes no memory.
+pub fn without_return(line: &[u8]) -> &[u8]
     ensures { result.now ≡ text.without_return line.now }
 {
     line.strip_suffix(b"\r").unwrap_or(line)

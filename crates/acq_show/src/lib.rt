@@ -15,5 +15,7 @@ mod meanings;
 mod names;
 mod remarks;
 
-pub use event_lines::show_lines;
-pub use lines::show_message;
+pub use contents::put_content;
+pub use event_lines::{line_at, show_lines, without_return};
+pub use lines::{NAME_WIDTH, show_message};
+pub use names::element_name;

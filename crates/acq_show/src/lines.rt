@@ -14,10 +14,11 @@ use iso_codec::{DecodeFault, Message, decode, fault_place};
 use itoa::Buffer;
 use std::alloc::{AllocError, Global};
 
-/// How wide the column of numbers is, and that of names.
+/// How wide the column of numbers is.
 const NUMBER_WIDTH: usize = 5;
 
-const NAME_WIDTH: usize = 34;
+/// How wide the column of names is.
+pub const NAME_WIDTH: usize = 34;
 
 /// The elements of the profile have numbers from 2 to 128.
 const LAST_ELEMENT: u8 = 128;

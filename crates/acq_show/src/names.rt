@@ -59,8 +59,9 @@ pub(crate) fn is_named(version: u8, class: u8, function: u8, origin: u8) -> bool
         && (origin == b'0' || origin == b'1')
 }
 
-/// The name of an element, or nothing where the profile doesn't have it.
-pub(crate) fn element_name(number: u8) -> &'static str
+/// The name of an element, in the words of ISO 8583:1987, or nothing where the profile doesn't have
+/// it. It takes no memory.
+pub fn element_name(number: u8) -> &'static str
     ensures { result.now ≡ element_name number }
 {
     match number {

@@ -76,6 +76,8 @@ refused_on old mid left (fault.TheVariants.StillPending n) one two = reached_on 
 refused_on old mid left (fault.TheVariants.BadLine n) one two = reached_on old mid left one two
 refused_on old mid left fault.TheVariants.Silent one two = reached_on old mid left one two
 refused_on old mid left (fault.TheVariants.OtherDay day) one two = reached_on old mid left one two
+refused_on old mid left (fault.TheVariants.BadMessage line cause) one two =
+    reached_on old mid left one two
 
 -- where some were, and none was refused
 pub some_of : (old : Tables) (left : Left) → Reaches old left → ReachesSome old left

@@ -1,7 +1,7 @@
 -- command by command: what the options were read as is what the arguments ask for
 use Rattle.std.proofs.Common.{◌∙◌, Some, codes, ap, sym, refl, inl, inr}
 use Rattle.clap.specs.Words.{found_of, rows_of}
-use Rattle.acq_program.specs.Arguments.{AsksStatus, AsksTell}
+use Rattle.acq_program.specs.Arguments.{AsksMake, AsksStatus, AsksTell}
 use Rattle.acq_program.specs.Program.{program}
 use Rattle.acq_program.proofs.AskedCommands.{named, reads_command}
 use Rattle.acq_program.proofs.arguments.talks_asked_in.Goals as goal
@@ -23,9 +23,23 @@ returns-in-Some-status-default c = λ words well matches.
     let it = c.in-Some-status-default in
     let found = found_of it.options.now in
     reads_command (codes "status") AsksStatus
-    (λ command asked h. inr (inr (inr (inr (inr (inr (inr (inr (inr (inr (inr h))))))))))) words found
+    (λ command asked h. inr (inr (inr (inr (inr (inr (inr (inr (inr (inr (inr (inl h))))))))))))
+    words found
     well
     (named c.args.matches.now program words (codes "status") (rows_of found) refl
     matches (ap Some (sym it.is-status) ∙ it.ensures.name)
     it.ensures.rows)
     c.status_of.result c.status_of.ensures
+
+pub returns-in-Some-make-default : goal.returns-in-Some-make-default
+returns-in-Some-make-default c = λ words well matches.
+    let it = c.in-Some-make-default in
+    let found = found_of it.options.now in
+    reads_command (codes "make") AsksMake
+    (λ command asked h. inr (inr (inr (inr (inr (inr (inr (inr (inr (inr (inr (inr h))))))))))))
+    words found
+    well
+    (named c.args.matches.now program words (codes "make") (rows_of found) refl
+    matches (ap Some (sym it.is-make) ∙ it.ensures.name)
+    it.ensures.rows)
+    c.make_of.result c.make_of.ensures

@@ -1,0 +1,15 @@
+pub mod Words
+pub mod Ended
+pub mod Steps
+pub mod SaidInTurn
+pub mod Texts
+pub mod Known
+pub mod NumberLines
+pub mod Printed
+pub mod PartsBack
+pub mod ContentsBack
+pub mod Inner
+pub mod Remarks
+pub mod ShownSaid
+pub mod OnLiterals
+pub mod Messages
