@@ -225,6 +225,30 @@ const SHOW: [Parameter<'static>; 1] = [Parameter {
     help: "The input is lines, each a message in hexadecimal",
 }];
 
+/// What `ask` takes.
+const ASK: [Parameter<'static>; 4] = [
+    Parameter {
+        name: "port",
+        kind: Required("P"),
+        help: "The port at which the host listens, 1 to 65535",
+    },
+    Parameter {
+        name: "address",
+        kind: Optional("ADDRESS"),
+        help: "The IPv4 address at which it listens [default: 127.0.0.1]",
+    },
+    Parameter {
+        name: "within",
+        kind: Optional("SECONDS"),
+        help: "How long a reply may take, 0 to 999999, 0 for ever [default: 30]",
+    },
+    Parameter {
+        name: "repeat",
+        kind: Optional("N"),
+        help: "How often the one message is sent, 1 to 1000000, its trace number counted up",
+    },
+];
+
 /// What `tell` takes.
 const TELL: [Parameter<'static>; 2] = [
     Parameter {
@@ -243,7 +267,7 @@ const TELL: [Parameter<'static>; 2] = [
 const STATUS: [Parameter<'static>; 1] = [BOOK];
 
 /// The commands, in the order in which the help has them.
-const COMMANDS: [CommandText<'static>; 12] = [
+const COMMANDS: [CommandText<'static>; 13] = [
     CommandText {
         name: "init",
         about: help::ABOUT_INIT,
@@ -303,6 +327,12 @@ const COMMANDS: [CommandText<'static>; 12] = [
         about: help::ABOUT_SHOW,
         more: help::MORE_OF_SHOW,
         parameters: &SHOW,
+    },
+    CommandText {
+        name: "ask",
+        about: help::ABOUT_ASK,
+        more: help::MORE_OF_ASK,
+        parameters: &ASK,
     },
     CommandText {
         name: "tell",
