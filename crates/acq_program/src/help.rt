@@ -265,11 +265,11 @@ pub(crate) const ABOUT_ASK: &str =
     "Sends the messages on standard input to a host, and shows them and its replies";
 
 pub(crate) const MORE_OF_ASK: &str = "\
-The messages stand on standard input as frames, all of which are read before the first is sent. Over
-one connection, each is shown as `acqd show` shows it and sent, and its reply is waited for and shown;
-then the next one is sent. Where no reply comes within the SECONDS of --within, as none does to a
-message that a host doesn't serve, a line says so and the next one is sent all the same; what comes
-late is shown as the reply to that one, and its trace number says whose it is.
+The messages stand on standard input as frames, all of which are read before the first is sent. Each
+is shown as `acqd show` shows it, and sent; its reply is waited for, and shown; then the next one is
+sent, over the same connection. Where no reply comes within the SECONDS of --within, as none does to
+a message that a host doesn't serve, a line says so, and the next one is sent all the same. What
+comes late is shown as the reply to that one: its trace number says whose it is.
 
 With --repeat the one message on standard input is sent N times, with its trace number, element 11,
 one higher each time; behind 999999 comes 000001. Nothing is shown of them but, at the end, how many
