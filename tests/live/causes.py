@@ -74,6 +74,8 @@ def values(program):
         ([*begun, "--idle-when-full", ""], "--idle-when-full", seconds),
         ([*begun, "--stop-within", "1234567"], "--stop-within", seconds),
         (["tell", "--within", "-", "c"], "--within", seconds),
+        (["ask", "--port", "1", "--within", "-"], "--within", seconds),
+        (["ask", "--port", "1", "--repeat", "0"], "--repeat", "1 to 1000000, as in --repeat 1000"),
         ([*begun, "--log-bytes", "1G"], "--log-bytes",
          "1 to 15 digits, 0 for no bound, as in --log-bytes 1073741824"),
         ([*begun, "--log", "b"], "--log", "a path that no other option names"),
@@ -163,7 +165,14 @@ def ports(program):
 
 
 def hosts(program):
-    """`tell` to a host that isn't there, and faults that a host answers."""
+    """`tell` and `ask` to a host that isn't there, faults that a host answers, and a message that
+    gets no reply."""
+    port = free_port()
+    explained([program, "ask", "--port", str(port)], "53 Read",
+              f"{port}: nobody listens there: see --address and --port", given=ECHO)
+    with socket.create_server(("127.0.0.1", port)):
+        explained([program, "ask", "--port", str(port), "--within", "1"], "55 Silent",
+                  "a message got no reply in time; --within SECONDS waits longer", given=ECHO)
     with tempfile.TemporaryDirectory() as folder:
         path = f"{folder}/c"
         within = ["--within", "5"]

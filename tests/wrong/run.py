@@ -23,6 +23,12 @@ SCRIPTS = [
     ]),
     ("answers the_moment", [("reply 1", "a hold"), ("text holds", "a hold of")]),
     ("answers a_full_day", [("reply 3", "replies within the limit and past it")]),
+    ("ask sales", [
+        ("reply 3", "what is shown of sales"),
+        ("lost 1", "what is shown of sales"),
+        ("text ask", "what is shown of sales"),
+    ]),
+    ("ask repeat 20", [("lost 5", "how it ended"), ("text clearing", "the day's sales")]),
     ("limits who_talks_stays", [("reply 3", "who talks"), ("lost 3", "who talks")]),
     ("limits silence", [("open", "is there after")]),
     ("limits a_place_each 12", [("reply 2", "reply 2 to terminal 0")]),

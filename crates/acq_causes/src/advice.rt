@@ -28,6 +28,7 @@ const VALUES: [(&str, &str); 18] = [
     ("--idle-when-full", SECONDS),
     ("--stop-within", SECONDS),
     ("--within", SECONDS),
+    ("--repeat", "1 to 1000000, as in --repeat 1000"),
     (
         "--log-bytes",
         "1 to 15 digits, 0 for no bound, as in --log-bytes 1073741824",
@@ -90,6 +91,20 @@ pub(crate) fn of_host(number: u64) -> Option<&'static str> {
         61 => "the line `pending,DAY` lists them, as lines to send",
         62 => "this line is out of its form, and changed nothing",
         63 => "that is the business day; another one was to be ended",
+        _ => return None,
+    })
+}
+
+/// What a fault of `ask` says, by its number.
+pub(crate) fn of_asking(number: u64) -> Option<&'static str> {
+    Some(match number {
+        1 => "memory ran out",
+        50 => "a length is 0 or above 4096; or with --repeat there is more than one frame",
+        51 => "the input ended inside a frame, or the host ended the connection",
+        52 => "this frame spells no message to count up; `acqd show` says why",
+        53 => "the input couldn't be read, or the connection to the host broke",
+        54 => "the output couldn't be written, or the host took no more",
+        55 => "a message got no reply in time; --within SECONDS waits longer",
         _ => return None,
     })
 }

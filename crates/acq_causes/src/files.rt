@@ -95,6 +95,17 @@ pub(crate) fn why_no_port(kind: ErrorKind) -> &'static str {
     }
 }
 
+/// Why no host is reached at an address and a port.
+pub(crate) fn why_no_terminals_host(kind: ErrorKind) -> &'static str {
+    match kind {
+        ErrorKind::ConnectionRefused => "nobody listens there: see --address and --port",
+        ErrorKind::HostUnreachable | ErrorKind::NetworkUnreachable => {
+            "no way leads to that address: see --address"
+        }
+        _ => "the system doesn't connect to it",
+    }
+}
+
 /// Why no host is reached at a control socket.
 pub(crate) fn why_no_host(kind: ErrorKind) -> &'static str {
     match kind {

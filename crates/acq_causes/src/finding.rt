@@ -1,11 +1,12 @@
 //! What a fault is about, by what was asked for and what is found on the machine now.
 
-use crate::advice::{of_connection, of_fault, of_host, of_value};
+use crate::advice::{of_asking, of_connection, of_fault, of_host, of_value};
 use crate::asked::Asked;
 use crate::cause::Cause;
 use crate::explained::is_of_connection;
 use crate::files::{
-    why_no_host, why_no_port, why_no_socket, why_unread, why_unusable, why_unwritten,
+    why_no_host, why_no_port, why_no_socket, why_no_terminals_host, why_unread, why_unusable,
+    why_unwritten,
 };
 use crate::lack::Lack;
 use crate::signs::Signs;
@@ -31,6 +32,9 @@ pub(crate) fn cause_of(
         }
         Told::Fault(number, _) if asked.command() == "tell" => {
             Some(Cause::plain(of_host(number)?))
+        }
+        Told::Fault(number, _) if asked.command() == "ask" => {
+            Some(Cause::plain(of_asking(number)?))
         }
         Told::Fault(number, _) => match of_fault(number) {
             Some(words) => Some(Cause::plain(words)),
@@ -70,7 +74,7 @@ fn cause_of_lack(rt: &HostRuntime, asked: Asked<'_>, lack: Lack) -> Cause {
         Lack::Issuers => asked.value("--issuers"),
         Lack::Log => asked.value("--log"),
         Lack::Control => asked.value("--control"),
-        Lack::Port(_) => asked.value("--port"),
+        Lack::Port(_) | Lack::TerminalsHost(_) => asked.value("--port"),
         Lack::Host(_) => asked.path(),
         Lack::SameFile => None,
     };
@@ -81,6 +85,7 @@ fn cause_of_lack(rt: &HostRuntime, asked: Asked<'_>, lack: Lack) -> Cause {
         Lack::Control => why_no_socket(rt, path),
         Lack::Port(kind) => why_no_port(kind),
         Lack::Host(kind) => why_no_host(kind),
+        Lack::TerminalsHost(kind) => why_no_terminals_host(kind),
         Lack::SameFile => "two of --db, --log, --control and --issuers are one file",
     };
     Cause::of_value(rt.alloc(), about, words)

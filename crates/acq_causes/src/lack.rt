@@ -17,4 +17,6 @@ pub enum Lack {
     Port(ErrorKind),
     /// A host that takes control connections, for this reason.
     Host(ErrorKind),
+    /// A host that takes terminals' connections, for this reason.
+    TerminalsHost(ErrorKind),
 }

@@ -38,6 +38,7 @@ found_texts-rows f =
       first_value-rows f (codes "log"),
       first_value-rows f (codes "log-bytes"),
       first_value-rows f (codes "within"),
+      first_value-rows f (codes "repeat"),
       first_value-rows f (codes "path"),
       first_value-rows f (codes "event"),
       values_found-rows f (codes "clearing"),

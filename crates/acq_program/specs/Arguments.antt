@@ -29,7 +29,7 @@ use Rattle.acq_program.specs.Program.{program}
 use Rattle.acq_program.specs.declared.action.Action.{Action}
 use Rattle.acq_program.specs.declared.action.Action.TheVariants.{Init, Migrate, Once, Listen}
 use Rattle.acq_program.specs.declared.action.Action.TheVariants.{Replay, Report, Holds, Show, Make}
-use Rattle.acq_program.specs.declared.action.Action.TheVariants.{Pending, Status, Tell}
+use Rattle.acq_program.specs.declared.action.Action.TheVariants.{Pending, Status, Tell, Ask}
 use Rattle.acq_faults.specs.declared.day_report.DayReport.{DayReport}
 use Rattle.acq_commands.specs.declared.input_form.InputForm.{InputForm}
 use Rattle.acq_commands.specs.declared.input_form.InputForm.TheVariants as form
@@ -65,6 +65,7 @@ name_of_option option.Log = codes "--log"
 name_of_option option.LogBytes = codes "--log-bytes"
 name_of_option option.Within = codes "--within"
 name_of_option option.Event = codes "--event"
+name_of_option option.Repeat = codes "--repeat"
 name_of_option option.Path = codes "PATH"
 name_of_option (option.Report kinds.Clearing) = codes "--clearing"
 name_of_option (option.Report kinds.Settlement) = codes "--report"
@@ -93,6 +94,7 @@ pub record OptionTexts : Type 0 where
   pub log_bytes : Option Text
   pub within : Option Text
   pub event : Option Text
+  pub repeat : Option Text
   pub path : Option Text
 
 -- all values of an option
@@ -124,6 +126,7 @@ option_texts rows = record {
   log_bytes = first_of (codes "log-bytes") rows;
   within = first_of (codes "within") rows;
   event = first_of (codes "event") rows;
+  repeat = first_of (codes "repeat") rows;
   path = first_of (codes "path") rows;
 }
 
@@ -156,6 +159,7 @@ found_texts found = record {
   log_bytes = first_value found (codes "log-bytes");
   within = first_value found (codes "within");
   event = first_value found (codes "event");
+  repeat = first_value found (codes "repeat");
   path = first_value found (codes "path");
 }
 
@@ -197,6 +201,10 @@ seconds_of_text text = number_of_text 6 0 999999 text
 -- a number of bytes, of up to fifteen digits
 abbrev pub bytes_of_text : Text → Option ℕ
 bytes_of_text text = number_of_text 15 0 999999999999999 text
+
+-- how often a message is sent, 1 to 1,000,000
+abbrev pub repeat_of_text : Text → Option ℕ
+repeat_of_text text = number_of_text 7 1 1000000 text
 
 -- how many connections are served at once, 1 to 1,024
 abbrev pub together_of_text : Text → Option ℕ
@@ -300,6 +308,19 @@ StopWithinIs texts read = read ≡ seconds_if_there 10 option.StopWithin texts.s
 -- so many seconds for an answer of a host: without the option 60
 abbrev pub WithinIs : OptionTexts → Result ℕ OptionName → Type 0
 WithinIs texts read = read ≡ seconds_if_there 60 option.Within texts.within
+
+-- so many seconds for a reply of a host: without the option 30
+abbrev pub ReplyWithinIs : OptionTexts → Result ℕ OptionName → Type 0
+ReplyWithinIs texts read = read ≡ seconds_if_there 30 option.Within texts.within
+
+-- so many times, where there is a text
+abbrev pub repeat_if_there : Option Text → Result (Option ℕ) OptionName
+repeat_if_there None = Ok None
+repeat_if_there (Some text) = ok_or (option_map (λ n. Some n) (repeat_of_text text)) option.Repeat
+
+-- a message is sent so often, where the option is there
+abbrev pub RepeatIfThere : OptionTexts → Result (Option ℕ) OptionName → Type 0
+RepeatIfThere texts read = read ≡ repeat_if_there texts.repeat
 
 -- so many bytes of a log: without the option 1 GiB
 abbrev pub bytes_if_there : Option Text → Result ℕ OptionName
@@ -577,6 +598,22 @@ PendingIn texts path = Then (DayIfThere texts) (PendingOn texts path)
 abbrev pub AsksPending : OptionTexts → Result Action OptionName → Type 0
 AsksPending texts = Then (FileIs texts) (PendingIn texts)
 
+-- messages for the host here, for whose replies so many seconds are waited, one of them so often
+abbrev pub IsAsk : SocketAddrV4 → ℕ → Option ℕ → Result Action OptionName → Type 0
+IsAsk endpoint within repeat read =
+    read ≡ Ok (Ask (record { endpoint = endpoint; within = within; repeat = repeat }))
+
+abbrev pub AskWithin : OptionTexts → SocketAddrV4 → ℕ → Result Action OptionName → Type 0
+AskWithin texts endpoint within = Then (RepeatIfThere texts) (IsAsk endpoint within)
+
+abbrev pub AskAt : OptionTexts → SocketAddrV4 → Result Action OptionName → Type 0
+AskAt texts endpoint = Then (ReplyWithinIs texts) (AskWithin texts endpoint)
+
+-- what `ask` is asked for: the port and the address first, then how long a reply may take, then how
+-- often one message is sent
+abbrev pub AsksAsk : OptionTexts → Result Action OptionName → Type 0
+AsksAsk texts = Then (EndpointIs texts) (AskAt texts)
+
 -- the path of a socket's file
 abbrev pub PathIs : OptionTexts → Result (String Global) OptionName → Type 0
 PathIs texts (Ok path) = texts.path ≡ Some (string_bytes path)
@@ -637,6 +674,7 @@ Asks (Some command) asked =
     ⊎ Names (codes "tell") AsksTell command asked
     ⊎ Names (codes "status") AsksStatus command asked
     ⊎ Names (codes "make") AsksMake command asked
+    ⊎ Names (codes "ask") AsksAsk command asked
 
 -- nothing is wrong with the words by clap's rules, and they ask for this
 abbrev pub AsksFor : List Text → Result Action OptionName → Type 0

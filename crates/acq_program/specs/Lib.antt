@@ -1,5 +1,6 @@
 pub mod BookFaults
 pub mod Telling
+pub mod Asking
 pub mod Runs
 pub mod Apart
 pub mod Arguments

@@ -88,6 +88,13 @@ show = with_rule (new_app (codes "show")) (flag (codes "hex"))
 abbrev pub make : App
 make = with_rule (with_rule (new_app (codes "make")) (flag (codes "hex"))) (option (codes "event"))
 
+-- `ask --port P [--address ADDRESS] [--within SECONDS] [--repeat N]`
+abbrev pub ask : App
+ask =
+    with_rule (with_rule (with_rule (with_rule (new_app (codes "ask"))
+    (required (codes "port"))) (option (codes "address"))) (option (codes "within")))
+    (option (codes "repeat"))
+
 -- `tell [--within SECONDS] PATH`
 abbrev pub tell : App
 tell =
@@ -109,6 +116,6 @@ abbrev pub program : App
 program =
     with_subcommand (with_subcommand (with_subcommand (with_subcommand (with_subcommand
     (with_subcommand (with_subcommand (with_subcommand (with_subcommand (with_subcommand
-    (with_subcommand (with_subcommand (with_subcommand acqd init.top) migrate.top) once.top) listen.top) replay.top)
+    (with_subcommand (with_subcommand (with_subcommand (with_subcommand acqd init.top) migrate.top) once.top) listen.top) replay.top)
     (on_a_day (codes "clearing")).top) (on_a_day (codes "report")).top) holds.top) pending.top)
-    show.top) make.top) tell.top) status.top
+    show.top) make.top) ask.top) tell.top) status.top

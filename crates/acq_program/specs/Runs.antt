@@ -5,7 +5,7 @@ use Rattle.acq_link.specs.Moves.{TakesAll}
 use Rattle.acq_program.specs.declared.action.Action.{Action}
 use Rattle.acq_program.specs.declared.action.Action.TheVariants.{Init, Migrate, Once, Listen}
 use Rattle.acq_program.specs.declared.action.Action.TheVariants.{Replay, Report, Holds, Show, Make}
-use Rattle.acq_program.specs.declared.action.Action.TheVariants.{Pending, Status, Tell}
+use Rattle.acq_program.specs.declared.action.Action.TheVariants.{Pending, Status, Tell, Ask}
 use Rattle.acq_program.specs.declared.option_name.OptionName.{OptionName}
 use Rattle.acq_program.specs.Arguments.{AsksFor}
 use Rattle.acq_front.specs.Talk.{Saying, says_nothing}
@@ -18,6 +18,7 @@ use Rattle.acq_commands.specs.Runs.{RunsReplay}
 use Rattle.acq_commands.specs.Make.{RunsMake}
 use Rattle.acq_commands.specs.Show.{RunsShow}
 use Rattle.acq_commands.specs.Streams.{Stream}
+use Rattle.acq_program.specs.Asking.{AsksHost}
 use Rattle.acq_program.specs.Telling.{TellsHost}
 use Rattle.acq_stand_in.specs.Answers.{says_by}
 use Rattle.acq_stand_in.specs.declared.card_answer.CardAnswer.{CardAnswer}
@@ -102,6 +103,9 @@ Does (Show form) remaining received sent told ended =
     × ReadsWhole remaining received.before received.after plain) ended
 Does (Make form) remaining received sent told ended =
     EndsPlainly (λ plain. RunsMake form received sent plain
+    × ReadsWhole remaining received.before received.after plain) ended
+Does (Ask asked) remaining received sent told ended =
+    EndsPlainly (λ plain. AsksHost asked received sent plain
     × ReadsWhole remaining received.before received.after plain) ended
 Does (Tell path) remaining received sent told ended =
     TellsHost received sent told ended

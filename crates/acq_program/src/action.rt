@@ -1,5 +1,6 @@
 //! What the program is asked to do.
 
+use crate::ask_options::AskOptions;
 use crate::pending_options::PendingOptions;
 use crate::tell_options::TellOptions;
 use acq_commands::{BookReport, HoldsOptions, InputForm, NewBook, OnceOptions, ReplayOptions};
@@ -29,6 +30,8 @@ pub enum Action {
     Show(InputForm),
     /// Make the messages that the text of the input says, and write them in this form.
     Make(MadeForm),
+    /// Send the messages of the input to a host, or one of them again and again.
+    Ask(AskOptions),
     /// Send the lines of the input to a host that takes control connections.
     Tell(TellOptions),
     /// Write the figures of the book in the file at this path.

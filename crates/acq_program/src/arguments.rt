@@ -4,7 +4,7 @@ ghost use Rattle.std.specs.Prelude.{◌≡◌, List, [], IfErr, IfOk, codes, map
 ghost use Rattle.std.specs.Prelude.{string_bytes};
 ghost use Rattle.clap.specs.Words.{HasMatchesOf, Text, fault_of, first_value, found_of};
 ghost use Rattle.acq_program.specs.Program.{program};
-ghost use Rattle.acq_program.specs.Arguments.{AsksHolds, AsksInit, AsksListen};
+ghost use Rattle.acq_program.specs.Arguments.{AsksAsk, AsksHolds, AsksInit, AsksListen};
 ghost use Rattle.acq_program.specs.Arguments.{AsksMigrate, AsksOnce};
 ghost use Rattle.acq_program.specs.Arguments.{AddressIs, AsksPending, DayIfThere, EndpointIs};
 ghost use Rattle.acq_program.specs.Arguments.{AsksReplay, AsksReport, AsksStatus, AsksTell};
@@ -14,13 +14,15 @@ ghost use Rattle.acq_program.specs.Arguments.{IsNoMemory, LimitIs, MerchantIs};
 ghost use Rattle.acq_program.specs.Arguments.{MomentIfThere, MomentIs, PathIs, PatienceIs, PortIs, Reads};
 ghost use Rattle.acq_program.specs.Arguments.{ReadsArguments, StopWithinIs, TogetherIs, WithinIs};
 ghost use Rattle.acq_program.specs.Arguments.{AsksMake, MadeFormIs, form_of_flag, made_by};
+ghost use Rattle.acq_program.specs.Arguments.{RepeatIfThere, ReplyWithinIs, form_of_flag};
 ghost use Rattle.acq_program.specs.Arguments.{found_texts};
 
 use crate::action::Action;
 use crate::apart::clash_in;
+use crate::ask_options::AskOptions;
 use crate::bounds::Bounds;
 use crate::option_name::OptionName;
-use crate::options::{bytes_of, count_of, limit_of, port_of, seconds_of, together_of};
+use crate::options::{bytes_of, count_of, limit_of, port_of, repeat_of, seconds_of, together_of};
 use crate::pending_options::PendingOptions;
 use crate::program::program;
 use crate::tell_options::TellOptions;
@@ -55,6 +57,9 @@ const USUAL_STOP_WITHIN: u64 = 10;
 
 /// How many seconds an answer of a host may take, where nothing else is asked for.
 const USUAL_WITHIN: u64 = 60;
+
+/// How many seconds a reply of a host may take, where nothing else is asked for.
+const USUAL_REPLY_WITHIN: u64 = 30;
 
 /// How many bytes a log has at most, where nothing else is asked for: 1 GiB.
 const USUAL_LOG_BYTES: u64 = 1_073_741_824;
@@ -109,6 +114,7 @@ fn talks_asked_in(alloc: Global, matches: &ArgMatches) -> Result<Action, UsageFa
 {
     match matches.subcommand() {
         Some(("make", options)) => make_of(options),
+        Some(("ask", options)) => ask_of(options),
         Some(("tell", options)) => tell_of(alloc, options),
         Some(("status", options)) => status_of(alloc, options),
         _ => Err(Error::from(AllocError).into()),
@@ -252,6 +258,20 @@ fn pending_of(alloc: Global, options: &ArgMatches) -> Result<Action, UsageFault>
         day,
         issuers,
         moment,
+    }))
+}
+
+/// What `ask` is asked for.
+fn ask_of(options: &ArgMatches) -> Result<Action, UsageFault>
+    ensures { Reads (AsksAsk (found_texts (found_of options.now))) result }
+{
+    let endpoint = endpoint_of(options)?;
+    let within = reply_within_option(options)?;
+    let repeat = repeat_if_there(options)?;
+    Ok(Action::Ask(AskOptions {
+        endpoint,
+        within,
+        repeat,
     }))
 }
 
@@ -512,6 +532,29 @@ fn within_option(options: &ArgMatches) -> Result<u64, UsageFault>
     match options.get_str("within") {
         Some(text) => seconds_of(text).ok_or(UsageFault::BadValue(OptionName::Within)),
         None => Ok(USUAL_WITHIN),
+    }
+}
+
+/// How many seconds a reply of a host may take: without the option 30.
+fn reply_within_option(options: &ArgMatches) -> Result<u64, UsageFault>
+    ensures { Reads (ReplyWithinIs (found_texts (found_of options.now))) result }
+{
+    match options.get_str("within") {
+        Some(text) => seconds_of(text).ok_or(UsageFault::BadValue(OptionName::Within)),
+        None => Ok(USUAL_REPLY_WITHIN),
+    }
+}
+
+/// How often a message is to be sent, where that is asked for.
+fn repeat_if_there(options: &ArgMatches) -> Result<Option<u64>, UsageFault>
+    ensures { Reads (RepeatIfThere (found_texts (found_of options.now))) result }
+{
+    let Some(text) = options.get_str("repeat") else {
+        return Ok(None);
+    };
+    match repeat_of(text) {
+        Some(count) => Ok(Some(count)),
+        None => Err(UsageFault::BadValue(OptionName::Repeat)),
     }
 }
 

@@ -285,6 +285,35 @@ fault is one line on standard error:
 
 Example:
   acqd make < examples/sale.txt > sale.frame";
+pub(crate) const ABOUT_ASK: &str =
+    "Sends the messages on standard input to a host, and shows them and its replies";
+
+pub(crate) const MORE_OF_ASK: &str = "\
+The messages stand on standard input as frames, all of which are read before the first is sent. Each
+is shown as `acqd show` shows it, and sent; its reply is waited for, and shown; then the next one is
+sent, over the same connection. Where no reply comes within the SECONDS of --within, as none does to
+a message that a host doesn't serve, a line says so, and the next one is sent all the same. What
+comes late is shown as the reply to that one: its trace number says whose it is.
+
+With --repeat the one message on standard input is sent N times, with its trace number, element 11,
+one higher each time; behind 999999 comes 000001. Nothing is shown of them but, at the end, how many
+replies came and how many have each response code, how long they took, and how many came a second. A
+message without a reply ends that.
+
+The status is 0 where each message got a reply, 1 for a fault, 2 for wrong usage, 3 where memory ran
+out. A fault is one line on standard error, and what was written before it stands:
+  acqd: 1 Memory
+  acqd: 50 BadLength               a frame's length is 0 or above 4,096, on the input or of a reply;
+                                   or with --repeat bytes stand behind the one frame
+  acqd: 51 Ended                   the input ends inside a frame, or the host ended the connection
+  acqd: 52 Undecodable FAULT ELEMENT   with --repeat the frame spells no message
+  acqd: 53 Read                    nobody listens there, or a read failed
+  acqd: 54 Write BYTES             a write failed after so many bytes, of a frame or of the text
+  acqd: 55 Silent                  a message got no reply in time; those behind it were sent
+
+Examples:
+  acqd ask --port 8583 < examples/sale.frame
+  acqd ask --port 8583 --repeat 1000 < examples/sale.frame";
 
 pub(crate) const ABOUT_TELL: &str =
     "Sends the lines on standard input to a host, and writes its answers";

@@ -7,6 +7,8 @@
 mod action;
 mod apart;
 mod arguments;
+mod ask_options;
+mod asking;
 mod bounds;
 mod command_text;
 mod help;
@@ -26,6 +28,7 @@ mod wanted_reports;
 
 pub use action::Action;
 pub use arguments::action_of;
+pub use ask_options::AskOptions;
 pub use machine::Machine;
 pub use option_name::OptionName;
 pub use pending_options::PendingOptions;

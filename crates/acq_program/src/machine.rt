@@ -1,5 +1,6 @@
 //! What a command finds on its machine.
 
+use acq_ask::Watch;
 use acq_book::Book;
 use acq_core::Limit;
 use acq_faults::{Fault, Gathering, ListenOptions, Patience};
@@ -10,9 +11,9 @@ use day_totals::Day;
 use std::alloc::Global;
 use std::net::SocketAddrV4;
 
-/// What a command finds on its machine: files, by their paths, and ports. `B` is the book in a
-/// file.
-pub trait Machine<B: Book + Drop>: Sized {
+/// What a command finds on its machine: files, by their paths, ports, and time. `B` is the book in
+/// a file.
+pub trait Machine<B: Book + Drop>: Sized + Watch {
     ghost use Rattle.std.specs.Prelude.{◌≡◌, ◌⊎◌, IfErr, IfOk};
     ghost use Rattle.acq_core.specs.Pasts.{HasPast};
     ghost use Rattle.acq_faults.specs.declared.fault.Fault.TheVariants.{Read, Silent};
@@ -30,6 +31,12 @@ pub trait Machine<B: Book + Drop>: Sized {
 
     /// What a host answers.
     type Answers: Source + Drop;
+
+    /// Where messages to a host go.
+    type Requests: Sink + Drop;
+
+    /// What a host replies.
+    type Replies: Source + Drop;
 
     /// Opens the book in the file at a path. Where there is none, nothing is made.
     fn open_book(self, path: &str) -> Result<B, Fault>
@@ -79,6 +86,12 @@ pub trait Machine<B: Book + Drop>: Sized {
     fn connect_at(&self, path: &str, within: u64) -> Result<(Self::Lines, Self::Answers), Fault>
         ensures { IfErr result (λ fault. fault ≡ Read ⊎ fault ≡ Silent) };
 
-    /// Whether a read of answers failed since none came in that time.
-    fn was_silent(&self) -> bool;
+    /// Connects to the host that takes connections at an address and a port, for whose replies so
+    /// many seconds are waited; 0 is for ever.
+    fn ask_at(
+        &self,
+        endpoint: SocketAddrV4,
+        within: u64,
+    ) -> Result<(Self::Requests, Self::Replies), Fault>
+        ensures { IfErr result (λ fault. fault ≡ Read ⊎ fault ≡ Silent) };
 }

@@ -16,9 +16,9 @@ pub enum OptionName {
     Merchant,
     /// The moment at which something is.
     At,
-    /// The port that is listened on.
+    /// The port that is listened on, or that a host listens on.
     Port,
-    /// The address that is listened on.
+    /// The address that is listened on, or that a host listens on.
     Address,
     /// How many connections are served.
     Count,
@@ -40,10 +40,12 @@ pub enum OptionName {
     Log,
     /// How many bytes that file has at most.
     LogBytes,
-    /// How many seconds an answer of a host may take.
+    /// How many seconds an answer of a host, or its reply, may take.
     Within,
     /// The moment at which messages that are made come.
     Event,
+    /// How often a message is sent.
+    Repeat,
     /// The path of a socket's file.
     Path,
     /// A day of which a report is asked for.
@@ -77,6 +79,7 @@ impl fmt::Display for OptionName {
             OptionName::LogBytes => "--log-bytes",
             OptionName::Within => "--within",
             OptionName::Event => "--event",
+            OptionName::Repeat => "--repeat",
             OptionName::Path => "PATH",
             OptionName::Report(ReportKind::Clearing) => "--clearing",
             OptionName::Report(ReportKind::Settlement) => "--report",

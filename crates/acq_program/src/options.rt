@@ -1,8 +1,9 @@
-//! The values of a limit, a port, and numbers of connections, of seconds and of bytes.
+//! The values of a limit, a port, and numbers of connections, of seconds, of bytes and of times.
 
 ghost use Rattle.std.specs.Prelude.{◌≡◌, ◌≤◌, IfSome};
 ghost use Rattle.acq_program.specs.Arguments.{bytes_of_text, count_of_text, limit_of_text};
-ghost use Rattle.acq_program.specs.Arguments.{number_of_text, port_of_text, seconds_of_text, together_of_text};
+ghost use Rattle.acq_program.specs.Arguments.{number_of_text, port_of_text, repeat_of_text, seconds_of_text};
+ghost use Rattle.acq_program.specs.Arguments.{together_of_text};
 
 use acq_core::Limit;
 use acq_message::digits_value;
@@ -31,6 +32,12 @@ const MOST_BYTES_DIGITS: usize = 15;
 
 /// The greatest number of bytes.
 const GREATEST_BYTES: u64 = 999_999_999_999_999;
+
+/// The most digits of how often a message is sent.
+const MOST_REPEAT_DIGITS: usize = 7;
+
+/// The most times that it is sent.
+const GREATEST_REPEAT: u64 = 1_000_000;
 
 /// The most connections that are served at once.
 const GREATEST_TOGETHER: u64 = 1_024;
@@ -73,6 +80,13 @@ pub(crate) fn bytes_of(text: &str) -> Option<u64>
     ensures { result ≡ bytes_of_text text.now }
 {
     number_of(text, MOST_BYTES_DIGITS, 0, GREATEST_BYTES)
+}
+
+/// How often a text has a message sent: one to seven digits, 1 to 1,000,000 (own profile).
+pub(crate) fn repeat_of(text: &str) -> Option<u64>
+    ensures { result ≡ repeat_of_text text.now }
+{
+    number_of(text, MOST_REPEAT_DIGITS, 1, GREATEST_REPEAT)
 }
 
 /// How many connections a text has served at once: one to four digits, 1 to 1,024 (own profile).

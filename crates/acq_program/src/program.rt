@@ -239,6 +239,30 @@ const MAKE: [Parameter<'static>; 2] = [
     },
 ];
 
+/// What `ask` takes.
+const ASK: [Parameter<'static>; 4] = [
+    Parameter {
+        name: "port",
+        kind: Required("P"),
+        help: "The port at which the host listens, 1 to 65535",
+    },
+    Parameter {
+        name: "address",
+        kind: Optional("ADDRESS"),
+        help: "The IPv4 address at which it listens [default: 127.0.0.1]",
+    },
+    Parameter {
+        name: "within",
+        kind: Optional("SECONDS"),
+        help: "How long a reply may take, 0 to 999999, 0 for ever [default: 30]",
+    },
+    Parameter {
+        name: "repeat",
+        kind: Optional("N"),
+        help: "How often the one message is sent, 1 to 1000000, its trace number counted up",
+    },
+];
+
 /// What `tell` takes.
 const TELL: [Parameter<'static>; 2] = [
     Parameter {
@@ -323,6 +347,12 @@ const COMMANDS: [CommandText<'static>; 13] = [
         about: help::ABOUT_MAKE,
         more: help::MORE_OF_MAKE,
         parameters: &MAKE,
+    },
+    CommandText {
+        name: "ask",
+        about: help::ABOUT_ASK,
+        more: help::MORE_OF_ASK,
+        parameters: &ASK,
     },
     CommandText {
         name: "tell",

@@ -6,6 +6,7 @@ ghost use Rattle.acq_program.specs.Telling.{TellsHost};
 
 use crate::machine::Machine;
 use crate::tell_options::TellOptions;
+use acq_ask::Watch;
 use acq_book::Book;
 use acq_control::tell;
 use acq_faults::Fault;

@@ -1,106 +1,36 @@
-//! A connection to a host's control socket.
+//! A connection to a host.
 
-ghost use Rattle.std.specs.Prelude.{◌≡◌, ◌⊎◌, IfErr};
-ghost use Rattle.acq_faults.specs.declared.fault.Fault.TheVariants.{Read, Silent};
-
-use acq_causes::{Lack, Signs};
-use acq_faults::Fault;
-use mio::net;
 use std::cell::Cell;
 use std::io::{self, ErrorKind, Read, Write};
-use std::os::unix::net::UnixStream;
-use std::thread;
-use std::time::{Duration, Instant};
 
-/// For how many milliseconds it pauses while the host takes no connection.
-const PAUSE: u64 = 50;
-
-/// One side of a connection to a host's control socket, whose reads and writes wait so long at
-/// most.
+/// One side of a connection to a host, whose reads and writes wait so long at most.
 #[derive(Drop)]
-pub struct HostLine<'a> {
-    stream: UnixStream,
-    /// Whether a read waited too long.
+pub struct HostLine<'a, T> {
+    stream: T,
+    /// Whether the last read waited too long.
     silent: &'a Cell<bool>,
 }
 
-/// Both sides of a connection to the host that takes control connections at a path, for which so
-/// many seconds are waited, and for each answer; 0 is for ever. The first is for lines, the second
-/// for answers, and says there whether one was waited for too long.
-pub(crate) fn host_lines<'a>(
-    rt: &HostRuntime,
-    path: &str,
-    within: u64,
-    signs: &'a Signs,
-) -> Result<(HostLine<'a>, HostLine<'a>), Fault>
-    ensures { IfErr result (λ fault. fault ≡ Read ⊎ fault ≡ Silent) }
-{
-    let limit = (within > 0).then(|| Duration::from_secs(within));
-    let silent = &signs.silent;
-    match connected(rt, path, limit) {
-        Ok((lines, answers)) => Ok((
-            HostLine {
-                stream: lines,
-                silent,
-            },
-            HostLine {
-                stream: answers,
-                silent,
-            },
-        )),
-        Err(fault) if fault.kind() == ErrorKind::WouldBlock => Err(Fault::Silent),
-        Err(fault) => {
-            signs.note(Lack::Host(fault.kind()));
-            Err(Fault::Read)
-        }
+impl<'a, T> HostLine<'a, T> {
+    /// Over this stream; what it says of its reads stands there.
+    pub(crate) fn new(stream: T, silent: &'a Cell<bool>) -> HostLine<'a, T> {
+        HostLine { stream, silent }
     }
 }
 
-/// A connection to the socket at a path, to write to and to read from. A host that takes none at
-/// once is asked again, until the time is over.
-fn connected(
-    rt: &HostRuntime,
-    path: &str,
-    limit: Option<Duration>,
-) -> io::Result<(UnixStream, UnixStream)> {
-    let began = Instant::now(rt)?;
-    for _ in 0..u64::MAX {
-        match net::UnixStream::connect(rt, path) {
-            Ok(stream) => return both_ends(UnixStream::from(stream), limit),
-            Err(fault) if fault.kind() != ErrorKind::WouldBlock => return Err(fault),
-            Err(_) => {}
-        }
-        let waited = Instant::now(rt)?.duration_since(began);
-        if limit.is_some_and(|limit| waited >= limit) {
-            break;
-        }
-        thread::sleep(rt, Duration::from_millis(PAUSE));
-    }
-    Err(io::Error::from(ErrorKind::WouldBlock))
-}
-
-/// A connection twice, whose reads and writes wait so long at most.
-fn both_ends(lines: UnixStream, limit: Option<Duration>) -> io::Result<(UnixStream, UnixStream)> {
-    lines.set_nonblocking(false)?;
-    lines.set_read_timeout(limit)?;
-    lines.set_write_timeout(limit)?;
-    let answers = lines.try_clone()?;
-    Ok((lines, answers))
-}
-
-impl Read for HostLine<'_> {
+impl<T: Read> Read for HostLine<'_, T> {
     fn read(&mut self, buf: &mut [u8]) -> io::Result<usize> {
-        match self.stream.read(buf) {
-            Err(fault) if fault.kind() == ErrorKind::WouldBlock => {
-                self.silent.set(true);
-                Err(fault)
-            }
-            ended => ended,
-        }
+        let read = self.stream.read(buf);
+        let is_silent = match &read {
+            Err(fault) => fault.kind() == ErrorKind::WouldBlock,
+            Ok(_) => false,
+        };
+        self.silent.set(is_silent);
+        read
     }
 }
 
-impl Write for HostLine<'_> {
+impl<T: Write> Write for HostLine<'_, T> {
     fn write(&mut self, buf: &[u8]) -> io::Result<usize> {
         self.stream.write(buf)
     }

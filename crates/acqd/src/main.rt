@@ -8,6 +8,7 @@ mod apart;
 mod at_once;
 mod book_files;
 mod book_signs;
+mod control_host;
 mod control_socket;
 mod fault_event;
 mod host_line;
@@ -18,6 +19,7 @@ mod open_book;
 mod standard_descriptors;
 mod standard_error;
 mod stopped_runs;
+mod terminals_host;
 mod this_machine;
 
 use acq_book::Book;

@@ -7,11 +7,14 @@ ghost use Rattle.acqd.specs.BookFiles.{of_opening};
 
 use crate::apart::names_a_file_twice;
 use crate::book_files::find_book;
+use crate::control_host::control_host;
 use crate::control_socket::{control_socket, remove_socket};
-use crate::host_line::{HostLine, host_lines};
+use crate::host_line::HostLine;
 use crate::log_output::LogOutput;
 use crate::new_book_file::NewBookFile;
 use crate::open_book::{make_book, migrate_book, open_book};
+use crate::terminals_host::terminals_host;
+use acq_ask::Watch;
 use acq_causes::{Lack, Signs};
 use acq_core::Limit;
 use acq_faults::{Fault, ListenOptions, Patience};
@@ -29,7 +32,9 @@ use sqlite_std_file::FileFrom;
 use sqlite_store::FileStore;
 use std::alloc::Global;
 use std::fs::File;
-use std::net::{SocketAddrV4, TcpListener};
+use std::net::{SocketAddrV4, TcpListener, TcpStream};
+use std::os::unix::net::UnixStream;
+use std::time::Instant;
 
 /// The machine that the program runs on; `D` says what the book's file holds before it is opened.
 #[derive(Drop)]
@@ -37,12 +42,20 @@ pub struct ThisMachine<'a, D: Start> {
     rt: &'a HostRuntime,
     start: D,
     signs: &'a Signs,
+    /// When it was made, if its clock could be read.
+    began: Option<Instant>,
 }
 
 impl<'a, D: Start> ThisMachine<'a, D> {
     /// The machine of this runtime, which gives these signs.
     pub fn new(rt: &'a HostRuntime, start: D, signs: &'a Signs) -> ThisMachine<'a, D> {
-        ThisMachine { rt, start, signs }
+        let began = Instant::now(rt).ok();
+        ThisMachine {
+            rt,
+            start,
+            signs,
+            began,
+        }
     }
 }
 
@@ -51,9 +64,13 @@ impl<'a, D: Start> Machine<SqlBook<FileStore<FileFrom<D>>>> for ThisMachine<'a, 
 
     type Gathering = TcpGathering<'a, HostRuntime, LogOutput<'a>>;
 
-    type Lines = WriteSink<HostLine<'a>>;
+    type Lines = WriteSink<HostLine<'a, UnixStream>>;
 
-    type Answers = ReadSource<HostLine<'a>>;
+    type Answers = ReadSource<HostLine<'a, UnixStream>>;
+
+    type Requests = WriteSink<HostLine<'a, TcpStream>>;
+
+    type Replies = ReadSource<HostLine<'a, TcpStream>>;
 
     fn open_book(self, path: &str) -> Result<SqlBook<FileStore<FileFrom<D>>>, Fault> {
         if let Err(cause) = find_book(self.rt, path) {
@@ -159,13 +176,47 @@ impl<'a, D: Start> Machine<SqlBook<FileStore<FileFrom<D>>>> for ThisMachine<'a, 
         &self,
         path: &str,
         within: u64,
-    ) -> Result<(WriteSink<HostLine<'a>>, ReadSource<HostLine<'a>>), Fault> {
-        let (lines, answers) = host_lines(self.rt, path, within, self.signs)?;
+    ) -> Result<
+        (
+            WriteSink<HostLine<'a, UnixStream>>,
+            ReadSource<HostLine<'a, UnixStream>>,
+        ),
+        Fault,
+    > {
+        let (lines, answers) = control_host(self.rt, path, within, self.signs)?;
         Ok((WriteSink::new(lines), ReadSource::new(answers)))
     }
 
+    fn ask_at(
+        &self,
+        endpoint: SocketAddrV4,
+        within: u64,
+    ) -> Result<
+        (
+            WriteSink<HostLine<'a, TcpStream>>,
+            ReadSource<HostLine<'a, TcpStream>>,
+        ),
+        Fault,
+    > {
+        let (requests, replies) = terminals_host(self.rt, endpoint, within, self.signs)?;
+        Ok((WriteSink::new(requests), ReadSource::new(replies)))
+    }
+}
+
+impl<'a, D: Start> Watch for ThisMachine<'a, D> {
     fn was_silent(&self) -> bool {
         self.signs.silent.get()
+    }
+
+    /// A clock that can't be read stands still.
+    fn micros(&self) -> u64 {
+        match (self.began, Instant::now(self.rt)) {
+            (Some(began), Ok(now)) => {
+                let passed = now.saturating_duration_since(began);
+                u64::try_from(passed.as_micros()).unwrap_or(u64::MAX)
+            }
+            _ => 0,
+        }
     }
 }
 

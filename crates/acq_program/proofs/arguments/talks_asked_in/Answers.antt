@@ -1,7 +1,7 @@
 -- command by command: what the options were read as is what the arguments ask for
 use Rattle.std.proofs.Common.{◌∙◌, Some, codes, ap, sym, refl, inl, inr}
 use Rattle.clap.specs.Words.{found_of, rows_of}
-use Rattle.acq_program.specs.Arguments.{AsksMake, AsksStatus, AsksTell}
+use Rattle.acq_program.specs.Arguments.{AsksAsk, AsksMake, AsksStatus, AsksTell}
 use Rattle.acq_program.specs.Program.{program}
 use Rattle.acq_program.proofs.AskedCommands.{named, reads_command}
 use Rattle.acq_program.proofs.arguments.talks_asked_in.Goals as goal
@@ -24,8 +24,7 @@ returns-in-Some-status-default c = λ words well matches.
     let found = found_of it.options.now in
     reads_command (codes "status") AsksStatus
     (λ command asked h. inr (inr (inr (inr (inr (inr (inr (inr (inr (inr (inr (inl h))))))))))))
-    words found
-    well
+    words found well
     (named c.args.matches.now program words (codes "status") (rows_of found) refl
     matches (ap Some (sym it.is-status) ∙ it.ensures.name)
     it.ensures.rows)
@@ -43,3 +42,15 @@ returns-in-Some-make-default c = λ words well matches.
     matches (ap Some (sym it.is-make) ∙ it.ensures.name)
     it.ensures.rows)
     c.make_of.result c.make_of.ensures
+
+pub returns-in-Some-ask-default : goal.returns-in-Some-ask-default
+returns-in-Some-ask-default c = λ words well matches.
+    let it = c.in-Some-ask-default in
+    let found = found_of it.options.now in
+    reads_command (codes "ask") AsksAsk
+    (λ command asked h. inr (inr (inr (inr (inr (inr (inr (inr (inr (inr (inr (inr h))))))))))))
+    words found well
+    (named c.args.matches.now program words (codes "ask") (rows_of found) refl
+    matches (ap Some (sym it.is-ask) ∙ it.ensures.name)
+    it.ensures.rows)
+    c.ask_of.result c.ask_of.ensures
