@@ -13,16 +13,17 @@ else
     trap 'rm -rf "$work"' EXIT
 fi
 mkdir -p "$work/crates/decide_bench/src"
-for crate in iso_codec card_no day_totals acq_message acq_core acq_deciding; do
+for crate in iso_codec card_no day_totals acq_message acq_core acq_rules acq_deciding; do
     mkdir -p "$work/crates/$crate"
     for part in src specs proofs; do
         rm -rf "$work/crates/$crate/$part"
-        cp -R "$top/crates/$crate/$part" "$work/crates/$crate/$part"
+        [ ! -d "$top/crates/$crate/$part" ] ||
+            cp -R "$top/crates/$crate/$part" "$work/crates/$crate/$part"
     done
 done
 cp "$top/bench/decide/main.txt" "$work/crates/decide_bench/src/main.rt"
 : >"$work/crates/decide_bench/stdin"
-grep -E '^(iso_codec|card_no|day_totals|acq_message|acq_core|acq_deciding):' "$top/crates.txt" >"$work/crates.txt"
+grep -E '^(iso_codec|card_no|day_totals|acq_message|acq_core|acq_rules|acq_deciding):' "$top/crates.txt" >"$work/crates.txt"
 echo 'decide_bench: acq_deciding acq_core acq_message card_no day_totals anyhow' >>"$work/crates.txt"
 (cd "$work/crates/decide_bench" && rt run) >"$work/log" 2>&1 || { cat "$work/log" >&2; exit 1; }
 pin=

@@ -13,15 +13,16 @@ else
     work=$(mktemp -d)
     trap 'rm -rf "$work"' EXIT
 fi
-crates='acq_link iso_codec card_no day_totals acq_message acq_core acq_deciding acq_soundness
-acq_book acq_list_book acq_reports acq_clearing acq_host'
+crates='acq_link iso_codec card_no day_totals acq_message acq_core acq_rules acq_deciding
+acq_soundness acq_book acq_lists acq_list_book acq_reports acq_clearing acq_host'
 mkdir -p "$work/crates/host_bench/src"
 : >"$work/crates.txt"
 for crate in $crates; do
     mkdir -p "$work/crates/$crate"
     for part in src specs proofs; do
         rm -rf "$work/crates/$crate/$part"
-        cp -R "$top/crates/$crate/$part" "$work/crates/$crate/$part"
+        [ ! -d "$top/crates/$crate/$part" ] ||
+            cp -R "$top/crates/$crate/$part" "$work/crates/$crate/$part"
     done
     grep -E "^$crate:" "$top/crates.txt" >>"$work/crates.txt"
 done

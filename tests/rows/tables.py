@@ -38,12 +38,17 @@ class TableRow:
 
 
 def read_table(text):
-    """The rows of a file."""
+    """The rows of a file that is played over the built program."""
+    return table_rows(text, KINDS)
+
+
+def table_rows(text, kinds):
+    """The rows of a file whose kinds are these."""
     rows = []
     for line, row in rows_of(text):
         asked, found, said = row.partition("=>")
         kind, parted, given = asked.partition(" ")
-        if not found or not parted or kind not in KINDS:
+        if not found or not parted or kind not in kinds:
             raise malformed(line)
         rows.append(TableRow(line, kind, given.removesuffix(" "), said.removeprefix(" ").encode()))
     if not rows:

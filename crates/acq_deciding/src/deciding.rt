@@ -26,9 +26,8 @@ pub(crate) mod reversal;
 
 use crate::decision::Decision;
 use acq_core::{Arrival, Looked, Merchant, Output, Request, Status};
-use acq_message::{
-    CheckedRequest, RequestMessage, ResponseCode, Service, essence_of, text_at, transaction_in,
-};
+use acq_message::{CheckedRequest, RequestMessage, ResponseCode, Service, text_at, transaction_in};
+use acq_rules::has_essence_of;
 use day_totals::Day;
 use std::alloc::{AllocError, Global};
 
@@ -135,19 +134,6 @@ fn decision_of_repeat<'a>(
     } else {
         Ok(Decision::Replies(message, ResponseCode::DuplicateTransmission))
     }
-}
-
-/// Whether a request is alike in its essence to a recorded one.
-pub fn has_essence_of(
-    alloc: Global,
-    request: &RequestMessage,
-    recorded: &Request,
-) -> Result<bool, AllocError>
-    ensures { IfOk result (λ is_alike. is_alike
-        ≡ bytes_eq (essence_of request.now.service request.now.message) recorded.now.essence) }
-{
-    let essence = essence_of(alloc, request.service, &request.message)?;
-    Ok(essence.as_bytes() == recorded.essence.as_bytes())
 }
 
 /// What a repeat of a recorded request gets.

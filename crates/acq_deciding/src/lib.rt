@@ -11,13 +11,10 @@ pub mod checks;
 mod deciding;
 mod decision;
 mod effects;
-mod looking_up;
 mod of_arrivals;
 mod of_events;
-mod posted;
-mod reconciled_day;
 mod recording;
 
-pub use looking_up::wanted_by;
+pub use acq_rules::wanted_by;
 pub use of_arrivals::decide_arrival;
 pub use of_events::{decide, wanted};

@@ -7,9 +7,9 @@ ghost use Rattle.acq_core.specs.Known.{wanted_by};
 ghost use Rattle.acq_core.specs.Looking.{known_of};
 ghost use Rattle.acq_core.specs.Outcome.{outcome, output_of};
 
-use crate::looking_up::wanted_by;
 use crate::of_arrivals::decide_arrival;
 use acq_core::{Arrival, Change, Event, Looked, Output, Wanted};
+use acq_rules::wanted_by;
 use day_totals::Day;
 use std::alloc::{AllocError, Global};
 

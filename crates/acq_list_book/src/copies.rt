@@ -5,9 +5,9 @@ ghost use Rattle.std.specs.Option.{option_copied};
 ghost use Rattle.acq_book.specs.Promise.{CountsFault};
 
 use acq_book::BookFault;
-use acq_core::{Posting, Request};
+use acq_core::Request;
 use card_no::Range;
-use std::alloc::{AllocError, Global};
+use std::alloc::Global;
 
 /// A copy of a request, where one was found.
 pub(crate) fn found_copied(
@@ -30,19 +30,6 @@ pub(crate) fn range_copied(alloc: Global, range: Option<&Range>) -> Result<Optio
 {
     match range {
         Some(range) => Ok(Some(range.copied(alloc)?)),
-        None => Ok(None),
-    }
-}
-
-/// A copy of a posting, where there is one.
-pub(crate) fn posting_copied(
-    alloc: Global,
-    posting: &Option<Posting>,
-) -> Result<Option<Posting>, AllocError>
-    ensures { IfOk result (λ copy. copy ≡ posting.now) }
-{
-    match posting {
-        Some(posting) => Ok(Some(posting.copied(alloc)?)),
         None => Ok(None),
     }
 }

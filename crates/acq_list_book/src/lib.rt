@@ -7,7 +7,6 @@
 
 mod copies;
 mod list_book;
-mod lists;
 mod walks;
 
 pub use list_book::ListBook;

@@ -6,13 +6,13 @@ ghost use Rattle.acq_core.specs.Tables.{after, new_tables};
 ghost use Rattle.acq_book.specs.Fits.{Fits};
 
 use crate::copies::{found_copied, range_copied};
-use crate::lists::{Merchants, Postings, Reconciliations, Requests, Terminals};
 use crate::walks::{in_order_of_names, in_order_of_numbers, in_order_of_references, show};
 use acq_book::{Book, BookFault, Visit};
 use acq_core::{
     AdmittedCount, Change, Limit, Merchant, MerchantId, Posting, Reconciliation, Reference,
     Remains, Request, RequestKey, Status, Terminal, TerminalId, UsedCount,
 };
+use acq_lists::{Merchants, Postings, Reconciliations, Requests, Terminals};
 use card_no::{Prefix, Range, RangeFault, RangeList};
 use day_totals::{Day, Totals};
 use iso_codec::Message;

@@ -281,7 +281,7 @@ const TELL: [Parameter<'static>; 2] = [
 const STATUS: [Parameter<'static>; 1] = [BOOK];
 
 /// The commands, in the order in which the help has them.
-const COMMANDS: [CommandText<'static>; 13] = [
+const COMMANDS: [CommandText<'static>; 14] = [
     CommandText {
         name: "init",
         about: help::ABOUT_INIT,

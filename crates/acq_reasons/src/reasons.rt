@@ -26,6 +26,7 @@ use acq_deciding::checks;
 use acq_message::{
     CheckedRequest, Service, Verdict, amount_in, original_acquirer, remaining_in, text_at,
 };
+use acq_rules::{has_essence_of, is_final_for, is_in_balance, is_open_at, reconciled_day};
 use iso_codec::{Message, all_digits};
 use std::alloc::{AllocError, Global};
 
@@ -97,7 +98,7 @@ fn repeat_reason(
 ) -> Result<Option<Reason>, AllocError>
     ensures { IfOk result (λ why. why ≡ repeat_reason request.now (prior_of recorded.now)) }
 {
-    if checks::has_essence_of(alloc, request.as_request(), recorded)? {
+    if has_essence_of(alloc, request.as_request(), recorded)? {
         Ok(None)
     } else {
         Ok(Some(Reason::OtherRequest))
@@ -202,7 +203,7 @@ fn hold_reason(looked: &Looked, request: &CheckedRequest) -> Option<Reason>
     let Some(hold) = &looked.referred else {
         return Some(missing_hold(&request.as_request().message));
     };
-    if !checks::is_open_at(request.as_request().moment, hold) {
+    if !is_open_at(request.as_request().moment, hold) {
         return Some(no_open_hold(hold));
     }
     if amount_in(&request.as_request().message).number() > hold.amount.number() {
@@ -281,7 +282,7 @@ fn reversal_reason(looked: &Looked, request: &CheckedRequest) -> Option<Reason>
         return Some(Reason::OtherAcquirer);
     }
     let remaining = remaining_in(message);
-    if checks::is_final_for(remaining, original.status) {
+    if is_final_for(remaining, original.status) {
         return Some(final_original(original));
     }
     if amount_in(message) != original.amount {
@@ -335,10 +336,10 @@ fn reconciliation_reason(looked: &Looked, request: &CheckedRequest) -> Option<Re
     ensures { let k = known_of looked.now in result ≡ reconciliation_reason k request.now
         (reconciled_day k.today (content_of request.now.message.elements 15)) }
 {
-    if checks::reconciled_day(looked.today, &request.as_request().message).is_none() {
+    if reconciled_day(looked.today, &request.as_request().message).is_none() {
         return Some(Reason::NoSuchDay);
     }
-    if checks::is_in_balance(looked, request) {
+    if is_in_balance(looked, request) {
         None
     } else {
         Some(Reason::OutOfBalance)

@@ -12,9 +12,9 @@ ghost use Rattle.acq_core.specs.Tables.{prior_of};
 
 use crate::decision::Decision;
 use crate::effects::replied;
-use crate::posted::approval_posting;
 use acq_core::{Change, Looked, Output, Posting, Request, Status};
 use acq_message::{MerchantId, Moment, Service, Verdict, answered_reply};
+use acq_rules::approval_posting;
 use std::alloc::{AllocError, Global};
 
 /// What is to be done about an answer.

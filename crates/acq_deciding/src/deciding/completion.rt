@@ -5,7 +5,7 @@ ghost use Rattle.iso_codec.specs.Reading.{spelling};
 ghost use Rattle.acq_message.specs.Services.{is_recordable};
 ghost use Rattle.acq_message.specs.Reply.{coded_reply};
 ghost use Rattle.acq_core.specs.Changes.{completion_row, completion_posting, remains_of_hold};
-ghost use Rattle.acq_core.specs.Decision.{completion, is_open_at};
+ghost use Rattle.acq_core.specs.Decision.{completion};
 ghost use Rattle.acq_core.specs.Looking.{known_of};
 ghost use Rattle.acq_deciding.specs.Meaning.{meaning_of, is_feasible};
 ghost use Rattle.acq_core.specs.Tables.{prior_of};
@@ -13,11 +13,9 @@ ghost use Rattle.acq_core.specs.Tables.{prior_of};
 use super::{is_full, is_other_transaction};
 use crate::decision::Decision;
 use crate::effects::replied_and_recorded;
-use crate::posted::{posting_today, reference_of};
 use acq_core::{Change, Looked, Merchant, Output, Remains, Request, Status};
-use acq_message::{
-    CheckedRequest, MerchantId, Moment, ResponseCode, Service, amount_in, coded_reply,
-};
+use acq_message::{CheckedRequest, MerchantId, ResponseCode, amount_in, coded_reply};
+use acq_rules::{is_open_at, posting_today, reference_of};
 use day_totals::{Day, Leg};
 use std::alloc::{AllocError, Global};
 
@@ -51,20 +49,6 @@ pub(super) fn completion<'a>(
         return Decision::Refuses(request, ResponseCode::LimitExceeded);
     }
     Decision::Completes { request, hold }
-}
-
-/// Whether a request is a hold that is open at a moment.
-pub fn is_open_at(moment: Moment, request: &Request) -> bool
-    ensures { result ≡ is_open_at moment (prior_of request.now).hold_end }
-{
-    match request.hold_end {
-        Some(hold_end) => {
-            request.key.service == Service::Authorization
-                && matches!(request.status, Status::Approved | Status::Lowered)
-                && moment.seconds() <= hold_end
-        }
-        None => false,
-    }
 }
 
 /// What goes out and what changes where a hold is completed.

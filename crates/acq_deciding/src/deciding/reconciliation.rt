@@ -15,11 +15,9 @@ ghost use Rattle.acq_core.specs.Outcome.{is_in_balance, balance_code};
 
 use crate::decision::Decision;
 use crate::effects::replied_and_recorded;
-use crate::reconciled_day::reconciled_day;
 use acq_core::{Change, Looked, Output, Reconciliation, Status};
-use acq_message::{
-    CheckedRequest, MerchantId, ResponseCode, claimed_in, merchant_of, totals_reply,
-};
+use acq_message::{CheckedRequest, MerchantId, ResponseCode, merchant_of, totals_reply};
+use acq_rules::{is_in_balance, reconciled_day};
 use day_totals::Day;
 use std::alloc::{AllocError, Global};
 
@@ -75,15 +73,6 @@ pub(crate) fn reconciled(
         reconciliation,
     };
     Ok((output, Some(change)))
-}
-
-/// Whether the claimed totals are the day's.
-pub fn is_in_balance(looked: &Looked, request: &CheckedRequest) -> bool
-    ensures { result ≡ is_in_balance (known_of looked.now) request.now }
-{
-    looked
-        .totals
-        .agrees(&claimed_in(&request.as_request().message))
 }
 
 /// The code of a reconciliation with totals.

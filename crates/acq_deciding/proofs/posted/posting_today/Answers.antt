@@ -1,5 +1,0 @@
-use Rattle.std.proofs.Common.{rules}
-use Rattle.acq_deciding.proofs.posted.posting_today.Goals as goal
-
-pub returns : goal.returns
-returns c = search rules

@@ -1,5 +1,0 @@
-use Rattle.std.proofs.Common.{rules}
-use Rattle.acq_list_book.proofs.lists.requests.Requests.used.Goals as goal
-
-pub returns : goal.returns
-returns c = search rules

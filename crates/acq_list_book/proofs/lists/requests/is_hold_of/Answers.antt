@@ -1,5 +1,0 @@
-use Rattle.std.proofs.Common.{rules}
-use Rattle.acq_list_book.proofs.lists.requests.is_hold_of.Goals as goal
-
-pub returns-in_default-matches : goal.returns-in_default-matches
-returns-in_default-matches c = search rules
