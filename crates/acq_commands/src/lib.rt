@@ -7,6 +7,7 @@
 mod book_commands;
 mod book_report;
 mod day_reports;
+mod explaining;
 mod holds_options;
 mod input_form;
 mod listening;
@@ -30,6 +31,7 @@ mod widest_opening;
 pub use book_commands::{holds_of, replay_on, report_on};
 pub use book_report::BookReport;
 pub use day_reports::write_reports;
+pub use explaining::explain_on;
 pub use holds_options::HoldsOptions;
 pub use input_form::InputForm;
 pub use listening::{listen_on, listen_together_on};

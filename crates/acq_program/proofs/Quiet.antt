@@ -5,7 +5,7 @@ use Rattle.acq_program.specs.Arguments.{AsksFor}
 use Rattle.acq_program.specs.declared.action.Action.{Action}
 use Rattle.acq_program.specs.declared.action.Action.TheVariants.{Init, Migrate, Once, Listen}
 use Rattle.acq_program.specs.declared.action.Action.TheVariants.{Replay, Report, Holds, Show, Make}
-use Rattle.acq_program.specs.declared.action.Action.TheVariants.{Pending, Status, Tell, Ask}
+use Rattle.acq_program.specs.declared.action.Action.TheVariants.{Pending, Status, Tell, Ask, Explain}
 use Rattle.acq_faults.specs.Faults.{status_of}
 use Rattle.acq_faults.specs.declared.fault.Fault.{Fault}
 use Rattle.acq_faults.specs.declared.fault.Fault.TheVariants as fault
@@ -64,6 +64,8 @@ still_quiet words (Show form) ended told mid after asks same quiet well =
 still_quiet words (Make form) ended told mid after asks same quiet well =
     inl (where_well ended (after ≡ mid) quiet well ∙ same)
 still_quiet words (Status asked) ended told mid after asks same quiet well =
+    inl (where_well ended (after ≡ mid) quiet well ∙ same)
+still_quiet words (Explain path) ended told mid after asks same quiet well =
     inl (where_well ended (after ≡ mid) quiet well ∙ same)
 still_quiet words (Ask asked) ended told mid after asks same quiet well =
     inl (where_well ended (after ≡ mid) quiet well ∙ same)

@@ -29,7 +29,7 @@ use Rattle.acq_program.specs.Program.{program}
 use Rattle.acq_program.specs.declared.action.Action.{Action}
 use Rattle.acq_program.specs.declared.action.Action.TheVariants.{Init, Migrate, Once, Listen}
 use Rattle.acq_program.specs.declared.action.Action.TheVariants.{Replay, Report, Holds, Show, Make}
-use Rattle.acq_program.specs.declared.action.Action.TheVariants.{Pending, Status, Tell, Ask}
+use Rattle.acq_program.specs.declared.action.Action.TheVariants.{Pending, Status, Tell, Ask, Explain}
 use Rattle.acq_faults.specs.declared.day_report.DayReport.{DayReport}
 use Rattle.acq_commands.specs.declared.input_form.InputForm.{InputForm}
 use Rattle.acq_commands.specs.declared.input_form.InputForm.TheVariants as form
@@ -638,6 +638,13 @@ IsStatus path read = read ≡ Ok (Status path)
 abbrev pub AsksStatus : OptionTexts → Result Action OptionName → Type 0
 AsksStatus texts = Then (FileIs texts) IsStatus
 
+-- what `explain` is asked for
+abbrev pub IsExplain : List ℕ → Result Action OptionName → Type 0
+IsExplain path read = read ≡ Ok (Explain path)
+
+abbrev pub AsksExplain : OptionTexts → Result Action OptionName → Type 0
+AsksExplain texts = Then (FileIs texts) IsExplain
+
 abbrev pub AsksShow : OptionTexts → Result Action OptionName → Type 0
 AsksShow texts read = read ≡ Ok (Show (form_of_flag texts.hex))
 
@@ -675,6 +682,7 @@ Asks (Some command) asked =
     ⊎ Names (codes "status") AsksStatus command asked
     ⊎ Names (codes "make") AsksMake command asked
     ⊎ Names (codes "ask") AsksAsk command asked
+    ⊎ Names (codes "explain") AsksExplain command asked
 
 -- nothing is wrong with the words by clap's rules, and they ask for this
 abbrev pub AsksFor : List Text → Result Action OptionName → Type 0

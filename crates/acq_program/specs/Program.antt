@@ -95,6 +95,10 @@ ask =
     (required (codes "port"))) (option (codes "address"))) (option (codes "within")))
     (option (codes "repeat"))
 
+-- `explain --db FILE`
+abbrev pub explain : App
+explain = with_rule (new_app (codes "explain")) (required (codes "db"))
+
 -- `tell [--within SECONDS] PATH`
 abbrev pub tell : App
 tell =
@@ -116,6 +120,7 @@ abbrev pub program : App
 program =
     with_subcommand (with_subcommand (with_subcommand (with_subcommand (with_subcommand
     (with_subcommand (with_subcommand (with_subcommand (with_subcommand (with_subcommand
-    (with_subcommand (with_subcommand (with_subcommand (with_subcommand acqd init.top) migrate.top) once.top) listen.top) replay.top)
+    (with_subcommand (with_subcommand (with_subcommand (with_subcommand (with_subcommand acqd
+    init.top) migrate.top) once.top) listen.top) replay.top)
     (on_a_day (codes "clearing")).top) (on_a_day (codes "report")).top) holds.top) pending.top)
-    show.top) make.top) ask.top) tell.top) status.top
+    show.top) make.top) ask.top) explain.top) tell.top) status.top

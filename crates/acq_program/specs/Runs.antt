@@ -5,7 +5,7 @@ use Rattle.acq_link.specs.Moves.{TakesAll}
 use Rattle.acq_program.specs.declared.action.Action.{Action}
 use Rattle.acq_program.specs.declared.action.Action.TheVariants.{Init, Migrate, Once, Listen}
 use Rattle.acq_program.specs.declared.action.Action.TheVariants.{Replay, Report, Holds, Show, Make}
-use Rattle.acq_program.specs.declared.action.Action.TheVariants.{Pending, Status, Tell, Ask}
+use Rattle.acq_program.specs.declared.action.Action.TheVariants.{Pending, Status, Tell, Ask, Explain}
 use Rattle.acq_program.specs.declared.option_name.OptionName.{OptionName}
 use Rattle.acq_program.specs.Arguments.{AsksFor}
 use Rattle.acq_front.specs.Talk.{Saying, says_nothing}
@@ -104,6 +104,8 @@ Does (Show form) remaining received sent told ended =
 Does (Make form) remaining received sent told ended =
     EndsPlainly (λ plain. RunsMake form received sent plain
     × ReadsWhole remaining received.before received.after plain) ended
+Does (Explain path) remaining received sent told ended =
+    EndsPlainly (λ plain. ReadsWhole remaining received.before received.after plain) ended
 Does (Ask asked) remaining received sent told ended =
     EndsPlainly (λ plain. AsksHost asked received sent plain
     × ReadsWhole remaining received.before received.after plain) ended

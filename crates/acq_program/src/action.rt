@@ -30,6 +30,8 @@ pub enum Action {
     Show(InputForm),
     /// Make the messages that the text of the input says, and write them in this form.
     Make(MadeForm),
+    /// Say what the host would say to the events of the input, over the book in this file, and why.
+    Explain(String),
     /// Send the messages of the input to a host, or one of them again and again.
     Ask(AskOptions),
     /// Send the lines of the input to a host that takes control connections.

@@ -4,6 +4,7 @@ ghost use Rattle.std.specs.Prelude.{◌≡◌, List, [], IfErr, IfOk, codes, map
 ghost use Rattle.std.specs.Prelude.{string_bytes};
 ghost use Rattle.clap.specs.Words.{HasMatchesOf, Text, fault_of, first_value, found_of};
 ghost use Rattle.acq_program.specs.Program.{program};
+ghost use Rattle.acq_program.specs.Arguments.{AsksExplain};
 ghost use Rattle.acq_program.specs.Arguments.{AsksAsk, AsksHolds, AsksInit, AsksListen};
 ghost use Rattle.acq_program.specs.Arguments.{AsksMigrate, AsksOnce};
 ghost use Rattle.acq_program.specs.Arguments.{AddressIs, AsksPending, DayIfThere, EndpointIs};
@@ -115,6 +116,7 @@ fn talks_asked_in(alloc: Global, matches: &ArgMatches) -> Result<Action, UsageFa
     match matches.subcommand() {
         Some(("make", options)) => make_of(options),
         Some(("ask", options)) => ask_of(options),
+        Some(("explain", options)) => explain_of(alloc, options),
         Some(("tell", options)) => tell_of(alloc, options),
         Some(("status", options)) => status_of(alloc, options),
         _ => Err(Error::from(AllocError).into()),
@@ -290,6 +292,14 @@ fn status_of(alloc: Global, options: &ArgMatches) -> Result<Action, UsageFault>
 {
     let path = file_option(alloc, options)?;
     Ok(Action::Status(path))
+}
+
+/// What `explain` is asked for.
+fn explain_of(alloc: Global, options: &ArgMatches) -> Result<Action, UsageFault>
+    ensures { Reads (AsksExplain (found_texts (found_of options.now))) result }
+{
+    let path = file_option(alloc, options)?;
+    Ok(Action::Explain(path))
 }
 
 /// The path of the book's file.

@@ -285,6 +285,7 @@ fault is one line on standard error:
 
 Example:
   acqd make < examples/sale.txt > sale.frame";
+
 pub(crate) const ABOUT_ASK: &str =
     "Sends the messages on standard input to a host, and shows them and its replies";
 
@@ -314,6 +315,29 @@ out. A fault is one line on standard error, and what was written before it stand
 Examples:
   acqd ask --port 8583 < examples/sale.frame
   acqd ask --port 8583 --repeat 1000 < examples/sale.frame";
+
+pub(crate) const ABOUT_EXPLAIN: &str =
+    "Says what the host would say to the events on standard input now, and why";
+
+pub(crate) const MORE_OF_EXPLAIN: &str = "\
+The input is that of `acqd replay`: event lines, all of which are read first. Each is looked at by
+itself, over the book as it stands; nothing in the book is changed. For a reply with another code
+than 00 a line has the code, the reason in a word, and the reason in words; below it, behind four
+blanks, stand the element that decided and what it was compared with. Of a repeat the code is the
+one that was kept. Of all else the line is what `acqd replay` would write.
+
+The status is 0 where all is well, 1 for a fault, 2 for wrong usage, 3 where memory ran out or the
+file failed. A fault is one line on standard error:
+  acqd: 1 Memory
+  acqd: 2 Store                    the file can't be opened or read
+  acqd: 40 NotABook                the file holds no book
+  acqd: 41 OtherVersion VERSION    the file holds a book of this other version
+  acqd: 53 Read                    a read failed
+  acqd: 54 Write BYTES             a write failed after so many bytes of an event's text
+  acqd: 62 BadLine RECORD          this record of the input is out of its form
+
+Example:
+  acqd make --event 1714555800 < examples/sale.txt | acqd explain --db book.db";
 
 pub(crate) const ABOUT_TELL: &str =
     "Sends the lines on standard input to a host, and writes its answers";

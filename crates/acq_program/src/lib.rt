@@ -11,6 +11,7 @@ mod ask_options;
 mod asking;
 mod bounds;
 mod command_text;
+mod explaining;
 mod help;
 mod machine;
 mod option_name;

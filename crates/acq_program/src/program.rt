@@ -277,11 +277,14 @@ const TELL: [Parameter<'static>; 2] = [
     },
 ];
 
+/// What `explain` takes.
+const EXPLAIN: [Parameter<'static>; 1] = [BOOK];
+
 /// What `status` takes.
 const STATUS: [Parameter<'static>; 1] = [BOOK];
 
 /// The commands, in the order in which the help has them.
-const COMMANDS: [CommandText<'static>; 14] = [
+const COMMANDS: [CommandText<'static>; 15] = [
     CommandText {
         name: "init",
         about: help::ABOUT_INIT,
@@ -353,6 +356,12 @@ const COMMANDS: [CommandText<'static>; 14] = [
         about: help::ABOUT_ASK,
         more: help::MORE_OF_ASK,
         parameters: &ASK,
+    },
+    CommandText {
+        name: "explain",
+        about: help::ABOUT_EXPLAIN,
+        more: help::MORE_OF_EXPLAIN,
+        parameters: &EXPLAIN,
     },
     CommandText {
         name: "tell",

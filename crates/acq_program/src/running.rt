@@ -11,6 +11,7 @@ ghost use Rattle.acq_program.specs.Runs.{ReadsWhole, Runs, ServesAsked, ServesIn
 ghost use Rattle.acq_program.specs.Runs.{plain_end, status_in};
 
 use crate::asking::ask_host;
+use crate::explaining::explain;
 use crate::machine::Machine;
 use crate::pending::answer_pending;
 use crate::status::tell_status;
@@ -125,6 +126,7 @@ fn run<B: Book + Drop, M: Machine<B> + Drop, C: Clock, S: Source, K: Sink, F: Si
         Action::Show(form) => plainly(show(alloc, form, input, output)),
         Action::Make(form) => plainly(make(alloc, &form, input, output)),
         Action::Status(path) => plainly(tell_status(alloc, machine, &path, output)),
+        Action::Explain(path) => plainly(explain(alloc, machine, &path, input, output)),
         Action::Ask(asked) => plainly(ask_host(alloc, machine, &asked, input, output)),
         Action::Tell(asked) => tell_host(alloc, machine, &asked, input, output, faults),
     }

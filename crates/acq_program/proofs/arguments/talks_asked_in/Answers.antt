@@ -1,7 +1,7 @@
 -- command by command: what the options were read as is what the arguments ask for
 use Rattle.std.proofs.Common.{◌∙◌, Some, codes, ap, sym, refl, inl, inr}
 use Rattle.clap.specs.Words.{found_of, rows_of}
-use Rattle.acq_program.specs.Arguments.{AsksAsk, AsksMake, AsksStatus, AsksTell}
+use Rattle.acq_program.specs.Arguments.{AsksAsk, AsksExplain, AsksMake, AsksStatus, AsksTell}
 use Rattle.acq_program.specs.Program.{program}
 use Rattle.acq_program.proofs.AskedCommands.{named, reads_command}
 use Rattle.acq_program.proofs.arguments.talks_asked_in.Goals as goal
@@ -35,7 +35,7 @@ returns-in-Some-make-default c = λ words well matches.
     let it = c.in-Some-make-default in
     let found = found_of it.options.now in
     reads_command (codes "make") AsksMake
-    (λ command asked h. inr (inr (inr (inr (inr (inr (inr (inr (inr (inr (inr (inr h))))))))))))
+    (λ command asked h. inr (inr (inr (inr (inr (inr (inr (inr (inr (inr (inr (inr (inl h)))))))))))))
     words found
     well
     (named c.args.matches.now program words (codes "make") (rows_of found) refl
@@ -48,9 +48,21 @@ returns-in-Some-ask-default c = λ words well matches.
     let it = c.in-Some-ask-default in
     let found = found_of it.options.now in
     reads_command (codes "ask") AsksAsk
-    (λ command asked h. inr (inr (inr (inr (inr (inr (inr (inr (inr (inr (inr (inr h))))))))))))
+    (λ command asked h. inr (inr (inr (inr (inr (inr (inr (inr (inr (inr (inr (inr (inr (inl h))))))))))))))
     words found well
     (named c.args.matches.now program words (codes "ask") (rows_of found) refl
     matches (ap Some (sym it.is-ask) ∙ it.ensures.name)
     it.ensures.rows)
     c.ask_of.result c.ask_of.ensures
+
+pub returns-in-Some-explain-default : goal.returns-in-Some-explain-default
+returns-in-Some-explain-default c = λ words well matches.
+    let it = c.in-Some-explain-default in
+    let found = found_of it.options.now in
+    reads_command (codes "explain") AsksExplain
+    (λ command asked h. inr (inr (inr (inr (inr (inr (inr (inr (inr (inr (inr (inr (inr (inr h))))))))))))))
+    words found well
+    (named c.args.matches.now program words (codes "explain") (rows_of found) refl
+    matches (ap Some (sym it.is-explain) ∙ it.ensures.name)
+    it.ensures.rows)
+    c.explain_of.result c.explain_of.ensures
