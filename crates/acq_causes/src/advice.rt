@@ -43,10 +43,12 @@ const PATH: &str = "a path that no other option names";
 
 /// What is wrong with the value of an option.
 pub(crate) fn of_value(option: &str) -> &'static str {
-    match VALUES.iter().find(|(name, _)| *name == option) {
-        Some((_, words)) => *words,
-        None => PATH,
+    for (name, words) in VALUES.iter() {
+        if *name == option {
+            return *words;
+        }
     }
+    PATH
 }
 
 /// What a fault of a connection says that a host serves, by its number.

@@ -34,13 +34,16 @@ impl<'a> Asked<'a> {
 
     /// The value of an option, which stands behind it or behind its `=`.
     pub fn value(self, option: &str) -> Option<&'a str> {
-        for (place, word) in self.words.iter().enumerate() {
-            if word.as_str() == option {
-                return Some(self.words.get(place.checked_add(1)?)?.as_str());
+        let mut is_value = false;
+        for word in self.words.iter() {
+            if is_value {
+                return Some(word.as_str());
             }
-            let behind = word.as_str().strip_prefix(option);
-            if let Some(value) = behind.and_then(|rest| rest.strip_prefix('=')) {
-                return Some(value);
+            if let Some(rest) = word.as_str().strip_prefix(option) {
+                if rest.starts_with('=') {
+                    return rest.strip_prefix('=');
+                }
+                is_value = rest.is_empty();
             }
         }
         None

@@ -52,7 +52,7 @@ impl<'a, W: Write> Explained<'a, W> {
 
     fn took(&mut self, byte: u8) {
         if byte == b'\n' {
-            self.end_line();
+            self.ended = self.explain_line();
             self.line.clear();
         } else if self.line.len() < LONGEST_LINE {
             // A line that memory runs out for isn't explained.
@@ -60,26 +60,23 @@ impl<'a, W: Write> Explained<'a, W> {
         }
     }
 
-    fn end_line(&mut self) {
-        self.ended = None;
+    /// Explains the line in hand, and returns the fault that it tells, if that ended the program.
+    fn explain_line(&mut self) -> Option<Ended> {
         if !self.is_read && self.signs.log.get().is_none() {
             // Nobody is told, so nothing is looked at.
-            return;
+            return None;
         }
-        let Some(told) = Told::read(self.line.as_slice()) else {
-            return;
-        };
-        let Some(cause) = cause_of(self.rt, self.asked, self.signs, told) else {
-            return;
-        };
+        let told = Told::read(self.line.as_slice())?;
+        let cause = cause_of(self.rt, self.asked, self.signs, told)?;
         if self.is_read {
             // The line before it went out, which is what counts.
             let _ = note(&mut self.faults, &cause);
         }
-        if let Told::Fault(number, name) = told {
-            if !is_of_connection(number, self.signs) {
-                self.ended = ended(self.rt, number, name, cause);
+        match told {
+            Told::Fault(number, name) if !is_of_connection(number, self.signs) => {
+                ended(self.rt, number, name, cause)
             }
+            _ => None,
         }
     }
 }

@@ -24,48 +24,56 @@ pub(crate) fn cause_of(
 ) -> Option<Cause> {
     match told {
         Told::BadValue(option) => Some(Cause::about(rt.alloc(), option, of_value(option))),
-        Told::Fault(number, _) if is_of_connection(number, signs) => {
-            Some(Cause::plain(of_connection(number)?))
-        }
-        Told::Fault(53, _) if signs.lack.get().is_some() => {
-            Some(cause_of_lack(rt, asked, signs.lack.get()?))
-        }
-        Told::Fault(number, _) if asked.command() == "tell" => {
-            Some(Cause::plain(of_host(number)?))
-        }
-        Told::Fault(number, _) if asked.command() == "ask" => {
-            Some(Cause::plain(of_asking(number)?))
-        }
-        Told::Fault(number, _) => match of_fault(number) {
-            Some(words) => Some(Cause::plain(words)),
-            None => cause_in_file(rt, asked, number),
+        Told::Fault(number, _) if is_of_connection(number, signs) => plain(of_connection(number)),
+        Told::Fault(53, _) => match signs.lack.get() {
+            Some(lack) => Some(cause_of_lack(rt, asked, lack)),
+            None => cause_of_number(rt, asked, 53),
         },
+        Told::Fault(number, _) => cause_of_number(rt, asked, number),
     }
+}
+
+/// What the fault of a number is about.
+fn cause_of_number(rt: &HostRuntime, asked: Asked<'_>, number: u64) -> Option<Cause> {
+    match asked.command() {
+        "tell" => return plain(of_host(number)),
+        "ask" => return plain(of_asking(number)),
+        _ => {}
+    }
+    match of_fault(number) {
+        Some(words) => Some(Cause::plain(words)),
+        None => cause_in_file(rt, asked, number),
+    }
+}
+
+/// A cause in these words, if there are any.
+fn plain(words: Option<&'static str>) -> Option<Cause> {
+    Some(Cause::plain(words?))
 }
 
 /// What a fault is about that has a file: the book's, or that of issuers' answers.
 fn cause_in_file(rt: &HostRuntime, asked: Asked<'_>, number: u64) -> Option<Cause> {
-    let book = asked.value("--db");
-    let (about, words) = match number {
-        2 => (book, why_unusable(rt, book?)),
-        23 => (asked.value("--issuers"), RECORDS),
-        40 if asked.command() == "init" => (book, "something stands there, and stays as it is"),
-        40 => (book, "no book stands there; `acqd init` makes one"),
-        41 => (
-            book,
-            "`acqd migrate --db FILE` makes a book of version 1 one of version 2",
-        ),
-        60 => (
-            book,
-            "`acqd status --db FILE` says which day it is; a cutover ends it",
-        ),
-        61 => (
-            book,
-            "`acqd pending --db FILE` lists them, as lines for `acqd replay`",
-        ),
+    let option = if number == 23 { "--issuers" } else { "--db" };
+    let file = asked.value(option);
+    let words = match number {
+        2 => why_unusable(rt, file?),
+        23 => RECORDS,
+        40 => why_no_book(asked),
+        41 => "`acqd migrate --db FILE` makes a book of version 1 one of version 2",
+        60 => "`acqd status --db FILE` says which day it is; a cutover ends it",
+        61 => "`acqd pending --db FILE` lists them, as lines for `acqd replay`",
         _ => return None,
     };
-    Some(Cause::of_value(rt.alloc(), about, words))
+    Some(Cause::of_value(rt.alloc(), file, words))
+}
+
+/// Why there is no book, or none can be made.
+fn why_no_book(asked: Asked<'_>) -> &'static str {
+    if asked.command() == "init" {
+        "something stands there, and stays as it is"
+    } else {
+        "no book stands there; `acqd init` makes one"
+    }
 }
 
 /// What is in the way of what a command can't have.

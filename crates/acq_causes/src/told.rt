@@ -15,11 +15,19 @@ impl<'a> Told<'a> {
     /// What a line says, if it is one of a fault.
     pub(crate) fn read(line: &'a [u8]) -> Option<Told<'a>> {
         let said = str::from_utf8(line).ok()?.strip_prefix("acqd: ")?;
-        if let Some(option) = said.strip_prefix("bad value ") {
-            return Some(Told::BadValue(option));
+        match said.strip_prefix("bad value ") {
+            Some(option) => Some(Told::BadValue(option)),
+            None => fault_in(said),
         }
-        let (number, rest) = said.split_once(' ')?;
-        let name = rest.split(' ').next()?;
-        Some(Told::Fault(number.parse().ok()?, name))
     }
+}
+
+/// The fault of a line that begins with a number and a name.
+fn fault_in(said: &str) -> Option<Told<'_>> {
+    let (number, rest) = said.split_once(' ')?;
+    let name = match rest.split_once(' ') {
+        Some((name, _)) => name,
+        None => rest,
+    };
+    Some(Told::Fault(number.parse().ok()?, name))
 }

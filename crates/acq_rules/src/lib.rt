@@ -1,8 +1,8 @@
 //! The single rules that a decision on an event is made of: what is looked up for it, which hold is
 //! open, what may be reversed, what is a repeat, when a day is in balance, and what is posted.
 //!
-//! Each is a definition of `acq_core`, which the function of its name meets. `acq_deciding` puts them
-//! together.
+//! Each is a definition of `acq_core`, which the function of its name meets; `acq_deciding` puts
+//! them together.
 #![tactic(auto)]
 
 mod balances;

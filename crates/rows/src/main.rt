@@ -1,9 +1,9 @@
 //! `rows`: says what the crates read a text as, for rows that the built program can't be asked.
 //!
-//! Its input is a byte, the number of a kind, and the text, whose bytes may be any. Its output is what
-//! is said of the text, in which a character below 256 is the byte of this number. Where there is no
-//! such kind, or the text is not in its form, it says nothing and fails. `tests/rows/inside.py` asks
-//! it, and has the names of the kinds.
+//! Its input is a byte, the number of a kind, and the text, whose bytes may be any. Its output is
+//! what is said of the text, in which a character below 256 is the byte of this number. Where there
+//! is no such kind, or the text is not in its form, it says nothing and fails. What asks it is
+//! `tests/rows/inside.py`, which has the names of the kinds.
 #![tactic(auto)]
 
 mod answers;
