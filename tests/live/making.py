@@ -62,10 +62,10 @@ def whole(text, messages):
     """What was shown of these messages, with what is hidden written whole."""
     shown = iter(messages)
     for line in text.splitlines():
+        number = line[:5].strip()
         if line[:4].isdigit():
             _, elements = next(shown)
-        number = line[:5].strip()
-        if number.isdigit() and int(number) in HIDDEN:
+        elif number.isdigit() and int(number) in HIDDEN:
             line = line[:41] + elements[int(number)]
         yield line
 
@@ -89,11 +89,11 @@ def made(what, program, lines, frames, words=()):
 def messages(program):
     chance = random.Random(62)
     given = [message_of(chance) for _ in range(size(300))]
-    texts = [spelled(*it) for it in given]
+    texts = [spelled(*it).encode("latin-1") for it in given]
     frames = b"".join(frame(it) for it in texts)
     shown = ran(program, ["show"], frames).stdout.decode("latin-1")
     made("what was shown, made again", program, whole(shown, given), frames)
-    hexes = [it.encode("latin-1").hex().upper() for it in texts]
+    hexes = [it.hex().upper() for it in texts]
     made("the same in hexadecimal", program, whole(shown, given), "".join(
         f"{it}\n" for it in hexes).encode(), ["--hex"])
     made("the same as event lines", program, whole(shown, given), "".join(
@@ -102,7 +102,7 @@ def messages(program):
     plain = [it for it in given if not any(text.startswith(" ") for text in it[1].values())]
     made(
         "elements by numbers", program, by_numbers(chance, plain),
-        b"".join(frame(spelled(*it)) for it in plain),
+        b"".join(frame(spelled(*it).encode("latin-1")) for it in plain),
     )
 
 
