@@ -15,7 +15,7 @@ const VALUES: [(&str, &str); 18] = [
     ("--port", "1 to 65535, as in --port 8583"),
     (
         "--address",
-        "an IPv4 address of this machine, as in --address 127.0.0.1",
+        "an IPv4 address, as in --address 127.0.0.1",
     ),
     ("--count", "1 to 999999, as in --count 1"),
     ("--together", "1 to 1024, as in --together 64"),
