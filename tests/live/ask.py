@@ -1,13 +1,12 @@
 #!/usr/bin/env python3
 """ask.py PROGRAM [TIMES]: `acqd ask` over real sockets, as who builds a terminal has it.
 
-Sales, a repeat, a refusal and an echo test go to `acqd listen`, and each is shown with its reply, as
-`acqd show` shows both; a message that the host doesn't serve is told as one without a reply, and
-the next is sent all the same. What one message that is sent TIMES times comes to is what the host's
-clearing file has, trace number by trace number. Then hosts of this script take the connection: one
-that isn't there, that is silent, that is late, that answers rubbish, ends inside a reply or breaks
-the connection, and one that answers a byte at a time and two replies at once. No card number is
-shown whole."""
+Sales, a repeat, a refusal and an echo test go to `acqd listen`, and each is shown with its reply,
+as `acqd show` shows both; a message that the host doesn't serve is told as one without a reply, and
+the next is sent all the same. A sale that is sent TIMES times is so many sales in the host's
+clearing file, trace number by trace number. One host isn't there; others, of this script, are
+silent, late, answer rubbish, end inside a reply, break the connection, or answer a byte at a time
+and two replies at once. No card number is shown whole."""
 import re
 import socket
 import struct
@@ -18,6 +17,7 @@ import time
 from terminal import (
     CARD, DECLINED, ECHO, PATIENCE, REPLY, Book, Host, Wrong, approved, cleared_sales, echo, echoed,
     frame, free_port, main, output, request, run, sale, size, split_frames, wanted,
+    when,
 )
 
 TIMES = size(200)
@@ -34,6 +34,12 @@ def ask(program, port, given, *words):
         if card in shown.decode() + faults:
             raise Wrong("a card number is shown whole")
     return status, shown.decode(), faults
+
+
+def serving(host):
+    """The port of a host, once it listens."""
+    when("nobody listens", lambda: host.is_at("127.0.0.1"))
+    return host.port
 
 
 def shown(program, *frames):
@@ -84,7 +90,7 @@ def sales(program):
         given = sale(1, 1) + sale(1, 1) + sale(1, **declined) + ECHO
         want = shown(program, sale(1, 1), approved(1, 1), sale(1, 1), approved(1, 1),
                      sale(1, **declined), approved(1, **refused), ECHO, REPLY)
-        wanted("what is shown of sales", ask(program, host.port, given), (0, want, ""))
+        wanted("what is shown of sales", ask(program, serving(host), given), (0, want, ""))
         wanted("what is shown of nothing", ask(program, host.port, b""), (0, "", ""))
         host.end()
         wanted("the day's sales", book.cleared(), cleared_sales([(1, 1, 1)]))
@@ -92,6 +98,7 @@ def sales(program):
 
 def another_address(program):
     with Book(program) as book, Host(book, "--address", "127.0.0.7") as host:
+        when("nobody listens", lambda: host.is_at("127.0.0.7"))
         asked = ask(program, host.port, ECHO, "--address", "127.0.0.7")
         wanted("an echo at another address", asked, (0, shown(program, ECHO, REPLY), ""))
         wanted("a host at another address", ask(program, host.port, ECHO),
@@ -104,7 +111,7 @@ def unserved(program):
     with Book(program) as book, Host(book, "--together", "8") as host:
         given = echo(1) + other + echo(2)
         want = shown(program, echo(1), echoed(1), other, "no reply within 1 s", echo(2), echoed(2))
-        asked = ask(program, host.port, given, "--within", "1")
+        asked = ask(program, serving(host), given, "--within", "1")
         wanted("what is shown where one has no reply", asked, (1, want, SILENT))
 
 
@@ -113,7 +120,7 @@ def refused(program):
     with Book(program) as book, Host(book, "--together", "8") as host:
         given = ECHO + frame("08") + ECHO
         want = shown(program, ECHO, REPLY, frame("08"), "no reply: the host ended the connection")
-        wanted("a frame that is no message", ask(program, host.port, given),
+        wanted("a frame that is no message", ask(program, serving(host), given),
                (1, want, "acqd: 51 Ended\n"))
         want = shown(program, ECHO, REPLY)
         wanted("an input that is cut", ask(program, host.port, ECHO + ECHO[:9]),
@@ -123,9 +130,13 @@ def refused(program):
 
 
 def away(program):
+    """A host that isn't there is called for some seconds, and one that comes meanwhile is asked."""
     for words in ([], ["--repeat", "3"]):
         asked = ask(program, free_port(), ECHO, *words)
         wanted("a host that is away", asked, (1, "", "acqd: 53 Read\n"))
+    with Book(program) as book, Host(book) as host:
+        asked = ask(program, host.port, ECHO)
+        wanted("a host that was just started", asked, (0, shown(program, ECHO, REPLY), ""))
 
 
 def silent(program):
@@ -221,7 +232,7 @@ def repeat(program):
     """One sale TIMES times is so many sales, whose trace numbers count up."""
     with Book(program) as book, Host(book) as host:
         words = ["--within", "5", "--repeat"]
-        status, text, faults = ask(program, host.port, sale(1, 1), *words, str(TIMES))
+        status, text, faults = ask(program, serving(host), sale(1, 1), *words, str(TIMES))
         wanted("how it ended", (status, faults), (0, ""))
         want = [f"replies {TIMES} of {TIMES}", f"code 00 {TIMES}"]
         wanted("how many replies came", counts(text, True), want)
@@ -289,8 +300,8 @@ def an_end_between(program):
 
 
 TRIES = [
-    sales, another_address, unserved, refused, away, silent, late, in_pieces, rubbish, repeat, codes,
-    no_trace, an_end_between,
+    sales, another_address, unserved, refused, away, silent, late, in_pieces, rubbish, repeat,
+    codes, no_trace, an_end_between,
 ]
 
 if __name__ == "__main__":

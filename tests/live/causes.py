@@ -66,7 +66,7 @@ def values(program):
         (["holds", "--db", "b", "--merchant", "MERCHANT0000001", "--at", "0"], "--at", moment),
         (["listen", "--db", "b", "--port", "0"], "--port", "1 to 65535, as in --port 8583"),
         ([*begun, "--address", "localhost"], "--address",
-         "an IPv4 address of this machine, as in --address 127.0.0.1"),
+         "an IPv4 address, as in --address 127.0.0.1"),
         ([*begun, "--count", "0"], "--count", "1 to 999999, as in --count 1"),
         ([*begun, "--together", "1025"], "--together", "1 to 1024, as in --together 64"),
         ([*begun, "--idle", "soon"], "--idle", seconds),

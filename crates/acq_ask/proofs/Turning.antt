@@ -113,7 +113,7 @@ module _ (within : ℕ) (message held old mid new sent came after : List ℕ) (o
 
   whole_turn : TakesWhole within message held
       (talk_of sent came (shown_by within message outcome)) after outcome
-  whole_turn = record { sent = so.whole; came = so.reply; shown = refl }
+  whole_turn = record { sent = so.whole; came = so.reply; lacks = so.lacks; shown = refl }
 
   ended_turn : (result : Result Bool AskFault) → EndsTurn outcome result →
       TakesTurn within message held (talk_of sent came (shown_by within message outcome)) after

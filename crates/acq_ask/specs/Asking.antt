@@ -4,7 +4,8 @@ use Rattle.std.specs.List.{flat_map, list_all, list_any}
 use Rattle.acq_link.specs.Frames.{Frames, FramesThen, has_bad_length, is_partial}
 use Rattle.acq_link.specs.FramesAt.{BeginsWithFrame, MayBecomeFrame}
 use Rattle.acq_link.specs.declared.input_fault.InputFault as input
-use Rattle.acq_ask.specs.Turns.{Outcome, came_by, goes_on, lacks_reply, sent_by, shown_by}
+use Rattle.acq_ask.specs.Turns.{LacksBy, Outcome, came_by, goes_on, lacks_reply, sent_by}
+use Rattle.acq_ask.specs.Turns.{shown_by}
 use Rattle.acq_ask.specs.declared.ask_fault.AskFault as fault
 use Rattle.acq_ask.specs.declared.ask_fault.AskFault.{AskFault}
 
@@ -79,11 +80,12 @@ abbrev pub IsFront : List ℕ → List ℕ → Type 0
 IsFront front whole = (behind : List ℕ) × (whole ≡ front ++ behind)
 
 -- The turn of a message: its frame went out, its reply came, of which some bytes were held before,
--- and both were shown; or no reply came in time, and that was shown.
+-- and both were shown; or no reply could be had of what came, and why was shown.
 pub record TakesWhole (within : ℕ) (message held : List ℕ) (turn : Talk) (after : List ℕ)
     (outcome : Outcome) : Type 0 where
   pub sent : turn.sent ≡ sent_by message outcome
   pub came : held ++ turn.came ≡ came_by outcome ++ after
+  pub lacks : LacksBy (held ++ turn.came) outcome
   pub shown : turn.shown ≡ shown_by within message outcome
 
 -- A fault stopped it between: no more went out than its frame, and no more was shown than it and

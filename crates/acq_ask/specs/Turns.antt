@@ -76,6 +76,11 @@ Lacks bytes Ended = MayBecomeFrame bytes
 Lacks bytes BadLength = has_bad_length bytes ≡ true
 Lacks bytes other = Unit {0}
 
+-- the same of what came of a message
+abbrev pub LacksBy : List ℕ → Outcome → Type 0
+LacksBy bytes (Ok reply) = Unit {0}
+LacksBy bytes (Err cause) = Lacks bytes cause
+
 -- what waiting for a reply gives, and what of the bytes is left
 abbrev pub Comes : List ℕ → (after : List ℕ) → Outcome → Type 0
 Comes bytes after (Ok reply) = BeginsWithFrame bytes reply after

@@ -17,10 +17,7 @@ const VALUES: [(&str, &str); 18] = [
         "seconds since 1970-01-01 UTC, 946684800 to 4102444799, as in --event 1714555800",
     ),
     ("--port", "1 to 65535, as in --port 8583"),
-    (
-        "--address",
-        "an IPv4 address of this machine, as in --address 127.0.0.1",
-    ),
+    ("--address", "an IPv4 address, as in --address 127.0.0.1"),
     ("--count", "1 to 999999, as in --count 1"),
     ("--together", "1 to 1024, as in --together 64"),
     ("--idle", SECONDS),
