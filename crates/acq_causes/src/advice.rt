@@ -1,7 +1,7 @@
 //! What may be said of a fault without a look at the machine.
 
 /// What an option's value has to be.
-const VALUES: [(&str, &str); 18] = [
+const VALUES: [(&str, &str); 19] = [
     ("--db", "a path"),
     ("--limit", "1 to 999999, as in --limit 999999"),
     ("--day", DAY),
