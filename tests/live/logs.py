@@ -59,6 +59,14 @@ def refusals():
     ]
 
 
+# Why they are refused, in the same order. Of the requests only the reconciliation has a reason, and
+# of repeats none has.
+WHYS = [None] * 5 + ["out-of-balance"] + [None] * 8 + [
+    "terminal", "currency", "amount", "other-request", "missing-49", "expired-card",
+    "no-reference", "no-original", "missing-74", "network-code",
+]
+
+
 def whole_cards(text):
     """Whatever of a card number stands whole in a text, as a number of its length or with digits
     about it."""
@@ -66,7 +74,8 @@ def whole_cards(text):
 
 
 def masks(program, mode):
-    """Each type of reply, a repeat's and a refusal's too, has its card masked in the log."""
+    """Each type of reply, a repeat's and a refusal's too, has its card masked in the log, and a
+    refusal says why."""
     with Book(program) as book, Host(book, *mode, control=True, log=True) as host:
         with host.terminal() as terminal:
             for repeated in (False, True):
@@ -85,6 +94,7 @@ def masks(program, mode):
         kinds = [it[1] for it in requests()] * 2 + [it[0] for it in refusals()]
         cards = [(it["type"], it.get("card")) for it in lines]
         wanted("cards in the log", cards, [(it, MASK) for it in kinds])
+        wanted("reasons in the log", [it.get("why") for it in lines], WHYS)
         wanted("cards in the log", whole_cards(host.log()), [])
         wanted("cards in figures and faults", whole_cards(figures + str(host.faults())), [])
 

@@ -35,6 +35,7 @@ SCRIPTS = [
     ("logs masks", [
         ("reply 5", "the reply to 0420"),
         ("log card=411111[*]{6}1111", "cards in the log"),
+        ("log currency", "reasons in the log"),
     ]),
     ("logs a_restart times", [("log time=20", "log")]),
     ("figures connections", [("reply 1", "an echo"), ("lost 2", "a sale")]),
