@@ -114,7 +114,7 @@ def help_at_once(program):
     """Where nothing is built each help is the program's own, and rt isn't called."""
     with Clone(program) as clone:
         asked = [["--help"], ["-h"], ["help"], ["--version"], ["-V"], ["help", "listen"]]
-        kinds = [*ALL_KINDS, "once", "replay", "show"]
+        kinds = [*ALL_KINDS, "once", "replay", "show", "make"]
         asked += [[it, word] for it in kinds for word in ("--help", "-h")]
         asked += [["tell", "host.control", "--help"], ["replay", "--db", "book.db", "-h"]]
         for words in asked:
