@@ -90,7 +90,8 @@ def sales(program):
         given = sale(1, 1) + sale(1, 1) + sale(1, **declined) + ECHO
         want = shown(program, sale(1, 1), approved(1, 1), sale(1, 1), approved(1, 1),
                      sale(1, **declined), approved(1, **refused), ECHO, REPLY)
-        wanted("what is shown of sales", ask(program, serving(host), given), (0, want, ""))
+        asked = ask(program, serving(host), given, "--within", "5")
+        wanted("what is shown of sales", asked, (0, want, ""))
         wanted("what is shown of nothing", ask(program, host.port, b""), (0, "", ""))
         host.end()
         wanted("the day's sales", book.cleared(), cleared_sales([(1, 1, 1)]))

@@ -50,7 +50,6 @@ SCRIPTS = [
     ]),
     ("examples", [
         ("reply 1", "what the block at line"),
-        ("lost 1", "what the block at line"),
         ("text clearing", "what the block at line"),
     ]),
     ("help", [("text help listen", "the text listen.txt"), ("text show --help", "show --help")]),
