@@ -111,8 +111,8 @@ def unserved(program):
     other = request("0600", 1, 7, {})
     with Book(program) as book, Host(book, "--together", "8") as host:
         given = echo(1) + other + echo(2)
-        want = shown(program, echo(1), echoed(1), other, "no reply within 1 s", echo(2), echoed(2))
-        asked = ask(program, serving(host), given, "--within", "1")
+        want = shown(program, echo(1), echoed(1), other, "no reply within 4 s", echo(2), echoed(2))
+        asked = ask(program, serving(host), given, "--within", "4")
         wanted("what is shown where one has no reply", asked, (1, want, SILENT))
 
 

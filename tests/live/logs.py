@@ -62,7 +62,7 @@ def refusals():
 # Why they are refused, in the same order. Of the requests only the reconciliation has a reason, and
 # of repeats none has.
 WHYS = [None] * 5 + ["out-of-balance"] + [None] * 8 + [
-    "terminal", "currency", "amount", "other-request", "missing-49", "expired-card",
+    "merchant", "currency", "amount", "other-request", "missing-49", "expired-card",
     "no-reference", "no-original", "missing-74", "network-code",
 ]
 
