@@ -638,10 +638,11 @@ IsStatus path read = read ≡ Ok (Status path)
 abbrev pub AsksStatus : OptionTexts → Result Action OptionName → Type 0
 AsksStatus texts = Then (FileIs texts) IsStatus
 
--- what `explain` is asked for
-abbrev pub IsExplain : List ℕ → Result Action OptionName → Type 0
+-- what the host would say over the book in this file
+abbrev pub IsExplain : String Global → Result Action OptionName → Type 0
 IsExplain path read = read ≡ Ok (Explain path)
 
+-- what `explain` is asked for
 abbrev pub AsksExplain : OptionTexts → Result Action OptionName → Type 0
 AsksExplain texts = Then (FileIs texts) IsExplain
 
