@@ -104,9 +104,10 @@ def replies_to(terminal):
         f"processing=000000 {shop} trace=000001 reference=000000000001 code=00 amount=1000"
         f" card=411111******1111 {times}",
         'processing=200000 merchant="\\"SHOES\\", BAGS 1" terminal="TERM 2  " trace=000002 code=03'
-        f" amount=0 {times}",
-        f"processing=000000 {shop} trace=000003 code=14 amount=1000 {times}",
-        f"processing=000000 {shop} trace=000004 reference=000000000002 code=91 amount=1000 {times}",
+        f" amount=0 why=merchant {times}",
+        f"processing=000000 {shop} trace=000003 code=14 amount=1000 why=card {times}",
+        f"processing=000000 {shop} trace=000004 reference=000000000002 code=91 amount=1000"
+        f" why=no-answer {times}",
     ]
     return [f"{TIME}event=reply connection=1 {peer(terminal)} type=0210 {it}" for it in said]
 
