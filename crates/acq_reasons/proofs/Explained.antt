@@ -52,13 +52,6 @@ pub record Explains (k : Known) (r : RequestMessage) (why : Option Reason) (d : 
   pub gives : Gives why (code_made k d)
   pub says : IfSome why (SaysTrue k r)
 
--- what isn't awaited and is final can't be reversed
-closed : (reversible awaited less : Bool) → awaited ≡ false →
-    not reversible || (awaited && less) ≡ true → reversible ≡ false
-closed false awaited less answered final = refl
-closed true true less answered final = absurd cc
-closed true false less answered final = absurd cc
-
 approved_code : (s : Service) (o : Option ℕ) →
     code_of (approved_original s o) ≡ code.NoActionTaken
 approved_code Authorization (Some hold_end) = refl
@@ -173,38 +166,39 @@ module _ (k : Known) (r : RequestMessage) where
 
   -- ---- a completion
 
-  by_kept_hold : (p : Prior) → k.referred ≡ Some p → is_open_at r.moment p.hold_end ≡ false →
-      (reply : IsoMessage) → p.reply_state ≡ Kept reply → (o : Option ℕ) → p.hold_end ≡ o →
-      Explains k r (Some (answered_hold o reply)) (Refuses r code.RecordNotFound)
-  by_kept_hold p there shut reply kept (Some hold_end) is =
-      refuses reason.HoldExpired code.RecordNotFound refl (p, there, (hold_end, is, shut))
-  by_kept_hold p there shut reply kept None none =
-      elim (cases_Bool (is_approval reply)) [
-        | inl approves ↦ rw approves
-            (refuses reason.HoldEnded code.RecordNotFound refl
-            (p, there, (none, (reply, kept, approves))))
-        | inr declines ↦ rw declines
-            (refuses reason.HoldDeclined code.RecordNotFound refl
-            (p, there, (none, (reply, kept, declines))))
-      ]
+  module _ (p : Prior) (there : k.referred ≡ Some p) where
+    by_kept_hold : is_hold p.key.service ≡ true → is_open_at r.moment p.hold_end ≡ false →
+        (reply : IsoMessage) → p.reply_state ≡ Kept reply → (o : Option ℕ) → p.hold_end ≡ o →
+        Explains k r (Some (answered_hold o reply)) (Refuses r code.RecordNotFound)
+    by_kept_hold hold shut reply kept (Some hold_end) is =
+        refuses reason.HoldExpired code.RecordNotFound refl (p, there, (hold, (hold_end, is, shut)))
+    by_kept_hold hold shut reply kept None none =
+        elim (cases_Bool (is_approval reply)) [
+          | inl approves ↦ rw approves
+              (refuses reason.HoldEnded code.RecordNotFound refl
+              (p, there, (hold, (none, (reply, kept, approves)))))
+          | inr declines ↦ rw declines
+              (refuses reason.HoldDeclined code.RecordNotFound refl
+              (p, there, (hold, (none, (reply, kept, declines)))))
+        ]
 
-  by_shut_hold : (p : Prior) → k.referred ≡ Some p → is_open_at r.moment p.hold_end ≡ false →
-      (s : ReplyState) → p.reply_state ≡ s →
-      Explains k r (Some (shut_hold p s)) (Refuses r code.RecordNotFound)
-  by_shut_hold p there shut (Kept reply) is = by_kept_hold p there shut reply is p.hold_end refl
-  by_shut_hold p there shut (Awaited draft) is =
-      refuses reason.HoldWaits code.RecordNotFound refl (p, there, (draft, is))
-  by_shut_hold p there shut Late is =
-      refuses reason.HoldReversedEarly code.RecordNotFound refl (p, there, is)
+    by_shut_hold : is_hold p.key.service ≡ true → is_open_at r.moment p.hold_end ≡ false →
+        (s : ReplyState) → p.reply_state ≡ s →
+        Explains k r (Some (shut_hold p s)) (Refuses r code.RecordNotFound)
+    by_shut_hold hold shut (Kept reply) is = by_kept_hold hold shut reply is p.hold_end refl
+    by_shut_hold hold shut (Awaited draft) is =
+        refuses reason.HoldWaits code.RecordNotFound refl (p, there, (hold, (draft, is)))
+    by_shut_hold hold shut Late is =
+        refuses reason.HoldReversedEarly code.RecordNotFound refl (p, there, (hold, is))
 
-  no_hold : (p : Prior) → k.referred ≡ Some p → is_open_at r.moment p.hold_end ≡ false →
-      Explains k r (Some (no_open_hold r (Some p))) (Refuses r code.RecordNotFound)
-  no_hold p there shut =
-      elim (cases_Bool (is_hold p.key.service)) [
-        | inl hold ↦ rw hold (by_shut_hold p there shut p.reply_state refl)
-        | inr sale ↦ rw sale
-            (refuses reason.NotAHold code.RecordNotFound refl (p, there, sale))
-      ]
+    no_hold : is_open_at r.moment p.hold_end ≡ false →
+        Explains k r (Some (no_open_hold r (Some p))) (Refuses r code.RecordNotFound)
+    no_hold shut =
+        elim (cases_Bool (is_hold p.key.service)) [
+          | inl hold ↦ rw hold (by_shut_hold hold shut p.reply_state refl)
+          | inr sale ↦ rw sale
+              (refuses reason.NotAHold code.RecordNotFound refl (p, there, sale))
+        ]
 
   no_reference : k.referred ≡ None →
       Explains k r (Some (no_open_hold r None)) (Refuses r code.RecordNotFound)
@@ -226,7 +220,7 @@ module _ (k : Known) (r : RequestMessage) where
       elim (cases_Bool (is_open_at r.moment p.hold_end)) [
         | inl opens ↦ rw opens
             (check (nat_lt p.amount (amount_in r.message)) reason.AboveHold code.InvalidAmount _ _
-            refl (λ h. (p, there, h)) (full (Completes r p) (inr refl)))
+            refl (λ h. (p, there, (opens, h))) (full (Completes r p) (inr refl)))
         | inr shut ↦ rw shut
             (subst (λ (o : Option Prior). Explains k r (Some (no_open_hold r o))
             (Refuses r code.RecordNotFound)) (sym there) (no_hold p there shut))
@@ -242,53 +236,54 @@ module _ (k : Known) (r : RequestMessage) where
   -- ---- a reversal
 
   module _ (p : Prior) (there : k.original ≡ Some p) where
-    approved_says : (reply : IsoMessage) → p.reply_state ≡ Kept reply → is_approval reply ≡ true →
-        p.is_reversible ≡ false → (s : Service) (o : Option ℕ) → p.hold_end ≡ o →
-        SaysTrue k r (approved_original s o)
-    approved_says reply kept approves closed Authorization (Some hold_end) is =
-        (p, there, (hold_end, is, (reply, kept, approves)))
-    approved_says reply kept approves closed Authorization None is =
-        (p, there, (is, (reply, kept, approves)))
-    approved_says reply kept approves closed Financial o is = (p, there, closed)
-    approved_says reply kept approves closed Completion o is = (p, there, closed)
-    approved_says reply kept approves closed Reversal o is = (p, there, closed)
-    approved_says reply kept approves closed ReversalAdvice o is = (p, there, closed)
-    approved_says reply kept approves closed Reconciliation o is = (p, there, closed)
-    approved_says reply kept approves closed NetworkManagement o is = (p, there, closed)
+    module _ (final : is_final_for (remaining_in r.message) p ≡ true) where
+      approved_says : KeptCode true p → (s : Service) → p.key.service ≡ s →
+          (o : Option ℕ) → p.hold_end ≡ o → SaysTrue k r (approved_original s o)
+      approved_says approves Authorization same (Some hold_end) is =
+          (p, there, (final, (ap is_hold same, hold_end, is, approves)))
+      approved_says approves Authorization same None is =
+          (p, there, (final, (ap is_hold same, is, approves)))
+      approved_says approves Financial same o is = (p, there, (final, inr approves))
+      approved_says approves Completion same o is = (p, there, (final, inr approves))
+      approved_says approves Reversal same o is = (p, there, (final, inr approves))
+      approved_says approves ReversalAdvice same o is = (p, there, (final, inr approves))
+      approved_says approves Reconciliation same o is = (p, there, (final, inr approves))
+      approved_says approves NetworkManagement same o is = (p, there, (final, inr approves))
 
-    unapproved_says : KeptCode false p → (s : Service) (o : Option ℕ) → p.reference ≡ o →
-        SaysTrue k r (unapproved_original s o)
-    unapproved_says declines Completion o is = (p, there, declines)
-    unapproved_says declines Authorization None is = (p, there, declines)
-    unapproved_says declines Authorization (Some n) is = (p, there, (n, is, declines))
-    unapproved_says declines Financial None is = (p, there, declines)
-    unapproved_says declines Financial (Some n) is = (p, there, (n, is, declines))
-    unapproved_says declines Reversal None is = (p, there, declines)
-    unapproved_says declines Reversal (Some n) is = (p, there, (n, is, declines))
-    unapproved_says declines ReversalAdvice None is = (p, there, declines)
-    unapproved_says declines ReversalAdvice (Some n) is = (p, there, (n, is, declines))
-    unapproved_says declines Reconciliation None is = (p, there, declines)
-    unapproved_says declines Reconciliation (Some n) is = (p, there, (n, is, declines))
-    unapproved_says declines NetworkManagement None is = (p, there, declines)
-    unapproved_says declines NetworkManagement (Some n) is = (p, there, (n, is, declines))
+      refused : (p.key.service ≡ Completion) ⊎ (p.reference ≡ None) → KeptCode false p →
+          SaysTrue k r reason.OriginalRefused
+      refused by declines = (p, there, (final, (by, declines)))
 
-    closed_by : is_final_for (remaining_in r.message) p ≡ true →
-        is_awaited p.reply_state ≡ false → p.is_reversible ≡ false
-    closed_by final answered =
-        closed p.is_reversible (is_awaited p.reply_state) _ answered final
+      declined : (reference : ℕ) → p.reference ≡ Some reference → KeptCode false p →
+          SaysTrue k r reason.OriginalDeclined
+      declined reference is declines = (p, there, (final, (reference, is, declines)))
 
-    final_says : is_final_for (remaining_in r.message) p ≡ true → (s : ReplyState) →
-        p.reply_state ≡ s → SaysTrue k r (final_original p s)
-    final_says final (Kept reply) is =
-        elim (cases_Bool (is_approval reply)) [
-          | inl approves ↦ rw approves
-              (approved_says reply is approves (closed_by final (ap is_awaited is)) p.key.service
-              p.hold_end refl)
-          | inr declines ↦ rw declines
-              (unapproved_says (reply, is, declines) p.key.service p.reference refl)
-        ]
-    final_says final (Awaited draft) is = (p, there, (draft, is))
-    final_says final Late is = (p, there, closed_by final (ap is_awaited is))
+      unapproved_says : KeptCode false p → (s : Service) → p.key.service ≡ s →
+          (o : Option ℕ) → p.reference ≡ o → SaysTrue k r (unapproved_original s o)
+      unapproved_says declines Completion same o is = refused (inl same) declines
+      unapproved_says declines Authorization same None is = refused (inr is) declines
+      unapproved_says declines Authorization same (Some n) is = declined n is declines
+      unapproved_says declines Financial same None is = refused (inr is) declines
+      unapproved_says declines Financial same (Some n) is = declined n is declines
+      unapproved_says declines Reversal same None is = refused (inr is) declines
+      unapproved_says declines Reversal same (Some n) is = declined n is declines
+      unapproved_says declines ReversalAdvice same None is = refused (inr is) declines
+      unapproved_says declines ReversalAdvice same (Some n) is = declined n is declines
+      unapproved_says declines Reconciliation same None is = refused (inr is) declines
+      unapproved_says declines Reconciliation same (Some n) is = declined n is declines
+      unapproved_says declines NetworkManagement same None is = refused (inr is) declines
+      unapproved_says declines NetworkManagement same (Some n) is = declined n is declines
+
+      final_says : (s : ReplyState) → p.reply_state ≡ s → SaysTrue k r (final_original p s)
+      final_says (Kept reply) is =
+          elim (cases_Bool (is_approval reply)) [
+            | inl approves ↦ rw approves
+                (approved_says (reply, is, approves) p.key.service refl p.hold_end refl)
+            | inr declines ↦ rw declines
+                (unapproved_says (reply, is, declines) p.key.service refl p.reference refl)
+          ]
+      final_says (Awaited draft) is = (p, there, (final, (draft, is)))
+      final_says Late is = (p, there, (final, inl is))
 
   by_original : (o : Option Prior) → k.original ≡ o →
       Explains k r (reversal_reason_of k r (original_of r.message o))

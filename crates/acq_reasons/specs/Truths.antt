@@ -1,11 +1,12 @@
 -- What each reason says of a request, over what is known when it came.
-use Rattle.std.specs.Prelude.{◌≡◌, ℕ, ◌==◌, nat_lt, Bool, true, false, Option, Some, None}
+use Rattle.std.specs.Prelude.{◌≡◌, ◌⊎◌, ℕ, ◌==◌, nat_lt, Bool, true, false, Option, Some, None}
 use Rattle.std.specs.List.{list_all, Contains}
 use Rattle.std.specs.Char.{is_ascii_digit}
 use Rattle.std.specs.Str.{bytes_eq}
 use Rattle.iso_codec.specs.Message.{IsoMessage, content_of}
 use Rattle.card_no.specs.CardNumbers.{is_valid_card}
 use Rattle.acq_message.specs.declared.request_message.RequestMessage.{RequestMessage}
+use Rattle.acq_message.specs.declared.service.Service.TheVariants.{Completion}
 use Rattle.acq_message.specs.declared.verdict.Verdict.{Verdict}
 use Rattle.acq_message.specs.declared.verdict.Verdict.TheVariants as verdict
 use Rattle.acq_message.specs.Services.{needed, needed_card}
@@ -19,7 +20,7 @@ use Rattle.acq_core.specs.declared.arrival.Arrival.TheVariants as arrival
 use Rattle.acq_core.specs.declared.reply_state.ReplyState.TheVariants.{Kept, Awaited, Late}
 use Rattle.acq_core.specs.Known.{Known, Prior, reconciled_day}
 use Rattle.acq_core.specs.Decision.{is_expired, is_full, is_open_at, fits_acquirer}
-use Rattle.acq_core.specs.Decision.{is_network_code}
+use Rattle.acq_core.specs.Decision.{is_final_for, is_network_code}
 use Rattle.acq_core.specs.Outcome.{is_in_balance}
 use Rattle.acq_reasons.specs.declared.reason.Reason.{Reason}
 use Rattle.acq_reasons.specs.declared.reason.Reason.TheVariants as reason
@@ -34,6 +35,19 @@ ThereIs {T} found P = (x : T) × (found ≡ Some x) × P x
 abbrev pub KeptCode : Bool → Prior → Type 0
 KeptCode approves p =
     (reply : IsoMessage) × (p.reply_state ≡ Kept reply) × (is_approval reply ≡ approves)
+
+-- it waits for its issuer
+abbrev pub Waits : Prior → Type 0
+Waits p = (draft : IsoMessage) × (p.reply_state ≡ Awaited draft)
+
+-- what element 37 refers to is an authorization, and of it this holds
+abbrev pub ThereIsHold : Known → (Prior → Type 0) → Type 0
+ThereIsHold k P = ThereIs k.referred (λ p. (is_hold p.key.service ≡ true) × P p)
+
+-- the original can't be reversed as it is asked, and of it this holds
+abbrev pub ThereIsFinal : Known → RequestMessage → (Prior → Type 0) → Type 0
+ThereIsFinal k r P =
+    ThereIs k.original (λ p. (is_final_for (remaining_in r.message) p ≡ true) × P p)
 
 -- what a reason says of a request
 abbrev pub SaysTrue : Known → RequestMessage → Reason → Type 0
@@ -56,7 +70,9 @@ SaysTrue k r reason.UnknownNetworkCode =
     is_network_code (content_of r.message.elements 70) ≡ false
 SaysTrue k r reason.AmountOutOfRange = is_accepted_amount (amount_in r.message) ≡ false
 SaysTrue k r reason.AboveHold =
-    ThereIs k.referred (λ hold. nat_lt hold.amount (amount_in r.message) ≡ true)
+    ThereIs k.referred (λ hold.
+    (is_open_at r.moment hold.hold_end ≡ true)
+    × (nat_lt hold.amount (amount_in r.message) ≡ true))
 SaysTrue k r reason.OtherAmount =
     ThereIs k.original (λ p. (amount_in r.message == p.amount) ≡ false)
 SaysTrue k r reason.NothingTaken =
@@ -68,31 +84,32 @@ SaysTrue k r reason.DayFull = is_full k ≡ true
 SaysTrue k r reason.BadReference = list_all is_ascii_digit (text_at r.message 37) ≡ false
 SaysTrue k r reason.NoSuchReference = k.referred ≡ None
 SaysTrue k r reason.NotAHold = ThereIs k.referred (λ p. is_hold p.key.service ≡ false)
-SaysTrue k r reason.HoldWaits =
-    ThereIs k.referred (λ p. (draft : IsoMessage) × (p.reply_state ≡ Awaited draft))
-SaysTrue k r reason.HoldReversedEarly = ThereIs k.referred (λ p. p.reply_state ≡ Late)
-SaysTrue k r reason.HoldDeclined =
-    ThereIs k.referred (λ p. (p.hold_end ≡ None) × KeptCode false p)
+SaysTrue k r reason.HoldWaits = ThereIsHold k Waits
+SaysTrue k r reason.HoldReversedEarly = ThereIsHold k (λ p. p.reply_state ≡ Late)
+SaysTrue k r reason.HoldDeclined = ThereIsHold k (λ p. (p.hold_end ≡ None) × KeptCode false p)
 SaysTrue k r reason.HoldExpired =
-    ThereIs k.referred (λ p.
+    ThereIsHold k (λ p.
     (hold_end : ℕ) × (p.hold_end ≡ Some hold_end) × (is_open_at r.moment p.hold_end ≡ false))
-SaysTrue k r reason.HoldEnded =
-    ThereIs k.referred (λ p. (p.hold_end ≡ None) × KeptCode true p)
+SaysTrue k r reason.HoldEnded = ThereIsHold k (λ p. (p.hold_end ≡ None) × KeptCode true p)
 SaysTrue k r reason.NoOriginal = k.original ≡ None
 SaysTrue k r reason.OtherAcquirer =
     ThereIs k.original (λ p. fits_acquirer (original_acquirer r.message) p.acquirer ≡ false)
-SaysTrue k r reason.OriginalWaits =
-    ThereIs k.original (λ p. (draft : IsoMessage) × (p.reply_state ≡ Awaited draft))
-SaysTrue k r reason.OriginalRefused = ThereIs k.original (KeptCode false)
+SaysTrue k r reason.OriginalWaits = ThereIsFinal k r Waits
+SaysTrue k r reason.OriginalRefused =
+    ThereIsFinal k r (λ p.
+    ((p.key.service ≡ Completion) ⊎ (p.reference ≡ None)) × KeptCode false p)
 SaysTrue k r reason.OriginalDeclined =
-    ThereIs k.original (λ p.
+    ThereIsFinal k r (λ p.
     (reference : ℕ) × (p.reference ≡ Some reference) × KeptCode false p)
 SaysTrue k r reason.OriginalEnded =
-    ThereIs k.original (λ p. (p.hold_end ≡ None) × KeptCode true p)
+    ThereIsFinal k r (λ p.
+    (is_hold p.key.service ≡ true) × (p.hold_end ≡ None) × KeptCode true p)
 SaysTrue k r reason.OriginalLowered =
-    ThereIs k.original (λ p. (hold_end : ℕ) × (p.hold_end ≡ Some hold_end) × KeptCode true p)
+    ThereIsFinal k r (λ p.
+    (is_hold p.key.service ≡ true)
+    × (hold_end : ℕ) × (p.hold_end ≡ Some hold_end) × KeptCode true p)
 SaysTrue k r reason.OriginalReversed =
-    ThereIs k.original (λ p. p.is_reversible ≡ false)
+    ThereIsFinal k r (λ p. (p.reply_state ≡ Late) ⊎ KeptCode true p)
 SaysTrue k r reason.NoSuchDay =
     reconciled_day k.today (content_of r.message.elements 15) ≡ None
 SaysTrue k r reason.OutOfBalance = is_in_balance k r ≡ false
