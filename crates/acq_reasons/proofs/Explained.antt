@@ -27,7 +27,7 @@ use Rattle.acq_core.specs.declared.reply_state.ReplyState.TheVariants.{Kept, Awa
 use Rattle.acq_core.specs.Known.{Known, Prior, reconciled_day}
 use Rattle.acq_core.specs.Decision.{Decision, Replies, Refuses, Admits, Completes, Reverses}
 use Rattle.acq_core.specs.Decision.{is_full, is_expired, is_open_at, open_hold, fits_acquirer}
-use Rattle.acq_core.specs.Decision.{original_of, is_final_for, is_awaited, is_network_code}
+use Rattle.acq_core.specs.Decision.{original_of, is_final_for, is_network_code}
 use Rattle.acq_core.specs.Decision.{admission, admission_in, completion, completion_of}
 use Rattle.acq_core.specs.Decision.{reversal_of, reconciliation_of, network_response}
 use Rattle.acq_core.specs.Decision.{decision_by, repeat_of, decision_of_key}
