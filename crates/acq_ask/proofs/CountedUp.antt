@@ -19,6 +19,7 @@ use Rattle.acq_ask.specs.declared.ask_fault.AskFault.{AskFault}
 use Rattle.acq_ask.specs.declared.ask_fault.AskFault.TheVariants as fault
 use Rattle.acq_ask.specs.declared.no_reply.NoReply.TheVariants as no_reply
 use Rattle.acq_ask.specs.declared.reply_code.ReplyCode.{ReplyCode}
+use Rattle.acq_ask.proofs.Turning.{talk_of}
 
 -- ---- one of them
 
@@ -120,9 +121,6 @@ pub one_more : (replies : List (List ℕ)) (reply : List ℕ) (n : ℕ) → leng
 one_more replies reply n is = omega (arith, is, length-append replies (reply ∷ []))
 
 -- ---- the whole of it
-
-abbrev pub talk_of : (sent came shown : List ℕ) → Talk
-talk_of sent came shown = record { sent = sent; came = came; shown = shown }
 
 -- no message could be had of the input
 pub none_unread : (bytes : List ℕ) (cause : input.InputFault) → SpellsNone bytes (of_input cause)

@@ -3,6 +3,7 @@ use Rattle.std.proofs.Common.{◌≡◌, ℕ, Bool, true, false, List, [], ◌�
 use Rattle.std.proofs.Common.{refl, sym, ap, ◌∙◌, Ok, Err, inl, inr, append_assoc, append-nil}
 use Rattle.std.specs.Prelude.{◌||◌, Result}
 use Rattle.std.specs.List.{flat_map, list_any}
+use Rattle.std.proofs.Math.Bool.{or-false}
 use Rattle.std.proofs.lemmas.Grind.{flat_map-append}
 use Rattle.std.proofs.lemmas.List.{map-append, take-append-drop}
 use Rattle.std.proofs.lemmas.List.Folds.{list_all-append, list_any-append}
@@ -170,16 +171,12 @@ frames_more input rest message later turns outcome taken next =
     rw (messages_more turns message outcome)
     (taken_more input rest message later (messages turns) taken next.whole next.fits)
 
-or_false : (b : Bool) → b ≡ (b || false)
-or_false true = refl
-or_false false = refl
-
 pub silent_more : (turns : List Turn) (message : List ℕ) (outcome : Outcome) (silent now : Bool) →
     silent ≡ list_any is_unanswered turns → now ≡ lacks_reply outcome →
     (silent || now) ≡ list_any is_unanswered (turns ++ turn_of message outcome ∷ [])
 silent_more turns message outcome silent now e h =
     ap (λ (b : Bool). b || now) e ∙ ap (λ (b : Bool). list_any is_unanswered turns || b)
-    (h ∙ or_false (lacks_reply outcome))
+    (h ∙ sym (or-false (lacks_reply outcome)))
     ∙ sym (list_any-append is_unanswered turns (turn_of message outcome ∷ []))
 
 -- ---- the input couldn't be read

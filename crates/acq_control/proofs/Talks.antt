@@ -4,6 +4,7 @@ use Rattle.std.proofs.Common.{refl, sym, ap, ◌∙◌, Ok, inl, inr, None, true
 use Rattle.std.proofs.Common.{append-nil, arith, length-append}
 use Rattle.std.specs.Prelude.{◌||◌, ◌⊎◌, Option, Result}
 use Rattle.std.specs.List.{flat_map, list_any}
+use Rattle.std.proofs.Math.Bool.{or-false}
 use Rattle.std.proofs.lemmas.Grind.{flat_map-append}
 use Rattle.std.proofs.lemmas.List.Concat.{flat_map-cons}
 use Rattle.std.proofs.lemmas.List.Folds.{list_any-append}
@@ -171,16 +172,12 @@ answered_more talk turn lines answers rest line after answer so a = record {
 
 -- ---- what the result says
 
-or_false : (b : Bool) → b ≡ (b || false)
-or_false true = refl
-or_false false = refl
-
 pub refused_more : (answers : List Answer) (answer : Answer) (refused now : Bool) →
     refused ≡ list_any is_fault answers → now ≡ is_fault answer →
     (refused || now) ≡ list_any is_fault (answers ++ answer ∷ [])
 refused_more answers answer refused now e h =
     ap (λ (b : Bool). b || now) e ∙ ap (λ (b : Bool). list_any is_fault answers || b)
-    (h ∙ or_false (is_fault answer))
+    (h ∙ sym (or-false (is_fault answer)))
     ∙ sym (list_any-append is_fault answers (answer ∷ []))
 
 -- ---- before the first line

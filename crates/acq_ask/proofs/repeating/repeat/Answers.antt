@@ -3,7 +3,8 @@ use Rattle.std.proofs.lemmas.Result.{err_from_is_err_and}
 use Rattle.acq_ask.specs.Asking.{of_input}
 use Rattle.acq_ask.specs.Codes.{code_of, counts_text}
 use Rattle.acq_ask.specs.declared.reply_code.ReplyCode.{ReplyCode}
-use Rattle.acq_ask.proofs.CountedUp.{none_unread, nothing_sent, shown_part, shown_whole, talk_of}
+use Rattle.acq_ask.proofs.CountedUp.{none_unread, nothing_sent, shown_part, shown_whole}
+use Rattle.acq_ask.proofs.Turning.{talk_of}
 use Rattle.acq_ask.proofs.CountedUp.{text_cut}
 use Rattle.acq_ask.proofs.repeating.repeat.Goals as goal
 
