@@ -13,7 +13,7 @@ else
     work=$(mktemp -d)
     trap 'rm -rf "$work"' EXIT
 fi
-crates='acq_link iso_codec card_no day_totals acq_message acq_core acq_rules acq_deciding
+crates='acq_link iso_codec card_no day_totals acq_message acq_core acq_rules acq_deciding acq_reasons
 acq_soundness acq_book acq_lists acq_list_book acq_reports acq_clearing acq_host'
 mkdir -p "$work/crates/host_bench/src"
 : >"$work/crates.txt"
