@@ -2,9 +2,9 @@
 use Rattle.std.proofs.Common.{◌≡◌, ℕ, List, ◌∷◌, ◌++◌, length, Some, sym, ap, ◌∙◌, subst}
 use Rattle.std.specs.Prelude.{map}
 use Rattle.std.specs.List.{slice_get}
-use Rattle.acq_message.specs.declared.request_message.RequestMessage.{RequestMessage}
 use Rattle.acq_core.specs.declared.event.Event.{Event}
 use Rattle.acq_core.specs.declared.output.Output.{Output}
+use Rattle.acq_core.specs.declared.arrival.Arrival.{Arrival}
 use Rattle.acq_core.specs.declared.arrival.Arrival.TheVariants.{Requested}
 use Rattle.acq_core.specs.Arrivals.{arrival_of, merchant_named}
 use Rattle.acq_core.specs.Outcome.{outcome, output_of}
@@ -35,15 +35,13 @@ module _ (opening : Opening) (past : List Event) where
   abbrev book : Tables
   book = book_after opening past
 
-  -- a merchant's request gets what its own history gives
-  said_alone : (further before later : List Event) (e : Event) (m : List ℕ) (r : RequestMessage) →
-      further ≡ before ++ e ∷ later → arrival_of e ≡ Requested r →
-      merchant_named (Requested r) ≡ Some m →
+  -- what comes of a merchant's own gets what the merchant's history gives
+  pub said_alone : (further before later : List Event) (e : Event) (m : List ℕ) (a : Arrival) →
+      further ≡ before ++ e ∷ later → arrival_of e ≡ a → merchant_named a ≡ Some m →
       slice_get (outputs book further) (length before)
       ≡ Some (output_of (Some m)
-      (outcome (known_by opening (history_of opening (Some m) (past ++ before)) (Requested r))
-      (Requested r)))
-  said_alone further before later e m r split came named =
+      (outcome (known_by opening (history_of opening (Some m) (past ++ before)) a) a))
+  said_alone further before later e m a split came named =
       let t = book_after opening (past ++ before) in
       let h = history_of opening (Some m) (past ++ before) in
       let then : tables_after book before ≡ book_after opening (past ++ before) =
@@ -53,9 +51,7 @@ module _ (opening : Opening) (past : List Event) where
       ∙ ap (λ o. Some o)
       ((λ i. step_output (then i) (came i))
       ∙ (λ i. output_of (named i)
-      (outcome (known_in_mine (from_new opening m (past ++ before))
-      (Requested r) named i)
-      (Requested r)))))
+      (outcome (known_in_mine (from_new opening m (past ++ before)) a named i) a))))
 
   gets_balance : (further : List Event) → AreBalanced opening past further (outputs book further)
   gets_balance further before later e m r day split came named is =
@@ -63,7 +59,7 @@ module _ (opening : Opening) (past : List Event) where
       record {
         balanced = balance;
         is_said =
-            said_alone further before later e m r split came named
+            said_alone further before later e m (Requested r) split came named
             ∙ ap (λ o. Some (output_of (Some m) o)) balance.replied;
       }
 

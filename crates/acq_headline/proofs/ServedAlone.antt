@@ -8,7 +8,6 @@ use Rattle.acq_front.specs.declared.front_fault.FrontFault.TheVariants.{Write}
 use Rattle.acq_serving.specs.Serving.{Connection, LeavesOff, Serves, events_of}
 use Rattle.acq_front.specs.Stops.{Left}
 use Rattle.acq_front.specs.Talk.{Saying}
-use Rattle.acq_headline.specs.Headline.{IsAlone}
 use Rattle.acq_headline.specs.ServedAlone.{TookAllAlone, TookSomeAlone, ServesAlone}
 use Rattle.acq_headline.proofs.PartiesAlone.{is_alone}
 

@@ -2,6 +2,7 @@
 
 ghost use Rattle.std.specs.Prelude.{ℕ, List, Result};
 ghost use Rattle.acq_core.specs.declared.event.Event.{Event};
+ghost use Rattle.acq_core.specs.Events.{AreEvents};
 ghost use Rattle.acq_core.specs.Pasts.{HasPast};
 ghost use Rattle.acq_core.specs.Tables.{Tables, outputs, tables_after};
 ghost use Rattle.acq_front.specs.declared.front_fault.FrontFault.{FrontFault};
@@ -13,6 +14,9 @@ ghost use Rattle.acq_history.specs.Isolation.{IsSameInTwoRuns};
 ghost use Rattle.acq_history.specs.QuietRepeats.{RepeatsAreQuiet};
 ghost use Rattle.acq_headline.specs.Headline.{IsAlone, KeptItsPostings};
 ghost use Rattle.acq_headline.specs.Clearing.{KeptItsClearing};
+ghost use Rattle.acq_headline.specs.ClearedAsTold.{IsClearedAsTold};
+ghost use Rattle.acq_headline.specs.OnlyWhatMay.{AcceptsOnlyWhatMay};
+ghost use Rattle.acq_headline.specs.WithinHolds.{CapturesWithinHolds};
 ghost use Rattle.acq_headline.specs.ServedAlone.{ServesAlone};
 
 use acq_book::Book;
@@ -38,6 +42,17 @@ pub fn postings_are_kept()
 pub fn clearing_is_kept()
     ensures { (t : Tables) (events : List Event) → HasPast t → HasPast (tables_after t events)
         → KeptItsClearing t (tables_after t events) }
+{}
+
+/// Of whatever events the tables of a book are led on by: what was told is what clears, only what
+/// may be was asked about, completed or reversed, and no more was captured than was held.
+pub fn told_is_kept()
+    ensures cleared { (t : Tables) (events : List Event) → AreEvents events
+        → IsClearedAsTold t events (outputs t events) (tables_after t events) }
+    ensures accepted { (t : Tables) (events : List Event) → AreEvents events
+        → AcceptsOnlyWhatMay t events (outputs t events) }
+    ensures captured { (t : Tables) (events : List Event) → AreEvents events
+        → CapturesWithinHolds t events (outputs t events) (tables_after t events) }
 {}
 
 /// A connection that is served as `serve` promises, by an issuer that may say this, gave each

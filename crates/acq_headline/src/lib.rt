@@ -12,6 +12,6 @@ mod running;
 
 pub use laws::{
     clearing_is_kept, connections_are_alone, merchants_are_alone, postings_are_kept,
-    repeats_are_quiet, runs_are_alone, same_in_two_runs,
+    repeats_are_quiet, runs_are_alone, same_in_two_runs, told_is_kept,
 };
 pub use running::run;

@@ -28,7 +28,8 @@ use Rattle.acq_core.specs.Decision.{decision_by, transactions, is_other_transact
 use Rattle.acq_core.specs.Decision.{is_expired, open_hold, original_of, admission}
 use Rattle.acq_core.specs.Decision.{admission_in, completion_of, reversal_of}
 use Rattle.acq_core.specs.Decision.{is_final_for, leaves_a_part, is_awaited}
-use Rattle.acq_core.specs.Outcome.{outcome_of}
+use Rattle.acq_message.specs.Reply.{coded_reply, referring_reply}
+use Rattle.acq_core.specs.Outcome.{Replied, outcome, outcome_of}
 use Rattle.acq_core.specs.Tables.{Opening}
 use Rattle.acq_soundness.specs.Requests.{is_admissible, is_reversal}
 use Rattle.acq_history.specs.Entries.{Entry}
@@ -150,9 +151,12 @@ admits m opening es r merchant range may =
 
 -- ---- completions
 
-pub accepts_completions : (m : List ℕ) → statement.AcceptsCompletions m
-accepts_completions m opening es r merchant may =
-    let h = history_of opening (Some m) es in
+-- on any history
+pub completion_accepted : (opening : Opening) (h : List Entry) (r : RequestMessage)
+    (merchant : Merchant) → MayComplete opening h r merchant →
+    outcome (known_by opening h (Requested r)) (Requested r)
+    ≡ Replied code.Approved (coded_reply (day_after opening.first_day h) r code.Approved)
+completion_accepted opening h r merchant may =
     let k = known opening h r merchant may.request Completion in
     let p = prior may.hold in
     let other = in_currency r merchant Completion may.service
@@ -170,6 +174,10 @@ accepts_completions m opening es r merchant may =
     ∙ (ap (λ b. completion_of k r (cond b (Some p) None)) may.opens
     ∙ (λ i. cond (small i) (Refuses r code.InvalidAmount)
     (cond (not (room i)) (Refuses r code.LimitExceeded) (Completes r p))))))
+
+pub accepts_completions : (m : List ℕ) → statement.AcceptsCompletions m
+accepts_completions m opening es r merchant may =
+    completion_accepted opening (history_of opening (Some m) es) r merchant may
 
 -- ---- reversals
 
@@ -222,8 +230,16 @@ module _ (opening : Opening) (h : List Entry) (r : RequestMessage) (merchant : M
       (ap not (has_room opening h r merchant may.request))
   decides_reversal s is fits = absurd (cc)
 
-pub accepts_reversals : (m : List ℕ) → statement.AcceptsReversals m
-accepts_reversals m opening es r merchant original may =
-    let h = history_of opening (Some m) es in
+-- on any history
+pub reversal_accepted : (opening : Opening) (h : List Entry) (r : RequestMessage)
+    (merchant : Merchant) (original : Found) → MayReverse opening h r merchant original →
+    outcome (known_by opening h (Requested r)) (Requested r)
+    ≡ Replied code.Approved
+    (referring_reply (day_after opening.first_day h) r (prior original).reference code.Approved)
+reversal_accepted opening h r merchant original may =
     ap (outcome_of (known_by opening h (Requested r)))
     (decides_reversal opening h r merchant original may r.service refl may.service)
+
+pub accepts_reversals : (m : List ℕ) → statement.AcceptsReversals m
+accepts_reversals m opening es r merchant original may =
+    reversal_accepted opening (history_of opening (Some m) es) r merchant original may

@@ -1,10 +1,8 @@
 -- A reconciliation is balanced by the totals of its day.
 use Rattle.std.proofs.Common.{◌≡◌, ℕ, List, [], ◌∷◌, ◌++◌, Option, Some, None, Bool, true, false}
 use Rattle.std.proofs.Common.{cond, ◌↔◌, refl, sym, ap, ◌∙◌, rules}
-use Rattle.std.specs.Prelude.{map, not, ◌==◌, nat_le, option_map, codes}
-use Rattle.std.specs.List.{list_all}
+use Rattle.std.specs.Prelude.{map, option_map, codes}
 use Rattle.std.specs.Str.{bytes_eq}
-use Rattle.std.proofs.lemmas.Bool.{and_parts}
 use Rattle.iso_codec.specs.Message.{content_of, with_content}
 use Rattle.day_totals.specs.Totals.{DayTotals, Agrees, agrees_with, totals_of, net_of, net_text_of}
 use Rattle.day_totals.specs.declared.claimed.Claimed.{Claimed}
@@ -28,66 +26,10 @@ use Rattle.acq_history.specs.History.{enrolled, recorded, prior, postings, day_a
 use Rattle.acq_history.specs.PartyHistory.{known_by}
 use Rattle.acq_history.specs.Balance.{IsReconciliation, SaysBalance, IsBalanced, balance_reply}
 use Rattle.acq_history.specs.DaySums.{postings_on}
-use Rattle.acq_soundness.proofs.Keys.{eqb_is, eqb_itself, bytes_eq_itself}
-use Rattle.acq_soundness.proofs.Lookups.{is_some_there, clash, some_is, not_true}
+use Rattle.acq_history.proofs.ReplyElements.{content_of-set, contents_kept, with_contents-append}
+use Rattle.acq_soundness.proofs.Keys.{bytes_eq_itself}
+use Rattle.acq_soundness.proofs.Lookups.{is_some_there, clash, some_is}
 use Rattle.acq_soundness.proofs.Members.{filter-filter}
-
--- ---- what elements hold that were set
-
-content_of-set : (es : List (ℕ × List ℕ)) (n : ℕ) (text : List ℕ) →
-    content_of (with_content es n text) n ≡ Some text
-content_of-set [] n text =
-    ap (λ b. cond b (Some text) None) (eqb_itself n)
-content_of-set (e ∷ es) n text =
-    step (content_of-set es n text) (nat_le e.0 n) (n == e.0) refl
-  where
-    set : (rest : List (ℕ × List ℕ)) → content_of ((n, text) ∷ rest) n ≡ Some text
-    set rest = ap (λ b. cond b (Some text) (content_of rest n)) (eqb_itself n)
-
-    step : content_of (with_content es n text) n ≡ Some text →
-        (before same : Bool) → (n == e.0) ≡ same →
-        content_of (cond before (cond same ((n, text) ∷ es) (e ∷ with_content es n text))
-        ((n, text) ∷ e ∷ es)) n
-        ≡ Some text
-    step later true true is = set es
-    step later true false is =
-        ap (λ b. cond b (Some e.1) (content_of (with_content es n text) n)) is ∙ later
-    step later false same is = set (e ∷ es)
-
-content_of-kept : (es : List (ℕ × List ℕ)) (n k : ℕ) (text : List ℕ) → (n == k) ≡ false →
-    content_of (with_content es k text) n ≡ content_of es n
-content_of-kept [] n k text other = ap (λ b. cond b (Some text) None) other
-content_of-kept (e ∷ es) n k text other =
-    step (content_of-kept es n k text other) (nat_le e.0 k) (k == e.0) refl
-  where
-    past : (rest : List (ℕ × List ℕ)) → content_of ((k, text) ∷ rest) n ≡ content_of rest n
-    past rest = ap (λ b. cond b (Some text) (content_of rest n)) other
-
-    step : content_of (with_content es k text) n ≡ content_of es n →
-        (before same : Bool) → (k == e.0) ≡ same →
-        content_of (cond before (cond same ((k, text) ∷ es) (e ∷ with_content es k text))
-        ((k, text) ∷ e ∷ es)) n
-        ≡ content_of (e ∷ es) n
-    step later true true is =
-        past es
-        ∙ sym (ap (λ b. cond b (Some e.1) (content_of es n))
-        (ap (λ j. n == j) (sym (eqb_is k e.0 is)) ∙ other))
-    step later true false is = ap (λ o. cond (n == e.0) (Some e.1) o) later
-    step later false same is = past (e ∷ es)
-
-contents_kept : (n : ℕ) (es added : List (ℕ × List ℕ)) →
-    list_all (λ e. not (n == e.0)) added ≡ true →
-    content_of (with_contents es added) n ≡ content_of es n
-contents_kept n es [] others = refl
-contents_kept n es (e ∷ added) others =
-    let parts = and_parts (not (n == e.0)) (list_all (λ x. not (n == x.0)) added) others in
-    contents_kept n (with_content es e.0 e.1) added parts.1
-    ∙ content_of-kept es n e.0 e.1 (not_true (n == e.0) parts.0)
-
-with_contents-append : (es xs ys : List (ℕ × List ℕ)) →
-    with_contents es (xs ++ ys) ≡ with_contents (with_contents es xs) ys
-with_contents-append es [] ys = refl
-with_contents-append es (x ∷ xs) ys = with_contents-append (with_content es x.0 x.1) xs ys
 
 -- ---- what the reply says
 

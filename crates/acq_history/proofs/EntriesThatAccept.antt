@@ -170,7 +170,7 @@ module _ (opening : Opening) (h : List Entry) (r : RequestMessage) where
 
 -- ---- what is found
 
-each_in : {X : Type 0} (P : X → Type 0) (xs : List X) (x : X) → Each P xs → In x xs → P x
+pub each_in : {X : Type 0} (P : X → Type 0) (xs : List X) (x : X) → Each P xs → In x xs → P x
 each_in P [] x each within = absurd within
 each_in P (y ∷ ys) x each (inl is) = subst P is each.0
 each_in P (y ∷ ys) x each (inr later) = each_in P ys x each.1 later

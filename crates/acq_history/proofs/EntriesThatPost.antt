@@ -67,7 +67,7 @@ completion_is : (s : Service) → is_completion s ≡ true → s ≡ Completion
 completion_is Completion e = refl
 completion_is s e = absurd (cc)
 
-admissible_cases : (s : Service) → is_admissible s ≡ true →
+pub admissible_cases : (s : Service) → is_admissible s ≡ true →
     (s ≡ Authorization) ⊎ (s ≡ Financial)
 admissible_cases Authorization e = inl refl
 admissible_cases Financial e = inr refl
@@ -126,7 +126,7 @@ module _ (opening : Opening) (h : List Entry) where
   posts_nothing a none = ap (with_next_posting (postings h)) none
 
   -- the outcome of a request
-  abbrev given : RequestMessage → Outcome
+  abbrev pub given : RequestMessage → Outcome
   given r = outcome (known_by opening h (Requested r)) (Requested r)
 
   -- what isn't accepted posts nothing
@@ -138,19 +138,18 @@ module _ (opening : Opening) (h : List Entry) where
       (ap (λ b. cond b (posting_by r.service (entry_for opening h (Requested r)) h r) None) off)
 
   -- a completion
-  completed : (r : RequestMessage) → r.service ≡ Completion → is_approved (given r) ≡ true →
-      (has : HasHold h r) →
-      PostsRow opening h (Requested r)
-      (completion_posting (day_after opening.first_day h) r has.reference has.hold)
-  completed r is approved has =
+  pub completed_posting : (r : RequestMessage) → r.service ≡ Completion →
+      is_approved (given r) ≡ true → (has : HasHold h r) →
+      posting_of (entry_for opening h (Requested r)) h
+      ≡ Some (completion_posting (day_after opening.first_day h) r has.reference has.hold)
+  completed_posting r is approved has =
       let day = day_after opening.first_day h in
       let e = entry_for opening h (Requested r) in
       let numbered = (referred_is has.reference h has.hold has.found).0 in
       let fits = admissible_is has.hold has.reference numbered in
       let reference = own_reference has.hold has.reference has.hold.request.service fits numbered in
       let card = own_card has.hold has.hold.request.service fits in
-      posts_row (Requested r) _
-      ((λ i. cond (accepts is_acceptable (recordable r (is i)) (given r)) (posting_by (is i) e h r)
+      (λ i. cond (accepts is_acceptable (recordable r (is i)) (given r)) (posting_by (is i) e h r)
       None)
       ∙ ((λ i. cond (is_acceptable (is i) && approved i)
       (option_map (λ hold. changes.completion_posting day r (prior hold))
@@ -159,7 +158,16 @@ module _ (opening : Opening) (h : List Entry) where
       ∙ (λ i. Some (record (completion_posting day r has.reference has.hold) {
         reference = or_zero (reference i);
         card = or_empty (card i);
-      })))))
+      }))))
+
+  completed : (r : RequestMessage) → r.service ≡ Completion → is_approved (given r) ≡ true →
+      (has : HasHold h r) →
+      PostsRow opening h (Requested r)
+      (completion_posting (day_after opening.first_day h) r has.reference has.hold)
+  completed r is approved has =
+      posts_row (Requested r)
+      (completion_posting (day_after opening.first_day h) r has.reference has.hold)
+      (completed_posting r is approved has)
 
   -- an accepted request that isn't a completion is a reversal, where it may be accepted
   accepted_is : (r : RequestMessage) → is_acceptable r.service ≡ true →
@@ -173,7 +181,7 @@ module _ (opening : Opening) (h : List Entry) where
       step s e = absurd (cc)
 
   -- a reversal, by what its original posted
-  reversed : (r : RequestMessage) → is_reversal r.service ≡ true → is_approved (given r) ≡ true →
+  pub reversed : (r : RequestMessage) → is_reversal r.service ≡ true → is_approved (given r) ≡ true →
       (has : HasOriginal h r) → PostedAt h has.key →
       posting_of (entry_for opening h (Requested r)) h
       ≡ option_map (reversing_posting (day_after opening.first_day h) r) (posted_about has.key h)

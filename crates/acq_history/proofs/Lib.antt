@@ -1,3 +1,4 @@
+pub mod ReplyElements
 pub mod Statuses
 pub mod NextReference
 pub mod DayOfPosting
@@ -17,6 +18,18 @@ pub mod EntriesThatAccept
 pub mod PostedEarlier
 pub mod EntriesThatPost
 pub mod AcceptedRequests
+pub mod PassedChecks
+pub mod ExactlyAccepted
+pub mod AdmittedRequests
+pub mod AtMostOnce
+pub mod ValuesThatPass
+pub mod HoldsCaptured
+pub mod HoldsThatAreOpen
+pub mod ToldOnEvents
+pub mod NamedPostings
+pub mod ToldIsDone
+pub mod RequestsThatClear
+pub mod LegsThatClear
 pub mod ReconciliationsAlone
 pub mod LookUpsSuffice
 pub mod NobodysRuns

@@ -201,7 +201,7 @@ own_pending f service fits none = absurd (cc)
 
 -- ---- the newest entry's request
 
-no_answer : (o : Option ℕ) → option_and_then (λ (n : ℕ). find (is_answer n) []) o ≡ None
+pub no_answer : (o : Option ℕ) → option_and_then (λ (n : ℕ). find (is_answer n) []) o ≡ None
 no_answer None = refl
 no_answer (Some n) = refl
 
@@ -223,7 +223,7 @@ own_new moment day s message ranges o h fits = absurd (cc)
 -- ---- in a history
 
 -- what is approved is past the merchant check
-approved_past : (o : Outcome) → is_past_merchant o ≡ false → is_approved o ≡ false
+pub approved_past : (o : Outcome) → is_past_merchant o ≡ false → is_approved o ≡ false
 approved_past (Replied code.Approved reply) off = absurd (cc)
 approved_past (Replied given reply) off = refl
 approved_past other off = refl
@@ -537,7 +537,7 @@ module _ (opening : Opening) (h : List Entry) (key : RequestKey) where
 
 -- ---- whole histories
 
-posted_at : (opening : Opening) (h : List Entry) → IsMade opening h → AdmitsOnlyEnrolled h →
+pub posted_at : (opening : Opening) (h : List Entry) → IsMade opening h → AdmitsOnlyEnrolled h →
     (key : RequestKey) → PostedAt h key
 posted_at opening [] made genuine key =
     record {
@@ -549,7 +549,7 @@ posted_at opening (e ∷ h) made genuine key =
     subst (λ x. PostedAt (x ∷ h) key) made.0.1
     (posted_more opening h key made.0.0 genuine.1 (posted_at opening h made.1 genuine.1 key))
 
-made_after : (opening : Opening) (h : List Entry) → IsMade opening h → (es : List Event) →
+pub made_after : (opening : Opening) (h : List Entry) → IsMade opening h → (es : List Event) →
     IsMade opening (history_after opening h es)
 made_after opening h made [] = made
 made_after opening h made (e ∷ es) =

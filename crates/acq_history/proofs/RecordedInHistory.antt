@@ -247,7 +247,7 @@ fresh_in None a there lt = lt
 fresh_in (Some merchant) a there lt = omega arith
 
 -- so the next reference finds nothing
-fresh : (h : List Entry) → AdmitsOnlyEnrolled h → is_some (enrolled h) ≡ true →
+pub fresh : (h : List Entry) → AdmitsOnlyEnrolled h → is_some (enrolled h) ≡ true →
     referred (next_reference h) h ≡ None
 fresh h genuine there =
     let step : (o : Option Found) → referred (next_reference h) h ≡ o → o ≡ None =

@@ -162,7 +162,7 @@ answer_here e es o n is on =
     ∙ ap (λ b. cond b (Some e) (find (is_answer n) es)) on
 
 -- an entry that completes it
-completed_here : (e : Entry) (es : List Entry) (o : Option ℕ) (n : ℕ) → o ≡ Some n →
+pub completed_here : (e : Entry) (es : List Entry) (o : Option ℕ) (n : ℕ) → o ≡ Some n →
     is_completing n e ≡ true → any_with is_completing o (e ∷ es) ≡ true
 completed_here e es o n is on =
     ap (λ p. any_with is_completing p (e ∷ es)) is ∙ ap (λ b. b || list_any (is_completing n) es) on

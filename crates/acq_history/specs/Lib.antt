@@ -14,3 +14,13 @@ pub mod Conservation
 pub mod Finality
 pub mod PostedRows
 pub mod Acceptance
+pub mod Told
+pub mod ExactAcceptance
+pub mod Captures
+pub mod OpenHolds
+pub mod Cleared
+pub mod IssuersCodes
+pub mod ClearedReplies
+pub mod ToldEffects
+pub mod ClearedRequests
+pub mod CheckedValues

@@ -3,10 +3,21 @@
 
 ghost use Rattle.std.specs.Prelude.{List, ℕ};
 ghost use Rattle.acq_history.specs.Acceptance.{Admits, AcceptsCompletions, AcceptsReversals};
+ghost use Rattle.acq_history.specs.ExactAcceptance.{AdmitsOnly, AdmittedMayBe, CompletesOnly};
+ghost use Rattle.acq_history.specs.ExactAcceptance.{ReversesOnly};
+ghost use Rattle.acq_history.specs.CheckedValues.{AmountsAreWithin, CardsAreInForce};
+ghost use Rattle.acq_history.specs.CheckedValues.{AcquirersAreNamed, OriginalsStand};
 ghost use Rattle.acq_history.specs.Balance.{BalancesExactly};
+ghost use Rattle.acq_history.specs.Captures.{CapturesWithinHold, CapturesOnce, ReversesOnce};
+ghost use Rattle.acq_history.specs.OpenHolds.{OpenHoldsAreCapturable, ApprovedHoldsAreOpen};
 ghost use Rattle.acq_history.specs.KeptRepeats.{RepeatsAreKept};
 ghost use Rattle.acq_history.specs.DaySums.{SumsAreTotals};
 ghost use Rattle.acq_history.specs.Conservation.{Conserves, NeverExceeds};
+ghost use Rattle.acq_history.specs.Cleared.{ClearsAsTold};
+ghost use Rattle.acq_history.specs.ClearedRequests.{ClearsByRequest, ClearsUnderItsLeg};
+ghost use Rattle.acq_history.specs.ClearedReplies.{RepliesNameWhatClears};
+ghost use Rattle.acq_history.specs.ToldEffects.{DoesAsTold};
+ghost use Rattle.acq_history.specs.IssuersCodes.{TellsIssuersCodes};
 ghost use Rattle.acq_history.specs.Finality.{IsFinal};
 ghost use Rattle.acq_history.specs.PostedRows.{ApprovalsPost, CompletionsPost, ReversalsPost};
 ghost use Rattle.acq_history.specs.PostedRows.{NothingElsePosts, TablesPost};
@@ -55,6 +66,36 @@ pub fn requests_are_accepted()
     ensures reversals { (m : List ℕ) → AcceptsReversals m }
 {}
 
+/// Only a request that passes every check is asked about, and only a completion or a reversal that
+/// does is told 00: the converse of [`requests_are_accepted`].
+pub fn only_such_are_accepted()
+    ensures asked { (m : List ℕ) → AdmitsOnly m }
+    ensures admitted { (m : List ℕ) → AdmittedMayBe m }
+    ensures completions { (m : List ℕ) → CompletesOnly m }
+    ensures reversals { (m : List ℕ) → ReversesOnly m }
+{}
+
+/// What the checks let pass, in numbers and in entries: an accepted amount, a card that is in force,
+/// an original's acquirer, and an original that stands.
+pub fn checks_let_pass()
+    ensures amounts { AmountsAreWithin }
+    ensures cards { CardsAreInForce }
+    ensures acquirers { AcquirersAreNamed }
+    ensures originals { OriginalsStand }
+{}
+
+/// No more is captured than was held: an accepted completion captures of an approved hold at most
+/// what was authorized and what a reversal let remain, once, and not behind its last second. What
+/// the rows of open holds say is just what can still be captured; and an approved hold is open for
+/// its hold days, unless it was completed or undone.
+pub fn captures_stay_within_holds()
+    ensures within { (m : List ℕ) → CapturesWithinHold m }
+    ensures once { (m : List ℕ) → CapturesOnce m }
+    ensures reversed { (m : List ℕ) → ReversesOnce m }
+    ensures listed { (m : List ℕ) → OpenHoldsAreCapturable m }
+    ensures open_until { (m : List ℕ) → ApprovedHoldsAreOpen m }
+{}
+
 /// What each event of a merchant's posts: an approved sale or return, an accepted completion and an
 /// accepted reversal of what an earlier entry has posted exactly one row each, and nothing else
 /// posts. So it is with its rows in the tables.
@@ -64,4 +105,18 @@ pub fn entries_post_exactly()
     ensures reversals { (m : List ℕ) → ReversalsPost m }
     ensures others { (m : List ℕ) → NothingElsePosts m }
     ensures tables { (m : List ℕ) → TablesPost m }
+{}
+
+/// What was told is what clears. The rows of a merchant's postings are one for each reply that said
+/// 00 to what moves money, in that order, and no other; so those of a day are one for each recorded
+/// request of that day whose reply says so, under the leg of what was asked for. Each such reply
+/// names its posting. Of what is about a card 00 is told exactly where a request is approved,
+/// completes a hold or reverses its original; and what an issuer says is told as it was given.
+pub fn told_is_cleared()
+    ensures clears { (m : List ℕ) → ClearsAsTold m }
+    ensures requests { (m : List ℕ) → ClearsByRequest m }
+    ensures legs { ClearsUnderItsLeg }
+    ensures named { (m : List ℕ) → RepliesNameWhatClears m }
+    ensures done { (m : List ℕ) → DoesAsTold m }
+    ensures issuers { (m : List ℕ) → TellsIssuersCodes m }
 {}
