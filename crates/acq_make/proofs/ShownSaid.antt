@@ -83,10 +83,10 @@ body_inner n content is inner =
     numbered
 
 -- all numbers are that or lower
-abbrev up_to : ℕ → List Content → Bool
+abbrev pub up_to : ℕ → List Content → Bool
 up_to low es = list_all (λ e. nat_le e.0 low) es
 
-none_yet : (es : List Content) (low n : ℕ) → up_to low es ≡ true → low < n
+pub none_yet : (es : List Content) (low n : ℕ) → up_to low es ≡ true → low < n
     → content_of es n ≡ None
 none_yet [] low n all less = refl
 none_yet (e ∷ es) low n all less =
@@ -95,7 +95,7 @@ none_yet (e ∷ es) low n all less =
     let other : (n == e.0) ≡ false = ne_eqb n e.0 (λ is. absurd (omega (arith, is, bound, less))) in
     rw other (none_yet es low n parts.1 less)
 
-goes_last : (es : List Content) (low n : ℕ) (c : List ℕ) → up_to low es ≡ true → low < n
+pub goes_last : (es : List Content) (low n : ℕ) (c : List ℕ) → up_to low es ≡ true → low < n
     → with_content es n c ≡ es ++ (n, c) ∷ []
 goes_last [] low n c all less = refl
 goes_last (e ∷ es) low n c all less =
@@ -113,7 +113,7 @@ higher (e ∷ es) low n all less =
     let lower : nat_le e.0 n ≡ true = le-leb e.0 n (omega (arith, bound, less)) in
     rw lower (higher es low n parts.1 less)
 
-up_to_last : (es : List Content) (low n : ℕ) (c : List ℕ) → up_to low es ≡ true → low < n
+pub up_to_last : (es : List Content) (low n : ℕ) (c : List ℕ) → up_to low es ≡ true → low < n
     → up_to n (es ++ (n, c) ∷ []) ≡ true
 up_to_last es low n c all less =
     let own : nat_le n n ≡ true = le-leb n n (omega arith) in
@@ -123,7 +123,7 @@ up_to_last es low n c all less =
 draft_of : ℕ → List ℕ → List Content → Draft
 draft_of line kind es = record { line = line; message = record { kind = kind; elements = es } }
 
-fits : (n : ℕ) (c : List ℕ) → is_element (n, c) ≡ true → set_fault n c ≡ None
+pub fits : (n : ℕ) (c : List ℕ) → is_element (n, c) ≡ true → set_fault n c ≡ None
 fits n c is =
     let own : nat_eq n n ≡ true = eq-eqb n n refl in
     text_fits ((n, c) ∷ []) n c (rw is refl) (rw own refl)

@@ -18,3 +18,4 @@ mod written;
 pub use made_form::MadeForm;
 pub use make_fault::MakeFault;
 pub use saying::make_messages;
+pub use written::put_made;

@@ -10,7 +10,7 @@ use itoa::Buffer;
 use std::alloc::{AllocError, Global};
 
 /// Puts a message's text in this form behind the others.
-pub(crate) fn put_made(
+pub fn put_made(
     alloc: Global,
     form: &MadeForm,
     out: &mut Vec<u8>,

@@ -1,0 +1,12 @@
+pub mod BytesBack
+pub mod Characters
+pub mod HiddenLines
+pub mod LinesInTurn
+pub mod MembersInTurn
+pub mod OnLiterals
+pub mod PartsRead
+pub mod PutInTurn
+pub mod SaidBack
+pub mod SaidInTurn
+pub mod ValuesRead
+pub mod WrittenLines
