@@ -1,7 +1,7 @@
 //! What may be said of a fault without a look at the machine.
 
 /// What an option's value has to be.
-const VALUES: [(&str, &str); 19] = [
+const VALUES: [(&str, &str); 21] = [
     ("--db", "a path"),
     ("--limit", "1 to 999999, as in --limit 999999"),
     ("--day", DAY),
@@ -26,6 +26,8 @@ const VALUES: [(&str, &str); 19] = [
     ("--stop-within", SECONDS),
     ("--within", SECONDS),
     ("--repeat", "1 to 1000000, as in --repeat 1000"),
+    ("--events", "a file for a new book, without --db"),
+    ("--whole", "beside --json alone"),
     (
         "--log-bytes",
         "1 to 15 digits, 0 for no bound, as in --log-bytes 1073741824",

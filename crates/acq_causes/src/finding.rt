@@ -80,6 +80,7 @@ fn why_no_book(asked: Asked<'_>) -> &'static str {
 fn cause_of_lack(rt: &HostRuntime, asked: Asked<'_>, lack: Lack) -> Cause {
     let about = match lack {
         Lack::Issuers => asked.value("--issuers"),
+        Lack::Events => asked.value("--events"),
         Lack::Log => asked.value("--log"),
         Lack::Control => asked.value("--control"),
         Lack::Port(_) | Lack::TerminalsHost(_) => asked.value("--port"),
@@ -88,7 +89,7 @@ fn cause_of_lack(rt: &HostRuntime, asked: Asked<'_>, lack: Lack) -> Cause {
     };
     let path = about.unwrap_or("");
     let words = match lack {
-        Lack::Issuers => why_unread(rt, path),
+        Lack::Issuers | Lack::Events => why_unread(rt, path),
         Lack::Log => why_unwritten(rt, path),
         Lack::Control => why_no_socket(rt, path),
         Lack::Port(kind) => why_no_port(kind),

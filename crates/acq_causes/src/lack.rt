@@ -7,6 +7,8 @@ use std::io::ErrorKind;
 pub enum Lack {
     /// The file of issuers' answers.
     Issuers,
+    /// The file of events that a new book takes first.
+    Events,
     /// Two options name one file.
     SameFile,
     /// The file of the log for operators.

@@ -1,4 +1,5 @@
 pub mod EventsTaken
+pub mod Explanations
 pub mod ConnectionsServed
 pub mod LinesWritten
 pub mod MadeMessages

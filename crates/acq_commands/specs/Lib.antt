@@ -4,6 +4,7 @@ pub mod Listening
 pub mod Once
 pub mod Replay
 pub mod Runs
+pub mod Explain
 pub mod Make
 pub mod Show
 pub mod Streams

@@ -9,7 +9,7 @@ use Rattle.acq_book.specs.Calls.{Looks}
 use Rattle.acq_book.specs.declared.book.Book.{Ghosts}
 use Rattle.acq_host.proofs.Chains.{makes_after}
 use Rattle.acq_control.specs.declared.question.Question.TheVariants as question
-use Rattle.acq_control.specs.Doing.{Does, DoesSome, Ends, Takes}
+use Rattle.acq_control.specs.Doing.{DoesSome, Ends, Takes}
 
 pub on_err : {T E P : Type 0} (result : Result T E) → P → OnErr result P
 on_err (Ok x) so = tt

@@ -13,6 +13,7 @@ use Rattle.acq_reports.specs.declared.report_fault.ReportFault.{ReportFault}
 use Rattle.acq_status.specs.Figures.{figures_at}
 use Rattle.acq_status.specs.Texts.{text_in}
 use Rattle.acq_stand_in.specs.Pending.{pending_text}
+use Rattle.acq_explain.specs.Explained.{explained_in}
 use Rattle.acq_faults.specs.DayReport.{report_text}
 use Rattle.acq_faults.specs.Faults.{fault_line, of_report}
 use Rattle.acq_faults.specs.declared.fault.Fault.TheVariants.{BadLine, OtherDay}
@@ -44,6 +45,7 @@ answer_of t number (Some (question.Holds merchant moment)) =
     text_unless_refused (merchant_refusal t merchant) (holds_text t merchant moment)
 answer_of t number (Some (question.Pending day moment)) =
     text_answer (pending_text [] moment (Some day) t)
+answer_of t number (Some (question.Explain event)) = text_answer (explained_in t event)
 answer_of t number (Some (question.Status form serving)) =
     text_answer (text_in form (figures_at t) (Some serving))
 answer_of t number (Some (question.End day moment)) = answer_to_end t day moment

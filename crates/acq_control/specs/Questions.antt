@@ -36,6 +36,7 @@ word_of line =
     else if begins_with line (codes "report,") then word.Report
     else if begins_with line (codes "holds,") then word.Holds
     else if begins_with line (codes "pending,") then word.Pending
+    else if begins_with line (codes "explain,") then word.Explain
     else if bytes_eq line (codes "status") then word.Status
     else if bytes_eq line (codes "metrics") then word.Metrics
     else if begins_with line (codes "end,") then word.End
@@ -46,6 +47,7 @@ word_of line =
 abbrev pub word_length : QuestionWord → ℕ
 word_length word.Clearing = 9
 word_length word.Pending = 8
+word_length word.Explain = 8
 word_length word.Report = 7
 word_length word.Holds = 6
 word_length word.End = 4
@@ -80,18 +82,31 @@ abbrev pub at_moment : ℕ → List ℕ → List ℕ
 at_moment now line = with_moment now line (word_before_now line)
 
 -- a list is this one event, or not one
-abbrev pub IsOnlyOne : List Event → Option Question → Type 0
-IsOnlyOne events (Some (question.Event event)) = events ≡ event ∷ []
+abbrev pub IsOnlyOne : List Event → Option Event → Type 0
+IsOnlyOne events (Some event) = events ≡ event ∷ []
 IsOnlyOne events None = (event : Event) → events ≢ event ∷ []
-IsOnlyOne events (Some other) = ⊥
 
--- the line spells one event, or not one
+-- a line spells this one event, or not one
+abbrev pub SpellsEvent : List ℕ → Option Event → Type 0
+SpellsEvent line (Some event) = events_of_text line ≡ Ok (event ∷ [])
+SpellsEvent line None = (event : Event) → events_of_text line ≢ Ok (event ∷ [])
+
+-- so it is of the event that is to be taken
 abbrev pub AsksEvent : ℕ → List ℕ → Option Question → Type 0
-AsksEvent now line (Some (question.Event event)) =
-    events_of_text (at_moment now line) ≡ Ok (event ∷ [])
-AsksEvent now line None =
-    (event : Event) → events_of_text (at_moment now line) ≢ Ok (event ∷ [])
+AsksEvent now line (Some (question.Event event)) = SpellsEvent (at_moment now line) (Some event)
+AsksEvent now line None = SpellsEvent (at_moment now line) None
 AsksEvent now line (Some other) = ⊥
+
+-- the event line of a message in hexadecimal that comes at a moment
+abbrev pub frame_line : ℕ → List ℕ → List ℕ
+frame_line now digits = codes "frame," ++ decimal now ++ codes "," ++ digits ++ codes ",,,"
+
+-- and of the one that is to be explained, which such a line spells
+abbrev pub AsksExplained : ℕ → List ℕ → Option Question → Type 0
+AsksExplained now digits (Some (question.Explain event)) =
+    SpellsEvent (frame_line now digits) (Some event)
+AsksExplained now digits None = SpellsEvent (frame_line now digits) None
+AsksExplained now digits (Some other) = ⊥
 
 -- ---- texts
 
@@ -158,6 +173,7 @@ AsksBy word.Clearing now line asked = AsksReport report.Clearing (drop 9 line) a
 AsksBy word.Report now line asked = AsksReport report.Settlement (drop 7 line) asked
 AsksBy word.Holds now line asked = asked ≡ holds_of now (drop 6 line)
 AsksBy word.Pending now line asked = AsksPending now (drop 8 line) asked
+AsksBy word.Explain now line asked = AsksExplained now (drop 8 line) asked
 AsksBy word.Status now line asked = AsksStatus form.Lines asked
 AsksBy word.Metrics now line asked = AsksStatus form.Metrics asked
 AsksBy word.End now line asked = AsksEnd now (drop 4 line) asked

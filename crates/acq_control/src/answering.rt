@@ -25,6 +25,7 @@ use crate::question::Question;
 use crate::status_text::StatusText;
 use acq_book::{Book, BookFault};
 use acq_core::{Event, MerchantId, Moment};
+use acq_explain::Explained;
 use acq_faults::{DayReport, Fault, ReportKind, write_fault_line};
 use acq_host::{BookText, Host};
 use acq_link::{MemorySink, write_out};
@@ -79,6 +80,7 @@ fn put_answer<B: Book + Drop>(
             put_holds(alloc, host, *merchant, *moment, answer)
         }
         Some(Question::Pending(day, moment)) => put_pending(alloc, host, *day, *moment, answer),
+        Some(Question::Explain(event)) => put_asked(alloc, host, &Explained { event }, answer),
         Some(Question::Status(form, serving)) => {
             let asked = StatusText {
                 form: *form,

@@ -17,6 +17,8 @@ pub enum Question {
     /// Answers without a verdict to the requests of a day that wait for their issuer, given at a
     /// moment.
     Pending(Day, Moment),
+    /// What the host would say to this event, and why.
+    Explain(Event),
     /// Figures of the book, and of what is served.
     Status(StatusForm, Serving),
     /// That the business day ends at a moment, if it is this one.

@@ -11,6 +11,7 @@ pub(crate) enum QuestionWord {
     Report,
     Holds,
     Pending,
+    Explain,
     Status,
     Metrics,
     End,
@@ -34,6 +35,8 @@ impl QuestionWord {
             QuestionWord::Holds
         } else if line.starts_with(b"pending,") {
             QuestionWord::Pending
+        } else if line.starts_with(b"explain,") {
+            QuestionWord::Explain
         } else if line == b"status".as_slice() {
             QuestionWord::Status
         } else if line == b"metrics".as_slice() {
@@ -52,7 +55,7 @@ impl QuestionWord {
     {
         match self {
             QuestionWord::Clearing => 9,
-            QuestionWord::Pending => 8,
+            QuestionWord::Pending | QuestionWord::Explain => 8,
             QuestionWord::Report => 7,
             QuestionWord::Holds => 6,
             QuestionWord::End => 4,

@@ -2,7 +2,8 @@
 
 ghost use Rattle.std.specs.Prelude.{◌≡◌, ◌==◌, ℕ, IfOk, List, Option};
 ghost use Rattle.std.specs.List.{position};
-ghost use Rattle.acq_control.specs.Questions.{Asks, AsksEnd, AsksEvent, AsksPending, AsksReport};
+ghost use Rattle.acq_control.specs.Questions.{Asks, AsksEnd, AsksEvent, AsksExplained};
+ghost use Rattle.acq_control.specs.Questions.{AsksPending, AsksReport, frame_line};
 ghost use Rattle.acq_control.specs.Questions.{AsksShort, Shows, at_moment, holds_of, moment_at};
 ghost use Rattle.acq_control.specs.Questions.{says_now, without_return};
 ghost use Rattle.acq_control.specs.Held.{IsTaken};
@@ -62,6 +63,7 @@ fn question_of(
         QuestionWord::Report => Ok(report_on(ReportKind::Settlement, rest)),
         QuestionWord::Holds => Ok(holds_of(rest, now)),
         QuestionWord::Pending => Ok(pending_on(rest, now)),
+        QuestionWord::Explain => explained_of(alloc, rest, now),
         QuestionWord::Status => Ok(Some(Question::Status(StatusForm::Lines, serving))),
         QuestionWord::Metrics => Ok(Some(Question::Status(StatusForm::Metrics, serving))),
         QuestionWord::End => Ok(end_of(rest, now)),
@@ -146,7 +148,28 @@ fn event_of(alloc: Global, line: &[u8], now: Moment) -> Result<Option<Question>,
     ensures { IfOk result (λ asked. AsksEvent now line.now asked) }
 {
     let text = at_moment(alloc, line, now)?;
-    let mut input = SliceSource::new(text.as_slice());
+    match event_in(alloc, text.as_slice())? {
+        Some(event) => Ok(Some(Question::Event(event))),
+        None => Ok(None),
+    }
+}
+
+/// The explanation of a message in hexadecimal that comes at this moment.
+fn explained_of(alloc: Global, digits: &[u8], now: Moment) -> Result<Option<Question>, AllocError>
+    ensures { IfOk result (λ asked. AsksExplained now digits.now asked) }
+{
+    let text = frame_line(alloc, digits, now)?;
+    match event_in(alloc, text.as_slice())? {
+        Some(event) => Ok(Some(Question::Explain(event))),
+        None => Ok(None),
+    }
+}
+
+/// The one event that a line spells, or nothing where it doesn't spell one.
+fn event_in(alloc: Global, line: &[u8]) -> Result<Option<Event>, AllocError>
+    ensures { IfOk result (λ event. spec.SpellsEvent line.now event) }
+{
+    let mut input = SliceSource::new(line);
     match read_events(alloc, &mut input) {
         Ok(events) => Ok(only_one(events)),
         Err(OutFault::BadLine(_)) => Ok(None),
@@ -156,13 +179,26 @@ fn event_of(alloc: Global, line: &[u8], now: Moment) -> Result<Option<Question>,
 }
 
 /// The one event of a list, or nothing where it isn't one.
-fn only_one(mut events: Vec<Event>) -> Option<Question>
+fn only_one(mut events: Vec<Event>) -> Option<Event>
     ensures { spec.IsOnlyOne events.items result }
 {
     if events.len() != 1 {
         return None;
     }
-    Some(Question::Event(events.pop()?))
+    events.pop()
+}
+
+/// The event line of a message in hexadecimal that comes at a moment.
+fn frame_line(alloc: Global, digits: &[u8], now: Moment) -> Result<Vec<u8>, AllocError>
+    ensures { IfOk result (λ text. text.items ≡ frame_line now digits.now) }
+{
+    let mut text = Vec::new(alloc);
+    text.extend_from_slice(b"frame,")?;
+    text.extend_from_slice(Buffer::new().format(now.seconds()).as_bytes())?;
+    text.extend_from_slice(b",")?;
+    text.extend_from_slice(digits)?;
+    text.extend_from_slice(b",,,")?;
+    Ok(text)
 }
 
 /// An event line with the moment in place of `now`.

@@ -59,13 +59,13 @@ still_quiet words (Holds options) ended told mid after asks same quiet well =
     inl (where_well ended (after ≡ mid) quiet well ∙ same)
 still_quiet words (Pending asked) ended told mid after asks same quiet well =
     inl (where_well ended (after ≡ mid) quiet well ∙ same)
-still_quiet words (Show form) ended told mid after asks same quiet well =
+still_quiet words (Show how form) ended told mid after asks same quiet well =
     inl (where_well ended (after ≡ mid) quiet well ∙ same)
-still_quiet words (Make form) ended told mid after asks same quiet well =
+still_quiet words (Make said form) ended told mid after asks same quiet well =
     inl (where_well ended (after ≡ mid) quiet well ∙ same)
 still_quiet words (Status asked) ended told mid after asks same quiet well =
     inl (where_well ended (after ≡ mid) quiet well ∙ same)
-still_quiet words (Explain path) ended told mid after asks same quiet well =
+still_quiet words (Explain asked) ended told mid after asks same quiet well =
     inl (where_well ended (after ≡ mid) quiet well ∙ same)
 still_quiet words (Ask asked) ended told mid after asks same quiet well =
     inl (where_well ended (after ≡ mid) quiet well ∙ same)

@@ -1,5 +1,5 @@
 -- Paths that one file can't have (own profile).
-use Rattle.std.specs.Prelude.{Bool, false, ◌||◌, ◌&&◌, nat_eq, List, length, drop, codes, Option}
+use Rattle.std.specs.Prelude.{Bool, false, ◌||◌, ◌&&◌, nat_eq, length, drop, codes, Option}
 use Rattle.std.specs.Prelude.{Some, None, option_map, String, string_bytes, if◌then◌else◌}
 use Rattle.std.specs.List.{starts_with}
 use Rattle.std.specs.Str.{bytes_eq}

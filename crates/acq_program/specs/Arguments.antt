@@ -3,6 +3,7 @@ use Rattle.std.specs.Prelude.{◌≡◌, ◌⊎◌, ◌-◌, ◌^◌, ℕ, Bool,
 use Rattle.std.specs.Prelude.{length}
 use Rattle.std.specs.Prelude.{codes}
 use Rattle.std.specs.Prelude.{map, Option, Some, None, unwrap_or, option_map, option_and_then}
+use Rattle.std.specs.Prelude.{is_some, true, false}
 use Rattle.std.specs.Prelude.{ok_or, Result, Ok, Err}
 use Rattle.std.specs.Prelude.{if◌then◌else◌}
 use Rattle.std.specs.Prelude.{slice_get, String, string_bytes}
@@ -31,8 +32,14 @@ use Rattle.acq_program.specs.declared.action.Action.TheVariants.{Init, Migrate, 
 use Rattle.acq_program.specs.declared.action.Action.TheVariants.{Replay, Report, Holds, Show, Make}
 use Rattle.acq_program.specs.declared.action.Action.TheVariants.{Pending, Status, Tell, Ask, Explain}
 use Rattle.acq_faults.specs.declared.day_report.DayReport.{DayReport}
+use Rattle.acq_commands.specs.declared.explain_options.ExplainOptions.{ExplainOptions}
 use Rattle.acq_commands.specs.declared.input_form.InputForm.{InputForm}
 use Rattle.acq_commands.specs.declared.input_form.InputForm.TheVariants as form
+use Rattle.acq_commands.specs.declared.said_form.SaidForm.{SaidForm}
+use Rattle.acq_commands.specs.declared.said_form.SaidForm.TheVariants as said
+use Rattle.acq_commands.specs.declared.shown_form.ShownForm.{ShownForm}
+use Rattle.acq_commands.specs.declared.shown_form.ShownForm.TheVariants as shown
+use Rattle.acq_json.specs.declared.card_form.CardForm.TheVariants as card
 use Rattle.acq_faults.specs.declared.listen_options.ListenOptions.{ListenOptions}
 use Rattle.acq_faults.specs.declared.patience.Patience.{Patience}
 use Rattle.acq_program.specs.declared.bounds.Bounds.{Bounds}
@@ -65,7 +72,9 @@ name_of_option option.Log = codes "--log"
 name_of_option option.LogBytes = codes "--log-bytes"
 name_of_option option.Within = codes "--within"
 name_of_option option.Event = codes "--event"
+name_of_option option.Events = codes "--events"
 name_of_option option.Repeat = codes "--repeat"
+name_of_option option.Whole = codes "--whole"
 name_of_option option.Path = codes "PATH"
 name_of_option (option.Report kinds.Clearing) = codes "--clearing"
 name_of_option (option.Report kinds.Settlement) = codes "--report"
@@ -80,6 +89,8 @@ pub record OptionTexts : Type 0 where
   pub clearing : List Text
   pub report : List Text
   pub hex : Option Text
+  pub json : Option Text
+  pub whole : Option Text
   pub issuers : Option Text
   pub port : Option Text
   pub address : Option Text
@@ -94,6 +105,7 @@ pub record OptionTexts : Type 0 where
   pub log_bytes : Option Text
   pub within : Option Text
   pub event : Option Text
+  pub events : Option Text
   pub repeat : Option Text
   pub path : Option Text
 
@@ -112,6 +124,8 @@ option_texts rows = record {
   clearing = values_of (codes "clearing") rows;
   report = values_of (codes "report") rows;
   hex = first_of (codes "hex") rows;
+  json = first_of (codes "json") rows;
+  whole = first_of (codes "whole") rows;
   issuers = first_of (codes "issuers") rows;
   port = first_of (codes "port") rows;
   address = first_of (codes "address") rows;
@@ -126,6 +140,7 @@ option_texts rows = record {
   log_bytes = first_of (codes "log-bytes") rows;
   within = first_of (codes "within") rows;
   event = first_of (codes "event") rows;
+  events = first_of (codes "events") rows;
   repeat = first_of (codes "repeat") rows;
   path = first_of (codes "path") rows;
 }
@@ -145,6 +160,8 @@ found_texts found = record {
   clearing = values_found found (codes "clearing");
   report = values_found found (codes "report");
   hex = first_value found (codes "hex");
+  json = first_value found (codes "json");
+  whole = first_value found (codes "whole");
   issuers = first_value found (codes "issuers");
   port = first_value found (codes "port");
   address = first_value found (codes "address");
@@ -159,6 +176,7 @@ found_texts found = record {
   log_bytes = first_value found (codes "log-bytes");
   within = first_value found (codes "within");
   event = first_value found (codes "event");
+  events = first_value found (codes "events");
   repeat = first_value found (codes "repeat");
   path = first_value found (codes "path");
 }
@@ -357,10 +375,29 @@ abbrev pub ReportsAre : ReportKind → List Text → Result (List DayReport) Opt
 ReportsAre kind texts (Ok reports) = GivesReports kind texts reports
 ReportsAre kind texts (Err name) = (name ≡ option.Report kind) × GivesNoReports texts
 
+-- whether a flag is there
+abbrev pub is_set : Option Text → Bool
+is_set None = false
+is_set (Some text) = bytes_eq text (codes "true")
+
 -- the form of the input: lines of hexadecimal where the flag is there, else what it is by itself
 abbrev pub form_of_flag : Option Text → InputForm
-form_of_flag None = form.Plain
-form_of_flag (Some text) = if bytes_eq text (codes "true") then form.HexLines else form.Plain
+form_of_flag text = if is_set text then form.HexLines else form.Plain
+
+-- how messages are shown: as text, or as JSON where that flag is there, and then with cards whole
+-- where that one is, too
+abbrev pub shown_by : (json whole : Bool) → Result ShownForm OptionName
+shown_by true true = Ok (shown.Json card.Whole)
+shown_by true false = Ok (shown.Json card.Masked)
+shown_by false true = Err option.Whole
+shown_by false false = Ok shown.Text
+
+abbrev pub ShownFormIs : OptionTexts → Result ShownForm OptionName → Type 0
+ShownFormIs texts read = read ≡ shown_by (is_set texts.json) (is_set texts.whole)
+
+-- how messages that are to be made are said: by JSON where the flag is there, else by lines
+abbrev pub said_by : Option Text → SaidForm
+said_by text = if is_set text then said.Json else said.Lines
 
 -- the form in which messages are written: lines of hexadecimal where the flag is there
 abbrev pub made_by : InputForm → MadeForm
@@ -638,24 +675,55 @@ IsStatus path read = read ≡ Ok (Status path)
 abbrev pub AsksStatus : OptionTexts → Result Action OptionName → Type 0
 AsksStatus texts = Then (FileIs texts) IsStatus
 
--- what the host would say over the book in this file
-abbrev pub IsExplain : String Global → Result Action OptionName → Type 0
-IsExplain path read = read ≡ Ok (Explain path)
+-- what the host would say over this book, or over a new one behind these events
+abbrev pub IsExplained
+    : OptionTexts → ℕ → ℕ → Option ℕ → Result ExplainOptions OptionName → Type 0
+IsExplained texts limit day moment (Ok asked) =
+    (option_map string_bytes asked.book ≡ texts.db)
+    × (option_map string_bytes asked.events ≡ texts.events) × (asked.limit ≡ limit)
+    × (asked.first_day ≡ day) × (asked.form ≡ form_of_flag texts.hex) × (asked.moment ≡ moment)
+IsExplained texts limit day moment (Err name) = ⊥
+
+abbrev pub ExplainOn : OptionTexts → ℕ → ℕ → Result ExplainOptions OptionName → Type 0
+ExplainOn texts limit day = Then (MomentIfThere texts) (IsExplained texts limit day)
+
+abbrev pub ExplainUpTo : OptionTexts → ℕ → Result ExplainOptions OptionName → Type 0
+ExplainUpTo texts limit = Then (DayIs texts) (ExplainOn texts limit)
+
+-- the options of `explain`: the limit first, then the day, then the moment
+abbrev pub ExplainedIs : OptionTexts → Result ExplainOptions OptionName → Type 0
+ExplainedIs texts = Then (LimitIs texts) (ExplainUpTo texts)
+
+-- they are asked for, unless events are named for a book in a file, which takes none first
+abbrev pub takes_both : ExplainOptions → Bool
+takes_both asked = is_some asked.book && is_some asked.events
+
+abbrev pub unless_both : Bool → ExplainOptions → Result Action OptionName
+unless_both true asked = Err option.Events
+unless_both false asked = Ok (Explain asked)
+
+abbrev pub IsExplain : ExplainOptions → Result Action OptionName → Type 0
+IsExplain asked read = read ≡ unless_both (takes_both asked) asked
 
 -- what `explain` is asked for
 abbrev pub AsksExplain : OptionTexts → Result Action OptionName → Type 0
-AsksExplain texts = Then (FileIs texts) IsExplain
+AsksExplain texts = Then (ExplainedIs texts) IsExplain
 
+-- the messages of an input in this form, so
+abbrev pub IsShow : InputForm → ShownForm → Result Action OptionName → Type 0
+IsShow form how read = read ≡ Ok (Show how form)
+
+-- what `show` is asked for
 abbrev pub AsksShow : OptionTexts → Result Action OptionName → Type 0
-AsksShow texts read = read ≡ Ok (Show (form_of_flag texts.hex))
+AsksShow texts = Then (ShownFormIs texts) (IsShow (form_of_flag texts.hex))
 
--- messages in this form
-abbrev pub IsMake : MadeForm → Result Action OptionName → Type 0
-IsMake form read = read ≡ Ok (Make form)
+-- messages that are said so, in this form
+abbrev pub IsMake : SaidForm → MadeForm → Result Action OptionName → Type 0
+IsMake said form read = read ≡ Ok (Make said form)
 
 -- what `make` is asked for
 abbrev pub AsksMake : OptionTexts → Result Action OptionName → Type 0
-AsksMake texts = Then (MadeFormIs texts) IsMake
+AsksMake texts = Then (MadeFormIs texts) (IsMake (said_by texts.json))
 
 -- ---- what the arguments ask for
 

@@ -1,9 +1,10 @@
 -- Why a book is not opened, and why what is pending in it is not answered.
-use Rattle.std.specs.Prelude.{◌⊎◌}
-use Rattle.acq_faults.specs.Faults.{IsOfAnswers, IsReporting}
+use Rattle.std.specs.Prelude.{◌≡◌, ◌⊎◌}
+use Rattle.acq_faults.specs.Faults.{IsOfAnswers, IsReporting, of_out}
 use Rattle.acq_faults.specs.declared.fault.Fault.{Fault}
 use Rattle.acq_faults.specs.declared.fault.Fault.TheVariants.{Memory, Store, NotABook}
 use Rattle.acq_faults.specs.declared.fault.Fault.TheVariants.{OtherVersion}
+use Rattle.acq_out.specs.declared.out_fault.OutFault.{OutFault}
 
 -- why a book was not opened or made: memory, its store, or that the file holds none of this version
 abbrev pub IsOpening : Fault → Type 0
@@ -23,3 +24,7 @@ IsClosing other = ⊥
 -- none, or the answers were not written whole
 abbrev pub IsOfPending : Fault → Type 0
 IsOfPending fault = IsOpening fault ⊎ IsOfAnswers fault ⊎ IsReporting fault
+
+-- why the file of events gave none, as the command tells it
+abbrev pub IsOfEvents : Fault → Type 0
+IsOfEvents fault = (cause : OutFault) × (fault ≡ of_out cause)

@@ -80,13 +80,17 @@ pending =
     (required (codes "db"))) (option (codes "day"))) (option (codes "issuers")))
     (option (codes "at"))
 
--- `show [--hex]`
+-- `show [--hex] [--json] [--whole]`
 abbrev pub show : App
-show = with_rule (new_app (codes "show")) (flag (codes "hex"))
+show =
+    with_rule (with_rule (with_rule (new_app (codes "show"))
+    (flag (codes "hex"))) (flag (codes "json"))) (flag (codes "whole"))
 
--- `make [--hex] [--event MOMENT]`
+-- `make [--hex] [--event MOMENT] [--json]`
 abbrev pub make : App
-make = with_rule (with_rule (new_app (codes "make")) (flag (codes "hex"))) (option (codes "event"))
+make =
+    with_rule (with_rule (with_rule (new_app (codes "make"))
+    (flag (codes "hex"))) (option (codes "event"))) (flag (codes "json"))
 
 -- `ask --port P [--address ADDRESS] [--within SECONDS] [--repeat N]`
 abbrev pub ask : App
@@ -95,9 +99,12 @@ ask =
     (required (codes "port"))) (option (codes "address"))) (option (codes "within")))
     (option (codes "repeat"))
 
--- `explain --db FILE`
+-- `explain [--db FILE] [--events FILE] [--limit N] [--day DAY] [--hex] [--at MOMENT]`
 abbrev pub explain : App
-explain = with_rule (new_app (codes "explain")) (required (codes "db"))
+explain =
+    with_rule (with_rule (with_rule (with_rule (with_rule (with_rule (new_app (codes "explain"))
+    (option (codes "db"))) (option (codes "events"))) (option (codes "limit")))
+    (option (codes "day"))) (flag (codes "hex"))) (option (codes "at"))
 
 -- `tell [--within SECONDS] PATH`
 abbrev pub tell : App

@@ -1,5 +1,5 @@
 -- One run of the program over an input, and its status.
-use Rattle.std.specs.Prelude.{◌≡◌, ◌⊎◌, ℕ, List, Option, None, Some, Result, Ok, Err, OnOk, String}
+use Rattle.std.specs.Prelude.{◌≡◌, ◌⊎◌, ℕ, List, [], Option, None, Some, Result, Ok, Err, OnOk, String}
 use Rattle.std.specs.declared.alloc.Global.{Global}
 use Rattle.acq_link.specs.Moves.{TakesAll}
 use Rattle.acq_program.specs.declared.action.Action.{Action}
@@ -13,7 +13,11 @@ use Rattle.acq_faults.specs.declared.fault.Fault.{Fault}
 use Rattle.acq_faults.specs.declared.listen_options.ListenOptions.{ListenOptions}
 use Rattle.acq_commands.specs.declared.once_options.OnceOptions.{OnceOptions}
 use Rattle.acq_faults.specs.Faults.{status_of}
+use Rattle.acq_commands.specs.Explain.{ExplainsAll}
 use Rattle.acq_commands.specs.Once.{ServesInMemory}
+use Rattle.acq_commands.specs.declared.explain_options.ExplainOptions.{ExplainOptions}
+use Rattle.acq_core.specs.Tables.{new_tables, tables_after}
+use Rattle.acq_core.specs.declared.event.Event.{Event}
 use Rattle.acq_commands.specs.Runs.{RunsReplay}
 use Rattle.acq_commands.specs.Make.{RunsMake}
 use Rattle.acq_commands.specs.Show.{RunsShow}
@@ -54,6 +58,33 @@ ServesBy (Some path) asked received sent ended =
 
 abbrev pub ServesAsked : OnceOptions → (received sent : Stream) → Result (Unit {0}) Fault → Type 0
 ServesAsked asked received sent ended = ServesBy asked.issuers asked received sent ended
+
+-- Where all is well, each event of the input was explained, over a new book behind these events;
+-- messages came at the moment that is asked for, or at any.
+abbrev pub ExplainsBehind
+    : List Event → ExplainOptions → (received sent : Stream) → Result (Unit {0}) Fault → Type 0
+ExplainsBehind events asked received sent ended =
+    OnOk ended ((moment : ℕ) × MayCome asked.moment moment
+    × ExplainsAll (tables_after
+    (new_tables (record { limit = asked.limit; first_day = asked.first_day })) events)
+    asked.form moment received sent)
+
+-- so it is behind the events of a file, or behind none
+abbrev pub ExplainsOver : Option (String Global) → ExplainOptions → (received sent : Stream)
+    → Result (Unit {0}) Fault → Type 0
+ExplainsOver None asked received sent ended = ExplainsBehind [] asked received sent ended
+ExplainsOver (Some path) asked received sent ended =
+    (events : List Event) × ExplainsBehind events asked received sent ended
+
+-- where there is no file of a book; what is said over one is said by the calls that open it and
+-- explain
+abbrev pub ExplainsBy : Option (String Global) → ExplainOptions → (received sent : Stream)
+    → Result (Unit {0}) Fault → Type 0
+ExplainsBy None asked received sent ended = ExplainsOver asked.events asked received sent ended
+ExplainsBy (Some path) asked received sent ended = Unit {0}
+
+abbrev pub ExplainsIn : ExplainOptions → (received sent : Stream) → Result (Unit {0}) Fault → Type 0
+ExplainsIn asked received sent ended = ExplainsBy asked.book asked received sent ended
 
 -- Where all is well, the whole input was read, where it is known what was to come.
 abbrev pub ReadsWhole : {X : Type 0} → Option (List ℕ) → List ℕ → List ℕ → Result X Fault → Type 0
@@ -98,14 +129,15 @@ Does (Pending asked) remaining received sent told ended =
     EndsPlainly (λ _. received.after ≡ received.before) ended
 Does (Status asked) remaining received sent told ended =
     EndsPlainly (λ _. received.after ≡ received.before) ended
-Does (Show form) remaining received sent told ended =
-    EndsPlainly (λ plain. RunsShow form received sent plain
+Does (Show how form) remaining received sent told ended =
+    EndsPlainly (λ plain. RunsShow how form received sent plain
     × ReadsWhole remaining received.before received.after plain) ended
-Does (Make form) remaining received sent told ended =
-    EndsPlainly (λ plain. RunsMake form received sent plain
+Does (Make said form) remaining received sent told ended =
+    EndsPlainly (λ plain. RunsMake said form received sent plain
     × ReadsWhole remaining received.before received.after plain) ended
-Does (Explain path) remaining received sent told ended =
-    EndsPlainly (λ plain. ReadsWhole remaining received.before received.after plain) ended
+Does (Explain asked) remaining received sent told ended =
+    EndsPlainly (λ plain. ExplainsIn asked received sent plain
+    × ReadsWhole remaining received.before received.after plain) ended
 Does (Ask asked) remaining received sent told ended =
     EndsPlainly (λ plain. AsksHost asked received sent plain
     × ReadsWhole remaining received.before received.after plain) ended

@@ -3,7 +3,10 @@
 use crate::ask_options::AskOptions;
 use crate::pending_options::PendingOptions;
 use crate::tell_options::TellOptions;
-use acq_commands::{BookReport, HoldsOptions, InputForm, NewBook, OnceOptions, ReplayOptions};
+use acq_commands::{
+    BookReport, ExplainOptions, HoldsOptions, InputForm, NewBook, OnceOptions, ReplayOptions,
+    SaidForm, ShownForm,
+};
 use acq_faults::ListenOptions;
 use acq_make::MadeForm;
 
@@ -26,12 +29,13 @@ pub enum Action {
     Holds(HoldsOptions),
     /// Write answers to the requests that are pending.
     Pending(PendingOptions),
-    /// Show the messages of the input, which stand there in this form, to a person.
-    Show(InputForm),
-    /// Make the messages that the text of the input says, and write them in this form.
-    Make(MadeForm),
-    /// Say what the host would say to the events of the input, over the book in this file, and why.
-    Explain(String),
+    /// Show the messages of the input, which stand there in this form, so.
+    Show(ShownForm, InputForm),
+    /// Make the messages that the input says so, and write them in this form.
+    Make(SaidForm, MadeForm),
+    /// Say what the host would say to the events of the input, over a new book or the one in a file,
+    /// and why.
+    Explain(ExplainOptions),
     /// Send the messages of the input to a host, or one of them again and again.
     Ask(AskOptions),
     /// Send the lines of the input to a host that takes control connections.

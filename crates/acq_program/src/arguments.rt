@@ -4,7 +4,7 @@ ghost use Rattle.std.specs.Prelude.{◌≡◌, List, [], IfErr, IfOk, codes, map
 ghost use Rattle.std.specs.Prelude.{string_bytes};
 ghost use Rattle.clap.specs.Words.{HasMatchesOf, Text, fault_of, first_value, found_of};
 ghost use Rattle.acq_program.specs.Program.{program};
-ghost use Rattle.acq_program.specs.Arguments.{AsksExplain};
+ghost use Rattle.acq_program.specs.Arguments.{AsksExplain, ExplainedIs, takes_both};
 ghost use Rattle.acq_program.specs.Arguments.{AsksAsk, AsksHolds, AsksInit, AsksListen};
 ghost use Rattle.acq_program.specs.Arguments.{AsksMigrate, AsksOnce};
 ghost use Rattle.acq_program.specs.Arguments.{AddressIs, AsksPending, DayIfThere, EndpointIs};
@@ -15,7 +15,8 @@ ghost use Rattle.acq_program.specs.Arguments.{IsNoMemory, LimitIs, MerchantIs};
 ghost use Rattle.acq_program.specs.Arguments.{MomentIfThere, MomentIs, PathIs, PatienceIs, PortIs, Reads};
 ghost use Rattle.acq_program.specs.Arguments.{ReadsArguments, StopWithinIs, TogetherIs, WithinIs};
 ghost use Rattle.acq_program.specs.Arguments.{AsksMake, MadeFormIs, form_of_flag, made_by};
-ghost use Rattle.acq_program.specs.Arguments.{RepeatIfThere, ReplyWithinIs, form_of_flag};
+ghost use Rattle.acq_program.specs.Arguments.{AsksShow, ShownFormIs, is_set, said_by};
+ghost use Rattle.acq_program.specs.Arguments.{RepeatIfThere, ReplyWithinIs};
 ghost use Rattle.acq_program.specs.Arguments.{found_texts};
 
 use crate::action::Action;
@@ -30,11 +31,12 @@ use crate::tell_options::TellOptions;
 use crate::usage_fault::UsageFault;
 use crate::wanted_reports::add_reports;
 use acq_commands::{
-    BookReport, HoldsOptions, InputForm, NewBook, OnceOptions, ReplayOptions, first_day_of_all,
-    greatest_limit,
+    BookReport, ExplainOptions, HoldsOptions, InputForm, NewBook, OnceOptions, ReplayOptions,
+    SaidForm, ShownForm, first_day_of_all, greatest_limit,
 };
 use acq_core::{Limit, MerchantId, Moment};
 use acq_faults::{DayReport, ListenOptions, Patience, ReportKind};
+use acq_json::CardForm;
 use acq_make::MadeForm;
 use acq_out::{merchant_of, moment_of};
 use clap::{ArgMatches, Error};
@@ -103,7 +105,7 @@ fn reports_asked_in(alloc: Global, matches: &ArgMatches) -> Result<Action, Usage
         Some(("report", options)) => report_of(alloc, ReportKind::Settlement, options),
         Some(("holds", options)) => holds_of(alloc, options),
         Some(("pending", options)) => pending_of(alloc, options),
-        Some(("show", options)) => Ok(Action::Show(form_of(options))),
+        Some(("show", options)) => show_of(options),
         _ => talks_asked_in(alloc, matches),
     }
 }
@@ -298,8 +300,50 @@ fn status_of(alloc: Global, options: &ArgMatches) -> Result<Action, UsageFault>
 fn explain_of(alloc: Global, options: &ArgMatches) -> Result<Action, UsageFault>
     ensures { Reads (AsksExplain (found_texts (found_of options.now))) result }
 {
-    let path = file_option(alloc, options)?;
-    Ok(Action::Explain(path))
+    let asked = explain_options(alloc, options)?;
+    if takes_both(&asked) {
+        Err(UsageFault::BadValue(OptionName::Events))
+    } else {
+        Ok(Action::Explain(asked))
+    }
+}
+
+/// Whether a book's file and a file of events are named.
+fn takes_both(asked: &ExplainOptions) -> bool
+    ensures { result ≡ takes_both asked.now }
+{
+    asked.book.is_some() && asked.events.is_some()
+}
+
+/// The options of `explain`, each by itself.
+fn explain_options(alloc: Global, options: &ArgMatches) -> Result<ExplainOptions, UsageFault>
+    ensures { Reads (ExplainedIs (found_texts (found_of options.now))) result }
+{
+    let limit = limit_option(options)?;
+    let first_day = day_option(options)?;
+    let moment = moment_if_there(options)?;
+    let book = book_option(alloc, options)?;
+    let events = events_option(alloc, options)?;
+    Ok(ExplainOptions {
+        book,
+        events,
+        limit,
+        first_day,
+        form: form_of(options),
+        moment,
+    })
+}
+
+/// The path of the file of events that a new book takes first, where the option is there.
+fn events_option(alloc: Global, options: &ArgMatches) -> Result<Option<String>, UsageFault>
+    ensures given { IfOk result (λ events. option_map string_bytes events
+        ≡ (found_texts (found_of options.now)).events) }
+    ensures refused { IfErr result IsNoMemory }
+{
+    match options.get_str("events") {
+        Some(path) => Ok(Some(String::from_str(alloc, path)?)),
+        None => Ok(None),
+    }
 }
 
 /// The path of the book's file.
@@ -605,7 +649,7 @@ fn make_of(options: &ArgMatches) -> Result<Action, UsageFault>
     ensures { Reads (AsksMake (found_texts (found_of options.now))) result }
 {
     let form = made_form_option(options)?;
-    Ok(Action::Make(form))
+    Ok(Action::Make(said_form_of(options), form))
 }
 
 /// The form in which `make` is to write: event lines where their moment is there.
@@ -631,12 +675,54 @@ fn plain_form(options: &ArgMatches) -> MadeForm
     }
 }
 
-/// The form of what `show` is to show.
+/// How what is to be made is said.
+fn said_form_of(options: &ArgMatches) -> SaidForm
+    ensures { result ≡ said_by (first_value (found_of options.now) (codes "json")) }
+{
+    if is_set(options, "json") {
+        SaidForm::Json
+    } else {
+        SaidForm::Lines
+    }
+}
+
+/// What `show` is asked for.
+fn show_of(options: &ArgMatches) -> Result<Action, UsageFault>
+    ensures { Reads (AsksShow (found_texts (found_of options.now))) result }
+{
+    let how = shown_form_option(options)?;
+    Ok(Action::Show(how, form_of(options)))
+}
+
+/// How `show` is to show messages: with cards whole only as JSON.
+fn shown_form_option(options: &ArgMatches) -> Result<ShownForm, UsageFault>
+    ensures { Reads (ShownFormIs (found_texts (found_of options.now))) result }
+{
+    match (is_set(options, "json"), is_set(options, "whole")) {
+        (true, true) => Ok(ShownForm::Json(CardForm::Whole)),
+        (true, false) => Ok(ShownForm::Json(CardForm::Masked)),
+        (false, true) => Err(UsageFault::BadValue(OptionName::Whole)),
+        (false, false) => Ok(ShownForm::Text),
+    }
+}
+
+/// The form of the messages in an input.
 fn form_of(options: &ArgMatches) -> InputForm
     ensures { result ≡ form_of_flag (first_value (found_of options.now) (codes "hex")) }
 {
-    match options.get_str("hex") {
-        Some("true") => InputForm::HexLines,
-        _ => InputForm::Plain,
+    if is_set(options, "hex") {
+        InputForm::HexLines
+    } else {
+        InputForm::Plain
+    }
+}
+
+/// Whether a flag is there.
+fn is_set(options: &ArgMatches, name: &str) -> bool
+    ensures { result ≡ is_set (first_value (found_of options.now) name.now) }
+{
+    match options.get_str(name) {
+        Some("true") => true,
+        _ => false,
     }
 }

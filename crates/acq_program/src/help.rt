@@ -249,6 +249,10 @@ mean; card numbers and tracks are masked, PIN blocks and chip data left out. Of 
 elements the host replies 30 the first such element is told. What spells no message is shown by what
 is wrong with it, and where, and the next is shown all the same.
 
+With --json each message is an object of JSON on its line, for a program: its type, and the contents
+of its elements by number, one character a byte. What is masked stays so; with --whole it stands
+whole. Of lines that have no message nothing is written.
+
 The status is 0 where all is well, 1 for a fault, 2 for wrong usage, 3 where memory ran out. A
 fault is one line on standard error, and what was written before it stands:
   acqd: 1 Memory
@@ -258,8 +262,9 @@ fault is one line on standard error, and what was written before it stands:
   acqd: 54 Write BYTES             a write failed after so many bytes of a message's text
   acqd: 62 BadLine LINE            this line holds no message in hexadecimal; nothing is shown
 
-Example: what comes back for an echo test
-  acqd once < examples/echo.frame | acqd show";
+Examples: what comes back for an echo test
+  acqd once < examples/echo.frame | acqd show
+  acqd once < examples/echo.frame | acqd show --json";
 
 pub(crate) const ABOUT_MAKE: &str = "Makes messages of text on standard input";
 
@@ -269,7 +274,8 @@ number, a blank and its content, as in `41 TERM0001`. An empty line ends a messa
 begins with # says nothing. What `acqd show` prints is such a text, once the masked card number and
 what else it hides is written out. Bitmaps and lengths are made. The messages go to standard output
 as frames; with --hex as lines, each a message in hexadecimal; with --event as event lines for
-`acqd replay`. All lines are read first, and where one is refused nothing is written.
+`acqd replay`. All lines are read first, and where one is refused nothing is written. With --json
+the text has an object of JSON on each line, as `acqd show --json --whole` writes them.
 
 The status is 0 where all is well, 1 for a fault, 2 for wrong usage, 3 where memory ran out. A
 fault is one line on standard error:
@@ -320,11 +326,15 @@ pub(crate) const ABOUT_EXPLAIN: &str =
     "Says what the host would say to the events on standard input now, and why";
 
 pub(crate) const MORE_OF_EXPLAIN: &str = "\
-The input is that of `acqd replay`: event lines, all of which are read first. Each is looked at by
-itself, over the book as it stands; nothing in the book is changed. For a reply with another code
-than 00 a line has the code, the reason in a word, and the reason in words; below it, behind four
-blanks, stand the element that decided and what it was compared with. Of a repeat the code is the
-one that was kept. Of all else the line is what `acqd replay` would write.
+The input is event lines, as `acqd replay` reads them, or messages as frames, which come at the
+moment of --at or now; with --hex it is lines, each a message in hexadecimal. All are read first.
+Each is looked at by itself, over the book as it stands; nothing in the book is changed. Without
+--db the book is a new one, behind the events of the file that --events names.
+
+For a reply with another code than 00 a line has the code, the reason in a word, and the reason in
+words; of a repeat the code is the one that was kept. Of all else the line is what `acqd replay`
+would write. Below it, behind four blanks, stand the checks that the request passed, in their order,
+and then the element that decided and what it was compared with.
 
 The status is 0 where all is well, 1 for a fault, 2 for wrong usage, 3 where memory ran out or the
 file failed. A fault is one line on standard error:
@@ -332,12 +342,15 @@ file failed. A fault is one line on standard error:
   acqd: 2 Store                    the file can't be opened or read
   acqd: 40 NotABook                the file holds no book
   acqd: 41 OtherVersion VERSION    the file holds a book of this other version
-  acqd: 53 Read                    a read failed
-  acqd: 54 Write BYTES             a write failed after so many bytes of an event's text
-  acqd: 62 BadLine RECORD          this record of the input is out of its form
+  acqd: 50 BadLength               a frame's length is 0 or above 4,096
+  acqd: 51 Ended                   the input ends inside a frame
+  acqd: 53 Read                    the file of --events can't be read, or a read failed
+  acqd: 54 Write BYTES             a write failed after so many bytes of the text
+  acqd: 62 BadLine RECORD          this record of the input or of --events is out of its form
 
-Example:
-  acqd make --event 1714555800 < examples/sale.txt | acqd explain --db book.db";
+Examples:
+  acqd make < examples/sale.txt | acqd explain --db book.db
+  acqd make < examples/sale.txt | acqd explain --events examples/setup.csv --day 2024-05-01";
 
 pub(crate) const ABOUT_TELL: &str =
     "Sends the lines on standard input to a host, and writes its answers";
@@ -346,8 +359,8 @@ pub(crate) const MORE_OF_TELL: &str = "\
 PATH is the socket's file at which `acqd listen --control PATH` takes control connections. Each line
 is sent once the answer to the one before it is whole: an event line, where `now` may stand for the
 moment; `end,DAY`, which cuts over if that is the business day; `clearing,DAY`, `report,DAY`,
-`holds,MERCHANT,MOMENT`, `pending,DAY`, `status` or `metrics`; `reopen`, for the log; or `stop`. An
-answer's line goes to standard output as it comes, and of a text its bytes alone. A fault's line
+`holds,MERCHANT,MOMENT`, `pending,DAY`, `explain,HEX`, `status` or `metrics`; `reopen`, for the log;
+or `stop`. An answer's line goes to standard output as it comes, and of a text its bytes alone. A fault's line
 goes to standard error, and the lines behind it are sent all the same.
 
 The status is 0 where no answer was a fault's line, 1 for a fault, 2 for wrong usage, 3 where memory

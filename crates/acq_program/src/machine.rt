@@ -2,7 +2,7 @@
 
 use acq_ask::Watch;
 use acq_book::Book;
-use acq_core::Limit;
+use acq_core::{Event, Limit};
 use acq_faults::{Fault, Gathering, ListenOptions, Patience};
 use acq_link::{Sink, Source};
 use acq_serving::Connections;
@@ -18,7 +18,7 @@ pub trait Machine<B: Book + Drop>: Sized + Watch {
     ghost use Rattle.acq_core.specs.Pasts.{HasPast};
     ghost use Rattle.acq_faults.specs.declared.fault.Fault.TheVariants.{Read, Silent};
     ghost use Rattle.acq_faults.specs.Faults.{IsOfAnswers, IsOfGathering};
-    ghost use Rattle.acq_program.specs.BookFaults.{IsClosing, IsOpening};
+    ghost use Rattle.acq_program.specs.BookFaults.{IsClosing, IsOfEvents, IsOpening};
 
     /// The connections that come in at a port.
     type Connections: Connections + Drop;
@@ -62,6 +62,10 @@ pub trait Machine<B: Book + Drop>: Sized + Watch {
     /// Reads the file of issuers' answers at a path.
     fn read_answers(&self, alloc: Global, path: &str) -> Result<StandIn, Fault>
         ensures { IfErr result IsOfAnswers };
+
+    /// Reads the file of event lines at a path.
+    fn read_events(&self, alloc: Global, path: &str) -> Result<Vec<Event>, Fault>
+        ensures { IfErr result IsOfEvents };
 
     /// Listens at an address and a port. A connection that takes longer than this patience lasts is
     /// closed as a failed read, or a failed write.

@@ -44,8 +44,12 @@ pub enum OptionName {
     Within,
     /// The moment at which messages that are made come.
     Event,
+    /// The file of events that a new book takes first.
+    Events,
     /// How often a message is sent.
     Repeat,
+    /// That cards are shown whole.
+    Whole,
     /// The path of a socket's file.
     Path,
     /// A day of which a report is asked for.
@@ -79,7 +83,9 @@ impl fmt::Display for OptionName {
             OptionName::LogBytes => "--log-bytes",
             OptionName::Within => "--within",
             OptionName::Event => "--event",
+            OptionName::Events => "--events",
             OptionName::Repeat => "--repeat",
+            OptionName::Whole => "--whole",
             OptionName::Path => "PATH",
             OptionName::Report(ReportKind::Clearing) => "--clearing",
             OptionName::Report(ReportKind::Settlement) => "--report",

@@ -16,6 +16,12 @@ use std::alloc::{AllocError, Global};
 
 const FILE_OR_MEMORY: &str = "The file of the book [default: a new book in memory]";
 
+const LIMIT_OF_NEW: &str =
+    "How many messages of one merchant a day admits, 1 to 999999 [default: 999999]";
+
+const FIRST_DAY_OF_NEW: &str =
+    "The first business day, 2000-01-01 to 2099-12-31 [default: 2000-01-01]";
+
 const ISSUERS: &str = "The file of issuers' answers [default: no issuer can be reached]";
 
 const ANSWERING: &str = "The file of issuers' answers [default: `none` for each]";
@@ -25,6 +31,13 @@ const COMING_AT: &str =
 
 const FRAME_WITHIN: &str =
     "How long a frame may take, first byte to last, 0 to 999999, 0 for ever [default: 30]";
+
+/// That messages stand in lines of hexadecimal.
+const HEX_INPUT: Parameter<'static> = Parameter {
+    name: "hex",
+    kind: Flag,
+    help: "The input is lines, each a message in hexadecimal",
+};
 
 /// The file of a book that is there.
 const BOOK: Parameter<'static> = Parameter {
@@ -154,12 +167,12 @@ const REPLAY: [Parameter<'static>; 5] = [
     Parameter {
         name: "limit",
         kind: Optional("N"),
-        help: "How many messages of one merchant a day admits, 1 to 999999 [default: 999999]",
+        help: LIMIT_OF_NEW,
     },
     Parameter {
         name: "day",
         kind: Optional("YYYY-MM-DD"),
-        help: "The first business day, 2000-01-01 to 2099-12-31 [default: 2000-01-01]",
+        help: FIRST_DAY_OF_NEW,
     },
     Parameter {
         name: "clearing",
@@ -219,14 +232,22 @@ const PENDING: [Parameter<'static>; 4] = [
 ];
 
 /// What `show` takes.
-const SHOW: [Parameter<'static>; 1] = [Parameter {
-    name: "hex",
-    kind: Flag,
-    help: "The input is lines, each a message in hexadecimal",
-}];
+const SHOW: [Parameter<'static>; 3] = [
+    HEX_INPUT,
+    Parameter {
+        name: "json",
+        kind: Flag,
+        help: "The output is JSON, an object a message",
+    },
+    Parameter {
+        name: "whole",
+        kind: Flag,
+        help: "With --json: what is masked else, card numbers too, stands whole",
+    },
+];
 
 /// What `make` takes.
-const MAKE: [Parameter<'static>; 2] = [
+const MAKE: [Parameter<'static>; 3] = [
     Parameter {
         name: "hex",
         kind: Flag,
@@ -236,6 +257,11 @@ const MAKE: [Parameter<'static>; 2] = [
         name: "event",
         kind: Optional("MOMENT"),
         help: "The output is event lines: the messages come then, 946684800 to 4102444799",
+    },
+    Parameter {
+        name: "json",
+        kind: Flag,
+        help: "The input is JSON, an object a message, each on its line",
     },
 ];
 
@@ -278,7 +304,34 @@ const TELL: [Parameter<'static>; 2] = [
 ];
 
 /// What `explain` takes.
-const EXPLAIN: [Parameter<'static>; 1] = [BOOK];
+const EXPLAIN: [Parameter<'static>; 6] = [
+    Parameter {
+        name: "db",
+        kind: Optional("FILE"),
+        help: FILE_OR_MEMORY,
+    },
+    Parameter {
+        name: "events",
+        kind: Optional("FILE"),
+        help: "The file of event lines that a new book takes first [default: none]",
+    },
+    Parameter {
+        name: "limit",
+        kind: Optional("N"),
+        help: LIMIT_OF_NEW,
+    },
+    Parameter {
+        name: "day",
+        kind: Optional("YYYY-MM-DD"),
+        help: FIRST_DAY_OF_NEW,
+    },
+    HEX_INPUT,
+    Parameter {
+        name: "at",
+        kind: Optional("MOMENT"),
+        help: "The moment at which messages come, 946684800 to 4102444799 [default: the clock's]",
+    },
+];
 
 /// What `status` takes.
 const STATUS: [Parameter<'static>; 1] = [BOOK];

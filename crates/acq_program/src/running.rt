@@ -123,10 +123,12 @@ fn run<B: Book + Drop, M: Machine<B> + Drop, C: Clock, S: Source, K: Sink, F: Si
         Action::Report(options) => plainly(report(alloc, machine, &options, output)),
         Action::Holds(options) => plainly(holds(alloc, machine, &options, output)),
         Action::Pending(asked) => plainly(answer_pending(alloc, machine, &asked, clock, output)),
-        Action::Show(form) => plainly(show(alloc, form, input, output)),
-        Action::Make(form) => plainly(make(alloc, &form, input, output)),
+        Action::Show(how, form) => plainly(show(alloc, how, form, input, output)),
+        Action::Make(said, form) => plainly(make(alloc, said, &form, input, output)),
         Action::Status(path) => plainly(tell_status(alloc, machine, &path, output)),
-        Action::Explain(path) => plainly(explain(alloc, machine, &path, input, output)),
+        Action::Explain(asked) => {
+            plainly(explain(alloc, keys, machine, &asked, clock, input, output))
+        }
         Action::Ask(asked) => plainly(ask_host(alloc, machine, &asked, input, output)),
         Action::Tell(asked) => tell_host(alloc, machine, &asked, input, output, faults),
     }

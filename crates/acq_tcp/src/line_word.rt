@@ -1,7 +1,7 @@
 //! The words that lines of control connections begin with.
 
 /// These words: those of event lines, of texts, and the others.
-const WORDS: [&str; 16] = [
+const WORDS: [&str; 17] = [
     "frame",
     "answer",
     "cutover",
@@ -13,6 +13,7 @@ const WORDS: [&str; 16] = [
     "report",
     "holds",
     "pending",
+    "explain",
     "status",
     "metrics",
     "end",

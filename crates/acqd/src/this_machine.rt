@@ -2,7 +2,7 @@
 
 ghost use Rattle.std.specs.Prelude.{◌≡◌, IfErr};
 ghost use Rattle.acq_faults.specs.Faults.{IsOfAnswers, IsOfGathering};
-ghost use Rattle.acq_program.specs.BookFaults.{IsClosing, IsOpening};
+ghost use Rattle.acq_program.specs.BookFaults.{IsClosing, IsOfEvents, IsOpening};
 ghost use Rattle.acqd.specs.BookFiles.{of_opening};
 
 use crate::apart::names_a_file_twice;
@@ -16,9 +16,10 @@ use crate::open_book::{make_book, migrate_book, open_book};
 use crate::terminals_host::terminals_host;
 use acq_ask::Watch;
 use acq_causes::{Lack, Signs};
-use acq_core::Limit;
+use acq_core::{Event, Limit};
 use acq_faults::{Fault, ListenOptions, Patience};
 use acq_link::{ReadSource, WriteSink};
+use acq_out::read_events;
 use acq_program::Machine;
 use acq_sql::SqlBook;
 use acq_sql_checking::OpeningFault;
@@ -127,6 +128,14 @@ impl<'a, D: Start> Machine<SqlBook<FileStore<FileFrom<D>>>> for ThisMachine<'a, 
         answers
     }
 
+    fn read_events(&self, alloc: Global, path: &str) -> Result<Vec<Event>, Fault> {
+        let events = events_in(self.rt, alloc, path);
+        if events.is_err() {
+            self.signs.note(Lack::Events);
+        }
+        events
+    }
+
     fn listen_at(
         &self,
         endpoint: SocketAddrV4,
@@ -228,6 +237,16 @@ fn answers_in(rt: &HostRuntime, alloc: Global, path: &str) -> Result<StandIn, Fa
         return Err(Fault::Read);
     };
     Ok(StandIn::read(alloc, &mut ReadSource::new(file))?)
+}
+
+/// The events of the lines in the file at a path.
+fn events_in(rt: &HostRuntime, alloc: Global, path: &str) -> Result<Vec<Event>, Fault>
+    ensures { IfErr result IsOfEvents }
+{
+    let Ok(file) = File::open(rt, path) else {
+        return Err(Fault::Read);
+    };
+    Ok(read_events(alloc, &mut ReadSource::new(file))?)
 }
 
 /// The log that is asked for, if one is.

@@ -13,7 +13,7 @@ returns-in_err-text-clause-made g c =
       [],
       more.1,
       sym (append-nil (g.K.Sink.sent c.args.output.now)),
-      rw (p.1, p.2) (input_unmade c.args.form.now c.in_err-text.field-0.0 more.0),
+      rw (p.1, p.2) (input_unmade c.args.said c.args.form.now c.in_err-text.field-0.0 more.0),
     )
 
 pub returns-in_err-text-clause-whole : goal.returns-in_err-text-clause-whole

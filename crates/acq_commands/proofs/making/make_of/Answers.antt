@@ -9,7 +9,7 @@ returns-in_err-messages-clause-made g c =
       [],
       sym (append-nil (g.K.Sink.sent c.args.output.now)),
       rw (p.1, p.2)
-          (text_unmade c.args.form.now c.args.text.now c.in_err-messages.field-0.0
+          (text_unmade c.args.said c.args.form.now c.args.text.now c.in_err-messages.field-0.0
           c.in_err-messages.ensures.fault),
     )
 

@@ -14,7 +14,7 @@ returns-in_err-bytes-clause-shown g c =
       more.1,
       sym (append-nil (g.K.Sink.sent c.args.output.now)),
       rw (p.1, p.2)
-          (input_unshown c.args.form c.in_err-bytes.field-0.0 more.0),
+          (input_unshown c.args.how c.args.form c.in_err-bytes.field-0.0 more.0),
     )
 
 pub returns-clause-shown : goal.returns-clause-shown

@@ -10,11 +10,11 @@ loop-rest-preserved g c =
     let so = c.loop-rest.invariant.0 in
     let message = c.in_ok-message.message.now in
     let front = c.in_ok-message.ensures.found in
-    let more = entry message in (
+    let more = entry c.args.how message in (
       (
         so.0 ++ message ∷ [],
         so.1 ++ more,
-        shows_more c.args.frames.now so.1 c.loop-rest.rest.now message c.in_ok-message.after.now
+        shows_more c.args.how c.args.frames.now so.1 c.loop-rest.rest.now message c.in_ok-message.after.now
             so.0 so.2
             front.whole front.fits,
         c.in_ok-show_one.ensures.sent ∙ ap (λ (x : List ℕ). x ++ more) so.3
@@ -30,7 +30,7 @@ returns-in_err-message-clause-shown g c =
       so.1,
       so.3,
       rw (p.1, p.2)
-          (frame_stops c.args.frames.now so.1 c.loop-rest.rest.now so.0
+          (frame_stops c.args.how c.args.frames.now so.1 c.loop-rest.rest.now so.0
           c.in_err-message.field-0.0 so.2 c.in_err-message.ensures.fault),
     )
 
@@ -52,7 +52,7 @@ returns-in_err-show_one-clause-shown g c =
     let so = c.loop-rest.invariant.0 in
     let p = err_from_is_err_and c.from_residual-in_err-show_one.result
     c.from_residual-in_err-show_one.ensures.1 in
-    let stopped = one_stops c.args.frames.now so.1 c.loop-rest.rest.now
+    let stopped = one_stops c.args.how c.args.frames.now so.1 c.loop-rest.rest.now
     c.in_ok-message.message.now c.in_ok-message.after.now (g.K.Sink.sent c.args.output.now)
     (g.K.Sink.sent c.loop-rest.output) (g.K.Sink.sent c.show_one.new.output) so.0
     c.in_err-show_one.field-0.0 so.2 c.in_ok-message.ensures.found so.3
@@ -63,7 +63,7 @@ pub returns-in_err-show_one-clause-reads : goal.returns-in_err-show_one-clause-r
 returns-in_err-show_one-clause-reads g c =
     let p = err_from_is_err_and c.from_residual-in_err-show_one.result
     c.from_residual-in_err-show_one.ensures.1 in
-    rw (p.1, p.2) (one_unread _ _ _ c.in_err-show_one.field-0.0 c.in_err-show_one.ensures.sent)
+    rw (p.1, p.2) (one_unread c.args.how _ _ _ c.in_err-show_one.field-0.0 c.in_err-show_one.ensures.sent)
 
 pub returns-in_err-show_one-clause-writes : goal.returns-in_err-show_one-clause-writes
 returns-in_err-show_one-clause-writes g c =

@@ -11,7 +11,7 @@ returns-in_err-frames-clause-shown g c =
       [],
       sym (append-nil (g.K.Sink.sent c.args.output.now)),
       rw (p.1, p.2)
-          (hex_unshown c.args.lines.now c.in_err-frames.field-0.0 c.in_err-frames.ensures.fault),
+          (hex_unshown c.args.how c.args.lines.now c.in_err-frames.field-0.0 c.in_err-frames.ensures.fault),
     )
 
 pub returns-in_err-frames-clause-reads : goal.returns-in_err-frames-clause-reads
@@ -30,7 +30,7 @@ returns-clause-shown g c =
     let held = c.in_ok-frames.ensures.frames in (
       so.0,
       so.1,
-      hex_shown c.args.lines.now so.0 held.0 c.show_frames.result held.1
-          (subst (λ (frames : List ℕ). Shows frames so.0 c.show_frames.result)
+      hex_shown c.args.how c.args.lines.now so.0 held.0 c.show_frames.result held.1
+          (subst (λ (frames : List ℕ). Shows c.args.how frames so.0 c.show_frames.result)
           (c.as_slice.ensures.value ∙ held.2.whole) so.2),
     )

@@ -1,21 +1,12 @@
 use Rattle.std.proofs.lemmas.Result.{err_from_is_err_and}
-use Rattle.std.proofs.Common.{refl}
-use Rattle.std.specs.Prelude.{Ok}
 use Rattle.clap.specs.Words.{found_of}
-use Rattle.acq_program.specs.declared.action.Action.TheVariants.{Explain}
-use Rattle.acq_program.specs.Arguments.{FileIs, IsExplain, found_texts}
-use Rattle.acq_program.proofs.OptionsRead.{first_fails, then_rest}
+use Rattle.acq_program.specs.Arguments.{ExplainedIs, IsExplain, found_texts}
+use Rattle.acq_program.proofs.OptionsRead.{first_fails}
 use Rattle.acq_program.proofs.arguments.explain_of.Goals as goal
 
-pub returns-in_err-path : goal.returns-in_err-path
-returns-in_err-path c =
+pub returns-in_err-asked : goal.returns-in_err-asked
+returns-in_err-asked c =
     let texts = found_texts (found_of c.args.options.now) in
     let p = err_from_is_err_and c.from_residual.result c.from_residual.ensures.1 in
     rw (p.1, p.2)
-    (first_fails (FileIs texts) IsExplain c.in_err-path.field-0.0 c.in_err-path.ensures)
-
-pub returns : goal.returns
-returns c =
-    let texts = found_texts (found_of c.args.options.now) in
-    then_rest (FileIs texts) IsExplain c.in_ok-path.path (Ok (Explain c.in_ok-path.path))
-    c.in_ok-path.ensures refl
+    (first_fails (ExplainedIs texts) IsExplain c.in_err-asked.field-0.0 c.in_err-asked.ensures)

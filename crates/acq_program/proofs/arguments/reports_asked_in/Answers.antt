@@ -1,13 +1,10 @@
 -- command by command: what the options were read as is what the arguments ask for
 use Rattle.std.proofs.Common.{◌∙◌, Some, codes, ap, sym, refl, inl, inr}
-use Rattle.std.specs.Prelude.{Ok}
 use Rattle.clap.specs.Words.{found_of, rows_of}
 use Rattle.acq_program.specs.Arguments.{AsksHolds}
 use Rattle.acq_program.specs.Arguments.{AsksReport, AsksShow}
 use Rattle.acq_program.specs.Arguments.{AsksPending}
 use Rattle.acq_program.specs.Program.{program}
-use Rattle.acq_program.specs.declared.action.Action.TheVariants.{Show}
-use Rattle.acq_commands.specs.declared.input_form.InputForm.{InputForm}
 use Rattle.acq_faults.specs.declared.report_kind.ReportKind.TheVariants as kinds
 use Rattle.acq_program.proofs.AskedCommands.{named, reads_command}
 use Rattle.acq_program.proofs.arguments.reports_asked_in.Goals as goal
@@ -55,7 +52,7 @@ returns-in-Some-show-default c = λ words well matches.
     well
     (named c.args.matches.now program words (codes "show") (rows_of found) refl
     matches (ap Some (sym it.is-show) ∙ it.ensures.name) it.ensures.rows)
-    (Ok (Show c.form_of.result)) (ap (λ (x : InputForm). Ok (Show x)) c.form_of.ensures)
+    c.show_of.result c.show_of.ensures
 
 pub returns-in-Some-pending-default : goal.returns-in-Some-pending-default
 returns-in-Some-pending-default c = λ words well matches.

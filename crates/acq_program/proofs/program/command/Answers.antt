@@ -1,4 +1,4 @@
-use Rattle.std.proofs.Common.{◌≡◌, ◌∙◌, ap₂, sym, arith}
+use Rattle.std.proofs.Common.{◌∙◌, ap₂, sym, arith}
 use Rattle.clap.specs.Words.{new_app, with_rule}
 use Rattle.acq_program.proofs.TablesRead.{with_next}
 use Rattle.acq_program.proofs.program.command.Goals as goal

@@ -1,4 +1,4 @@
-use Rattle.std.proofs.Common.{◌≡◌, ◌∙◌, ap, ap₂, sym, arith}
+use Rattle.std.proofs.Common.{◌∙◌, ap, ap₂, sym, arith}
 use Rattle.clap.specs.Words.{App, app_of, with_subcommand}
 use Rattle.clap.proofs.SimpleLemmas.{plain_fields}
 use Rattle.acq_program.proofs.TablesRead.{commands_next, plain_at}
