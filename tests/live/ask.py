@@ -242,6 +242,25 @@ def repeat(program):
         wanted("the day's sales", book.cleared(), want)
 
 
+def times(program):
+    """How long replies took: of a hundred, forty take forty milliseconds and one four hundred."""
+    def answer(end, _, count):
+        time.sleep(0.4 if count == 50 else 0.04 if count % 5 in (1, 3) else 0)
+        end.sendall(REPLY)
+
+    began = time.monotonic()
+    with Other(answer) as host:
+        status, text, faults = host.asked(program, echo(1), "--repeat", "100")
+    took = time.monotonic() - began
+    wanted("how it ended", (status, faults), (0, ""))
+    found = [float(it) for it in re.findall(TIME, text)]
+    if not found[0] < 40 <= found[1] < 400 <= found[2] < 1000 * took:
+        raise Wrong(f"how long replies took: {text!r}")
+    rate = int(text.splitlines()[-1].split()[0])
+    if not 100 / took - 1 <= rate <= 100 / 2:
+        raise Wrong(f"{rate} replies a second of 100 in {took} seconds")
+
+
 def codes(program):
     """The replies to one message, by their codes; its trace number goes from 999999 to 000001, and
     what is sent is the message otherwise."""
@@ -302,7 +321,7 @@ def an_end_between(program):
 
 TRIES = [
     sales, another_address, unserved, refused, away, silent, late, in_pieces, rubbish, repeat,
-    codes, no_trace, an_end_between,
+    times, codes, no_trace, an_end_between,
 ]
 
 if __name__ == "__main__":

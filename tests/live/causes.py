@@ -76,6 +76,8 @@ def values(program):
         (["tell", "--within", "-", "c"], "--within", seconds),
         (["ask", "--port", "1", "--within", "-"], "--within", seconds),
         (["ask", "--port", "1", "--repeat", "0"], "--repeat", "1 to 1000000, as in --repeat 1000"),
+        (["explain", "--db", "b", "--events", "e"], "--events", "a file for a new book, without --db"),
+        (["show", "--whole"], "--whole", "beside --json alone"),
         ([*begun, "--log-bytes", "1G"], "--log-bytes",
          "1 to 15 digits, 0 for no bound, as in --log-bytes 1073741824"),
         ([*begun, "--log", "b"], "--log", "a path that no other option names"),

@@ -84,10 +84,21 @@ def size(usual):
 # Messages.
 
 
+# How many digits of length the contents of these elements stand behind, and how many bytes each
+# other element has, after docs/PROFILE.md.
+DIGITS_OF_LENGTH = {2: 2, 32: 2, 33: 2, 35: 2, 45: 2, 48: 3, **{it: 3 for it in range(54, 64)}}
+SIZES = {
+    3: 6, 4: 12, 7: 10, 11: 6, 12: 6, 13: 4, 14: 4, 15: 4, 18: 4, 19: 3, 22: 3, 23: 3, 24: 3, 25: 2,
+    26: 2, 37: 12, 38: 6, 39: 2, 41: 8, 42: 15, 43: 40, 49: 3, 50: 3, 52: 16, 53: 16, 64: 16, 66: 1,
+    70: 3, **{it: 10 for it in range(74, 78)}, **{it: 16 for it in range(86, 90)}, 90: 42, 95: 42,
+    97: 17, 128: 16,
+}
+
+
 def spelled(kind, elements):
     """A message of these elements, by number, as docs/PROFILE.md spells it."""
+    lengths = DIGITS_OF_LENGTH
     bits = sum(1 << 128 - it for it in elements) | (1 << 127 if max(elements) > 64 else 0)
-    lengths = {2: 2, 32: 2, 33: 2, 35: 2, 45: 2, 48: 3, **{it: 3 for it in range(54, 64)}}
     text = kind + f"{bits:032X}"[: 32 if bits >> 127 else 16]
     for number, content in sorted(elements.items()):
         if number in lengths:
@@ -157,20 +168,17 @@ def split_frames(came):
     return frames, bytes(came[end:])
 
 
-def elements_of(reply):
-    """The elements of a reply that has none of variable length but the card."""
-    fixed = {3: 6, 4: 12, 7: 10, 11: 6, 12: 6, 13: 4, 15: 4, 37: 12, 38: 6, 39: 2, 41: 8, 42: 15}
-    fixed |= {49: 3, 66: 1, 70: 3, 97: 17}
-    fixed |= {**{it: 10 for it in range(74, 78)}, **{it: 16 for it in range(86, 90)}}
-    text = reply[2:].decode("latin-1")
+def elements_of(given):
+    """The elements of a frame's message by number, and its type as 0."""
+    text = given[2:].decode("latin-1")
     at = 36 if int(text[4], 16) & 8 else 20
     bits = f"{int(text[4:at], 16):0{(at - 4) * 4}b}"
     found = {0: text[:4]}
     for number in (it for it in range(2, len(bits) + 1) if bits[it - 1] == "1"):
-        if number == 2:
-            at, length = at + 2, int(text[at : at + 2])
+        if digits := DIGITS_OF_LENGTH.get(number):
+            at, length = at + digits, int(text[at : at + digits])
         else:
-            length = fixed[number]
+            length = SIZES[number]
         found[number], at = text[at : at + length], at + length
     return found
 

@@ -65,6 +65,12 @@ SCRIPTS = [
         ("text make", "what was shown, made again"),
         ("text show", "what was shown, made again"),
     ]),
+    ("json_messages 20", [
+        ("text show", "messages as JSON"),
+        ("text make", "messages of JSON"),
+    ]),
+    ("explaining now", [("text explain", "a completion now")]),
+    ("explaining by_control", [("text explain,", "what a host would say")]),
     ("merchants 2", [("text replay", "what a day comes to")]),
     ("migration", [("text replay", "the kiosk"), ("text clearing", "the clearing file")]),
     ("files one_file rows_changed", [("text replay", "the database alone")]),
