@@ -122,10 +122,13 @@ def a_full_day(program):
 def in_a_file(program):
     """Over a book in a file, which is as it was; an input that ends inside a frame, or has none."""
     with Book(program) as book:
-        before = book.files()
+        before = book.output("status")
         text = book.output("explain", "--at", str(MOMENT), given=sale(1, 1) + ECHO)
-        wanted("what is asked", text.splitlines()[0][:27], "ask MERCHANT0000001 00000000")
-        wanted("a book that was looked at", book.files(), before)
+        wanted("what is asked", text.splitlines()[0][:28], "ask MERCHANT0000001 00000000")
+        wanted("a book that was looked at", book.output("status"), before)
+        event = f"frame,{MOMENT},{sale(1, 1)[2:].hex()},,,\n"
+        said = book.output("replay", given=event)
+        wanted("what was explained, and is said then", said, text.splitlines(True)[0])
         for given, fault in ((sale(1, 1) + ECHO[:9], "51 Ended"), (BAD, "50 BadLength")):
             wanted("an input that is cut", book.run("explain", given=given),
                    (1, b"", f"acqd: {fault}\n"))

@@ -37,7 +37,7 @@ def given_messages(chance):
 
 def objects(text):
     """The objects of a text, one a line, with their elements by number, which ascend."""
-    for line in text.decode("utf-8").splitlines():
+    for line in text.decode("utf-8").split("\n")[:-1]:
         it = json.loads(line)
         wanted("the members", list(it), ["type", "elements"])
         numbers = [int(number) for number in it["elements"]]
@@ -81,7 +81,7 @@ def shown(program):
     for (kind, elements), (_, found) in zip(given, hidden):
         want = {n: masked(n, it) if n in HIDDEN else it for n, it in elements.items()}
         wanted(f"a masked {kind}", found, want)
-    wanted("tracks were among them", len(tracks) > 5, True)
+    wanted("tracks were among them", len(tracks) > COUNT // 60, True)
 
 
 def made(program):
