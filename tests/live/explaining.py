@@ -84,7 +84,7 @@ def all_events(program):
 
 
 def now(program):
-    """Without --at a message comes at the clock's moment: a hold is open then or isn't."""
+    """A message comes at the clock's moment, or at that of --at: a hold is open then or isn't."""
     hold = sale(1, 1, "0100", amount=5000)[2:].hex().upper()
     completion = {"kind": "0220", "trace": 2, "card": None, "amount": 5000, "e37": f"{1:012d}"}
     end = int(time.time()) + 3600
@@ -98,10 +98,16 @@ def now(program):
             file.write(events)
             file.flush()
             words = [program, "explain", "--events", file.name, "--day", DAY]
-            status, text, _ = run(words, sale(1, **completion))
-        wanted("how it ended", status, 0)
-        if not text.startswith(f"reply {code}".encode()):
-            raise Wrong(f"a completion now of a hold of {opened}: {text!r}")
+            came = {
+                "now": (code, run(words, sale(1, **completion))),
+                "in time": ("00", run([*words, "--at", str(opened + 60)], sale(1, **completion))),
+                "late": ("25", run([*words, "--at", str(opened + 8 * 86400)],
+                                   sale(1, **completion))),
+            }
+        for when, (want, (status, text, _)) in came.items():
+            wanted("how it ended", status, 0)
+            if not text.startswith(f"reply {want}".encode()):
+                raise Wrong(f"a completion {when} of a hold of {opened}: {text!r}")
 
 
 def a_full_day(program):
