@@ -1,5 +1,6 @@
 pub mod Order
 pub mod Lookups
+pub mod Looked
 pub mod Fits
 pub mod Promise
 pub mod Visits

@@ -1,6 +1,6 @@
 //! What keeps the tables.
 
-ghost use Rattle.std.specs.Prelude.{◌≡◌, ℕ, IfOk, OnOk, OnErr, is_ok};
+ghost use Rattle.std.specs.Prelude.{◌≡◌, ℕ, is_ok};
 ghost use Rattle.acq_core.specs.Tables.{Tables, after};
 ghost use Rattle.acq_core.specs.Pasts.{HasPast};
 ghost use Rattle.acq_book.specs.Fits.{Fits, HasItsRequest};
@@ -10,14 +10,14 @@ ghost use Rattle.acq_book.specs.Lookups.{request_at, referred_at, admitted_at, u
 ghost use Rattle.acq_book.specs.Lookups.{pending_at, used_on_at, waiting_count_at};
 ghost use Rattle.acq_book.specs.Lookups.{last_reconciliation_at};
 ghost use Rattle.acq_book.specs.Lookups.{postings_at, merchants_at, holds_at, waiting_at};
-ghost use Rattle.acq_book.specs.Promise.{BlamesStore, CountsFault, LooksBy, MakesBy};
-ghost use Rattle.acq_book.specs.Visits.{SawAll, SawRows, SawSome};
+ghost use Rattle.acq_book.specs.Looked.{IsLooked};
+ghost use Rattle.acq_book.specs.Promise.{BlamesStore, CountsFault, GivesBy, MakesBy, WalksBy};
 
 use crate::book_fault::BookFault;
 use crate::visit::Visit;
 use acq_core::{
-    AdmittedCount, Change, Limit, Merchant, MerchantId, Posting, Reconciliation, Reference,
-    Request, RequestKey, TerminalId, UsedCount,
+    AdmittedCount, Change, Limit, Looked, Merchant, MerchantId, Posting, Reconciliation, Reference,
+    Request, RequestKey, TerminalId, UsedCount, Wanted,
 };
 use card_no::{Prefix, Range};
 use day_totals::{Day, Totals};
@@ -52,102 +52,114 @@ pub trait Book {
     /// Nothing but memory and a fault of the store itself is in the way of its calls.
     ghost has_room: { Self → Type 0 };
 
+    /// Looks up what is wanted: each part of the answer is what the tables have.
+    fn look_up(&mut self, wanted: &Wanted) -> Result<Looked, BookFault>
+        ensures { GivesBy tables is_honest is_open may_leave leaves_books failures store_faults
+            has_room self.old self.new result
+            (IsLooked (tables self.old) wanted.now) };
+
     /// How many messages of a merchant a day admits.
     fn limit(&mut self) -> Result<Limit, BookFault>
-        ensures value { is_open self.new → IfOk result (λ n. n ≡ (tables self.old).limit) }
-        ensures looks { LooksBy tables is_honest is_open may_leave leaves_books
-            failures store_faults self.old self.new (is_ok result) }
-        ensures store { CountsFault result (failures self.old) (failures self.new) }
-        ensures blames { is_honest self.new → is_open self.old → has_room self.old
-            → BlamesStore result (store_faults self.old) (store_faults self.new) }
-        ensures room { is_open self.new → has_room self.old → has_room self.new };
+        ensures { GivesBy tables is_honest is_open may_leave leaves_books failures store_faults
+            has_room self.old self.new result
+            (λ n. n ≡ (tables self.old).limit) }
+    {
+        let wanted = Wanted::nothing();
+        let looked = self.look_up(&wanted)?;
+        let found = looked.limit;
+        drop(looked);
+        Ok(found)
+    }
 
     /// The business day.
     fn day(&mut self) -> Result<Day, BookFault>
-        ensures value { is_open self.new → IfOk result (λ day. day ≡ (tables self.old).day) }
-        ensures looks { LooksBy tables is_honest is_open may_leave leaves_books
-            failures store_faults self.old self.new (is_ok result) }
-        ensures store { CountsFault result (failures self.old) (failures self.new) }
-        ensures blames { is_honest self.new → is_open self.old → has_room self.old
-            → BlamesStore result (store_faults self.old) (store_faults self.new) }
-        ensures room { is_open self.new → has_room self.old → has_room self.new };
+        ensures { GivesBy tables is_honest is_open may_leave leaves_books failures store_faults
+            has_room self.old self.new result
+            (λ day. day ≡ (tables self.old).day) }
+    {
+        let wanted = Wanted::nothing();
+        let looked = self.look_up(&wanted)?;
+        let found = looked.today;
+        drop(looked);
+        Ok(found)
+    }
 
     /// The merchant with this name.
     fn merchant(&mut self, id: MerchantId) -> Result<Option<Merchant>, BookFault>
-        ensures value { is_open self.new → IfOk result
+        ensures { GivesBy tables is_honest is_open may_leave leaves_books failures store_faults
+            has_room self.old self.new result
             (λ row. row ≡ merchant_at (tables self.old) id) }
-        ensures looks { LooksBy tables is_honest is_open may_leave leaves_books
-            failures store_faults self.old self.new (is_ok result) }
-        ensures store { CountsFault result (failures self.old) (failures self.new) }
-        ensures blames { is_honest self.new → is_open self.old → has_room self.old
-            → BlamesStore result (store_faults self.old) (store_faults self.new) }
-        ensures room { is_open self.new → has_room self.old → has_room self.new };
+    {
+        let wanted = Wanted { merchant: Some(id), ..Wanted::nothing() };
+        let looked = self.look_up(&wanted)?;
+        let found = looked.merchant;
+        drop(looked);
+        Ok(found)
+    }
 
     /// Whether the merchant has this terminal.
     fn has_terminal(&mut self, merchant: MerchantId, id: TerminalId) -> Result<bool, BookFault>
-        ensures value { is_open self.new → IfOk result
+        ensures { GivesBy tables is_honest is_open may_leave leaves_books failures store_faults
+            has_room self.old self.new result
             (λ has. has ≡ has_terminal_at (tables self.old) merchant id) }
-        ensures looks { LooksBy tables is_honest is_open may_leave leaves_books
-            failures store_faults self.old self.new (is_ok result) }
-        ensures store { CountsFault result (failures self.old) (failures self.new) }
-        ensures blames { is_honest self.new → is_open self.old → has_room self.old
-            → BlamesStore result (store_faults self.old) (store_faults self.new) }
-        ensures room { is_open self.new → has_room self.old → has_room self.new };
+    {
+        let wanted = Wanted { merchant: Some(merchant), terminal: Some(id), ..Wanted::nothing() };
+        let looked = self.look_up(&wanted)?;
+        let found = looked.has_terminal;
+        drop(looked);
+        Ok(found)
+    }
 
     /// How many terminals there are, of all merchants.
     fn terminal_count(&mut self) -> Result<u64, BookFault>
-        ensures value { is_open self.new → IfOk result
-            (λ n. n ≡ terminal_count_at (tables self.old)) }
-        ensures looks { LooksBy tables is_honest is_open may_leave leaves_books
-            failures store_faults self.old self.new (is_ok result) }
-        ensures store { CountsFault result (failures self.old) (failures self.new) }
-        ensures blames { is_honest self.new → is_open self.old → has_room self.old
-            → BlamesStore result (store_faults self.old) (store_faults self.new) }
-        ensures room { is_open self.new → has_room self.old → has_room self.new };
+        ensures { GivesBy tables is_honest is_open may_leave leaves_books failures store_faults
+            has_room self.old self.new result
+            (λ n. n ≡ terminal_count_at (tables self.old)) };
 
     /// The range that holds a prefix.
     fn range(&mut self, prefix: Prefix) -> Result<Option<Range>, BookFault>
-        ensures value { is_open self.new → IfOk result
+        ensures { GivesBy tables is_honest is_open may_leave leaves_books failures store_faults
+            has_room self.old self.new result
             (λ range. range ≡ range_at (tables self.old) prefix) }
-        ensures looks { LooksBy tables is_honest is_open may_leave leaves_books
-            failures store_faults self.old self.new (is_ok result) }
-        ensures store { CountsFault result (failures self.old) (failures self.new) }
-        ensures blames { is_honest self.new → is_open self.old → has_room self.old
-            → BlamesStore result (store_faults self.old) (store_faults self.new) }
-        ensures room { is_open self.new → has_room self.old → has_room self.new };
+    {
+        let wanted = Wanted { prefix: Some(prefix), ..Wanted::nothing() };
+        let mut looked = self.look_up(&wanted)?;
+        let found = looked.range.take();
+        drop(looked);
+        Ok(found)
+    }
 
     /// Of the ranges that overlap these ends, the one of least low.
     fn overlapping(&mut self, low: u32, high: u32) -> Result<Option<Range>, BookFault>
-        ensures value { is_open self.new → IfOk result
+        ensures { GivesBy tables is_honest is_open may_leave leaves_books failures store_faults
+            has_room self.old self.new result
             (λ range. range ≡ overlapping_at (tables self.old) low high) }
-        ensures looks { LooksBy tables is_honest is_open may_leave leaves_books
-            failures store_faults self.old self.new (is_ok result) }
-        ensures store { CountsFault result (failures self.old) (failures self.new) }
-        ensures blames { is_honest self.new → is_open self.old → has_room self.old
-            → BlamesStore result (store_faults self.old) (store_faults self.new) }
-        ensures room { is_open self.new → has_room self.old → has_room self.new };
+    {
+        let wanted = Wanted { bounds: Some((low, high)), ..Wanted::nothing() };
+        let mut looked = self.look_up(&wanted)?;
+        let found = looked.overlapped.take();
+        drop(looked);
+        Ok(found)
+    }
 
     /// How many ranges there are.
     fn range_count(&mut self) -> Result<u64, BookFault>
-        ensures value { is_open self.new → IfOk result
-            (λ n. n ≡ range_count_at (tables self.old)) }
-        ensures looks { LooksBy tables is_honest is_open may_leave leaves_books
-            failures store_faults self.old self.new (is_ok result) }
-        ensures store { CountsFault result (failures self.old) (failures self.new) }
-        ensures blames { is_honest self.new → is_open self.old → has_room self.old
-            → BlamesStore result (store_faults self.old) (store_faults self.new) }
-        ensures room { is_open self.new → has_room self.old → has_room self.new };
+        ensures { GivesBy tables is_honest is_open may_leave leaves_books failures store_faults
+            has_room self.old self.new result
+            (λ n. n ≡ range_count_at (tables self.old)) };
 
     /// The request with this key.
     fn request(&mut self, key: RequestKey) -> Result<Option<Request>, BookFault>
-        ensures value { is_open self.new → IfOk result
+        ensures { GivesBy tables is_honest is_open may_leave leaves_books failures store_faults
+            has_room self.old self.new result
             (λ row. row ≡ request_at (tables self.old) key) }
-        ensures looks { LooksBy tables is_honest is_open may_leave leaves_books
-            failures store_faults self.old self.new (is_ok result) }
-        ensures store { CountsFault result (failures self.old) (failures self.new) }
-        ensures blames { is_honest self.new → is_open self.old → has_room self.old
-            → BlamesStore result (store_faults self.old) (store_faults self.new) }
-        ensures room { is_open self.new → has_room self.old → has_room self.new };
+    {
+        let wanted = Wanted { key: Some(key), ..Wanted::nothing() };
+        let mut looked = self.look_up(&wanted)?;
+        let found = looked.recorded.take();
+        drop(looked);
+        Ok(found)
+    }
 
     /// The merchant's request with this reference.
     fn by_reference(
@@ -155,78 +167,73 @@ pub trait Book {
         merchant: MerchantId,
         reference: Reference,
     ) -> Result<Option<Request>, BookFault>
-        ensures value { is_open self.new → IfOk result
+        ensures { GivesBy tables is_honest is_open may_leave leaves_books failures store_faults
+            has_room self.old self.new result
             (λ row. row ≡ referred_at (tables self.old) merchant reference) }
-        ensures looks { LooksBy tables is_honest is_open may_leave leaves_books
-            failures store_faults self.old self.new (is_ok result) }
-        ensures store { CountsFault result (failures self.old) (failures self.new) }
-        ensures blames { is_honest self.new → is_open self.old → has_room self.old
-            → BlamesStore result (store_faults self.old) (store_faults self.new) }
-        ensures room { is_open self.new → has_room self.old → has_room self.new };
+    {
+        let wanted = Wanted { merchant: Some(merchant), reference: Some(reference), ..Wanted::nothing() };
+        let mut looked = self.look_up(&wanted)?;
+        let found = looked.referred.take();
+        drop(looked);
+        Ok(found)
+    }
 
     /// How many of the merchant's requests were admitted: so many references it has given.
     fn admitted(&mut self, merchant: MerchantId) -> Result<AdmittedCount, BookFault>
-        ensures value { is_open self.new → IfOk result
+        ensures { GivesBy tables is_honest is_open may_leave leaves_books failures store_faults
+            has_room self.old self.new result
             (λ n. n ≡ admitted_at (tables self.old) merchant) }
-        ensures looks { LooksBy tables is_honest is_open may_leave leaves_books
-            failures store_faults self.old self.new (is_ok result) }
-        ensures store { CountsFault result (failures self.old) (failures self.new) }
-        ensures blames { is_honest self.new → is_open self.old → has_room self.old
-            → BlamesStore result (store_faults self.old) (store_faults self.new) }
-        ensures room { is_open self.new → has_room self.old → has_room self.new };
+    {
+        let wanted = Wanted { merchant: Some(merchant), admitted: true, ..Wanted::nothing() };
+        let looked = self.look_up(&wanted)?;
+        let found = looked.admitted;
+        drop(looked);
+        Ok(found)
+    }
 
     /// How many of the merchant's messages count against the limit of a day.
     fn used(&mut self, merchant: MerchantId, day: Day) -> Result<UsedCount, BookFault>
-        ensures value { is_open self.new → IfOk result
+        ensures { GivesBy tables is_honest is_open may_leave leaves_books failures store_faults
+            has_room self.old self.new result
             (λ n. n ≡ used_at (tables self.old) merchant day) }
-        ensures looks { LooksBy tables is_honest is_open may_leave leaves_books
-            failures store_faults self.old self.new (is_ok result) }
-        ensures store { CountsFault result (failures self.old) (failures self.new) }
-        ensures blames { is_honest self.new → is_open self.old → has_room self.old
-            → BlamesStore result (store_faults self.old) (store_faults self.new) }
-        ensures room { is_open self.new → has_room self.old → has_room self.new };
+    {
+        let wanted = Wanted { merchant: Some(merchant), used_day: Some(day), ..Wanted::nothing() };
+        let looked = self.look_up(&wanted)?;
+        let found = looked.used;
+        drop(looked);
+        Ok(found)
+    }
 
     /// How many messages of all merchants count against the limit of a day.
     fn used_on(&mut self, day: Day) -> Result<u64, BookFault>
-        ensures value { is_open self.new → IfOk result (λ n. n ≡ used_on_at (tables self.old) day) }
-        ensures looks { LooksBy tables is_honest is_open may_leave leaves_books
-            failures store_faults self.old self.new (is_ok result) }
-        ensures store { CountsFault result (failures self.old) (failures self.new) }
-        ensures blames { is_honest self.new → is_open self.old → has_room self.old
-            → BlamesStore result (store_faults self.old) (store_faults self.new) }
-        ensures room { is_open self.new → has_room self.old → has_room self.new };
+        ensures { GivesBy tables is_honest is_open may_leave leaves_books failures store_faults
+            has_room self.old self.new result
+            (λ n. n ≡ used_on_at (tables self.old) day) };
 
     /// The merchant's totals of a day.
     fn totals(&mut self, merchant: MerchantId, day: Day) -> Result<Totals, BookFault>
-        ensures value { is_open self.new → IfOk result
+        ensures { GivesBy tables is_honest is_open may_leave leaves_books failures store_faults
+            has_room self.old self.new result
             (λ totals. totals ≡ totals_at (tables self.old) merchant day) }
-        ensures looks { LooksBy tables is_honest is_open may_leave leaves_books
-            failures store_faults self.old self.new (is_ok result) }
-        ensures store { CountsFault result (failures self.old) (failures self.new) }
-        ensures blames { is_honest self.new → is_open self.old → has_room self.old
-            → BlamesStore result (store_faults self.old) (store_faults self.new) }
-        ensures room { is_open self.new → has_room self.old → has_room self.new };
+    {
+        let wanted = Wanted { merchant: Some(merchant), totals_day: Some(day), ..Wanted::nothing() };
+        let looked = self.look_up(&wanted)?;
+        let found = looked.totals;
+        drop(looked);
+        Ok(found)
+    }
 
     /// How many requests of a day are pending, of all merchants.
     fn pending(&mut self, day: Day) -> Result<u64, BookFault>
-        ensures value { is_open self.new → IfOk result (λ n. n ≡ pending_at (tables self.old) day) }
-        ensures looks { LooksBy tables is_honest is_open may_leave leaves_books
-            failures store_faults self.old self.new (is_ok result) }
-        ensures store { CountsFault result (failures self.old) (failures self.new) }
-        ensures blames { is_honest self.new → is_open self.old → has_room self.old
-            → BlamesStore result (store_faults self.old) (store_faults self.new) }
-        ensures room { is_open self.new → has_room self.old → has_room self.new };
+        ensures { GivesBy tables is_honest is_open may_leave leaves_books failures store_faults
+            has_room self.old self.new result
+            (λ n. n ≡ pending_at (tables self.old) day) };
 
     /// How many requests wait for their issuer's answer, of all merchants and days.
     fn waiting_count(&mut self) -> Result<u64, BookFault>
-        ensures value { is_open self.new → IfOk result
-            (λ n. n ≡ waiting_count_at (tables self.old)) }
-        ensures looks { LooksBy tables is_honest is_open may_leave leaves_books
-            failures store_faults self.old self.new (is_ok result) }
-        ensures store { CountsFault result (failures self.old) (failures self.new) }
-        ensures blames { is_honest self.new → is_open self.old → has_room self.old
-            → BlamesStore result (store_faults self.old) (store_faults self.new) }
-        ensures room { is_open self.new → has_room self.old → has_room self.new };
+        ensures { GivesBy tables is_honest is_open may_leave leaves_books failures store_faults
+            has_room self.old self.new result
+            (λ n. n ≡ waiting_count_at (tables self.old)) };
 
     /// The merchant's last reconciliation of a day.
     fn last_reconciliation(
@@ -234,14 +241,9 @@ pub trait Book {
         merchant: MerchantId,
         day: Day,
     ) -> Result<Option<Reconciliation>, BookFault>
-        ensures value { is_open self.new → IfOk result
-            (λ row. row ≡ last_reconciliation_at (tables self.old) merchant day) }
-        ensures looks { LooksBy tables is_honest is_open may_leave leaves_books
-            failures store_faults self.old self.new (is_ok result) }
-        ensures store { CountsFault result (failures self.old) (failures self.new) }
-        ensures blames { is_honest self.new → is_open self.old → has_room self.old
-            → BlamesStore result (store_faults self.old) (store_faults self.new) }
-        ensures room { is_open self.new → has_room self.old → has_room self.new };
+        ensures { GivesBy tables is_honest is_open may_leave leaves_books failures store_faults
+            has_room self.old self.new result
+            (λ row. row ≡ last_reconciliation_at (tables self.old) merchant day) };
 
     /// Hands over the postings of a day, each with its number, in order of merchant and number.
     fn walk_postings<V: Visit<(u64, Posting)>>(
@@ -249,31 +251,15 @@ pub trait Book {
         day: Day,
         visitor: &mut V,
     ) -> Result<(), BookFault>
-        ensures seen { is_honest self.new → is_open self.old → OnOk result
-            (SawAll V.sees (postings_at (tables self.old) day) visitor.old visitor.new) }
-        ensures begun { is_honest self.new → is_open self.old → OnErr result
-            (SawSome V.sees (postings_at (tables self.old) day) visitor.old visitor.new) }
-        ensures shown { SawRows V.sees visitor.old visitor.new (is_ok result) }
-        ensures looks { LooksBy tables is_honest is_open may_leave leaves_books
-            failures store_faults self.old self.new (is_ok result) }
-        ensures store { CountsFault result (failures self.old) (failures self.new) }
-        ensures blames { is_honest self.new → is_open self.old → has_room self.old
-            → BlamesStore result (store_faults self.old) (store_faults self.new) }
-        ensures room { is_open self.new → has_room self.old → has_room self.new };
+        ensures { WalksBy tables is_honest is_open may_leave leaves_books failures store_faults
+            has_room self.old self.new result
+            V.sees (postings_at (tables self.old) day) visitor.old visitor.new };
 
     /// Hands over the merchants, in order of their names.
     fn walk_merchants<V: Visit<Merchant>>(&mut self, visitor: &mut V) -> Result<(), BookFault>
-        ensures seen { is_honest self.new → is_open self.old → OnOk result
-            (SawAll V.sees (merchants_at (tables self.old)) visitor.old visitor.new) }
-        ensures begun { is_honest self.new → is_open self.old → OnErr result
-            (SawSome V.sees (merchants_at (tables self.old)) visitor.old visitor.new) }
-        ensures shown { SawRows V.sees visitor.old visitor.new (is_ok result) }
-        ensures looks { LooksBy tables is_honest is_open may_leave leaves_books
-            failures store_faults self.old self.new (is_ok result) }
-        ensures store { CountsFault result (failures self.old) (failures self.new) }
-        ensures blames { is_honest self.new → is_open self.old → has_room self.old
-            → BlamesStore result (store_faults self.old) (store_faults self.new) }
-        ensures room { is_open self.new → has_room self.old → has_room self.new };
+        ensures { WalksBy tables is_honest is_open may_leave leaves_books failures store_faults
+            has_room self.old self.new result
+            V.sees (merchants_at (tables self.old)) visitor.old visitor.new };
 
     /// Hands over a merchant's approved holds, which are neither completed nor reversed, in order
     /// of reference.
@@ -282,32 +268,16 @@ pub trait Book {
         merchant: MerchantId,
         visitor: &mut V,
     ) -> Result<(), BookFault>
-        ensures seen { is_honest self.new → is_open self.old → OnOk result
-            (SawAll V.sees (holds_at (tables self.old) merchant) visitor.old visitor.new) }
-        ensures begun { is_honest self.new → is_open self.old → OnErr result
-            (SawSome V.sees (holds_at (tables self.old) merchant) visitor.old visitor.new) }
-        ensures shown { SawRows V.sees visitor.old visitor.new (is_ok result) }
-        ensures looks { LooksBy tables is_honest is_open may_leave leaves_books
-            failures store_faults self.old self.new (is_ok result) }
-        ensures store { CountsFault result (failures self.old) (failures self.new) }
-        ensures blames { is_honest self.new → is_open self.old → has_room self.old
-            → BlamesStore result (store_faults self.old) (store_faults self.new) }
-        ensures room { is_open self.new → has_room self.old → has_room self.new };
+        ensures { WalksBy tables is_honest is_open may_leave leaves_books failures store_faults
+            has_room self.old self.new result
+            V.sees (holds_at (tables self.old) merchant) visitor.old visitor.new };
 
     /// Hands over the requests of all merchants and days that wait for their issuer's answer, in
     /// the order in which they came.
     fn walk_pending<V: Visit<Request>>(&mut self, visitor: &mut V) -> Result<(), BookFault>
-        ensures seen { is_honest self.new → is_open self.old → OnOk result
-            (SawAll V.sees (waiting_at (tables self.old)) visitor.old visitor.new) }
-        ensures begun { is_honest self.new → is_open self.old → OnErr result
-            (SawSome V.sees (waiting_at (tables self.old)) visitor.old visitor.new) }
-        ensures shown { SawRows V.sees visitor.old visitor.new (is_ok result) }
-        ensures looks { LooksBy tables is_honest is_open may_leave leaves_books
-            failures store_faults self.old self.new (is_ok result) }
-        ensures store { CountsFault result (failures self.old) (failures self.new) }
-        ensures blames { is_honest self.new → is_open self.old → has_room self.old
-            → BlamesStore result (store_faults self.old) (store_faults self.new) }
-        ensures room { is_open self.new → has_room self.old → has_room self.new };
+        ensures { WalksBy tables is_honest is_open may_leave leaves_books failures store_faults
+            has_room self.old self.new result
+            V.sees (waiting_at (tables self.old)) visitor.old visitor.new };
 
     /// Makes all of a change, or none of it. The change fits: its keys are new, and there is room
     /// for it; and it leads to tables that events lead to.

@@ -1,5 +1,5 @@
 -- What has to be known to decide on an event, wherever it is read from.
-use Rattle.std.specs.Prelude.{ℕ, Bool, false, List, Option, Some, None, option_and_then}
+use Rattle.std.specs.Prelude.{ℕ, Bool, true, false, List, Option, Some, None, option_and_then}
 use Rattle.std.specs.Prelude.{if◌then◌else◌}
 use Rattle.card_no.specs.declared.range.Range.{Range}
 use Rattle.card_no.specs.Prefix.{PrefixProfile, in_force}
@@ -17,7 +17,7 @@ use Rattle.acq_message.specs.declared.request_key.RequestKey.{RequestKey}
 use Rattle.acq_message.specs.Elements.{text_at, key_of, original_key, reference_in, or_empty}
 use Rattle.acq_message.specs.Cards.{card_of}
 use Rattle.acq_core.specs.declared.merchant.Merchant.{Merchant}
-use Rattle.acq_core.specs.declared.lookup.Wanted.{Wanted}
+use Rattle.acq_core.specs.declared.wanted.Wanted.{Wanted}
 use Rattle.acq_core.specs.declared.reply_state.ReplyState.{ReplyState}
 use Rattle.acq_core.specs.declared.arrival.Arrival.{Arrival}
 use Rattle.acq_core.specs.declared.arrival.Arrival.TheVariants as arrival
@@ -86,6 +86,8 @@ nothing =
       reference = None;
       prefix = None;
       bounds = None;
+      admitted = false;
+      used_day = None;
       totals_day = None;
     }
 
@@ -104,6 +106,10 @@ wanted_by_key service m =
       key = Some (key_of service m);
     }
 
+-- what a request needs that is accepted only where its day has room
+abbrev pub wanted_with_room : ℕ → Service → IsoMessage → Wanted
+wanted_with_room today service m = record (wanted_by_key service m) { used_day = Some today }
+
 -- ---- under a profile of prefixes
 
 module _ (profile : PrefixProfile) where
@@ -114,18 +120,24 @@ module _ (profile : PrefixProfile) where
       then Some (prefix_of_under profile (or_empty (card_of m)))
       else None
 
+  -- what a sale, a return or an authorization needs: its card's range, and a reference
+  abbrev pub wanted_to_admit_under : ℕ → Service → IsoMessage → Wanted
+  wanted_to_admit_under today service m =
+      record (wanted_with_room today service m) {
+        prefix = prefix_in_under m;
+        admitted = true;
+      }
+
   -- what a request of each service needs
   abbrev pub wanted_for_under : ℕ → Service → IsoMessage → Wanted
-  wanted_for_under today Authorization m =
-      record (wanted_by_key Authorization m) { prefix = prefix_in_under m }
-  wanted_for_under today Financial m =
-      record (wanted_by_key Financial m) { prefix = prefix_in_under m }
+  wanted_for_under today Authorization m = wanted_to_admit_under today Authorization m
+  wanted_for_under today Financial m = wanted_to_admit_under today Financial m
   wanted_for_under today Completion m =
-      record (wanted_by_key Completion m) { reference = reference_in m }
+      record (wanted_with_room today Completion m) { reference = reference_in m }
   wanted_for_under today Reversal m =
-      record (wanted_by_key Reversal m) { original = original_key m }
+      record (wanted_with_room today Reversal m) { original = original_key m }
   wanted_for_under today ReversalAdvice m =
-      record (wanted_by_key ReversalAdvice m) { original = original_key m }
+      record (wanted_with_room today ReversalAdvice m) { original = original_key m }
   wanted_for_under today Reconciliation m =
       record (wanted_by_key Reconciliation m) {
         totals_day = reconciled_day today (content_of m.elements 15);
@@ -168,10 +180,16 @@ abbrev pub holds_if : (List ℕ → Bool) → Option (List ℕ) → Bool
 holds_if has None = false
 holds_if has (Some terminal) = has terminal
 
--- a number that is wanted of a merchant, else 0
-abbrev pub number_if : ℕ → Option (List ℕ) → ℕ
-number_if n None = 0
-number_if n (Some merchant) = n
+-- a number of a merchant, if it is wanted, else 0
+abbrev pub number_if : Bool → ℕ → Option (List ℕ) → ℕ
+number_if false n merchant = 0
+number_if true n None = 0
+number_if true n (Some merchant) = n
+
+-- how many there are on a day that is wanted, else 0
+abbrev pub used_if : (ℕ → ℕ) → Option ℕ → ℕ
+used_if used None = 0
+used_if used (Some day) = used day
 
 -- the totals of a day that is wanted
 abbrev pub totals_if : (ℕ → DayTotals) → Option ℕ → DayTotals
@@ -191,7 +209,7 @@ known_for wanted facts =
       referred = option_and_then facts.referred wanted.reference;
       range = option_and_then facts.range wanted.prefix;
       overlapped = option_and_then (λ ends. facts.overlapped ends.0 ends.1) wanted.bounds;
-      admitted = number_if facts.admitted wanted.merchant;
-      used = number_if (facts.used facts.today) wanted.merchant;
+      admitted = number_if wanted.admitted facts.admitted wanted.merchant;
+      used = used_if facts.used wanted.used_day;
       totals = totals_if facts.totals wanted.totals_day;
     }

@@ -1,6 +1,7 @@
 -- What was looked up, as what is known.
-use Rattle.std.specs.Prelude.{option_map}
-use Rattle.acq_core.specs.declared.lookup.Looked.{Looked}
+use Rattle.std.specs.Prelude.{ℕ, false, None, option_map}
+use Rattle.day_totals.specs.Totals.{zero_totals}
+use Rattle.acq_core.specs.declared.looked.Looked.{Looked}
 use Rattle.acq_core.specs.Known.{Known}
 use Rattle.acq_core.specs.Tables.{prior_of}
 
@@ -20,4 +21,22 @@ known_of looked =
       admitted = looked.admitted;
       used = looked.used;
       totals = looked.totals;
+    }
+
+-- where nothing is wanted
+abbrev pub nothing_looked : ℕ → ℕ → Looked
+nothing_looked today limit =
+    record {
+      today = today;
+      limit = limit;
+      merchant = None;
+      has_terminal = false;
+      recorded = None;
+      original = None;
+      referred = None;
+      range = None;
+      overlapped = None;
+      admitted = 0;
+      used = 0;
+      totals = zero_totals;
     }

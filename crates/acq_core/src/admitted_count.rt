@@ -38,6 +38,13 @@ impl AdmittedCount {
         }
     }
 
+    /// None. It takes no memory.
+    pub fn zero() -> AdmittedCount
+        ensures { result ≡ 0 }
+    {
+        AdmittedCount { number: 0 }
+    }
+
     /// The number.
     pub fn number(&self) -> u64
         ensures value { result ≡ self.now }

@@ -15,7 +15,7 @@ mod event;
 pub mod examples;
 mod first_reference;
 mod limit;
-mod lookup;
+mod looked;
 mod merchant;
 mod output;
 mod posting;
@@ -27,6 +27,7 @@ mod request;
 mod status;
 mod terminal;
 mod used_count;
+mod wanted;
 
 pub use acq_message::{
     Amount, AuthorizationId, Currency, DeclineCode, ElementContent, MerchantId, MessageText,
@@ -39,7 +40,7 @@ pub use change::Change;
 pub use event::Event;
 pub use first_reference::FirstReference;
 pub use limit::Limit;
-pub use lookup::{Looked, Wanted};
+pub use looked::Looked;
 pub use merchant::Merchant;
 pub use output::Output;
 pub use posting::Posting;
@@ -51,3 +52,4 @@ pub use request::Request;
 pub use status::Status;
 pub use terminal::Terminal;
 pub use used_count::UsedCount;
+pub use wanted::Wanted;

@@ -37,6 +37,13 @@ impl UsedCount {
         }
     }
 
+    /// None. It takes no memory.
+    pub fn zero() -> UsedCount
+        ensures { result ≡ 0 }
+    {
+        UsedCount { number: 0 }
+    }
+
     /// The number of messages.
     pub fn number(&self) -> u32
         ensures value { result ≡ self.now }

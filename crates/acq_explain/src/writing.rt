@@ -1,12 +1,10 @@
 //! The text of an event that is explained.
 
 ghost use Rattle.std.specs.Prelude.{◌≡◌, ◌≢◌, ◌+◌, ◌++◌, Err, IfOk, OnOk, is_ok};
-ghost use Rattle.acq_core.specs.Known.{nothing};
 ghost use Rattle.acq_core.specs.Looking.{known_of};
 ghost use Rattle.acq_core.specs.Tables.{known_in};
 ghost use Rattle.acq_book.specs.Calls.{Looks};
 ghost use Rattle.acq_book.specs.Promise.{CountsFault};
-ghost use Rattle.acq_host.specs.Looked.{IsLooked};
 ghost use Rattle.acq_reports.specs.Faults.{CountsStore, failed_writes, is_settled};
 ghost use Rattle.acq_reports.specs.Writing.{Writes};
 ghost use Rattle.acq_reports.specs.declared.report_fault.ReportFault.TheVariants.{Store};
@@ -21,7 +19,7 @@ use crate::passed::put_passed;
 use acq_book::{Book, BookFault};
 use acq_core::{Arrival, Event, Looked};
 use acq_deciding::decide_arrival;
-use acq_host::{look_up, nothing_looked};
+use acq_host::look_up;
 use acq_link::Sink;
 use acq_message::RequestMessage;
 use acq_reasons::{Reason, reason_for};
@@ -84,29 +82,10 @@ fn explained_arrival<B: Book>(
     ensures looks { Looks B.Book book.old book.new (is_ok result) }
     ensures store { CountsFault result (B.failures book.old) (B.failures book.new) }
 {
-    let today = book.day()?;
-    let limit = book.limit()?;
-    let mut looked = nothing_looked(today, limit);
-    let made = explained_over(alloc, book, arrival, &mut looked);
+    let looked = look_up(book, arrival)?;
+    let made = explained(alloc, &looked, arrival);
     drop(looked);
-    made
-}
-
-/// The same, over what is known of the day alone.
-fn explained_over<B: Book>(
-    alloc: Global,
-    book: &mut B,
-    arrival: &Arrival,
-    looked: &mut Looked,
-) -> Result<Vec<u8>, BookFault>
-    ensures text { B.is_open book.new → IsLooked (B.tables book.old) nothing looked.old
-        → IfOk result (λ text.
-        text.items ≡ explained (known_in (B.tables book.old) arrival.now) arrival.now) }
-    ensures looks { Looks B.Book book.old book.new (is_ok result) }
-    ensures store { CountsFault result (B.failures book.old) (B.failures book.new) }
-{
-    look_up(book, arrival, looked)?;
-    Ok(explained(alloc, looked, arrival)?)
+    Ok(made?)
 }
 
 /// The text of what came, over what was looked up.

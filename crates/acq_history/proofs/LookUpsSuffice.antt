@@ -30,39 +30,49 @@ use Rattle.acq_history.proofs.ReconciliationsAlone.{is_reconciling, reconciles_o
 
 -- ---- what more may be known
 
--- the same with another original, another referred request, another range and other totals
-abbrev with_more : Known → Option Prior → Option Prior → Option Range → DayTotals → Known
-with_more k original referred range totals =
-    record k { original = original; referred = referred; range = range; totals = totals }
+-- the same with another original, another referred request, another range, other counts and totals
+abbrev with_more :
+    Known → Option Prior → Option Prior → Option Range → ℕ → ℕ → DayTotals → Known
+with_more k original referred range admitted used totals =
+    record k {
+      original = original;
+      referred = referred;
+      range = range;
+      admitted = admitted;
+      used = used;
+      totals = totals;
+    }
+
+-- a range matters only where the card is valid
+admission_same : (k : Known) (original referred : Option Prior) (range : Option Range)
+    (totals : DayTotals) (merchant : Merchant) (r : RequestMessage) →
+    (is_valid_card (or_empty (card_of r.message)) ≡ true → k.range ≡ range) →
+    admission k merchant r
+    ≡ admission (with_more k original referred range k.admitted k.used totals) merchant r
+admission_same k original referred range totals merchant r same =
+    step (is_valid_card (or_empty (card_of r.message))) refl
+  where
+    checked : Bool → Option Range → Decision
+    checked valid found =
+        first_of r (
+        (is_other_transaction merchant r, code.InvalidTransaction)
+        ∷ (not (is_accepted_amount (amount_in r.message)), code.InvalidAmount)
+        ∷ (not valid, code.InvalidCard)
+        ∷ (is_expired k.today (expiry_of r.message), code.ExpiredCard)
+        ∷ []
+        ) (admission_in k merchant r found)
+
+    step : (b : Bool) → is_valid_card (or_empty (card_of r.message)) ≡ b →
+        checked (is_valid_card (or_empty (card_of r.message))) k.range
+        ≡ checked (is_valid_card (or_empty (card_of r.message))) range
+    step true valid = ap (checked (is_valid_card (or_empty (card_of r.message)))) (same valid)
+    step false not_valid =
+        ap (λ b. checked b k.range) not_valid ∙ sym (ap (λ b. checked b range) not_valid)
 
 module _ (k : Known) (original referred : Option Prior) (range : Option Range)
-    (totals : DayTotals) where
+    (admitted used : ℕ) (totals : DayTotals) where
   abbrev more : Known
-  more = with_more k original referred range totals
-
-  -- a range matters only where the card is valid
-  admission_same : (merchant : Merchant) (r : RequestMessage) →
-      (is_valid_card (or_empty (card_of r.message)) ≡ true → k.range ≡ range) →
-      admission k merchant r ≡ admission more merchant r
-  admission_same merchant r same =
-      step (is_valid_card (or_empty (card_of r.message))) refl
-    where
-      checked : Bool → Option Range → Decision
-      checked valid found =
-          first_of r (
-          (is_other_transaction merchant r, code.InvalidTransaction)
-          ∷ (not (is_accepted_amount (amount_in r.message)), code.InvalidAmount)
-          ∷ (not valid, code.InvalidCard)
-          ∷ (is_expired k.today (expiry_of r.message), code.ExpiredCard)
-          ∷ []
-          ) (admission_in k merchant r found)
-
-      step : (b : Bool) → is_valid_card (or_empty (card_of r.message)) ≡ b →
-          checked (is_valid_card (or_empty (card_of r.message))) k.range
-          ≡ checked (is_valid_card (or_empty (card_of r.message))) range
-      step true valid = ap (checked (is_valid_card (or_empty (card_of r.message)))) (same valid)
-      step false not_valid =
-          ap (λ b. checked b k.range) not_valid ∙ sym (ap (λ b. checked b range) not_valid)
+  more = with_more k original referred range admitted used totals
 
   -- what is decided of a new key is what is decided
   fresh_same : (r : RequestMessage) →
@@ -94,14 +104,16 @@ module _ (k : Known) (original referred : Option Prior) (range : Option Range)
   )
 
 -- with the same totals nothing else matters
-module _ (k : Known) (original referred : Option Prior) (range : Option Range) where
-  same_outcome : (d : Decision) →
-      outcome_of k d ≡ outcome_of (with_more k original referred range k.totals) d
+module _ (k : Known) (original referred : Option Prior) (range : Option Range)
+    (admitted used : ℕ) where
+  abbrev alone : Known
+  alone = with_more k original referred range admitted used k.totals
+
+  same_outcome : (d : Decision) → outcome_of k d ≡ outcome_of alone d
   same_outcome (Reconciles r day) = refl
   same_outcome other = refl
 
-  same_change : (d : Decision) →
-      change_of k d ≡ change_of (with_more k original referred range k.totals) d
+  same_change : (d : Decision) → change_of k d ≡ change_of alone d
   same_change (Reconciles r day) = refl
   same_change other = refl
 
@@ -127,6 +139,9 @@ module _ (facts : Facts) (moment : ℕ) (m : IsoMessage) where
   abbrev in_range : Option Range
   in_range = facts.range (prefix_of (or_empty (card_of m)))
 
+  abbrev used : ℕ
+  used = facts.used facts.today
+
   abbrev totals : DayTotals
   totals = totals_if facts.totals (reconciled_day facts.today (content_of m.elements 15))
 
@@ -139,25 +154,27 @@ module _ (facts : Facts) (moment : ℕ) (m : IsoMessage) where
   decided : (s : Service) →
       decision_of_request s (looked s) (request s) ≡ decision_of_request s (whole s) (request s)
   decided Authorization =
-      fresh_same (looked Authorization) given hold in_range totals (request Authorization)
+      fresh_same (looked Authorization) given hold in_range facts.admitted used totals
+      (request Authorization)
       (λ merchant. admission_same (looked Authorization) given hold in_range totals merchant
       (request Authorization) valid_range) facts.merchant
   decided Financial =
-      fresh_same (looked Financial) given hold in_range totals (request Financial)
+      fresh_same (looked Financial) given hold in_range facts.admitted used totals
+      (request Financial)
       (λ merchant. admission_same (looked Financial) given hold in_range totals merchant
       (request Financial) valid_range) facts.merchant
   decided Completion =
-      fresh_same (looked Completion) given hold in_range totals (request Completion)
-      (λ merchant. refl) facts.merchant
+      fresh_same (looked Completion) given hold in_range facts.admitted used totals
+      (request Completion) (λ merchant. refl) facts.merchant
   decided Reversal =
-      fresh_same (looked Reversal) given hold in_range totals (request Reversal)
-      (λ merchant. refl) facts.merchant
+      fresh_same (looked Reversal) given hold in_range facts.admitted used totals
+      (request Reversal) (λ merchant. refl) facts.merchant
   decided ReversalAdvice =
-      fresh_same (looked ReversalAdvice) given hold in_range totals (request ReversalAdvice)
-      (λ merchant. refl) facts.merchant
+      fresh_same (looked ReversalAdvice) given hold in_range facts.admitted used totals
+      (request ReversalAdvice) (λ merchant. refl) facts.merchant
   decided Reconciliation =
-      fresh_same (looked Reconciliation) given hold in_range totals (request Reconciliation)
-      (λ merchant. refl) facts.merchant
+      fresh_same (looked Reconciliation) given hold in_range facts.admitted used totals
+      (request Reconciliation) (λ merchant. refl) facts.merchant
   decided NetworkManagement = refl
 
   -- what results and what changes
@@ -181,26 +198,26 @@ module _ (facts : Facts) (moment : ℕ) (m : IsoMessage) where
 
   alike : (s : Service) → Alike s
   alike Authorization =
-      unreconciled_alike (looked Authorization) given hold in_range totals _ _
+      unreconciled_alike (looked Authorization) given hold in_range facts.admitted used totals _ _
       (decided Authorization)
       (unreconciled Authorization (λ is. absurd (cc)))
   alike Financial =
-      unreconciled_alike (looked Financial) given hold in_range totals _ _ (decided Financial)
+      unreconciled_alike (looked Financial) given hold in_range facts.admitted used totals _ _ (decided Financial)
       (unreconciled Financial (λ is. absurd (cc)))
   alike Completion =
-      unreconciled_alike (looked Completion) given hold in_range totals _ _ (decided Completion)
+      unreconciled_alike (looked Completion) given hold in_range facts.admitted used totals _ _ (decided Completion)
       (unreconciled Completion (λ is. absurd (cc)))
   alike Reversal =
-      unreconciled_alike (looked Reversal) given hold in_range totals _ _ (decided Reversal)
+      unreconciled_alike (looked Reversal) given hold in_range facts.admitted used totals _ _ (decided Reversal)
       (unreconciled Reversal (λ is. absurd (cc)))
   alike ReversalAdvice =
-      unreconciled_alike (looked ReversalAdvice) given hold in_range totals _ _
+      unreconciled_alike (looked ReversalAdvice) given hold in_range facts.admitted used totals _ _
       (decided ReversalAdvice)
       (unreconciled ReversalAdvice (λ is. absurd (cc)))
   alike Reconciliation = (
-    same_outcome (looked Reconciliation) given hold in_range _
+    same_outcome (looked Reconciliation) given hold in_range facts.admitted used _
         ∙ ap (outcome_of (whole Reconciliation)) (decided Reconciliation),
-    same_change (looked Reconciliation) given hold in_range _
+    same_change (looked Reconciliation) given hold in_range facts.admitted used _
         ∙ ap (change_of (whole Reconciliation)) (decided Reconciliation),
   )
   alike NetworkManagement = (refl, refl)

@@ -1,6 +1,6 @@
 -- A merchant's own events, and the shared ones, keep tables and history alike.
 use Rattle.std.proofs.Common.{◌≡◌, ℕ, ◌+◌, List, [], ◌∷◌, ◌++◌, Option, Some, None, Bool, true}
-use Rattle.std.proofs.Common.{false, cond, refl, sym, ap, ◌∙◌, subst}
+use Rattle.std.proofs.Common.{false, cond, refl, sym, ap, ap₂, ◌∙◌, subst}
 use Rattle.std.specs.Prelude.{option_map, option_and_then, ◌&&◌, ◌||◌, not, is_some, is_none}
 use Rattle.std.specs.Str.{bytes_eq}
 use Rattle.std.proofs.Math.Bool.{and-false}
@@ -46,6 +46,7 @@ use Rattle.acq_soundness.proofs.Lookups.{clash, map_none, map_some, then_some}
 use Rattle.acq_soundness.proofs.Keys.{bytes_eq_itself}
 use Rattle.acq_history.proofs.RecordedInHistory.{referred_is, reference_if}
 use Rattle.acq_soundness.proofs.RecordableRequests.{recordable_is, wants_by_key}
+use Rattle.acq_soundness.proofs.RecordableRequests.{wants_reference}
 use Rattle.acq_history.proofs.UnrecordedRequests.{IsRefusal, IsQuiet, accepts_not}
 use Rattle.acq_history.proofs.NewRows.{idle_line, admitted_line, completed_line, reversed_line}
 use Rattle.acq_history.proofs.RequestsAfterNewEntry.{line, shown}
@@ -290,7 +291,9 @@ module _ {opening : Opening} {m : List ℕ} {t : Tables} {h : List Entry}
       came).merchant in
       let enrolment : enrolled h ≡ Some merchant =
       sym (ap (option_and_then (λ id. enrolled h)) wanted) ∙ there in
-      let counted : k.admitted ≡ admitted h = ap (number_if (admitted h)) wanted in
+      let counted : k.admitted ≡ admitted h =
+      ap₂ (λ b o. number_if b (admitted h) o)
+      (wants_reference (day_after opening.first_day h) r.service r.message fits) wanted in
       let next : n ≡ next_reference h = λ i. first_reference (sym enrolment i) + counted i in
       let card = then_some (range_of_prefix (ranges_after h)) (prefix_in r.message) range
       (sym (ap (option_and_then (range_of_prefix (ranges_after h)))

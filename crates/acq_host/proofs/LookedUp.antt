@@ -2,7 +2,7 @@
 use Rattle.std.proofs.Common.{◌≡◌, ℕ, List, [], ◌∷◌, Option, Some, None, Bool, true, false, cond}
 use Rattle.std.proofs.Common.{◌⊎◌, inl, inr, refl}
 use Rattle.std.proofs.Common.{sym, ap, ◌∙◌, subst}
-use Rattle.std.specs.Prelude.{take, filter, find, option_map, option_and_then, IfSome, OnOk, Result}
+use Rattle.std.specs.Prelude.{take, filter, find, option_map, option_and_then, IfSome, IfOk, Result}
 use Rattle.std.specs.Prelude.{Ok, Err}
 use Rattle.std.specs.Str.{bytes_eq}
 use Rattle.iso_codec.specs.Message.{IsoMessage}
@@ -15,8 +15,8 @@ use Rattle.acq_message.specs.declared.request_key.RequestKey.{RequestKey}
 use Rattle.acq_message.specs.Elements.{or_empty, text_at, same_key, original_key_with}
 use Rattle.acq_message.specs.Elements.{original_service}
 use Rattle.acq_core.specs.declared.request.Request.{Request}
-use Rattle.acq_core.specs.declared.lookup.Wanted.{Wanted}
-use Rattle.acq_core.specs.declared.lookup.Looked.{Looked}
+use Rattle.acq_core.specs.declared.wanted.Wanted.{Wanted}
+use Rattle.acq_core.specs.declared.looked.Looked.{Looked}
 use Rattle.acq_core.specs.declared.arrival.Arrival.{Arrival}
 use Rattle.acq_core.specs.declared.arrival.Arrival.TheVariants.{Undecoded, Unserved, Malformed}
 use Rattle.acq_core.specs.declared.arrival.Arrival.TheVariants.{Requested, Answered}
@@ -25,12 +25,13 @@ use Rattle.acq_core.specs.declared.arrival.Arrival.TheVariants.{Enrolled}
 use Rattle.acq_core.specs.declared.arrival.Arrival.TheVariants.{TerminalAdded}
 use Rattle.acq_core.specs.Arrivals.{merchant_named}
 use Rattle.acq_core.specs.Known.{nothing, wanted_for, wanted_by, holds_if, number_if, totals_if}
+use Rattle.acq_core.specs.Known.{used_if}
 use Rattle.acq_core.specs.Known.{known_for}
 use Rattle.acq_core.specs.Looking.{known_of}
 use Rattle.acq_core.specs.Tables.{Tables, prior_of, requests_of, recorded_in, facts_in, known_in}
 use Rattle.acq_book.specs.Lookups.{merchant_at, has_terminal_at, request_at, referred_at}
 use Rattle.acq_book.specs.Lookups.{admitted_at, used_at, totals_at}
-use Rattle.acq_host.specs.Looked.{IsLooked}
+use Rattle.acq_book.specs.Looked.{IsLooked}
 use Rattle.acq_soundness.proofs.Keys.{bytes_eq_from, same_key_is}
 
 -- ---- what is wanted is of the merchant that is named
@@ -40,6 +41,7 @@ pub record IsOfMerchant (w : Wanted) (m : List ℕ) : Type 0 where
   -- none of these without a merchant
   pub terminal : option_and_then (λ id. w.terminal) w.merchant ≡ w.terminal
   pub reference : option_and_then (λ id. w.reference) w.merchant ≡ w.reference
+  pub used_day : option_and_then (λ id. w.used_day) w.merchant ≡ w.used_day
   pub totals_day : option_and_then (λ id. w.totals_day) w.merchant ≡ w.totals_day
   pub key : IfSome w.key (λ key. key.merchant ≡ m)
   pub original : IfSome w.original (λ key. key.merchant ≡ m)
@@ -55,6 +57,7 @@ of_nothing m =
       merchant = inl refl;
       terminal = refl;
       reference = refl;
+      used_day = refl;
       totals_day = refl;
       key = tt;
       original = tt;
@@ -67,6 +70,7 @@ wanted_for-of today Authorization m =
       merchant = inr refl;
       terminal = refl;
       reference = refl;
+      used_day = refl;
       totals_day = refl;
       key = refl;
       original = tt;
@@ -76,6 +80,7 @@ wanted_for-of today Financial m =
       merchant = inr refl;
       terminal = refl;
       reference = refl;
+      used_day = refl;
       totals_day = refl;
       key = refl;
       original = tt;
@@ -85,6 +90,7 @@ wanted_for-of today Completion m =
       merchant = inr refl;
       terminal = refl;
       reference = refl;
+      used_day = refl;
       totals_day = refl;
       key = refl;
       original = tt;
@@ -93,6 +99,7 @@ wanted_for-of today Reversal m = record {
   merchant = inr refl;
   terminal = refl;
   reference = refl;
+  used_day = refl;
   totals_day = refl;
   key = refl;
   original = original_of m (original_service (take 3 (text_at m 90)));
@@ -101,6 +108,7 @@ wanted_for-of today ReversalAdvice m = record {
   merchant = inr refl;
   terminal = refl;
   reference = refl;
+  used_day = refl;
   totals_day = refl;
   key = refl;
   original = original_of m (original_service (take 3 (text_at m 90)));
@@ -110,6 +118,7 @@ wanted_for-of today Reconciliation m =
       merchant = inr refl;
       terminal = refl;
       reference = refl;
+      used_day = refl;
       totals_day = refl;
       key = refl;
       original = tt;
@@ -127,6 +136,7 @@ wanted_by-of today (Answered moment merchant reference verdict) =
       merchant = inr refl;
       terminal = refl;
       reference = refl;
+      used_day = refl;
       totals_day = refl;
       key = tt;
       original = tt;
@@ -137,6 +147,7 @@ wanted_by-of today (RangeAdded range) =
       merchant = inl refl;
       terminal = refl;
       reference = refl;
+      used_day = refl;
       totals_day = refl;
       key = tt;
       original = tt;
@@ -146,6 +157,7 @@ wanted_by-of today (RangeDropped low high) =
       merchant = inl refl;
       terminal = refl;
       reference = refl;
+      used_day = refl;
       totals_day = refl;
       key = tt;
       original = tt;
@@ -155,6 +167,7 @@ wanted_by-of today (Enrolled merchant) =
       merchant = inr refl;
       terminal = refl;
       reference = refl;
+      used_day = refl;
       totals_day = refl;
       key = tt;
       original = tt;
@@ -164,6 +177,7 @@ wanted_by-of today (TerminalAdded terminal) =
       merchant = inr refl;
       terminal = refl;
       reference = refl;
+      used_day = refl;
       totals_day = refl;
       key = tt;
       original = tt;
@@ -203,6 +217,11 @@ at_merchant : {X : Type 0} (f g : Option (List ℕ) → X) (m : List ℕ) (o : O
     (o ≡ None) ⊎ (o ≡ Some m) → f None ≡ g None → f (Some m) ≡ g (Some m) → f o ≡ g o
 at_merchant f g m o (inl e) none some = ap f e ∙ (none ∙ sym (ap g e))
 at_merchant f g m o (inr e) none some = ap f e ∙ (some ∙ sym (ap g e))
+
+-- without a merchant none are counted
+none_counted : (counted : Bool) (n k : ℕ) → number_if counted n None ≡ number_if counted k None
+none_counted true n k = refl
+none_counted false n k = refl
 
 -- what a found row says
 map_then : {X Y Z : Type 0} (f : Y → Z) (g : X → Option Y) (o : Option X) →
@@ -245,14 +264,16 @@ known_for-looked t w m l of is = λ i. record {
   overlapped = is.overlapped i;
   admitted =
       (is.admitted
-      ∙ at_merchant (λ o. number_if (admitted_at t (or_empty o)) o) (number_if (admitted_at t m)) m
-      w.merchant
-      of.merchant refl refl) i;
+      ∙ at_merchant (λ o. number_if w.admitted (admitted_at t (or_empty o)) o)
+      (number_if w.admitted (admitted_at t m)) m w.merchant of.merchant
+      (none_counted w.admitted (admitted_at t []) (admitted_at t m)) refl) i;
   used =
       (is.used
-      ∙ at_merchant (λ o. number_if (used_at t (or_empty o) t.day) o)
-      (number_if (used_at t m t.day)) m w.merchant
-      of.merchant refl refl) i;
+      ∙ (at_merchant
+      (λ o. used_if (used_at t (or_empty o)) (option_and_then (λ id. w.used_day) o))
+      (λ o. used_if (used_at t m) (option_and_then (λ id. w.used_day) o)) m w.merchant
+      of.merchant refl refl
+      ∙ ap (used_if (used_at t m)) of.used_day)) i;
   totals =
       (is.totals
       ∙ (at_merchant
@@ -271,9 +292,8 @@ known_is t a w l wanted is =
     known_for-looked t w m l (subst (λ v. IsOfMerchant v m) (sym wanted) (wanted_by-of t.day a)) is
     ∙ ap (λ v. known_for v (facts_in t m)) wanted
 
--- the same where the look-ups succeeded
-pub known_if : {F : Type 0} (t : Tables) (a : Arrival) (w : Wanted) (l : Looked)
-    (r : Result (Unit {0}) F) → w ≡ wanted_by t.day a →
-    OnOk r (IsLooked t w l) → OnOk r (known_of l ≡ known_in t a)
-known_if t a w l (Ok u) wanted is = known_is t a w l wanted is
-known_if t a w l (Err fault) wanted is = tt
+-- the same where the look-up succeeded
+pub known_if : {F : Type 0} (t : Tables) (a : Arrival) (w : Wanted) (r : Result Looked F) →
+    w ≡ wanted_by t.day a → IfOk r (IsLooked t w) → IfOk r (λ l. known_of l ≡ known_in t a)
+known_if t a w (Ok l) wanted is = known_is t a w l wanted is
+known_if t a w (Err fault) wanted is = tt

@@ -1,18 +1,18 @@
 //! What is decided on an event, and what it makes of a book.
 
 ghost use Rattle.std.specs.Prelude.{◌≡◌, is_ok, IfOk, IfSome};
-ghost use Rattle.acq_core.specs.Arrivals.{arrival_of};
+ghost use Rattle.acq_core.specs.Arrivals.{arrival_of, merchant_named};
 ghost use Rattle.acq_core.specs.Changes.{change_for};
-ghost use Rattle.acq_core.specs.Known.{nothing};
+ghost use Rattle.acq_core.specs.Looking.{known_of};
+ghost use Rattle.acq_core.specs.Outcome.{outcome, output_of};
 ghost use Rattle.acq_core.specs.Tables.{after_any, known_in, step_output};
 ghost use Rattle.acq_core.specs.Pasts.{HasPast};
 ghost use Rattle.acq_book.specs.Fits.{Fits};
 ghost use Rattle.acq_book.specs.Calls.{Looks, Makes};
 ghost use Rattle.acq_book.specs.Promise.{CountsFault};
-ghost use Rattle.acq_host.specs.Looked.{IsLooked};
 ghost use Rattle.acq_reasons.specs.Reasons.{reason_for};
 
-use crate::looking_up::{look_up, nothing_looked};
+use crate::looking_up::look_up;
 use acq_book::{Book, BookFault};
 use acq_core::{Arrival, Change, Event, Looked, Output};
 use acq_reasons::{Reason, reason_for};
@@ -54,35 +54,25 @@ fn decide_arrival<B: Book>(
     ensures looks { Looks B.Book book.old book.new (is_ok result) }
     ensures store { CountsFault result (B.failures book.old) (B.failures book.new) }
 {
-    let today = book.day()?;
-    let limit = book.limit()?;
-    let mut looked = nothing_looked(today, limit);
-    let decided = decide_over(alloc, book, arrival, &mut looked);
+    let looked = look_up(book, arrival)?;
+    let decided = decide_over(alloc, &looked, arrival);
     drop(looked);
     decided
 }
 
-/// The same, over what is known of the day alone. What was looked up is borrowed, since a proof of
-/// what lets it go takes a minute at each place that may.
-#[tactic(auto, using(crate::proofs::Chains::looks_more))]
-fn decide_over<B: Book>(
+/// The same, over what was looked up. It is borrowed, since a proof of what lets it go takes a
+/// minute at each place that may.
+fn decide_over(
     alloc: Global,
-    book: &mut B,
+    looked: &Looked,
     arrival: &Arrival,
-    looked: &mut Looked,
 ) -> Result<(Output, Option<Change>, Option<Reason>), BookFault>
-    ensures output { B.is_open book.new → IsLooked (B.tables book.old) nothing looked.old
-        → IfOk result (λ x. x.0 ≡ step_output (B.tables book.old) arrival.now) }
-    ensures change { B.is_open book.new → IsLooked (B.tables book.old) nothing looked.old
-        → IfOk result (λ x.
-        x.1 ≡ change_for (known_in (B.tables book.old) arrival.now) arrival.now) }
-    ensures reason { B.is_open book.new → IsLooked (B.tables book.old) nothing looked.old
-        → IfOk result (λ x.
-        x.2 ≡ reason_for (known_in (B.tables book.old) arrival.now) arrival.now) }
-    ensures looks { Looks B.Book book.old book.new (is_ok result) }
-    ensures store { CountsFault result (B.failures book.old) (B.failures book.new) }
+    ensures output { IfOk result (λ x. x.0
+        ≡ output_of (merchant_named arrival.now) (outcome (known_of looked.now) arrival.now)) }
+    ensures change { IfOk result (λ x. x.1 ≡ change_for (known_of looked.now) arrival.now) }
+    ensures reason { IfOk result (λ x. x.2 ≡ reason_for (known_of looked.now) arrival.now) }
+    ensures store { CountsFault result 0 0 }
 {
-    look_up(book, arrival, looked)?;
     // The reason is found first: nothing of it has to be let go if memory runs out behind it.
     let reason = reason_for(alloc, looked, arrival)?;
     let (output, change) = acq_deciding::decide_arrival(alloc, looked, arrival)?;

@@ -9,5 +9,5 @@ mod run_fault;
 
 pub use book_text::BookText;
 pub use host::Host;
-pub use looking_up::{look_up, nothing_looked};
+pub use looking_up::look_up;
 pub use run_fault::RunFault;

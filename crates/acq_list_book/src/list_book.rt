@@ -5,16 +5,17 @@ ghost use Rattle.acq_core.specs.declared.change.Change.TheVariants as change;
 ghost use Rattle.acq_core.specs.Tables.{after, new_tables};
 ghost use Rattle.acq_book.specs.Fits.{Fits};
 
-use crate::copies::{found_copied, range_copied};
+mod looking_up;
+
 use crate::walks::{in_order_of_names, in_order_of_numbers, in_order_of_references, show};
 use acq_book::{Book, BookFault, Visit};
 use acq_core::{
-    AdmittedCount, Change, Limit, Merchant, MerchantId, Posting, Reconciliation, Reference,
-    Remains, Request, RequestKey, Status, Terminal, TerminalId, UsedCount,
+    Change, Limit, Looked, Merchant, MerchantId, Posting, Reconciliation, Remains, Request,
+    RequestKey, Status, Terminal, Wanted,
 };
 use acq_lists::{Merchants, Postings, Reconciliations, Requests, Terminals};
-use card_no::{Prefix, Range, RangeFault, RangeList};
-use day_totals::{Day, Totals};
+use card_no::{Range, RangeFault, RangeList};
+use day_totals::Day;
 use iso_codec::Message;
 use std::alloc::{AllocError, Global};
 use std::hash::RandomState;
@@ -245,65 +246,27 @@ impl Book for ListBook {
 
     ghost stored = { λ t is. is };
 
-    fn limit(&mut self) -> Result<Limit, BookFault> {
-        Ok(self.limit)
-    }
-
-    fn day(&mut self) -> Result<Day, BookFault> {
-        Ok(self.day)
-    }
-
-    fn merchant(&mut self, id: MerchantId) -> Result<Option<Merchant>, BookFault> {
-        Ok(self.merchants.get(id).copied())
-    }
-
-    fn has_terminal(&mut self, merchant: MerchantId, id: TerminalId) -> Result<bool, BookFault> {
-        Ok(self.terminals.has(merchant, id))
+    fn look_up(&mut self, wanted: &Wanted) -> Result<Looked, BookFault> {
+        let mut looked = self.look_up_values(wanted);
+        match self.look_up_rows(wanted, &mut looked) {
+            Ok(()) => Ok(looked),
+            Err(fault) => {
+                drop(looked);
+                Err(fault)
+            }
+        }
     }
 
     fn terminal_count(&mut self) -> Result<u64, BookFault> {
         Ok(self.terminals.count())
     }
 
-    fn range(&mut self, prefix: Prefix) -> Result<Option<Range>, BookFault> {
-        range_copied(self.alloc, self.ranges.find(prefix))
-    }
-
-    fn overlapping(&mut self, low: u32, high: u32) -> Result<Option<Range>, BookFault> {
-        range_copied(self.alloc, self.ranges.overlapping(low, high))
-    }
-
     fn range_count(&mut self) -> Result<u64, BookFault> {
         Ok(self.ranges.as_slice().len() as u64)
     }
 
-    fn request(&mut self, key: RequestKey) -> Result<Option<Request>, BookFault> {
-        found_copied(self.alloc, self.requests.get(&key))
-    }
-
-    fn by_reference(
-        &mut self,
-        merchant: MerchantId,
-        reference: Reference,
-    ) -> Result<Option<Request>, BookFault> {
-        let found = self.requests.by_reference(merchant, reference);
-        found_copied(self.alloc, found)
-    }
-
-    fn admitted(&mut self, merchant: MerchantId) -> Result<AdmittedCount, BookFault> {
-        Ok(self.requests.admitted(merchant))
-    }
-
-    fn used(&mut self, merchant: MerchantId, day: Day) -> Result<UsedCount, BookFault> {
-        Ok(self.requests.used(merchant, day))
-    }
-
     fn used_on(&mut self, day: Day) -> Result<u64, BookFault> {
         Ok(self.requests.used_on(day))
-    }
-
-    fn totals(&mut self, merchant: MerchantId, day: Day) -> Result<Totals, BookFault> {
-        Ok(self.postings.totals(merchant, day))
     }
 
     fn pending(&mut self, day: Day) -> Result<u64, BookFault> {

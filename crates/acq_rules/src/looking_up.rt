@@ -2,7 +2,8 @@
 
 ghost use Rattle.std.specs.Prelude.{◌≡◌, true};
 ghost use Rattle.acq_message.specs.Services.{is_recordable};
-ghost use Rattle.acq_core.specs.Known.{nothing, wanted_by, wanted_by_key, wanted_for, prefix_in};
+ghost use Rattle.acq_core.specs.Known.{wanted_by, wanted_by_key, wanted_with_room};
+ghost use Rattle.acq_core.specs.Known.{wanted_for, prefix_in};
 
 use crate::days::reconciled_day;
 use acq_core::{Arrival, Wanted};
@@ -19,7 +20,7 @@ pub fn wanted_by(today: Day, arrival: &Arrival) -> Wanted
 {
     match arrival {
         Arrival::Undecoded(_) | Arrival::Unserved(_) | Arrival::Malformed(_) | Arrival::CutOver =>
-            nothing(),
+            Wanted::nothing(),
         Arrival::Requested(request) => wanted_for(today, request),
         Arrival::Answered {
             merchant,
@@ -28,41 +29,25 @@ pub fn wanted_by(today: Day, arrival: &Arrival) -> Wanted
         } => Wanted {
             merchant: Some(*merchant),
             reference: Some(*reference),
-            ..nothing()
+            ..Wanted::nothing()
         },
         Arrival::RangeAdded(range) => Wanted {
             bounds: Some((range.low, range.high)),
-            ..nothing()
+            ..Wanted::nothing()
         },
         Arrival::RangeDropped { low, high } => Wanted {
             bounds: Some((*low, *high)),
-            ..nothing()
+            ..Wanted::nothing()
         },
         Arrival::Enrolled(merchant) => Wanted {
             merchant: Some(merchant.id),
-            ..nothing()
+            ..Wanted::nothing()
         },
         Arrival::TerminalAdded(terminal) => Wanted {
             merchant: Some(terminal.merchant),
             terminal: Some(terminal.id),
-            ..nothing()
+            ..Wanted::nothing()
         },
-    }
-}
-
-/// Nothing is looked up.
-fn nothing() -> Wanted
-    ensures { result ≡ nothing }
-{
-    Wanted {
-        merchant: None,
-        terminal: None,
-        key: None,
-        original: None,
-        reference: None,
-        prefix: None,
-        bounds: None,
-        totals_day: None,
     }
 }
 
@@ -74,21 +59,22 @@ fn wanted_for(today: Day, request: &CheckedRequest) -> Wanted
     match request.as_request().service {
         Service::Authorization | Service::Financial => Wanted {
             prefix: prefix_in(message),
-            ..wanted_by_key(request)
+            admitted: true,
+            ..wanted_with_room(today, request)
         },
         Service::Completion => Wanted {
             reference: reference_in(message),
-            ..wanted_by_key(request)
+            ..wanted_with_room(today, request)
         },
         Service::Reversal | Service::ReversalAdvice => Wanted {
             original: original_key(request),
-            ..wanted_by_key(request)
+            ..wanted_with_room(today, request)
         },
         Service::Reconciliation => Wanted {
             totals_day: reconciled_day(today, message),
             ..wanted_by_key(request)
         },
-        Service::NetworkManagement => nothing(),
+        Service::NetworkManagement => Wanted::nothing(),
     }
 }
 
@@ -101,7 +87,18 @@ fn wanted_by_key(request: &CheckedRequest) -> Wanted
         merchant: Some(merchant_of(request)),
         terminal: Some(terminal_of(request)),
         key: Some(key_of(request)),
-        ..nothing()
+        ..Wanted::nothing()
+    }
+}
+
+/// What a request needs that is accepted only where its day has room.
+fn wanted_with_room(today: Day, request: &CheckedRequest) -> Wanted
+    requires { is_recordable request.now.service ≡ true }
+    ensures { result ≡ wanted_with_room today request.now.service request.now.message }
+{
+    Wanted {
+        used_day: Some(today),
+        ..wanted_by_key(request)
     }
 }
 

@@ -1,11 +1,12 @@
 -- Requests that are recorded: which they are, and what they want to be looked up.
-use Rattle.std.proofs.Common.{◌≡◌, ℕ, Some, true, ◌⊎◌, inl, inr, refl, ap}
+use Rattle.std.proofs.Common.{◌≡◌, ℕ, Some, Bool, true, false, ◌⊎◌, inl, inr, refl, ap}
 use Rattle.iso_codec.specs.Message.{IsoMessage}
 use Rattle.acq_message.specs.declared.service.Service.{Service}
 use Rattle.acq_message.specs.declared.service.Service.TheVariants.{Authorization, Financial}
 use Rattle.acq_message.specs.declared.service.Service.TheVariants.{Reversal, ReversalAdvice}
 use Rattle.acq_message.specs.declared.service.Service.TheVariants.{NetworkManagement}
-use Rattle.acq_core.specs.declared.lookup.Wanted.{Wanted}
+use Rattle.acq_message.specs.declared.service.Service.TheVariants.{Reconciliation}
+use Rattle.acq_core.specs.declared.wanted.Wanted.{Wanted}
 use Rattle.acq_message.specs.Elements.{text_at, key_of}
 use Rattle.acq_message.specs.declared.request_message.RequestMessage.{RequestMessage}
 use Rattle.acq_core.specs.Known.{wanted_for}
@@ -44,3 +45,33 @@ pub wants_by_key : (day : ℕ) (s : Service) (q r : RequestMessage) (m : IsoMess
     recordable q s ≡ Some r → WantsByKey (wanted_for day s m) s m
 wants_by_key day NetworkManagement q r m e = absurd (cc)
 wants_by_key day service q r m e = record { merchant = refl; terminal = refl; key = refl }
+
+-- what is accepted only where its day has room
+abbrev pub takes_room : Service → Bool
+takes_room Reconciliation = false
+takes_room NetworkManagement = false
+takes_room service = true
+
+pub admissible_takes_room : (s : Service) → is_admissible s ≡ true → takes_room s ≡ true
+admissible_takes_room Authorization is = refl
+admissible_takes_room Financial is = refl
+admissible_takes_room service is = absurd (cc)
+
+pub reversal_takes_room : (s : Service) → is_reversal s ≡ true → takes_room s ≡ true
+reversal_takes_room Reversal is = refl
+reversal_takes_room ReversalAdvice is = refl
+reversal_takes_room service is = absurd (cc)
+
+-- it wants to know how many messages count
+pub wants_room : (day : ℕ) (s : Service) (m : IsoMessage) → takes_room s ≡ true →
+    (wanted_for day s m).used_day ≡ Some day
+wants_room day Reconciliation m is = absurd (cc)
+wants_room day NetworkManagement m is = absurd (cc)
+wants_room day service m is = refl
+
+-- what gets a reference wants to know how many were given
+pub wants_reference : (day : ℕ) (s : Service) (m : IsoMessage) → is_admissible s ≡ true →
+    (wanted_for day s m).admitted ≡ true
+wants_reference day Authorization m is = refl
+wants_reference day Financial m is = refl
+wants_reference day service m is = absurd (cc)

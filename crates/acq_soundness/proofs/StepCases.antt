@@ -1,7 +1,7 @@
 -- By cases over a step: what holds in each case that the tables allow holds of what is decided on
 -- them. A case hands out all that the checks have shown.
 use Rattle.std.proofs.Common.{◌≡◌, ℕ, ◌+◌, ◌<◌, ◌≤◌, List, [], ◌∷◌, Option, Some, None, Bool, true}
-use Rattle.std.proofs.Common.{false, refl, sym, ap, ◌∙◌, subst, ltb}
+use Rattle.std.proofs.Common.{false, refl, sym, ap, ap₂, ◌∙◌, subst, ltb}
 use Rattle.std.specs.Prelude.{not, nat_lt, ◌==◌, ◌&&◌, option_and_then, find, if◌then◌else◌}
 use Rattle.std.specs.List.{list_all, list_any}
 use Rattle.std.specs.Str.{bytes_eq}
@@ -37,7 +37,8 @@ use Rattle.acq_core.specs.declared.arrival.Arrival.TheVariants.{Undecoded, Unser
 use Rattle.acq_core.specs.declared.arrival.Arrival.TheVariants.{Requested, Answered, CutOver}
 use Rattle.acq_core.specs.declared.arrival.Arrival.TheVariants.{RangeAdded, RangeDropped, Enrolled}
 use Rattle.acq_core.specs.declared.arrival.Arrival.TheVariants.{TerminalAdded}
-use Rattle.acq_core.specs.Known.{Known, Prior, reconciled_day, number_if, wanted_for}
+use Rattle.acq_core.specs.Known.{Known, Prior, reconciled_day, number_if, used_if}
+use Rattle.acq_core.specs.Known.{wanted_for}
 use Rattle.acq_core.specs.Decision.{Decision, Reports, Replies, Repeats, Refuses, Admits, Completes}
 use Rattle.acq_core.specs.Decision.{Reverses, Reconciles, Answers, CutsOver, AddsRange, DropsRange}
 use Rattle.acq_core.specs.Decision.{Enrols, AddsTerminal, first_of, is_full, is_other_transaction}
@@ -57,6 +58,9 @@ use Rattle.acq_soundness.specs.Requests.{is_admissible, is_reversal}
 use Rattle.acq_soundness.proofs.Lookups.{not_false, or_split, then_some}
 use Rattle.acq_soundness.proofs.Members.{In, In-find}
 use Rattle.acq_soundness.proofs.RecordableRequests.{WantsByKey, wants_by_key, recordable_some}
+use Rattle.acq_soundness.proofs.RecordableRequests.{takes_room, admissible_takes_room}
+use Rattle.acq_soundness.proofs.RecordableRequests.{reversal_takes_room, wants_room}
+use Rattle.acq_soundness.proofs.RecordableRequests.{wants_reference}
 use Rattle.acq_soundness.proofs.FoundRows.{IsNew, row_of_key, row_of_reference, is_new}
 use Rattle.acq_soundness.proofs.Keys.{eqb_is}
 
@@ -262,10 +266,11 @@ module _ (t : Tables) (r : RequestMessage) (P : Decision → Type 0)
   }
 
   -- a day that isn't full has room
-  room : (merchant : Merchant) → IsFresh k r merchant → is_full k ≡ false → HasRoom t r
-  room merchant fresh free =
+  room : takes_room r.service ≡ true → is_full k ≡ false → HasRoom t r
+  room takes free =
       let used : k.used ≡ used_in (requests_of m t.requests) t.day =
-      ap (number_if (used_in (requests_of m t.requests) t.day)) (wants fresh.recordable).merchant in
+      ap (used_if (used_in (requests_of m t.requests)))
+      (wants_room t.day r.service r.message takes) in
       ltb-true (used_in (requests_of m t.requests) t.day) t.limit
       (sym (ap (λ n. nat_lt n t.limit) used) ∙ not_false (nat_lt k.used k.limit) free)
 
@@ -300,8 +305,8 @@ module _ (t : Tables) (r : RequestMessage) (P : Decision → Type 0)
       let prefix =
       then_some (range_of_prefix t.ranges) (wanted_for t.day r.service r.message).prefix range is in
       subst (λ n. P (Admits r range (merchant.first_reference + n)))
-      (sym (ap (number_if (admitted_in (requests_of m t.requests)))
-      (wants fresh.recordable).merchant))
+      (sym (ap₂ (λ b o. number_if b (admitted_in (requests_of m t.requests)) o)
+      (wants_reference t.day r.service r.message service) (wants fresh.recordable).merchant))
       (cases.admitted r merchant (recording merchant fresh) range (record {
         service = service;
         transaction = checked.0;
@@ -309,7 +314,7 @@ module _ (t : Tables) (r : RequestMessage) (P : Decision → Type 0)
         card = not_false (is_valid_card (or_empty (card_of r.message))) checked.1.1.0;
         unexpired = checked.1.1.1.0;
         held = (In-find (holds_prefix prefix.0) t.ranges range prefix.2).0;
-        room = room merchant fresh none.0;
+        room = room (admissible_takes_room r.service service) none.0;
       })))
 
   by_admission : (merchant : Merchant) → IsFresh k r merchant → is_admissible r.service ≡ true →
@@ -348,7 +353,7 @@ module _ (t : Tables) (r : RequestMessage) (P : Decision → Type 0)
               within =
                   ltb-false row.amount (amount_in r.message)
                   (ap (λ p. nat_lt p.amount (amount_in r.message)) says ∙ none.0);
-              room = room merchant fresh none.1.0;
+              room = room (ap takes_room service) none.1.0;
             }))))
         | false ↦ (λ shut. refused merchant fresh code.RecordNotFound refl)
       ] in
@@ -390,7 +395,7 @@ module _ (t : Tables) (r : RequestMessage) (P : Decision → Type 0)
             ap (λ x. is_awaited x.reply_state && nat_lt 0 remaining) says ∙ shows.answered;
         amount = shows.amount ∙ sym (ap (λ x. x.amount) says);
         less = subst (λ n. remaining < n) (sym (ap (λ x. x.amount) says)) shows.less;
-        room = room merchant fresh none.1.1.0;
+        room = room (reversal_takes_room r.service service) none.1.1.0;
       })))
 
   by_original : (merchant : Merchant) → IsFresh k r merchant → is_reversal r.service ≡ true →

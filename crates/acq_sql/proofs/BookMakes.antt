@@ -94,7 +94,7 @@ module _ {S T : Type 0} (g : Ghosts S) (law : LeavesCommit g) (old new : Kept S)
         | true ↦ (λ is. opens_changed is clean o)
         | false ↦ (λ is. opens (tables g old) clean (left is clean opened o) o.opened.past
             (subst (λ m. Recalls m (tables g old)) (sym (forgets is))
-            (record { waiting = tt; used = tt })))
+            (record { row = tt; waiting = tt; used = tt })))
       ] in
       by (is_ok result) refl
 

@@ -1,3 +1,4 @@
+pub mod BookGives
 pub mod Memos
 pub mod BookLooks
 pub mod BookBlames

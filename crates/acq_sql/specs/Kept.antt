@@ -78,8 +78,11 @@ used_code =
 
 abbrev pub memo_code : Coded Memo
 memo_code =
-    code_by (MayWait × Option UsedOn) (coded× waiting_code (coded_option used_code))
-    (λ m. (m.waiting, m.used)) (λ p. record { waiting = p.0; used = p.1 }) (λ _. refl)
+    code_by (Option (ℕ × ℕ) × (MayWait × Option UsedOn))
+    (coded× (coded_option (coded× coded_ℕ coded_ℕ))
+    (coded× waiting_code (coded_option used_code)))
+    (λ m. (m.row, (m.waiting, m.used)))
+    (λ p. record { row = p.0; waiting = p.1.0; used = p.1.1 }) (λ _. refl)
 
 abbrev pub kept_code : {S : Type 0} → Coded S → Coded (Kept S)
 kept_code {S} store =

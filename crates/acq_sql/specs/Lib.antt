@@ -4,3 +4,4 @@ pub mod Opened
 pub mod Laws
 pub mod Applied
 pub mod Faults
+pub mod Given

@@ -1,5 +1,5 @@
 -- What a book recalls of its tables.
-use Rattle.std.specs.Prelude.{◌≡◌, List, Option, None, IfSome, true, false}
+use Rattle.std.specs.Prelude.{◌≡◌, ℕ, List, Option, None, IfSome, true, false}
 use Rattle.std.specs.List.{AllByRecursion}
 use Rattle.acq_core.specs.declared.request.Request.{Request}
 use Rattle.acq_core.specs.Tables.{Tables, is_pending, used_in}
@@ -19,11 +19,16 @@ WaitsNoOther may_wait.None rows = AllByRecursion (λ row. is_pending row.status 
 abbrev pub CountsUsed : Option UsedOn → List Request → Type 0
 CountsUsed used rows = IfSome used (λ u. u.count ≡ used_in rows u.day)
 
+-- the book has this row
+abbrev pub HasRow : Option (ℕ × ℕ) → Tables → Type 0
+HasRow row t = IfSome row (λ row. row ≡ (t.limit, t.day))
+
 -- it is so of the tables
 pub record Recalls (memo : Memo) (t : Tables) : Type 0 where
+  pub row : HasRow memo.row t
   pub waiting : WaitsNoOther memo.waiting t.requests
   pub used : CountsUsed memo.used t.requests
 
 -- a book that was just made or opened recalls nothing
 abbrev pub nothing_recalled : Memo
-nothing_recalled = record { waiting = may_wait.Any; used = None }
+nothing_recalled = record { row = None; waiting = may_wait.Any; used = None }

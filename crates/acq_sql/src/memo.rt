@@ -1,23 +1,25 @@
 //! What a book recalls of its tables.
 
-ghost use Rattle.std.specs.Prelude.{◌≡◌, IfOk, IfSome, true, false};
+ghost use Rattle.std.specs.Prelude.{◌≡◌, IfOk, IfSome, None, true, false};
 ghost use Rattle.acq_core.specs.Tables.{Tables, after};
 ghost use Rattle.acq_book.specs.Lookups.{used_on_at, waiting_count_at};
-ghost use Rattle.acq_sql.specs.Memos.{CountsUsed, Recalls, nothing_recalled};
+ghost use Rattle.acq_sql.specs.Memos.{CountsUsed, HasRow, Recalls, nothing_recalled};
 
 mod may_wait;
 mod used_on;
 
 use acq_book::BookFault;
-use acq_core::Change;
+use acq_core::{Change, Limit};
 use day_totals::Day;
 pub use may_wait::MayWait;
 pub use used_on::UsedOn;
 
-/// What a book recalls of its tables since it looked, so that a status that is asked for each
-/// second doesn't look at all requests each time. A change keeps it up to date.
+/// What a book recalls of its tables since it looked: its own row, which each event needs, and what
+/// a status needs, so that one that is asked for each second doesn't look at all requests each time.
+/// A change keeps it up to date.
 #[derive(Clone, Copy)]
 pub struct Memo {
+    pub(crate) row: Option<(Limit, Day)>,
     pub(crate) waiting: MayWait,
     pub(crate) used: Option<UsedOn>,
 }
@@ -28,6 +30,7 @@ impl Memo {
         ensures { result ≡ nothing_recalled }
     {
         Memo {
+            row: None,
             waiting: MayWait::Any,
             used: None,
         }
@@ -43,8 +46,29 @@ impl Memo {
             return Memo::nothing();
         }
         Memo {
+            row: row_after(self.row, change),
             waiting: self.waiting.after(change),
             used: used_after(self.used, change),
+        }
+    }
+
+    /// How many messages of a merchant a day admits, and the business day, if they are known.
+    pub(crate) fn row(&self) -> Option<(Limit, Day)>
+        ensures { IfSome result (λ row. (t : Tables) → Recalls self.now t
+            → row ≡ (t.limit, t.day)) }
+    {
+        self.row
+    }
+
+    /// Notes these, as a look told them.
+    pub(crate) fn note_row(&mut self, told: &Result<(Limit, Day), BookFault>)
+        ensures learns { (t : Tables) → IfOk told.now (λ row. row ≡ (t.limit, t.day))
+            → Recalls self.old t → Recalls self.new t }
+        ensures keeps { self.old.row ≡ None → (t : Tables) → Recalls self.new t
+            → Recalls self.old t }
+    {
+        if let Ok(row) = told {
+            self.row = Some(*row);
         }
     }
 
@@ -90,6 +114,17 @@ impl Memo {
         if let Ok(count) = told {
             self.used = Some(UsedOn { day, count: *count });
         }
+    }
+}
+
+/// What is recalled of the book's row after a change.
+fn row_after(row: Option<(Limit, Day)>, change: &Change) -> Option<(Limit, Day)>
+    ensures { (t : Tables) → HasRow row t → HasRow result (after t change.now) }
+{
+    let (limit, day) = row?;
+    match change {
+        Change::SetDay(next) => Some((limit, *next)),
+        _ => Some((limit, day)),
     }
 }
 

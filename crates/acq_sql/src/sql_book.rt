@@ -20,21 +20,21 @@ ghost use Rattle.acq_sql.specs.Memos.{nothing_recalled};
 ghost use Rattle.acq_sql_opening.specs.Migrated.{IsAsItSays, IsOfSixDigits};
 ghost use Rattle.acq_sql.specs.Opened.{IsOpenAt, IsRoomy};
 
+mod looking_up;
+
 use crate::answers::counted;
 use crate::memo::Memo;
 use crate::refusal::Refusal;
 use acq_book::{Book, BookFault, Visit};
 use acq_core::{
-    AdmittedCount, Change, Limit, Merchant, MerchantId, Posting, Reconciliation, Reference,
-    Request, RequestKey, TerminalId, UsedCount,
+    Change, Limit, Looked, Merchant, MerchantId, Posting, Reconciliation, Request, Wanted,
 };
 use acq_soundness::every_opening;
 use acq_sql_checking::check_book;
 use acq_sql_opening::{make_book, migrate_book};
 use acq_sql_rows::tables::VERSION;
 use acq_widening::laws::pasts_are_widened;
-use card_no::{Prefix, Range};
-use day_totals::{Day, Totals};
+use day_totals::Day;
 use sqlite::{Alter, Connection, Error};
 use sqlite_disk::Disk;
 use sqlite_store::FileStore;
@@ -286,30 +286,16 @@ impl<S: Alter> Book for SqlBook<S> {
       names = S.Store.names;
     }) S.Store.settled };
 
-    fn limit(&mut self) -> Result<Limit, BookFault> {
-        self.settled();
-        let answer = acq_sql_reads::limit_and_day(&mut self.connection);
-        let (limit, _) = counted(&mut self.failures, answer)?;
-        Ok(limit)
-    }
-
-    fn day(&mut self) -> Result<Day, BookFault> {
-        self.settled();
-        let answer = acq_sql_reads::limit_and_day(&mut self.connection);
-        let (_, day) = counted(&mut self.failures, answer)?;
-        Ok(day)
-    }
-
-    fn merchant(&mut self, id: MerchantId) -> Result<Option<Merchant>, BookFault> {
-        self.settled();
-        let answer = acq_sql_reads::merchant(&mut self.connection, id);
-        counted(&mut self.failures, answer)
-    }
-
-    fn has_terminal(&mut self, merchant: MerchantId, id: TerminalId) -> Result<bool, BookFault> {
-        self.settled();
-        let answer = acq_sql_reads::has_terminal(&mut self.connection, merchant, id);
-        counted(&mut self.failures, answer)
+    fn look_up(&mut self, wanted: &Wanted) -> Result<Looked, BookFault> {
+        let (limit, today) = self.limit_and_day()?;
+        let mut looked = Looked::nothing(today, limit);
+        match self.look_up_wanted(wanted, &mut looked) {
+            Ok(()) => Ok(looked),
+            Err(fault) => {
+                drop(looked);
+                Err(fault)
+            }
+        }
     }
 
     fn terminal_count(&mut self) -> Result<u64, BookFault> {
@@ -318,54 +304,9 @@ impl<S: Alter> Book for SqlBook<S> {
         counted(&mut self.failures, answer)
     }
 
-    fn range(&mut self, prefix: Prefix) -> Result<Option<Range>, BookFault> {
-        self.settled();
-        let answer = acq_sql_reads::range(&mut self.connection, self.alloc, prefix);
-        counted(&mut self.failures, answer)
-    }
-
-    fn overlapping(&mut self, low: u32, high: u32) -> Result<Option<Range>, BookFault> {
-        self.settled();
-        let answer = acq_sql_reads::overlapping(&mut self.connection, self.alloc, low, high);
-        counted(&mut self.failures, answer)
-    }
-
     fn range_count(&mut self) -> Result<u64, BookFault> {
         self.settled();
         let answer = acq_sql_reads::range_count(&mut self.connection);
-        counted(&mut self.failures, answer)
-    }
-
-    fn request(&mut self, key: RequestKey) -> Result<Option<Request>, BookFault> {
-        self.settled();
-        let answer = acq_sql_reads::request(&mut self.connection, self.alloc, key);
-        counted(&mut self.failures, answer)
-    }
-
-    fn by_reference(
-        &mut self,
-        merchant: MerchantId,
-        reference: Reference,
-    ) -> Result<Option<Request>, BookFault> {
-        self.settled();
-        let answer = acq_sql_reads::by_reference(
-            &mut self.connection,
-            self.alloc,
-            merchant,
-            reference,
-        );
-        counted(&mut self.failures, answer)
-    }
-
-    fn admitted(&mut self, merchant: MerchantId) -> Result<AdmittedCount, BookFault> {
-        self.settled();
-        let answer = acq_sql_reads::admitted(&mut self.connection, merchant);
-        counted(&mut self.failures, answer)
-    }
-
-    fn used(&mut self, merchant: MerchantId, day: Day) -> Result<UsedCount, BookFault> {
-        self.settled();
-        let answer = acq_sql_reads::used(&mut self.connection, merchant, day);
         counted(&mut self.failures, answer)
     }
 
@@ -378,12 +319,6 @@ impl<S: Alter> Book for SqlBook<S> {
         let told = counted(&mut self.failures, answer);
         self.memo.note_used(day, &told);
         told
-    }
-
-    fn totals(&mut self, merchant: MerchantId, day: Day) -> Result<Totals, BookFault> {
-        self.settled();
-        let answer = acq_sql_reads::totals(&mut self.connection, merchant, day);
-        counted(&mut self.failures, answer)
     }
 
     fn pending(&mut self, day: Day) -> Result<u64, BookFault> {

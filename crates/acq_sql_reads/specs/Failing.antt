@@ -78,6 +78,11 @@ IsPostingRow row =
 abbrev pub IsEnrolled : List ℕ → Tables → Type 0
 IsEnrolled id t = (m : Merchant) × (merchant_at t id ≡ Some m)
 
+-- it is, with this first reference
+abbrev pub IsEnrolledFrom : List ℕ → ℕ → Tables → Type 0
+IsEnrolledFrom id first t =
+    (m : Merchant) × (merchant_at t id ≡ Some m) × (m.first_reference ≡ first)
+
 -- there are fewer than a walk hands over at most
 abbrev pub CanBeWalked : {X : Type 0} → List X → Type 0
 CanBeWalked rows = length rows < 2 ^ 64 - 1

@@ -9,6 +9,7 @@ ghost use Rattle.sqlite.specs.Held.{state};
 ghost use Rattle.row_lemmas.specs.Selects.{IsSelect};
 ghost use Rattle.acq_core.specs.declared.merchant.Merchant.{Merchant};
 ghost use Rattle.acq_core.specs.Tables.{Tables};
+ghost use Rattle.acq_core.specs.Known.{number_if};
 ghost use Rattle.acq_core.specs.Numbers.{is_admitted_count};
 ghost use Rattle.acq_core.specs.Pasts.{HasPast};
 ghost use Rattle.acq_book.specs.Lookups.{merchant_at, admitted_at, pending_at};
@@ -18,12 +19,13 @@ ghost use Rattle.acq_sql_rows.specs.Relation.{Holds};
 ghost use Rattle.acq_sql_reads.specs.Looked.{Answers, AnswersWhere, LooksOnly};
 ghost use Rattle.acq_sql_reads.specs.Looked.{ShowsGreatest, TellsCount, count_up_to};
 ghost use Rattle.acq_sql_reads.specs.Failing.{FailsOnlyExcused, FailsOnlyExcusedWhere};
-ghost use Rattle.acq_sql_reads.specs.Failing.{FailsForMemory, IsEnrolled, IsTold};
+ghost use Rattle.acq_sql_reads.specs.Failing.{FailsForMemory, IsEnrolled, IsEnrolledFrom};
+ghost use Rattle.acq_sql_reads.specs.Failing.{IsTold};
 ghost use Rattle.acq_sql_reads.specs.Shown.{FailsToHandOver, ShowsCount};
 
 use crate::columns::{count_at, read, reference_if_at};
 use crate::enrolments;
-use acq_core::{AdmittedCount, FirstReference};
+use acq_core::{AdmittedCount, FirstReference, Merchant};
 use acq_message::{MerchantId, Reference};
 use acq_sql_rows::day_value;
 use day_totals::Day;
@@ -150,21 +152,42 @@ fn count_of(rows: &[Row]) -> Result<u64, Error>
     }
 }
 
-/// How many of the merchant's requests were admitted: so many references it has given.
-pub fn admitted<S: Alter>(
+/// The merchant with this name, and, if they are counted, how many of its requests were admitted:
+/// so many references it has given.
+pub fn merchant_and_admitted<S: Alter>(
     conn: &mut Connection<S>,
-    merchant: MerchantId,
-) -> Result<AdmittedCount, Error>
+    id: MerchantId,
+    counted: bool,
+) -> Result<(Option<Merchant>, AdmittedCount), Error>
     ensures answers { AnswersWhere (state S.Store conn.old) (state S.Store conn.new) result
-        HasPast (λ t. admitted_at t merchant) }
+        HasPast (λ t. (merchant_at t id, number_if counted (admitted_at t id) (Some id))) }
     ensures looks { LooksOnly (state S.Store conn.old) (state S.Store conn.new) (is_ok result) }
     ensures fails { FailsOnlyExcused (state S.Store conn.old) (state S.Store conn.new) result }
 {
-    let Some(enrolled) = enrolments::merchant(conn, merchant)? else {
-        return read(AdmittedCount::from_number(0));
+    let Some(enrolled) = enrolments::merchant(conn, id)? else {
+        return Ok((None, AdmittedCount::zero()));
     };
+    if !counted {
+        return Ok((Some(enrolled), AdmittedCount::zero()));
+    }
+    let admitted = admitted_of(conn, id, enrolled.first_reference)?;
+    Ok((Some(enrolled), admitted))
+}
+
+/// How many requests were admitted of an enrolled merchant, whose first reference is this.
+fn admitted_of<S: Alter>(
+    conn: &mut Connection<S>,
+    merchant: MerchantId,
+    first: FirstReference,
+) -> Result<AdmittedCount, Error>
+    ensures answers { AnswersWhere (state S.Store conn.old) (state S.Store conn.new) result
+        (λ t. HasPast t × IsEnrolledFrom merchant first t) (λ t. admitted_at t merchant) }
+    ensures looks { LooksOnly (state S.Store conn.old) (state S.Store conn.new) (is_ok result) }
+    ensures fails { FailsOnlyExcusedWhere (state S.Store conn.old) (state S.Store conn.new) result
+        (IsEnrolledFrom merchant first) }
+{
     let greatest = greatest_reference(conn, merchant)?;
-    count_from(enrolled.first_reference, greatest)
+    count_from(first, greatest)
 }
 
 /// How many references there are from the first up to the greatest, if one was given.

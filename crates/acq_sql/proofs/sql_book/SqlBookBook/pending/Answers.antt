@@ -1,36 +1,12 @@
 use Rattle.acq_book.specs.Lookups.{pending_at}
-use Rattle.acq_sql.proofs.BookBlames.{blames_of, pending_told}
-use Rattle.acq_sql.proofs.BookLooks.{looks_of, room_of, value_of}
+use Rattle.acq_sql.proofs.BookBlames.{pending_told}
+use Rattle.acq_sql.proofs.BookGives.{asked}
 use Rattle.acq_sql.proofs.sql_book.SqlBookBook.pending.Goals as goal
 
-pub returns-clause-value : goal.returns-clause-value
-returns-clause-value g c o =
-    value_of g.S.Store _ _
-    c.pending-answer.new.conn c.counted.new.failures
-    c.self.view_is
-    c.pending-answer.result c.counted.result c.pending-answer.ensures.looks c.self.invariant
-    c.settled.ensures
-    c.counted.ensures.same c.counted.ensures.succeeds (λ t. pending_at t c.args.day)
-    (λ clean t holds past. c.pending-answer.ensures.answers clean t holds) o
-
-pub returns-clause-looks : goal.returns-clause-looks
-returns-clause-looks g c =
-    looks_of g.S.Store _ _
-    c.pending-answer.new.conn c.counted.new.failures
-    c.self.view_is c.pending-answer.result c.counted.result c.pending-answer.ensures.looks
-    c.self.invariant c.settled.ensures c.counted.ensures.succeeds c.counted.ensures.rise
-
-pub returns-clause-blames : goal.returns-clause-blames
-returns-clause-blames g c =
-    blames_of g.S.Store _ _
-    c.pending-answer.new.conn c.counted.new.failures
-    c.self.view_is c.pending-answer.result c.counted.result _
-    c.pending-answer.ensures.fails
-    c.counted.ensures.same c.counted.ensures.fault (pending_told c.args.day)
-
-pub returns-clause-room : goal.returns-clause-room
-returns-clause-room g c =
-    room_of g.S.Store _ _
-    c.pending-answer.new.conn c.counted.new.failures
-    c.self.view_is c.pending-answer.result c.pending-answer.ensures.looks c.self.invariant
-    c.settled.ensures
+pub returns : goal.returns
+returns g c =
+    let answer = c.pending-answer in
+    asked g.S.Store _ _ answer.new.conn c.counted.new.failures c.self.view_is c.self.invariant
+    c.settled.ensures answer.result c.counted.result answer.ensures.looks c.counted.ensures
+    (λ t. pending_at t c.args.day) (λ clean t holds past. answer.ensures.answers clean t holds) _ answer.ensures.fails
+    (pending_told c.args.day)

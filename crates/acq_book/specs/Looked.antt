@@ -1,9 +1,9 @@
--- What was looked up part by part.
+-- What was looked up, part by part.
 use Rattle.std.specs.Prelude.{◌≡◌, None, option_and_then}
 use Rattle.acq_message.specs.Elements.{or_empty}
-use Rattle.acq_core.specs.declared.lookup.Wanted.{Wanted}
-use Rattle.acq_core.specs.declared.lookup.Looked.{Looked}
-use Rattle.acq_core.specs.Known.{holds_if, number_if, totals_if}
+use Rattle.acq_core.specs.declared.wanted.Wanted.{Wanted}
+use Rattle.acq_core.specs.declared.looked.Looked.{Looked}
+use Rattle.acq_core.specs.Known.{holds_if, number_if, used_if, totals_if}
 use Rattle.acq_core.specs.Tables.{Tables}
 use Rattle.acq_book.specs.Lookups.{merchant_at, has_terminal_at, range_at, overlapping_at}
 use Rattle.acq_book.specs.Lookups.{request_at, referred_at, admitted_at, used_at, totals_at}
@@ -25,21 +25,11 @@ pub record IsLooked (t : Tables) (w : Wanted) (l : Looked) : Type 0 where
       (option_and_then (λ id. w.reference) w.merchant)
   pub range : l.range ≡ option_and_then (range_at t) w.prefix
   pub overlapped : l.overlapped ≡ option_and_then (λ ends. overlapping_at t ends.0 ends.1) w.bounds
-  pub admitted : l.admitted ≡ number_if (admitted_at t (or_empty w.merchant)) w.merchant
-  pub used : l.used ≡ number_if (used_at t (or_empty w.merchant) t.day) w.merchant
+  pub admitted :
+      l.admitted ≡ number_if w.admitted (admitted_at t (or_empty w.merchant)) w.merchant
+  pub used :
+      l.used ≡ used_if (used_at t (or_empty w.merchant))
+      (option_and_then (λ id. w.used_day) w.merchant)
   pub totals :
       l.totals ≡ totals_if (totals_at t (or_empty w.merchant))
       (option_and_then (λ id. w.totals_day) w.merchant)
-
--- of what is wanted, what is looked up for no merchant, or under a whole key
-abbrev pub rows_of : Wanted → Wanted
-rows_of w = record {
-  merchant = None;
-  terminal = None;
-  key = w.key;
-  original = w.original;
-  reference = None;
-  prefix = w.prefix;
-  bounds = w.bounds;
-  totals_day = None;
-}

@@ -1,0 +1,105 @@
+-- What a look-up or a walk over a connection gives, its book gives.
+use Rattle.std.proofs.Common.{◌≡◌, ◌≤◌, ℕ, Bool, List, Result, Ok, IfOk, OnOk, OnErr, is_ok}
+use Rattle.std.proofs.Common.{refl, sym, subst}
+use Rattle.sqlite_trees.specs.declared.store.Store.{Ghosts}
+use Rattle.sqlite.specs.declared.error.Error.{Error}
+use Rattle.sqlite.specs.State.{State, HasCleanDisk}
+use Rattle.sqlite.specs.Held.{Held, state}
+use Rattle.acq_core.specs.Pasts.{HasPast}
+use Rattle.acq_core.specs.Tables.{Tables}
+use Rattle.acq_book.specs.declared.book_fault.BookFault.{BookFault}
+use Rattle.acq_book.specs.Promise.{CountsFault, WalksBy}
+use Rattle.acq_book.specs.Visits.{SawAll, SawRows, SawSome}
+use Rattle.acq_sql_rows.specs.Rows.{version}
+use Rattle.acq_sql_rows.specs.Relation.{Holds}
+use Rattle.acq_sql_rows.specs.Standing.{FailsExcused}
+use Rattle.acq_sql_writes.specs.Refused.{HasNumbersLeft}
+use Rattle.acq_sql_reads.specs.Looked.{LooksOnly}
+use Rattle.acq_sql.specs.Faults.{IsTold}
+use Rattle.acq_sql.specs.Given.{Gives}
+use Rattle.acq_sql.specs.Kept.{Kept}
+use Rattle.acq_sql.specs.Memos.{Recalls}
+use Rattle.acq_sql.specs.Opened.{IsOpenAt, tables, is_honest, is_open, may_leave, leaves_books}
+use Rattle.acq_sql.specs.Opened.{has_room, store_faults}
+use Rattle.acq_sql.proofs.BookBlames.{blames_of}
+use Rattle.acq_sql.proofs.BookLooks.{IsSettled, held_by, looked, looks_of, relay_err, relay_ok}
+use Rattle.acq_sql.proofs.BookLooks.{room_of, unlooked, value_of}
+
+-- ---- nothing is asked
+
+pub unasked : {S T : Type 0} (g : Ghosts S) (old seen : Kept S) → old ≡ seen → (x : T)
+    (says : Tables → T → Type 0) → (is_open g seen → says (tables g seen) x)
+    → Gives g seen old (Ok x) says
+unasked {S} g old seen is x says so =
+    subst (λ (k : Kept S). Gives g k old (Ok x) says) is (record {
+      value = λ o.
+          subst (λ (k : Kept S). is_open g k → says (tables g k) x) (sym is) so o;
+      looks = unlooked g old old refl;
+      store = refl;
+      blames = λ clean o room. tt;
+      room = λ o room. room;
+    })
+
+-- ---- a connection is asked
+
+-- what the tables of an open book with room are like
+abbrev pub Holding : (Tables → Type 0) → Type 0
+Holding fits = (s : State) (t : Tables) → IsOpenAt s t → HasNumbersLeft s.now → fits t
+
+module _ {S : Type 0} (g : Ghosts S) (old seen : Kept S) (connection : Held S) (failures : ℕ)
+    (is : old ≡ seen) (out : old.connection.in_transaction ≡ false) (settled : IsSettled g seen)
+    where
+  abbrev new : Kept S
+  new = looked old connection failures
+
+  pub asked : {T : Type 0} (answer : Result T Error) (result : Result T BookFault) →
+      LooksOnly (state g old.connection) (state g connection) (is_ok answer)
+      → IsTold answer result old.failures failures → (look : Tables → T)
+      → (HasCleanDisk (state g connection) → (t : Tables)
+      → Holds (state g old.connection).now t → HasPast t → IfOk answer (λ x. x ≡ look t))
+      → (fits : Tables → Type 0)
+      → FailsExcused version (state g old.connection) (state g connection) answer fits
+      → Holding fits → Gives g seen new result (λ t x. x ≡ look t)
+  asked answer result looks told look says fits fails fit = record {
+    value = value_of g old seen connection failures is answer result looks out settled told.same
+        told.succeeds look says;
+    looks = looks_of g old seen connection failures is answer result looks out settled told.succeeds
+        told.rise;
+    store = subst (λ (k : Kept S). CountsFault result k.failures failures) is told.store;
+    blames = blames_of g old seen connection failures is answer result fits fails told.same told.fault
+        fit;
+    room = room_of g old seen connection failures is answer looks out settled;
+  }
+
+  -- a visitor is shown the rows
+  pub walked : {Row V : Type 0} (sees : V → Row → Bool → V → Type 0) (rows : Tables → List Row)
+      (before after : V) (answer : Result (Unit {0}) Error) (result : Result (Unit {0}) BookFault) →
+      LooksOnly (state g old.connection) (state g connection) (is_ok answer)
+      → IsTold answer result old.failures failures
+      → (HasCleanDisk (state g connection) → (t : Tables)
+      → Holds (state g old.connection).now t → HasPast t
+      → OnOk answer (SawAll sees (rows t) before after))
+      → (HasCleanDisk (state g connection) → (t : Tables)
+      → Holds (state g old.connection).now t → HasPast t
+      → OnErr answer (SawSome sees (rows t) before after))
+      → SawRows sees before after (is_ok answer)
+      → (fits : Tables → Type 0)
+      → FailsExcused version (state g old.connection) (state g connection) answer fits
+      → Holding fits
+      → WalksBy (tables g) (is_honest g) (is_open g) (may_leave g) (leaves_books g)
+      (λ (k : Kept S). k.failures) (store_faults g) (has_room g) seen new result sees
+      (rows (tables g seen)) before after
+  walked sees rows before after answer result looks told seen_all seen_some shown fits fails fit =
+      record {
+        seen = λ clean o. relay_ok _ answer result told.succeeds
+            (seen_all clean (tables g seen) (held_by g old seen is o) o.opened.past);
+        begun = λ clean o. relay_err _ answer result told.succeeds
+            (seen_some clean (tables g seen) (held_by g old seen is o) o.opened.past);
+        shown = subst (SawRows sees before after) (sym told.succeeds) shown;
+        looks = looks_of g old seen connection failures is answer result looks out settled
+            told.succeeds told.rise;
+        store = subst (λ (k : Kept S). CountsFault result k.failures failures) is told.store;
+        blames = blames_of g old seen connection failures is answer result fits fails told.same
+            told.fault fit;
+        room = room_of g old seen connection failures is answer looks out settled;
+      }
