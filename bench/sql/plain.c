@@ -1,10 +1,12 @@
-/* Takes event lines over a book in SQLite, by the statements by which acqd takes them: for each event
- * the same look-ups, and then the same writes in one transaction. It reads the lines that bench/sql.sh
+/* Takes event lines over a book in SQLite, as a host in C does that is written with care: statements
+ * are prepared once, each question is asked once, nothing is asked that nobody reads, the book's own row
+ * is kept in memory, and the rows that it leaves are those of acqd. It reads the lines that bench/sql.sh
  * makes, and no others: a range, merchants with a terminal each, sales, and answers that approve them.
  *
- * Its argument is the database, ":memory:" for one in memory. One without tables becomes a new book. It
- * prints how many events there were, how many nanoseconds they took together, how many the last tenth
- * of them took, and how many sales were recorded. Reading the lines isn't timed. */
+ * Its arguments are "--group N", if so many events are to share a transaction, and the database,
+ * ":memory:" for one in memory. One without tables becomes a new book. It prints how many events there
+ * were, how many nanoseconds they took together, how many the last tenth of them took, and how many
+ * sales were recorded. Reading the lines isn't timed. */
 #include <sqlite3.h>
 #include <stdio.h>
 #include <stdlib.h>
@@ -33,28 +35,26 @@ static void fail(const char *what) {
 /* ---- statements ---- */
 
 enum statement {
-    BOOK, MERCHANT, HAS_TERMINAL, GREATEST, RUNNING, RANGE, OVERLAPPING, REQUEST, REFERRED,
+    BOOK, MERCHANT, HAS_TERMINAL, GREATEST, USED, POSTED, RANGE, OVERLAPPING, REQUEST, REFERRED,
     ADD_A_RANGE, ADD_A_MERCHANT, ADD_A_TERMINAL, ADD_A_REQUEST, ANSWER_A_REQUEST, ADD_A_POSTING, RAISE,
     BEGIN, COMMIT, STATEMENTS
 };
 
-#define REQUEST_COLUMNS "merchant, terminal, kind, trace, stamp, essence, day, status, admitted, " \
-    "reference, follows, amount, leg, card, acquirer, hold_days, until, reply"
 #define KEY "merchant = ?1 AND terminal = ?2 AND kind = ?3 AND trace = ?4 AND stamp = ?5"
 
 static const char *const texts[STATEMENTS] = {
     [BOOK] = "SELECT max_a_day, day FROM book",
-    [MERCHANT] = "SELECT merchant, currency, first FROM merchants WHERE merchant = ?1",
-    [HAS_TERMINAL] = "SELECT merchant, terminal FROM terminals WHERE merchant = ?1 AND terminal = ?2",
+    [MERCHANT] = "SELECT currency, first FROM merchants WHERE merchant = ?1",
+    [HAS_TERMINAL] = "SELECT 1 FROM terminals WHERE merchant = ?1 AND terminal = ?2",
     [GREATEST] = "SELECT reference FROM requests WHERE merchant = ?1 ORDER BY reference DESC LIMIT 1",
-    [RUNNING] = "SELECT used, credits, credit_reversals, debits, debit_reversals, credit_amount, "
-                "credit_reversal_amount, debit_amount, debit_reversal_amount "
-                "FROM running WHERE merchant = ?1 AND day = ?2",
-    [RANGE] = "SELECT low, high, issuer, hold_days FROM ranges WHERE low <= ?1 ORDER BY low DESC LIMIT 1",
-    [OVERLAPPING] = "SELECT low, high, issuer, hold_days FROM ranges "
-                    "WHERE ?1 <= high AND low <= ?2 ORDER BY low LIMIT 1",
-    [REQUEST] = "SELECT " REQUEST_COLUMNS " FROM requests WHERE " KEY,
-    [REFERRED] = "SELECT " REQUEST_COLUMNS " FROM requests WHERE merchant = ?1 AND reference = ?2",
+    [USED] = "SELECT used FROM running WHERE merchant = ?1 AND day = ?2",
+    [POSTED] = "SELECT credits + credit_reversals + debits + debit_reversals FROM running "
+               "WHERE merchant = ?1 AND day = ?2",
+    [RANGE] = "SELECT high, hold_days FROM ranges WHERE low <= ?1 ORDER BY low DESC LIMIT 1",
+    [OVERLAPPING] = "SELECT 1 FROM ranges WHERE ?1 <= high AND low <= ?2 LIMIT 1",
+    [REQUEST] = "SELECT essence, status, reply FROM requests WHERE " KEY,
+    [REFERRED] = "SELECT terminal, kind, trace, stamp, day, status, amount, card, reply FROM requests "
+                 "WHERE merchant = ?1 AND reference = ?2",
     [ADD_A_RANGE] = "INSERT INTO ranges VALUES (?1, ?2, ?3, ?4)",
     [ADD_A_MERCHANT] = "INSERT INTO merchants VALUES (?1, ?2, ?3)",
     [ADD_A_TERMINAL] = "INSERT INTO terminals VALUES (?1, ?2)",
@@ -143,166 +143,154 @@ static void column_text(enum statement which, int at, char *into, size_t size) {
 
 /* ---- look-ups ---- */
 
-static long long look_up_day(void) {
+static long long today, limit;
+
+/* The book's own row, which is asked for once. */
+static void recall_book(void) {
     if (!gives_row(BOOK)) fail("no row of the book");
-    long long day = column(BOOK, 1);
+    limit = column(BOOK, 0);
+    today = column(BOOK, 1);
     end(BOOK);
-    if (!gives_row(BOOK)) fail("no row of the book");
-    end(BOOK);
-    return day;
 }
 
-/* The merchant's first reference, or 0 where it isn't enrolled. */
-static long long first_reference(const char *merchant) {
-    char id[16], currency[4];
-    text(MERCHANT, 1, merchant);
-    long long first = 0;
-    if (gives_row(MERCHANT)) {
-        column_text(MERCHANT, 0, id, sizeof id);
-        column_text(MERCHANT, 1, currency, sizeof currency);
-        first = column(MERCHANT, 2);
-        end(MERCHANT);
-    } else {
-        sqlite3_reset(prepared[MERCHANT]);
+/* The only number of a row, or another where there is no row. */
+static long long number_or(enum statement which, long long other) {
+    if (!gives_row(which)) {
+        sqlite3_reset(prepared[which]);
+        return other;
     }
+    long long value = column(which, 0);
+    end(which);
+    return value;
+}
+
+/* The merchant's first reference, or 0 where it isn't enrolled, and its currency. */
+static long long look_up_merchant(const char *merchant, char currency[4]) {
+    text(MERCHANT, 1, merchant);
+    if (!gives_row(MERCHANT)) {
+        sqlite3_reset(prepared[MERCHANT]);
+        return 0;
+    }
+    column_text(MERCHANT, 0, currency, 4);
+    long long first = column(MERCHANT, 1);
+    end(MERCHANT);
     return first;
 }
 
-/* How many references the merchant has given. */
-static long long look_up_admitted(const char *merchant) {
-    long long first = first_reference(merchant);
-    if (first == 0) return 0;
+/* The next reference of a merchant with this first one. */
+static long long next_reference(const char *merchant, long long first) {
     text(GREATEST, 1, merchant);
-    long long admitted = 0;
-    if (gives_row(GREATEST)) {
-        admitted = column(GREATEST, 0) - first + 1;
-        end(GREATEST);
-    } else {
-        sqlite3_reset(prepared[GREATEST]);
-    }
-    return admitted;
+    return number_or(GREATEST, first - 1) + 1;
 }
 
-struct tally {
-    long long used, counts[4], amounts[4];
-};
-
-static struct tally look_up_running(const char *merchant, long long day) {
-    struct tally tally = {0};
-    text(RUNNING, 1, merchant);
-    number(RUNNING, 2, day);
-    if (gives_row(RUNNING)) {
-        tally.used = column(RUNNING, 0);
-        for (int leg = 0; leg < 4; leg++) {
-            tally.counts[leg] = column(RUNNING, 1 + leg);
-            tally.amounts[leg] = column(RUNNING, 5 + leg);
-        }
-        end(RUNNING);
-    } else {
-        sqlite3_reset(prepared[RUNNING]);
-    }
-    return tally;
+/* How many messages of the merchant count today, or how many postings it has of a day. */
+static long long look_up_running(enum statement which, const char *merchant, long long day) {
+    text(which, 1, merchant);
+    number(which, 2, day);
+    return number_or(which, 0);
 }
 
 static int look_up_terminal(const char *merchant, const char *terminal) {
     text(HAS_TERMINAL, 1, merchant);
     text(HAS_TERMINAL, 2, terminal);
-    int has = gives_row(HAS_TERMINAL);
-    if (has) end(HAS_TERMINAL);
-    else sqlite3_reset(prepared[HAS_TERMINAL]);
-    return has;
+    return number_or(HAS_TERMINAL, 0) == 1;
 }
 
-/* The days of a hold of the range, or -1 where there is none. */
-static long long look_up_range(enum statement which) {
-    char issuer[12];
-    long long hold_days = -1;
-    if (gives_row(which)) {
-        if (column(which, 0) > column(which, 1)) fail("a range's ends");
-        column_text(which, 2, issuer, sizeof issuer);
-        hold_days = column(which, 3);
-        end(which);
-    } else {
-        sqlite3_reset(prepared[which]);
+/* The days of a hold of the prefix's range, or -1 where there is none. */
+static long long look_up_range(long long prefix) {
+    number(RANGE, 1, prefix);
+    if (!gives_row(RANGE)) {
+        sqlite3_reset(prepared[RANGE]);
+        return -1;
     }
+    long long hold_days = prefix <= column(RANGE, 0) ? column(RANGE, 1) : -1;
+    end(RANGE);
     return hold_days;
 }
 
+/* Whether a request with the key is recorded. */
+static int is_recorded(const struct event *event) {
+    text(REQUEST, 1, event->merchant);
+    text(REQUEST, 2, event->terminal);
+    text(REQUEST, 3, "020");
+    text(REQUEST, 4, event->trace);
+    text(REQUEST, 5, event->stamp);
+    int found = gives_row(REQUEST);
+    if (found) end(REQUEST);
+    else sqlite3_reset(prepared[REQUEST]);
+    return found;
+}
+
 struct request {
-    char merchant[16], terminal[9], kind[4], trace[7], stamp[11], essence[160], card[20], acquirer[12],
-        reply[400];
-    long long day, status, admitted, reference, follows, amount, leg, hold_days, until;
+    char terminal[9], kind[4], trace[7], stamp[11], card[20], reply[400];
+    long long day, status, amount;
 };
 
-/* Whether there is the request. */
-static int look_up_request(enum statement which, struct request *request) {
-    int found = gives_row(which);
-    if (!found) {
-        sqlite3_reset(prepared[which]);
+/* Whether there is the merchant's request with this reference. */
+static int look_up_referred(const char *merchant, long long reference, struct request *request) {
+    text(REFERRED, 1, merchant);
+    number(REFERRED, 2, reference);
+    if (!gives_row(REFERRED)) {
+        sqlite3_reset(prepared[REFERRED]);
         return 0;
     }
-    column_text(which, 0, request->merchant, sizeof request->merchant);
-    column_text(which, 1, request->terminal, sizeof request->terminal);
-    column_text(which, 2, request->kind, sizeof request->kind);
-    column_text(which, 3, request->trace, sizeof request->trace);
-    column_text(which, 4, request->stamp, sizeof request->stamp);
-    column_text(which, 5, request->essence, sizeof request->essence);
-    request->day = column(which, 6);
-    request->status = column(which, 7);
-    request->admitted = column(which, 8);
-    request->reference = column(which, 9);
-    request->follows = column(which, 10);
-    request->amount = column(which, 11);
-    request->leg = column(which, 12);
-    column_text(which, 13, request->card, sizeof request->card);
-    column_text(which, 14, request->acquirer, sizeof request->acquirer);
-    request->hold_days = column(which, 15);
-    request->until = column(which, 16);
-    column_text(which, 17, request->reply, sizeof request->reply);
-    end(which);
+    column_text(REFERRED, 0, request->terminal, sizeof request->terminal);
+    column_text(REFERRED, 1, request->kind, sizeof request->kind);
+    column_text(REFERRED, 2, request->trace, sizeof request->trace);
+    column_text(REFERRED, 3, request->stamp, sizeof request->stamp);
+    request->day = column(REFERRED, 4);
+    request->status = column(REFERRED, 5);
+    request->amount = column(REFERRED, 6);
+    column_text(REFERRED, 7, request->card, sizeof request->card);
+    column_text(REFERRED, 8, request->reply, sizeof request->reply);
+    end(REFERRED);
     return 1;
+}
+
+/* ---- groups ---- */
+
+static size_t group = 1, taken;
+
+/* Begins the transaction of the next events, or goes on in it. */
+static void begin(void) {
+    if (taken % group == 0) run(BEGIN);
+}
+
+/* Commits behind the last event of a group. */
+static void keep(void) {
+    taken++;
+    if (taken % group == 0) run(COMMIT);
 }
 
 /* ---- events ---- */
 
 static void add_range(const struct event *event) {
-    look_up_day();
     number(OVERLAPPING, 1, event->low);
     number(OVERLAPPING, 2, event->high);
-    if (look_up_range(OVERLAPPING) >= 0) fail("a range that overlaps");
-    run(BEGIN);
+    if (number_or(OVERLAPPING, 0)) fail("a range that overlaps");
     number(ADD_A_RANGE, 1, event->low);
     number(ADD_A_RANGE, 2, event->high);
     text(ADD_A_RANGE, 3, event->issuer);
     number(ADD_A_RANGE, 4, event->hold_days);
     run(ADD_A_RANGE);
-    run(COMMIT);
 }
 
 static void enrol(const struct event *event) {
-    long long day = look_up_day();
-    if (first_reference(event->merchant)) fail("a merchant twice");
-    look_up_admitted(event->merchant);
-    look_up_running(event->merchant, day);
-    run(BEGIN);
+    char currency[4];
+    if (look_up_merchant(event->merchant, currency)) fail("a merchant twice");
     text(ADD_A_MERCHANT, 1, event->merchant);
     text(ADD_A_MERCHANT, 2, event->currency);
     number(ADD_A_MERCHANT, 3, event->reference);
     run(ADD_A_MERCHANT);
-    run(COMMIT);
 }
 
 static void add_terminal(const struct event *event) {
-    long long day = look_up_day();
-    if (!first_reference(event->merchant)) fail("no merchant");
+    char currency[4];
+    if (!look_up_merchant(event->merchant, currency)) fail("no merchant");
     if (look_up_terminal(event->merchant, event->terminal)) fail("a terminal twice");
-    look_up_admitted(event->merchant);
-    look_up_running(event->merchant, day);
-    run(BEGIN);
     text(ADD_A_TERMINAL, 1, event->merchant);
     text(ADD_A_TERMINAL, 2, event->terminal);
     run(ADD_A_TERMINAL);
-    run(COMMIT);
 }
 
 /* Adds to the running totals, with one posting of a debit or none. */
@@ -319,37 +307,28 @@ static void raise_running(const char *merchant, long long day, long long used, l
 }
 
 static void take_sale(const struct event *event) {
-    char essence[160], reply[400], prefix[PREFIX_DIGITS + 1];
-    struct request recorded;
-    long long day = look_up_day();
-    long long first = first_reference(event->merchant);
-    if (!first) fail("no merchant");
+    char essence[160], reply[400], prefix[PREFIX_DIGITS + 1], currency[4];
+    long long first = look_up_merchant(event->merchant, currency);
+    if (!first || strcmp(currency, event->currency)) fail("no merchant of this currency");
     if (!look_up_terminal(event->merchant, event->terminal)) fail("no terminal");
-    long long reference = first + look_up_admitted(event->merchant);
-    if (look_up_running(event->merchant, day).used >= LIMIT) fail("over the limit");
+    if (is_recorded(event)) fail("a sale twice");
     copy(prefix, event->card, PREFIX_DIGITS);
-    number(RANGE, 1, atoll(prefix));
-    long long hold_days = look_up_range(RANGE);
+    long long hold_days = look_up_range(atoll(prefix));
     if (hold_days < 0) fail("no range");
-    text(REQUEST, 1, event->merchant);
-    text(REQUEST, 2, event->terminal);
-    text(REQUEST, 3, "020");
-    text(REQUEST, 4, event->trace);
-    text(REQUEST, 5, event->stamp);
-    if (look_up_request(REQUEST, &recorded)) fail("a sale twice");
+    if (look_up_running(USED, event->merchant, today) >= limit) fail("over the limit");
+    long long reference = next_reference(event->merchant, first);
     snprintf(essence, sizeof essence, "0200700000000000800016%s000000%012lld%s", event->card,
              event->amount, event->currency);
     snprintf(reply, sizeof reply, "02107222000008C0800016%s000000%012lld%s%s0501%012lld%s%s%s",
              event->card, event->amount, event->stamp, event->trace, reference, event->terminal,
              event->merchant, event->currency);
-    run(BEGIN);
     text(ADD_A_REQUEST, 1, event->merchant);
     text(ADD_A_REQUEST, 2, event->terminal);
     text(ADD_A_REQUEST, 3, "020");
     text(ADD_A_REQUEST, 4, event->trace);
     text(ADD_A_REQUEST, 5, event->stamp);
     text(ADD_A_REQUEST, 6, essence);
-    number(ADD_A_REQUEST, 7, day);
+    number(ADD_A_REQUEST, 7, today);
     number(ADD_A_REQUEST, 8, PENDING);
     number(ADD_A_REQUEST, 9, 1);
     number(ADD_A_REQUEST, 10, reference);
@@ -362,29 +341,21 @@ static void take_sale(const struct event *event) {
     null(ADD_A_REQUEST, 17);
     text(ADD_A_REQUEST, 18, reply);
     run(ADD_A_REQUEST);
-    raise_running(event->merchant, day, 1, 0, 0);
-    run(COMMIT);
+    raise_running(event->merchant, today, 1, 0, 0);
 }
 
 static void take_answer(const struct event *event) {
-    char reply[400];
+    char reply[400], currency[4];
     struct request request;
-    long long day = look_up_day();
-    if (!first_reference(event->merchant)) fail("no merchant");
-    look_up_admitted(event->merchant);
-    look_up_running(event->merchant, day);
-    text(REFERRED, 1, event->merchant);
-    number(REFERRED, 2, event->reference);
-    if (!look_up_request(REFERRED, &request)) fail("no sale");
+    if (!look_up_merchant(event->merchant, currency)) fail("no merchant");
+    if (!look_up_referred(event->merchant, event->reference, &request)) fail("no sale");
     if (request.status != PENDING) fail("a sale that isn't pending");
     /* Elements 2 to 37 stay, 38 and 39 come in before 41. */
     char *fixed = request.reply + 20, *rest = request.reply + strlen(request.reply) - 26;
     snprintf(reply, sizeof reply, "0210722200000EC08000%.*s%s00%s", (int)(rest - fixed), fixed,
              event->code, rest);
-    struct tally tally = look_up_running(request.merchant, request.day);
-    long long posted = tally.counts[0] + tally.counts[1] + tally.counts[2] + tally.counts[3];
-    run(BEGIN);
-    text(ANSWER_A_REQUEST, 1, request.merchant);
+    long long posted = look_up_running(POSTED, event->merchant, request.day);
+    text(ANSWER_A_REQUEST, 1, event->merchant);
     text(ANSWER_A_REQUEST, 2, request.terminal);
     text(ANSWER_A_REQUEST, 3, request.kind);
     text(ANSWER_A_REQUEST, 4, request.trace);
@@ -393,18 +364,17 @@ static void take_answer(const struct event *event) {
     null(ANSWER_A_REQUEST, 7);
     text(ANSWER_A_REQUEST, 8, reply);
     run(ANSWER_A_REQUEST);
-    text(ADD_A_POSTING, 1, request.merchant);
+    text(ADD_A_POSTING, 1, event->merchant);
     number(ADD_A_POSTING, 2, request.day);
     number(ADD_A_POSTING, 3, posted + 1);
     number(ADD_A_POSTING, 4, DEBIT);
     number(ADD_A_POSTING, 5, request.amount);
-    number(ADD_A_POSTING, 6, request.reference);
+    number(ADD_A_POSTING, 6, event->reference);
     text(ADD_A_POSTING, 7, request.card);
     text(ADD_A_POSTING, 8, request.terminal);
     text(ADD_A_POSTING, 9, request.trace);
     run(ADD_A_POSTING);
-    raise_running(request.merchant, request.day, 0, 1, request.amount);
-    run(COMMIT);
+    raise_running(event->merchant, request.day, 0, 1, request.amount);
 }
 
 static void (*const takers[KINDS])(const struct event *) = {
@@ -500,6 +470,7 @@ static void open_book(const char *path) {
     for (int which = 0; which < STATEMENTS; which++)
         if (sqlite3_prepare_v3(db, texts[which], -1, SQLITE_PREPARE_PERSISTENT, &prepared[which], NULL))
             fail(texts[which]);
+    recall_book();
 }
 
 static void close_book(void) {
@@ -516,12 +487,23 @@ static long long now(void) {
 
 static long long take(size_t from, size_t to) {
     long long start = now();
-    for (size_t at = from; at < to; at++) takers[events[at].kind](&events[at]);
+    for (size_t at = from; at < to; at++) {
+        begin();
+        takers[events[at].kind](&events[at]);
+        keep();
+    }
+    /* What is left of a group is kept at the end. */
+    if (to == count && taken % group != 0) run(COMMIT);
     return now() - start;
 }
 
 int main(int arguments, char **argument) {
-    if (arguments != 2) fail("the database is missing");
+    if (arguments == 4 && !strcmp(argument[1], "--group")) {
+        group = strtoul(argument[2], NULL, 10);
+        argument += 2;
+        arguments -= 2;
+    }
+    if (arguments != 2 || group == 0) fail("[--group N] DATABASE");
     read_events();
     open_book(argument[1]);
     long long first = take(0, count - count / 10), last = take(count - count / 10, count), sales = 0;

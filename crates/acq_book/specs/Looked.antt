@@ -1,5 +1,5 @@
 -- What was looked up, part by part.
-use Rattle.std.specs.Prelude.{◌≡◌, None, option_and_then}
+use Rattle.std.specs.Prelude.{◌≡◌, option_and_then}
 use Rattle.acq_message.specs.Elements.{or_empty}
 use Rattle.acq_core.specs.declared.wanted.Wanted.{Wanted}
 use Rattle.acq_core.specs.declared.looked.Looked.{Looked}

@@ -24,7 +24,8 @@ use day_totals::{Day, Totals};
 
 /// What keeps the tables.
 ///
-/// Each look-up gives what its definition says of the tables, and changes nothing. What is said of
+/// A look-up gives what its definition says of the tables, and changes nothing. `look_up` answers all
+/// that an event asks for at once; the calls behind `apply` ask it for one part. What is said of
 /// the tables is said of an open book, whose store gave back what was written. Any call may answer
 /// that memory ran out, or that the store failed.
 pub trait Book {
@@ -58,89 +59,11 @@ pub trait Book {
             has_room self.old self.new result
             (IsLooked (tables self.old) wanted.now) };
 
-    /// How many messages of a merchant a day admits.
-    fn limit(&mut self) -> Result<Limit, BookFault>
-        ensures { GivesBy tables is_honest is_open may_leave leaves_books failures store_faults
-            has_room self.old self.new result
-            (λ n. n ≡ (tables self.old).limit) }
-    {
-        let wanted = Wanted::nothing();
-        let looked = self.look_up(&wanted)?;
-        let found = looked.limit;
-        drop(looked);
-        Ok(found)
-    }
-
-    /// The business day.
-    fn day(&mut self) -> Result<Day, BookFault>
-        ensures { GivesBy tables is_honest is_open may_leave leaves_books failures store_faults
-            has_room self.old self.new result
-            (λ day. day ≡ (tables self.old).day) }
-    {
-        let wanted = Wanted::nothing();
-        let looked = self.look_up(&wanted)?;
-        let found = looked.today;
-        drop(looked);
-        Ok(found)
-    }
-
-    /// The merchant with this name.
-    fn merchant(&mut self, id: MerchantId) -> Result<Option<Merchant>, BookFault>
-        ensures { GivesBy tables is_honest is_open may_leave leaves_books failures store_faults
-            has_room self.old self.new result
-            (λ row. row ≡ merchant_at (tables self.old) id) }
-    {
-        let wanted = Wanted { merchant: Some(id), ..Wanted::nothing() };
-        let looked = self.look_up(&wanted)?;
-        let found = looked.merchant;
-        drop(looked);
-        Ok(found)
-    }
-
-    /// Whether the merchant has this terminal.
-    fn has_terminal(&mut self, merchant: MerchantId, id: TerminalId) -> Result<bool, BookFault>
-        ensures { GivesBy tables is_honest is_open may_leave leaves_books failures store_faults
-            has_room self.old self.new result
-            (λ has. has ≡ has_terminal_at (tables self.old) merchant id) }
-    {
-        let wanted = Wanted { merchant: Some(merchant), terminal: Some(id), ..Wanted::nothing() };
-        let looked = self.look_up(&wanted)?;
-        let found = looked.has_terminal;
-        drop(looked);
-        Ok(found)
-    }
-
     /// How many terminals there are, of all merchants.
     fn terminal_count(&mut self) -> Result<u64, BookFault>
         ensures { GivesBy tables is_honest is_open may_leave leaves_books failures store_faults
             has_room self.old self.new result
             (λ n. n ≡ terminal_count_at (tables self.old)) };
-
-    /// The range that holds a prefix.
-    fn range(&mut self, prefix: Prefix) -> Result<Option<Range>, BookFault>
-        ensures { GivesBy tables is_honest is_open may_leave leaves_books failures store_faults
-            has_room self.old self.new result
-            (λ range. range ≡ range_at (tables self.old) prefix) }
-    {
-        let wanted = Wanted { prefix: Some(prefix), ..Wanted::nothing() };
-        let mut looked = self.look_up(&wanted)?;
-        let found = looked.range.take();
-        drop(looked);
-        Ok(found)
-    }
-
-    /// Of the ranges that overlap these ends, the one of least low.
-    fn overlapping(&mut self, low: u32, high: u32) -> Result<Option<Range>, BookFault>
-        ensures { GivesBy tables is_honest is_open may_leave leaves_books failures store_faults
-            has_room self.old self.new result
-            (λ range. range ≡ overlapping_at (tables self.old) low high) }
-    {
-        let wanted = Wanted { bounds: Some((low, high)), ..Wanted::nothing() };
-        let mut looked = self.look_up(&wanted)?;
-        let found = looked.overlapped.take();
-        drop(looked);
-        Ok(found)
-    }
 
     /// How many ranges there are.
     fn range_count(&mut self) -> Result<u64, BookFault>
@@ -148,80 +71,11 @@ pub trait Book {
             has_room self.old self.new result
             (λ n. n ≡ range_count_at (tables self.old)) };
 
-    /// The request with this key.
-    fn request(&mut self, key: RequestKey) -> Result<Option<Request>, BookFault>
-        ensures { GivesBy tables is_honest is_open may_leave leaves_books failures store_faults
-            has_room self.old self.new result
-            (λ row. row ≡ request_at (tables self.old) key) }
-    {
-        let wanted = Wanted { key: Some(key), ..Wanted::nothing() };
-        let mut looked = self.look_up(&wanted)?;
-        let found = looked.recorded.take();
-        drop(looked);
-        Ok(found)
-    }
-
-    /// The merchant's request with this reference.
-    fn by_reference(
-        &mut self,
-        merchant: MerchantId,
-        reference: Reference,
-    ) -> Result<Option<Request>, BookFault>
-        ensures { GivesBy tables is_honest is_open may_leave leaves_books failures store_faults
-            has_room self.old self.new result
-            (λ row. row ≡ referred_at (tables self.old) merchant reference) }
-    {
-        let wanted = Wanted { merchant: Some(merchant), reference: Some(reference), ..Wanted::nothing() };
-        let mut looked = self.look_up(&wanted)?;
-        let found = looked.referred.take();
-        drop(looked);
-        Ok(found)
-    }
-
-    /// How many of the merchant's requests were admitted: so many references it has given.
-    fn admitted(&mut self, merchant: MerchantId) -> Result<AdmittedCount, BookFault>
-        ensures { GivesBy tables is_honest is_open may_leave leaves_books failures store_faults
-            has_room self.old self.new result
-            (λ n. n ≡ admitted_at (tables self.old) merchant) }
-    {
-        let wanted = Wanted { merchant: Some(merchant), admitted: true, ..Wanted::nothing() };
-        let looked = self.look_up(&wanted)?;
-        let found = looked.admitted;
-        drop(looked);
-        Ok(found)
-    }
-
-    /// How many of the merchant's messages count against the limit of a day.
-    fn used(&mut self, merchant: MerchantId, day: Day) -> Result<UsedCount, BookFault>
-        ensures { GivesBy tables is_honest is_open may_leave leaves_books failures store_faults
-            has_room self.old self.new result
-            (λ n. n ≡ used_at (tables self.old) merchant day) }
-    {
-        let wanted = Wanted { merchant: Some(merchant), used_day: Some(day), ..Wanted::nothing() };
-        let looked = self.look_up(&wanted)?;
-        let found = looked.used;
-        drop(looked);
-        Ok(found)
-    }
-
     /// How many messages of all merchants count against the limit of a day.
     fn used_on(&mut self, day: Day) -> Result<u64, BookFault>
         ensures { GivesBy tables is_honest is_open may_leave leaves_books failures store_faults
             has_room self.old self.new result
             (λ n. n ≡ used_on_at (tables self.old) day) };
-
-    /// The merchant's totals of a day.
-    fn totals(&mut self, merchant: MerchantId, day: Day) -> Result<Totals, BookFault>
-        ensures { GivesBy tables is_honest is_open may_leave leaves_books failures store_faults
-            has_room self.old self.new result
-            (λ totals. totals ≡ totals_at (tables self.old) merchant day) }
-    {
-        let wanted = Wanted { merchant: Some(merchant), totals_day: Some(day), ..Wanted::nothing() };
-        let looked = self.look_up(&wanted)?;
-        let found = looked.totals;
-        drop(looked);
-        Ok(found)
-    }
 
     /// How many requests of a day are pending, of all merchants.
     fn pending(&mut self, day: Day) -> Result<u64, BookFault>
@@ -290,6 +144,185 @@ pub trait Book {
         ensures blames { is_honest self.new → is_open self.old → has_room self.old
             → HasItsRequest (tables self.old) change.now
             → BlamesStore result (store_faults self.old) (store_faults self.new) };
+
+    /// How many messages of a merchant a day admits.
+    fn limit(&mut self) -> Result<Limit, BookFault>
+        ensures { GivesBy tables is_honest is_open may_leave leaves_books failures store_faults
+            has_room self.old self.new result
+            (λ n. n ≡ (tables self.old).limit) }
+    {
+        let wanted = Wanted::nothing();
+        let looked = self.look_up(&wanted)?;
+        let found = looked.limit;
+        drop(looked);
+        Ok(found)
+    }
+
+    /// The business day.
+    fn day(&mut self) -> Result<Day, BookFault>
+        ensures { GivesBy tables is_honest is_open may_leave leaves_books failures store_faults
+            has_room self.old self.new result
+            (λ day. day ≡ (tables self.old).day) }
+    {
+        let wanted = Wanted::nothing();
+        let looked = self.look_up(&wanted)?;
+        let found = looked.today;
+        drop(looked);
+        Ok(found)
+    }
+
+    /// The merchant with this name.
+    fn merchant(&mut self, id: MerchantId) -> Result<Option<Merchant>, BookFault>
+        ensures { GivesBy tables is_honest is_open may_leave leaves_books failures store_faults
+            has_room self.old self.new result
+            (λ row. row ≡ merchant_at (tables self.old) id) }
+    {
+        let wanted = Wanted {
+            merchant: Some(id),
+            ..Wanted::nothing()
+        };
+        let looked = self.look_up(&wanted)?;
+        let found = looked.merchant;
+        drop(looked);
+        Ok(found)
+    }
+
+    /// Whether the merchant has this terminal.
+    fn has_terminal(&mut self, merchant: MerchantId, id: TerminalId) -> Result<bool, BookFault>
+        ensures { GivesBy tables is_honest is_open may_leave leaves_books failures store_faults
+            has_room self.old self.new result
+            (λ has. has ≡ has_terminal_at (tables self.old) merchant id) }
+    {
+        let wanted = Wanted {
+            merchant: Some(merchant),
+            terminal: Some(id),
+            ..Wanted::nothing()
+        };
+        let looked = self.look_up(&wanted)?;
+        let found = looked.has_terminal;
+        drop(looked);
+        Ok(found)
+    }
+
+    /// The range that holds a prefix.
+    fn range(&mut self, prefix: Prefix) -> Result<Option<Range>, BookFault>
+        ensures { GivesBy tables is_honest is_open may_leave leaves_books failures store_faults
+            has_room self.old self.new result
+            (λ range. range ≡ range_at (tables self.old) prefix) }
+    {
+        let wanted = Wanted {
+            prefix: Some(prefix),
+            ..Wanted::nothing()
+        };
+        let mut looked = self.look_up(&wanted)?;
+        let found = looked.range.take();
+        drop(looked);
+        Ok(found)
+    }
+
+    /// Of the ranges that overlap these ends, the one of least low.
+    fn overlapping(&mut self, low: u32, high: u32) -> Result<Option<Range>, BookFault>
+        ensures { GivesBy tables is_honest is_open may_leave leaves_books failures store_faults
+            has_room self.old self.new result
+            (λ range. range ≡ overlapping_at (tables self.old) low high) }
+    {
+        let wanted = Wanted {
+            bounds: Some((low, high)),
+            ..Wanted::nothing()
+        };
+        let mut looked = self.look_up(&wanted)?;
+        let found = looked.overlapped.take();
+        drop(looked);
+        Ok(found)
+    }
+
+    /// The request with this key.
+    fn request(&mut self, key: RequestKey) -> Result<Option<Request>, BookFault>
+        ensures { GivesBy tables is_honest is_open may_leave leaves_books failures store_faults
+            has_room self.old self.new result
+            (λ row. row ≡ request_at (tables self.old) key) }
+    {
+        let wanted = Wanted {
+            key: Some(key),
+            ..Wanted::nothing()
+        };
+        let mut looked = self.look_up(&wanted)?;
+        let found = looked.recorded.take();
+        drop(looked);
+        Ok(found)
+    }
+
+    /// The merchant's request with this reference.
+    fn by_reference(
+        &mut self,
+        merchant: MerchantId,
+        reference: Reference,
+    ) -> Result<Option<Request>, BookFault>
+        ensures { GivesBy tables is_honest is_open may_leave leaves_books failures store_faults
+            has_room self.old self.new result
+            (λ row. row ≡ referred_at (tables self.old) merchant reference) }
+    {
+        let wanted = Wanted {
+            merchant: Some(merchant),
+            reference: Some(reference),
+            ..Wanted::nothing()
+        };
+        let mut looked = self.look_up(&wanted)?;
+        let found = looked.referred.take();
+        drop(looked);
+        Ok(found)
+    }
+
+    /// How many of the merchant's requests were admitted: so many references it has given.
+    fn admitted(&mut self, merchant: MerchantId) -> Result<AdmittedCount, BookFault>
+        ensures { GivesBy tables is_honest is_open may_leave leaves_books failures store_faults
+            has_room self.old self.new result
+            (λ n. n ≡ admitted_at (tables self.old) merchant) }
+    {
+        let wanted = Wanted {
+            merchant: Some(merchant),
+            admitted: true,
+            ..Wanted::nothing()
+        };
+        let looked = self.look_up(&wanted)?;
+        let found = looked.admitted;
+        drop(looked);
+        Ok(found)
+    }
+
+    /// How many of the merchant's messages count against the limit of a day.
+    fn used(&mut self, merchant: MerchantId, day: Day) -> Result<UsedCount, BookFault>
+        ensures { GivesBy tables is_honest is_open may_leave leaves_books failures store_faults
+            has_room self.old self.new result
+            (λ n. n ≡ used_at (tables self.old) merchant day) }
+    {
+        let wanted = Wanted {
+            merchant: Some(merchant),
+            used_day: Some(day),
+            ..Wanted::nothing()
+        };
+        let looked = self.look_up(&wanted)?;
+        let found = looked.used;
+        drop(looked);
+        Ok(found)
+    }
+
+    /// The merchant's totals of a day.
+    fn totals(&mut self, merchant: MerchantId, day: Day) -> Result<Totals, BookFault>
+        ensures { GivesBy tables is_honest is_open may_leave leaves_books failures store_faults
+            has_room self.old self.new result
+            (λ totals. totals ≡ totals_at (tables self.old) merchant day) }
+    {
+        let wanted = Wanted {
+            merchant: Some(merchant),
+            totals_day: Some(day),
+            ..Wanted::nothing()
+        };
+        let looked = self.look_up(&wanted)?;
+        let found = looked.totals;
+        drop(looked);
+        Ok(found)
+    }
 
     /// The store of an open book is honest.
     ghost honest: { (book : Self) → is_open book → is_honest book };

@@ -28,7 +28,7 @@ use Rattle.acq_book.specs.Promise.{BlamesStore, HasRisen}
 use Rattle.acq_book.proofs.Counting.{count-le, length-filter}
 use Rattle.acq_sql_rows.specs.Rows.{version, merchant_row, terminal_row, range_row, request_row}
 use Rattle.acq_sql_rows.specs.Rows.{posting_row}
-use Rattle.acq_sql_rows.specs.Schema.{merchants_tree, terminals_tree, ranges_tree, requests_tree}
+use Rattle.acq_sql_rows.specs.Schema.{merchants_tree, terminals_tree, requests_tree}
 use Rattle.acq_sql_rows.specs.Schema.{postings_tree}
 use Rattle.acq_sql_changes.specs.Refused.{FailsAmong, Takes}
 use Rattle.acq_sql_writes.specs.Refused.{HasNumberLeft, HasNumbersLeft}

@@ -1,6 +1,9 @@
 -- What a look-up or a walk over a connection gives, its book gives.
-use Rattle.std.proofs.Common.{◌≡◌, ◌≤◌, ℕ, Bool, List, Result, Ok, IfOk, OnOk, OnErr, is_ok}
+use Rattle.std.proofs.Common.{◌≡◌, ℕ, Bool, List, Result, Ok, Err, IfOk, OnOk, OnErr, IsErr, is_ok}
+use Rattle.std.proofs.Common.{false, true≢false}
 use Rattle.std.proofs.Common.{refl, sym, subst}
+use Rattle.std.proofs.lemmas.Result.{IfOk-weaker}
+use Rattle.std.specs.Result.{IsErrAnd}
 use Rattle.sqlite_trees.specs.declared.store.Store.{Ghosts}
 use Rattle.sqlite.specs.declared.error.Error.{Error}
 use Rattle.sqlite.specs.State.{State, HasCleanDisk}
@@ -8,8 +11,9 @@ use Rattle.sqlite.specs.Held.{Held, state}
 use Rattle.acq_core.specs.Pasts.{HasPast}
 use Rattle.acq_core.specs.Tables.{Tables}
 use Rattle.acq_book.specs.declared.book_fault.BookFault.{BookFault}
-use Rattle.acq_book.specs.Promise.{CountsFault, WalksBy}
+use Rattle.acq_book.specs.Promise.{CountsFault, GivesBy, WalksBy}
 use Rattle.acq_book.specs.Visits.{SawAll, SawRows, SawSome}
+use Rattle.acq_book.proofs.Chains.{gives_as, gives_fault, gives_then}
 use Rattle.acq_sql_rows.specs.Rows.{version}
 use Rattle.acq_sql_rows.specs.Relation.{Holds}
 use Rattle.acq_sql_rows.specs.Standing.{FailsExcused}
@@ -18,7 +22,6 @@ use Rattle.acq_sql_reads.specs.Looked.{LooksOnly}
 use Rattle.acq_sql.specs.Faults.{IsTold}
 use Rattle.acq_sql.specs.Given.{Gives}
 use Rattle.acq_sql.specs.Kept.{Kept}
-use Rattle.acq_sql.specs.Memos.{Recalls}
 use Rattle.acq_sql.specs.Opened.{IsOpenAt, tables, is_honest, is_open, may_leave, leaves_books}
 use Rattle.acq_sql.specs.Opened.{has_room, store_faults}
 use Rattle.acq_sql.proofs.BookBlames.{blames_of}
@@ -43,7 +46,7 @@ unasked {S} g old seen is x says so =
 -- ---- a connection is asked
 
 -- what the tables of an open book with room are like
-abbrev pub Holding : (Tables → Type 0) → Type 0
+abbrev pub Holding : (Tables → Type 0) → Type 1
 Holding fits = (s : State) (t : Tables) → IsOpenAt s t → HasNumbersLeft s.now → fits t
 
 module _ {S : Type 0} (g : Ghosts S) (old seen : Kept S) (connection : Held S) (failures : ℕ)
@@ -103,3 +106,67 @@ module _ {S : Type 0} (g : Ghosts S) (old seen : Kept S) (connection : Held S) (
             told.fault fit;
         room = room_of g old seen connection failures is answer looks out settled;
       }
+
+-- ---- one look-up after another
+
+module _ {S : Type 0} (g : Ghosts S) where
+  -- what a call says of a book in SQL, whatever the tables are
+  abbrev Says : {T : Type 0} → Kept S → Kept S → Result T BookFault → (T → Type 0) → Type 0
+  Says a b result says =
+      GivesBy (tables g) (is_honest g) (is_open g) (may_leave g) (leaves_books g)
+      (λ (k : Kept S). k.failures) (store_faults g) (has_room g) a b result says
+
+  -- one that succeeded, and what was looked up then
+  pub and_then : {X Y : Type 0} {a b c : Kept S} {x : X} {P : X → Type 0}
+      {result : Result Y BookFault} (Q : Tables → Y → Type 0) → Says {T = X} a b (Ok x) P →
+      Gives g b c result Q → Says a c result (λ y. P x × Q (tables g a) y)
+  and_then Q first second =
+      gives_then (tables g) (is_honest g) (is_open g) (may_leave g) (leaves_books g)
+      (λ (k : Kept S). k.failures) (store_faults g) (has_room g) Q first second
+
+  -- what was found is put together
+  pub put_together : {X Y : Type 0} {a b : Kept S} {x : X} (y : Y) {P : X → Type 0}
+      {Q : Y → Type 0} → Says {T = X} a b (Ok x) P → (P x → Q y) → Says {T = Y} a b (Ok y) Q
+  put_together y said made = record {
+    value = λ o. made (said.value o);
+    looks = said.looks;
+    store = said.store;
+    blames = λ clean o room. tt;
+    room = said.room;
+  }
+
+  -- what was said in other words
+  pub in_other_words : {T : Type 0} {a b : Kept S} {result : Result T BookFault} {P Q : T → Type 0}
+      → ((x : T) → P x → Q x) → Says a b result P → Says a b result Q
+  in_other_words {result = result} {P = P} {Q = Q} weaker said =
+      gives_as (tables g) (is_honest g) (is_open g) (may_leave g) (leaves_books g)
+      (λ (k : Kept S). k.failures) (store_faults g) (has_room g) said
+      (IfOk-weaker result P Q weaker)
+
+  -- the first failed, and its fault is passed on
+  pub passed_on : {X Y : Type 0} {a b : Kept S} (fault : BookFault) {P : X → Type 0}
+      {Q : Y → Type 0} (result : Result Y BookFault) →
+      IsErr result × IsErrAnd result (λ f. f ≡ fault) → Says {T = X} a b (Err fault) P →
+      Says a b result Q
+  passed_on fault (Ok y) is said = absurd (true≢false (sym is.0))
+  passed_on {X} {Y} {a} {b} fault {Q = Q} (Err f) is said =
+      subst (λ (e : BookFault). Says {T = Y} a b (Err e) Q) (sym is.1)
+      (gives_fault (tables g) (is_honest g) (is_open g) (may_leave g) (leaves_books g)
+      (λ (k : Kept S). k.failures) (store_faults g) (has_room g) fault Q said)
+
+  -- a later one failed
+  pub failed_with : {X Y Z : Type 0} {a b c : Kept S} {x : X} {P : X → Type 0}
+      (fault : BookFault) {Q : Y → Type 0} {R : Z → Type 0} → Says {T = X} a b (Ok x) P →
+      Says {T = Y} b c (Err fault) Q → Says {T = Z} a c (Err fault) R
+  failed_with fault {Q = Q} {R = R} first second =
+      gives_fault (tables g) (is_honest g) (is_open g) (may_leave g) (leaves_books g)
+      (λ (k : Kept S). k.failures) (store_faults g) (has_room g) fault R
+      (and_then (λ t y. Q y) first second)
+
+  -- and its fault is passed on
+  pub failed_then : {X Y Z : Type 0} {a b c : Kept S} {x : X} {P : X → Type 0}
+      (fault : BookFault) {Q : Y → Type 0} {R : Z → Type 0} (result : Result Z BookFault) →
+      IsErr result × IsErrAnd result (λ f. f ≡ fault) → Says {T = X} a b (Ok x) P →
+      Says {T = Y} b c (Err fault) Q → Says a c result R
+  failed_then fault {Q = Q} result is first second =
+      passed_on fault result is (and_then (λ t y. Q y) first second)

@@ -30,7 +30,7 @@ use Rattle.acq_sql.specs.Opened.{leaves_books, store_faults, has_room, IsRoomy}
 
 -- ---- what a book answers of what its database answered
 
-relay : {T : Type 0} (answer : Result T Error) (result : Result T BookFault) (P : T → Type 0)
+pub relay : {T : Type 0} (answer : Result T Error) (result : Result T BookFault) (P : T → Type 0)
     → IfOk answer (λ x. result ≡ Ok x) → is_ok result ≡ is_ok answer → IfOk answer P → IfOk result P
 relay (Ok x) result P same ok is = subst (λ r. IfOk r P) (sym same) is
 relay (Err e) (Ok x) P same ok is = absurd (true≢false ok)

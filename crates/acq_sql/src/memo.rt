@@ -54,8 +54,7 @@ impl Memo {
 
     /// How many messages of a merchant a day admits, and the business day, if they are known.
     pub(crate) fn row(&self) -> Option<(Limit, Day)>
-        ensures { IfSome result (λ row. (t : Tables) → Recalls self.now t
-            → row ≡ (t.limit, t.day)) }
+        ensures { result ≡ self.now.row }
     {
         self.row
     }

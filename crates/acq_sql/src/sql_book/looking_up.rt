@@ -75,12 +75,15 @@ impl<S: Alter> SqlBook<S> {
         ensures { Gives S.Store self.old self.new result (λ t done.
             IsLooked t (rows_of wanted.now) looked.old → IsLooked t wanted.now looked.new) }
     {
-        let (merchant, admitted) = self.merchant_if(wanted.merchant, wanted.admitted)?;
-        looked.merchant = merchant;
-        looked.admitted = admitted;
-        looked.has_terminal = self.has_terminal_if(wanted.merchant, wanted.terminal)?;
-        looked.used = self.used_if(wanted.merchant, wanted.used_day)?;
-        looked.totals = self.totals_if(wanted.merchant, wanted.totals_day)?;
+        let found = self.merchant_if(wanted.merchant, wanted.admitted)?;
+        looked.merchant = found.0;
+        looked.admitted = found.1;
+        let has_terminal = self.has_terminal_if(wanted.merchant, wanted.terminal)?;
+        looked.has_terminal = has_terminal;
+        let used = self.used_if(wanted.merchant, wanted.used_day)?;
+        looked.used = used;
+        let totals = self.totals_if(wanted.merchant, wanted.totals_day)?;
+        looked.totals = totals;
         let referred = self.by_reference_if(wanted.merchant, wanted.reference)?;
         put(&mut looked.referred, referred);
         Ok(())
