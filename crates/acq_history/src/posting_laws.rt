@@ -6,6 +6,7 @@ ghost use Rattle.acq_history.specs.Acceptance.{Admits, AcceptsCompletions, Accep
 ghost use Rattle.acq_history.specs.ExactAcceptance.{AdmitsOnly, AdmittedMayBe, CompletesOnly};
 ghost use Rattle.acq_history.specs.ExactAcceptance.{ReversesOnly};
 ghost use Rattle.acq_history.specs.CheckedValues.{AmountsAreWithin, CardsAreInForce};
+ghost use Rattle.acq_history.specs.CheckedValues.{HoldsAreOpenToTheirEnd};
 ghost use Rattle.acq_history.specs.CheckedValues.{AcquirersAreNamed, OriginalsStand};
 ghost use Rattle.acq_history.specs.Balance.{BalancesExactly};
 ghost use Rattle.acq_history.specs.Captures.{CapturesWithinHold, CapturesOnce, ReversesOnce};
@@ -75,11 +76,12 @@ pub fn only_such_are_accepted()
     ensures reversals { (m : List ℕ) → ReversesOnly m }
 {}
 
-/// What the checks let pass, in numbers and in entries: an accepted amount, a card that is in force,
-/// an original's acquirer, and an original that stands.
+/// What the checks let pass, and only that, in numbers and in entries: an accepted amount, a card
+/// that is in force, a hold up to its end, an original's acquirer, and an original that stands.
 pub fn checks_let_pass()
     ensures amounts { AmountsAreWithin }
     ensures cards { CardsAreInForce }
+    ensures holds { HoldsAreOpenToTheirEnd }
     ensures acquirers { AcquirersAreNamed }
     ensures originals { OriginalsStand }
 {}
