@@ -11,7 +11,8 @@ ghost use Rattle.acq_history.specs.CheckedValues.{AcquirersAreNamed, OriginalsSt
 ghost use Rattle.acq_history.specs.Balance.{BalancesExactly};
 ghost use Rattle.acq_history.specs.Captures.{CapturesWithinHold, CapturesOnce, ReversesOnce};
 ghost use Rattle.acq_history.specs.OpenHolds.{OpenHoldsAreCapturable, ApprovedHoldsAreOpen};
-ghost use Rattle.acq_history.specs.KeptRepeats.{RepeatsAreKept};
+ghost use Rattle.acq_history.specs.KeptRepeats.{RepeatsAreKept, OthersAreDuplicates};
+ghost use Rattle.acq_history.specs.KeptRepeats.{OnlyRepeatsAreKept};
 ghost use Rattle.acq_history.specs.DaySums.{SumsAreTotals};
 ghost use Rattle.acq_history.specs.Conservation.{Conserves, NeverExceeds};
 ghost use Rattle.acq_history.specs.Cleared.{ClearsAsTold};
@@ -31,9 +32,12 @@ pub fn reconciliations_balance_exactly()
 {}
 
 /// A request whose key is recorded with the same essence gets the reply that was kept, or the
-/// output that it has to wait or comes too late.
+/// output that it has to wait or comes too late. With another essence it is told 94, and a kept
+/// reply is given again to no other request.
 pub fn repeats_are_kept()
-    ensures { (m : List ℕ) → RepeatsAreKept m }
+    ensures kept { (m : List ℕ) → RepeatsAreKept m }
+    ensures others { (m : List ℕ) → OthersAreDuplicates m }
+    ensures only { (m : List ℕ) → OnlyRepeatsAreKept m }
 {}
 
 /// The sums by leg of a merchant among a day's postings are its totals of the day.
