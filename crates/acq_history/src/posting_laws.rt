@@ -8,9 +8,13 @@ ghost use Rattle.acq_history.specs.ExactAcceptance.{ReversesOnly};
 ghost use Rattle.acq_history.specs.CheckedValues.{AmountsAreWithin, CardsAreInForce};
 ghost use Rattle.acq_history.specs.CheckedValues.{HoldsAreOpenToTheirEnd};
 ghost use Rattle.acq_history.specs.CheckedValues.{AcquirersAreNamed, OriginalsStand};
+ghost use Rattle.acq_history.specs.SpelledAmounts.{AmountsAreSpelled, RemaindersAreSpelled};
+ghost use Rattle.acq_history.specs.SpelledAmounts.{NothingElseRemains};
+ghost use Rattle.acq_history.specs.SaidOutputs.{RepliesGoOut, QueriesGoOut};
 ghost use Rattle.acq_history.specs.Balance.{BalancesExactly};
 ghost use Rattle.acq_history.specs.Captures.{CapturesWithinHold, CapturesOnce, ReversesOnce};
 ghost use Rattle.acq_history.specs.OpenHolds.{OpenHoldsAreCapturable, ApprovedHoldsAreOpen};
+ghost use Rattle.acq_history.specs.OpenHolds.{LoweredHoldsStayOpen};
 ghost use Rattle.acq_history.specs.KeptRepeats.{RepeatsAreKept, OthersAreDuplicates};
 ghost use Rattle.acq_history.specs.KeptRepeats.{OnlyRepeatsAreKept};
 ghost use Rattle.acq_history.specs.DaySums.{SumsAreTotals};
@@ -90,16 +94,25 @@ pub fn checks_let_pass()
     ensures originals { OriginalsStand }
 {}
 
+/// The amounts that elements 4 and 95 say are those of their digits.
+pub fn amounts_are_spelled()
+    ensures amounts { AmountsAreSpelled }
+    ensures remainders { RemaindersAreSpelled }
+    ensures nothing { NothingElseRemains }
+{}
+
 /// No more is captured than was held: an accepted completion captures of an approved hold at most
 /// what was authorized and what a reversal let remain, once, and not behind its last second. What
 /// the rows of open holds say is just what can still be captured; and an approved hold is open for
-/// its hold days, unless it was completed or undone.
+/// its hold days, unless it was completed or undone; one that was lowered is, with what was let
+/// remain of it.
 pub fn captures_stay_within_holds()
     ensures within { (m : List ℕ) → CapturesWithinHold m }
     ensures once { (m : List ℕ) → CapturesOnce m }
     ensures reversed { (m : List ℕ) → ReversesOnce m }
     ensures listed { (m : List ℕ) → OpenHoldsAreCapturable m }
     ensures open_until { (m : List ℕ) → ApprovedHoldsAreOpen m }
+    ensures lowered { (m : List ℕ) → LoweredHoldsStayOpen m }
 {}
 
 /// What each event of a merchant's posts: an approved sale or return, an accepted completion and an
@@ -111,6 +124,13 @@ pub fn entries_post_exactly()
     ensures reversals { (m : List ℕ) → ReversalsPost m }
     ensures others { (m : List ℕ) → NothingElsePosts m }
     ensures tables { (m : List ℕ) → TablesPost m }
+{}
+
+/// What goes out is what was told and what was asked: a reply, made now or kept, in its own spelling
+/// for the merchant that was named, and a query as it stands.
+pub fn outcomes_go_out()
+    ensures replies { RepliesGoOut }
+    ensures queries { QueriesGoOut }
 {}
 
 /// What was told is what clears. The rows of a merchant's postings are one for each reply that said
