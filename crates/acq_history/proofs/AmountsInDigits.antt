@@ -1,7 +1,7 @@
 -- The amounts that elements say, in their digits.
 use Rattle.std.proofs.Common.{◌≡◌, ℕ, suc, ◌+◌, ◌*◌, ◌/◌, ◌%◌, List, [], ◌∷◌, ◌++◌, length, take}
-use Rattle.std.proofs.Common.{◌<◌, ◌≤◌, Some, true, cond, refl, sym, ap, ◌∙◌, arith}
-use Rattle.std.proofs.Common.{append_assoc, append-nil, length-take-le, None}
+use Rattle.std.proofs.Common.{◌<◌, true, cond, sym, ap, ◌∙◌, arith}
+use Rattle.std.proofs.Common.{append_assoc, append-nil, length-take-le}
 use Rattle.std.specs.Char.{is_ascii_digit, digit_value}
 use Rattle.std.specs.List.{list_all}
 use Rattle.std.specs.Prelude.{◌==◌}
@@ -10,7 +10,7 @@ use Rattle.std.proofs.lemmas.Bool.{and_parts}
 use Rattle.std.proofs.lemmas.Bool.Decides.{nat_tests}
 use Rattle.iso_codec.specs.Content.{has_class}
 use Rattle.iso_codec.specs.Table.{format_of}
-use Rattle.iso_codec.specs.Message.{is_element, content_of}
+use Rattle.iso_codec.specs.Message.{is_element}
 use Rattle.day_totals.specs.Digits.{zero_padded}
 use Rattle.acq_message.specs.Elements.{or_empty}
 use Rattle.acq_soundness.proofs.ContentsFit.{content-fits}

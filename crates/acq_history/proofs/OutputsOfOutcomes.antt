@@ -1,5 +1,5 @@
 -- What goes out for an outcome.
-use Rattle.std.proofs.Common.{◌≡◌, Some, ap, refl}
+use Rattle.std.proofs.Common.{ap, refl}
 use Rattle.iso_codec.specs.Reading.{spelling}
 use Rattle.acq_core.specs.declared.output.Output.TheVariants as output
 use Rattle.acq_core.specs.Outcome.{Replied, Repeated}

@@ -23,7 +23,7 @@ ghost use Rattle.acq_history.specs.Cleared.{ClearsAsTold};
 ghost use Rattle.acq_history.specs.ClearedRequests.{ClearsByRequest, ClearsUnderItsLeg};
 ghost use Rattle.acq_history.specs.ClearedReplies.{RepliesNameWhatClears};
 ghost use Rattle.acq_history.specs.ToldEffects.{DoesAsTold};
-ghost use Rattle.acq_history.specs.IssuersCodes.{TellsIssuersCodes};
+ghost use Rattle.acq_history.specs.IssuersCodes.{TellsIssuersCodes, TellsIssuersIds};
 ghost use Rattle.acq_history.specs.Finality.{IsFinal};
 ghost use Rattle.acq_history.specs.PostedRows.{ApprovalsPost, CompletionsPost, ReversalsPost};
 ghost use Rattle.acq_history.specs.PostedRows.{NothingElsePosts, TablesPost};
@@ -137,7 +137,8 @@ pub fn outcomes_go_out()
 /// 00 to what moves money, in that order, and no other; so those of a day are one for each recorded
 /// request of that day whose reply says so, under the leg of what was asked for. Each such reply
 /// names its posting. Of what is about a card 00 is told exactly where a request is approved,
-/// completes a hold or reverses its original; and what an issuer says is told as it was given.
+/// completes a hold or reverses its original; and what an issuer says, its code and its
+/// authorization id, is told as it was given.
 pub fn told_is_cleared()
     ensures clears { (m : List ℕ) → ClearsAsTold m }
     ensures requests { (m : List ℕ) → ClearsByRequest m }
@@ -145,4 +146,5 @@ pub fn told_is_cleared()
     ensures named { (m : List ℕ) → RepliesNameWhatClears m }
     ensures done { (m : List ℕ) → DoesAsTold m }
     ensures issuers { (m : List ℕ) → TellsIssuersCodes m }
+    ensures ids { (m : List ℕ) → TellsIssuersIds m }
 {}
