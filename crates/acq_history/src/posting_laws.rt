@@ -10,7 +10,8 @@ ghost use Rattle.acq_history.specs.CheckedValues.{HoldsAreOpenToTheirEnd};
 ghost use Rattle.acq_history.specs.CheckedValues.{AcquirersAreNamed, OriginalsStand};
 ghost use Rattle.acq_history.specs.SpelledAmounts.{AmountsAreSpelled, RemaindersAreSpelled};
 ghost use Rattle.acq_history.specs.SpelledAmounts.{NothingElseRemains};
-ghost use Rattle.acq_history.specs.SaidOutputs.{RepliesGoOut, QueriesGoOut};
+ghost use Rattle.acq_history.specs.SaidOutputs.{RepliesGoOut, OnlyRepliesGoOut};
+ghost use Rattle.acq_history.specs.SaidOutputs.{QueriesGoOut, OnlyQueriesGoOut};
 ghost use Rattle.acq_history.specs.Balance.{BalancesExactly};
 ghost use Rattle.acq_history.specs.Captures.{CapturesWithinHold, CapturesOnce, ReversesOnce};
 ghost use Rattle.acq_history.specs.OpenHolds.{OpenHoldsAreCapturable, ApprovedHoldsAreOpen};
@@ -127,10 +128,12 @@ pub fn entries_post_exactly()
 {}
 
 /// What goes out is what was told and what was asked: a reply, made now or kept, in its own spelling
-/// for the merchant that was named, and a query as it stands.
+/// for the merchant that was named, and a query as it stands. Nothing else goes out as either.
 pub fn outcomes_go_out()
     ensures replies { RepliesGoOut }
+    ensures only_replies { OnlyRepliesGoOut }
     ensures queries { QueriesGoOut }
+    ensures only_queries { OnlyQueriesGoOut }
 {}
 
 /// What was told is what clears. The rows of a merchant's postings are one for each reply that said
