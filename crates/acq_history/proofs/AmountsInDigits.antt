@@ -1,6 +1,6 @@
 -- The amounts that elements say, in their digits.
 use Rattle.std.proofs.Common.{◌≡◌, ℕ, suc, ◌+◌, ◌*◌, ◌/◌, ◌%◌, List, [], ◌∷◌, ◌++◌, length, take}
-use Rattle.std.proofs.Common.{◌<◌, true, cond, sym, ap, ◌∙◌, arith}
+use Rattle.std.proofs.Common.{◌<◌, true, cond, sym, ap, ◌∙◌, subst, arith}
 use Rattle.std.proofs.Common.{append_assoc, append-nil, length-take-le}
 use Rattle.std.specs.Char.{is_ascii_digit, digit_value}
 use Rattle.std.specs.List.{list_all}
@@ -13,6 +13,7 @@ use Rattle.iso_codec.specs.Table.{format_of}
 use Rattle.iso_codec.specs.Message.{is_element}
 use Rattle.day_totals.specs.Digits.{zero_padded}
 use Rattle.acq_message.specs.Elements.{or_empty}
+use Rattle.acq_soundness.proofs.Arrivals.{IsArrival, of_event}
 use Rattle.acq_soundness.proofs.ContentsFit.{content-fits}
 use Rattle.acq_soundness.proofs.Keys.{eqb_is}
 use Rattle.acq_history.specs.SpelledAmounts as statement
@@ -59,6 +60,9 @@ spelled places text long are =
     sym (ap (λ p. zero_padded p (digits_value 10 text)) whole ∙ spelled_after 0 0 text are)
 
 -- ---- elements 4 and 95
+
+pub requests_are_messages : statement.RequestsAreMessages
+requests_are_messages e r is came = (subst IsArrival came (of_event e is)).message
 
 amount_element : (text : List ℕ) → is_element (4, text) ≡ true →
     (length text ≡ 12) × (list_all is_ascii_digit text ≡ true)

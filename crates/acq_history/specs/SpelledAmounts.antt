@@ -4,7 +4,18 @@ use Rattle.std.specs.List.{list_all}
 use Rattle.std.specs.Char.{is_ascii_digit}
 use Rattle.iso_codec.specs.Message.{IsoMessage, IsMessage, content_of}
 use Rattle.day_totals.specs.Digits.{zero_padded}
+use Rattle.acq_message.specs.declared.request_message.RequestMessage.{RequestMessage}
 use Rattle.acq_message.specs.Elements.{amount_in, remaining_in}
+use Rattle.acq_core.specs.declared.event.Event.{Event}
+use Rattle.acq_core.specs.declared.arrival.Arrival.TheVariants.{Requested}
+use Rattle.acq_core.specs.Arrivals.{arrival_of}
+use Rattle.acq_core.specs.Events.{IsEvent}
+
+-- Each request that comes and that the first check passes is a message.
+abbrev pub RequestsAreMessages : Type 0
+RequestsAreMessages =
+    (e : Event) (r : RequestMessage) → IsEvent e → arrival_of e ≡ Requested r →
+    IsMessage r.message
 
 -- Element 4 is the amount in twelve digits.
 abbrev pub AmountsAreSpelled : Type 0

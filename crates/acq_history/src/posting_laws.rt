@@ -9,7 +9,7 @@ ghost use Rattle.acq_history.specs.CheckedValues.{AmountsAreWithin, CardsAreInFo
 ghost use Rattle.acq_history.specs.CheckedValues.{HoldsAreOpenToTheirEnd};
 ghost use Rattle.acq_history.specs.CheckedValues.{AcquirersAreNamed, OriginalsStand};
 ghost use Rattle.acq_history.specs.SpelledAmounts.{AmountsAreSpelled, RemaindersAreSpelled};
-ghost use Rattle.acq_history.specs.SpelledAmounts.{NothingElseRemains};
+ghost use Rattle.acq_history.specs.SpelledAmounts.{NothingElseRemains, RequestsAreMessages};
 ghost use Rattle.acq_history.specs.SaidOutputs.{RepliesGoOut, OnlyRepliesGoOut};
 ghost use Rattle.acq_history.specs.SaidOutputs.{QueriesGoOut, OnlyQueriesGoOut};
 ghost use Rattle.acq_history.specs.Balance.{BalancesExactly};
@@ -95,8 +95,10 @@ pub fn checks_let_pass()
     ensures originals { OriginalsStand }
 {}
 
-/// The amounts that elements 4 and 95 say are those of their digits.
+/// The amounts that elements 4 and 95 of a message say are those of their digits; and each request
+/// that the first check passes is a message.
 pub fn amounts_are_spelled()
+    ensures messages { RequestsAreMessages }
     ensures amounts { AmountsAreSpelled }
     ensures remainders { RemaindersAreSpelled }
     ensures nothing { NothingElseRemains }
