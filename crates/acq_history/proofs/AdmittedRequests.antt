@@ -1,6 +1,6 @@
 -- What was admitted passed its checks when it came.
-use Rattle.std.proofs.Common.{◌≤◌, arith, ◌≡◌, ℕ, List, [], ◌∷◌, Option, Some, None, Bool, true, false, cond}
-use Rattle.std.proofs.Common.{refl, ap, ◌∙◌, subst}
+use Rattle.std.proofs.Common.{◌≡◌, ◌≤◌, ℕ, List, [], ◌∷◌, Option, Some, None, Bool, true, false}
+use Rattle.std.proofs.Common.{cond, arith, refl, ap, ◌∙◌, subst}
 use Rattle.std.specs.Prelude.{option_map, option_and_then, is_none, ◌&&◌, ◌||◌, ◌==◌}
 use Rattle.std.specs.Prelude.{is_some, nat_lt, unwrap_or}
 use Rattle.std.proofs.lemmas.Bool.Decides.{nat_tests}

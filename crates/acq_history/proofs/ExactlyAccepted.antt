@@ -46,8 +46,8 @@ use Rattle.acq_soundness.proofs.Lookups.{clash}
 use Rattle.acq_soundness.proofs.Lookups.{map_some, map_none}
 use Rattle.acq_history.specs.Entries.{Entry, is_asked, is_approved}
 use Rattle.acq_history.specs.History.{Found, enrolled, has_terminal, recorded, referred, prior}
-use Rattle.acq_history.specs.History.{next_reference}
-use Rattle.acq_history.specs.History.{admitted, day_after, facts_of, is_text, used, amount_of, is_reversible}
+use Rattle.acq_history.specs.History.{admitted, next_reference, day_after, facts_of, is_text}
+use Rattle.acq_history.specs.History.{used, amount_of, is_reversible}
 use Rattle.acq_history.specs.History.{reply_state_of}
 use Rattle.acq_history.specs.PartyHistory.{history_of}
 use Rattle.acq_history.specs.Told.{told, IsTold00}

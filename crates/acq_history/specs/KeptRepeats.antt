@@ -33,7 +33,8 @@ RepeatsAreKept m =
     essence_of r.service r.message ≡ (prior f).essence →
     outcome (known_by opening h (Requested r)) (Requested r) ≡ repeated (prior f).reply_state
 
--- A request that the first check passes, and whose key is recorded with another essence, is told 94.
+-- A request that the first check passes, and whose key is recorded with another essence, is told
+-- 94.
 abbrev pub OthersAreDuplicates : List ℕ → Type 0
 OthersAreDuplicates m =
     (opening : Opening) (es : List Event) (r : RequestMessage) (f : Found) →

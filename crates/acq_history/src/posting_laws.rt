@@ -129,8 +129,9 @@ pub fn entries_post_exactly()
     ensures tables { (m : List ℕ) → TablesPost m }
 {}
 
-/// What goes out is what was told and what was asked: a reply, made now or kept, in its own spelling
-/// for the merchant that was named, and a query as it stands. Nothing else goes out as either.
+/// What goes out is what was told and what was asked: a reply, made now or kept, in its own
+/// spelling for the merchant that was named, and a query as it stands. Nothing else goes out as
+/// either.
 pub fn outcomes_go_out()
     ensures replies { RepliesGoOut }
     ensures only_replies { OnlyRepliesGoOut }
