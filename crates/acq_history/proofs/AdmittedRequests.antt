@@ -1,7 +1,9 @@
 -- What was admitted passed its checks when it came.
-use Rattle.std.proofs.Common.{◌≡◌, ℕ, List, [], ◌∷◌, Option, Some, None, Bool, true, false, cond}
-use Rattle.std.proofs.Common.{refl, ap, ◌∙◌, subst}
+use Rattle.std.proofs.Common.{◌≡◌, ◌≤◌, ℕ, List, [], ◌∷◌, Option, Some, None, Bool, true, false}
+use Rattle.std.proofs.Common.{cond, arith, refl, ap, ◌∙◌, subst}
 use Rattle.std.specs.Prelude.{option_map, option_and_then, is_none, ◌&&◌, ◌||◌, ◌==◌}
+use Rattle.std.specs.Prelude.{is_some, nat_lt, unwrap_or}
+use Rattle.std.proofs.lemmas.Bool.Decides.{nat_tests}
 use Rattle.std.specs.Option.{option_or}
 use Rattle.std.proofs.lemmas.Bool.{and_parts}
 use Rattle.card_no.specs.declared.range.Range.{Range}
@@ -10,7 +12,7 @@ use Rattle.card_no.specs.Ranges.{range_of_prefix}
 use Rattle.acq_message.specs.declared.service.Service.TheVariants.{Authorization}
 use Rattle.acq_message.specs.declared.request_message.RequestMessage.{RequestMessage}
 use Rattle.acq_message.specs.Cards.{card_of}
-use Rattle.acq_message.specs.Elements.{or_empty, key_of}
+use Rattle.acq_message.specs.Elements.{or_empty, key_of, amount_in}
 use Rattle.acq_core.specs.declared.event.Event.{Event}
 use Rattle.acq_core.specs.declared.arrival.Arrival.{Arrival}
 use Rattle.acq_core.specs.declared.arrival.Arrival.TheVariants.{Requested}
@@ -25,7 +27,7 @@ use Rattle.acq_history.specs.Entries.{Entry, request_of, is_asked}
 use Rattle.acq_history.specs.History.{Found, newest, aged, recorded, referred, referring, admits}
 use Rattle.acq_history.specs.History.{next_reference, ranges_after, is_admitted}
 use Rattle.acq_history.specs.History.{hold_days_of, hold_end_by, approval_of, is_completed}
-use Rattle.acq_history.specs.History.{is_undone}
+use Rattle.acq_history.specs.History.{is_undone, reversal_of, lowered_to, amount_of}
 use Rattle.acq_history.specs.PartyHistory.{own, entry_for, history_of, history_after}
 use Rattle.acq_history.specs.ExactAcceptance as statement
 use Rattle.acq_history.specs.ExactAcceptance.{WasAdmitted}
@@ -160,3 +162,31 @@ approved_holds_are_open m opening es n approved f found is at uncompleted standi
       in_range = c.was.may.in_range;
       until = open_until f approved c.was.range is at uncompleted standing days;
     }
+
+-- ---- what is left of a hold
+
+lowers : (remains : ℕ) → 1 ≤ remains → nat_lt 0 remains ≡ true
+lowers remains some = grind (arith, nat_tests)
+
+-- where something is left it isn't undone, and is what is known of it
+left_open : (f : Found) → f.request.service ≡ Authorization → (o : Option ℕ) →
+    reversal_of f ≡ o → 1 ≤ unwrap_or o (amount_in f.request.message) →
+    (is_undone f ≡ false) × (amount_of f ≡ unwrap_or o (amount_in f.request.message))
+left_open f is None unreversed some = (
+  λ i. is_some (unreversed i) && is_none (lowered_to f.request.service (unreversed i)),
+  λ i. unwrap_or (lowered_to f.request.service (unreversed i)) (amount_in f.request.message),
+)
+left_open f is (Some remains) reversed some =
+    let lowered : lowered_to f.request.service (reversal_of f) ≡ Some remains =
+    (λ i. lowered_to (is i) (reversed i))
+    ∙ ap (λ b. cond b (Some remains) None) (lowers remains some) in (
+      λ i. is_some (reversed i) && is_none (lowered i),
+      ap (λ o. unwrap_or o (amount_in f.request.message)) lowered,
+    )
+
+pub lowered_holds_stay_open : (m : List ℕ) → holds.LoweredHoldsStayOpen m
+lowered_holds_stay_open m opening es n approved f found is at uncompleted some =
+    let left = left_open f is (reversal_of f) refl some in (
+      approved_holds_are_open m opening es n approved f found is at uncompleted left.0,
+      left.1,
+    )

@@ -1,5 +1,5 @@
 -- Only what may be is asked about, completed or reversed.
-use Rattle.std.proofs.Common.{◌≡◌, ◌+◌, ◌<◌, ◌≤◌, ℕ, List, Some, None, Bool, true}
+use Rattle.std.proofs.Common.{◌≡◌, ◌+◌, ◌<◌, ◌≤◌, ℕ, List, Option, Some, None, Bool, true}
 use Rattle.std.proofs.Common.{false, cond, ◌⊎◌, inl, inr, refl, sym, ap, ◌∙◌, subst, arith}
 use Rattle.std.specs.Prelude.{option_map, option_and_then, not, nat_lt, ◌&&◌, ◌||◌, ◌==◌, codes}
 use Rattle.std.specs.List.{list_any}
@@ -7,6 +7,7 @@ use Rattle.std.specs.Str.{bytes_eq}
 use Rattle.std.proofs.lemmas.Bool.{and_parts}
 use Rattle.std.proofs.lemmas.Bool.Decides.{nat_tests}
 use Rattle.iso_codec.specs.Message.{content_of}
+use Rattle.day_totals.specs.declared.leg.Leg.TheVariants.{Credit, Debit}
 use Rattle.card_no.specs.declared.range.Range.{Range}
 use Rattle.card_no.specs.CardNumbers.{is_valid_card, prefix_of}
 use Rattle.acq_message.specs.declared.service.Service.{Service}
@@ -45,14 +46,15 @@ use Rattle.acq_soundness.proofs.Lookups.{clash}
 use Rattle.acq_soundness.proofs.Lookups.{map_some, map_none}
 use Rattle.acq_history.specs.Entries.{Entry, is_asked, is_approved}
 use Rattle.acq_history.specs.History.{Found, enrolled, has_terminal, recorded, referred, prior}
-use Rattle.acq_history.specs.History.{admitted, day_after, facts_of, is_text, used, amount_of, is_reversible}
+use Rattle.acq_history.specs.History.{admitted, next_reference, day_after, facts_of, is_text}
+use Rattle.acq_history.specs.History.{used, amount_of, is_reversible}
 use Rattle.acq_history.specs.History.{reply_state_of}
 use Rattle.acq_history.specs.PartyHistory.{history_of}
 use Rattle.acq_history.specs.Told.{told, IsTold00}
 use Rattle.acq_history.specs.Acceptance.{IsNewRequest, MayBeAdmitted, MayComplete, MayReverse}
 use Rattle.acq_history.specs.Acceptance.{result_on}
 use Rattle.acq_history.specs.ExactAcceptance as statement
-use Rattle.acq_history.specs.ExactAcceptance.{IsAdmission}
+use Rattle.acq_history.specs.ExactAcceptance.{IsAdmission, AsksAsSaid}
 use Rattle.acq_history.proofs.ReplyElements.{content_of-set, with_contents-append}
 use Rattle.acq_history.proofs.PassedChecks.{is_own, AreBehind, is_served}
 use Rattle.acq_history.proofs.PassedChecks.{IsPastAdmission, past_admission, IsPastCompletion}
@@ -433,14 +435,39 @@ told_is o said = ap (is_text (codes "00")) said
 query_is : (a b : Query) → Asked a ≡ Asked b → a ≡ b
 query_is a b e = cc
 
+-- a query is about its request
+asks_as_said : (r : RequestMessage) (range : Range) (n : ℕ) →
+    is_valid_card (or_empty (card_of r.message)) ≡ true →
+    AsksAsSaid r range n (query_of r range n)
+asks_as_said r range n valid = record {
+  merchant = refl;
+  numbered = refl;
+  service = refl;
+  bought = λ is. ap (λ t. cond (bytes_eq t (codes "20")) Credit Debit) is;
+  returned = λ is. ap (λ t. cond (bytes_eq t (codes "20")) Credit Debit) is;
+  card = there (card_of r.message) valid;
+  amount = refl;
+  issuer = refl;
+}
+  where
+    there : (o : Option (List ℕ)) → is_valid_card (or_empty o) ≡ true → o ≡ Some (or_empty o)
+    there None valid = absurd (cc)
+    there (Some card) valid = refl
+
 pub admits_only : (m : List ℕ) → statement.AdmitsOnly m
 admits_only m opening es r query asked =
-    let may = asks_by opening (history_of opening (Some m) es) r (ap is_asked asked) in
+    let h = history_of opening (Some m) es in
+    let may = asks_by opening h r (ap is_asked asked) in
+    let asks = query_is query (query_of r may.1 (next_reference h))
+    (sym asked ∙ admits m opening es r may.0 may.1 may.2) in
     record {
       merchant = may.0;
       range = may.1;
       may = may.2;
-      asks = query_is query _ (sym asked ∙ admits m opening es r may.0 may.1 may.2);
+      asks = asks;
+      says =
+          subst (AsksAsSaid r may.1 (next_reference h)) (sym asks)
+          (asks_as_said r may.1 (next_reference h) may.2.valid);
     }
 
 -- under a new key

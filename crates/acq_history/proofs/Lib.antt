@@ -43,3 +43,5 @@ pub mod PostingsOfRequests
 pub mod PostingsOfChangedRows
 pub mod ConservationStep
 pub mod ReversedAmounts
+pub mod AmountsInDigits
+pub mod OutputsOfOutcomes

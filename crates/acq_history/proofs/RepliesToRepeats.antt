@@ -1,11 +1,14 @@
--- A repeat gets what its request's record says.
+-- A repeat gets what its request's record says, and another request under its key gets 94.
 use Rattle.std.proofs.Common.{◌≡◌, ℕ, List, [], ◌∷◌, Option, Some, None, Bool, true, false, cond}
 use Rattle.std.proofs.Common.{refl, sym, ap, ◌∙◌, subst}
 use Rattle.std.specs.Prelude.{option_map, option_and_then, ◌&&◌, ◌||◌}
+use Rattle.std.specs.Str.{bytes_eq}
 use Rattle.std.specs.Option.{option_or}
 use Rattle.acq_message.specs.declared.service.Service.{Service}
 use Rattle.acq_message.specs.declared.service.Service.TheVariants.{NetworkManagement}
 use Rattle.acq_message.specs.declared.request_key.RequestKey.{RequestKey}
+use Rattle.iso_codec.specs.Message.{IsoMessage}
+use Rattle.acq_message.specs.Reply.{coded_reply, draft_reply}
 use Rattle.acq_core.specs.declared.merchant.Merchant.{Merchant}
 use Rattle.acq_message.specs.declared.response_code.ResponseCode.TheVariants as code
 use Rattle.acq_core.specs.declared.event.Event.{Event}
@@ -19,16 +22,22 @@ use Rattle.acq_core.specs.declared.reply_state.ReplyState.TheVariants.{Kept}
 use Rattle.acq_core.specs.Known.{Prior, Known, holds_if}
 use Rattle.acq_core.specs.Decision.{Decision, Replies, decision_by, decision_of_key}
 use Rattle.acq_core.specs.Decision.{decision_of_merchant, decision_of_request, repeat_of}
-use Rattle.acq_core.specs.Outcome.{outcome, outcome_of}
+use Rattle.acq_core.specs.Outcome.{Outcome, Replied, Repeated, outcome, outcome_of}
 use Rattle.acq_core.specs.Tables.{Opening}
 use Rattle.acq_soundness.specs.Requests.{recordable}
 use Rattle.acq_history.specs.Entries.{Entry, request_of, is_past_merchant, is_performed}
-use Rattle.acq_history.specs.Entries.{enrolment_in}
+use Rattle.acq_history.specs.Entries.{enrolment_in, reply_in}
 use Rattle.acq_history.specs.History.{Found, recorded, recording, newest, aged, prior, enrolled}
-use Rattle.acq_history.specs.History.{has_terminal, day_after}
-use Rattle.acq_history.specs.PartyHistory.{known_by, entry_for, history_after}
-use Rattle.acq_history.specs.KeptRepeats.{repeated}
-use Rattle.acq_soundness.proofs.Keys.{same_key_is, bytes_eq_from}
+use Rattle.acq_history.specs.History.{has_terminal, day_after, next_reference, is_reversed}
+use Rattle.acq_history.specs.History.{kept_reply, reply_state_with, reply_state_of}
+use Rattle.acq_history.specs.PartyHistory.{own, known_by, entry_for, history_after, history_of}
+use Rattle.acq_history.specs.Told.{told_now}
+use Rattle.acq_history.specs.KeptRepeats as statement
+use Rattle.acq_history.specs.KeptRepeats.{repeated, IsRepeatOf}
+use Rattle.acq_history.proofs.ExactlyAccepted.{says_code}
+use Rattle.acq_soundness.proofs.Keys.{same_key_is, bytes_eq_from, bytes_eq_is}
+use Rattle.acq_soundness.proofs.Lookups.{map_some, some_is}
+use Rattle.acq_core.proofs.DecisionCases.{by_request}
 use Rattle.acq_soundness.proofs.RecordableRequests.{recordable_is, wants_by_key}
 use Rattle.std.proofs.lemmas.Bool.{and_parts}
 
@@ -150,56 +159,162 @@ serves_all opening h (e ∷ es) all =
     serves_all opening (entry_for opening h (arrival_of e) ∷ h) es
     (ServesAll-step opening h (arrival_of e) all)
 
--- ---- the repeat
+-- ---- under a key that is recorded
 
--- the key check gives a repeat what is kept
-repeats_key : (k : Known) (r : RequestMessage) (o : Option Prior) (p : Prior) (fresh : Decision) →
-    o ≡ Some p →
-    essence_of r.service r.message ≡ p.essence → decision_of_key r o fresh ≡ repeat_of p.reply_state
-repeats_key k r o p fresh e same =
-    ap (λ x. decision_of_key r x fresh) e
-    ∙ ap (λ b. cond b (repeat_of p.reply_state) (Replies r code.DuplicateTransmission))
-    (bytes_eq_from _ _ same)
+-- the reply that a state keeps
+abbrev kept_in : ReplyState → Option IsoMessage
+kept_in (Kept reply) = Some reply
+kept_in other = None
+
+-- what the key check decides, by whether the essence is the same
+abbrev decided : Bool → RequestMessage → Prior → Decision
+decided same r p = cond same (repeat_of p.reply_state) (Replies r code.DuplicateTransmission)
 
 -- behind the merchant check
-repeats_merchant : (k : Known) (r : RequestMessage) (merchant : Merchant) (p : Prior) →
-    k.merchant ≡ Some merchant →
-    k.has_terminal ≡ true → k.recorded ≡ Some p → essence_of r.service r.message ≡ p.essence →
-    decision_of_merchant k r k.merchant ≡ repeat_of p.reply_state
-repeats_merchant k r merchant p e there found same =
+decided_merchant : (k : Known) (r : RequestMessage) (merchant : Merchant) (p : Prior)
+    (same : Bool) → k.merchant ≡ Some merchant → k.has_terminal ≡ true → k.recorded ≡ Some p →
+    bytes_eq (essence_of r.service r.message) p.essence ≡ same →
+    decision_of_merchant k r k.merchant ≡ decided same r p
+decided_merchant k r merchant p same e there found is =
     ap (decision_of_merchant k r) e
     ∙ (ap (λ b. cond b (decision_of_key r k.recorded (decision_by r.service k merchant r))
     (Replies r code.InvalidMerchant)) there
-    ∙ repeats_key k r k.recorded p _ found same)
+    ∙ (ap (λ x. decision_of_key r x (decision_by r.service k merchant r)) found
+    ∙ ap (λ b. decided b r p) is))
 
 outcome_of_repeat : (k : Known) (s : ReplyState) → outcome_of k (repeat_of s) ≡ repeated s
 outcome_of_repeat k (Kept reply) = refl
 outcome_of_repeat k other = refl
 
 -- on any history that served all that it records
-repeats_on : (opening : Opening) (h : List Entry) (r : RequestMessage) (f : Found) → ServesAll h →
-    request_of (Requested r) ≡ Some r → recorded (key_of r.service r.message) h ≡ Some f →
-    essence_of r.service r.message ≡ (prior f).essence →
-    outcome (known_by opening h (Requested r)) (Requested r) ≡ repeated (prior f).reply_state
-repeats_on opening h r f all e found same =
-    let k = known_by opening h (Requested r) in
-    let w = wants_by_key (day_after opening.first_day h) r.service r r r.message e in
-    let s = all (key_of r.service r.message) f found in
-    let decided =
-    repeats_merchant k r s.merchant (prior f)
-    (ap (λ o. option_and_then (λ id. enrolled h) o) w.merchant ∙ s.enrols)
-    (ap (holds_if (has_terminal h)) w.terminal ∙ s.there)
-    (ap (λ o. option_and_then (λ key. option_map prior (recorded key h)) o) w.key
-    ∙ ap (option_map prior) found) same in
-    ap (outcome_of k) (checks_merchant r.service k r r e ∙ decided) ∙ outcome_of_repeat k
-    (prior f).reply_state
+module _ (opening : Opening) (h : List Entry) (all : ServesAll h) (r : RequestMessage)
+    (e : request_of (Requested r) ≡ Some r) where
+  abbrev k : Known
+  k = known_by opening h (Requested r)
 
-pub repeats_are_kept : (opening : Opening) (es : List Event) (r : RequestMessage) (f : Found) →
-    request_of (Requested r) ≡ Some r →
-    recorded (key_of r.service r.message) (history_after opening [] es) ≡ Some f →
-    essence_of r.service r.message ≡ (prior f).essence →
-    outcome (known_by opening (history_after opening [] es) (Requested r)) (Requested r)
-    ≡ repeated (prior f).reply_state
-repeats_are_kept opening es r f e found same =
-    repeats_on opening (history_after opening [] es) r f
-    (serves_all opening [] es (λ key g none. absurd (cc))) e found same
+  abbrev o : Outcome
+  o = outcome (known_by opening h (Requested r)) (Requested r)
+
+  -- what is known under its key
+  known_key : k.recorded ≡ option_map prior (recorded (key_of r.service r.message) h)
+  known_key =
+      ap (λ o. option_and_then (λ key. option_map prior (recorded key h)) o)
+      (wants_by_key (day_after opening.first_day h) r.service r r r.message e).key
+
+  decided_on : (f : Found) → recorded (key_of r.service r.message) h ≡ Some f → (same : Bool) →
+      bytes_eq (essence_of r.service r.message) (prior f).essence ≡ same →
+      o ≡ outcome_of k (decided same r (prior f))
+  decided_on f found same is =
+      let w = wants_by_key (day_after opening.first_day h) r.service r r r.message e in
+      let s = all (key_of r.service r.message) f found in
+      ap (outcome_of k)
+      (checks_merchant r.service k r r e
+      ∙ decided_merchant k r s.merchant (prior f) same
+      (ap (λ o. option_and_then (λ id. enrolled h) o) w.merchant ∙ s.enrols)
+      (ap (holds_if (has_terminal h)) w.terminal ∙ s.there)
+      (known_key ∙ ap (option_map prior) found) is)
+
+  repeats_on : (f : Found) → recorded (key_of r.service r.message) h ≡ Some f →
+      essence_of r.service r.message ≡ (prior f).essence → o ≡ repeated (prior f).reply_state
+  repeats_on f found same =
+      decided_on f found true (bytes_eq_from _ _ same)
+      ∙ outcome_of_repeat k (prior f).reply_state
+
+  duplicate_on : (f : Found) → recorded (key_of r.service r.message) h ≡ Some f →
+      bytes_eq (essence_of r.service r.message) (prior f).essence ≡ false →
+      o ≡ Replied code.DuplicateTransmission (coded_reply k.today r code.DuplicateTransmission)
+  duplicate_on f found other = decided_on f found false other
+
+  -- a kept reply is of the request under the key
+  abbrev IsKept : IsoMessage → Decision → Type 0
+  IsKept reply d = outcome_of k d ≡ Repeated reply →
+      (p : Prior) × (k.recorded ≡ Some p) × (p.reply_state ≡ Kept reply)
+
+  is_kept : (reply : IsoMessage) → IsKept reply (decision_of_request r.service k r)
+  is_kept reply =
+      by_request k r (IsKept reply)
+      (record {
+        managed = λ is gives. absurd (cc);
+        unknown = λ gives. absurd (cc);
+        duplicate = λ p is gives. absurd (cc);
+        repeated = λ p is. by_state p is p.reply_state refl;
+        refused = λ merchant fresh given is gives. absurd (cc);
+        admitted = λ merchant fresh service range is gives. absurd (cc);
+        completed = λ merchant fresh service hold is opens gives. absurd (cc);
+        reversed = λ merchant fresh service p is can gives. absurd (cc);
+        reconciled = λ merchant fresh service day is gives. absurd (cc);
+      })
+    where
+      by_state : (p : Prior) → k.recorded ≡ Some p → (s : ReplyState) → p.reply_state ≡ s →
+          outcome_of k (repeat_of s) ≡ Repeated reply →
+          (q : Prior) × (k.recorded ≡ Some q) × (q.reply_state ≡ Kept reply)
+      by_state p found (Kept kept) is gives =
+          (p, found, is ∙ ap Kept (some_is kept reply (ap reply_in gives)))
+      by_state p found other is gives = absurd (cc)
+
+  repeat_of_kept : (reply : IsoMessage) → o ≡ Repeated reply → IsRepeatOf h r reply
+  repeat_of_kept reply gives =
+      let known = is_kept reply gives in
+      let found = map_some prior (recorded (key_of r.service r.message) h) known.0
+      (sym known_key ∙ known.1) in
+      by_essence found.0 found.1 (ap (λ p. p.reply_state) found.2 ∙ known.2)
+      (bytes_eq (essence_of r.service r.message) (prior found.0).essence) refl
+    where
+      kept_by : (o : Option IsoMessage) (reversed : Bool) (draft : IsoMessage) →
+          reply_state_with o reversed draft ≡ Kept reply → o ≡ Some reply
+      kept_by (Some kept) reversed draft is = ap kept_in is
+      kept_by None true draft is = absurd (cc)
+      kept_by None false draft is = absurd (cc)
+
+      by_essence : (f : Found) → recorded (key_of r.service r.message) h ≡ Some f →
+          reply_state_of f ≡ Kept reply → (b : Bool) →
+          bytes_eq (essence_of r.service r.message) (prior f).essence ≡ b → IsRepeatOf h r reply
+      by_essence f found kept true same =
+          record {
+            original = f;
+            same_key = found;
+            same_essence = bytes_eq_is (essence_of r.service r.message) (prior f).essence same;
+            kept =
+                kept_by (kept_reply f) (is_reversed f)
+                (draft_reply f.entry.day f.request (next_reference f.before)) kept;
+          }
+      by_essence f found kept false other =
+          absurd (let two = sym (duplicate_on f found other) ∙ gives in cc)
+
+-- ---- on any run
+
+module _ (m : List ℕ) (opening : Opening) (es : List Event) where
+  served : ServesAll (history_of opening (Some m) es)
+  served = serves_all opening [] (own (Some m) es) (λ key g none. absurd (cc))
+
+pub repeats_are_kept : (m : List ℕ) → statement.RepeatsAreKept m
+repeats_are_kept m opening es r f e =
+    repeats_on opening (history_of opening (Some m) es) (served m opening es) r e f
+
+pub others_are_duplicates : (m : List ℕ) → statement.OthersAreDuplicates m
+others_are_duplicates m opening es r f e found other =
+    let h = history_of opening (Some m) es in
+    ap told_now
+    (duplicate_on opening h (served m opening es) r e f found
+    (unlike (bytes_eq (essence_of r.service r.message) (prior f).essence)
+    (λ same. other (bytes_eq_is (essence_of r.service r.message) (prior f).essence same))))
+    ∙ says_code (known_by opening h (Requested r)).today r code.DuplicateTransmission
+  where
+    unlike : (b : Bool) → (b ≡ true → ⊥) → b ≡ false
+    unlike true other = absurd (other refl)
+    unlike false other = refl
+
+pub only_repeats_are_kept : (m : List ℕ) → statement.OnlyRepeatsAreKept m
+only_repeats_are_kept m opening es r reply = by_service r.service refl
+  where
+    h : List Entry
+    h = history_of opening (Some m) es
+
+    by_service : (s : Service) → r.service ≡ s →
+        outcome (known_by opening h (Requested r)) (Requested r) ≡ Repeated reply →
+        IsRepeatOf h r reply
+    by_service NetworkManagement is gives =
+        absurd (let two = sym (λ i. outcome_of (known_by opening h (Requested r))
+        (decision_of_request (is i) (known_by opening h (Requested r)) r)) ∙ gives in cc)
+    by_service s is gives =
+        repeat_of_kept opening h (served m opening es) r (ap (recordable r) is) reply gives

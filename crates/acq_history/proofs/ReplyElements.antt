@@ -1,10 +1,10 @@
 -- What a message holds of the elements that were set in it.
 use Rattle.std.proofs.Common.{◌≡◌, ℕ, List, [], ◌∷◌, ◌++◌, Some, None, Bool, true, false, cond}
 use Rattle.std.proofs.Common.{refl, sym, ap, ◌∙◌}
-use Rattle.std.specs.Prelude.{not, ◌==◌, nat_le}
-use Rattle.std.specs.List.{list_all}
+use Rattle.std.specs.Prelude.{not, filter, ◌==◌, nat_le}
+use Rattle.std.specs.List.{list_all, list_any}
 use Rattle.std.proofs.lemmas.Bool.{and_parts}
-use Rattle.iso_codec.specs.Message.{content_of, with_content}
+use Rattle.iso_codec.specs.Message.{content_of, with_content, is_among}
 use Rattle.acq_message.specs.Reply.{with_contents}
 use Rattle.acq_soundness.proofs.Keys.{eqb_is, eqb_itself}
 use Rattle.acq_soundness.proofs.Lookups.{not_true}
@@ -63,3 +63,20 @@ pub with_contents-append : (es xs ys : List (ℕ × List ℕ)) →
     with_contents es (xs ++ ys) ≡ with_contents (with_contents es xs) ys
 with_contents-append es [] ys = refl
 with_contents-append es (x ∷ xs) ys = with_contents-append (with_content es x.0 x.1) xs ys
+
+-- what isn't among those that are kept isn't there
+pub content_of-dropped : (ns : List ℕ) (es : List (ℕ × List ℕ)) (n : ℕ) →
+    list_any (λ k. k == n) ns ≡ false → content_of (filter (is_among ns) es) n ≡ None
+content_of-dropped ns [] n among = refl
+content_of-dropped ns (e ∷ es) n among =
+    step (content_of-dropped ns es n among) (n == e.0) (is_among ns e) refl refl
+  where
+    step : content_of (filter (is_among ns) es) n ≡ None →
+        (here there : Bool) → (n == e.0) ≡ here → is_among ns e ≡ there →
+        content_of (cond there (e ∷ filter (is_among ns) es) (filter (is_among ns) es)) n ≡ None
+    step later false true is kept =
+        ap (λ b. cond b (Some e.1) (content_of (filter (is_among ns) es) n)) is ∙ later
+    step later here false is kept = later
+    step later true true is kept =
+        absurd (let two : true ≡ false =
+        sym kept ∙ (ap (λ k. list_any (λ j. j == k) ns) (sym (eqb_is n e.0 is)) ∙ among) in cc)

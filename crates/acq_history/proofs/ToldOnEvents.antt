@@ -3,13 +3,13 @@ use Rattle.std.proofs.Common.{◌≡◌, ℕ, List, [], ◌∷◌, ◌++◌, Opt
 use Rattle.std.proofs.Common.{cond, ◌⊎◌, inl, inr, refl, sym, ap, ◌∙◌, subst}
 use Rattle.std.specs.Prelude.{option_map, option_and_then, is_none, not, ◌&&◌, ◌||◌, length}
 use Rattle.std.specs.Prelude.{◌==◌, codes}
-use Rattle.std.specs.List.{list_all}
+use Rattle.std.specs.List.{list_all, list_any}
 use Rattle.std.specs.Str.{bytes_eq}
 use Rattle.std.proofs.lemmas.Bool.{and_parts}
 use Rattle.std.proofs.lemmas.List.Elements.{All-head, All-tail}
 use Rattle.card_no.specs.declared.range.Range.{Range}
 use Rattle.iso_codec.specs.Content.{is_alphanumeric}
-use Rattle.iso_codec.specs.Message.{IsoMessage, content_of}
+use Rattle.iso_codec.specs.Message.{IsoMessage, content_of, with_content}
 use Rattle.acq_message.specs.declared.service.Service.{Service}
 use Rattle.acq_message.specs.declared.service.Service.TheVariants.{Authorization, Financial}
 use Rattle.acq_message.specs.declared.service.Service.TheVariants.{Completion, Reversal}
@@ -20,6 +20,7 @@ use Rattle.acq_message.specs.declared.response_code.ResponseCode.{ResponseCode}
 use Rattle.acq_message.specs.declared.response_code.ResponseCode.TheVariants as code
 use Rattle.acq_message.specs.declared.verdict.Verdict.{Verdict}
 use Rattle.acq_message.specs.declared.verdict.Verdict.TheVariants as verdict
+use Rattle.acq_message.specs.Services.{echoed}
 use Rattle.acq_message.specs.IssuerTexts.{is_decline_code}
 use Rattle.acq_message.specs.Responses.{code_text}
 use Rattle.acq_message.specs.Elements.{essence_of}
@@ -53,13 +54,14 @@ use Rattle.acq_history.specs.History.{next_reference}
 use Rattle.acq_history.specs.PartyHistory.{Party, is_of, own, known_by, entry_for, history_of}
 use Rattle.acq_history.specs.PartyHistory.{history_after}
 use Rattle.acq_history.specs.PostedRows.{completion_posting, reversing_posting, posted_about}
-use Rattle.acq_history.specs.Told.{told_now, is_told_00}
+use Rattle.acq_history.specs.Told.{reply_now, is_told_00}
 use Rattle.acq_history.specs.Cleared as statement
 use Rattle.acq_history.specs.Cleared.{sale_moved, completion_moved, reversal_moved, request_moved}
 use Rattle.acq_history.specs.Cleared.{moved, told_posting, told_postings}
 use Rattle.acq_history.specs.IssuersCodes as issuers
-use Rattle.acq_history.specs.IssuersCodes.{code_said, told_of}
-use Rattle.acq_history.proofs.ReplyElements.{content_of-set, with_contents-append}
+use Rattle.acq_history.specs.IssuersCodes.{code_said, id_said}
+use Rattle.acq_history.proofs.ReplyElements.{content_of-set, with_contents-append, contents_kept}
+use Rattle.acq_history.proofs.ReplyElements.{content_of-dropped}
 use Rattle.acq_history.proofs.PassedChecks.{AreBehind}
 use Rattle.acq_history.proofs.RecordedInHistory.{AdmitsOnlyEnrolled, enrolled_where, referred_is}
 use Rattle.acq_history.proofs.RecordedInHistory.{reference_if}
@@ -412,51 +414,57 @@ clears_as_told m opening es are =
     ∙ clears opening (history_of opening (Some m) es) (made_after opening [] tt (own (Some m) es))
     (from_new opening m es).rows.genuine (said_after opening (Some m) es are [] tt)
 
--- ---- the issuers' codes
+-- ---- what an issuer's answer tells
 
-said_is : (v : Verdict) → code_text (verdict_code v) ≡ code_said v
-said_is (verdict.Approved id) = refl
-said_is other = refl
+-- what a reply that is made now has of an issuer's answer
+abbrev read_now : (IsoMessage → Option (List ℕ)) → Outcome → Option (List ℕ)
+read_now reads o = option_and_then reads (reply_now o)
 
-module _ (opening : Opening) (h : List Entry) (genuine : AdmitsOnlyEnrolled h) (moment : ℕ)
-    (merchant : List ℕ) (n : ℕ) (v : Verdict) where
+-- an issuer's part of the replies to admitted requests
+abbrev Says : (IsoMessage → Option (List ℕ)) → Verdict → Option (List ℕ) → Type 0
+Says reads v given =
+    (day : ℕ) (r : RequestMessage) (n : ℕ) → reads (answered_reply (draft_reply day r n) v) ≡ given
+
+module _ (reads : IsoMessage → Option (List ℕ)) (opening : Opening) (h : List Entry)
+    (genuine : AdmitsOnlyEnrolled h) (moment : ℕ) (merchant : List ℕ) (n : ℕ) (v : Verdict)
+    (given : Option (List ℕ)) (says : Says reads v given) where
   abbrev k : Known
   k = known_by opening h (Answered moment merchant n v)
 
   abbrev Tells : Option (List ℕ) → Type 0
-  Tells code = told_now (outcome_of k (decision_of_answer k moment v k.merchant)) ≡ code
+  Tells code = read_now reads (outcome_of k (decision_of_answer k moment v k.merchant)) ≡ code
 
   -- no request has the reference
   unknown : referred n h ≡ None → Tells None
   unknown none = step (enrolled h)
     where
       step : (o : Option Merchant) →
-          told_now (outcome_of (known_by opening h (Answered moment merchant n v))
+          read_now reads (outcome_of (known_by opening h (Answered moment merchant n v))
           (decision_of_answer (known_by opening h (Answered moment merchant n v)) moment v o))
           ≡ None
       step None = refl
       step (Some other) =
-          ap (λ o. told_now (outcome_of (known_by opening h (Answered moment merchant n v))
+          ap (λ o. read_now reads (outcome_of (known_by opening h (Answered moment merchant n v))
           (decision_of_prior moment v (option_map prior o)))) none
 
   -- one has it
   by_state : (f : Found) → referred n h ≡ Some f →
-      told_now (outcome_of k (decision_of_reply_state moment v (prior f) (reply_state_of f)))
-      ≡ told_now (outcome_of k (decision_of_answer k moment v k.merchant))
+      read_now reads (outcome_of k (decision_of_reply_state moment v (prior f) (reply_state_of f)))
+      ≡ read_now reads (outcome_of k (decision_of_answer k moment v k.merchant))
   by_state f found =
       let there = is_some_there (enrolled h) (enrolled_where n h f genuine found) in
-      sym (ap (λ o. told_now (outcome_of k (decision_of_answer k moment v o))) there.1
-      ∙ ap (λ o. told_now (outcome_of k (decision_of_prior moment v (option_map prior o)))) found)
+      sym (ap (λ o. read_now reads (outcome_of k (decision_of_answer k moment v o))) there.1
+      ∙ ap (λ o. read_now reads (outcome_of k (decision_of_prior moment v (option_map prior o)))) found)
 
   waiting : (f : Found) → referred n h ≡ Some f → answer_to f ≡ None → is_reversed f ≡ false →
-      Tells (Some (code_said v))
+      Tells given
   waiting f found unanswered unreversed =
       let numbered = (referred_is n h f found).0 in
       let adm = (reference_if (is_admitted f) _ n numbered).0 in
       sym (by_state f found)
-      ∙ (ap (λ s. told_now (outcome_of k (decision_of_reply_state moment v (prior f) s)))
+      ∙ (ap (λ s. read_now reads (outcome_of k (decision_of_reply_state moment v (prior f) s)))
       (is_awaited f adm unanswered unreversed)
-      ∙ (says_verdict (draft_reply f.entry.day f.request (next_reference f.before)) v ∙ ap Some (said_is v)))
+      ∙ says f.entry.day f.request (next_reference f.before))
 
   -- it doesn't wait
   not_waiting : (f : Found) → referred n h ≡ Some f →
@@ -464,7 +472,7 @@ module _ (opening : Opening) (h : List Entry) (genuine : AdmitsOnlyEnrolled h) (
   not_waiting f found over = sym (by_state f found) ∙ step (reply_state_of f) refl
     where
       step : (s : ReplyState) → reply_state_of f ≡ s →
-          told_now (outcome_of (known_by opening h (Answered moment merchant n v))
+          read_now reads (outcome_of (known_by opening h (Answered moment merchant n v))
           (decision_of_reply_state moment v (prior f) s))
           ≡ None
       step (Kept reply) is = refl
@@ -474,23 +482,69 @@ module _ (opening : Opening) (h : List Entry) (genuine : AdmitsOnlyEnrolled h) (
           (λ i. is_none (free.unanswered i) && not (free.unreversed i)) over
       step other is = refl
 
-  tells : Tells (option_and_then (told_of v) (referred n h))
+  -- what is read of it, if it waits
+  abbrev told_if : Found → Option (List ℕ)
+  told_if f = cond (is_none (answer_to f) && not (is_reversed f)) given None
+
+  tells : Tells (option_and_then told_if (referred n h))
   tells = step (referred n h) refl
     where
       waits_or_not : (f : Found) → referred n h ≡ Some f → (o : Option Entry) → answer_to f ≡ o →
           (b : Bool) → is_reversed f ≡ b →
-          Tells (cond (is_none o && not b) (Some (code_said v)) None)
+          Tells (cond (is_none o && not b) given None)
       waits_or_not f found None unanswered false unreversed = waiting f found unanswered unreversed
       waits_or_not f found None is true reversed =
           not_waiting f found (λ i. is_none (is i) && not (reversed i))
       waits_or_not f found (Some e) is b reversed =
           not_waiting f found (λ i. is_none (is i) && not (reversed i))
 
-      step : (o : Option Found) → referred n h ≡ o → Tells (option_and_then (told_of v) o)
+      step : (o : Option Found) → referred n h ≡ o → Tells (option_and_then told_if o)
       step None none = unknown none
       step (Some f) found = waits_or_not f found (answer_to f) refl (is_reversed f) refl
 
+-- ---- the code, and the authorization id
+
+said_is : (v : Verdict) → code_text (verdict_code v) ≡ code_said v
+said_is (verdict.Approved id) = refl
+said_is other = refl
+
 pub tells_issuers_codes : (m : List ℕ) → issuers.TellsIssuersCodes m
 tells_issuers_codes m opening es moment merchant n v =
-    tells opening (history_of opening (Some m) es) (from_new opening m es).rows.genuine moment
-    merchant n v
+    tells (λ reply. content_of reply.elements 39) opening (history_of opening (Some m) es)
+    (from_new opening m es).rows.genuine moment merchant n v (Some (code_said v))
+    (λ day r n. says_verdict (draft_reply day r n) v ∙ ap Some (said_is v))
+
+-- what stands fixed of a reply has no id
+undrafted_id : (day : ℕ) (r : RequestMessage) (n : ℕ) →
+    content_of (draft_reply day r n).elements 38 ≡ None
+undrafted_id day r n =
+    contents_kept 38 (echo r.service r.message)
+    (day_element r.service day ++ reference_element (Some n)) (others r.service)
+    ∙ content_of-dropped (echoed r.service) r.message.elements 38 (unechoed r.service)
+  where
+    others : (s : Service) →
+        list_all (λ e. not (38 == e.0)) (day_element s day ++ reference_element (Some n)) ≡ true
+    others NetworkManagement = refl
+    others s = refl
+
+    unechoed : (s : Service) → list_any (λ k. k == 38) (echoed s) ≡ false
+    unechoed Completion = refl
+    unechoed NetworkManagement = refl
+    unechoed s = refl
+
+says_id : (v : Verdict) → Says (λ reply. content_of reply.elements 38) v (id_said v)
+says_id (verdict.Approved id) day r n =
+    contents_kept 38 (with_content (draft_reply day r n).elements 38 id)
+    (code_element code.Approved) refl
+    ∙ content_of-set (draft_reply day r n).elements 38 id
+says_id (verdict.Declined text) day r n =
+    contents_kept 38 (draft_reply day r n).elements (code_element (code.Declined text)) refl
+    ∙ undrafted_id day r n
+says_id verdict.NoAnswer day r n =
+    contents_kept 38 (draft_reply day r n).elements (code_element code.IssuerInoperative) refl
+    ∙ undrafted_id day r n
+
+pub tells_issuers_ids : (m : List ℕ) → issuers.TellsIssuersIds m
+tells_issuers_ids m opening es moment merchant n v =
+    tells (λ reply. content_of reply.elements 38) opening (history_of opening (Some m) es)
+    (from_new opening m es).rows.genuine moment merchant n v (id_said v) (says_id v)

@@ -1,10 +1,12 @@
 -- Only what may be is asked about, completed or reversed: the converse of what `Acceptance` says, so
 -- that a request is admitted or accepted exactly if it passes each check.
-use Rattle.std.specs.Prelude.{◌≡◌, ℕ, true, List, Some, None}
+use Rattle.std.specs.Prelude.{◌≡◌, ℕ, true, List, Some, None, codes}
 use Rattle.card_no.specs.declared.range.Range.{Range}
 use Rattle.acq_message.specs.declared.service.Service.TheVariants.{Completion}
 use Rattle.acq_message.specs.declared.request_message.RequestMessage.{RequestMessage}
-use Rattle.acq_message.specs.Elements.{key_of}
+use Rattle.acq_message.specs.Cards.{card_of}
+use Rattle.acq_message.specs.Elements.{text_at, amount_in, transaction_in, key_of}
+use Rattle.day_totals.specs.declared.leg.Leg.TheVariants.{Credit, Debit}
 use Rattle.acq_core.specs.declared.merchant.Merchant.{Merchant}
 use Rattle.acq_core.specs.declared.event.Event.{Event}
 use Rattle.acq_core.specs.declared.query.Query.{Query}
@@ -17,6 +19,18 @@ use Rattle.acq_history.specs.PartyHistory.{history_of}
 use Rattle.acq_history.specs.Told.{IsTold00}
 use Rattle.acq_history.specs.Acceptance.{MayBeAdmitted, MayComplete, MayReverse, result_on}
 
+-- a query that asks for what a request says, of a card in this range, under a reference
+pub record AsksAsSaid (r : RequestMessage) (range : Range) (reference : ℕ)
+    (query : Query) : Type 0 where
+  pub merchant : query.merchant ≡ text_at r.message 42
+  pub numbered : query.reference ≡ reference
+  pub service : query.service ≡ r.service
+  pub bought : transaction_in r.message ≡ codes "00" → query.leg ≡ Debit
+  pub returned : transaction_in r.message ≡ codes "20" → query.leg ≡ Credit
+  pub card : card_of r.message ≡ Some query.card
+  pub amount : query.amount ≡ amount_in r.message
+  pub issuer : query.issuer ≡ range.issuer
+
 -- a query about a request that may be admitted: it asks for what the request does, under the next
 -- reference
 pub record IsAdmission (opening : Opening) (h : List Entry) (r : RequestMessage)
@@ -25,6 +39,7 @@ pub record IsAdmission (opening : Opening) (h : List Entry) (r : RequestMessage)
   pub range : Range
   pub may : MayBeAdmitted opening h r merchant range
   pub asks : query ≡ query_of r range (next_reference h)
+  pub says : AsksAsSaid r range (next_reference h) query
 
 -- a request that was admitted under a reference, by the entries before it
 pub record WasAdmitted (opening : Opening) (reference : ℕ) (f : Found) : Type 0 where

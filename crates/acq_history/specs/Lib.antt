@@ -24,3 +24,5 @@ pub mod ClearedReplies
 pub mod ToldEffects
 pub mod ClearedRequests
 pub mod CheckedValues
+pub mod SpelledAmounts
+pub mod SaidOutputs

@@ -1,5 +1,6 @@
 -- What is told of open holds is what can still be captured, exactly.
-use Rattle.std.specs.Prelude.{◌≡◌, ◌≤◌, ◌↔◌, ℕ, ◌+◌, ◌*◌, true, false, List, map, Some, codes}
+use Rattle.std.specs.Prelude.{◌≡◌, ◌≤◌, ◌↔◌, ℕ, ◌+◌, ◌*◌, true, false, List, map, Some, unwrap_or}
+use Rattle.std.specs.Prelude.{codes}
 use Rattle.std.specs.List.{Contains}
 use Rattle.acq_message.specs.declared.service.Service.TheVariants.{Authorization, Completion}
 use Rattle.acq_message.specs.declared.request_message.RequestMessage.{RequestMessage}
@@ -16,7 +17,7 @@ use Rattle.acq_core.specs.Known.{Prior}
 use Rattle.acq_core.specs.Tables.{Opening, prior_of, requests_of}
 use Rattle.acq_history.specs.Entries.{Entry}
 use Rattle.acq_history.specs.History.{Found, referred, prior, ranges_after, approval_of}
-use Rattle.acq_history.specs.History.{is_completed, is_undone}
+use Rattle.acq_history.specs.History.{is_completed, is_undone, reversal_of}
 use Rattle.acq_history.specs.PartyHistory.{history_of, book_after}
 use Rattle.acq_history.specs.Isolation.{open_at}
 use Rattle.acq_history.specs.Acceptance.{IsNewRequest, result_on}
@@ -53,6 +54,10 @@ pub record IsOpenUntil (hold : Found) (approved : ℕ) : Type 0 where
       ≡ Some range
   pub until : (prior hold).hold_end ≡ Some (approved + range.hold_days * 86400)
 
+-- what is left of a hold: what a reversal let remain of it, else all of it
+abbrev pub left_of : Found → ℕ
+left_of hold = unwrap_or (reversal_of hold) (amount_in hold.request.message)
+
 -- the histories of a merchant's own events
 module _ (m : List ℕ) where
   -- a completion is told 00 exactly if its hold is one of the open ones, of no smaller amount
@@ -73,3 +78,12 @@ module _ (m : List ℕ) where
       hold.request.service ≡ Authorization → approval_of hold ≡ Some approved →
       is_completed hold ≡ false → is_undone hold ≡ false →
       IsOpenUntil hold approved
+
+  -- so is one of which a reversal let something remain, and what is left of it can be captured
+  abbrev pub LoweredHoldsStayOpen : Type 0
+  LoweredHoldsStayOpen =
+      (opening : Opening) (es : List Event) (reference approved : ℕ) (hold : Found) →
+      referred reference (history_of opening (Some m) es) ≡ Some hold →
+      hold.request.service ≡ Authorization → approval_of hold ≡ Some approved →
+      is_completed hold ≡ false → 1 ≤ left_of hold →
+      IsOpenUntil hold approved × ((prior hold).amount ≡ left_of hold)

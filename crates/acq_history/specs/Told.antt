@@ -31,3 +31,7 @@ told_now o = code_in (reply_now o)
 -- it is told now that it is approved
 abbrev pub is_told_00 : Outcome → Bool
 is_told_00 o = is_text (codes "00") (told_now o)
+
+-- its authorization id
+abbrev pub id_now : Outcome → Option (List ℕ)
+id_now o = option_and_then (λ m. content_of m.elements 38) (reply_now o)

@@ -6,18 +6,25 @@ ghost use Rattle.acq_history.specs.Acceptance.{Admits, AcceptsCompletions, Accep
 ghost use Rattle.acq_history.specs.ExactAcceptance.{AdmitsOnly, AdmittedMayBe, CompletesOnly};
 ghost use Rattle.acq_history.specs.ExactAcceptance.{ReversesOnly};
 ghost use Rattle.acq_history.specs.CheckedValues.{AmountsAreWithin, CardsAreInForce};
+ghost use Rattle.acq_history.specs.CheckedValues.{HoldsAreOpenToTheirEnd};
 ghost use Rattle.acq_history.specs.CheckedValues.{AcquirersAreNamed, OriginalsStand};
+ghost use Rattle.acq_history.specs.SpelledAmounts.{AmountsAreSpelled, RemaindersAreSpelled};
+ghost use Rattle.acq_history.specs.SpelledAmounts.{NothingElseRemains, RequestsAreMessages};
+ghost use Rattle.acq_history.specs.SaidOutputs.{RepliesGoOut, OnlyRepliesGoOut};
+ghost use Rattle.acq_history.specs.SaidOutputs.{QueriesGoOut, OnlyQueriesGoOut};
 ghost use Rattle.acq_history.specs.Balance.{BalancesExactly};
 ghost use Rattle.acq_history.specs.Captures.{CapturesWithinHold, CapturesOnce, ReversesOnce};
 ghost use Rattle.acq_history.specs.OpenHolds.{OpenHoldsAreCapturable, ApprovedHoldsAreOpen};
-ghost use Rattle.acq_history.specs.KeptRepeats.{RepeatsAreKept};
+ghost use Rattle.acq_history.specs.OpenHolds.{LoweredHoldsStayOpen};
+ghost use Rattle.acq_history.specs.KeptRepeats.{RepeatsAreKept, OthersAreDuplicates};
+ghost use Rattle.acq_history.specs.KeptRepeats.{OnlyRepeatsAreKept};
 ghost use Rattle.acq_history.specs.DaySums.{SumsAreTotals};
 ghost use Rattle.acq_history.specs.Conservation.{Conserves, NeverExceeds};
 ghost use Rattle.acq_history.specs.Cleared.{ClearsAsTold};
 ghost use Rattle.acq_history.specs.ClearedRequests.{ClearsByRequest, ClearsUnderItsLeg};
 ghost use Rattle.acq_history.specs.ClearedReplies.{RepliesNameWhatClears};
 ghost use Rattle.acq_history.specs.ToldEffects.{DoesAsTold};
-ghost use Rattle.acq_history.specs.IssuersCodes.{TellsIssuersCodes};
+ghost use Rattle.acq_history.specs.IssuersCodes.{TellsIssuersCodes, TellsIssuersIds};
 ghost use Rattle.acq_history.specs.Finality.{IsFinal};
 ghost use Rattle.acq_history.specs.PostedRows.{ApprovalsPost, CompletionsPost, ReversalsPost};
 ghost use Rattle.acq_history.specs.PostedRows.{NothingElsePosts, TablesPost};
@@ -30,9 +37,12 @@ pub fn reconciliations_balance_exactly()
 {}
 
 /// A request whose key is recorded with the same essence gets the reply that was kept, or the
-/// output that it has to wait or comes too late.
+/// output that it has to wait or comes too late. With another essence it is told 94, and a kept
+/// reply is given again to no other request.
 pub fn repeats_are_kept()
-    ensures { (m : List ℕ) → RepeatsAreKept m }
+    ensures kept { (m : List ℕ) → RepeatsAreKept m }
+    ensures others { (m : List ℕ) → OthersAreDuplicates m }
+    ensures only { (m : List ℕ) → OnlyRepeatsAreKept m }
 {}
 
 /// The sums by leg of a merchant among a day's postings are its totals of the day.
@@ -75,25 +85,37 @@ pub fn only_such_are_accepted()
     ensures reversals { (m : List ℕ) → ReversesOnly m }
 {}
 
-/// What the checks let pass, in numbers and in entries: an accepted amount, a card that is in force,
-/// an original's acquirer, and an original that stands.
+/// What the checks let pass, and only that, in numbers and in entries: an accepted amount, a card
+/// that is in force, a hold up to its end, an original's acquirer, and an original that stands.
 pub fn checks_let_pass()
     ensures amounts { AmountsAreWithin }
     ensures cards { CardsAreInForce }
+    ensures holds { HoldsAreOpenToTheirEnd }
     ensures acquirers { AcquirersAreNamed }
     ensures originals { OriginalsStand }
+{}
+
+/// The amounts that elements 4 and 95 of a message say are those of their digits; and each request
+/// that the first check passes is a message.
+pub fn amounts_are_spelled()
+    ensures messages { RequestsAreMessages }
+    ensures amounts { AmountsAreSpelled }
+    ensures remainders { RemaindersAreSpelled }
+    ensures nothing { NothingElseRemains }
 {}
 
 /// No more is captured than was held: an accepted completion captures of an approved hold at most
 /// what was authorized and what a reversal let remain, once, and not behind its last second. What
 /// the rows of open holds say is just what can still be captured; and an approved hold is open for
-/// its hold days, unless it was completed or undone.
+/// its hold days, unless it was completed or undone; one that was lowered is, with what was let
+/// remain of it.
 pub fn captures_stay_within_holds()
     ensures within { (m : List ℕ) → CapturesWithinHold m }
     ensures once { (m : List ℕ) → CapturesOnce m }
     ensures reversed { (m : List ℕ) → ReversesOnce m }
     ensures listed { (m : List ℕ) → OpenHoldsAreCapturable m }
     ensures open_until { (m : List ℕ) → ApprovedHoldsAreOpen m }
+    ensures lowered { (m : List ℕ) → LoweredHoldsStayOpen m }
 {}
 
 /// What each event of a merchant's posts: an approved sale or return, an accepted completion and an
@@ -107,11 +129,22 @@ pub fn entries_post_exactly()
     ensures tables { (m : List ℕ) → TablesPost m }
 {}
 
+/// What goes out is what was told and what was asked: a reply, made now or kept, in its own
+/// spelling for the merchant that was named, and a query as it stands. Nothing else goes out as
+/// either.
+pub fn outcomes_go_out()
+    ensures replies { RepliesGoOut }
+    ensures only_replies { OnlyRepliesGoOut }
+    ensures queries { QueriesGoOut }
+    ensures only_queries { OnlyQueriesGoOut }
+{}
+
 /// What was told is what clears. The rows of a merchant's postings are one for each reply that said
 /// 00 to what moves money, in that order, and no other; so those of a day are one for each recorded
 /// request of that day whose reply says so, under the leg of what was asked for. Each such reply
 /// names its posting. Of what is about a card 00 is told exactly where a request is approved,
-/// completes a hold or reverses its original; and what an issuer says is told as it was given.
+/// completes a hold or reverses its original; and what an issuer says, its code and its
+/// authorization id, is told as it was given.
 pub fn told_is_cleared()
     ensures clears { (m : List ℕ) → ClearsAsTold m }
     ensures requests { (m : List ℕ) → ClearsByRequest m }
@@ -119,4 +152,5 @@ pub fn told_is_cleared()
     ensures named { (m : List ℕ) → RepliesNameWhatClears m }
     ensures done { (m : List ℕ) → DoesAsTold m }
     ensures issuers { (m : List ℕ) → TellsIssuersCodes m }
+    ensures ids { (m : List ℕ) → TellsIssuersIds m }
 {}
