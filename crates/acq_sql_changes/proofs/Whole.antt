@@ -19,28 +19,7 @@ use Rattle.acq_sql_changes.specs.Transactions.{Begins, ChangesInside, CommitsSho
 use Rattle.acq_sql_changes.specs.Transactions.{Keeps, Returns, ReturnsOnErr}
 use Rattle.acq_sql_changes.proofs.Commits.{left_holds}
 
--- ---- no transaction was begun
-
-pub unbegun_whole : {room : Tables → Type 0} {changed : Tables → Tables} {old new : State}
-    → (HasCleanDisk new → IsTrue new.is_open → (t : Tables) → IsAt old t → IsAt new t)
-    → CommitsNothing old new → (result : Result (Unit {0}) Error) → IsErr result
-    → ChangesWhole old new result room changed
-unbegun_whole stays stop (Ok done) is = absurd (true≢false (sym is))
-unbegun_whole {old = old} {new = new} stays stop (Err other) is =
-    record {
-      done = λ clean t at fit. tt;
-      undone = stays;
-      stop = survives_weaker old new _ _ (λ _ db none. absurd none) stop;
-    }
-
-pub unbegun_fails : (old new : State) {e : Error} (change : Change) (fits : Tables → Type 0)
-    → FailsWhile false {T = Unit {0}} old new (Err e) → (result : Result (Unit {0}) Error)
-    → IsErrAnd result (λ r. r ≡ e) → FailsAmong old new result change fits
-unbegun_fails old new change fits fails (Ok done) is = absurd is
-unbegun_fails old new change fits fails (Err other) is = λ left clean t at takes free.
-    subst (IsExcused old new) (sym is) (fails clean at.is_open at.settled)
-
--- ---- one was
+-- ---- a transaction was begun
 
 module _ {room : Tables → Type 0} {changed : Tables → Tables} {old mid last : State}
     {made : Result (Unit {0}) Error} (begins : Begins {T = Unit {0}} old mid (Ok tt))
