@@ -32,7 +32,7 @@ use Rattle.acq_sql_rows.specs.Schema.{merchants_tree, terminals_tree, requests_t
 use Rattle.acq_sql_rows.specs.Schema.{postings_tree}
 use Rattle.acq_sql_changes.specs.Refused.{FailsAmong, Takes}
 use Rattle.acq_sql_writes.specs.Refused.{HasNumberLeft, HasNumbersLeft}
-use Rattle.acq_sql_rows.specs.Standing.{FailsExcused}
+use Rattle.acq_sql_rows.specs.Standing.{FailsExcused, FailsExcusedAt, IsOpenOver}
 use Rattle.acq_sql_changes.proofs.TakenTables.{number_left}
 use Rattle.acq_sql_reads.specs.Failing.{CanBeWalked, IsTold}
 use Rattle.acq_sql.specs.Applied.{HasShortEnd}
@@ -84,13 +84,14 @@ blames_at {S} {T} g old seen new is answer result fits fails same fault clean o 
 pub blames_of : {S T : Type 0} (g : Ghosts S) (old seen : Kept S) (connection : Held S)
     (failures : ℕ) → old ≡ seen
     → (answer : Result T Error) (result : Result T BookFault) (fits : Tables → Type 0)
-    → FailsExcused version (state g old.connection) (state g connection) answer fits
+    → FailsExcusedAt (IsOpenOver version) (state g old.connection) (state g connection) answer fits
     → IfOk answer (λ x. result ≡ Ok x) → IfErr answer (λ e. result ≡ Err (book_fault_of e))
     → ((s : State) (t : Tables) → IsOpenAt s t → HasNumbersLeft s.now → fits t)
     → is_honest g (looked old connection failures) → is_open g seen → has_room g seen
     → BlamesStore result (store_faults g seen) (store_faults g (looked old connection failures))
 blames_of g old seen connection failures is answer result fits fails same fault fit clean o room =
-    blames_at g old seen (looked old connection failures) is answer result fits (λ left. fails)
+    blames_at g old seen (looked old connection failures) is answer result fits
+    (λ left clean t at. fails clean t (record { is_open = at.is_open; holds = at.holds }))
     same fault clean o room
     (fit (state g seen.connection) (tables g seen) o.opened room.numbers)
 

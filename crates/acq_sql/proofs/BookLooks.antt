@@ -66,15 +66,20 @@ stays_roomy old new limit same room =
 
 -- ---- look-ups
 
+-- no transaction is open
+abbrev pub IsOutside : {S : Type 0} → Ghosts S → Kept S → Type 0
+IsOutside g book =
+    HasCleanDisk (state g book.connection) → book.connection.in_transaction ≡ false
+
 -- what is seen is what was committed
 abbrev pub IsSettled : {S : Type 0} → Ghosts S → Kept S → Type 0
 IsSettled g book =
-    IsTrue (state g book.connection).is_open →
+    HasCleanDisk (state g book.connection) → IsTrue (state g book.connection).is_open →
     (state g book.connection).now ≡ (state g book.connection).committed
 
 module _ {S : Type 0} (g : Ghosts S) (old new : Kept S) (succeeded : Bool)
     (looks : LooksOnly (state g old.connection) (state g new.connection) succeeded)
-    (out : old.connection.in_transaction ≡ false)
+    (out : IsOutside g old)
     (settled : IsSettled g old)
     (recalled : (t : Tables) → Recalls new.memo t → Recalls old.memo t)
     (recalls : HasCleanDisk (state g new.connection) → is_open g old
@@ -97,7 +102,7 @@ module _ {S : Type 0} (g : Ghosts S) (old new : Kept S) (succeeded : Bool)
   now_kept : HasCleanDisk after → IsTrue after.is_open → after.now ≡ before.now
   now_kept clean opened =
       ⊎_elim (λ (same : IsUnchanged before after). same.0.now_is)
-      (λ back. (back.undone opened).0 ∙ sym (settled (was_open clean opened)))
+      (λ back. (back.undone opened).0 ∙ sym (settled (was_honest clean) (was_open clean opened)))
       (looks.undone clean opened)
 
   opened_before : is_open g new → is_open g old
@@ -110,8 +115,8 @@ module _ {S : Type 0} (g : Ghosts S) (old new : Kept S) (succeeded : Bool)
           clean = was_honest o.clean;
           at = record {
             is_open = was;
-            settled = out;
-            same = settled was;
+            settled = out (was_honest o.clean);
+            same = settled (was_honest o.clean) was;
             holds = subst (λ (d : Database). Holds d (tables_of d)) same o.at.holds;
           };
           past = subst (λ (d : Database). HasPast (tables_of d)) same o.past;
@@ -203,7 +208,7 @@ module _ {S : Type 0} (g : Ghosts S) (old seen new : Kept S) (is : old ≡ seen)
     → Recalls new.memo (tables g old)) where
   pub new_value : {T : Type 0} (answer : Result T Error) (result : Result T BookFault) →
       LooksOnly (state g old.connection) (state g new.connection) (is_ok answer)
-      → old.connection.in_transaction ≡ false → IsSettled g seen
+      → IsOutside g old → IsSettled g seen
       → IfOk answer (λ x. result ≡ Ok x)
       → is_ok result ≡ is_ok answer → (look : Tables → T)
       → (HasCleanDisk (state g new.connection) → (t : Tables)
@@ -215,7 +220,7 @@ module _ {S : Type 0} (g : Ghosts S) (old seen new : Kept S) (is : old ≡ seen)
 
   pub new_looks : {T U : Type 0} (answer : Result T Error) (result : Result U BookFault)
       → LooksOnly (state g old.connection) (state g new.connection) (is_ok answer)
-      → old.connection.in_transaction ≡ false → IsSettled g seen → is_ok result ≡ is_ok answer
+      → IsOutside g old → IsSettled g seen → is_ok result ≡ is_ok answer
       → old.failures ≤ new.failures
       → LooksBy (tables g) (is_honest g) (is_open g) (may_leave g) (leaves_books g)
       (λ (b : Kept S). b.failures) (store_faults g) seen new (is_ok result)
@@ -228,7 +233,7 @@ module _ {S : Type 0} (g : Ghosts S) (old seen new : Kept S) (is : old ≡ seen)
 
   pub new_room : {T : Type 0} (answer : Result T Error)
       → LooksOnly (state g old.connection) (state g new.connection) (is_ok answer)
-      → old.connection.in_transaction ≡ false → IsSettled g seen
+      → IsOutside g old → IsSettled g seen
       → is_open g new → has_room g seen → has_room g new
   new_room answer looks out settled o room =
       room_at g old new (is_ok answer) looks out (subst (IsSettled g) (sym is) settled) recalled
@@ -248,7 +253,7 @@ module _ {S : Type 0} (g : Ghosts S) (old seen : Kept S) (connection : Held S) (
 
   pub value_of : {T : Type 0} (answer : Result T Error) (result : Result T BookFault) →
       LooksOnly (state g old.connection) (state g connection) (is_ok answer)
-      → old.connection.in_transaction ≡ false → IsSettled g seen
+      → IsOutside g old → IsSettled g seen
       → IfOk answer (λ x. result ≡ Ok x)
       → is_ok result ≡ is_ok answer → (look : Tables → T)
       → (HasCleanDisk (state g connection) → (t : Tables)
@@ -259,7 +264,7 @@ module _ {S : Type 0} (g : Ghosts S) (old seen : Kept S) (connection : Held S) (
 
   pub looks_of : {T U : Type 0} (answer : Result T Error) (result : Result U BookFault)
       → LooksOnly (state g old.connection) (state g connection) (is_ok answer)
-      → old.connection.in_transaction ≡ false → IsSettled g seen → is_ok result ≡ is_ok answer
+      → IsOutside g old → IsSettled g seen → is_ok result ≡ is_ok answer
       → old.failures ≤ failures
       → LooksBy (tables g) (is_honest g) (is_open g) (may_leave g) (leaves_books g)
       (λ (b : Kept S). b.failures) (store_faults g) seen new (is_ok result)
@@ -268,7 +273,7 @@ module _ {S : Type 0} (g : Ghosts S) (old seen : Kept S) (connection : Held S) (
 
   pub room_of : {T : Type 0} (answer : Result T Error)
       → LooksOnly (state g old.connection) (state g connection) (is_ok answer)
-      → old.connection.in_transaction ≡ false → IsSettled g seen
+      → IsOutside g old → IsSettled g seen
       → is_open g new → has_room g seen → has_room g new
   room_of answer = new_room g old seen new is (λ t r. r) (λ clean o. o.recalls) answer
 

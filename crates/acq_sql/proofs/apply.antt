@@ -1,2 +1,3 @@
 pub mod PostedByLegs
+pub mod ChangesLooked
 pub mod ChangesFail

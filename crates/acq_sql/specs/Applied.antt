@@ -1,13 +1,14 @@
 -- What applying a change to a book in SQL makes of its tables.
-use Rattle.std.specs.Prelude.{Result}
+use Rattle.std.specs.Prelude.{◌≡◌, false, Result}
 use Rattle.sqlite.specs.declared.error.Error.{Error}
-use Rattle.sqlite.specs.State.{State}
+use Rattle.sqlite.specs.State.{State, HasCleanDisk}
 use Rattle.acq_core.specs.declared.change.Change.{Change}
 use Rattle.acq_core.specs.declared.change.Change.TheVariants as change
 use Rattle.acq_core.specs.Pasts.{HasPast}
 use Rattle.acq_core.specs.Tables.{Tables, after}
 use Rattle.acq_book.specs.Fits.{Fits}
 use Rattle.acq_sql_changes.specs.Changed.{ChangesWhole}
+use Rattle.acq_sql_changes.specs.Transactions.{ChangesInside}
 use Rattle.acq_sql_writes.specs.Written.{IsShortEnd}
 
 -- the change fits the tables, and these are a book's
@@ -17,6 +18,16 @@ Suits change t = Fits t change × HasPast t
 -- where the change suits, it is made whole or not at all
 abbrev pub Applies : {T : Type 0} → State → State → Result T Error → Change → Type 0
 Applies old new result change = ChangesWhole old new result (Suits change) (λ t. after t change)
+
+-- the same inside a transaction, of which nothing is committed
+abbrev pub AppliesInside : {T : Type 0} → State → State → Result T Error → Change → Type 0
+AppliesInside old new result change =
+    ChangesInside old new result (Suits change) (λ t. after t change)
+
+-- outside a transaction it ends outside one
+abbrev pub EndsOutside : State → State → Type 0
+EndsOutside old new =
+    HasCleanDisk new → old.in_transaction ≡ false → new.in_transaction ≡ false
 
 -- a column can keep the end of the hold that the change writes
 abbrev pub HasShortEnd : Change → Type 0

@@ -1,7 +1,8 @@
 //! Any change of a book in SQL.
 //!
-//! [`apply`] makes all of a change, or none of it. What a change needs beside its rows, as the next
-//! number of a posting, is looked up before its transaction.
+//! [`apply`] makes all of a change, or none of it. [`change_within`] makes it inside a transaction
+//! that is open, and commits nothing. What a change needs beside its rows, as the next number of a
+//! posting, is looked up there.
 
 mod answers;
 mod applying;
@@ -10,4 +11,4 @@ mod numbers;
 mod request_columns;
 mod requests;
 
-pub use applying::apply;
+pub use applying::{apply, change_within};

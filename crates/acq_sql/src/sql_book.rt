@@ -53,6 +53,8 @@ pub struct SqlBook<S: Alter> {
 
 impl<S: Alter> Model for SqlBook<S> {
     ghost use Rattle.std.specs.Prelude.{◌≡◌, false};
+    ghost use Rattle.sqlite.specs.Held.{state};
+    ghost use Rattle.sqlite.specs.State.{HasCleanDisk};
     ghost use Rattle.acq_sql.specs.Kept.{Kept, kept_code};
 
     ghost Value = { Kept S };
@@ -65,7 +67,8 @@ impl<S: Alter> Model for SqlBook<S> {
       memo = book.memo;
     } };
 
-    ghost invariant = { λ book. book.connection.in_transaction ≡ false };
+    ghost invariant = { λ book. HasCleanDisk (state S.Store book.connection)
+        → book.connection.in_transaction ≡ false };
 }
 
 impl<S: Alter> SqlBook<S> {
@@ -219,14 +222,15 @@ impl<S: Alter> SqlBook<S> {
     /// The connection.
     pub(crate) fn release(self) -> Connection<S>
         ensures connection { result ≡ self.connection }
-        ensures settled { result.in_transaction ≡ false }
+        ensures settled { HasCleanDisk (state S.Store result) → result.in_transaction ≡ false }
     {
         self.connection
     }
 
     /// Outside a transaction the connection shows what was committed.
     fn settled(&self)
-        ensures { IsTrue (state S.Store self.now.connection).is_open
+        ensures { HasCleanDisk (state S.Store self.now.connection)
+            → IsTrue (state S.Store self.now.connection).is_open
             → (state S.Store self.now.connection).now
             ≡ (state S.Store self.now.connection).committed }
     {

@@ -1,9 +1,8 @@
--- What a transaction has written so far, and what its end leaves.
-use Rattle.std.proofs.Common.{◌≡◌, inl, inr, ℕ, true, false, true≢false, cond, refl, sym}
-use Rattle.std.proofs.Common.{subst, ◌∙◌, List, [], Ok, Err, Result, OnOk, IfErr, IsErr}
+-- What the end of a transaction leaves that ends where it is dropped.
+use Rattle.std.proofs.Common.{◌≡◌, inl, inr, ℕ, false, true≢false, refl, sym}
+use Rattle.std.proofs.Common.{subst, ◌∙◌, [], Ok, Err, Result, OnOk, IfErr, IsErr}
 use Rattle.std.proofs.Common.{IsTrue}
 use Rattle.std.proofs.lemmas.Result.{IfOk-weaker, IfErr-weaker}
-use Rattle.std.proofs.lemmas.Slice.Eq.{bytes_eq-Decides}
 use Rattle.sqlite_trees.specs.Tree.{Trees}
 use Rattle.sqlite_trees.specs.declared.store.Store as store
 use Rattle.sqlite.specs.declared.error.Error.{Error}
@@ -14,68 +13,12 @@ use Rattle.sqlite.specs.State.{Survives}
 use Rattle.sqlite.specs.Steps.{FailsToCommit}
 use Rattle.sqlite.proofs.StateLemmas.{survives_then}
 use Rattle.acq_core.specs.Tables.{Tables}
-use Rattle.acq_sql_rows.specs.Tallies.{Tally, Running, Tallies, FitsTally, plus, tally_in, raised}
-use Rattle.acq_sql_rows.specs.Rows.{version}
-use Rattle.acq_sql_rows.specs.Relation.{HoldsOf, Holds, HoldsRows}
-use Rattle.acq_sql_writes.specs.Written.{WritesInside, Changes, Raises}
-use Rattle.acq_sql_rows.proofs.SameKeys.{number_itself}
-use Rattle.acq_sql_writes.proofs.RunningTotals.{is_key, tally_raised}
-use Rattle.acq_sql_rows.specs.Standing.{IsAt, IsAtOf, HoldsAfter}
-use Rattle.acq_sql_writes.specs.Refused.{AnyTables}
+use Rattle.acq_sql_rows.specs.Relation.{HoldsOf, Holds}
+use Rattle.acq_sql_rows.specs.Standing.{IsAtOf, HoldsAfter}
+use Rattle.acq_sql_writes.specs.Written.{WritesGuarded}
+use Rattle.acq_sql_writes.proofs.Within.{was_clean, IsWithin, kept_still, stop_still}
 use Rattle.acq_sql_changes.specs.Changed.{ChangesWholeOf}
-use Rattle.acq_sql_changes.proofs.ListTallies.{LeavesTallies, ComesToMore, more_tallied}
-use Rattle.acq_sql_changes.proofs.Room.{HasShortDays}
-use Rattle.acq_sql_writes.proofs.Within.{was_clean, IsWithin, begins, same_rows, clean_before}
-use Rattle.acq_sql_writes.proofs.Within.{kept_still, stop_still, within_still}
-
--- ---- what was written so far
-
--- a transaction that began here has changed the tables so
-pub record Wrote (old now : State) (changed : Tables → Tables) : Type 0 where
-  pub within : IsWithin old now
-  pub rows : HasCleanDisk now → (t : Tables) (runs : List Running) → HoldsRows old.now t runs
-      → HoldsRows now.now (changed t) runs
-
-module _ {S : Type 0} (g : store.Ghosts S) (old begin : Held S)
-    (is : begin ≡ record old { in_transaction = true }) where
-  pub began : Wrote (state g old) (state g begin) (λ t. t)
-  began =
-      record {
-        within = begins g old begin is;
-        rows = λ clean t runs rows.
-            subst (λ d. HoldsRows d t runs) (sym (same_rows g old begin is)) rows;
-      }
-
--- with one write more
-pub wrote : {old mid new : State} {before : Tables → Tables} {done : Unit {0}}
-    → Wrote old mid before
-    → (changed : Tables → Tables) → WritesInside mid new (Ok done) (Changes changed)
-    → Wrote old new (λ t. changed (before t))
-wrote {before = before} so_far changed write =
-    record {
-      within = within_still so_far.within write;
-      rows = λ clean t runs rows.
-          let early = clean_before _ _ _ so_far.within _ _ write clean in
-          write.leads clean (so_far.within.inside early) (before t) runs
-          (so_far.rows early t runs rows);
-    }
-
--- what the lists come to with what came has room in the running totals
-pub has_room : (t : Tables) (runs : List Running) (merchant : List ℕ) (day : ℕ) (more : Tally)
-    → Tallies (raised merchant day more runs) t → HasShortDays t
-    → FitsTally (plus (tally_in runs merchant day) more)
-has_room t runs merchant day more tallied short =
-    subst FitsTally
-    (sym (tallied merchant day) ∙ tally_raised merchant day more merchant day runs ∙ itself)
-    (short merchant day)
-  where
-    own : is_key merchant day merchant day ≡ true
-    own = rw ((bytes_eq-Decides merchant merchant).1 refl, number_itself day) refl
-
-    itself : cond (is_key merchant day merchant day) (plus (tally_in runs merchant day) more)
-        (tally_in runs merchant day)
-        ≡ plus (tally_in runs merchant day) more
-    itself = rw own refl
+use Rattle.acq_sql_changes.proofs.Transactions.{at_commit}
 
 -- ---- the whole change
 
@@ -87,63 +30,9 @@ pub record MakesOf (earlier : ℕ) (old last : State) (fits : Tables → Type 0)
   pub holds : HasCleanDisk last → (t : Tables) → HoldsOf earlier old.now t → fits t →
       Holds last.now (changed t)
 
-abbrev pub Makes : State → State → (Tables → Type 0) → (Tables → Tables) → Type 0
-Makes = MakesOf version
-
--- where no day comes to anything else
-pub makes : {old last : State} {changed : Tables → Tables} → Wrote old last changed
-    → LeavesTallies changed → Makes old last AnyTables changed
-makes wrote same =
-    record {
-      within = wrote.within;
-      holds = λ clean t h _. record {
-        runs = h.runs;
-        rows = wrote.rows clean t h.runs h.rows;
-        tallied = λ m d. h.tallied m d ∙ sym (same t m d);
-        short = λ m d. subst FitsTally (sym (same t m d)) (h.short m d);
-      };
-    }
-
--- where what came is raised last
-pub makes_raised : {old mid last : State} {before : Tables → Tables} {done : Unit {0}}
-    → Wrote old mid before → (merchant : List ℕ) (day : ℕ) (more : Tally)
-    → WritesInside mid last (Ok done) (Raises merchant day more)
-    → (fits : Tables → Type 0) (changed : Tables → Tables)
-    → ((t : Tables) → fits t → ComesToMore t (before t) merchant day more)
-    → ((t : Tables) → fits t → HasShortDays t → HasShortDays (before t))
-    → ((t : Tables) → fits t → before t ≡ changed t) → Makes old last fits changed
-makes_raised {last = last} {before = before} so_far merchant day more write fits changed come short
-    same =
-    record {
-      within = within_still so_far.within write;
-      holds = λ clean t h fit.
-          let early = clean_before _ _ _ so_far.within _ _ write clean in
-          let tallied = more_tallied t (before t) h.runs merchant day more (come t fit) h.tallied in
-          let all = short t fit h.short in
-          let room = has_room (before t) h.runs merchant day more tallied all in
-          subst (Holds last.now) (same t fit) (record {
-            runs = raised merchant day more h.runs;
-            rows = write.leads clean (so_far.within.inside early) (before t) h.runs
-                (so_far.rows early t h.runs h.rows) room;
-            tallied = tallied;
-            short = all;
-          });
-    }
-
 -- ---- the commit
 
--- a commit leaves the connection between two transactions
-pub at_commit : (last end : State) (t : Tables) → Holds last.now t →
-    Shows last end last.now last.now false
-    → IsAt end t
-at_commit last end t h shown =
-    record {
-      is_open = shown.is_open;
-      settled = shown.mode;
-      same = shown.now_is ∙ sym shown.committed_is;
-      holds = subst (λ d. Holds d t) (sym shown.now_is) h;
-    }
-
+-- what a commit leaves holds what was shown
 pub left_holds : (db : Database) (trees : Trees) (t : Tables) → Holds db t → trees ≡ db.trees →
     HoldsAfter t trees
 left_holds db trees t h is =
@@ -225,7 +114,6 @@ module _ {S : Type 0} (g : store.Ghosts S) {earlier : ℕ} {old last : State} {e
       let P : Trees → Type 0 = λ trees. (t : Tables) → IsAtOf earlier old t → fits t
       → HoldsAfter (changed t) trees in
       subst (λ x. ChangesWholeOf earlier old (state g x) result fits changed) same (record {
-        settled = commit.ended;
         done = λ clean t at fit. IfOk-weaker result _ _
             (λ _ shown. at_commit last end_state (changed t) (made.holds (was clean) t at.holds fit)
             shown.1)
@@ -242,7 +130,7 @@ module _ {S : Type 0} (g : store.Ghosts S) {earlier : ℕ} {old last : State} {e
   -- where a write failed, its transaction was dropped, and all is rolled back
   pub gives_up : {mid : State} {U : Type 0} {written : Result U Error}
       {Leads : Database → Database → Type 0} → IsWithin old mid
-      → WritesInside mid last written Leads → end ≡ after → Dropped g last end
+      → WritesGuarded mid last written Leads → end ≡ after → Dropped g last end
       → (result : Result T Error) → IsErr result
       → ChangesWholeOf earlier old (state g after) result fits changed
   gives_up so_far write same dropped (Ok x) is =
@@ -254,7 +142,6 @@ module _ {S : Type 0} (g : store.Ghosts S) {earlier : ℕ} {old last : State} {e
       → HoldsAfter (changed t) trees in
       subst (λ x. ChangesWholeOf earlier {T = T} old (state g x) (Err e) fits changed) same
       (record {
-        settled = dropped.ended;
         done = λ clean t at fit. tt;
         undone = λ clean opened t at. at_undone old last end_state t opened
             (kept_still _ _ _ so_far _ _ write) (was clean) (dropped.undone clean) at;

@@ -1,7 +1,11 @@
 pub mod ListTallies
 pub mod Room
-pub mod Commits
-pub mod Widenings
 pub mod RaisedDays
-pub mod Failures
 pub mod TakenTables
+pub mod Progress
+pub mod Outcomes
+pub mod Commands
+pub mod Transactions
+pub mod Commits
+pub mod Whole
+pub mod Widenings

@@ -1,11 +1,12 @@
 -- What the tables that a change is made of give each of its writes.
 use Rattle.std.proofs.Common.{◌≡◌, ◌==◌, ◌&&◌, ◌≤◌, inl, inr, ℕ, suc, Bool}
 use Rattle.std.proofs.Common.{true, false, List, [], ◌∷◌, ◌++◌, length, map, find, Option, None}
-use Rattle.std.proofs.Common.{Some, option_map}
-use Rattle.std.proofs.Common.{refl, ap, ap₂, subst, ◌∙◌, arith, if◌then◌else◌, nat_le}
+use Rattle.std.proofs.Common.{Some, option_map, cond}
+use Rattle.std.proofs.Common.{refl, sym, ap, ap₂, subst, ◌∙◌, arith, if◌then◌else◌, nat_le}
 use Rattle.std.specs.List.{AllByRecursion, list_all, list_any}
 use Rattle.std.proofs.lemmas.Bool.{and_parts, false_from_ne_true}
 use Rattle.std.proofs.lemmas.Bool.Decides.{nat_tests}
+use Rattle.std.proofs.lemmas.Slice.Eq.{bytes_eq-Decides}
 use Rattle.sqlite_value.specs.Order.{Row}
 use Rattle.sqlite.specs.Effect.{Database}
 use Rattle.sqlite_rules.specs.Lists.{Has}
@@ -34,21 +35,46 @@ use Rattle.acq_sql_rows.specs.Rows.{merchant_row, terminal_row, request_row, pos
 use Rattle.acq_sql_rows.specs.Rows.{reconciliation_row, running_row}
 use Rattle.acq_sql_rows.specs.Schema.{merchants_tree, terminals_tree, requests_tree}
 use Rattle.acq_sql_rows.specs.Schema.{postings_tree, reconciliations_tree, running_tree}
-use Rattle.acq_sql_rows.specs.Tallies.{Tally}
+use Rattle.acq_sql_rows.specs.Tallies.{Tally, Tallies, Running, FitsTally, plus, raised, tally_in}
 use Rattle.acq_sql_writes.specs.Written.{with_remains}
-use Rattle.acq_sql_writes.specs.Refused.{AnyTables, HasNumberLeft, HasShortTexts, HasShortRequests}
+use Rattle.acq_sql_writes.specs.Refused.{AnyTables, HasNumberLeft, HasNumbersLeft, HasShortTexts}
+use Rattle.acq_sql_writes.specs.Refused.{HasShortRequests}
 use Rattle.acq_sql_writes.specs.Refused.{IsShortText, TakesMerchant, TakesTerminal, TakesRange}
 use Rattle.acq_sql_writes.specs.Refused.{TakesRequest, TakesPosting, TakesReconciliation, TakesMore}
 use Rattle.acq_sql_writes.specs.Refused.{is_posting, is_reconciliation}
-use Rattle.acq_sql_changes.specs.Refused.{IsNextPosting, IsNextReconciliation}
-use Rattle.acq_sql_changes.proofs.Commits.{has_room}
-use Rattle.acq_sql_changes.proofs.Failures.{IsTaken}
+use Rattle.acq_sql_rows.specs.Relation.{Holds}
+use Rattle.acq_sql_changes.specs.Refused.{IsNextPosting, IsNextReconciliation, Takes}
 use Rattle.acq_sql_changes.proofs.ListTallies.{ComesToMore, more_tallied}
 use Rattle.acq_sql_changes.proofs.Room.{HasShortDays}
 use Rattle.acq_sql_writes.proofs.RaiseWrites.{none_find}
 use Rattle.acq_sql_writes.proofs.RangeMoves.{narrow_of}
-use Rattle.acq_sql_rows.proofs.SameKeys.{bytes_same, number_same}
-use Rattle.acq_sql_writes.proofs.RunningTotals.{find_none}
+use Rattle.acq_sql_rows.proofs.SameKeys.{bytes_same, number_itself, number_same}
+use Rattle.acq_sql_writes.proofs.RunningTotals.{find_none, is_key, tally_raised}
+
+-- what is known of the tables that a change is made of
+pub record IsTaken (change : Change) (fits : Tables → Type 0) (db : Database) (t : Tables) : Type 0
+  where
+    pub numbers : HasNumbersLeft db
+    pub holds : Holds db t
+    pub takes : Takes change t
+    pub fit : fits t
+
+-- what the lists come to with what came has room in the running totals
+pub has_room : (t : Tables) (runs : List Running) (merchant : List ℕ) (day : ℕ) (more : Tally)
+    → Tallies (raised merchant day more runs) t → HasShortDays t
+    → FitsTally (plus (tally_in runs merchant day) more)
+has_room t runs merchant day more tallied short =
+    subst FitsTally
+    (sym (tallied merchant day) ∙ tally_raised merchant day more merchant day runs ∙ itself)
+    (short merchant day)
+  where
+    own : is_key merchant day merchant day ≡ true
+    own = rw ((bytes_eq-Decides merchant merchant).1 refl, number_itself day) refl
+
+    itself : cond (is_key merchant day merchant day) (plus (tally_in runs merchant day) more)
+        (tally_in runs merchant day)
+        ≡ plus (tally_in runs merchant day) more
+    itself = rw own refl
 
 -- ---- lists
 

@@ -13,7 +13,7 @@ use Rattle.acq_core.specs.Tables.{Tables}
 use Rattle.acq_core.specs.Widening.{widened_tables}
 use Rattle.acq_sql_rows.specs.Tallies.{Running}
 use Rattle.acq_sql_rows.specs.Relation.{HoldsRowsOf, HoldsTurnedOf}
-use Rattle.acq_sql_writes.specs.Written.{WritesInside}
+use Rattle.acq_sql_writes.specs.Written.{WritesGuarded}
 use Rattle.acq_sql_writes.specs.Widened.{HasRangesUnder, WidensRanges, TurnsRanges, SetsVersion}
 use Rattle.acq_sql_writes.specs.Widened.{IsNeverRefused, HasRangesOf, HasTurnedRangesOf}
 use Rattle.acq_sql_rows.specs.Standing.{FailsExcused}
@@ -53,7 +53,7 @@ starts g number old begin is =
 
 module _ {number : ℕ} {old mid new : State} {done : Unit {0}} where
   pub has_turned : Reached number old mid (Untouched number)
-      → WritesInside mid new (Ok done) WidensRanges → Reached number old new (Turned number)
+      → WritesGuarded mid new (Ok done) WidensRanges → Reached number old new (Turned number)
   has_turned so_far write =
       record {
         within = within_still so_far.within write;
@@ -64,7 +64,7 @@ module _ {number : ℕ} {old mid new : State} {done : Unit {0}} where
       }
 
   pub has_widened : Reached number old mid (Turned number)
-      → WritesInside mid new (Ok done) TurnsRanges → Reached number old new (Widened number)
+      → WritesGuarded mid new (Ok done) TurnsRanges → Reached number old new (Widened number)
   has_widened so_far write =
       record {
         within = within_still so_far.within write;
@@ -76,7 +76,7 @@ module _ {number : ℕ} {old mid new : State} {done : Unit {0}} where
 
   -- ranges are in no running total
   pub makes_widened : Reached number old mid (Widened number)
-      → WritesInside mid new (Ok done) SetsVersion
+      → WritesGuarded mid new (Ok done) SetsVersion
       → MakesOf number old new (HasRangesUnder six_digits) widened_tables
   makes_widened so_far write =
       record {
@@ -96,7 +96,7 @@ module _ {number : ℕ} {old mid new : State} {done : Unit {0}} where
 
 module _ {number : ℕ} {old mid last end : State} {stage : Stage} {e : Error}
     {Leads : Database → Database → Type 0} (so_far : Reached number old mid stage)
-    (write : WritesInside {T = Unit {0}} mid last (Err e) Leads)
+    (write : WritesGuarded {T = Unit {0}} mid last (Err e) Leads)
     (dropped : Survives last end (λ _. ⊥))
   where
     excused_at : (fits : Database → Type 0) → IsNeverRefused {T = Unit {0}} mid last (Err e) fits
@@ -114,7 +114,7 @@ module _ {number : ℕ} {old mid last end : State} {stage : Stage} {e : Error}
 module _ {number : ℕ} {old mid last end : State} {e : Error}
     {Leads : Database → Database → Type 0} where
   pub turning_gives_up : Reached number old mid (Turned number)
-      → WritesInside {T = Unit {0}} mid last (Err e) Leads → Survives last end (λ _. ⊥)
+      → WritesGuarded {T = Unit {0}} mid last (Err e) Leads → Survives last end (λ _. ⊥)
       → IsNeverRefused {T = Unit {0}} mid last (Err e) (HasTurnedRangesOf eight_digits)
       → FailsExcused number {T = Unit {0}} old end (Err e) (HasRangesUnder six_digits)
   turning_gives_up so_far write dropped never =
@@ -122,7 +122,7 @@ module _ {number : ℕ} {old mid last end : State} {e : Error}
       (λ t runs six h. (number, widened_tables t, runs, all_valid t.ranges six, h))
 
   pub setting_gives_up : Reached number old mid (Widened number)
-      → WritesInside {T = Unit {0}} mid last (Err e) Leads → Survives last end (λ _. ⊥)
+      → WritesGuarded {T = Unit {0}} mid last (Err e) Leads → Survives last end (λ _. ⊥)
       → IsNeverRefused {T = Unit {0}} mid last (Err e) (HasRangesOf eight_digits)
       → FailsExcused number {T = Unit {0}} old end (Err e) (HasRangesUnder six_digits)
   setting_gives_up so_far write dropped never =

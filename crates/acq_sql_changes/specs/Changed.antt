@@ -1,5 +1,5 @@
 -- What a change leaves, in the connection and on the disk.
-use Rattle.std.specs.Prelude.{◌≡◌, ◌+◌, ℕ, Option, Some, true, false, Result, OnOk, OnErr, IsTrue}
+use Rattle.std.specs.Prelude.{◌≡◌, ◌+◌, ℕ, Option, Some, true, Result, OnOk, OnErr, IsTrue}
 use Rattle.sqlite.specs.declared.error.Error.{Error}
 use Rattle.sqlite.specs.State.{State, HasCleanDisk, Survives}
 use Rattle.acq_core.specs.declared.request.Request.{Request}
@@ -41,7 +41,6 @@ StopsWithin earlier old new fits changed =
 -- of that version. The whole one leaves a book of the version in force.
 pub record ChangesWholeOf (earlier : ℕ) {T : Type 0} (old new : State) (result : Result T Error)
     (fits : Tables → Type 0) (changed : Tables → Tables) : Type 0 where
-  pub settled : new.in_transaction ≡ false
   pub done : LeadsTo earlier old new result fits changed
   pub undone : LeavesTables earlier old new result
   pub stop : StopsWithin earlier old new fits changed

@@ -11,8 +11,8 @@ use Rattle.acq_core.specs.declared.reconciliation.Reconciliation.{Reconciliation
 use Rattle.acq_core.specs.Tables.{Tables, after, postings_before, reconciliations_before}
 use Rattle.acq_book.specs.Fits.{Fits}
 use Rattle.acq_sql_rows.specs.Rows.{version}
-use Rattle.acq_sql_rows.specs.Standing.{FailsExcused}
-use Rattle.acq_sql_writes.specs.Refused.{HasShortTexts, IsShortText, AreShort, HasNumbersLeft}
+use Rattle.acq_sql_rows.specs.Standing.{FailsExcused, FailsExcusedAt, IsInside}
+use Rattle.acq_sql_writes.specs.Refused.{IsShortText, AreShort, HasNumbersLeft}
 
 -- What the rows of a book are like. Tables with a past have such rows: no posting has a higher
 -- number than its merchant has postings of its day, and so it is of reconciliations.
@@ -45,3 +45,9 @@ abbrev pub FailsAmong : {T : Type 0} →
     State → State → Result T Error → Change → (Tables → Type 0) → Type 0
 FailsAmong old new result change fits =
     HasNumbersLeft old.now → FailsExcused version old new result (λ t. Takes change t × fits t)
+
+-- the same inside a transaction, over what it shows
+abbrev pub FailsInside : {T : Type 0} →
+    State → State → Result T Error → Change → (Tables → Type 0) → Type 0
+FailsInside old new result change fits =
+    HasNumbersLeft old.now → FailsExcusedAt IsInside old new result (λ t. Takes change t × fits t)

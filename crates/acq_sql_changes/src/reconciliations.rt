@@ -1,13 +1,14 @@
 //! Requests that reconcile a day.
 
-ghost use Rattle.std.specs.Prelude.{◌≡◌, ◌<◌, ◌^◌, false};
+ghost use Rattle.std.specs.Prelude.{◌≡◌, ◌<◌, ◌^◌};
 ghost use Rattle.sqlite.specs.Held.{state};
 ghost use Rattle.acq_core.specs.declared.change.Change.TheVariants as change;
 ghost use Rattle.iso_codec.specs.Message.{IsMessage};
 ghost use Rattle.iso_codec.specs.Reading.{spelling};
 ghost use Rattle.acq_sql_writes.specs.Written.{IsShortEnd};
-ghost use Rattle.acq_sql_changes.specs.Changed.{ChangesWhole, HasRoomToReconcile, with_reconciled};
-ghost use Rattle.acq_sql_changes.specs.Refused.{FailsAmong, IsNextReconciliation};
+ghost use Rattle.acq_sql_changes.specs.Transactions.{ChangesInside};
+ghost use Rattle.acq_sql_changes.specs.Changed.{HasRoomToReconcile, with_reconciled};
+ghost use Rattle.acq_sql_changes.specs.Refused.{FailsInside, IsNextReconciliation};
 
 use crate::tallies::used_by;
 use acq_core::{Reconciliation, Request};
@@ -24,23 +25,20 @@ pub fn reconcile<'x, S: Alter>(
     number: u64,
     reconciliation: &'x Reconciliation,
 ) -> Result<(), Error>
-    requires settled { conn.old.in_transaction ≡ false }
     requires whole { IsMessage request.now.reply }
     requires spelled { reply.now ≡ spelling request.now.reply }
     requires hold_end { IsShortEnd request.now.hold_end }
     requires number { number < 2 ^ 63 }
-    ensures whole { ChangesWhole (state S.Store conn.old) (state S.Store conn.new) result
+    ensures changes { ChangesInside (state S.Store conn.old) (state S.Store conn.new) result
         (HasRoomToReconcile request.now number reconciliation.now)
         (with_reconciled request.now reconciliation.now) }
-    ensures fails { FailsAmong (state S.Store conn.old) (state S.Store conn.new) result
+    ensures fails { FailsInside (state S.Store conn.old) (state S.Store conn.new) result
         (change.Reconciled request.now reconciliation.now)
         (IsNextReconciliation number reconciliation.now) }
 {
     let used = used_by(request);
     let none = Totals::zero();
-    let mut tx = conn.transaction();
-    add_request(&mut tx, request, reply)?;
-    add_reconciliation(&mut tx, number, reconciliation)?;
-    raise(&mut tx, request.key.merchant, request.day, used, &none)?;
-    tx.commit()
+    add_request(conn, request, reply)?;
+    add_reconciliation(conn, number, reconciliation)?;
+    raise(conn, request.key.merchant, request.day, used, &none)
 }

@@ -16,6 +16,7 @@ use sqlite::{Alter, Connection, Error};
 /// that each range is widened.
 pub fn widen_book<S: Alter>(conn: &mut Connection<S>) -> Result<(), Error>
     requires settled { conn.old.in_transaction ≡ false }
+    ensures settled { conn.new.in_transaction ≡ false }
     ensures whole { ChangesWholeOf version_of_six_digits (state S.Store conn.old)
         (state S.Store conn.new) result (HasRangesUnder six_digits) widened_tables }
     ensures refused { FailsExcused version_of_six_digits (state S.Store conn.old)

@@ -7,7 +7,7 @@ use Rattle.day_totals.specs.Totals.{totals_of}
 use Rattle.acq_core.specs.Tables.{Opening, new_tables}
 use Rattle.acq_sql_rows.specs.Relation.{Holds, HoldsRows}
 use Rattle.acq_sql_writes.specs.Refused.{HasNumberLeft, HasNumbersLeft}
-use Rattle.acq_sql_changes.proofs.Commits.{at_commit}
+use Rattle.acq_sql_changes.proofs.Transactions.{at_commit}
 use Rattle.acq_sql_checking.specs.Made.{IsNewBook}
 
 -- nothing was counted or posted

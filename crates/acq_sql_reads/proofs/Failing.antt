@@ -59,7 +59,7 @@ use Rattle.acq_sql_rows.specs.Rows.{version, key_row, merchant_row, request_row,
 use Rattle.acq_sql_rows.specs.Tallies.{tally_of}
 use Rattle.acq_sql_rows.specs.Schema.{book_schema}
 use Rattle.acq_sql_rows.specs.Schema as schema
-use Rattle.acq_sql_rows.specs.Standing.{IsAtOf}
+use Rattle.acq_sql_rows.specs.Standing.{IsOpenOver}
 use Rattle.acq_sql_reads.specs.Failing.{FailsForMemory, FailsOnlyExcused, IsBalanceRow}
 use Rattle.acq_sql_reads.specs.Failing.{IsMerchantRow, IsRangeRow, IsRequestRow, IsTallyRow}
 use Rattle.acq_sql_reads.specs.Failing.{IsTold}
@@ -68,7 +68,7 @@ use Rattle.acq_sql_reads.specs.Looked.{TellsCount, count_up_to}
 use Rattle.acq_sql_reads.specs.Looked.{balance_cells, range_cells}
 use Rattle.acq_sql_reads.specs.Recorded.{ShowsRequest}
 use Rattle.acq_sql_reads.specs.Shown.{FailsToHandOver}
-use Rattle.acq_sql_reads.proofs.Leaves.{at_unchanged, clean_before}
+use Rattle.acq_sql_reads.proofs.Leaves.{open_unchanged, clean_before}
 use Rattle.acq_sql_reads.proofs.RowReads.{first_row}
 use Rattle.acq_sql_reads.specs.Texts as text
 use Rattle.acq_sql_reads.specs.Queries as query
@@ -288,7 +288,7 @@ count_succeeds tree test params typed db e has (inr (inr h)) = true≢false (sym
 -- so the query fails only for memory or since the store failed
 query_excused : (old new : State) (sql : List ℕ) (params : Row) (q : Query)
     (names : List (List ℕ)) → Asks sql q names → IsAlone sql (length params)
-    → IsNeverRefused q params → (t : Tables) → IsAtOf version old t → old.step_limit ≡ None
+    → IsNeverRefused q params → (t : Tables) → IsOpenOver version old t → old.step_limit ≡ None
     → (e : Error) → FailsToQuery sql params old new e → IsExcused old new e
 query_excused old new sql params q names ask lone succeeds t at free e h =
     elim (fails_to_show sql params old new book_schema at.holds.rows.schema
@@ -388,7 +388,7 @@ module _ {V : Type 0} (old new : State) (res : Result V Error) where
 
 -- a call that fails for memory, or as its query does
 module _ {V : Type 0} (old new : State) (res : Result V Error) (t : Tables)
-    (at : IsAtOf version old t) (free : old.step_limit ≡ None) where
+    (at : IsOpenOver version old t) (free : old.step_limit ≡ None) where
   abbrev HandedOver : List ℕ → Row → Type 0
   HandedOver sql params = IfErr res (FailsToHandOver sql params old new)
 
@@ -679,10 +679,10 @@ excused_from old mid new e up (inr more) = inr (omega (arith, up, more))
 
 -- the second failed so
 pub fails_then : (old mid new : State) (e : Error) (t : Tables) → LooksOnly old mid true
-    → Survives mid new (λ _. ⊥) → HasCleanDisk new → IsAtOf version old t
+    → Survives mid new (λ _. ⊥) → HasCleanDisk new → IsOpenOver version old t
     → old.step_limit ≡ None
-    → (IsAtOf version mid t → mid.step_limit ≡ None → IsExcused mid new e) → IsExcused old new e
+    → (IsOpenOver version mid t → mid.step_limit ≡ None → IsExcused mid new e) → IsExcused old new e
 fails_then old mid new e t first stops clean at free second =
     let before = clean_before old mid new first stops clean in
     excused_from old mid new e first.stop.counts
-    (second (at_unchanged old mid t (first.same before refl) at) (first.stop.limit ∙ free))
+    (second (open_unchanged old mid t (first.same before refl) at) (first.stop.limit ∙ free))

@@ -30,7 +30,7 @@ use Rattle.acq_soundness.proofs.Members.{In, from_In}
 use Rattle.acq_sql_rows.specs.Rows.{version, merchant_row, posting_row, request_row}
 use Rattle.acq_sql_rows.specs.Schema.{book_schema}
 use Rattle.acq_sql_rows.specs.Schema as schema
-use Rattle.acq_sql_rows.specs.Standing.{IsAtOf}
+use Rattle.acq_sql_rows.specs.Standing.{IsOpenOver}
 use Rattle.acq_sql_reads.specs.Failing.{CanBeWalked, IsMerchantRow, IsPostingRow, IsRequestRow}
 use Rattle.acq_sql_reads.specs.Shown.{FailsToHandOver, ShowsOnly}
 use Rattle.acq_sql_reads.specs.WalkTexts as text
@@ -155,7 +155,7 @@ module _ {T : Type 0} {sql : List ℕ} {params : Row} {old : State} {shows : Row
 -- ---- the walks
 
 module _ {V : Type 0} (old new : State) (res : Result V Error) (t : Tables)
-    (at : IsAtOf version old t) (past : HasPast t) (free : old.step_limit ≡ None) where
+    (at : IsOpenOver version old t) (past : HasPast t) (free : old.step_limit ≡ None) where
   -- where its query shows rows such as a book has
   abbrev Walked : List ℕ → Row → (Row → Type 0) → Type 0
   Walked sql params fits =

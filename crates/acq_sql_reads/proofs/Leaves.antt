@@ -17,7 +17,7 @@ use Rattle.row_lemmas.specs.Selects.{IsSelect}
 use Rattle.row_lemmas.proofs.BareQueries.{understood_bare, IsBareIfAny}
 use Rattle.acq_core.specs.Tables.{Tables}
 use Rattle.acq_sql_rows.specs.Relation.{HoldsOf, Holds}
-use Rattle.acq_sql_rows.specs.Standing.{IsAtOf}
+use Rattle.acq_sql_rows.specs.Standing.{IsAtOf, IsOpenOver}
 use Rattle.acq_sql_reads.specs.Looked.{LooksOnly}
 
 pub at_unchanged : {number : ℕ} (old new : State) (t : Tables) → IsUnchanged old new
@@ -27,6 +27,15 @@ at_unchanged {number} old new t h at =
       is_open = h.0.is_open;
       settled = h.0.mode ∙ at.settled;
       same = h.0.now_is ∙ at.same ∙ sym h.0.committed_is;
+      holds = subst (λ d. HoldsOf number d t) (sym h.0.now_is) at.holds;
+    }
+
+-- so is a connection that is open over it, in a transaction or not
+pub open_unchanged : {number : ℕ} (old new : State) (t : Tables) → IsUnchanged old new
+    → IsOpenOver number old t → IsOpenOver number new t
+open_unchanged {number} old new t h at =
+    record {
+      is_open = h.0.is_open;
       holds = subst (λ d. HoldsOf number d t) (sym h.0.now_is) at.holds;
     }
 

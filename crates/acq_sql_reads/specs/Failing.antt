@@ -22,7 +22,7 @@ use Rattle.acq_book.specs.Lookups.{merchant_at}
 use Rattle.acq_soundness.specs.Rows.{FitsMerchant, FitsPosting, FitsRequest}
 use Rattle.acq_sql_rows.specs.Rows.{version, merchant_row, posting_row, tally_row}
 use Rattle.acq_sql_rows.specs.Tallies.{Tally}
-use Rattle.acq_sql_rows.specs.Standing.{FailsExcused}
+use Rattle.acq_sql_rows.specs.Standing.{FailsExcusedAt, IsOpenOver}
 use Rattle.acq_sql_reads.specs.Looked.{balance_cells, range_cells}
 use Rattle.acq_sql_reads.specs.Recorded.{IsRowOf}
 
@@ -35,16 +35,16 @@ abbrev pub NeedsText : {T : Type 0} → Value → Result T Error → Type 0
 NeedsText value result =
     IfErr result (λ e. e ≡ SqliteFailure code.OutOfMemory → (text : List ℕ) × (value ≡ Text text))
 
--- over a book whose tables events led to, with no limit of steps set, a look-up fails only for
--- memory or since the store failed
+-- over a book whose tables events led to, in a transaction or not, with no limit of steps set, a
+-- look-up fails only for memory or since the store failed
 abbrev pub FailsOnlyExcused : {T : Type 0} → State → State → Result T Error → Type 0
-FailsOnlyExcused old new result = FailsExcused version old new result HasPast
+FailsOnlyExcused old new result = FailsExcusedAt (IsOpenOver version) old new result HasPast
 
 -- the same, of tables of which this is so too
 abbrev pub FailsOnlyExcusedWhere :
     {T : Type 0} → State → State → Result T Error → (Tables → Type 0) → Type 0
 FailsOnlyExcusedWhere old new result fits =
-    FailsExcused version old new result (λ t. HasPast t × fits t)
+    FailsExcusedAt (IsOpenOver version) old new result (λ t. HasPast t × fits t)
 
 -- the row is that of a merchant whose columns are such as a book has
 abbrev pub IsMerchantRow : Row → Type 0

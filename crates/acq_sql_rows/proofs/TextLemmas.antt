@@ -1,8 +1,10 @@
 -- What the texts of the writes mean, computed.
 use Rattle.std.proofs.Common.{◌≡◌, List, ℕ, refl, [], ◌∷◌, length}
+use Rattle.sqlite_schema.specs.declared.schema.Schema.{Schema}
 use Rattle.sqlite_schema.specs.declared.command.Command.{Command}
 use Rattle.sqlite_schema.specs.declared.command.Command.TheVariants.{Insert, InsertOr, Update}
-use Rattle.sqlite_schema.specs.declared.command.Command.TheVariants.{Delete}
+use Rattle.sqlite_schema.specs.declared.command.Command.TheVariants.{Delete, Begin, Commit}
+use Rattle.sqlite_schema.specs.declared.command.Command.TheVariants.{Rollback}
 use Rattle.sqlite_schema.specs.declared.command.Conflict.TheVariants.{Abort}
 use Rattle.sqlite_schema.specs.declared.command.Source.TheVariants.{Values}
 use Rattle.sqlite_tied.specs.Compute.{everything}
@@ -26,6 +28,29 @@ Means text command =
 pub record IsAlone (text : List ℕ) : Type 0 where
   pub whole : tail_of (understood book_schema text) ≡ length text
   pub given : names_of (understood book_schema text) ≡ 0
+
+-- ---- what begins and ends a transaction means the same over any schema
+
+-- the text is one statement over this schema, which is this command, and has no parameter
+pub record IsCommand (schema : Schema) (text : List ℕ) (command : Command) : Type 0 where
+  pub is : command_of (understood schema text) ≡ command
+  pub plain : IsPlain (understood schema text)
+  pub whole : tail_of (understood schema text) ≡ length text
+  pub given : names_of (understood schema text) ≡ 0
+
+pub begin_is : (schema : Schema) → IsCommand schema text.begin_text Begin
+unfolding understood everything
+begin_is schema = record { is = refl; plain = (refl, refl); whole = refl; given = refl }
+
+pub commit_is : (schema : Schema) → IsCommand schema text.commit_text Commit
+unfolding understood everything
+commit_is schema = record { is = refl; plain = (refl, refl); whole = refl; given = refl }
+
+pub rollback_is : (schema : Schema) → IsCommand schema text.rollback_text Rollback
+unfolding understood everything
+rollback_is schema = record { is = refl; plain = (refl, refl); whole = refl; given = refl }
+
+-- ---- the writes
 
 pub add_book_means : Means text.add_book_text (Insert 0 (Values (new_row 3) 4))
 unfolding understood everything book_schema schema.up_to_reconciliations schema.up_to_postings

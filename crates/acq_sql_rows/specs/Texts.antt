@@ -1,5 +1,6 @@
--- The texts of the writes (`src/texts.rt`).
+-- The texts of the writes, and of what begins and ends a transaction (`src/texts.rt`).
 use Rattle.std.specs.Prelude.{List, ℕ}
+use Rattle.acq_sql_rows.specs.declared.texts.TheConstants.{BEGIN, COMMIT, ROLLBACK}
 use Rattle.acq_sql_rows.specs.declared.texts.TheConstants.{ADD_BOOK, SET_DAY, ADD_MERCHANT}
 use Rattle.acq_sql_rows.specs.declared.texts.TheConstants.{ADD_TERMINAL}
 use Rattle.acq_sql_rows.specs.declared.texts.TheConstants.{ADD_RANGE, DROP_RANGE, WIDEN_RANGES}
@@ -7,6 +8,15 @@ use Rattle.acq_sql_rows.specs.declared.texts.TheConstants.{TURN_RANGES, SET_VERS
 use Rattle.acq_sql_rows.specs.declared.texts.TheConstants.{ANSWER}
 use Rattle.acq_sql_rows.specs.declared.texts.TheConstants.{FOLLOW, ADD_POSTING, ADD_RECONCILIATION}
 use Rattle.acq_sql_rows.specs.declared.texts.TheConstants.{RAISE}
+
+abbrev pub begin_text : List ℕ
+begin_text = BEGIN.now
+
+abbrev pub commit_text : List ℕ
+commit_text = COMMIT.now
+
+abbrev pub rollback_text : List ℕ
+rollback_text = ROLLBACK.now
 
 abbrev pub add_book_text : List ℕ
 add_book_text = ADD_BOOK.now

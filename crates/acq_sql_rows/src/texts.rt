@@ -1,4 +1,14 @@
-//! The texts of the writes. `specs/Queries.antt` says what they mean.
+//! The texts of the writes, and of what begins and ends a transaction. `specs/Queries.antt` says
+//! what the writes mean.
+
+/// A transaction begins.
+pub const BEGIN: &str = "BEGIN";
+
+/// It is committed.
+pub const COMMIT: &str = "COMMIT";
+
+/// It is rolled back.
+pub const ROLLBACK: &str = "ROLLBACK";
 
 /// The row of a new book.
 pub const ADD_BOOK: &str = "INSERT INTO book VALUES (?1, ?2, ?3)";

@@ -13,6 +13,7 @@ pub mod RequestsTaken
 pub mod RangesTaken
 pub mod RaisesTaken
 pub mod Refusals
+pub mod Executed
 pub mod Inside
 pub mod Bound
 pub mod RunningTotals

@@ -11,14 +11,14 @@ use Rattle.sqlite.specs.declared.error.Error.{Error}
 use Rattle.sqlite.specs.Does.{Does}
 use Rattle.sqlite.specs.Effect.{Database}
 use Rattle.sqlite.specs.Listing.{understood}
-use Rattle.sqlite.specs.State.{State, HasCleanDisk, mode_of, ExecutesInside}
+use Rattle.sqlite.specs.State.{State, HasCleanDisk, mode_of}
 use Rattle.sqlite.proofs.Callers.{statement_of}
 use Rattle.row_lemmas.specs.Excused.{IsExcused}
 use Rattle.row_lemmas.specs.Queries.{alone}
 use Rattle.row_lemmas.specs.Values.{number}
 use Rattle.row_lemmas.proofs.StatementFailures.{IsSteady, steady_insert, steady_update}
 use Rattle.row_lemmas.proofs.StatementFailures.{steady_upsert, steady_delete}
-use Rattle.row_lemmas.proofs.StatementFailures.{inside_excused}
+use Rattle.row_lemmas.proofs.StatementFailures.{excused_alone, inside_excused}
 use Rattle.card_no.specs.Prefix.{six_digits, eight_digits}
 use Rattle.card_no.specs.declared.range.Range.{Range}
 use Rattle.iso_codec.specs.Message.{IsoMessage, IsMessage}
@@ -43,7 +43,7 @@ use Rattle.acq_sql_rows.specs.Tallies.{Tally, Running}
 use Rattle.acq_sql_rows.specs.Relation.{HoldsRows}
 use Rattle.acq_sql_rows.proofs.TextLemmas as text_means
 use Rattle.acq_sql_rows.proofs.TextLemmas.{Means, IsAlone}
-use Rattle.acq_sql_writes.specs.Written.{Executes}
+use Rattle.acq_sql_writes.specs.Written.{Executes, ExecutesInside}
 use Rattle.acq_sql_writes.specs.Refused.{AnyTables, HasTables, IsEmptyBook, HasShortRequests}
 use Rattle.acq_sql_writes.specs.Refused.{TakesMerchant, TakesTerminal, TakesRequest, TakesPosting}
 use Rattle.acq_sql_writes.specs.Refused.{TakesReconciliation, TakesRange, HasRuns, TakesMore}
@@ -67,18 +67,15 @@ use Rattle.acq_sql_writes.proofs.Moves.{day_succeeds}
 alone_whole : (sql : List ℕ) → IsAlone sql → IsWhole sql 0
 alone_whole sql lone = record { whole = lone.whole; given = lone.given }
 
--- what is so of an error, however many rows a success would have changed
-of_error : (sql : List ℕ) (params : Row) (old new : State) (P : Error → Type 0)
-    (res : Result (Unit {0}) Error) → Executes sql params old new res
-    → ((r : Result ℕ Error) → ExecutesInside 0 sql params old new r → IfErr r P) → IfErr res P
-of_error sql params old new P (Ok done) executed all = tt
-of_error sql params old new P (Err e) executed all = all (Err e) executed
-
 module _ (old new : State) (res : Result (Unit {0}) Error) where
-  -- the statement was executed in the transaction
+  -- the statement was executed
   abbrev Executed : List ℕ → Row → Type 0
-  Executed sql params =
-      HasCleanDisk new → IsTrue old.in_transaction → Executes sql params old new res
+  Executed sql params = HasCleanDisk new → Executes sql params old new res
+
+  -- or in a transaction that ends where it is dropped
+  abbrev Guarded : List ℕ → Row → Type 0
+  Guarded sql params =
+      HasCleanDisk new → IsTrue old.in_transaction → ExecutesInside sql params old new res
 
   -- the command never stops
   abbrev NeverStops : List ℕ → Row → Command → Type 0
@@ -95,10 +92,31 @@ module _ (old new : State) (res : Result (Unit {0}) Error) where
       → Executed sql params → IsNeverRefused old new res fits
   never fits sql params command means whole steady schema_is succeeds executed clean inside opened
       free fit =
-      of_error sql params old new (IsExcused old new) res (executed clean inside)
-      (inside_excused sql params old new book_schema (schema_is fit) command means.0
-      means.1 (omega (arith, whole.whole)) (sym whole.given) opened steady free
-      (succeeds fit))
+      go res (executed clean)
+    where
+      go : (r : Result (Unit {0}) Error) → Executes sql params old new r
+          → IfErr r (IsExcused old new)
+      go (Ok done) h = tt
+      go (Err e) h =
+          excused_alone sql params old new book_schema (schema_is fit) command means.0 means.1
+          (omega (arith, whole.whole)) (sym whole.given) opened steady
+          (λ (stop, does). succeeds fit stop (rw free at does)) e h
+
+  never_guarded : (fits : Database → Type 0) (sql : List ℕ) (params : Row) (command : Command)
+      → Means sql command → IsWhole sql (length params) → IsSteady old command
+      → (fits old.now → old.now.schema ≡ book_schema)
+      → (fits old.now → NeverStops sql params command)
+      → Guarded sql params → IsNeverRefused old new res fits
+  never_guarded fits sql params command means whole steady schema_is succeeds executed clean inside
+      opened free fit =
+      go res (executed clean inside)
+    where
+      go : (r : Result (Unit {0}) Error) → ExecutesInside sql params old new r
+          → IfErr r (IsExcused old new)
+      go (Ok done) h = tt
+      go (Err e) h =
+          inside_excused sql params old new book_schema (schema_is fit) command means.0 means.1
+          (omega (arith, whole.whole)) (sym whole.given) opened steady free (succeeds fit) (Err e) h
 
   -- of the rows of tables
   of_tables : (fits : Tables → Type 0) (sql : List ℕ) (params : Row) (command : Command)
@@ -111,10 +129,10 @@ module _ (old new : State) (res : Result (Unit {0}) Error) where
       (λ (t, runs, fit, has). has.schema) (λ (t, runs, fit, has). succeeds t runs has fit)
 
   pub book_excused : (opening : Opening)
-      → Executed text.add_book_text (book_row opening.limit opening.first_day)
+      → Guarded text.add_book_text (book_row opening.limit opening.first_day)
       → IsNeverRefused old new res IsEmptyBook
   book_excused opening =
-      never IsEmptyBook text.add_book_text (book_row opening.limit opening.first_day)
+      never_guarded IsEmptyBook text.add_book_text (book_row opening.limit opening.first_day)
       (Insert 0 (Values (new_row 3) 4)) text_means.add_book_means ends.add_book_whole
       (steady_insert old 0 (Values (new_row 3) 4)) (λ empty. empty.rows.schema_is)
       (book_succeeds (mode_of old) old.now
@@ -241,10 +259,11 @@ module _ (old new : State) (res : Result (Unit {0}) Error) where
       (statement_of text.raise_text (understood book_schema text.raise_text)) t runs has named
       takes)
 
-  pub widening_excused : Executed text.widen_ranges_text []
+  pub widening_excused : Guarded text.widen_ranges_text []
       → IsNeverRefused old new res (HasRangesOf six_digits)
   widening_excused =
-      never (HasRangesOf six_digits) text.widen_ranges_text [] (Update 3 (alone widen_ranges_query))
+      never_guarded (HasRangesOf six_digits) text.widen_ranges_text []
+      (Update 3 (alone widen_ranges_query))
       text_means.widen_ranges_means
       (alone_whole text.widen_ranges_text text_means.widen_ranges_alone)
       (steady_update old 3 (alone widen_ranges_query))
@@ -253,10 +272,10 @@ module _ (old new : State) (res : Result (Unit {0}) Error) where
       (statement_of text.widen_ranges_text (understood book_schema text.widen_ranges_text)) number t
       runs six has)
 
-  pub turning_excused : Executed text.turn_ranges_text []
+  pub turning_excused : Guarded text.turn_ranges_text []
       → IsNeverRefused old new res (HasTurnedRangesOf eight_digits)
   turning_excused =
-      never (HasTurnedRangesOf eight_digits) text.turn_ranges_text []
+      never_guarded (HasTurnedRangesOf eight_digits) text.turn_ranges_text []
       (Update 3 (alone turn_ranges_query))
       text_means.turn_ranges_means (alone_whole text.turn_ranges_text text_means.turn_ranges_alone)
       (steady_update old 3 (alone turn_ranges_query))
@@ -265,10 +284,11 @@ module _ (old new : State) (res : Result (Unit {0}) Error) where
       (statement_of text.turn_ranges_text (understood book_schema text.turn_ranges_text)) number t
       runs eight has)
 
-  pub setting_excused : Executed text.set_version_text []
+  pub setting_excused : Guarded text.set_version_text []
       → IsNeverRefused old new res (HasRangesOf eight_digits)
   setting_excused =
-      never (HasRangesOf eight_digits) text.set_version_text [] (Update 0 (alone set_version_query))
+      never_guarded (HasRangesOf eight_digits) text.set_version_text []
+      (Update 0 (alone set_version_query))
       text_means.set_version_means (alone_whole text.set_version_text text_means.set_version_alone)
       (steady_update old 0 (alone set_version_query))
       (λ (number, t, runs, eight, has). has.schema)

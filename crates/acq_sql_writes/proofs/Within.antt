@@ -10,7 +10,7 @@ use Rattle.sqlite.specs.State.{State, HasCleanDisk, KeepsCommit}
 use Rattle.sqlite.specs.State.{Survives}
 use Rattle.sqlite.proofs.StateLemmas.{survives_then}
 use Rattle.sqlite.proofs.Callers.{survives_begin}
-use Rattle.acq_sql_writes.specs.Written.{WritesInside}
+use Rattle.acq_sql_writes.specs.Written.{WritesGuarded}
 
 -- a disk that is clean after a call was so before it
 pub was_clean : (a b : ℕ) → a ≤ b → b ≡ 0 → a ≡ 0
@@ -51,7 +51,7 @@ module _ {S : Type 0} (g : store.Ghosts S) (old begin : Held S)
   same_rows = rw is refl
 
 module _ (old mid new : State) (so_far : IsWithin old mid) {T : Type 0} (result : Result T Error)
-    (Leads : Database → Database → Type 0) (write : WritesInside mid new result Leads) where
+    (Leads : Database → Database → Type 0) (write : WritesGuarded mid new result Leads) where
   pub clean_before : HasCleanDisk new → HasCleanDisk mid
   clean_before clean = was_clean _ _ write.stop.clean clean
 
@@ -72,7 +72,7 @@ module _ (old mid new : State) (so_far : IsWithin old mid) {T : Type 0} (result 
 
 module _ {old mid new : State} {done : Unit {0}} {Leads : Database → Database → Type 0} where
   -- one that succeeded leaves it open
-  pub within_still : IsWithin old mid → WritesInside mid new (Ok done) Leads → IsWithin old new
+  pub within_still : IsWithin old mid → WritesGuarded mid new (Ok done) Leads → IsWithin old new
   within_still so_far write =
       let shows = λ (clean : HasCleanDisk new). write.inside clean
       (so_far.inside (clean_before _ _ _ so_far _ _ write clean)) in

@@ -1,13 +1,12 @@
 -- What a write inside a transaction does, and what each write makes of the tables.
-use Rattle.std.specs.Prelude.{◌≡◌, ◌⊎◌, ℕ, ◌<◌, ◌^◌, true, false, List, [], ◌∷◌, ◌++◌, Option}
+use Rattle.std.specs.Prelude.{◌≡◌, ◌⊎◌, ℕ, ◌<◌, ◌^◌, true, List, [], ◌∷◌, ◌++◌, Option}
 use Rattle.std.specs.Prelude.{IfSome, Result, Ok, Err, OnOk, OnErr, IsTrue}
 use Rattle.sqlite_value.specs.Order.{Row}
-use Rattle.sqlite.specs.declared.error.ErrorCode.TheVariants as code
 use Rattle.sqlite.specs.declared.error.Error.{Error}
-use Rattle.sqlite.specs.declared.error.Error.TheVariants.{SqliteFailure}
 use Rattle.sqlite.specs.Effect.{Database}
 use Rattle.sqlite.specs.State.{State, HasCleanDisk, KeepsCommit, Shows, Survives}
-use Rattle.sqlite.specs.State.{IsUnchanged, IsRolledBack, ExecutesInside}
+use Rattle.sqlite.specs.State.{IsUnchanged, IsRolledBack}
+use Rattle.sqlite.specs.State.{Executes as Runs, ExecutesInside as RunsInside}
 use Rattle.row_lemmas.specs.Created.{IsBlank}
 use Rattle.iso_codec.specs.Message.{IsoMessage}
 use Rattle.card_no.specs.declared.range.Range.{Range}
@@ -41,13 +40,6 @@ ChangesNothing old new result =
     HasCleanDisk new → IsTrue old.in_transaction
     → OnErr result (IsUnchanged old new ⊎ IsRolledBack old new)
 
--- in a transaction that has ended a call is refused, and changes nothing
-abbrev pub RefusesEnded : {T : Type 0} → State → State → Result T Error → Type 0
-RefusesEnded old new result =
-    old.in_transaction ≡ false
-    → (result ≡ Err (SqliteFailure code.TransactionState))
-    × (IsTrue old.is_open → IsUnchanged old new)
-
 -- what was committed stays as it was
 abbrev pub KeepsCommitted : State → State → Type 0
 KeepsCommitted old new = HasCleanDisk new → IsTrue old.in_transaction → KeepsCommit old new
@@ -56,20 +48,37 @@ KeepsCommitted old new = HasCleanDisk new → IsTrue old.in_transaction → Keep
 abbrev pub CommitsNothing : State → State → Type 0
 CommitsNothing old new = Survives old new (λ _. ⊥)
 
+-- nor of a write in a transaction over the book's tables
+abbrev pub CommitsNothingInside : State → State → Type 0
+CommitsNothingInside old new =
+    Survives old new (λ _. old.now.schema ≡ book_schema → IsTrue old.in_transaction → ⊥)
+
 -- a statement was executed, whatever the number of rows that it changed
 abbrev pub Executes : List ℕ → Row → State → State → Result (Unit {0}) Error → Type 0
-Executes sql params old new (Ok done) =
-    (count : ℕ) × ExecutesInside 0 sql params old new (Ok count)
-Executes sql params old new (Err e) = ExecutesInside 0 sql params old new (Err e)
+Executes sql params old new (Ok done) = (count : ℕ) × Runs sql params old new (Ok count)
+Executes sql params old new (Err e) = Runs sql params old new (Err e)
 
--- A write inside a transaction commits nothing, and one that succeeded leads from the database
--- before it to the one after it so. One that failed leaves nothing of itself.
+-- the same in a transaction that ends where it is dropped
+abbrev pub ExecutesInside : List ℕ → Row → State → State → Result (Unit {0}) Error → Type 0
+ExecutesInside sql params old new (Ok done) =
+    (count : ℕ) × RunsInside 0 sql params old new (Ok count)
+ExecutesInside sql params old new (Err e) = RunsInside 0 sql params old new (Err e)
+
+-- A write in a transaction over the book's tables commits nothing, and one that succeeded leads
+-- from the database before it to the one after it so. One that failed leaves nothing of itself.
 pub record WritesInside {T : Type 0} (old new : State) (result : Result T Error)
+    (Leads : Database → Database → Type 0) : Type 0 where
+  pub leads : HasCleanDisk new → IsTrue old.in_transaction → OnOk result (Leads old.now new.now)
+  pub inside : old.now.schema ≡ book_schema → StaysInside old new result
+  pub undone : ChangesNothing old new result
+  pub stop : CommitsNothingInside old new
+
+-- the same of any write in a transaction that ends where it is dropped, whatever the tables are
+pub record WritesGuarded {T : Type 0} (old new : State) (result : Result T Error)
     (Leads : Database → Database → Type 0) : Type 0 where
   pub leads : HasCleanDisk new → IsTrue old.in_transaction → OnOk result (Leads old.now new.now)
   pub inside : StaysInside old new result
   pub undone : ChangesNothing old new result
-  pub ended : RefusesEnded old new result
   pub kept : KeepsCommitted old new
   pub stop : CommitsNothing old new
 

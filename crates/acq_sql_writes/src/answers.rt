@@ -14,11 +14,11 @@ use acq_core::{Remains, RequestKey, Status};
 use acq_sql_rows::{amount_value, hold_end_value, status_value, texts};
 use iso_codec::Message;
 use sqlite::types::ValueRef;
-use sqlite::{Alter, Error, Transaction};
+use sqlite::{Alter, Connection, Error};
 
 /// Gives the request with a key a status, a reply, which is spelled so, and the end of its hold.
 pub fn answer_request<'x, S: Alter>(
-    tx: &mut Transaction<'_, S>,
+    conn: &mut Connection<S>,
     key: RequestKey,
     status: Status,
     hold_end: Option<u64>,
@@ -28,11 +28,10 @@ pub fn answer_request<'x, S: Alter>(
     requires whole { IsMessage reply.now }
     requires spelled { spelled.now ≡ spelling reply.now }
     requires hold_end { IsShortEnd hold_end }
-    ensures same_reference { tx.new.conn.ghost_name ≡ tx.old.conn.ghost_name }
-    ensures writes { WritesInside (state S.Store tx.old.conn.now) (state S.Store tx.new.conn.now)
+    ensures writes { WritesInside (state S.Store conn.old) (state S.Store conn.new)
         result (Changes (with_answer key status reply.now hold_end)) }
-    ensures fails { IsNeverRefused (state S.Store tx.old.conn.now)
-        (state S.Store tx.new.conn.now) result (HasTables HasShortRequests) }
+    ensures fails { IsNeverRefused (state S.Store conn.old)
+        (state S.Store conn.new) result (HasTables HasShortRequests) }
 {
     let merchant = key.merchant.to_bytes();
     let terminal = key.terminal.to_bytes();
@@ -40,7 +39,7 @@ pub fn answer_request<'x, S: Alter>(
     let trace = key.trace.to_bytes();
     let stamp = key.transmission.to_bytes();
     execute(
-        tx,
+        conn,
         texts::ANSWER,
         &[
             ValueRef::Text(&merchant),
@@ -57,15 +56,14 @@ pub fn answer_request<'x, S: Alter>(
 
 /// Leaves of the request with a key what remains of it.
 pub fn follow_request<S: Alter>(
-    tx: &mut Transaction<'_, S>,
+    conn: &mut Connection<S>,
     key: RequestKey,
     remains: Remains,
 ) -> Result<(), Error>
-    ensures same_reference { tx.new.conn.ghost_name ≡ tx.old.conn.ghost_name }
-    ensures writes { WritesInside (state S.Store tx.old.conn.now) (state S.Store tx.new.conn.now)
+    ensures writes { WritesInside (state S.Store conn.old) (state S.Store conn.new)
         result (Changes (with_remains key remains)) }
-    ensures fails { IsNeverRefused (state S.Store tx.old.conn.now)
-        (state S.Store tx.new.conn.now) result (HasTables HasShortRequests) }
+    ensures fails { IsNeverRefused (state S.Store conn.old)
+        (state S.Store conn.new) result (HasTables HasShortRequests) }
 {
     let merchant = key.merchant.to_bytes();
     let terminal = key.terminal.to_bytes();
@@ -73,7 +71,7 @@ pub fn follow_request<S: Alter>(
     let trace = key.trace.to_bytes();
     let stamp = key.transmission.to_bytes();
     execute(
-        tx,
+        conn,
         texts::FOLLOW,
         &[
             ValueRef::Text(&merchant),

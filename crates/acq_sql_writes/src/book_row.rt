@@ -2,11 +2,11 @@
 
 ghost use Rattle.std.specs.Prelude.{◌≡◌};
 ghost use Rattle.sqlite.specs.Held.{state};
-ghost use Rattle.acq_sql_writes.specs.Written.{WritesInside, BeginsBook};
+ghost use Rattle.acq_sql_writes.specs.Written.{WritesGuarded, BeginsBook};
 ghost use Rattle.acq_sql_writes.specs.Widened.{IsNeverRefused};
 ghost use Rattle.acq_sql_writes.specs.Refused.{IsEmptyBook};
 
-use crate::statement::execute;
+use crate::statement::execute_in;
 use acq_core::Limit;
 use acq_sql_rows::tables::VERSION;
 use acq_sql_rows::{day_value, short_value, texts};
@@ -21,12 +21,12 @@ pub fn add_book<S: Alter>(
     first_day: Day,
 ) -> Result<(), Error>
     ensures same_reference { tx.new.conn.ghost_name ≡ tx.old.conn.ghost_name }
-    ensures writes { WritesInside (state S.Store tx.old.conn.now) (state S.Store tx.new.conn.now)
+    ensures writes { WritesGuarded (state S.Store tx.old.conn.now) (state S.Store tx.new.conn.now)
         result (BeginsBook (record { limit = limit; first_day = first_day })) }
     ensures fails { IsNeverRefused (state S.Store tx.old.conn.now)
         (state S.Store tx.new.conn.now) result IsEmptyBook }
 {
-    execute(
+    execute_in(
         tx,
         texts::ADD_BOOK,
         &[

@@ -11,36 +11,34 @@ use acq_core::Reconciliation;
 use acq_sql_rows::{bit_value, day_value, number_value, texts};
 use day_totals::Day;
 use sqlite::types::ValueRef;
-use sqlite::{Alter, Error, Transaction};
+use sqlite::{Alter, Connection, Error};
 
 /// Begins a business day.
-pub fn set_day<S: Alter>(tx: &mut Transaction<'_, S>, day: Day) -> Result<(), Error>
-    ensures same_reference { tx.new.conn.ghost_name ≡ tx.old.conn.ghost_name }
-    ensures writes { WritesInside (state S.Store tx.old.conn.now) (state S.Store tx.new.conn.now)
+pub fn set_day<S: Alter>(conn: &mut Connection<S>, day: Day) -> Result<(), Error>
+    ensures writes { WritesInside (state S.Store conn.old) (state S.Store conn.new)
         result (Changes (on_day day)) }
-    ensures fails { IsNeverRefused (state S.Store tx.old.conn.now)
-        (state S.Store tx.new.conn.now) result (HasTables AnyTables) }
+    ensures fails { IsNeverRefused (state S.Store conn.old)
+        (state S.Store conn.new) result (HasTables AnyTables) }
 {
-    execute(tx, texts::SET_DAY, &[day_value(day)])
+    execute(conn, texts::SET_DAY, &[day_value(day)])
 }
 
 /// Adds a reconciliation, with its number of the merchant and day.
 pub fn add_reconciliation<S: Alter>(
-    tx: &mut Transaction<'_, S>,
+    conn: &mut Connection<S>,
     number: u64,
     reconciliation: &Reconciliation,
 ) -> Result<(), Error>
     requires { number < 2 ^ 63 }
-    ensures same_reference { tx.new.conn.ghost_name ≡ tx.old.conn.ghost_name }
-    ensures writes { WritesInside (state S.Store tx.old.conn.now) (state S.Store tx.new.conn.now)
+    ensures writes { WritesInside (state S.Store conn.old) (state S.Store conn.new)
         result (Changes (with_reconciliation number reconciliation.now)) }
-    ensures fails { IsNeverRefused (state S.Store tx.old.conn.now)
-        (state S.Store tx.new.conn.now) result
+    ensures fails { IsNeverRefused (state S.Store conn.old)
+        (state S.Store conn.new) result
         (HasTables (TakesReconciliation number reconciliation.now)) }
 {
     let merchant = reconciliation.merchant.to_bytes();
     execute(
-        tx,
+        conn,
         texts::ADD_RECONCILIATION,
         &[
             ValueRef::Text(&merchant),

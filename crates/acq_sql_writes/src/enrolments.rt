@@ -10,20 +10,19 @@ use crate::statement::execute;
 use acq_core::{Merchant, Terminal};
 use acq_sql_rows::{first_reference_value, texts};
 use sqlite::types::ValueRef;
-use sqlite::{Alter, Error, Transaction};
+use sqlite::{Alter, Connection, Error};
 
 /// Adds a merchant.
-pub fn add_merchant<S: Alter>(tx: &mut Transaction<'_, S>, merchant: &Merchant) -> Result<(), Error>
-    ensures same_reference { tx.new.conn.ghost_name ≡ tx.old.conn.ghost_name }
-    ensures writes { WritesInside (state S.Store tx.old.conn.now) (state S.Store tx.new.conn.now)
+pub fn add_merchant<S: Alter>(conn: &mut Connection<S>, merchant: &Merchant) -> Result<(), Error>
+    ensures writes { WritesInside (state S.Store conn.old) (state S.Store conn.new)
         result (Changes (with_merchant merchant.now)) }
-    ensures fails { IsNeverRefused (state S.Store tx.old.conn.now)
-        (state S.Store tx.new.conn.now) result (HasTables (TakesMerchant merchant.now)) }
+    ensures fails { IsNeverRefused (state S.Store conn.old)
+        (state S.Store conn.new) result (HasTables (TakesMerchant merchant.now)) }
 {
     let id = merchant.id.to_bytes();
     let currency = merchant.currency.to_bytes();
     execute(
-        tx,
+        conn,
         texts::ADD_MERCHANT,
         &[
             ValueRef::Text(&id),
@@ -34,17 +33,16 @@ pub fn add_merchant<S: Alter>(tx: &mut Transaction<'_, S>, merchant: &Merchant) 
 }
 
 /// Adds a terminal.
-pub fn add_terminal<S: Alter>(tx: &mut Transaction<'_, S>, terminal: &Terminal) -> Result<(), Error>
-    ensures same_reference { tx.new.conn.ghost_name ≡ tx.old.conn.ghost_name }
-    ensures writes { WritesInside (state S.Store tx.old.conn.now) (state S.Store tx.new.conn.now)
+pub fn add_terminal<S: Alter>(conn: &mut Connection<S>, terminal: &Terminal) -> Result<(), Error>
+    ensures writes { WritesInside (state S.Store conn.old) (state S.Store conn.new)
         result (Changes (with_terminal terminal.now)) }
-    ensures fails { IsNeverRefused (state S.Store tx.old.conn.now)
-        (state S.Store tx.new.conn.now) result (HasTables (TakesTerminal terminal.now)) }
+    ensures fails { IsNeverRefused (state S.Store conn.old)
+        (state S.Store conn.new) result (HasTables (TakesTerminal terminal.now)) }
 {
     let merchant = terminal.merchant.to_bytes();
     let id = terminal.id.to_bytes();
     execute(
-        tx,
+        conn,
         texts::ADD_TERMINAL,
         &[ValueRef::Text(&merchant), ValueRef::Text(&id)],
     )

@@ -23,4 +23,5 @@ pub use postings::add_posting;
 pub use ranges::{add_range, drop_range};
 pub use requests::add_request;
 pub use running::raise;
+pub use statement::execute;
 pub use widening::{set_version, turn_ranges, widen_ranges};

@@ -10,26 +10,25 @@ use crate::statement::execute;
 use acq_core::Posting;
 use acq_sql_rows::{amount_value, day_value, leg_value, number_value, reference_value, texts};
 use sqlite::types::ValueRef;
-use sqlite::{Alter, Error, Transaction};
+use sqlite::{Alter, Connection, Error};
 
 /// Adds a posting, with its number of the merchant and day.
 pub fn add_posting<S: Alter>(
-    tx: &mut Transaction<'_, S>,
+    conn: &mut Connection<S>,
     number: u64,
     posting: &Posting,
 ) -> Result<(), Error>
     requires { number < 2 ^ 63 }
-    ensures same_reference { tx.new.conn.ghost_name ≡ tx.old.conn.ghost_name }
-    ensures writes { WritesInside (state S.Store tx.old.conn.now) (state S.Store tx.new.conn.now)
+    ensures writes { WritesInside (state S.Store conn.old) (state S.Store conn.new)
         result (Changes (with_posting number posting.now)) }
-    ensures fails { IsNeverRefused (state S.Store tx.old.conn.now)
-        (state S.Store tx.new.conn.now) result (HasTables (TakesPosting number posting.now)) }
+    ensures fails { IsNeverRefused (state S.Store conn.old)
+        (state S.Store conn.new) result (HasTables (TakesPosting number posting.now)) }
 {
     let merchant = posting.merchant.to_bytes();
     let terminal = posting.terminal.to_bytes();
     let trace = posting.trace.to_bytes();
     execute(
-        tx,
+        conn,
         texts::ADD_POSTING,
         &[
             ValueRef::Text(&merchant),

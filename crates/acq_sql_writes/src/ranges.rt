@@ -11,18 +11,17 @@ use crate::statement::execute;
 use acq_sql_rows::{short_value, texts};
 use card_no::Range;
 use sqlite::types::ValueRef;
-use sqlite::{Alter, Error, Transaction};
+use sqlite::{Alter, Connection, Error};
 
 /// Adds a range.
-pub fn add_range<S: Alter>(tx: &mut Transaction<'_, S>, range: &Range) -> Result<(), Error>
-    ensures same_reference { tx.new.conn.ghost_name ≡ tx.old.conn.ghost_name }
-    ensures writes { WritesInside (state S.Store tx.old.conn.now) (state S.Store tx.new.conn.now)
+pub fn add_range<S: Alter>(conn: &mut Connection<S>, range: &Range) -> Result<(), Error>
+    ensures writes { WritesInside (state S.Store conn.old) (state S.Store conn.new)
         result (Changes (with_added_range range.now)) }
-    ensures fails { IsNeverRefused (state S.Store tx.old.conn.now)
-        (state S.Store tx.new.conn.now) result (HasTables (TakesRange range.now)) }
+    ensures fails { IsNeverRefused (state S.Store conn.old)
+        (state S.Store conn.new) result (HasTables (TakesRange range.now)) }
 {
     execute(
-        tx,
+        conn,
         texts::ADD_RANGE,
         &[
             short_value(range.low),
@@ -34,15 +33,14 @@ pub fn add_range<S: Alter>(tx: &mut Transaction<'_, S>, range: &Range) -> Result
 }
 
 /// Drops the range with these ends.
-pub fn drop_range<S: Alter>(tx: &mut Transaction<'_, S>, low: u32, high: u32) -> Result<(), Error>
-    ensures same_reference { tx.new.conn.ghost_name ≡ tx.old.conn.ghost_name }
-    ensures writes { WritesInside (state S.Store tx.old.conn.now) (state S.Store tx.new.conn.now)
+pub fn drop_range<S: Alter>(conn: &mut Connection<S>, low: u32, high: u32) -> Result<(), Error>
+    ensures writes { WritesInside (state S.Store conn.old) (state S.Store conn.new)
         result (Changes (with_dropped_range low high)) }
-    ensures fails { IsNeverRefused (state S.Store tx.old.conn.now)
-        (state S.Store tx.new.conn.now) result (HasTables AnyTables) }
+    ensures fails { IsNeverRefused (state S.Store conn.old)
+        (state S.Store conn.new) result (HasTables AnyTables) }
 {
     execute(
-        tx,
+        conn,
         texts::DROP_RANGE,
         &[short_value(low), short_value(high)],
     )

@@ -15,22 +15,21 @@ use acq_sql_rows::{
     status_value, text_if, texts,
 };
 use sqlite::types::ValueRef;
-use sqlite::{Alter, Error, Transaction};
+use sqlite::{Alter, Connection, Error};
 
 /// Adds a request, whose reply is spelled so.
 pub fn add_request<'x, S: Alter>(
-    tx: &mut Transaction<'_, S>,
+    conn: &mut Connection<S>,
     request: &'x Request,
     reply: &'x [u8],
 ) -> Result<(), Error>
     requires whole { IsMessage request.now.reply }
     requires spelled { reply.now ≡ spelling request.now.reply }
     requires hold_end { IsShortEnd request.now.hold_end }
-    ensures same_reference { tx.new.conn.ghost_name ≡ tx.old.conn.ghost_name }
-    ensures writes { WritesInside (state S.Store tx.old.conn.now) (state S.Store tx.new.conn.now)
+    ensures writes { WritesInside (state S.Store conn.old) (state S.Store conn.new)
         result (Changes (with_request request.now)) }
-    ensures fails { IsNeverRefused (state S.Store tx.old.conn.now)
-        (state S.Store tx.new.conn.now) result (HasTables (TakesRequest request.now)) }
+    ensures fails { IsNeverRefused (state S.Store conn.old)
+        (state S.Store conn.new) result (HasTables (TakesRequest request.now)) }
 {
     let merchant = request.key.merchant.to_bytes();
     let terminal = request.key.terminal.to_bytes();
@@ -38,7 +37,7 @@ pub fn add_request<'x, S: Alter>(
     let trace = request.key.trace.to_bytes();
     let stamp = request.key.transmission.to_bytes();
     execute(
-        tx,
+        conn,
         texts::ADD_REQUEST,
         &[
             ValueRef::Text(&merchant),

@@ -14,28 +14,27 @@ use acq_core::MerchantId;
 use acq_sql_rows::{day_value, number_value, texts};
 use day_totals::{Day, Leg, Totals};
 use sqlite::types::ValueRef;
-use sqlite::{Alter, Error, Transaction};
+use sqlite::{Alter, Connection, Error};
 
 /// Adds what came to the running totals of a merchant and day: how many messages that count against
 /// its limit, and postings.
 pub fn raise<S: Alter>(
-    tx: &mut Transaction<'_, S>,
+    conn: &mut Connection<S>,
     merchant: MerchantId,
     day: Day,
     used: u64,
     posted: &Totals,
 ) -> Result<(), Error>
     requires { used < 2 ^ 63 }
-    ensures same_reference { tx.new.conn.ghost_name ≡ tx.old.conn.ghost_name }
-    ensures writes { WritesInside (state S.Store tx.old.conn.now) (state S.Store tx.new.conn.now)
+    ensures writes { WritesInside (state S.Store conn.old) (state S.Store conn.new)
         result (Raises merchant day (tally_from used posted.now)) }
-    ensures fails { IsNeverRefused (state S.Store tx.old.conn.now)
-        (state S.Store tx.new.conn.now) result
+    ensures fails { IsNeverRefused (state S.Store conn.old)
+        (state S.Store conn.new) result
         (HasRuns (TakesMore merchant day (tally_from used posted.now))) }
 {
     let merchant = merchant.to_bytes();
     execute(
-        tx,
+        conn,
         texts::RAISE,
         &[
             ValueRef::Text(&merchant),

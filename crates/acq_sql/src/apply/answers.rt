@@ -1,14 +1,13 @@
 //! Answers of issuers.
 
-ghost use Rattle.std.specs.Prelude.{◌≡◌, false, Some};
 ghost use Rattle.sqlite.specs.Held.{state};
 ghost use Rattle.iso_codec.specs.Message.{IsMessage};
 ghost use Rattle.iso_codec.specs.Reading.{spelling};
 ghost use Rattle.acq_core.specs.declared.change.Change.TheVariants as change;
 ghost use Rattle.acq_core.specs.Pasts.{HasPast};
 ghost use Rattle.acq_sql_writes.specs.Written.{IsShortEnd};
-ghost use Rattle.acq_sql_changes.specs.Refused.{FailsAmong};
-ghost use Rattle.acq_sql.specs.Applied.{Applies};
+ghost use Rattle.acq_sql_changes.specs.Refused.{FailsInside};
+ghost use Rattle.acq_sql.specs.Applied.{AppliesInside};
 
 use crate::apply::numbers::number_of_posting;
 use crate::apply::request_columns::{check_hold_end, spelled};
@@ -28,11 +27,10 @@ pub fn answer<'x, S: Alter>(
     hold_end: Option<u64>,
     posting: &'x Option<Posting>,
 ) -> Result<(), Error>
-    requires settled { conn.old.in_transaction ≡ false }
-    ensures whole { Applies (state S.Store conn.old) (state S.Store conn.new) result
+    ensures changes { AppliesInside (state S.Store conn.old) (state S.Store conn.new) result
         (change.Answered key status reply.now hold_end posting.now) }
     ensures fails { IsShortEnd hold_end
-        → FailsAmong (state S.Store conn.old) (state S.Store conn.new) result
+        → FailsInside (state S.Store conn.old) (state S.Store conn.new) result
         (change.Answered key status reply.now hold_end posting.now) HasPast }
 {
     check_hold_end(hold_end)?;

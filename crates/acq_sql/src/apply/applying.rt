@@ -1,32 +1,56 @@
 //! Any change.
 
-ghost use Rattle.std.specs.Prelude.{◌≡◌, false};
 ghost use Rattle.sqlite.specs.Held.{state};
 ghost use Rattle.acq_core.specs.Pasts.{HasPast};
-ghost use Rattle.acq_sql_changes.specs.Refused.{FailsAmong};
-ghost use Rattle.acq_sql.specs.Applied.{Applies, HasShortEnd};
+ghost use Rattle.acq_sql_changes.specs.Refused.{FailsAmong, FailsInside};
+ghost use Rattle.acq_sql.specs.Applied.{Applies, AppliesInside, EndsOutside, HasShortEnd};
 
 use crate::apply::answers::answer;
 use crate::apply::follows::follow;
 use crate::apply::requests::{add_reconciliation, add_request};
 use acq_core::Change;
-use acq_sql_changes::{add_range, cut_over, drop_range, enrol, enrol_terminal};
+use acq_sql_changes::{
+    add_range, begin, cut_over, drop_range, enrol, enrol_terminal, keep, roll_back,
+};
 use sqlite::{Alter, Connection, Error};
 use std::alloc::Global;
 
-/// Makes all of a change, or none of it. The end of a hold past 2^63 - 1 is refused as out of
-/// range, before anything is written, and so is a reconciliation after the one with that number.
+/// Makes all of a change, or none of it, in a transaction of its own. The end of a hold past
+/// 2^63 - 1 is refused as out of range, before anything is written, and so is a reconciliation
+/// after the one with that number.
 pub fn apply<S: Alter>(
     conn: &mut Connection<S>,
     alloc: Global,
     change: &Change,
 ) -> Result<(), Error>
-    requires settled { conn.old.in_transaction ≡ false }
     ensures whole { Applies (state S.Store conn.old) (state S.Store conn.new) result change.now }
+    ensures outside { EndsOutside (state S.Store conn.old) (state S.Store conn.new) }
     // Where a column can keep the end of its hold, and the change suits, it fails only for memory
     // or since the store failed.
     ensures fails { HasShortEnd change.now
         → FailsAmong (state S.Store conn.old) (state S.Store conn.new) result change.now HasPast }
+{
+    begin(conn)?;
+    match change_within(conn, alloc, change) {
+        Ok(()) => keep(conn),
+        Err(error) => {
+            roll_back(conn);
+            Err(error)
+        }
+    }
+}
+
+/// Makes a change inside the transaction that is open. Nothing is committed; after an error the
+/// transaction is to be rolled back.
+pub fn change_within<S: Alter>(
+    conn: &mut Connection<S>,
+    alloc: Global,
+    change: &Change,
+) -> Result<(), Error>
+    ensures changes { AppliesInside (state S.Store conn.old) (state S.Store conn.new) result
+        change.now }
+    ensures fails { HasShortEnd change.now
+        → FailsInside (state S.Store conn.old) (state S.Store conn.new) result change.now HasPast }
 {
     match change {
         Change::AddMerchant(merchant) => enrol(conn, merchant),

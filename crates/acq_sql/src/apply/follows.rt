@@ -1,12 +1,11 @@
 //! Completions and reversals.
 
-ghost use Rattle.std.specs.Prelude.{◌≡◌, false};
 ghost use Rattle.sqlite.specs.Held.{state};
 ghost use Rattle.acq_core.specs.declared.change.Change.TheVariants as change;
 ghost use Rattle.acq_core.specs.Pasts.{HasPast};
-ghost use Rattle.acq_sql_changes.specs.Refused.{FailsAmong};
+ghost use Rattle.acq_sql_changes.specs.Refused.{FailsInside};
 ghost use Rattle.acq_sql_writes.specs.Written.{IsShortEnd};
-ghost use Rattle.acq_sql.specs.Applied.{Applies};
+ghost use Rattle.acq_sql.specs.Applied.{AppliesInside};
 
 use crate::apply::numbers::number_of_posting;
 use crate::apply::request_columns::{check_hold_end, spelled};
@@ -25,11 +24,10 @@ pub fn follow<'x, S: Alter>(
     remains: Remains,
     posting: &'x Option<Posting>,
 ) -> Result<(), Error>
-    requires settled { conn.old.in_transaction ≡ false }
-    ensures whole { Applies (state S.Store conn.old) (state S.Store conn.new) result
+    ensures changes { AppliesInside (state S.Store conn.old) (state S.Store conn.new) result
         (change.Follow request.now original remains posting.now) }
     ensures fails { IsShortEnd request.now.hold_end
-        → FailsAmong (state S.Store conn.old) (state S.Store conn.new) result
+        → FailsInside (state S.Store conn.old) (state S.Store conn.new) result
         (change.Follow request.now original remains posting.now) HasPast }
 {
     check_hold_end(request.hold_end)?;

@@ -1,12 +1,11 @@
 //! Requests with nothing posted.
 
-ghost use Rattle.std.specs.Prelude.{◌≡◌, false};
 ghost use Rattle.sqlite.specs.Held.{state};
 ghost use Rattle.acq_core.specs.declared.change.Change.TheVariants as change;
 ghost use Rattle.acq_core.specs.Pasts.{HasPast};
-ghost use Rattle.acq_sql_changes.specs.Refused.{FailsAmong};
+ghost use Rattle.acq_sql_changes.specs.Refused.{FailsInside};
 ghost use Rattle.acq_sql_writes.specs.Written.{IsShortEnd};
-ghost use Rattle.acq_sql.specs.Applied.{Applies};
+ghost use Rattle.acq_sql.specs.Applied.{AppliesInside};
 
 use crate::apply::numbers::number_of_reconciliation;
 use crate::apply::request_columns::{check_hold_end, spelled};
@@ -21,11 +20,10 @@ pub fn add_request<'x, S: Alter>(
     alloc: Global,
     request: &'x Request,
 ) -> Result<(), Error>
-    requires settled { conn.old.in_transaction ≡ false }
-    ensures whole { Applies (state S.Store conn.old) (state S.Store conn.new) result
+    ensures changes { AppliesInside (state S.Store conn.old) (state S.Store conn.new) result
         (change.AddRequest request.now) }
     ensures fails { IsShortEnd request.now.hold_end
-        → FailsAmong (state S.Store conn.old) (state S.Store conn.new) result
+        → FailsInside (state S.Store conn.old) (state S.Store conn.new) result
         (change.AddRequest request.now) HasPast }
 {
     check_hold_end(request.hold_end)?;
@@ -40,11 +38,10 @@ pub fn add_reconciliation<'x, S: Alter>(
     request: &'x Request,
     reconciliation: &'x Reconciliation,
 ) -> Result<(), Error>
-    requires settled { conn.old.in_transaction ≡ false }
-    ensures whole { Applies (state S.Store conn.old) (state S.Store conn.new) result
+    ensures changes { AppliesInside (state S.Store conn.old) (state S.Store conn.new) result
         (change.Reconciled request.now reconciliation.now) }
     ensures fails { IsShortEnd request.now.hold_end
-        → FailsAmong (state S.Store conn.old) (state S.Store conn.new) result
+        → FailsInside (state S.Store conn.old) (state S.Store conn.new) result
         (change.Reconciled request.now reconciliation.now) HasPast }
 {
     check_hold_end(request.hold_end)?;

@@ -1,33 +1,16 @@
-use Rattle.std.proofs.Common.{◌≡◌, refl, rules}
+use Rattle.std.proofs.Common.{refl}
 use Rattle.acq_core.specs.declared.change.Change.TheVariants as change
 use Rattle.acq_sql_writes.specs.Written.{with_merchant}
 use Rattle.acq_sql_writes.specs.Refused.{AnyTables, HasTables, TakesMerchant}
-use Rattle.acq_sql_changes.proofs.Commits.{began, wrote, makes}
-use Rattle.acq_sql_changes.proofs.Failures.{ends, drops}
+use Rattle.acq_sql_changes.proofs.Outcomes.{ends}
+use Rattle.acq_sql_changes.proofs.Progress.{unwritten}
 use Rattle.acq_sql_changes.proofs.TakenTables.{takes_merchant}
 use Rattle.acq_sql_changes.proofs.enrolments.enrol.Goals as goal
 
 pub returns : goal.returns
 returns g c =
-    let same : c.commit.new.self.0 ≡ c.conn-2-1.given.0 = search rules in
     let m = c.args.merchant.now in
-    let begin = began g.S.Store c.args.conn.now _ c.transaction-tx.ensures.begun in
-    let written = wrote begin (with_merchant m) c.in_ok-add_merchant.ensures.writes in
-    let whole = makes written (λ t m d. refl) in
-    ends g.S.Store (change.AddMerchant m) AnyTables
-    whole same c.commit.result c.commit.ensures
-
-pub returns-in_err-add_merchant : goal.returns-in_err-add_merchant
-returns-in_err-add_merchant g c =
-    let same : c.drop-tx.new.self.0
-    ≡ c.conn-1.given.0 = search rules in
-    let m = c.args.merchant.now in
-    let begin = began g.S.Store c.args.conn.now _ c.transaction-tx.ensures.begun in
-    drops g.S.Store (change.AddMerchant m) AnyTables begin
-    c.in_err-add_merchant.ensures.writes
-    (HasTables (TakesMerchant m))
-    c.in_err-add_merchant.ensures.fails
-    (λ t taken rows. (t, taken.holds.runs, takes_merchant m taken, rows))
-    same c.drop-tx.ensures
-    c.from_residual.result
-    c.from_residual.ensures
+    ends (change.AddMerchant m) AnyTables (unwritten _) c.add_merchant.result
+    (with_merchant m) c.add_merchant.ensures.writes
+    (HasTables (TakesMerchant m)) c.add_merchant.ensures.fails
+    (λ t taken rows. (t, taken.holds.runs, takes_merchant m taken, rows)) (λ t m d. refl)

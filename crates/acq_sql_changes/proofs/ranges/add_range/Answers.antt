@@ -1,33 +1,16 @@
-use Rattle.std.proofs.Common.{◌≡◌, refl, rules}
+use Rattle.std.proofs.Common.{refl}
 use Rattle.acq_core.specs.declared.change.Change.TheVariants as change
 use Rattle.acq_sql_writes.specs.Written.{with_added_range}
 use Rattle.acq_sql_writes.specs.Refused.{AnyTables, HasTables, TakesRange}
-use Rattle.acq_sql_changes.proofs.Commits.{began, wrote, makes}
-use Rattle.acq_sql_changes.proofs.Failures.{ends, drops}
+use Rattle.acq_sql_changes.proofs.Outcomes.{ends}
+use Rattle.acq_sql_changes.proofs.Progress.{unwritten}
 use Rattle.acq_sql_changes.proofs.TakenTables.{takes_range}
 use Rattle.acq_sql_changes.proofs.ranges.add_range.Goals as goal
 
 pub returns : goal.returns
 returns g c =
-    let same : c.commit.new.self.0 ≡ c.conn-2-1.given.0 = search rules in
     let r = c.args.range.now in
-    let begin = began g.S.Store c.args.conn.now _ c.transaction-tx.ensures.begun in
-    let written = wrote begin (with_added_range r) c.in_ok-add_range.ensures.writes in
-    let whole = makes written (λ t m d. refl) in
-    ends g.S.Store (change.AddRange r) AnyTables
-    whole same c.commit.result c.commit.ensures
-
-pub returns-in_err-add_range : goal.returns-in_err-add_range
-returns-in_err-add_range g c =
-    let same : c.drop-tx.new.self.0
-    ≡ c.conn-1.given.0 = search rules in
-    let r = c.args.range.now in
-    let begin = began g.S.Store c.args.conn.now _ c.transaction-tx.ensures.begun in
-    drops g.S.Store (change.AddRange r) AnyTables begin
-    c.in_err-add_range.ensures.writes
-    (HasTables (TakesRange r))
-    c.in_err-add_range.ensures.fails
-    (λ t taken rows. (t, taken.holds.runs, takes_range r taken, rows))
-    same c.drop-tx.ensures
-    c.from_residual.result
-    c.from_residual.ensures
+    ends (change.AddRange r) AnyTables (unwritten _) c.add_range.result
+    (with_added_range r) c.add_range.ensures.writes
+    (HasTables (TakesRange r)) c.add_range.ensures.fails
+    (λ t taken rows. (t, taken.holds.runs, takes_range r taken, rows)) (λ t m d. refl)

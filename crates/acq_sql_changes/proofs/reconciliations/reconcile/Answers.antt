@@ -1,50 +1,25 @@
-use Rattle.std.proofs.Common.{◌≡◌, refl, ap, rules}
+use Rattle.std.proofs.Common.{refl, ap}
 use Rattle.acq_core.specs.declared.change.Change.TheVariants as change
 use Rattle.acq_sql_rows.specs.Tallies.{request_tally}
 use Rattle.acq_sql_writes.specs.Written.{with_request, with_reconciliation}
+use Rattle.acq_sql_writes.specs.Refused.{HasTables, TakesRequest, TakesReconciliation}
 use Rattle.acq_sql_changes.specs.Changed.{HasRoomToReconcile, with_reconciled}
-use Rattle.acq_sql_writes.specs.Refused.{HasTables, HasRuns, TakesRequest, TakesReconciliation}
-use Rattle.acq_sql_writes.specs.Refused.{TakesMore}
 use Rattle.acq_sql_changes.specs.Refused.{IsNextReconciliation}
-use Rattle.acq_sql_changes.proofs.Commits.{began, wrote, makes_raised}
-use Rattle.acq_sql_changes.proofs.Failures.{ends, drops}
 use Rattle.acq_sql_changes.proofs.ListTallies.{tally_requested}
+use Rattle.acq_sql_changes.proofs.Outcomes.{drops, ends_raised}
+use Rattle.acq_sql_changes.proofs.Progress.{unwritten, wrote}
 use Rattle.acq_sql_changes.proofs.Room.{request_short}
-use Rattle.acq_sql_changes.proofs.TakenTables.{takes_request, takes_reconciliation, takes_more}
-use Rattle.acq_sql_changes.proofs.TakenTables.{texts_of_last}
+use Rattle.acq_sql_changes.proofs.TakenTables.{takes_request, takes_reconciliation, texts_of_last}
 use Rattle.acq_sql_changes.proofs.reconciliations.reconcile.Goals as goal
-
-pub returns : goal.returns
-returns g c =
-    let same : c.commit.new.self.0 ≡ c.conn-2-1.given.0 = search rules in
-    let r = c.args.request.now in
-    let n = c.args.number in
-    let x = c.args.reconciliation.now in
-    let begin = began g.S.Store c.args.conn.now _ c.transaction-tx.ensures.begun in
-    let added = wrote begin (with_request r) c.in_ok-add_request.ensures.writes in
-    let reconciled =
-    wrote added (with_reconciliation n x) c.in_ok-add_reconciliation.ensures.writes in
-    let whole = makes_raised reconciled r.key.merchant r.day (request_tally r)
-    (rw (c.used_by-used.ensures.value, c.zero-none.ensures.value)
-    at c.in_ok-raise.ensures.writes)
-    (HasRoomToReconcile r n x) (with_reconciled r x) (λ t _. tally_requested t r)
-    (λ t room short. request_short t r short room.0)
-    (λ t room. ap (λ k. with_reconciliation k x (with_request r t)) room.1) in
-    ends g.S.Store (change.Reconciled r x) (IsNextReconciliation n x)
-    whole same c.commit.result c.commit.ensures
 
 pub returns-in_err-add_request : goal.returns-in_err-add_request
 returns-in_err-add_request g c =
-    let same : c.drop-tx.new.self.0
-    ≡ c.conn-1.given.0 = search rules in
     let r = c.args.request.now in
     let n = c.args.number in
     let x = c.args.reconciliation.now in
-    let begin = began g.S.Store c.args.conn.now _ c.transaction-tx.ensures.begun in
-    drops g.S.Store (change.Reconciled r x) (IsNextReconciliation n x) begin
+    drops (change.Reconciled r x) (IsNextReconciliation n x) (unwritten _) (with_request r)
     c.in_err-add_request.ensures.writes
-    (HasTables (TakesRequest r))
-    c.in_err-add_request.ensures.fails
+    (HasTables (TakesRequest r)) c.in_err-add_request.ensures.fails
     (λ t taken rows. (
       t,
       taken.holds.runs,
@@ -52,56 +27,38 @@ returns-in_err-add_request g c =
           (texts_of_last t.requests r taken.takes.later.texts),
       rows,
     ))
-    same c.drop-tx.ensures
-    c.from_residual.result
-    c.from_residual.ensures
+    c.from_residual.result c.from_residual.ensures
 
 pub returns-in_err-add_reconciliation : goal.returns-in_err-add_reconciliation
 returns-in_err-add_reconciliation g c =
-    let same : c.drop-tx-in_err-add_reconciliation.new.self.0
-    ≡ c.conn-in_err-add_reconciliation-1.given.0 = search rules in
     let r = c.args.request.now in
     let n = c.args.number in
     let x = c.args.reconciliation.now in
-    let begin = began g.S.Store c.args.conn.now _ c.transaction-tx.ensures.begun in
-    let added = wrote begin (with_request r) c.in_ok-add_request.ensures.writes in
-    drops g.S.Store (change.Reconciled r x) (IsNextReconciliation n x) added
+    let added = wrote (unwritten _) (with_request r) c.in_ok-add_request.ensures.writes in
+    drops (change.Reconciled r x) (IsNextReconciliation n x) added (with_reconciliation n x)
     c.in_err-add_reconciliation.ensures.writes
-    (HasTables (TakesReconciliation n x))
-    c.in_err-add_reconciliation.ensures.fails
+    (HasTables (TakesReconciliation n x)) c.in_err-add_reconciliation.ensures.fails
     (λ t taken rows. (
       _,
       taken.holds.runs,
       takes_reconciliation taken n x taken.fit _ refl,
       rows,
     ))
-    same c.drop-tx-in_err-add_reconciliation.ensures
     c.from_residual-in_err-add_reconciliation.result
     c.from_residual-in_err-add_reconciliation.ensures
 
-pub returns-in_err-raise : goal.returns-in_err-raise
-returns-in_err-raise g c =
-    let same : c.drop-tx-in_err-raise.new.self.0
-    ≡ c.conn-in_err-raise-1.given.0 = search rules in
+pub returns : goal.returns
+returns g c =
     let r = c.args.request.now in
     let n = c.args.number in
     let x = c.args.reconciliation.now in
-    let begin = began g.S.Store c.args.conn.now _ c.transaction-tx.ensures.begun in
-    let added = wrote begin (with_request r) c.in_ok-add_request.ensures.writes in
+    let added = wrote (unwritten _) (with_request r) c.in_ok-add_request.ensures.writes in
     let reconciled =
     wrote added (with_reconciliation n x) c.in_ok-add_reconciliation.ensures.writes in
-    drops g.S.Store (change.Reconciled r x) (IsNextReconciliation n x) reconciled
-    c.in_err-raise.ensures.writes
-    (HasRuns (TakesMore r.key.merchant r.day (request_tally r)))
-    (rw (c.used_by-used.ensures.value, c.zero-none.ensures.value)
-    at c.in_err-raise.ensures.fails)
-    (λ t taken rows. (
-      _,
-      taken.holds.runs,
-      takes_more taken (with_request r t) r.key.merchant r.day (request_tally r)
-          (tally_requested t r) (λ short. request_short t r short taken.takes.fits.used),
-      rows,
-    ))
-    same c.drop-tx-in_err-raise.ensures
-    c.from_residual-in_err-raise.result
-    c.from_residual-in_err-raise.ensures
+    let raised = rw (c.used_by-used.ensures.value, c.zero-none.ensures.value) at c.raise.ensures in
+    ends_raised (change.Reconciled r x) (IsNextReconciliation n x) reconciled c.raise.result
+    r.key.merchant r.day (request_tally r) raised.writes raised.fails
+    (HasRoomToReconcile r n x) (with_reconciled r x)
+    (λ t _. tally_requested t r) (λ t room short. request_short t r short room.0)
+    (λ t room. ap (λ k. with_reconciliation k x (with_request r t)) room.1)
+    (λ t taken. (taken.takes.fits.used, taken.fit))

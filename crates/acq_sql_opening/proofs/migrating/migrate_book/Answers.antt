@@ -43,7 +43,7 @@ returns-in_err-widen_book g c =
     let mid = state g.S.Store c.check_book.new.conn in
     let new = state g.S.Store c.widen_book.new.conn in
     record {
-      settled = whole.settled;
+      settled = c.widen_book.ensures.settled;
       judged = λ clean. rw (p.1, p.2) (failure_judges (Unit {0}) version_of_six_digits
           (state g.S.Store c.args.conn.now).now _ fails);
       accepts = λ clean t at. rw (p.1, p.2) fails;

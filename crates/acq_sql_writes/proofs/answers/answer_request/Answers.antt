@@ -18,9 +18,8 @@ returns g c =
       bound_number c.args.hold_end,
     ) at c.execute.ensures.runs in
     record {
-      same_reference = c.execute.ensures.same_reference;
-      writes = answer_inside _ _ c.execute.result c.execute.ensures.survives c.execute.ensures.ended
-          c.args.key c.args.status c.args.reply.now c.args.hold_end c.requires.whole ran;
+      writes = answer_inside _ _ c.execute.result c.args.key c.args.status c.args.reply.now
+          c.args.hold_end c.requires.whole (_, c.execute.ensures.survives) ran;
       fails = answer_excused _ _ c.execute.result c.args.key c.args.status c.args.reply.now
           c.args.hold_end (record {
             merchant = c.to_bytes-merchant.ensures.valid;

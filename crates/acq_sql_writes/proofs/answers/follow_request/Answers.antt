@@ -15,9 +15,8 @@ returns g c =
       c.amount_value.ensures,
     ) at c.execute.ensures.runs in
     record {
-      same_reference = c.execute.ensures.same_reference;
-      writes = follow_inside _ _ c.execute.result c.execute.ensures.survives c.execute.ensures.ended
-          c.args.key c.args.remains ran;
+      writes = follow_inside _ _ c.execute.result c.args.key c.args.remains
+          (_, c.execute.ensures.survives) ran;
       fails = follow_excused _ _ c.execute.result c.args.key c.args.remains
           (record {
             merchant = c.to_bytes-merchant.ensures.valid;

@@ -12,10 +12,10 @@ returns g c =
       c.short_value-2.ensures,
       c.number.ensures.value,
       c.day_value.ensures,
-    ) at c.execute.ensures.runs in
+    ) at c.execute_in.ensures.runs in
     record {
-      same_reference = c.execute.ensures.same_reference;
-      writes = book_inside _ _ c.execute.result c.execute.ensures.survives
-          c.execute.ensures.ended opening ran;
-      fails = book_excused _ _ c.execute.result opening ran;
+      same_reference = c.execute_in.ensures.same_reference;
+      writes = book_inside _ _ c.execute_in.result opening
+          c.execute_in.ensures.survives ran;
+      fails = book_excused _ _ c.execute_in.result opening ran;
     }

@@ -12,10 +12,8 @@ returns g c =
       c.bit_value.ensures,
     ) at c.execute.ensures.runs in
     record {
-      same_reference = c.execute.ensures.same_reference;
-      writes = reconciliation_inside _ _ c.execute.result c.execute.ensures.survives
-          c.execute.ensures.ended
-          c.args.number c.args.reconciliation.now ran;
+      writes = reconciliation_inside _ _ c.execute.result c.args.number c.args.reconciliation.now
+          (_, c.execute.ensures.survives) ran;
       fails = reconciliation_excused _ _ c.execute.result c.args.number c.args.reconciliation.now
           c.to_bytes-merchant.ensures.valid ran;
     }

@@ -6,8 +6,6 @@ pub returns : goal.returns
 returns g c =
     let ran = rw c.day_value.ensures at c.execute.ensures.runs in
     record {
-      same_reference = c.execute.ensures.same_reference;
-      writes = day_inside _ _ c.execute.result c.execute.ensures.survives c.execute.ensures.ended
-          c.args.day ran;
+      writes = day_inside _ _ c.execute.result c.args.day (_, c.execute.ensures.survives) ran;
       fails = day_excused _ _ c.execute.result c.args.day ran;
     }

@@ -11,10 +11,8 @@ returns g c =
       c.first_reference_value.ensures,
     ) at c.execute.ensures.runs in
     record {
-      same_reference = c.execute.ensures.same_reference;
-      writes = merchant_inside _ _ c.execute.result c.execute.ensures.survives
-          c.execute.ensures.ended
-          c.args.merchant.now ran;
+      writes = merchant_inside _ _ c.execute.result c.args.merchant.now
+          (_, c.execute.ensures.survives) ran;
       fails = merchant_excused _ _ c.execute.result c.args.merchant.now c.to_bytes-id.ensures.valid
           c.to_bytes-currency.ensures.valid ran;
     }

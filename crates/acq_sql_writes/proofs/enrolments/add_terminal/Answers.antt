@@ -10,10 +10,8 @@ returns g c =
       c.to_bytes-id.ensures.value,
     ) at c.execute.ensures.runs in
     record {
-      same_reference = c.execute.ensures.same_reference;
-      writes = terminal_inside _ _ c.execute.result c.execute.ensures.survives
-          c.execute.ensures.ended
-          c.args.terminal.now ran;
+      writes = terminal_inside _ _ c.execute.result c.args.terminal.now
+          (_, c.execute.ensures.survives) ran;
       fails = terminal_excused _ _ c.execute.result c.args.terminal.now
           c.to_bytes-merchant.ensures.valid
           c.to_bytes-id.ensures.valid ran;

@@ -17,10 +17,8 @@ returns g c =
       c.as_bytes.ensures,
     ) at c.execute.ensures.runs in
     record {
-      same_reference = c.execute.ensures.same_reference;
-      writes = posting_inside _ _ c.execute.result c.execute.ensures.survives
-          c.execute.ensures.ended
-          c.args.number c.args.posting.now ran;
+      writes = posting_inside _ _ c.execute.result c.args.number c.args.posting.now
+          (_, c.execute.ensures.survives) ran;
       fails = posting_excused _ _ c.execute.result c.args.number c.args.posting.now
           c.to_bytes-merchant.ensures.valid c.to_bytes-terminal.ensures.valid
           c.to_bytes-trace.ensures.valid ran;

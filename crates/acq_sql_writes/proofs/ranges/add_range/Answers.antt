@@ -12,9 +12,7 @@ returns g c =
       c.short_value-3.ensures,
     ) at c.execute.ensures.runs in
     record {
-      same_reference = c.execute.ensures.same_reference;
-      writes = range_added_inside _ _ c.execute.result c.execute.ensures.survives
-          c.execute.ensures.ended
-          c.args.range.now ran;
+      writes = range_added_inside _ _ c.execute.result c.args.range.now
+          (_, c.execute.ensures.survives) ran;
       fails = range_excused _ _ c.execute.result c.args.range.now ran;
     }

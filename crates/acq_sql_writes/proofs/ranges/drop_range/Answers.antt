@@ -10,9 +10,7 @@ returns g c =
       c.short_value-2.ensures,
     ) at c.execute.ensures.runs in
     record {
-      same_reference = c.execute.ensures.same_reference;
-      writes = range_dropped_inside _ _ c.execute.result c.execute.ensures.survives
-          c.execute.ensures.ended
-          c.args.low c.args.high ran;
+      writes = range_dropped_inside _ _ c.execute.result c.args.low c.args.high
+          (_, c.execute.ensures.survives) ran;
       fails = drop_excused _ _ c.execute.result c.args.low c.args.high ran;
     }

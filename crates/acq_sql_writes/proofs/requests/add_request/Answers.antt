@@ -34,10 +34,8 @@ returns g c =
       bound_number r.hold_end,
     ) at c.execute.ensures.runs in
     record {
-      same_reference = c.execute.ensures.same_reference;
-      writes = request_inside _ _ c.execute.result c.execute.ensures.survives
-          c.execute.ensures.ended r c.requires.whole
-          ran;
+      writes = request_inside _ _ c.execute.result r c.requires.whole
+          (_, c.execute.ensures.survives) ran;
       fails = request_excused _ _ c.execute.result r (record {
         merchant = c.to_bytes-merchant.ensures.valid;
         terminal = c.to_bytes-terminal.ensures.valid;

@@ -20,9 +20,8 @@ returns g c =
       c.sum_value-4.ensures,
     ) at c.execute.ensures.runs in
     record {
-      same_reference = c.execute.ensures.same_reference;
-      writes = raised_inside _ _ c.execute.result c.execute.ensures.survives c.execute.ensures.ended
-          c.args.merchant c.args.day (tally_from c.args.used c.args.posted.now) ran;
+      writes = raised_inside _ _ c.execute.result c.args.merchant c.args.day
+          (tally_from c.args.used c.args.posted.now) (_, c.execute.ensures.survives) ran;
       fails = raise_excused _ _ c.execute.result c.args.merchant c.args.day
           (tally_from c.args.used c.args.posted.now) c.to_bytes-merchant.ensures.valid ran;
     }

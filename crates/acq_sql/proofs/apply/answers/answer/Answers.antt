@@ -3,31 +3,32 @@ use Rattle.sqlite.specs.Held.{state}
 use Rattle.acq_sql_changes.specs.Refused.{IsNextPosting}
 use Rattle.acq_sql_writes.specs.Refused.{AnyTables}
 use Rattle.acq_sql.proofs.apply.ChangesFail.{fails_for, fails_for_memory, fails_from, looks_fail}
-use Rattle.acq_sql_opening.proofs.LooksFirst.{fails_looking, refuses, whole_for, whole_from}
+use Rattle.acq_sql.proofs.apply.ChangesLooked.{inside_for, inside_from, inside_looking}
+use Rattle.acq_sql.proofs.apply.ChangesLooked.{inside_refuses}
 use Rattle.acq_sql.proofs.apply.answers.answer.Goals as goal
 
-pub returns-in-Some-clause-whole : goal.returns-in-Some-clause-whole
-returns-in-Some-clause-whole g c =
+pub returns-in-Some-clause-changes : goal.returns-in-Some-clause-changes
+returns-in-Some-clause-changes g c =
     let found = c.in_ok-number-in-Some.ensures in
     rw c.in-Some.is
-    (whole_from found.looks (λ clean t holds suits. (suits.0, found.answers clean t holds))
-    c.answer_and_post.ensures.whole)
+    (inside_from found.looks (λ clean t holds suits. (suits.0, found.answers clean t holds))
+    c.answer_and_post.ensures.changes)
 
-pub returns-clause-whole : goal.returns-clause-whole
-returns-clause-whole g c = rw c.in-None.is (whole_for (λ t suits. tt) c.answer.ensures.whole)
+pub returns-clause-changes : goal.returns-clause-changes
+returns-clause-changes g c = rw c.in-None.is (inside_for (λ t suits. tt) c.answer.ensures.changes)
 
-pub returns-in_err-check_hold_end-clause-whole : goal.returns-in_err-check_hold_end-clause-whole
-returns-in_err-check_hold_end-clause-whole g c =
-    refuses (state g.S.Store c.args.conn.now) c.requires.settled _ c.from_residual.ensures.0
+pub returns-in_err-check_hold_end-clause-changes : goal.returns-in_err-check_hold_end-clause-changes
+returns-in_err-check_hold_end-clause-changes g c =
+    inside_refuses (state g.S.Store c.args.conn.now) _ c.from_residual.ensures.0
 
-pub returns-in_err-text-clause-whole : goal.returns-in_err-text-clause-whole
-returns-in_err-text-clause-whole g c =
-    refuses (state g.S.Store c.args.conn.now) c.requires.settled _
+pub returns-in_err-text-clause-changes : goal.returns-in_err-text-clause-changes
+returns-in_err-text-clause-changes g c =
+    inside_refuses (state g.S.Store c.args.conn.now) _
     c.from_residual-in_err-text.ensures.0
 
-pub returns-in_err-number-in-Some-clause-whole : goal.returns-in_err-number-in-Some-clause-whole
-returns-in_err-number-in-Some-clause-whole g c =
-    fails_looking c.in_err-number-in-Some.ensures.looks c.requires.settled _
+pub returns-in_err-number-in-Some-clause-changes : goal.returns-in_err-number-in-Some-clause-changes
+returns-in_err-number-in-Some-clause-changes g c =
+    inside_looking c.in_err-number-in-Some.ensures.looks _
     c.from_residual-in_err-number-in-Some.ensures.0
 
 pub returns-in-Some-clause-fails : goal.returns-in-Some-clause-fails
@@ -36,7 +37,7 @@ returns-in-Some-clause-fails g c short =
     rw c.in-Some.is
     (fails_from c.answer_and_post.result
     (IsNextPosting c.in_ok-number-in-Some.number c.in-Some.posting) found.looks
-    (λ clean t holds past. found.answers clean t holds) c.answer_and_post.ensures.whole
+    (λ clean t holds past. found.answers clean t holds) c.answer_and_post.ensures.changes
     c.answer_and_post.ensures.fails)
 
 pub returns-clause-fails : goal.returns-clause-fails
@@ -57,7 +58,8 @@ returns-in_err-text-clause-fails g c short =
 
 pub returns-in_err-number-in-Some-clause-fails : goal.returns-in_err-number-in-Some-clause-fails
 returns-in_err-number-in-Some-clause-fails g c short =
-    looks_fail (λ t. Unit {0}) c.in_err-number-in-Some.ensures.looks
+    looks_fail (state g.S.Store c.args.conn.now) (state g.S.Store c.number_of_posting.new.conn)
+    (λ t. Unit {0})
     (λ clean t at fits. c.in_err-number-in-Some.ensures.fails clean t at fits.0)
     (λ left t holds. tt)
     c.from_residual-in_err-number-in-Some.result c.from_residual-in_err-number-in-Some.ensures

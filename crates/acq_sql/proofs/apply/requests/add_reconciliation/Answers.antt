@@ -1,33 +1,32 @@
 use Rattle.std.proofs.Common.{true≢false, sym}
 use Rattle.sqlite.specs.Held.{state}
 use Rattle.acq_sql_rows.specs.Rows.{reconciliation_row}
-use Rattle.acq_sql_rows.specs.Schema.{reconciliations_tree}
 use Rattle.acq_sql_writes.specs.Refused.{HasNumberLeft}
 use Rattle.acq_sql_changes.specs.Refused.{IsNextReconciliation}
 use Rattle.acq_sql_changes.proofs.TakenTables.{number_left}
 use Rattle.acq_sql.proofs.apply.ChangesFail.{fails_for_memory, fails_from, looks_fail}
-use Rattle.acq_sql_opening.proofs.LooksFirst.{fails_looking, refuses, whole_from}
+use Rattle.acq_sql.proofs.apply.ChangesLooked.{inside_from, inside_looking, inside_refuses}
 use Rattle.acq_sql.proofs.apply.requests.add_reconciliation.Goals as goal
 
-pub returns-clause-whole : goal.returns-clause-whole
-returns-clause-whole g c =
+pub returns-clause-changes : goal.returns-clause-changes
+returns-clause-changes g c =
     let found = c.in_ok-number.ensures in
-    whole_from found.looks
+    inside_from found.looks
     (λ clean t holds suits. (suits.0.used, found.answers clean t holds suits.1))
-    c.reconcile.ensures.whole
+    c.reconcile.ensures.changes
 
-pub returns-in_err-check_hold_end-clause-whole : goal.returns-in_err-check_hold_end-clause-whole
-returns-in_err-check_hold_end-clause-whole g c =
-    refuses (state g.S.Store c.args.conn.now) c.requires.settled _ c.from_residual.ensures.0
+pub returns-in_err-check_hold_end-clause-changes : goal.returns-in_err-check_hold_end-clause-changes
+returns-in_err-check_hold_end-clause-changes g c =
+    inside_refuses (state g.S.Store c.args.conn.now) _ c.from_residual.ensures.0
 
-pub returns-in_err-reply-clause-whole : goal.returns-in_err-reply-clause-whole
-returns-in_err-reply-clause-whole g c =
-    refuses (state g.S.Store c.args.conn.now) c.requires.settled _
+pub returns-in_err-reply-clause-changes : goal.returns-in_err-reply-clause-changes
+returns-in_err-reply-clause-changes g c =
+    inside_refuses (state g.S.Store c.args.conn.now) _
     c.from_residual-in_err-reply.ensures.0
 
-pub returns-in_err-number-clause-whole : goal.returns-in_err-number-clause-whole
-returns-in_err-number-clause-whole g c =
-    fails_looking c.in_err-number.ensures.looks c.requires.settled _
+pub returns-in_err-number-clause-changes : goal.returns-in_err-number-clause-changes
+returns-in_err-number-clause-changes g c =
+    inside_looking c.in_err-number.ensures.looks _
     c.from_residual-in_err-number.ensures.0
 
 pub returns-clause-fails : goal.returns-clause-fails
@@ -35,7 +34,7 @@ returns-clause-fails g c short =
     let found = c.in_ok-number.ensures in
     fails_from c.reconcile.result
     (IsNextReconciliation c.in_ok-number.number c.args.reconciliation.now) found.looks
-    found.answers c.reconcile.ensures.whole c.reconcile.ensures.fails
+    found.answers c.reconcile.ensures.changes c.reconcile.ensures.fails
 
 pub returns-in_err-check_hold_end-clause-fails : goal.returns-in_err-check_hold_end-clause-fails
 returns-in_err-check_hold_end-clause-fails g c short =
@@ -49,7 +48,8 @@ returns-in_err-reply-clause-fails g c short =
 
 pub returns-in_err-number-clause-fails : goal.returns-in_err-number-clause-fails
 returns-in_err-number-clause-fails g c short =
-    looks_fail (λ t. HasNumberLeft t.reconciliations) c.in_err-number.ensures.looks
+    looks_fail (state g.S.Store c.args.conn.now)
+    (state g.S.Store c.number_of_reconciliation.new.conn) (λ t. HasNumberLeft t.reconciliations)
     c.in_err-number.ensures.fails
     (λ left t holds.
     number_left reconciliation_row _ t.reconciliations holds.rows.reconciliations

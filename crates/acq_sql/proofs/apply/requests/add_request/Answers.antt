@@ -2,19 +2,19 @@ use Rattle.std.proofs.Common.{true≢false, sym}
 use Rattle.sqlite.specs.Held.{state}
 use Rattle.acq_sql_writes.specs.Refused.{AnyTables}
 use Rattle.acq_sql.proofs.apply.ChangesFail.{fails_for, fails_for_memory}
-use Rattle.acq_sql_opening.proofs.LooksFirst.{refuses, whole_for}
+use Rattle.acq_sql.proofs.apply.ChangesLooked.{inside_for, inside_refuses}
 use Rattle.acq_sql.proofs.apply.requests.add_request.Goals as goal
 
-pub returns-clause-whole : goal.returns-clause-whole
-returns-clause-whole g c = whole_for (λ t suits. suits.0.used) c.record_request.ensures.whole
+pub returns-clause-changes : goal.returns-clause-changes
+returns-clause-changes g c = inside_for (λ t suits. suits.0.used) c.record_request.ensures.changes
 
-pub returns-in_err-check_hold_end-clause-whole : goal.returns-in_err-check_hold_end-clause-whole
-returns-in_err-check_hold_end-clause-whole g c =
-    refuses (state g.S.Store c.args.conn.now) c.requires.settled _ c.from_residual.ensures.0
+pub returns-in_err-check_hold_end-clause-changes : goal.returns-in_err-check_hold_end-clause-changes
+returns-in_err-check_hold_end-clause-changes g c =
+    inside_refuses (state g.S.Store c.args.conn.now) _ c.from_residual.ensures.0
 
-pub returns-in_err-reply-clause-whole : goal.returns-in_err-reply-clause-whole
-returns-in_err-reply-clause-whole g c =
-    refuses (state g.S.Store c.args.conn.now) c.requires.settled _
+pub returns-in_err-reply-clause-changes : goal.returns-in_err-reply-clause-changes
+returns-in_err-reply-clause-changes g c =
+    inside_refuses (state g.S.Store c.args.conn.now) _
     c.from_residual-in_err-reply.ensures.0
 
 pub returns-clause-fails : goal.returns-clause-fails
