@@ -51,61 +51,61 @@ Holding fits = (s : State) (t : Tables) → IsOpenAt s t → HasNumbersLeft s.no
 
 module _ {S : Type 0} (g : Ghosts S) (old seen : Kept S) (connection : Held S) (failures : ℕ)
     (is : old ≡ seen) (out : old.connection.in_transaction ≡ false) (settled : IsSettled g seen)
-    where
-  abbrev new : Kept S
-  new = looked old connection failures
+  where
+    abbrev new : Kept S
+    new = looked old connection failures
 
-  pub asked : {T : Type 0} (answer : Result T Error) (result : Result T BookFault) →
-      LooksOnly (state g old.connection) (state g connection) (is_ok answer)
-      → IsTold answer result old.failures failures → (look : Tables → T)
-      → (HasCleanDisk (state g connection) → (t : Tables)
-      → Holds (state g old.connection).now t → HasPast t → IfOk answer (λ x. x ≡ look t))
-      → (fits : Tables → Type 0)
-      → FailsExcused version (state g old.connection) (state g connection) answer fits
-      → Holding fits → Gives g seen new result (λ t x. x ≡ look t)
-  asked answer result looks told look says fits fails fit = record {
-    value = value_of g old seen connection failures is answer result looks out settled told.same
-        told.succeeds look says;
-    looks = looks_of g old seen connection failures is answer result looks out settled told.succeeds
-        told.rise;
-    store = subst (λ (k : Kept S). CountsFault result k.failures failures) is told.store;
-    blames = blames_of g old seen connection failures is answer result fits fails told.same told.fault
-        fit;
-    room = room_of g old seen connection failures is answer looks out settled;
-  }
+    pub asked : {T : Type 0} (answer : Result T Error) (result : Result T BookFault) →
+        LooksOnly (state g old.connection) (state g connection) (is_ok answer)
+        → IsTold answer result old.failures failures → (look : Tables → T)
+        → (HasCleanDisk (state g connection) → (t : Tables)
+        → Holds (state g old.connection).now t → HasPast t → IfOk answer (λ x. x ≡ look t))
+        → (fits : Tables → Type 0)
+        → FailsExcused version (state g old.connection) (state g connection) answer fits
+        → Holding fits → Gives g seen new result (λ t x. x ≡ look t)
+    asked answer result looks told look says fits fails fit = record {
+      value = value_of g old seen connection failures is answer result looks out settled told.same
+          told.succeeds look says;
+      looks = looks_of g old seen connection failures is answer result looks out settled told.succeeds
+          told.rise;
+      store = subst (λ (k : Kept S). CountsFault result k.failures failures) is told.store;
+      blames = blames_of g old seen connection failures is answer result fits fails told.same told.fault
+          fit;
+      room = room_of g old seen connection failures is answer looks out settled;
+    }
 
-  -- a visitor is shown the rows
-  pub walked : {Row V : Type 0} (sees : V → Row → Bool → V → Type 0) (rows : Tables → List Row)
-      (before after : V) (answer : Result (Unit {0}) Error) (result : Result (Unit {0}) BookFault) →
-      LooksOnly (state g old.connection) (state g connection) (is_ok answer)
-      → IsTold answer result old.failures failures
-      → (HasCleanDisk (state g connection) → (t : Tables)
-      → Holds (state g old.connection).now t → HasPast t
-      → OnOk answer (SawAll sees (rows t) before after))
-      → (HasCleanDisk (state g connection) → (t : Tables)
-      → Holds (state g old.connection).now t → HasPast t
-      → OnErr answer (SawSome sees (rows t) before after))
-      → SawRows sees before after (is_ok answer)
-      → (fits : Tables → Type 0)
-      → FailsExcused version (state g old.connection) (state g connection) answer fits
-      → Holding fits
-      → WalksBy (tables g) (is_honest g) (is_open g) (may_leave g) (leaves_books g)
-      (λ (k : Kept S). k.failures) (store_faults g) (has_room g) seen new result sees
-      (rows (tables g seen)) before after
-  walked sees rows before after answer result looks told seen_all seen_some shown fits fails fit =
-      record {
-        seen = λ clean o. relay_ok _ answer result told.succeeds
-            (seen_all clean (tables g seen) (held_by g old seen is o) o.opened.past);
-        begun = λ clean o. relay_err _ answer result told.succeeds
-            (seen_some clean (tables g seen) (held_by g old seen is o) o.opened.past);
-        shown = subst (SawRows sees before after) (sym told.succeeds) shown;
-        looks = looks_of g old seen connection failures is answer result looks out settled
-            told.succeeds told.rise;
-        store = subst (λ (k : Kept S). CountsFault result k.failures failures) is told.store;
-        blames = blames_of g old seen connection failures is answer result fits fails told.same
-            told.fault fit;
-        room = room_of g old seen connection failures is answer looks out settled;
-      }
+    -- a visitor is shown the rows
+    pub walked : {Row V : Type 0} (sees : V → Row → Bool → V → Type 0) (rows : Tables → List Row)
+        (before after : V) (answer : Result (Unit {0}) Error) (result : Result (Unit {0}) BookFault) →
+        LooksOnly (state g old.connection) (state g connection) (is_ok answer)
+        → IsTold answer result old.failures failures
+        → (HasCleanDisk (state g connection) → (t : Tables)
+        → Holds (state g old.connection).now t → HasPast t
+        → OnOk answer (SawAll sees (rows t) before after))
+        → (HasCleanDisk (state g connection) → (t : Tables)
+        → Holds (state g old.connection).now t → HasPast t
+        → OnErr answer (SawSome sees (rows t) before after))
+        → SawRows sees before after (is_ok answer)
+        → (fits : Tables → Type 0)
+        → FailsExcused version (state g old.connection) (state g connection) answer fits
+        → Holding fits
+        → WalksBy (tables g) (is_honest g) (is_open g) (may_leave g) (leaves_books g)
+        (λ (k : Kept S). k.failures) (store_faults g) (has_room g) seen new result sees
+        (rows (tables g seen)) before after
+    walked sees rows before after answer result looks told seen_all seen_some shown fits fails fit =
+        record {
+          seen = λ clean o. relay_ok _ answer result told.succeeds
+              (seen_all clean (tables g seen) (held_by g old seen is o) o.opened.past);
+          begun = λ clean o. relay_err _ answer result told.succeeds
+              (seen_some clean (tables g seen) (held_by g old seen is o) o.opened.past);
+          shown = subst (SawRows sees before after) (sym told.succeeds) shown;
+          looks = looks_of g old seen connection failures is answer result looks out settled
+              told.succeeds told.rise;
+          store = subst (λ (k : Kept S). CountsFault result k.failures failures) is told.store;
+          blames = blames_of g old seen connection failures is answer result fits fails told.same
+              told.fault fit;
+          room = room_of g old seen connection failures is answer looks out settled;
+        }
 
 -- ---- one look-up after another
 

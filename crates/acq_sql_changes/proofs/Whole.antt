@@ -1,10 +1,9 @@
 -- A change that is made in a transaction of its own is made whole or not at all.
-use Rattle.std.proofs.Common.{◌≡◌, true≢false, false, true, sym, subst, ◌∙◌, arith, Ok, Err}
-use Rattle.std.proofs.Common.{Result, IfErr, IsErr, IsTrue}
-use Rattle.std.specs.Result.{IsErrAnd}
+use Rattle.std.proofs.Common.{true≢false, false, true, sym, subst, ◌∙◌, arith, Ok, Err}
+use Rattle.std.proofs.Common.{Result, IfErr, IsErr}
 use Rattle.sqlite.specs.declared.error.Error.{Error}
 use Rattle.sqlite.specs.State.{State, HasCleanDisk, Survives}
-use Rattle.sqlite.proofs.StateLemmas.{survives_then, survives_weaker}
+use Rattle.sqlite.proofs.StateLemmas.{survives_then}
 use Rattle.row_lemmas.specs.Excused.{IsExcused}
 use Rattle.row_lemmas.proofs.StatementFailures.{excused_wider}
 use Rattle.acq_core.specs.declared.change.Change.{Change}

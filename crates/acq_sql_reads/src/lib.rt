@@ -24,8 +24,9 @@ mod show_rows;
 mod walks;
 
 pub use book_row::limit_and_day;
-pub use counts::{merchant_and_admitted, pending, range_count, terminal_count};
-pub use counts::{used_on, waiting_count};
+pub use counts::{
+    merchant_and_admitted, pending, range_count, terminal_count, used_on, waiting_count,
+};
 pub use enrolments::{has_terminal, read_merchant};
 pub use ranges::{overlapping, range};
 pub use reconciliations::last_reconciliation;

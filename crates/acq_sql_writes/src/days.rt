@@ -1,6 +1,6 @@
 //! The business day, and reconciliations.
 
-ghost use Rattle.std.specs.Prelude.{◌≡◌, ◌<◌, ◌^◌};
+ghost use Rattle.std.specs.Prelude.{◌<◌, ◌^◌};
 ghost use Rattle.sqlite.specs.Held.{state};
 ghost use Rattle.acq_sql_writes.specs.Written.{WritesInside, Changes, on_day, with_reconciliation};
 ghost use Rattle.acq_sql_writes.specs.Refused.{AnyTables, HasTables, TakesReconciliation};

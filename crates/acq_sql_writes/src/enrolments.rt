@@ -1,6 +1,5 @@
 //! Merchants and terminals.
 
-ghost use Rattle.std.specs.Prelude.{◌≡◌};
 ghost use Rattle.sqlite.specs.Held.{state};
 ghost use Rattle.acq_sql_writes.specs.Written.{WritesInside, Changes, with_merchant, with_terminal};
 ghost use Rattle.acq_sql_writes.specs.Widened.{IsNeverRefused};

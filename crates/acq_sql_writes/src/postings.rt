@@ -1,6 +1,6 @@
 //! Postings.
 
-ghost use Rattle.std.specs.Prelude.{◌≡◌, ◌<◌, ◌^◌};
+ghost use Rattle.std.specs.Prelude.{◌<◌, ◌^◌};
 ghost use Rattle.sqlite.specs.Held.{state};
 ghost use Rattle.acq_sql_writes.specs.Written.{WritesInside, Changes, with_posting};
 ghost use Rattle.acq_sql_writes.specs.Widened.{IsNeverRefused};

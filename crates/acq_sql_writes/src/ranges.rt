@@ -1,6 +1,5 @@
 //! Ranges.
 
-ghost use Rattle.std.specs.Prelude.{◌≡◌};
 ghost use Rattle.sqlite.specs.Held.{state};
 ghost use Rattle.acq_sql_writes.specs.Written.{WritesInside, Changes, with_added_range};
 ghost use Rattle.acq_sql_writes.specs.Written.{with_dropped_range};

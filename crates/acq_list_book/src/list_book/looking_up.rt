@@ -44,11 +44,7 @@ impl ListBook {
 
     /// Looks up the rest, of which it makes copies. Each is put in its place at once, since a row
     /// is large.
-    pub(crate) fn look_up_rows(
-        &self,
-        wanted: &Wanted,
-        looked: &mut Looked,
-    ) -> Result<(), BookFault>
+    pub(crate) fn look_up_rows(&self, wanted: &Wanted, looked: &mut Looked) -> Result<(), BookFault>
         ensures looked { IsLooked self.now (values_of wanted.now) looked.old
             → OnOk result (IsLooked self.now wanted.now looked.new) }
         ensures store { CountsFault result 0 0 }

@@ -1,8 +1,6 @@
 //! Answers of issuers.
 
 ghost use Rattle.sqlite.specs.Held.{state};
-ghost use Rattle.iso_codec.specs.Message.{IsMessage};
-ghost use Rattle.iso_codec.specs.Reading.{spelling};
 ghost use Rattle.acq_core.specs.declared.change.Change.TheVariants as change;
 ghost use Rattle.acq_core.specs.Pasts.{HasPast};
 ghost use Rattle.acq_sql_writes.specs.Written.{IsShortEnd};

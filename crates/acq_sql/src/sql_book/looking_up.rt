@@ -67,11 +67,7 @@ impl<S: Alter> SqlBook<S> {
     }
 
     /// Looks up what is looked up for the merchant that is wanted, where the rest was.
-    fn look_up_of_merchant(
-        &mut self,
-        wanted: &Wanted,
-        looked: &mut Looked,
-    ) -> Result<(), BookFault>
+    fn look_up_of_merchant(&mut self, wanted: &Wanted, looked: &mut Looked) -> Result<(), BookFault>
         ensures { Gives S.Store self.old self.new result (λ t done.
             IsLooked t (rows_of wanted.now) looked.old → IsLooked t wanted.now looked.new) }
     {
@@ -96,8 +92,10 @@ impl<S: Alter> SqlBook<S> {
         admitted: bool,
     ) -> Result<(Option<Merchant>, AdmittedCount), BookFault>
         ensures { Gives S.Store self.old self.new result (λ t found. found
-            ≡ (option_and_then (merchant_at t) id,
-            number_if admitted (admitted_at t (or_empty id)) id)) }
+            ≡ (
+              option_and_then (merchant_at t) id,
+              number_if admitted (admitted_at t (or_empty id)) id,
+            )) }
     {
         let Some(id) = id else {
             return Ok((None, AdmittedCount::zero()));

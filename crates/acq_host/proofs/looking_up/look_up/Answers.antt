@@ -1,5 +1,5 @@
 -- what was looked up is what the tables let the event know
-use Rattle.std.proofs.Common.{◌≡◌, ◌∙◌, ap, subst}
+use Rattle.std.proofs.Common.{◌∙◌, ap, subst}
 use Rattle.std.specs.Prelude.{IfOk}
 use Rattle.acq_core.specs.Known.{wanted_by}
 use Rattle.acq_book.specs.Looked.{IsLooked}

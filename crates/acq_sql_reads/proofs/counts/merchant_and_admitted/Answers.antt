@@ -20,8 +20,11 @@ returns-in_err-enrolled-clause-fails g c clean t at past free =
 pub returns-in_default-clause-answers : goal.returns-in_default-clause-answers
 returns-in_default-clause-answers g c clean t holds past =
     let none = sym c.in_default.is ∙ c.in_ok-enrolled.ensures.answers clean t holds in
-    λ i. (none i, (c.zero.ensures ∙ none_counted c.args.counted (admitted_at t c.args.id) c.args.id
-    (none_admitted c.args.id t past none)) i)
+    λ i. (
+      none i,
+      (c.zero.ensures ∙ none_counted c.args.counted (admitted_at t c.args.id) c.args.id
+          (none_admitted c.args.id t past none)) i,
+    )
 
 pub returns-in_err-admitted-clause-fails : goal.returns-in_err-admitted-clause-fails
 returns-in_err-admitted-clause-fails g c clean t at past free =

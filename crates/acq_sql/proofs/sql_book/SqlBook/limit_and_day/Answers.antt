@@ -30,7 +30,7 @@ returns g c =
     let recalled : (t : Tables) → Recalls new.memo t → Recalls old.memo t =
     c.note_row.ensures.keeps (sym c.row.ensures ∙ c.in_default.is) in
     let recalls : HasCleanDisk (state g.S.Store answer.new.conn) → is_open g.S.Store old →
-        Recalls new.memo (tables g.S.Store old) =
+    Recalls new.memo (tables g.S.Store old) =
     λ clean o.
     c.note_row.ensures.learns (tables g.S.Store old)
     (relay answer.result told.result _ told.ensures.same told.ensures.succeeds

@@ -11,7 +11,9 @@ returns g c =
     let answer = c.merchant_and_admitted-answer in
     asked g.S.Store _ _ answer.new.conn c.counted.new.failures c.self.view_is c.self.invariant
     c.settled.ensures answer.result c.counted.result answer.ensures.looks c.counted.ensures
-    (λ t. (option_and_then (merchant_at t) c.args.id,
-    number_if c.args.admitted (admitted_at t (or_empty c.args.id)) c.args.id))
+    (λ t. (
+      option_and_then (merchant_at t) c.args.id,
+      number_if c.args.admitted (admitted_at t (or_empty c.args.id)) c.args.id,
+    ))
     (λ clean t holds past. rw c.in-Some.is (answer.ensures.answers clean t holds past))
     _ answer.ensures.fails has_past
