@@ -16,7 +16,7 @@ use Rattle.acq_book.specs.Visits.{SawAll, SawRows, SawSome}
 use Rattle.acq_book.proofs.Chains.{gives_as, gives_fault, gives_then}
 use Rattle.acq_sql_rows.specs.Rows.{version}
 use Rattle.acq_sql_rows.specs.Relation.{Holds}
-use Rattle.acq_sql_rows.specs.Standing.{FailsExcused}
+use Rattle.acq_sql_rows.specs.Standing.{FailsExcusedAt, IsOpenOver}
 use Rattle.acq_sql_writes.specs.Refused.{HasNumbersLeft}
 use Rattle.acq_sql_reads.specs.Looked.{LooksOnly}
 use Rattle.acq_sql.specs.Faults.{IsTold}
@@ -25,7 +25,7 @@ use Rattle.acq_sql.specs.Kept.{Kept}
 use Rattle.acq_sql.specs.Opened.{IsOpenAt, tables, is_honest, is_open, may_leave, leaves_books}
 use Rattle.acq_sql.specs.Opened.{has_room, store_faults}
 use Rattle.acq_sql.proofs.BookBlames.{blames_of}
-use Rattle.acq_sql.proofs.BookLooks.{IsSettled, held_by, looked, looks_of, relay_err, relay_ok}
+use Rattle.acq_sql.proofs.BookLooks.{IsOutside, IsSettled, held_by, looked, looks_of, relay_err, relay_ok}
 use Rattle.acq_sql.proofs.BookLooks.{room_of, unlooked, value_of}
 
 -- ---- nothing is asked
@@ -50,7 +50,7 @@ abbrev pub Holding : (Tables → Type 0) → Type 1
 Holding fits = (s : State) (t : Tables) → IsOpenAt s t → HasNumbersLeft s.now → fits t
 
 module _ {S : Type 0} (g : Ghosts S) (old seen : Kept S) (connection : Held S) (failures : ℕ)
-    (is : old ≡ seen) (out : old.connection.in_transaction ≡ false) (settled : IsSettled g seen)
+    (is : old ≡ seen) (out : IsOutside g old) (settled : IsSettled g seen)
   where
     abbrev new : Kept S
     new = looked old connection failures
@@ -61,7 +61,8 @@ module _ {S : Type 0} (g : Ghosts S) (old seen : Kept S) (connection : Held S) (
         → (HasCleanDisk (state g connection) → (t : Tables)
         → Holds (state g old.connection).now t → HasPast t → IfOk answer (λ x. x ≡ look t))
         → (fits : Tables → Type 0)
-        → FailsExcused version (state g old.connection) (state g connection) answer fits
+        → FailsExcusedAt (IsOpenOver version) (state g old.connection) (state g connection) answer
+        fits
         → Holding fits → Gives g seen new result (λ t x. x ≡ look t)
     asked answer result looks told look says fits fails fit = record {
       value = value_of g old seen connection failures is answer result looks out settled told.same
@@ -87,7 +88,8 @@ module _ {S : Type 0} (g : Ghosts S) (old seen : Kept S) (connection : Held S) (
         → OnErr answer (SawSome sees (rows t) before after))
         → SawRows sees before after (is_ok answer)
         → (fits : Tables → Type 0)
-        → FailsExcused version (state g old.connection) (state g connection) answer fits
+        → FailsExcusedAt (IsOpenOver version) (state g old.connection) (state g connection) answer
+        fits
         → Holding fits
         → WalksBy (tables g) (is_honest g) (is_open g) (may_leave g) (leaves_books g)
         (λ (k : Kept S). k.failures) (store_faults g) (has_room g) seen new result sees
