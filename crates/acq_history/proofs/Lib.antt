@@ -45,3 +45,4 @@ pub mod ConservationStep
 pub mod ReversedAmounts
 pub mod AmountsInDigits
 pub mod OutputsOfOutcomes
+pub mod EchoesOfRequests

@@ -1,13 +1,13 @@
 -- A reply that moves money names its posting.
 use Rattle.std.proofs.Common.{◌≡◌, ◌<◌, ◌≤◌, ◌+◌, ◌-◌, ℕ, List, [], ◌∷◌, ◌++◌, Option, Some, None}
 use Rattle.std.proofs.Common.{Bool, true, false, cond, refl, sym, ap, ◌∙◌, subst, arith}
-use Rattle.std.specs.Prelude.{filter, option_map, option_and_then, not, ◌==◌}
+use Rattle.std.specs.Prelude.{option_map, option_and_then, not, ◌==◌}
 use Rattle.std.specs.Prelude.{codes}
 use Rattle.std.specs.List.{list_all, list_any}
 use Rattle.std.specs.Char.{is_ascii_digit}
 use Rattle.std.specs.Str.Parse.{digits_value}
 use Rattle.std.proofs.lemmas.Bool.Decides.{nat_tests}
-use Rattle.iso_codec.specs.Message.{IsoMessage, content_of, with_content, is_among}
+use Rattle.iso_codec.specs.Message.{IsoMessage, content_of, with_content}
 use Rattle.day_totals.specs.Day.{mmdd_of}
 use Rattle.day_totals.specs.Digits.{zero_padded}
 use Rattle.day_totals.proofs.ZeroPadded.{all_digits-zero_padded, digits_value-zero_padded}
@@ -41,7 +41,7 @@ use Rattle.acq_core.specs.Outcome.{Outcome, Replied, outcome_of}
 use Rattle.acq_core.specs.Tables.{Opening}
 use Rattle.acq_core.proofs.DecisionCases.{by_answer}
 use Rattle.acq_soundness.specs.Requests.{is_admissible, is_reversal}
-use Rattle.acq_soundness.proofs.Keys.{eqb_is, bytes_eq_is}
+use Rattle.acq_soundness.proofs.Keys.{bytes_eq_is}
 use Rattle.acq_soundness.proofs.Lookups.{clash, none_some, some_is, map_some}
 use Rattle.acq_history.specs.Entries.{Entry, is_acceptance}
 use Rattle.acq_history.specs.History.{Found, is_text, recorded, referred, prior, day_after}
@@ -68,7 +68,7 @@ use Rattle.acq_history.specs.Told.{code_in, reply_now, is_told_00}
 use Rattle.acq_history.specs.Cleared.{sale_moved, completion_moved, request_moved, told_posting}
 use Rattle.acq_history.specs.ClearedReplies as statement
 use Rattle.acq_history.specs.ClearedReplies.{Names, left_by}
-use Rattle.acq_history.proofs.ReplyElements.{content_of-set, contents_kept}
+use Rattle.acq_history.proofs.ReplyElements.{content_of-set, contents_kept, content_of-chosen}
 use Rattle.acq_history.proofs.RecordedInHistory.{AdmitsOnlyEnrolled, referred_is, reference_if}
 use Rattle.acq_history.proofs.ChangedRows.{entry_on}
 use Rattle.acq_history.proofs.OwnRequests.{reversal_by}
@@ -83,25 +83,6 @@ use Rattle.acq_history.proofs.ToldOnEvents as events
 
 -- ---- what is echoed
 
--- an element that is echoed is as it was
-echo_kept : (ns : List ℕ) (es : List (ℕ × List ℕ)) (n : ℕ) → list_any (λ k. k == n) ns ≡ true →
-    content_of (filter (is_among ns) es) n ≡ content_of es n
-echo_kept ns [] n among = refl
-echo_kept ns (e ∷ es) n among =
-    step (echo_kept ns es n among) (n == e.0) (is_among ns e) refl refl
-  where
-    step : content_of (filter (is_among ns) es) n ≡ content_of es n →
-        (here there : Bool) → (n == e.0) ≡ here → is_among ns e ≡ there →
-        content_of (cond there (e ∷ filter (is_among ns) es) (filter (is_among ns) es)) n
-        ≡ cond here (Some e.1) (content_of es n)
-    step later true true is kept = ap (λ b. cond b (Some e.1) (content_of (filter (is_among ns) es) n)) is
-    step later false true is kept =
-        ap (λ b. cond b (Some e.1) (content_of (filter (is_among ns) es) n)) is ∙ later
-    step later false false is kept = later
-    step later true false is kept =
-        absurd (let two : true ≡ false =
-        sym among ∙ (ap (λ k. list_any (λ j. j == k) ns) (eqb_is n e.0 is) ∙ kept) in cc)
-
 -- every reply echoes these
 abbrev is_always_echoed : ℕ → Service → Bool
 is_always_echoed n s = list_any (λ k. k == n) (echoed s)
@@ -114,7 +95,7 @@ module _ (r : RequestMessage) (added : List (ℕ × List ℕ)) where
       ≡ text_at r.message n
   echoes n among others =
       ap or_empty (contents_kept n (echo r.service r.message) added others
-      ∙ echo_kept (echoed r.service) r.message.elements n among)
+      ∙ content_of-chosen (echoed r.service) r.message.elements n among)
 
 amount_echoed : (s : Service) → is_always_echoed 4 s ≡ true
 amount_echoed Completion = refl

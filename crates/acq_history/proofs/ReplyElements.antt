@@ -80,3 +80,24 @@ content_of-dropped ns (e ∷ es) n among =
     step later true true is kept =
         absurd (let two : true ≡ false =
         sym kept ∙ (ap (λ k. list_any (λ j. j == k) ns) (sym (eqb_is n e.0 is)) ∙ among) in cc)
+
+-- what is among those that are kept is as it was
+pub content_of-chosen : (ns : List ℕ) (es : List (ℕ × List ℕ)) (n : ℕ) →
+    list_any (λ k. k == n) ns ≡ true →
+    content_of (filter (is_among ns) es) n ≡ content_of es n
+content_of-chosen ns [] n among = refl
+content_of-chosen ns (e ∷ es) n among =
+    step (content_of-chosen ns es n among) (n == e.0) (is_among ns e) refl refl
+  where
+    step : content_of (filter (is_among ns) es) n ≡ content_of es n →
+        (here there : Bool) → (n == e.0) ≡ here → is_among ns e ≡ there →
+        content_of (cond there (e ∷ filter (is_among ns) es) (filter (is_among ns) es)) n
+        ≡ cond here (Some e.1) (content_of es n)
+    step later true true is kept =
+        ap (λ b. cond b (Some e.1) (content_of (filter (is_among ns) es) n)) is
+    step later false true is kept =
+        ap (λ b. cond b (Some e.1) (content_of (filter (is_among ns) es) n)) is ∙ later
+    step later false false is kept = later
+    step later true false is kept =
+        absurd (let two : true ≡ false =
+        sym among ∙ (ap (λ k. list_any (λ j. j == k) ns) (eqb_is n e.0 is) ∙ kept) in cc)

@@ -26,3 +26,4 @@ pub mod ClearedRequests
 pub mod CheckedValues
 pub mod SpelledAmounts
 pub mod SaidOutputs
+pub mod EchoedElements

@@ -12,6 +12,7 @@ ghost use Rattle.acq_history.specs.SpelledAmounts.{AmountsAreSpelled, Remainders
 ghost use Rattle.acq_history.specs.SpelledAmounts.{NothingElseRemains, RequestsAreMessages};
 ghost use Rattle.acq_history.specs.SaidOutputs.{RepliesGoOut, OnlyRepliesGoOut};
 ghost use Rattle.acq_history.specs.SaidOutputs.{QueriesGoOut, OnlyQueriesGoOut};
+ghost use Rattle.acq_history.specs.EchoedElements.{RepliesEcho, AnsweredRepliesEcho};
 ghost use Rattle.acq_history.specs.Balance.{BalancesExactly};
 ghost use Rattle.acq_history.specs.Captures.{CapturesWithinHold, CapturesOnce, ReversesOnce};
 ghost use Rattle.acq_history.specs.OpenHolds.{OpenHoldsAreCapturable, ApprovedHoldsAreOpen};
@@ -153,4 +154,12 @@ pub fn told_is_cleared()
     ensures done { (m : List ℕ) → DoesAsTold m }
     ensures issuers { (m : List ℕ) → TellsIssuersCodes m }
     ensures ids { (m : List ℕ) → TellsIssuersIds m }
+{}
+
+/// Each reply, whatever its code is, has what its request said in elements 2, 3, 4, 7, 11, 12, 13,
+/// 41, 42 and 49, a completion's also in 37, and one of network management also in 70: as it came,
+/// or nothing where the request had nothing. So has the reply to a request that an issuer answers.
+pub fn requests_are_echoed()
+    ensures replies { RepliesEcho }
+    ensures answered { (m : List ℕ) → AnsweredRepliesEcho m }
 {}
