@@ -2,3 +2,4 @@ pub mod KeyTests
 pub mod Counting
 pub mod Days
 pub mod Chains
+pub mod GroupChains

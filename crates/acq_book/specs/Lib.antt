@@ -3,6 +3,7 @@ pub mod Lookups
 pub mod Looked
 pub mod Fits
 pub mod Promise
+pub mod Groups
 pub mod Visits
 pub mod Keys
 pub mod Calls

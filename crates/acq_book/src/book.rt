@@ -11,6 +11,8 @@ ghost use Rattle.acq_book.specs.Lookups.{pending_at, used_on_at, waiting_count_a
 ghost use Rattle.acq_book.specs.Lookups.{last_reconciliation_at};
 ghost use Rattle.acq_book.specs.Lookups.{postings_at, merchants_at, holds_at, waiting_at};
 ghost use Rattle.acq_book.specs.Looked.{IsLooked};
+ghost use Rattle.acq_book.specs.Groups.{BeginsBy, GivesWithinBy, IsLive, KeepsBy, MakesWithinBy};
+ghost use Rattle.acq_book.specs.Groups.{ReturnsBy};
 ghost use Rattle.acq_book.specs.Promise.{BlamesStore, CountsFault, GivesBy, MakesBy, WalksBy};
 
 use crate::book_fault::BookFault;
@@ -24,10 +26,15 @@ use day_totals::{Day, Totals};
 
 /// What keeps the tables.
 ///
-/// A look-up gives what its definition says of the tables, and changes nothing. `look_up` answers all
-/// that an event asks for at once; the calls behind `apply` ask it for one part. What is said of
-/// the tables is said of an open book, whose store gave back what was written. Any call may answer
-/// that memory ran out, or that the store failed.
+/// A look-up gives what its definition says of the tables, and changes nothing. `look_up` answers
+/// all that an event asks for at once; the calls behind `apply` ask it for one part. What is said
+/// of the tables is said of an open book, whose store gave back what was written. Any call may
+/// answer that memory ran out, or that the store failed.
+///
+/// Changes may be made in a group, which is kept whole or not at all: `begin`, then `look_up` and
+/// `apply`, then `keep`. Within it look-ups see what it changed, and a stop leaves nothing of it.
+/// After a call in it that failed, and after whatever else is in its way, `give_up` leads back to
+/// the tables at which it began.
 pub trait Book {
     /// The tables.
     ghost tables: { Self → Tables };
@@ -35,8 +42,14 @@ pub trait Book {
     /// The store gave back what was written, and nothing but this book has written it.
     ghost is_honest: { Self → Type 0 };
 
-    /// The store is honest, and no fault has shut it.
+    /// The store is honest, no fault has shut it, and no group is begun.
     ghost is_open: { Self → Type 0 };
+
+    /// So it is, but a group is begun: over these tables, when the store had met so many faults.
+    ghost is_within: { Self → Tables → ℕ → Type 0 };
+
+    /// A group that began so can be given up, also since a call in it failed.
+    ghost can_return: { Self → Tables → ℕ → Type 0 };
 
     /// The tables that a stop may leave.
     ghost may_leave: { Self → Tables → Type 0 };
@@ -53,11 +66,14 @@ pub trait Book {
     /// Nothing but memory and a fault of the store itself is in the way of its calls.
     ghost has_room: { Self → Type 0 };
 
-    /// Looks up what is wanted: each part of the answer is what the tables have.
+    /// Looks up what is wanted: each part of the answer is what the tables have, within a group
+    /// those that it shows.
     fn look_up(&mut self, wanted: &Wanted) -> Result<Looked, BookFault>
-        ensures { GivesBy tables is_honest is_open may_leave leaves_books failures store_faults
-            has_room self.old self.new result
-            (IsLooked (tables self.old) wanted.now) };
+        ensures gives { GivesBy tables is_honest is_open may_leave leaves_books
+            failures store_faults has_room self.old self.new result
+            (IsLooked (tables self.old) wanted.now) }
+        ensures within { GivesWithinBy tables is_honest is_within can_return
+            self.old self.new result (IsLooked (tables self.old) wanted.now) };
 
     /// How many terminals there are, of all merchants.
     fn terminal_count(&mut self) -> Result<u64, BookFault>
@@ -133,17 +149,44 @@ pub trait Book {
             has_room self.old self.new result
             V.sees (waiting_at (tables self.old)) visitor.old visitor.new };
 
-    /// Makes all of a change, or none of it. The change fits: its keys are new, and there is room
-    /// for it; and it leads to tables that events lead to.
+    /// Makes all of a change, or none of it; within a group it is made with the group. The change
+    /// fits: its keys are new, and there is room for it; and it leads to tables that events lead
+    /// to.
     fn apply(&mut self, change: &Change) -> Result<(), BookFault>
-        requires fits { is_open self.old → Fits (tables self.old) change.now }
-        requires past { is_open self.old → HasPast (after (tables self.old) change.now) }
+        requires fits { IsLive is_open is_within self.old → Fits (tables self.old) change.now }
+        requires past { IsLive is_open is_within self.old
+            → HasPast (after (tables self.old) change.now) }
         ensures makes { MakesBy tables is_honest is_open may_leave leaves_books
-            failures store_faults self.old self.new (is_ok result) (after (tables self.old) change.now) }
+            failures store_faults self.old self.new
+            (is_ok result) (after (tables self.old) change.now) }
+        ensures within { MakesWithinBy tables is_honest is_within can_return may_leave leaves_books
+            self.old self.new (is_ok result) (after (tables self.old) change.now) }
         ensures store { CountsFault result (failures self.old) (failures self.new) }
-        ensures blames { is_honest self.new → is_open self.old → has_room self.old
+        ensures blames { is_honest self.new → IsLive is_open is_within self.old → has_room self.old
             → HasItsRequest (tables self.old) change.now
             → BlamesStore result (store_faults self.old) (store_faults self.new) };
+
+    /// Begins a group.
+    fn begin(&mut self) -> Result<(), BookFault>
+        ensures begins { BeginsBy tables is_honest is_open is_within may_leave leaves_books
+            failures store_faults self.old self.new (is_ok result) }
+        ensures store { CountsFault result (failures self.old) (failures self.new) }
+        ensures blames { is_honest self.new → is_open self.old
+            → BlamesStore result (store_faults self.old) (store_faults self.new) };
+
+    /// Keeps the group, whole. If it can't be kept, it is given up.
+    fn keep(&mut self) -> Result<(), BookFault>
+        ensures keeps { KeepsBy tables is_honest is_open is_within may_leave leaves_books
+            failures store_faults self.old self.new (is_ok result) }
+        ensures store { CountsFault result (failures self.old) (failures self.new) }
+        ensures blames { (began : Tables) (faults : ℕ) → is_honest self.new
+            → is_within self.old began faults
+            → BlamesStore result (store_faults self.old) (store_faults self.new) };
+
+    /// Gives up the group, and leads back to the tables at which it began.
+    fn give_up(&mut self)
+        ensures { ReturnsBy tables is_honest is_open can_return may_leave leaves_books
+            failures store_faults self.old self.new };
 
     /// How many messages of a merchant a day admits.
     fn limit(&mut self) -> Result<Limit, BookFault>
@@ -333,4 +376,15 @@ pub trait Book {
 
     /// and a book that stores them.
     ghost stored: { (book : Self) → is_open book → leaves_books book };
+
+    /// Events led to its tables,
+    ghost past: { (book : Self) → is_open book → HasPast (tables book) };
+
+    /// and so they did to those within a group,
+    ghost past_within: { (book : Self) (began : Tables) (faults : ℕ) → is_within book began faults
+        → HasPast (tables book) };
+
+    /// which can be given up.
+    ghost returns: { (book : Self) (began : Tables) (faults : ℕ) → is_within book began faults
+        → can_return book began faults };
 }
