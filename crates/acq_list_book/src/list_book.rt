@@ -1,254 +1,97 @@
 //! A book in memory.
 
-ghost use Rattle.std.specs.Prelude.{◌≡◌, OnOk, OnErr};
-ghost use Rattle.acq_core.specs.declared.change.Change.TheVariants as change;
-ghost use Rattle.acq_core.specs.Tables.{after, new_tables};
-ghost use Rattle.acq_book.specs.Fits.{Fits};
+ghost use Rattle.std.specs.Prelude.{◌≡◌};
+ghost use Rattle.acq_core.specs.Pasts.{HasPast};
+ghost use Rattle.acq_core.specs.Tables.{new_tables};
+ghost use Rattle.acq_list_book.specs.declared.group.Group.TheVariants.{Begun, NotBegun};
+ghost use Rattle.acq_list_book.specs.Listed.{faults_of};
 
-mod looking_up;
-
-use crate::walks::{in_order_of_names, in_order_of_numbers, in_order_of_references, show};
+use crate::group::Group;
+use crate::list_tables::ListTables;
+use crate::walks::show;
 use acq_book::{Book, BookFault, Visit};
 use acq_core::{
-    Change, Limit, Looked, Merchant, MerchantId, Posting, Reconciliation, Remains, Request,
-    RequestKey, Status, Terminal, Wanted,
+    Change, Limit, Looked, Merchant, MerchantId, Posting, Reconciliation, Request, Wanted,
 };
-use acq_lists::{Merchants, Postings, Reconciliations, Requests, Terminals};
-use card_no::{Range, RangeFault, RangeList};
 use day_totals::Day;
-use iso_codec::Message;
-use std::alloc::{AllocError, Global};
+use std::alloc::Global;
 use std::hash::RandomState;
 use std::marker::Model;
 
-/// The tables, in memory. Contracts see them alone. No look-up goes over all rows of a table, but
-/// that of an overlap, which goes over the ranges, and those of the pending requests and the walks,
-/// which serve reports.
+/// The tables, in memory, and how far a group of changes has come. A group changes the tables
+/// themselves, so one that is given up can't be undone: it shuts the book, as a fault of its store.
 #[derive(Drop)]
 pub struct ListBook {
-    alloc: Global,
-    limit: Limit,
-    day: Day,
-    merchants: Merchants,
-    terminals: Terminals,
-    ranges: RangeList,
-    requests: Requests,
-    postings: Postings,
-    reconciliations: Reconciliations,
+    tables: ListTables,
+    group: Group,
 }
 
 impl Model for ListBook {
-    ghost use Rattle.acq_core.specs.Tables.{Tables};
+    ghost use Rattle.acq_core.specs.Pasts.{HasPast};
+    ghost use Rattle.acq_list_book.specs.Listed.{Listed};
 
-    ghost Value = { Tables };
+    ghost Value = { Listed };
 
-    ghost view = { λ b. record {
-      limit = b.limit;
-      day = b.day;
-      merchants = b.merchants.rows;
-      terminals = b.terminals.rows;
-      ranges = b.ranges;
-      requests = b.requests.rows;
-      postings = b.postings.rows;
-      reconciliations = b.reconciliations.rows;
-    } };
+    ghost view = { λ b. record { tables = b.tables; group = b.group } };
+
+    ghost invariant = { λ b. HasPast b.tables };
 }
 
 impl ListBook {
-    /// A new book. It takes no memory. Terminals choose much of what rows are found by, so the keys
-    /// of the hashes are random ones.
+    /// A new book, in which no group is begun. It takes no memory. Terminals choose much of what
+    /// rows are found by, so the keys of the hashes are random ones.
     pub fn new(alloc: Global, keys: RandomState, limit: Limit, first_day: Day) -> ListBook
-        ensures { result ≡ new_tables (record { limit = limit; first_day = first_day }) }
+        requires past { HasPast (new_tables (record { limit = limit; first_day = first_day })) }
+        ensures { result ≡ record {
+          tables = new_tables (record { limit = limit; first_day = first_day });
+          group = NotBegun;
+        } }
     {
         ListBook {
-            alloc,
-            limit,
-            day: first_day,
-            merchants: Merchants::new(alloc, keys),
-            terminals: Terminals::new(alloc, keys),
-            ranges: RangeList::new(alloc),
-            requests: Requests::new(alloc, keys),
-            postings: Postings::new(alloc, keys),
-            reconciliations: Reconciliations::new(alloc, keys),
-        }
-    }
-
-    fn add_merchant(&mut self, merchant: Merchant) -> Result<(), AllocError>
-        requires { Fits self.old (change.AddMerchant merchant) }
-        ensures ok { OnOk result (self.new ≡ after self.old (change.AddMerchant merchant)) }
-        ensures err { OnErr result (self.new ≡ self.old) }
-    {
-        self.merchants.reserve()?;
-        self.merchants.push(merchant);
-        Ok(())
-    }
-
-    fn add_terminal(&mut self, terminal: Terminal) -> Result<(), AllocError>
-        requires { Fits self.old (change.AddTerminal terminal) }
-        ensures ok { OnOk result (self.new ≡ after self.old (change.AddTerminal terminal)) }
-        ensures err { OnErr result (self.new ≡ self.old) }
-    {
-        self.terminals.reserve()?;
-        self.terminals.push(terminal);
-        Ok(())
-    }
-
-    fn add_range(&mut self, range: &Range) -> Result<(), AllocError>
-        requires { Fits self.old (change.AddRange range.now) }
-        ensures ok { OnOk result (self.new ≡ after self.old (change.AddRange range.now)) }
-        ensures err { OnErr result (self.new ≡ self.old) }
-    {
-        let range = range.copied(self.alloc)?;
-        match self.ranges.add(range) {
-            Ok(()) => Ok(()),
-            Err(RangeFault::Memory) => Err(AllocError),
-            Err(_) => unreachable!(),
-        }
-    }
-
-    fn drop_range(&mut self, low: u32, high: u32)
-        requires { Fits self.old (change.DropRange low high) }
-        ensures { self.new ≡ after self.old (change.DropRange low high) }
-    {
-        let Ok(()) = self.ranges.remove(low, high) else {
-            unreachable!();
-        };
-    }
-
-    fn add_request(&mut self, row: &Request) -> Result<(), AllocError>
-        requires { Fits self.old (change.AddRequest row.now) }
-        ensures ok { OnOk result (self.new ≡ after self.old (change.AddRequest row.now)) }
-        ensures err { OnErr result (self.new ≡ self.old) }
-    {
-        let row = self.requests.reserve_for(self.alloc, row)?;
-        self.requests.push(row);
-        Ok(())
-    }
-
-    fn answered(
-        &mut self,
-        key: &RequestKey,
-        status: Status,
-        reply: &Message,
-        hold_end: Option<u64>,
-        posting: &Option<Posting>,
-    ) -> Result<(), AllocError>
-        requires { Fits self.old
-            (change.Answered key.now status reply.now hold_end posting.now) }
-        ensures ok { OnOk result (self.new ≡ after self.old
-            (change.Answered key.now status reply.now hold_end posting.now)) }
-        ensures err { OnErr result (self.new ≡ self.old) }
-    {
-        let posting = self.postings.reserve_for(self.alloc, posting)?;
-        let reply = reply.copied(self.alloc)?;
-        self.requests.answer(key, status, reply, hold_end);
-        self.postings.push_if(posting);
-        Ok(())
-    }
-
-    fn follow(
-        &mut self,
-        request: &Request,
-        original: &RequestKey,
-        remains: Remains,
-        posting: &Option<Posting>,
-    ) -> Result<(), AllocError>
-        requires { Fits self.old
-            (change.Follow request.now original.now remains posting.now) }
-        ensures ok { OnOk result (self.new ≡ after self.old
-            (change.Follow request.now original.now remains posting.now)) }
-        ensures err { OnErr result (self.new ≡ self.old) }
-    {
-        let posting = self.postings.reserve_for(self.alloc, posting)?;
-        let request = self.requests.reserve_for(self.alloc, request)?;
-        self.requests.follow(original, remains);
-        self.requests.push(request);
-        self.postings.push_if(posting);
-        Ok(())
-    }
-
-    fn reconciled(
-        &mut self,
-        request: &Request,
-        reconciliation: &Reconciliation,
-    ) -> Result<(), AllocError>
-        requires { Fits self.old (change.Reconciled request.now reconciliation.now) }
-        ensures ok { OnOk result (self.new ≡ after self.old
-            (change.Reconciled request.now reconciliation.now)) }
-        ensures err { OnErr result (self.new ≡ self.old) }
-    {
-        self.reconciliations.reserve()?;
-        let request = self.requests.reserve_for(self.alloc, request)?;
-        self.requests.push(request);
-        self.reconciliations.push(reconciliation);
-        Ok(())
-    }
-
-    fn make(&mut self, change: &Change) -> Result<(), AllocError>
-        requires { Fits self.old change.now }
-        ensures ok { OnOk result (self.new ≡ after self.old change.now) }
-        ensures err { OnErr result (self.new ≡ self.old) }
-    {
-        match change {
-            Change::AddMerchant(merchant) => self.add_merchant(*merchant),
-            Change::AddTerminal(terminal) => self.add_terminal(*terminal),
-            Change::AddRange(range) => self.add_range(range),
-            Change::DropRange { low, high } => {
-                self.drop_range(*low, *high);
-                Ok(())
-            }
-            Change::SetDay(day) => {
-                self.day = *day;
-                Ok(())
-            }
-            Change::AddRequest(row) => self.add_request(row),
-            Change::Answered {
-                key,
-                status,
-                reply,
-                hold_end,
-                posting,
-            } => self.answered(key, *status, reply, *hold_end, posting),
-            Change::Follow {
-                request,
-                original,
-                remains,
-                posting,
-            } => self.follow(request, original, *remains, posting),
-            Change::Reconciled {
-                request,
-                reconciliation,
-            } => self.reconciled(request, reconciliation),
+            tables: ListTables::new(alloc, keys, limit, first_day),
+            group: Group::NotBegun,
         }
     }
 }
 
 impl Book for ListBook {
-    ghost tables = { λ t. t };
+    ghost tables = { λ b. b.tables };
 
-    ghost is_honest = { λ t. Unit {0} };
+    ghost is_honest = { λ b. Unit {0} };
 
-    ghost is_open = { λ t. Unit {0} };
+    ghost is_open = { λ b. (b.group ≡ NotBegun) × HasPast b.tables };
 
-    ghost may_leave = { λ t left. left ≡ t };
+    ghost is_within = { λ b began faults.
+        (b.group ≡ Begun) × ((faults ≡ 0) × HasPast b.tables) };
 
-    ghost leaves_books = { λ t. Unit {0} };
+    ghost can_return = { λ b began faults. (b.group ≡ Begun) × (faults ≡ 0) };
 
-    ghost failures = { λ t. 0 };
+    // Outside a group a stop leaves the tables, within one nothing.
+    ghost may_leave = { λ b left. (b.group ≡ NotBegun) × (left ≡ b.tables) };
 
-    ghost store_faults = { λ t. 0 };
+    ghost leaves_books = { λ b. Unit {0} };
 
-    ghost has_room = { λ t. Unit {0} };
+    ghost failures = { λ b. 0 };
 
-    ghost honest = { λ t is. is };
+    ghost store_faults = { λ b. faults_of b.group };
 
-    ghost settled = { λ t is left same. same };
+    ghost has_room = { λ b. Unit {0} };
 
-    ghost stored = { λ t is. is };
+    ghost honest = { λ b is. tt };
+
+    ghost settled = { λ b is left same. same.1 };
+
+    ghost stored = { λ b is. tt };
+
+    ghost past = { λ b is. is.1 };
+
+    ghost past_within = { λ b began faults is. is.1.1 };
+
+    ghost returns = { λ b began faults is. (is.0, is.1.0) };
 
     fn look_up(&mut self, wanted: &Wanted) -> Result<Looked, BookFault> {
-        let mut looked = self.look_up_values(wanted);
-        match self.look_up_rows(wanted, &mut looked) {
+        let mut looked = self.tables.look_up_values(wanted);
+        match self.tables.look_up_rows(wanted, &mut looked) {
             Ok(()) => Ok(looked),
             Err(fault) => {
                 drop(looked);
@@ -258,23 +101,23 @@ impl Book for ListBook {
     }
 
     fn terminal_count(&mut self) -> Result<u64, BookFault> {
-        Ok(self.terminals.count())
+        Ok(self.tables.terminal_count())
     }
 
     fn range_count(&mut self) -> Result<u64, BookFault> {
-        Ok(self.ranges.as_slice().len() as u64)
+        Ok(self.tables.range_count())
     }
 
     fn used_on(&mut self, day: Day) -> Result<u64, BookFault> {
-        Ok(self.requests.used_on(day))
+        Ok(self.tables.used_on(day))
     }
 
     fn pending(&mut self, day: Day) -> Result<u64, BookFault> {
-        Ok(self.requests.pending(day))
+        Ok(self.tables.pending(day))
     }
 
     fn waiting_count(&mut self) -> Result<u64, BookFault> {
-        Ok(self.requests.waiting_count())
+        Ok(self.tables.waiting_count())
     }
 
     fn last_reconciliation(
@@ -282,7 +125,7 @@ impl Book for ListBook {
         merchant: MerchantId,
         day: Day,
     ) -> Result<Option<Reconciliation>, BookFault> {
-        Ok(self.reconciliations.last(merchant, day))
+        Ok(self.tables.last_reconciliation(merchant, day))
     }
 
     fn walk_postings<V: Visit<(u64, Posting)>>(
@@ -290,13 +133,11 @@ impl Book for ListBook {
         day: Day,
         visitor: &mut V,
     ) -> Result<(), BookFault> {
-        let rows = self.postings.of_day(self.alloc, day);
-        show(in_order_of_numbers(rows), visitor)
+        show(self.tables.postings(day), visitor)
     }
 
     fn walk_merchants<V: Visit<Merchant>>(&mut self, visitor: &mut V) -> Result<(), BookFault> {
-        let rows = self.merchants.all(self.alloc);
-        show(in_order_of_names(rows), visitor)
+        show(self.tables.merchants(), visitor)
     }
 
     fn walk_holds<V: Visit<Request>>(
@@ -304,15 +145,42 @@ impl Book for ListBook {
         merchant: MerchantId,
         visitor: &mut V,
     ) -> Result<(), BookFault> {
-        let rows = self.requests.holds(self.alloc, merchant);
-        show(in_order_of_references(rows), visitor)
+        show(self.tables.holds(merchant), visitor)
     }
 
     fn walk_pending<V: Visit<Request>>(&mut self, visitor: &mut V) -> Result<(), BookFault> {
-        show(self.requests.waiting(self.alloc), visitor)
+        show(self.tables.waiting(), visitor)
     }
 
     fn apply(&mut self, change: &Change) -> Result<(), BookFault> {
-        Ok(self.make(change)?)
+        match self.group {
+            Group::NotBegun | Group::Begun => Ok(self.tables.make(change)?),
+            Group::GivenUp => Err(BookFault::Memory),
+        }
+    }
+
+    fn begin(&mut self) -> Result<(), BookFault> {
+        match self.group {
+            Group::NotBegun => self.group = Group::Begun,
+            Group::Begun | Group::GivenUp => {}
+        }
+        Ok(())
+    }
+
+    fn keep(&mut self) -> Result<(), BookFault> {
+        match self.group {
+            Group::Begun => self.group = Group::NotBegun,
+            Group::NotBegun | Group::GivenUp => {}
+        }
+        Ok(())
+    }
+
+    /// Shuts the book. To undo its changes, each group that goes well would have to keep what it
+    /// changed; and a group here fails only where memory runs out, which ends the run anyway.
+    fn give_up(&mut self) {
+        match self.group {
+            Group::Begun => self.group = Group::GivenUp,
+            Group::NotBegun | Group::GivenUp => {}
+        }
     }
 }

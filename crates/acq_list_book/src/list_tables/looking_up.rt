@@ -12,7 +12,7 @@ ghost use Rattle.acq_book.specs.Promise.{CountsFault};
 ghost use Rattle.acq_list_book.specs.Looking.{values_of};
 
 use crate::copies::{found_copied, range_copied};
-use crate::list_book::ListBook;
+use crate::list_tables::ListTables;
 use acq_book::BookFault;
 use acq_core::{
     AdmittedCount, Looked, Merchant, MerchantId, Reference, Request, RequestKey, TerminalId,
@@ -21,7 +21,7 @@ use acq_core::{
 use card_no::{Prefix, Range};
 use day_totals::{Day, Totals};
 
-impl ListBook {
+impl ListTables {
     /// Looks up what takes no memory.
     pub(crate) fn look_up_values(&self, wanted: &Wanted) -> Looked
         ensures { IsLooked self.now (values_of wanted.now) result }

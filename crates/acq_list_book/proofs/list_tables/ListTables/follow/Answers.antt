@@ -2,7 +2,7 @@ use Rattle.std.proofs.Common.{◌≡◌, ◌∙◌, ap, sym, subst}
 use Rattle.acq_core.specs.Tables.{with_changed, followed_row}
 use Rattle.acq_lists.specs.Rows.{IsNewRow}
 use Rattle.acq_lists.proofs.Edited.{new_changed, edit_follow}
-use Rattle.acq_list_book.proofs.list_book.ListBook.follow.Goals as goal
+use Rattle.acq_list_book.proofs.list_tables.ListTables.follow.Goals as goal
 
 pub push-requires-clause-new : goal.push-requires-clause-new
 push-requires-clause-new c =
