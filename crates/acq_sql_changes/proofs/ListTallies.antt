@@ -153,6 +153,22 @@ module _ (t : Tables) (r : Request) (m : List ℕ) (d : ℕ) where
       split true false false = refl
       split false b c = refl
 
+-- one that doesn't count makes nothing of it
+pub tally_uncounted : (t : Tables) (r : Request) → r.admitted ≡ false → (m : List ℕ) (d : ℕ)
+    → tally_of (with_request r t) m d ≡ tally_of t m d
+tally_uncounted t r uncounted m d = tally_requested t r m d ∙ split (is_key r.key.merchant r.day m d)
+  where
+    none : plus (tally_of t m d) (request_tally r) ≡ tally_of t m d
+    none =
+        ap (λ b. plus (tally_of t m d) (record no_tally { used = if b then 1 else 0 })) uncounted
+        ∙ used_plus (tally_of t m d) 0
+        ∙ (λ i. record (tally_of t m d) { used = no_more (tally_of t m d).used i })
+
+    split : (b : Bool) → cond b (plus (tally_of t m d) (request_tally r)) (tally_of t m d)
+        ≡ tally_of t m d
+    split true = none
+    split false = refl
+
 -- ---- a request and a posting
 
 -- so many messages that count, and this posting

@@ -113,6 +113,25 @@ module _ (change : Change) (fits : Tables → Type 0) {old mid : State} {before 
               };
             }
 
+    -- the same, of tables of which this is so, said in other words
+    pub ends_as : (result : Result (Unit {0}) Error) (last : Tables → Tables)
+        → WritesInside mid new result (Changes last) → (needs : Database → Type 0)
+        → IsNeverRefused mid new result needs → Meets needs → LeavesTallies (λ t. last (before t))
+        → (room : Tables → Type 0) (changed : Tables → Tables)
+        → ((t : Tables) → room t → last (before t) ≡ changed t)
+        → Outcome old new result change fits room changed
+    ends_as result last write needs never meets leaves room changed same =
+        let it = ends result {room = room} last write needs never meets leaves in
+        record {
+          changes = record {
+            done = λ clean began t i fit. subst (λ u. OnOk result (IsIn new began u)) (same t fit)
+                (it.changes.done clean began t i fit);
+            based = it.changes.based;
+            stop = it.changes.stop;
+          };
+          fails = it.fails;
+        }
+
     -- what came is raised last
     pub ends_raised : (result : Result (Unit {0}) Error)
         (merchant : List ℕ) (day : ℕ) (more : Tally)

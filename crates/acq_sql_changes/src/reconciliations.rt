@@ -16,8 +16,8 @@ use acq_sql_writes::{add_reconciliation, add_request, raise};
 use day_totals::Totals;
 use sqlite::{Alter, Connection, Error};
 
-/// Records a request, whose reply is spelled so, counts it against its day, and keeps the
-/// reconciliation that it made, with its number of the merchant and day.
+/// Records a request, whose reply is spelled so, counts it against its day, if it counts, and keeps
+/// the reconciliation that it made, with its number of the merchant and day.
 pub fn reconcile<'x, S: Alter>(
     conn: &mut Connection<S>,
     request: &'x Request,
@@ -39,6 +39,9 @@ pub fn reconcile<'x, S: Alter>(
     let used = used_by(request);
     let none = Totals::zero();
     add_request(conn, request, reply)?;
+    if !request.admitted {
+        return add_reconciliation(conn, number, reconciliation);
+    }
     add_reconciliation(conn, number, reconciliation)?;
     raise(conn, request.key.merchant, request.day, used, &none)
 }

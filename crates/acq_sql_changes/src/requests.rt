@@ -17,7 +17,7 @@ use acq_sql_writes::{add_request, raise};
 use day_totals::Totals;
 use sqlite::{Alter, Connection, Error};
 
-/// Records a request, whose reply is spelled so, and counts it against its day.
+/// Records a request, whose reply is spelled so, and counts it against its day, if it counts.
 pub fn record_request<'x, S: Alter>(
     conn: &mut Connection<S>,
     request: &'x Request,
@@ -31,6 +31,9 @@ pub fn record_request<'x, S: Alter>(
     ensures fails { FailsInside (state S.Store conn.old) (state S.Store conn.new) result
         (change.AddRequest request.now) AnyTables }
 {
+    if !request.admitted {
+        return add_request(conn, request, reply);
+    }
     let used = used_by(request);
     let none = Totals::zero();
     add_request(conn, request, reply)?;

@@ -1,12 +1,12 @@
-use Rattle.std.proofs.Common.{refl, ap}
+use Rattle.std.proofs.Common.{◌≡◌, false, refl, ap, rules}
 use Rattle.acq_core.specs.declared.change.Change.TheVariants as change
 use Rattle.acq_sql_rows.specs.Tallies.{request_tally}
 use Rattle.acq_sql_writes.specs.Written.{with_request, with_reconciliation}
 use Rattle.acq_sql_writes.specs.Refused.{HasTables, TakesRequest, TakesReconciliation}
 use Rattle.acq_sql_changes.specs.Changed.{HasRoomToReconcile, with_reconciled}
 use Rattle.acq_sql_changes.specs.Refused.{IsNextReconciliation}
-use Rattle.acq_sql_changes.proofs.ListTallies.{tally_requested}
-use Rattle.acq_sql_changes.proofs.Outcomes.{drops, ends_raised}
+use Rattle.acq_sql_changes.proofs.ListTallies.{tally_requested, tally_uncounted}
+use Rattle.acq_sql_changes.proofs.Outcomes.{drops, ends_as, ends_raised}
 use Rattle.acq_sql_changes.proofs.Progress.{unwritten, wrote}
 use Rattle.acq_sql_changes.proofs.Room.{request_short}
 use Rattle.acq_sql_changes.proofs.TakenTables.{takes_request, takes_reconciliation, texts_of_last}
@@ -62,3 +62,24 @@ returns g c =
     (λ t _. tally_requested t r) (λ t room short. request_short t r short room.0)
     (λ t room. ap (λ k. with_reconciliation k x (with_request r t)) room.1)
     (λ t taken. (taken.takes.fits.used, taken.fit))
+
+-- one that doesn't count raises nothing
+pub returns-then-not-request : goal.returns-then-not-request
+returns-then-not-request g c =
+    let r = c.args.request.now in
+    let uncounted : r.admitted ≡ false = search rules in
+    let n = c.args.number in
+    let x = c.args.reconciliation.now in
+    let added = wrote (unwritten _) (with_request r) c.in_ok-add_request.ensures.writes in
+    ends_as (change.Reconciled r x) (IsNextReconciliation n x) added c.add_reconciliation.result
+    (with_reconciliation n x) c.add_reconciliation.ensures.writes
+    (HasTables (TakesReconciliation n x)) c.add_reconciliation.ensures.fails
+    (λ t taken rows. (
+      _,
+      taken.holds.runs,
+      takes_reconciliation taken n x taken.fit _ refl,
+      rows,
+    ))
+    (λ t. tally_uncounted t r uncounted)
+    (HasRoomToReconcile r n x) (with_reconciled r x)
+    (λ t room. ap (λ k. with_reconciliation k x (with_request r t)) room.1)

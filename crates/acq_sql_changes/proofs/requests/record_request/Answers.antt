@@ -1,11 +1,11 @@
-use Rattle.std.proofs.Common.{refl}
+use Rattle.std.proofs.Common.{◌≡◌, false, refl, rules}
 use Rattle.acq_core.specs.declared.change.Change.TheVariants as change
 use Rattle.acq_sql_rows.specs.Tallies.{request_tally}
 use Rattle.acq_sql_writes.specs.Written.{with_request}
 use Rattle.acq_sql_writes.specs.Refused.{AnyTables, HasTables, TakesRequest}
 use Rattle.acq_sql_changes.specs.Changed.{HasRoomFor}
-use Rattle.acq_sql_changes.proofs.ListTallies.{tally_requested}
-use Rattle.acq_sql_changes.proofs.Outcomes.{drops, ends_raised}
+use Rattle.acq_sql_changes.proofs.ListTallies.{tally_requested, tally_uncounted}
+use Rattle.acq_sql_changes.proofs.Outcomes.{drops, ends, ends_raised}
 use Rattle.acq_sql_changes.proofs.Progress.{unwritten, wrote}
 use Rattle.acq_sql_changes.proofs.Room.{request_short}
 use Rattle.acq_sql_changes.proofs.TakenTables.{takes_request, texts_of_last}
@@ -35,3 +35,19 @@ returns g c =
     (request_tally r) raised.writes raised.fails (HasRoomFor r) (with_request r)
     (λ t _. tally_requested t r) (λ t room short. request_short t r short room) (λ t _. refl)
     (λ t taken. taken.takes.fits.used)
+
+-- one that doesn't count raises nothing
+pub returns-then-not-request : goal.returns-then-not-request
+returns-then-not-request g c =
+    let r = c.args.request.now in
+    let uncounted : r.admitted ≡ false = search rules in
+    ends (change.AddRequest r) AnyTables (unwritten _) c.add_request.result (with_request r)
+    c.add_request.ensures.writes (HasTables (TakesRequest r)) c.add_request.ensures.fails
+    (λ t taken rows. (
+      t,
+      taken.holds.runs,
+      takes_request taken r taken.takes.fits.key
+          (texts_of_last t.requests r taken.takes.later.texts),
+      rows,
+    ))
+    (λ t. tally_uncounted t r uncounted)
