@@ -1,5 +1,5 @@
 -- A book blames its store only since the store failed.
-use Rattle.std.proofs.Common.{◌≡◌, inl, inr, ℕ, suc, ◌==◌, Bool, true, false, ◌&&◌, cond}
+use Rattle.std.proofs.Common.{◌≡◌, inl, inr, ⊎_elim, ℕ, suc, ◌==◌, Bool, true, false, ◌&&◌, cond}
 use Rattle.std.proofs.Common.{List, [], ◌∷◌, length, filter, is_lt, nat_cmp}
 use Rattle.std.proofs.Common.{Result, Ok, Err, IfOk, IfErr, IsErr, refl, sym, ap, subst, ◌∙◌, arith}
 use Rattle.std.specs.Result.{IsErrAnd}
@@ -24,13 +24,14 @@ use Rattle.acq_book.specs.Lookups.{merchants_at, holds_at, waiting_at, is_postin
 use Rattle.acq_book.specs.Lookups.{is_reference_before, is_authorization, used_on_at}
 use Rattle.acq_book.specs.Lookups.{waiting_count_at}
 use Rattle.acq_book.specs.Order.{put_in_order, in_order}
+use Rattle.acq_book.specs.Groups.{IsLive}
 use Rattle.acq_book.specs.Promise.{BlamesStore, HasRisen}
 use Rattle.acq_book.proofs.Counting.{count-le, length-filter}
 use Rattle.acq_sql_rows.specs.Rows.{version, merchant_row, terminal_row, range_row, request_row}
 use Rattle.acq_sql_rows.specs.Rows.{posting_row}
 use Rattle.acq_sql_rows.specs.Schema.{merchants_tree, terminals_tree, requests_tree}
 use Rattle.acq_sql_rows.specs.Schema.{postings_tree}
-use Rattle.acq_sql_changes.specs.Refused.{FailsAmong, Takes}
+use Rattle.acq_sql_changes.specs.Refused.{FailsAmong, FailsInside, Takes}
 use Rattle.acq_sql_writes.specs.Refused.{HasNumberLeft, HasNumbersLeft}
 use Rattle.acq_sql_rows.specs.Standing.{FailsExcused, FailsExcusedAt, IsOpenOver}
 use Rattle.acq_sql_changes.proofs.TakenTables.{number_left}
@@ -38,7 +39,8 @@ use Rattle.acq_sql_reads.specs.Failing.{CanBeWalked, IsTold}
 use Rattle.acq_sql.specs.Applied.{HasShortEnd}
 use Rattle.acq_sql.specs.Faults.{book_fault_of}
 use Rattle.acq_sql.specs.Kept.{Kept}
-use Rattle.acq_sql.specs.Opened.{IsOpenAt, tables, is_honest, is_open, has_room, store_faults}
+use Rattle.acq_sql.specs.Opened.{IsOpenAt, tables, is_honest, is_open, is_within, has_room}
+use Rattle.acq_sql.specs.Opened.{store_faults}
 use Rattle.acq_sql_checking.proofs.Blaming.{risen_by}
 use Rattle.acq_sql.proofs.BookLooks.{looked}
 use Rattle.acq_sql.proofs.PastRows.{past_ends, past_takes}
@@ -57,7 +59,7 @@ excused_told T e old new (inl memory) =
 excused_told T e old new (inr more) =
     fault_told T (book_fault_of e) old.faults new.faults (risen_by more)
 
-told : {T : Type 0} (answer : Result T Error) (result : Result T BookFault) (old new : State)
+pub told : {T : Type 0} (answer : Result T Error) (result : Result T BookFault) (old new : State)
     → IfOk answer (λ x. result ≡ Ok x) → IfErr answer (λ e. result ≡ Err (book_fault_of e))
     → IfErr answer (IsExcused old new) → BlamesStore result old.faults new.faults
 told {T} (Ok x) result old new same fault excused =
@@ -96,22 +98,36 @@ blames_of g old seen connection failures is answer result fits fails same fault 
     (fit (state g seen.connection) (tables g seen) o.opened room.numbers)
 
 -- and of a change that fits and leads to tables with a past, where the request that it answers is
--- there
+-- there, outside a group and within one
 pub blames_change : {S T : Type 0} (g : Ghosts S) (old seen new : Kept S) → old ≡ seen
     → (answer : Result T Error) (result : Result T BookFault) (change : Change)
-    → (HasShortEnd change
+    → (old.in_group ≡ false → HasShortEnd change
     → FailsAmong (state g old.connection) (state g new.connection) answer change HasPast)
+    → (old.in_group ≡ true → HasShortEnd change
+    → FailsInside (state g old.connection) (state g new.connection) answer change HasPast)
     → IfOk answer (λ x. result ≡ Ok x) → IfErr answer (λ e. result ≡ Err (book_fault_of e))
-    → (is_open g seen → Fits (tables g seen) change)
-    → (is_open g seen → HasPast (after (tables g seen) change))
-    → is_honest g new → is_open g seen → has_room g seen → HasItsRequest (tables g seen) change
+    → (IsLive (is_open g) (is_within g) seen → Fits (tables g seen) change)
+    → (IsLive (is_open g) (is_within g) seen → HasPast (after (tables g seen) change))
+    → is_honest g new → IsLive (is_open g) (is_within g) seen → has_room g seen
+    → HasItsRequest (tables g seen) change
     → BlamesStore result (store_faults g seen) (store_faults g new)
-blames_change g old seen new is answer result change fails same fault fits past clean o room there =
+blames_change g old seen new is answer result change alone inside same fault fits past clean live
+    room there =
     let t = tables g seen in
-    let later = past o in
-    blames_at g old seen new is answer result (λ t. Takes change t × HasPast t)
-    (fails (past_ends t change later there)) same fault clean o room
-    (past_takes t change (fits o) o.opened.past later, o.opened.past)
+    let later = past live in
+    let short = past_ends t change later there in
+    let was_alone = subst (λ (k : Kept _). k.in_group ≡ false → HasShortEnd change
+    → FailsAmong (state g k.connection) (state g new.connection) answer change HasPast) is alone in
+    let was_inside = subst (λ (k : Kept _). k.in_group ≡ true → HasShortEnd change
+    → FailsInside (state g k.connection) (state g new.connection) answer change HasPast) is
+    inside in
+    told answer result (state g seen.connection) (state g new.connection) same fault
+    (⊎_elim
+    (λ o. was_alone o.outside short room.numbers clean t o.opened.at
+    (past_takes t change (fits live) o.opened.past later, o.opened.past) room.unlimited)
+    (λ w. was_inside w.1.1.begun short room.numbers clean t (w.0, w.1.1.inside)
+    (past_takes t change (fits live) w.1.1.past later, w.1.1.past) room.unlimited)
+    live)
 
 -- a fault that is passed on blames the store no more than before
 pub passed_on : {T U : Type 0} (e : BookFault) (told : Result T BookFault)

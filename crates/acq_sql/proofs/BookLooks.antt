@@ -15,7 +15,10 @@ use Rattle.std.proofs.lemmas.Bool.{and_parts}
 use Rattle.card_no.specs.Ranges.{are_apart, is_valid_range}
 use Rattle.acq_soundness.proofs.BooksAreSound.{books_are_sound}
 use Rattle.acq_book.specs.declared.book_fault.BookFault.{BookFault}
+use Rattle.acq_book.specs.Groups.{GivesWithinBy, LooksWithinBy}
 use Rattle.acq_book.specs.Promise.{LooksBy}
+use Rattle.acq_book.proofs.Chains.{risen_after}
+use Rattle.acq_book.proofs.GroupChains.{unlooked_within}
 use Rattle.acq_sql_rows.specs.Relation.{Holds}
 use Rattle.acq_sql_rows.specs.ReadBack.{tables_of}
 use Rattle.acq_sql_rows.specs.Standing.{IsAt}
@@ -25,8 +28,9 @@ use Rattle.acq_sql_reads.proofs.Leaves.{at_unchanged, kept}
 use Rattle.acq_sql_checking.proofs.Blaming.{risen_by}
 use Rattle.acq_sql.specs.Kept.{Kept}
 use Rattle.acq_sql.specs.Memos.{Recalls}
-use Rattle.acq_sql.specs.Opened.{tables, is_honest, is_open, may_leave}
+use Rattle.acq_sql.specs.Opened.{tables, is_honest, is_open, is_within, can_return, may_leave}
 use Rattle.acq_sql.specs.Opened.{leaves_books, store_faults, has_room, IsRoomy}
+use Rattle.acq_sql_changes.proofs.Progress.{based_still}
 
 -- ---- what a book answers of what its database answered
 
@@ -50,6 +54,12 @@ relay_err P (Ok x) (Err f) same is = absurd (true≢false (sym same))
 relay_err P (Err e) (Ok y) same is = tt
 relay_err P (Err e) (Err f) same is = is
 
+-- where it succeeded, what is said of success is so
+if_ok : {T E : Type 0} (answer : Result T E) (P : T → Type 0) → (is_ok answer ≡ true → IfOk answer P)
+    → IfOk answer P
+if_ok (Ok x) P is = is refl
+if_ok (Err e) P is = tt
+
 -- the ranges of tables that events led to lie apart
 pub apart_of : (t : Tables) → HasPast t → are_apart t.ranges ≡ true
 apart_of t (opening, book) =
@@ -66,24 +76,33 @@ stays_roomy old new limit same room =
 
 -- ---- look-ups
 
--- no transaction is open
+-- outside a group no transaction is open
 abbrev pub IsOutside : {S : Type 0} → Ghosts S → Kept S → Type 0
 IsOutside g book =
-    HasCleanDisk (state g book.connection) → book.connection.in_transaction ≡ false
+    book.in_group ≡ false → HasCleanDisk (state g book.connection)
+    → book.connection.in_transaction ≡ false
 
--- what is seen is what was committed
+-- there what is seen is what was committed
 abbrev pub IsSettled : {S : Type 0} → Ghosts S → Kept S → Type 0
 IsSettled g book =
-    HasCleanDisk (state g book.connection) → IsTrue (state g book.connection).is_open →
-    (state g book.connection).now ≡ (state g book.connection).committed
+    book.in_group ≡ false → HasCleanDisk (state g book.connection)
+    → IsTrue (state g book.connection).is_open
+    → (state g book.connection).now ≡ (state g book.connection).committed
+
+-- what is recalled then is so of the tables that are held, where what was recalled was
+abbrev pub Learns : {S : Type 0} → Ghosts S → Kept S → Kept S → Type 0
+Learns g old new =
+    HasCleanDisk (state g new.connection)
+    → Holds (state g old.connection).now (tables g old) → HasPast (tables g old)
+    → Recalls old.memo (tables g old) → Recalls new.memo (tables g old)
 
 module _ {S : Type 0} (g : Ghosts S) (old new : Kept S) (succeeded : Bool)
     (looks : LooksOnly (state g old.connection) (state g new.connection) succeeded)
     (out : IsOutside g old)
     (settled : IsSettled g old)
+    (same_group : new.in_group ≡ old.in_group)
     (recalled : (t : Tables) → Recalls new.memo t → Recalls old.memo t)
-    (recalls : HasCleanDisk (state g new.connection) → is_open g old
-    → Recalls new.memo (tables g old)) where
+    (recalls : Learns g old new) where
   abbrev before : State
   before = state g old.connection
 
@@ -98,31 +117,38 @@ module _ {S : Type 0} (g : Ghosts S) (old new : Kept S) (succeeded : Bool)
       ⊎_elim (λ (same : IsUnchanged before after). same.0.was_open) (λ back. back.was_open opened)
       (looks.undone clean opened)
 
+  was_outside : is_open g new → old.in_group ≡ false
+  was_outside book = sym same_group ∙ book.outside
+
   -- what is seen stays, where the store is still open
-  now_kept : HasCleanDisk after → IsTrue after.is_open → after.now ≡ before.now
-  now_kept clean opened =
+  now_kept : old.in_group ≡ false → HasCleanDisk after → IsTrue after.is_open
+      → after.now ≡ before.now
+  now_kept outside clean opened =
       ⊎_elim (λ (same : IsUnchanged before after). same.0.now_is)
-      (λ back. (back.undone opened).0 ∙ sym (settled (was_honest clean) (was_open clean opened)))
+      (λ back. (back.undone opened).0
+      ∙ sym (settled outside (was_honest clean) (was_open clean opened)))
       (looks.undone clean opened)
 
   opened_before : is_open g new → is_open g old
   opened_before book =
       let o = book.opened in
+      let outside = was_outside book in
       let was = was_open o.clean o.at.is_open in
-      let same = now_kept o.clean o.at.is_open in
+      let same = now_kept outside o.clean o.at.is_open in
       record {
         opened = record {
           clean = was_honest o.clean;
           at = record {
             is_open = was;
-            settled = out (was_honest o.clean);
-            same = settled (was_honest o.clean) was;
+            settled = out outside (was_honest o.clean);
+            same = settled outside (was_honest o.clean) was;
             holds = subst (λ (d : Database). Holds d (tables_of d)) same o.at.holds;
           };
           past = subst (λ (d : Database). HasPast (tables_of d)) same o.past;
         };
         recalls = subst (λ (d : Database). Recalls old.memo (tables_of d)) same
             (recalled (tables g new) book.recalls);
+        outside = outside;
       }
 
   stays_open : succeeded ≡ true → HasCleanDisk after → is_open g old → is_open g new
@@ -138,13 +164,14 @@ module _ {S : Type 0} (g : Ghosts S) (old new : Kept S) (succeeded : Bool)
           past = subst (λ (d : Database). HasPast (tables_of d)) back o.past;
         };
         recalls = subst (λ (d : Database). Recalls new.memo (tables_of d)) back
-            (recalls clean book);
+            (recalls clean o.at.holds o.past book.recalls);
+        outside = same_group ∙ book.outside;
       }
 
   stays : HasCleanDisk after → is_open g old → IsTrue after.is_open → is_open g new
   stays clean book opened =
       let o = book.opened in
-      let same = sym (now_kept clean opened) in
+      let same = sym (now_kept book.outside clean opened) in
       record {
         opened = record {
           clean = clean;
@@ -154,13 +181,15 @@ module _ {S : Type 0} (g : Ghosts S) (old new : Kept S) (succeeded : Bool)
           past = subst (λ (d : Database). HasPast (tables_of d)) same o.past;
         };
         recalls = subst (λ (d : Database). Recalls new.memo (tables_of d)) same
-            (recalls clean book);
+            (recalls clean o.at.holds o.past book.recalls);
+        outside = same_group ∙ book.outside;
       }
 
   -- room is left as it was
   room_at : is_open g new → has_room g old → has_room g new
   room_at o room =
-      stays_roomy _ _ looks.stop.limit (now_kept o.opened.clean o.opened.at.is_open) room
+      stays_roomy _ _ looks.stop.limit
+      (now_kept (was_outside o) o.opened.clean o.opened.at.is_open) room
 
   -- what a look-up over the connection leaves, a look-up of the book leaves
   pub looks_at : old.failures ≤ new.failures
@@ -172,7 +201,7 @@ module _ {S : Type 0} (g : Ghosts S) (old new : Kept S) (succeeded : Bool)
     stays_open = stays_open;
     shuts = λ clean o. ⊎_elim (λ opened. inl (stays clean o opened))
         (λ more. inr (risen_by more)) (looks.stop.closes clean o.opened.at.is_open);
-    same = λ o. ap tables_of (now_kept o.opened.clean o.opened.at.is_open);
+    same = λ o. ap tables_of (now_kept (was_outside o) o.opened.clean o.opened.at.is_open);
     leaves = λ clean t left. (
       left.0,
       ⊎_elim (λ (was : before.may_leave left.0). was) (λ none. absurd none)
@@ -200,12 +229,104 @@ module _ {S : Type 0} (g : Ghosts S) (old new : Kept S) (succeeded : Bool)
       (relay answer result _ same ok
       (says o.opened.clean (tables g old) was.at.holds was.past))
 
+  -- ---- within a group
+
+  -- of one that succeeded
+  within_before : (began : Tables) (faults : ℕ) → succeeded ≡ true → is_within g new began faults
+      → (earlier : ℕ) × is_within g old began earlier
+  within_before began faults is w =
+      let same = looks.same w.clean is in (
+        0,
+        record {
+          clean = was_honest w.clean;
+          inside = record {
+            is_open = same.0.was_open;
+            inside = sym same.0.mode ∙ w.inside.inside;
+            committed = subst (λ (d : Database). Holds d began) same.0.committed_is
+                w.inside.committed;
+            holds = subst (λ (d : Database). Holds d (tables_of d)) same.0.now_is w.inside.holds;
+          };
+          past = subst (λ (d : Database). HasPast (tables_of d)) same.0.now_is w.past;
+          began_past = w.began_past;
+          recalls = subst (λ (d : Database). Recalls old.memo (tables_of d)) same.0.now_is
+              (recalled (tables g new) w.recalls);
+          begun = sym same_group ∙ w.begun;
+          since = omega arith;
+        },
+      )
+
+  within_after : (began : Tables) (faults : ℕ) → succeeded ≡ true → HasCleanDisk after
+      → is_within g old began faults → is_within g new began faults
+  within_after began faults is clean w =
+      let same = looks.same clean is in
+      let back = sym same.0.now_is in
+      record {
+        clean = clean;
+        inside = record {
+          is_open = same.0.is_open;
+          inside = same.0.mode ∙ w.inside.inside;
+          committed = subst (λ (d : Database). Holds d began) (sym same.0.committed_is)
+              w.inside.committed;
+          holds = subst (λ (d : Database). Holds d (tables_of d)) back w.inside.holds;
+        };
+        past = subst (λ (d : Database). HasPast (tables_of d)) back w.past;
+        began_past = w.began_past;
+        recalls = subst (λ (d : Database). Recalls new.memo (tables_of d)) back
+            (recalls clean w.inside.holds w.past w.recalls);
+        begun = same_group ∙ w.begun;
+        since = let up = looks.stop.counts in let since = w.since in omega (arith, up, since);
+      }
+
+  -- whether it did or not
+  returnable_after : (began : Tables) (faults : ℕ) → HasCleanDisk after
+      → is_within g old began faults → can_return g new began faults
+  returnable_after began faults clean w =
+      let up = looks.stop.counts in
+      let since = w.since in
+      record {
+        based = record {
+          committed = λ opened.
+              (based_still before after began w.inside.inside w.inside.committed
+              (looks.undone clean opened)).committed opened;
+          ended = λ ended opened.
+              (based_still before after began w.inside.inside w.inside.committed
+              (looks.undone clean opened)).ended ended opened;
+        };
+        past = w.began_past;
+        shuts = ⊎_elim inl (λ more. inr (risen_after since up (risen_by more)))
+            (looks.stop.closes clean w.inside.is_open);
+        since = omega (arith, up, since);
+      }
+
+  pub looks_within_at : LooksWithinBy (tables g) (is_honest g) (is_within g) (can_return g)
+      old new succeeded
+  looks_within_at = record {
+    was_within = within_before;
+    stays = within_after;
+    same = λ began faults is w. ap tables_of (looks.same w.clean is).0.now_is;
+    breaks = λ began faults is clean w. returnable_after began faults clean w;
+  }
+
+  -- an answer over the tables that it shows is one over the book's
+  pub value_within_at : {T : Type 0} (answer : Result T Error) (result : Result T BookFault)
+      (look : Tables → T) → is_ok answer ≡ succeeded
+      → (HasCleanDisk after → (t : Tables) → Holds before.now t → HasPast t →
+      IfOk answer (λ x. x ≡ look t))
+      → IfOk answer (λ x. result ≡ Ok x) → is_ok result ≡ is_ok answer
+      → (began : Tables) (faults : ℕ) → is_within g new began faults
+      → IfOk result (λ x. x ≡ look (tables g old))
+  value_within_at answer result look did says same ok began faults w =
+      relay answer result _ same ok
+      (if_ok answer (λ x. x ≡ look (tables g old)) (λ is.
+      let was = (within_before began faults (sym did ∙ is) w).1 in
+      says w.clean (tables g old) was.inside.holds was.past))
+
 -- ---- of a book as it is seen, which may recall more then
 
 module _ {S : Type 0} (g : Ghosts S) (old seen new : Kept S) (is : old ≡ seen)
+    (same_group : new.in_group ≡ old.in_group)
     (recalled : (t : Tables) → Recalls new.memo t → Recalls old.memo t)
-    (recalls : HasCleanDisk (state g new.connection) → is_open g old
-    → Recalls new.memo (tables g old)) where
+    (recalls : Learns g old new) where
   pub new_value : {T : Type 0} (answer : Result T Error) (result : Result T BookFault) →
       LooksOnly (state g old.connection) (state g new.connection) (is_ok answer)
       → IsOutside g old → IsSettled g seen
@@ -215,8 +336,8 @@ module _ {S : Type 0} (g : Ghosts S) (old seen new : Kept S) (is : old ≡ seen)
       → Holds (state g old.connection).now t → HasPast t → IfOk answer (λ x. x ≡ look t))
       → is_open g new → IfOk result (λ x. x ≡ look (tables g seen))
   new_value answer result looks out settled same ok look says o =
-      value_at g old new (is_ok answer) looks out (subst (IsSettled g) (sym is) settled) recalled
-      recalls seen is answer result look says same ok o
+      value_at g old new (is_ok answer) looks out (subst (IsSettled g) (sym is) settled) same_group
+      recalled recalls seen is answer result look says same ok o
 
   pub new_looks : {T U : Type 0} (answer : Result T Error) (result : Result U BookFault)
       → LooksOnly (state g old.connection) (state g new.connection) (is_ok answer)
@@ -229,22 +350,50 @@ module _ {S : Type 0} (g : Ghosts S) (old seen new : Kept S) (is : old ≡ seen)
       (leaves_books g) (λ (b : Kept _). b.failures) (store_faults g) k new (is_ok result)) is
       (looks_at g old new (is_ok result)
       (subst (LooksOnly (state g old.connection) (state g new.connection)) (sym same) looks) out
-      (subst (IsSettled g) (sym is) settled) recalled recalls rise)
+      (subst (IsSettled g) (sym is) settled) same_group recalled recalls rise)
 
   pub new_room : {T : Type 0} (answer : Result T Error)
       → LooksOnly (state g old.connection) (state g new.connection) (is_ok answer)
       → IsOutside g old → IsSettled g seen
       → is_open g new → has_room g seen → has_room g new
   new_room answer looks out settled o room =
-      room_at g old new (is_ok answer) looks out (subst (IsSettled g) (sym is) settled) recalled
-      recalls o (subst (has_room g) (sym is) room)
+      room_at g old new (is_ok answer) looks out (subst (IsSettled g) (sym is) settled) same_group
+      recalled recalls o (subst (has_room g) (sym is) room)
+
+  -- and within a group
+  pub new_within : {T : Type 0} (answer : Result T Error) (result : Result T BookFault) →
+      LooksOnly (state g old.connection) (state g new.connection) (is_ok answer)
+      → IsOutside g old → IsSettled g seen
+      → IfOk answer (λ x. result ≡ Ok x)
+      → is_ok result ≡ is_ok answer → (look : Tables → T)
+      → (HasCleanDisk (state g new.connection) → (t : Tables)
+      → Holds (state g old.connection).now t → HasPast t → IfOk answer (λ x. x ≡ look t))
+      → GivesWithinBy (tables g) (is_honest g) (is_within g) (can_return g) seen new result
+      (λ x. x ≡ look (tables g seen))
+  new_within answer result looks out settled same ok look says =
+      let before = subst (IsSettled g) (sym is) settled in
+      subst (λ (k : Kept _). GivesWithinBy (tables g) (is_honest g) (is_within g) (can_return g)
+      k new result (λ x. x ≡ look (tables g k))) is
+      (record {
+        value = value_within_at g old new (is_ok answer) looks out before same_group recalled
+            recalls answer result look refl says same ok;
+        looks = subst (LooksWithinBy (tables g) (is_honest g) (is_within g) (can_return g) old new)
+            (sym ok)
+            (looks_within_at g old new (is_ok answer) looks out before same_group recalled
+            recalls);
+      })
 
 -- ---- and of one that recalls what it did
 
 -- with this connection and count then
 abbrev pub looked : {S : Type 0} → Kept S → Held S → ℕ → Kept S
 looked old connection failures =
-    record { connection = connection; failures = failures; memo = old.memo }
+    record {
+      connection = connection;
+      failures = failures;
+      memo = old.memo;
+      in_group = old.in_group;
+    }
 
 module _ {S : Type 0} (g : Ghosts S) (old seen : Kept S) (connection : Held S) (failures : ℕ)
     (is : old ≡ seen) where
@@ -260,7 +409,7 @@ module _ {S : Type 0} (g : Ghosts S) (old seen : Kept S) (connection : Held S) (
       → Holds (state g old.connection).now t → HasPast t → IfOk answer (λ x. x ≡ look t))
       → is_open g new → IfOk result (λ x. x ≡ look (tables g seen))
   value_of answer result =
-      new_value g old seen new is (λ t r. r) (λ clean o. o.recalls) answer result
+      new_value g old seen new is refl (λ t r. r) (λ clean holds past r. r) answer result
 
   pub looks_of : {T U : Type 0} (answer : Result T Error) (result : Result U BookFault)
       → LooksOnly (state g old.connection) (state g connection) (is_ok answer)
@@ -269,13 +418,25 @@ module _ {S : Type 0} (g : Ghosts S) (old seen : Kept S) (connection : Held S) (
       → LooksBy (tables g) (is_honest g) (is_open g) (may_leave g) (leaves_books g)
       (λ (b : Kept S). b.failures) (store_faults g) seen new (is_ok result)
   looks_of answer result =
-      new_looks g old seen new is (λ t r. r) (λ clean o. o.recalls) answer result
+      new_looks g old seen new is refl (λ t r. r) (λ clean holds past r. r) answer result
 
   pub room_of : {T : Type 0} (answer : Result T Error)
       → LooksOnly (state g old.connection) (state g connection) (is_ok answer)
       → IsOutside g old → IsSettled g seen
       → is_open g new → has_room g seen → has_room g new
-  room_of answer = new_room g old seen new is (λ t r. r) (λ clean o. o.recalls) answer
+  room_of answer = new_room g old seen new is refl (λ t r. r) (λ clean holds past r. r) answer
+
+  pub within_of : {T : Type 0} (answer : Result T Error) (result : Result T BookFault) →
+      LooksOnly (state g old.connection) (state g connection) (is_ok answer)
+      → IsOutside g old → IsSettled g seen
+      → IfOk answer (λ x. result ≡ Ok x)
+      → is_ok result ≡ is_ok answer → (look : Tables → T)
+      → (HasCleanDisk (state g connection) → (t : Tables)
+      → Holds (state g old.connection).now t → HasPast t → IfOk answer (λ x. x ≡ look t))
+      → GivesWithinBy (tables g) (is_honest g) (is_within g) (can_return g) seen new result
+      (λ x. x ≡ look (tables g seen))
+  within_of answer result =
+      new_within g old seen new is refl (λ t r. r) (λ clean holds past r. r) answer result
 
 -- ---- and of one that recalls the answer
 

@@ -16,11 +16,34 @@ use Rattle.acq_sql_rows.specs.Standing.{IsAt}
 use Rattle.acq_sql_changes.specs.Changed.{LeadsTo, LeavesTables}
 use Rattle.acq_sql.specs.Applied.{Applies, Suits}
 use Rattle.acq_sql.specs.Kept.{Kept}
+use Rattle.acq_sql.specs.declared.memo.Memo.{Memo}
 use Rattle.acq_sql.specs.Memos.{Recalls, nothing_recalled}
 use Rattle.acq_sql.specs.Opened.{tables, is_honest, is_open, may_leave}
 use Rattle.acq_sql.specs.Opened.{leaves_books, store_faults}
 use Rattle.acq_sql.specs.Laws.{LeavesCommit, settled_at, stored_at, stores_what_it_reads}
 use Rattle.acq_sql_checking.proofs.Blaming.{risen_by}
+
+-- what recalls nothing recalls nothing wrong
+pub nothing_wrong : {memo : Memo} → memo ≡ nothing_recalled → (t : core.Tables) → Recalls memo t
+nothing_wrong is t =
+    subst (λ (m : Memo). Recalls m t) (sym is) (record { row = tt; waiting = tt; used = tt })
+
+-- a connection at tables that events lead to is an open book, where it recalls what is so, and no
+-- group is begun
+pub opens : {S : Type 0} (g : Ghosts S) (new : Kept S) (t : core.Tables)
+    → HasCleanDisk (state g new.connection) → IsAt (state g new.connection) t → HasPast t
+    → Recalls new.memo t → new.in_group ≡ false → is_open g new
+opens g new t clean at past recalls outside =
+    let same = sym (tables_of-holds (state g new.connection).now t at.holds) in
+    record {
+      opened = record {
+        clean = clean;
+        at = subst (IsAt (state g new.connection)) same at;
+        past = subst HasPast same past;
+      };
+      recalls = subst (Recalls new.memo) same recalls;
+      outside = outside;
+    }
 
 module _ {S T : Type 0} (g : Ghosts S) (law : LeavesCommit g) (old new : Kept S) (change : Change)
     (result : Result T Error)
@@ -29,7 +52,8 @@ module _ {S T : Type 0} (g : Ghosts S) (law : LeavesCommit g) (old new : Kept S)
     (past : is_open g old → HasPast (core.after (tables g old) change))
     (recalls : is_ok result ≡ true → (t : core.Tables) → Recalls old.memo t
     → Recalls new.memo (core.after t change))
-    (forgets : is_ok result ≡ false → new.memo ≡ nothing_recalled) where
+    (forgets : is_ok result ≡ false → new.memo ≡ nothing_recalled)
+    (same_group : new.in_group ≡ old.in_group) where
   abbrev before : State
   before = state g old.connection
 
@@ -69,32 +93,18 @@ module _ {S T : Type 0} (g : Ghosts S) (law : LeavesCommit g) (old new : Kept S)
       ] in
       step result applies.undone is
 
-  -- a connection at tables that events lead to is an open book, where it recalls what is so
-  opens : (t : core.Tables) → HasCleanDisk after → IsAt after t → HasPast t → Recalls new.memo t
-      → is_open g new
-  opens t clean at past recalls =
-      let same = sym (tables_of-holds after.now t at.holds) in
-      record {
-        opened = record {
-          clean = clean;
-          at = subst (IsAt after) same at;
-          past = subst HasPast same past;
-        };
-        recalls = subst (Recalls new.memo) same recalls;
-      }
-
   opens_changed : is_ok result ≡ true → HasCleanDisk after → is_open g old → is_open g new
   opens_changed is clean o =
-      opens changed clean (led is clean o) (past o) (recalls is (tables g old) o.recalls)
+      opens g new changed clean (led is clean o) (past o) (recalls is (tables g old) o.recalls)
+      (same_group ∙ o.outside)
 
   stays : HasCleanDisk after → is_open g old → IsTrue after.is_open → is_open g new
   stays clean o opened =
       let by : (b : Bool) → is_ok result ≡ b → is_open g new =
       elim [
         | true ↦ (λ is. opens_changed is clean o)
-        | false ↦ (λ is. opens (tables g old) clean (left is clean opened o) o.opened.past
-            (subst (λ m. Recalls m (tables g old)) (sym (forgets is))
-            (record { row = tt; waiting = tt; used = tt })))
+        | false ↦ (λ is. opens g new (tables g old) clean (left is clean opened o) o.opened.past
+            (nothing_wrong (forgets is) (tables g old)) (same_group ∙ o.outside))
       ] in
       by (is_ok result) refl
 

@@ -4,3 +4,4 @@ pub mod BookLooks
 pub mod BookBlames
 pub mod BookMakes
 pub mod PastRows
+pub mod BookGroups

@@ -1,22 +1,28 @@
 -- What contracts see of a book in SQL.
-use Rattle.std.proofs.Common.{◌≡◌, ℕ, List, ◌++◌, codes, Option, None, Some, refl, ap}
-use Rattle.std.specs.Coded.{Coded, code_by, coded×, coded_list, coded_option, coded_ℕ}
+use Rattle.std.proofs.Common.{◌≡◌, ℕ, Bool, false, List, ◌++◌, codes, Option, None, Some, refl, ap}
+use Rattle.std.specs.Coded.{Coded, code_by, coded×, coded_bool, coded_list, coded_option, coded_ℕ}
 use Rattle.sqlite.specs.Held.{Held, held_code}
 use Rattle.acq_message.specs.declared.request_key.RequestKey.{RequestKey}
 use Rattle.acq_message.specs.declared.service.Service.{Service}
 use Rattle.acq_message.specs.declared.service.Service.TheVariants as service
 use Rattle.acq_message.specs.Services.{digits_of, service_of}
+use Rattle.acq_sql.specs.Memos.{nothing_recalled}
 use Rattle.acq_sql.specs.declared.memo.Memo.{Memo}
 use Rattle.acq_sql.specs.declared.memo.used_on.UsedOn.{UsedOn}
 use Rattle.acq_sql.specs.declared.memo.may_wait.MayWait.{MayWait}
 use Rattle.acq_sql.specs.declared.memo.may_wait.MayWait.TheVariants as may_wait
 
--- its connection, how many of its calls failed for another cause than memory, and what it recalls
--- of its tables
+-- its connection, how many of its calls failed for another cause than memory, what it recalls of
+-- its tables, and whether a group is begun
 pub record Kept (S : Type 0) : Type 0 where
   pub connection : Held S
   pub failures : ℕ
   pub memo : Memo
+  pub in_group : Bool
+
+-- it recalls nothing, and no group is begun
+abbrev pub IsFresh : {S : Type 0} → Kept S → Type 0
+IsFresh book = (book.memo ≡ nothing_recalled) × (book.in_group ≡ false)
 
 -- ---- how the logic stores it
 
@@ -86,7 +92,13 @@ memo_code =
 
 abbrev pub kept_code : {S : Type 0} → Coded S → Coded (Kept S)
 kept_code {S} store =
-    code_by (Held S × (ℕ × Memo)) (coded× (held_code store) (coded× coded_ℕ memo_code))
-    (λ k. (k.connection, (k.failures, k.memo)))
-    (λ p. record { connection = p.0; failures = p.1.0; memo = p.1.1 })
+    code_by (Held S × (ℕ × (Memo × Bool)))
+    (coded× (held_code store) (coded× coded_ℕ (coded× memo_code coded_bool)))
+    (λ k. (k.connection, (k.failures, (k.memo, k.in_group))))
+    (λ p. record {
+      connection = p.0;
+      failures = p.1.0;
+      memo = p.1.1.0;
+      in_group = p.1.1.1;
+    })
     (λ _. refl)

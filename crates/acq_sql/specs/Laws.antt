@@ -1,5 +1,5 @@
 -- What a stop leaves of an open book.
-use Rattle.std.proofs.Common.{◌≡◌, IsTrue, sym, ap, subst, ◌∙◌}
+use Rattle.std.proofs.Common.{◌≡◌, ℕ, Bool, inl, true≢false, IsTrue, sym, ap, subst, ◌∙◌}
 use Rattle.sqlite_trees.specs.Tree.{Trees}
 use Rattle.sqlite_trees.specs.declared.store.Store.{Ghosts}
 use Rattle.sqlite.specs.Effect.{Database}
@@ -10,7 +10,10 @@ use Rattle.acq_sql_rows.specs.Relation.{Holds}
 use Rattle.acq_sql_rows.specs.Schema.{book_schema}
 use Rattle.acq_sql_rows.proofs.TablesReadBack.{tables_of-holds}
 use Rattle.acq_sql_rows.specs.Standing.{IsAt, HoldsAfter}
+use Rattle.sqlite.specs.State.{State}
 use Rattle.acq_sql.specs.Kept.{Kept}
+use Rattle.acq_sql.specs.declared.memo.Memo.{Memo}
+use Rattle.acq_sql.specs.Opened.{IsGroup, IsReturnable}
 use Rattle.acq_sql.specs.Opened.{tables, tables_left, is_open, may_leave, leaves_books}
 
 -- while a store is open, a stop leaves its last commit
@@ -24,6 +27,19 @@ pub stores_what_it_reads : (t : Tables) (trees : Trees) → HoldsAfter t trees
 stores_what_it_reads t trees holds =
     subst (λ u. HoldsAfter u trees)
     (sym (tables_of-holds (record { schema = book_schema; trees = trees }) t holds)) holds
+
+-- a transaction that is open can be rolled back
+pub returnable : {s : State} {began t : Tables} {faults : ℕ} {memo : Memo} {in_group : Bool}
+    → IsGroup s began t faults memo in_group → IsReturnable s began faults
+returnable is = record {
+  based = record {
+    committed = λ opened. is.inside.committed;
+    ended = λ out opened. absurd (true≢false (sym is.inside.inside ∙ out));
+  };
+  past = is.began_past;
+  shuts = inl is.inside.is_open;
+  since = is.since;
+}
 
 module _ {S : Type 0} (g : Ghosts S) (law : LeavesCommit g) where
   -- of a connection at these tables it stores them and no others

@@ -1,5 +1,5 @@
 -- What a book in SQL says of its connection.
-use Rattle.std.specs.Prelude.{◌≡◌, ℕ, None}
+use Rattle.std.specs.Prelude.{◌≡◌, ◌⊎◌, ◌≤◌, ℕ, Bool, true, false, None, IsTrue}
 use Rattle.sqlite_trees.specs.Tree.{Trees}
 use Rattle.sqlite_trees.specs.declared.store.Store.{Ghosts}
 use Rattle.sqlite.specs.State.{State, HasCleanDisk}
@@ -8,7 +8,8 @@ use Rattle.acq_core.specs.Pasts.{HasPast}
 use Rattle.acq_core.specs.Tables.{Tables}
 use Rattle.acq_sql_rows.specs.Schema.{book_schema}
 use Rattle.acq_sql_rows.specs.ReadBack.{tables_of}
-use Rattle.acq_sql_rows.specs.Standing.{IsAt, HoldsAfter}
+use Rattle.acq_book.specs.Promise.{HasRisen}
+use Rattle.acq_sql_rows.specs.Standing.{IsAt, IsBased, IsIn, HoldsAfter}
 use Rattle.acq_sql_writes.specs.Refused.{HasNumbersLeft}
 use Rattle.acq_sql.specs.Kept.{Kept}
 use Rattle.acq_sql.specs.Memos.{Recalls}
@@ -24,10 +25,31 @@ pub record IsOpenAt (s : State) (t : Tables) : Type 0 where
   pub at : IsAt s t
   pub past : HasPast t
 
--- and what is recalled of them is so
-pub record IsOpenBook (s : State) (t : Tables) (memo : Memo) : Type 0 where
+-- what is recalled of them is so, and no group is begun
+pub record IsOpenBook (s : State) (t : Tables) (memo : Memo) (in_group : Bool) : Type 0 where
   pub opened : IsOpenAt s t
   pub recalls : Recalls memo t
+  pub outside : in_group ≡ false
+
+-- The disk gave back what was written, and the connection is in a transaction that began over the
+-- first tables, when the store had met so many faults, and shows the others; events led to both,
+-- and what is recalled of these is so.
+pub record IsGroup (s : State) (began t : Tables) (faults : ℕ) (memo : Memo) (in_group : Bool)
+    : Type 0 where
+  pub clean : HasCleanDisk s
+  pub inside : IsIn s began t
+  pub past : HasPast t
+  pub began_past : HasPast began
+  pub recalls : Recalls memo t
+  pub begun : in_group ≡ true
+  pub since : faults ≤ s.faults
+
+-- such a transaction can be rolled back, or was
+pub record IsReturnable (s : State) (began : Tables) (faults : ℕ) : Type 0 where
+  pub based : IsBased s began
+  pub past : HasPast began
+  pub shuts : IsTrue s.is_open ⊎ HasRisen faults s.faults
+  pub since : faults ≤ s.faults
 
 -- no limit of steps is set, and each table that rows are added to has a number left for one more
 pub record IsRoomy (s : State) : Type 0 where
@@ -43,9 +65,19 @@ module _ {S : Type 0} (g : Ghosts S) where
   abbrev pub is_honest : Kept S → Type 0
   is_honest book = HasCleanDisk (state g book.connection)
 
-  -- its database holds tables that events led to, and what it recalls of them is so
+  -- its database holds tables that events led to, what it recalls of them is so, and no group is
+  -- begun
   abbrev pub is_open : Kept S → Type 0
-  is_open book = IsOpenBook (state g book.connection) (tables book) book.memo
+  is_open book = IsOpenBook (state g book.connection) (tables book) book.memo book.in_group
+
+  -- so it is, but a group is begun
+  abbrev pub is_within : Kept S → Tables → ℕ → Type 0
+  is_within book began faults =
+      IsGroup (state g book.connection) began (tables book) faults book.memo book.in_group
+
+  -- it can be given up
+  abbrev pub can_return : Kept S → Tables → ℕ → Type 0
+  can_return book began faults = IsReturnable (state g book.connection) began faults
 
   -- the tables in what a stop may leave
   abbrev pub may_leave : Kept S → Tables → Type 0

@@ -1,8 +1,8 @@
 //! Any change of a book in SQL.
 //!
-//! [`apply`] makes all of a change, or none of it. [`change_within`] makes it inside a transaction
-//! that is open, and commits nothing. What a change needs beside its rows, as the next number of a
-//! posting, is looked up there.
+//! [`apply`] makes all of a change, or none of it, in a transaction of its own; or it makes the
+//! change inside the transaction that is open, and commits nothing. What a change needs beside its
+//! rows, as the next number of a posting, is looked up there.
 
 mod answers;
 mod applying;
@@ -11,4 +11,4 @@ mod numbers;
 mod request_columns;
 mod requests;
 
-pub use applying::{apply, change_within};
+pub use applying::apply;

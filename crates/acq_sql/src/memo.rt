@@ -52,6 +52,14 @@ impl Memo {
         }
     }
 
+    /// What is recalled after a group, if it was kept. Of one that wasn't nothing is.
+    pub(crate) fn if_kept(self, is_kept: bool) -> Memo
+        ensures kept { is_kept ≡ true → result ≡ self }
+        ensures not { is_kept ≡ false → result ≡ nothing_recalled }
+    {
+        if is_kept { self } else { Memo::nothing() }
+    }
+
     /// How many messages of a merchant a day admits, and the business day, if they are known.
     pub(crate) fn row(&self) -> Option<(Limit, Day)>
         ensures { result ≡ self.now.row }

@@ -16,7 +16,7 @@ ghost use Rattle.acq_sql_checking.specs.Blames.{OpeningBlamesStore};
 ghost use Rattle.acq_sql_checking.specs.Checked.{HasBadVersion, IsFailure, Judges};
 ghost use Rattle.acq_sql_checking.specs.declared.opening_fault.OpeningFault.TheVariants.{NotABook};
 ghost use Rattle.acq_sql_checking.specs.Made.{LeavesDatabase};
-ghost use Rattle.acq_sql.specs.Memos.{nothing_recalled};
+ghost use Rattle.acq_sql.specs.Kept.{IsFresh};
 ghost use Rattle.acq_sql_opening.specs.Migrated.{IsAsItSays, IsOfSixDigits};
 ghost use Rattle.acq_sql.specs.Opened.{IsOpenAt, IsRoomy};
 
@@ -42,13 +42,15 @@ use std::alloc::Global;
 use std::marker::Model;
 
 /// A book in a database. Contracts see its connection, how many of its calls failed for another
-/// cause than memory, and what it recalls of its tables.
+/// cause than memory, what it recalls of its tables, and whether a group is begun. One that a
+/// failure broke off is begun still, until it is given up.
 #[derive(Drop)]
 pub struct SqlBook<S: Alter> {
     alloc: Global,
     connection: Connection<S>,
     failures: u64,
     memo: Memo,
+    in_group: bool,
 }
 
 impl<S: Alter> Model for SqlBook<S> {
@@ -65,9 +67,11 @@ impl<S: Alter> Model for SqlBook<S> {
       connection = book.connection;
       failures = book.failures;
       memo = book.memo;
+      in_group = book.in_group;
     } };
 
-    ghost invariant = { λ book. HasCleanDisk (state S.Store book.connection)
+    ghost invariant = { λ book. book.in_group ≡ false
+        → HasCleanDisk (state S.Store book.connection)
         → book.connection.in_transaction ≡ false };
 }
 
@@ -104,7 +108,7 @@ impl<S: Alter> SqlBook<S> {
             → (state S.Store connection).step_limit ≡ None
             → IsRoomy (state S.Store book.connection)) }
         ensures uncounted { IfOk result (λ book. book.failures ≡ 0) }
-        ensures recalls { IfOk result (λ book. book.memo ≡ nothing_recalled) }
+        ensures fresh { IfOk result IsFresh }
         ensures refused_stop { IfErr result (λ refusal.
             Survives (state S.Store connection) (state S.Store refusal.connection)
             (HoldsAfter (new_tables (record { limit = limit; first_day = first_day })))) }
@@ -118,6 +122,7 @@ impl<S: Alter> SqlBook<S> {
                 connection,
                 failures: 0,
                 memo: Memo::nothing(),
+                in_group: false,
             }),
             Err(fault) => Err(Refusal { fault, connection }),
         }
@@ -140,7 +145,7 @@ impl<S: Alter> SqlBook<S> {
         ensures room { IfOk result (λ book. HasCleanDisk (state S.Store book.connection)
             → IsRoomy (state S.Store connection) → IsRoomy (state S.Store book.connection)) }
         ensures uncounted { IfOk result (λ book. book.failures ≡ 0) }
-        ensures recalls { IfOk result (λ book. book.memo ≡ nothing_recalled) }
+        ensures fresh { IfOk result IsFresh }
         // It is only looked at.
         ensures looks { IfOk result (λ book.
             LooksOnly (state S.Store connection) (state S.Store book.connection) true) }
@@ -161,6 +166,7 @@ impl<S: Alter> SqlBook<S> {
                 connection,
                 failures: 0,
                 memo: Memo::nothing(),
+                in_group: false,
             }),
             Err(fault) => Err(Refusal { fault, connection }),
         }
@@ -193,7 +199,7 @@ impl<S: Alter> SqlBook<S> {
             → Judges {T = Unit {0}} version_of_six_digits (state S.Store connection).now
             (Err refusal.fault)) }
         ensures uncounted { IfOk result (λ book. book.failures ≡ 0) }
-        ensures recalls { IfOk result (λ book. book.memo ≡ nothing_recalled) }
+        ensures fresh { IfOk result IsFresh }
         // A stop leaves what it might before, or the whole book of version 2.
         ensures stop { IfOk result (λ book.
             Survives (state S.Store connection) (state S.Store book.connection)
@@ -214,6 +220,7 @@ impl<S: Alter> SqlBook<S> {
                 connection,
                 failures: 0,
                 memo: Memo::nothing(),
+                in_group: false,
             }),
             Err(fault) => Err(Refusal { fault, connection }),
         }
@@ -222,14 +229,15 @@ impl<S: Alter> SqlBook<S> {
     /// The connection.
     pub(crate) fn release(self) -> Connection<S>
         ensures connection { result ≡ self.connection }
-        ensures settled { HasCleanDisk (state S.Store result) → result.in_transaction ≡ false }
+        ensures settled { self.in_group ≡ false → HasCleanDisk (state S.Store result)
+            → result.in_transaction ≡ false }
     {
         self.connection
     }
 
-    /// Outside a transaction the connection shows what was committed.
+    /// Outside a group the connection shows what was committed.
     fn settled(&self)
-        ensures { HasCleanDisk (state S.Store self.now.connection)
+        ensures { self.now.in_group ≡ false → HasCleanDisk (state S.Store self.now.connection)
             → IsTrue (state S.Store self.now.connection).is_open
             → (state S.Store self.now.connection).now
             ≡ (state S.Store self.now.connection).committed }
@@ -249,13 +257,17 @@ impl<D: Disk + Drop> SqlBook<FileStore<D>> {
 
 impl<S: Alter> Book for SqlBook<S> {
     ghost use Rattle.acq_sql.specs.Opened as opened;
-    ghost use Rattle.acq_sql.specs.Laws.{settled_at, stored_at};
+    ghost use Rattle.acq_sql.specs.Laws.{returnable, settled_at, stored_at};
 
     ghost tables = { opened.tables S.Store };
 
     ghost is_honest = { opened.is_honest S.Store };
 
     ghost is_open = { opened.is_open S.Store };
+
+    ghost is_within = { opened.is_within S.Store };
+
+    ghost can_return = { opened.can_return S.Store };
 
     ghost may_leave = { opened.may_leave S.Store };
 
@@ -289,6 +301,12 @@ impl<S: Alter> Book for SqlBook<S> {
       blamed = S.Store.blamed;
       names = S.Store.names;
     }) S.Store.settled };
+
+    ghost past = { λ book is. is.opened.past };
+
+    ghost past_within = { λ book began faults is. is.past };
+
+    ghost returns = { λ book began faults is. returnable is };
 
     fn look_up(&mut self, wanted: &Wanted) -> Result<Looked, BookFault> {
         let (limit, today) = self.limit_and_day()?;
@@ -386,10 +404,38 @@ impl<S: Alter> Book for SqlBook<S> {
     }
 
     fn apply(&mut self, change: &Change) -> Result<(), BookFault> {
-        let made = crate::apply::apply(&mut self.connection, self.alloc, change);
+        let in_group = self.in_group;
+        let made = crate::apply::apply(&mut self.connection, self.alloc, change, in_group);
         self.memo = self.memo.after(change, made.is_ok());
         counted(&mut self.failures, made)
     }
+
+    fn begin(&mut self) -> Result<(), BookFault> {
+        let begun = acq_sql_changes::begin(&mut self.connection);
+        self.in_group = is_in_group(self.in_group, begun.is_ok());
+        counted(&mut self.failures, begun)
+    }
+
+    fn keep(&mut self) -> Result<(), BookFault> {
+        let kept = acq_sql_changes::keep(&mut self.connection);
+        self.in_group = false;
+        self.memo = self.memo.if_kept(kept.is_ok());
+        counted(&mut self.failures, kept)
+    }
+
+    fn give_up(&mut self) {
+        acq_sql_changes::roll_back(&mut self.connection);
+        self.in_group = false;
+        self.memo = Memo::nothing();
+    }
+}
+
+/// Whether a group is begun, also where one was and no other could begin.
+fn is_in_group(was: bool, has_begun: bool) -> bool
+    ensures begun { has_begun ≡ true → result ≡ true }
+    ensures not { has_begun ≡ false → result ≡ was }
+{
+    was || has_begun
 }
 
 /// A reconciliation without its number.

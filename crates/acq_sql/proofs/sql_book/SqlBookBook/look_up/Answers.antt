@@ -27,17 +27,32 @@ nothing_is t limit today is = record {
   totals = refl;
 }
 
-pub returns-in-Ok : goal.returns-in-Ok
-returns-in-Ok g c =
-    put_together g.S.Store c.look_up_wanted.new.looked
+pub returns-in-Ok-clause-gives : goal.returns-in-Ok-clause-gives
+returns-in-Ok-clause-gives g c =
+    (put_together g.S.Store c.look_up_wanted.new.looked
     (and_then g.S.Store
     (λ t done. IsLooked t nothing c.nothing-looked.result →
     IsLooked t c.args.wanted.now c.look_up_wanted.new.looked)
     c.in_ok-limit.ensures c.in-Ok.ensures)
     (λ found. let t = tables g.S.Store c.args.self.now in
     found.1 (subst (IsLooked t nothing) (sym c.nothing-looked.ensures)
-    (nothing_is t c.in_ok-limit.limit c.in_ok-limit.today found.0)))
+    (nothing_is t c.in_ok-limit.limit c.in_ok-limit.today found.0)))).gives
 
-pub returns-in-Err : goal.returns-in-Err
-returns-in-Err g c =
-    failed_with g.S.Store c.in-Err.fault c.in_ok-limit.ensures c.in-Err.ensures
+pub returns-in-Ok-clause-within : goal.returns-in-Ok-clause-within
+returns-in-Ok-clause-within g c =
+    (put_together g.S.Store c.look_up_wanted.new.looked
+    (and_then g.S.Store
+    (λ t done. IsLooked t nothing c.nothing-looked.result →
+    IsLooked t c.args.wanted.now c.look_up_wanted.new.looked)
+    c.in_ok-limit.ensures c.in-Ok.ensures)
+    (λ found. let t = tables g.S.Store c.args.self.now in
+    found.1 (subst (IsLooked t nothing) (sym c.nothing-looked.ensures)
+    (nothing_is t c.in_ok-limit.limit c.in_ok-limit.today found.0)))).within
+
+pub returns-in-Err-clause-gives : goal.returns-in-Err-clause-gives
+returns-in-Err-clause-gives g c =
+    (failed_with g.S.Store c.in-Err.fault c.in_ok-limit.ensures c.in-Err.ensures).gives
+
+pub returns-in-Err-clause-within : goal.returns-in-Err-clause-within
+returns-in-Err-clause-within g c =
+    (failed_with g.S.Store c.in-Err.fault c.in_ok-limit.ensures c.in-Err.ensures).within

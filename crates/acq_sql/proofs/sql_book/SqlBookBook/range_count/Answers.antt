@@ -6,7 +6,7 @@ use Rattle.acq_sql.proofs.sql_book.SqlBookBook.range_count.Goals as goal
 pub returns : goal.returns
 returns g c =
     let answer = c.range_count-answer in
-    asked g.S.Store _ _ answer.new.conn c.counted.new.failures c.self.view_is c.self.invariant
+    (asked g.S.Store _ _ answer.new.conn c.counted.new.failures c.self.view_is c.self.invariant
     c.settled.ensures answer.result c.counted.result answer.ensures.looks c.counted.ensures
     (λ t. range_count_at t) (λ clean t holds past. answer.ensures.answers clean t holds) _ answer.ensures.fails
-    ranges_told
+    ranges_told).gives

@@ -1,7 +1,7 @@
 use Rattle.std.proofs.Common.{refl}
 use Rattle.acq_core.specs.Pasts.{HasPast}
 use Rattle.acq_sql_changes.proofs.Whole.{dropped_fails, dropped_whole, kept_fails, kept_whole}
-use Rattle.acq_sql.proofs.apply.applying.apply.Goals as goal
+use Rattle.acq_sql.proofs.apply.applying.change_alone.Goals as goal
 
 pub returns-in-Ok-clause-whole : goal.returns-in-Ok-clause-whole
 returns-in-Ok-clause-whole g c =
