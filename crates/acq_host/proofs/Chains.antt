@@ -1,7 +1,10 @@
 -- Look-ups, one after another, and a change after them.
-use Rattle.std.proofs.Common.{◌≡◌, ℕ, Bool, true, inl, inr, ⊎_elim, ◌∙◌, refl, arith}
+use Rattle.std.proofs.Common.{◌≡◌, ℕ, Bool, true, false, true≢false, inl, inr, ⊎_elim, ◌∙◌, refl}
+use Rattle.std.proofs.Common.{sym, arith, is_ok, IfOk, Result, Ok, Err}
 use Rattle.acq_core.specs.Tables.{Tables}
-use Rattle.acq_book.specs.Calls.{Looks}
+use Rattle.acq_book.specs.Calls.{GivesWithin, Looks, MakesWithin}
+use Rattle.acq_book.specs.Groups.{LooksWithinBy}
+use Rattle.acq_book.specs.declared.book_fault.BookFault.{BookFault}
 use Rattle.acq_book.specs.Promise.{LooksBy, MakesBy}
 use Rattle.acq_book.specs.declared.book.Book.{Ghosts}
 pub use Rattle.acq_book.proofs.Chains.{counts_more, looks_more, risen_after}
@@ -49,3 +52,71 @@ makes_after tables is_honest is_open may_leave leaves_books failures store_fault
       rise = omega arith;
       counts = omega arith;
     }
+
+-- two things that are said of what succeeded
+pub both_ok : {T E : Type 0} (P Q : T → Type 0) (result : Result T E) → IfOk result P
+    → IfOk result Q → IfOk result (λ x. P x × Q x)
+both_ok P Q (Ok x) p q = (p, q)
+both_ok P Q (Err e) p q = tt
+
+-- ---- within a group
+
+-- it leaves the tables as they are
+abbrev pub LooksWithin : {S : Type 0} → Ghosts S → S → S → Bool → Type 0
+LooksWithin book = LooksWithinBy book.tables book.is_honest book.is_within book.can_return
+
+-- a group that is open can be given up
+abbrev pub Returns : {S : Type 0} → Ghosts S → Type 0
+Returns {S} book =
+    (s : S) (began : Tables) (faults : ℕ) → book.is_within s began faults
+    → book.can_return s began faults
+
+module _ {S : Type 0} (book : Ghosts S) where
+  -- look-ups that succeeded, of which nothing was made then
+  pub fails_within : {a b : S} → Returns book → LooksWithin book a b true → (succeeded : Bool)
+      → LooksWithin book a b succeeded
+  fails_within {a} {b} law looks succeeded = record {
+    was_within = λ began n s w. looks.was_within began n refl w;
+    stays = λ began n s h w. looks.stays began n refl h w;
+    same = λ began n s w. looks.same began n refl w;
+    breaks = λ began n s h w. law b began n (looks.stays began n refl h w);
+  }
+
+  -- where it failed nothing is given
+  pub gives_none : {T : Type 0} {a b : S} {says : T → Type 0} (result : Result T BookFault)
+      → is_ok result ≡ false → LooksWithin book a b false → GivesWithin book a b result says
+  gives_none (Ok x) is looks = absurd (true≢false is)
+  gives_none (Err e) is looks = record {
+    value = λ began n w. tt;
+    looks = looks;
+  }
+
+  -- what is decided over a look-up that succeeded
+  pub gives_over : {T : Type 0} {a b : S} {says : T → Type 0} (result : Result T BookFault)
+      → Returns book → LooksWithin book a b true
+      → ((began : Tables) (n : ℕ) → book.is_within b began n → IfOk result says)
+      → GivesWithin book a b result says
+  gives_over result law looks value = record {
+    value = value;
+    looks = fails_within law looks (is_ok result);
+  }
+
+  -- nothing is made
+  pub makes_nothing : (s : S) → MakesWithin book s s true (book.tables s)
+  makes_nothing s = record {
+    stays = λ began n ok h w. w;
+    made = λ began n ok h w. refl;
+    breaks = λ began n ok h w. absurd (true≢false ok);
+    leaves = λ began n h w t l. l;
+    books = λ began n h w b. b;
+  }
+
+  -- nothing came of it
+  pub unmade_within : (s : S) (changed : Tables) → Returns book → MakesWithin book s s false changed
+  unmade_within s changed law = record {
+    stays = λ began n ok h w. absurd (true≢false (sym ok));
+    made = λ began n ok h w. absurd (true≢false (sym ok));
+    breaks = λ began n ok h w. law s began n w;
+    leaves = λ began n h w t l. l;
+    books = λ began n h w b. b;
+  }

@@ -3,3 +3,4 @@ pub mod LookedUp
 pub mod NewRows
 pub mod ChangesFit
 pub mod Runs
+pub mod Groups

@@ -21,7 +21,7 @@ use Rattle.acq_host.specs.Runs.{after_first}
 
 -- ---- outputs and tables
 
-outputs-push : (t : Tables) (es : List Event) (e : Event) →
+pub outputs-push : (t : Tables) (es : List Event) (e : Event) →
     outputs t (es ++ e ∷ []) ≡ outputs t es ++ step_output (tables_after t es) (arrival_of e) ∷ []
 outputs-push t [] e = refl
 outputs-push t (x ∷ es) e =
@@ -35,7 +35,7 @@ output_at t [] later e = refl
 output_at t (x ∷ before) later e = output_at (step_tables t (arrival_of x)) before later e
 
 -- the first events and one more
-first_and_next : (events : List Event) (at : ℕ) (e : Event) → at < length events →
+pub first_and_next : (events : List Event) (at : ℕ) (e : Event) → at < length events →
     e ≡ get_or events at e →
     take (at + 1) events ≡ take at events ++ e ∷ []
 first_and_next events at e within is =

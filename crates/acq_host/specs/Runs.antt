@@ -3,7 +3,10 @@ use Rattle.std.specs.Prelude.{◌≡◌, ℕ, ◌<◌, List, length, take, Optio
 use Rattle.acq_core.specs.declared.event.Event.{Event}
 use Rattle.acq_core.specs.declared.output.Output.{Output}
 use Rattle.acq_core.specs.declared.output.Output.TheVariants.{Reply}
-use Rattle.acq_core.specs.Tables.{Tables, outputs, tables_after}
+use Rattle.acq_core.specs.declared.arrival.Arrival.{Arrival}
+use Rattle.acq_core.specs.declared.change.Change.{Change}
+use Rattle.acq_core.specs.Changes.{change_for}
+use Rattle.acq_core.specs.Tables.{Tables, known_in, outputs, step_output, tables_after}
 use Rattle.acq_book.specs.Promise.{CountsFault}
 use Rattle.acq_soundness.specs.Replies.{IsReplyText}
 use Rattle.acq_host.specs.declared.run_fault.RunFault.{RunFault}
@@ -12,6 +15,10 @@ use Rattle.acq_host.specs.declared.run_fault.RunFault.{RunFault}
 abbrev pub IsWellSaid : Output → Type 0
 IsWellSaid output =
     (party : Option (List ℕ)) (text : List ℕ) → output ≡ Reply party text → IsReplyText text
+
+-- what the host says to an arrival, and what changes, is decided over these tables
+abbrev pub IsDecided : {R : Type 0} → Tables → Arrival → Output × Option Change × R → Type 0
+IsDecided t a x = (x.0 ≡ step_output t a) × (x.1 ≡ change_for (known_in t a) a)
 
 -- the tables after the first events
 abbrev pub after_first : ℕ → Tables → List Event → Tables

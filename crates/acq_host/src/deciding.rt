@@ -8,9 +8,10 @@ ghost use Rattle.acq_core.specs.Outcome.{outcome, output_of};
 ghost use Rattle.acq_core.specs.Tables.{after_any, known_in, step_output};
 ghost use Rattle.acq_core.specs.Pasts.{HasPast};
 ghost use Rattle.acq_book.specs.Fits.{Fits};
-ghost use Rattle.acq_book.specs.Calls.{Looks, Makes};
+ghost use Rattle.acq_book.specs.Calls.{GivesWithin, Lives, Looks, Makes, MakesWithin};
 ghost use Rattle.acq_book.specs.Promise.{CountsFault};
 ghost use Rattle.acq_reasons.specs.Reasons.{reason_for};
+ghost use Rattle.acq_host.specs.Runs.{IsDecided};
 
 use crate::looking_up::look_up;
 use acq_book::{Book, BookFault};
@@ -32,6 +33,8 @@ pub(crate) fn decide<B: Book>(
     ensures reason { B.is_open book.new → IfOk result (λ x. let a = arrival_of event.now in
         x.2 ≡ reason_for (known_in (B.tables book.old) a) a) }
     ensures looks { Looks B.Book book.old book.new (is_ok result) }
+    ensures within { let a = arrival_of event.now in
+        GivesWithin B.Book book.old book.new result (IsDecided (B.tables book.old) a) }
     ensures store { CountsFault result (B.failures book.old) (B.failures book.new) }
 {
     let arrival = Arrival::of(alloc, event)?;
@@ -52,6 +55,8 @@ fn decide_arrival<B: Book>(
     ensures reason { B.is_open book.new → IfOk result (λ x.
         x.2 ≡ reason_for (known_in (B.tables book.old) arrival.now) arrival.now) }
     ensures looks { Looks B.Book book.old book.new (is_ok result) }
+    ensures within { GivesWithin B.Book book.old book.new result
+        (IsDecided (B.tables book.old) arrival.now) }
     ensures store { CountsFault result (B.failures book.old) (B.failures book.new) }
 {
     let looked = look_up(book, arrival)?;
@@ -81,9 +86,11 @@ fn decide_over(
 
 /// Makes a change, if there is one. It is lent, so that the caller lets it go, once.
 pub(crate) fn apply<B: Book>(book: &mut B, change: &Option<Change>) -> Result<(), BookFault>
-    requires fits { B.is_open book.old → IfSome change.now (Fits (B.tables book.old)) }
-    requires past { B.is_open book.old → HasPast (after_any (B.tables book.old) change.now) }
+    requires fits { Lives B.Book book.old → IfSome change.now (Fits (B.tables book.old)) }
+    requires past { Lives B.Book book.old → HasPast (after_any (B.tables book.old) change.now) }
     ensures makes { Makes B.Book
+        book.old book.new (is_ok result) (after_any (B.tables book.old) change.now) }
+    ensures within { MakesWithin B.Book
         book.old book.new (is_ok result) (after_any (B.tables book.old) change.now) }
     ensures store { CountsFault result (B.failures book.old) (B.failures book.new) }
 {

@@ -1,10 +1,10 @@
 //! A host over a book.
 
-ghost use Rattle.std.specs.Prelude.{◌≡◌, ◌⊎◌, ◌+◌, [], ◌∷◌, ◌++◌, is_ok};
+ghost use Rattle.std.specs.Prelude.{◌≡◌, ◌⊎◌, ◌≤◌, ◌+◌, ℕ, [], ◌∷◌, ◌++◌, is_ok};
 ghost use Rattle.std.specs.Prelude.{IfOk, IfErr, OnOk, OnErr};
 ghost use Rattle.acq_core.specs.Arrivals.{arrival_of};
 ghost use Rattle.acq_core.specs.Tables.{Tables, outputs, step_output, step_tables, tables_after};
-ghost use Rattle.acq_book.specs.Calls.{Makes};
+ghost use Rattle.acq_book.specs.Calls.{Makes, MakesWithin};
 ghost use Rattle.acq_book.specs.Promise.{CountsFault, HasRisen};
 ghost use Rattle.acq_core.specs.Pasts.{HasPast};
 ghost use Rattle.acq_host.specs.Runs.{CountsRun, IsWellSaid, StopsAt, after_first};
@@ -70,6 +70,12 @@ impl<B: Book + Drop> Host<B> {
         ensures reply { B.is_honest self.new → B.is_open self.old → IfOk result IsWellSaid }
         // The tables after it, and what a stop at any moment may leave.
         ensures tables { Makes B.Book self.old self.new (is_ok result)
+            (step_tables (B.tables self.old) (arrival_of event.now)) }
+        // Within a group of the book it is taken with the group.
+        ensures output_within { (began : Tables) (faults : ℕ) → B.is_honest self.new
+            → B.is_within self.old began faults → IfOk result (λ output.
+            output ≡ step_output (B.tables self.old) (arrival_of event.now)) }
+        ensures within { MakesWithin B.Book self.old self.new (is_ok result)
             (step_tables (B.tables self.old) (arrival_of event.now)) }
         ensures past { B.is_open self.new → HasPast (B.tables self.new) }
         // Events lead to what a stop leaves, too.
@@ -138,6 +144,52 @@ impl<B: Book + Drop> Host<B> {
         Ok(said)
     }
 
+    /// Takes events in a group, all of them or none, and returns what the host says to each. Before
+    /// the group is kept nothing is said.
+    pub fn take_group(&mut self, events: &[Event]) -> Result<Vec<Output>, BookFault>
+        ensures outputs { B.is_honest self.new → B.is_open self.old → IfOk result (λ said.
+            said.items ≡ outputs (B.tables self.old) events.now) }
+        // The tables after all of them, and what a stop at any moment may leave: the tables from
+        // before the group, or from after it.
+        ensures tables { Makes B.Book self.old self.new (is_ok result)
+            (tables_after (B.tables self.old) events.now) }
+        ensures past { B.is_open self.new → HasPast (B.tables self.new) }
+        ensures left { B.is_honest self.new → B.is_open self.old
+            → (t : Tables) → B.may_leave self.new t → HasPast t }
+        ensures store { CountsFault result (B.failures self.old) (B.failures self.new) }
+    {
+        self.book.begin()?;
+        match self.take_each(events) {
+            Ok(said) => {
+                self.book.keep()?;
+                Ok(said)
+            }
+            Err(fault) => {
+                self.book.give_up();
+                Err(fault)
+            }
+        }
+    }
+
+    /// Takes events within a group, to the last or to the first fault.
+    fn take_each(&mut self, events: &[Event]) -> Result<Vec<Output>, BookFault>
+        ensures outputs { (began : Tables) (faults : ℕ) → B.is_honest self.new
+            → B.is_within self.old began faults → IfOk result (λ said.
+            said.items ≡ outputs (B.tables self.old) events.now) }
+        ensures within { MakesWithin B.Book self.old self.new (is_ok result)
+            (tables_after (B.tables self.old) events.now) }
+        ensures was_honest { B.is_honest self.new → B.is_honest self.old }
+        ensures rise { B.failures self.old ≤ B.failures self.new }
+        ensures counts { B.store_faults self.old ≤ B.store_faults self.new }
+        ensures store { CountsFault result (B.failures self.old) (B.failures self.new) }
+    {
+        let mut said = Vec::new(self.alloc);
+        for event in events {
+            self.take_next(&mut said, event)?;
+        }
+        Ok(said)
+    }
+
     /// Takes one event, and puts what the host says to it behind what it said so far.
     fn take_next(&mut self, said: &mut Vec<Output>, event: &Event) -> Result<(), BookFault>
         ensures said { B.is_honest self.new → B.is_open self.old → OnOk result (said.new.items
@@ -148,6 +200,11 @@ impl<B: Book + Drop> Host<B> {
         ensures past { B.is_open self.new → OnOk result (HasPast (B.tables self.new)) }
         ensures left { B.is_honest self.new → B.is_open self.old → HasPast (B.tables self.old)
             → (t : Tables) → B.may_leave self.new t → HasPast t }
+        ensures said_within { (began : Tables) (faults : ℕ) → B.is_honest self.new
+            → B.is_within self.old began faults → OnOk result (said.new.items
+            ≡ said.old.items ++ step_output (B.tables self.old) (arrival_of event.now) ∷ []) }
+        ensures within { MakesWithin B.Book self.old self.new (is_ok result)
+            (step_tables (B.tables self.old) (arrival_of event.now)) }
         ensures store { CountsFault result (B.failures self.old) (B.failures self.new) }
     {
         // Once the event is taken nothing may fail, so the place of its output is taken first.

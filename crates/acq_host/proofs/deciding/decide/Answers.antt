@@ -2,6 +2,8 @@
 use Rattle.std.proofs.Common.{◌≡◌, IfOk, subst}
 use Rattle.acq_core.specs.Changes.{change_for}
 use Rattle.acq_core.specs.Tables.{known_in, step_output}
+use Rattle.acq_book.specs.Calls.{GivesWithin}
+use Rattle.acq_host.specs.Runs.{IsDecided}
 use Rattle.acq_reasons.specs.Reasons.{reason_for}
 use Rattle.acq_host.proofs.deciding.decide.Goals as goal
 
@@ -22,3 +24,9 @@ returns-clause-reason g c = λ o.
     subst (λ a. IfOk c.decide_arrival.result (λ x.
     x.2 ≡ reason_for (known_in (g.B.Book.tables c.args.book.now) a) a))
     c.in_ok-arrival.ensures (c.decide_arrival.ensures.reason o)
+
+pub returns-clause-within : goal.returns-clause-within
+returns-clause-within g c =
+    subst (λ a. GivesWithin g.B.Book c.args.book.now c.decide_arrival.new.book
+    c.decide_arrival.result (IsDecided (g.B.Book.tables c.args.book.now) a))
+    c.in_ok-arrival.ensures c.decide_arrival.ensures.within
