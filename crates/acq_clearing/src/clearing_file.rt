@@ -73,7 +73,7 @@ fn write_postings<B: Book, K: Sink>(
     postings.report.end(walked)
 }
 
-/// Writes each posting's record.
+/// Puts each posting's record.
 #[derive(Drop)]
 struct Postings<'a, K> {
     report: Report<'a, K>,

@@ -1,9 +1,9 @@
 //! The clearing file of a day that is over, over any book.
 //!
 //! [`clearing`] compares the day's postings with its totals first, and keeps the merchants' names
-//! and sums meanwhile; then it writes a line for each posting that the book hands over, and keeps
-//! none of them. The text is defined over the tables in `specs/ClearingFile.antt`, and what is read
-//! from it in `specs/ClearedSums.antt`.
+//! and sums meanwhile; then it puts a line for each posting that the book hands over, and keeps
+//! none of the postings. The text is defined over the tables in `specs/ClearingFile.antt`, and what
+//! is read from it in `specs/ClearedSums.antt`.
 #![tactic(auto)]
 
 mod clearing_file;

@@ -5,17 +5,18 @@ use Rattle.std.proofs.Common.{append_assoc, append-nil, length-append}
 use Rattle.std.proofs.lemmas.List.{take-append-drop, take-append-le}
 use Rattle.std.proofs.Math.Seq.{take-append_seam, take-append-add}
 use Rattle.std.proofs.lemmas.Grind.{flat_map-append}
-use Rattle.std.specs.Prelude.{Some, None, Result, Ok, Err, OnOk, OnErr, is_ok}
+use Rattle.std.specs.Prelude.{Option, Some, None, Result, Ok, Err, OnOk, OnErr, is_ok}
 use Rattle.std.specs.List.{flat_map}
 use Rattle.acq_book.specs.declared.book_fault.BookFault.{BookFault}
 use Rattle.acq_book.specs.declared.book_fault.BookFault as book
 use Rattle.acq_book.specs.Visits.{Saw, SawAll, SawRows, SawSome}
 use Rattle.acq_reports.specs.declared.report.Report.{Report}
 use Rattle.acq_reports.specs.declared.report_fault.ReportFault.{ReportFault}
+use Rattle.acq_reports.specs.declared.stop.Stop.{Stop}
 use Rattle.acq_reports.specs.declared.stop.Stop.TheVariants as stop
 use Rattle.acq_reports.specs.Faults.{failed_writes}
 use Rattle.acq_reports.specs.Writing.{WentOut, StoppedAfter, Puts, PutsReport, Reports, Writes}
-use Rattle.acq_reports.specs.Writing.{end_of}
+use Rattle.acq_reports.specs.Writing.{Ends, IsFresh, Settles, end_of}
 
 module _ {K : Type 0} (sent : K → List ℕ) (failures : K → ℕ) where
   -- nothing more, as far as it goes
@@ -23,10 +24,19 @@ module _ {K : Type 0} (sent : K → List ℕ) (failures : K → ℕ) where
   went_nothing r = record {
     same_writer = refl;
     stop = refl;
+    gone = [];
     out = sym (append-nil (sent r.writer.now));
+    held = sym (append-nil r.held);
     written = omega arith;
     failed = refl;
   }
+
+  -- what was held and a longer text are what went out meanwhile, what is held then, and the rest
+  gone_first : (a b : List ℕ) (x y : Report K) (went : WentOut sent failures a x y)
+      → x.held ++ (a ++ b) ≡ went.gone ++ (y.held ++ b)
+  gone_first a b x y went =
+      sym (append_assoc x.held a b)
+      ∙ (ap (λ t. t ++ b) (sym went.held) ∙ append_assoc went.gone y.held b)
 
   -- two texts
   pub went_more : (a b : List ℕ) (x y z : Report K) → WentOut sent failures a x y →
@@ -35,9 +45,16 @@ module _ {K : Type 0} (sent : K → List ℕ) (failures : K → ℕ) where
   went_more a b x y z first second = record {
     same_writer = second.same_writer ∙ first.same_writer;
     stop = second.stop ∙ first.stop;
-    out = second.out ∙ (ap (λ s. s ++ b) first.out ∙ append_assoc (sent x.writer.now) a b);
+    gone = first.gone ++ second.gone;
+    out =
+        second.out
+        ∙ (ap (λ s. s ++ second.gone) first.out
+        ∙ append_assoc (sent x.writer.now) first.gone second.gone);
+    held =
+        append_assoc first.gone second.gone z.held
+        ∙ (ap (λ t. first.gone ++ t) second.held ∙ sym (gone_first a b x y first));
     written =
-        let len = length-append a b in
+        let len = length-append first.gone second.gone in
         let one = first.written in
         let two = second.written in
         omega arith;
@@ -45,35 +62,44 @@ module _ {K : Type 0} (sent : K → List ℕ) (failures : K → ℕ) where
   }
 
   -- a text, and not all of another
-  pub went_stopped : (a b : List ℕ) (x y z : Report K) (n : ℕ) → WentOut sent failures a x y
-      → StoppedAfter sent failures b y z n → StoppedAfter sent failures (a ++ b) x z (length a + n)
-  went_stopped a b x y z n first second = record {
-    same_writer = second.same_writer ∙ first.same_writer;
-    within =
-        let len = length-append a b in
-        let le = second.within in
-        omega arith;
-    out =
-        second.out
-        ∙ (ap (λ s. s ++ take n b) first.out
-        ∙ (append_assoc (sent x.writer.now) a (take n b)
-        ∙ ap (λ t. sent x.writer.now ++ t) (sym (take-append-add a b n))));
-    why = reason second.why;
-  }
+  pub went_stopped : (a b : List ℕ) (x y z : Report K) → WentOut sent failures a x y
+      → (n : ℕ) × StoppedAfter sent failures b y z n
+      → (n : ℕ) × StoppedAfter sent failures (a ++ b) x z n
+  went_stopped a b x y z first (n, second) =
+      let all = gone_first a b x y first in
+      let lengths : length (x.held ++ (a ++ b)) ≡ length first.gone
+      + length (y.held ++ b) =
+      ap length all ∙ length-append first.gone (y.held ++ b) in (
+        length first.gone + n,
+        record {
+          same_writer = second.same_writer ∙ first.same_writer;
+          within =
+              let le = second.within in
+              omega arith;
+          out =
+              second.out
+              ∙ (ap (λ s. s ++ take n (y.held ++ b)) first.out
+              ∙ (append_assoc (sent x.writer.now) first.gone (take n (y.held ++ b))
+              ∙ ap (λ t. sent x.writer.now ++ t)
+              (sym (take-append-add first.gone (y.held ++ b) n)
+              ∙ ap (take (length first.gone + n)) (sym all))));
+          why = reason lengths second.why;
+        },
+      )
     where
-      reason : ((z.stop ≡ Some stop.Memory) × (failures z.writer.now ≡ failures y.writer.now))
-          ⊎ ((z.stop ≡ Some (stop.Write (y.written + n))) × (n < length b)
+      reason : length (x.held ++ (a ++ b)) ≡ length first.gone + length (y.held ++ b)
+          → ((z.stop ≡ Some stop.Memory) × (failures z.writer.now ≡ failures y.writer.now))
+          ⊎ ((z.stop ≡ Some (stop.Write (y.written + n))) × (n < length (y.held ++ b))
           × (failures z.writer.now ≡ failures y.writer.now + 1))
           → ((z.stop ≡ Some stop.Memory) × (failures z.writer.now ≡ failures x.writer.now))
-          ⊎ ((z.stop ≡ Some (stop.Write (x.written + (length a + n))))
-          × (length a + n < length (a ++ b))
+          ⊎ ((z.stop ≡ Some (stop.Write (x.written + (length first.gone + n))))
+          × (length first.gone + n < length (x.held ++ (a ++ b)))
           × (failures z.writer.now ≡ failures x.writer.now + 1))
-      reason (inl memory) = inl (memory.0, memory.1 ∙ first.failed)
-      reason (inr write) =
+      reason lengths (inl memory) = inl (memory.0, memory.1 ∙ first.failed)
+      reason lengths (inr write) =
           let one = first.written in
-          let len = length-append a b in
           let short = write.1 in
-          let count : y.written + n ≡ x.written + (length a + n) = omega arith in
+          let count : y.written + n ≡ x.written + (length first.gone + n) = omega arith in
           inr (
             write.0 ∙ ap (λ m. Some (stop.Write m)) count,
             omega arith,
@@ -83,30 +109,36 @@ module _ {K : Type 0} (sent : K → List ℕ) (failures : K → ℕ) where
   -- not all of a text, and so not all of a longer one
   pub stopped_more : (a b : List ℕ) (x z : Report K) (n : ℕ) → StoppedAfter sent failures a x z n
       → StoppedAfter sent failures (a ++ b) x z n
-  stopped_more a b x z n stopped = record {
-    same_writer = stopped.same_writer;
-    within =
-        let len = length-append a b in
-        let le = stopped.within in
-        omega arith;
-    out = stopped.out ∙ ap (λ t. sent x.writer.now ++ t)
-        (sym (take-append-le n a b stopped.within));
-    why = reason stopped.why;
-  }
+  stopped_more a b x z n stopped =
+      let all = append_assoc x.held a b in
+      let lengths : length (x.held ++ (a ++ b)) ≡ length (x.held ++ a) + length b =
+      ap length (sym all) ∙ length-append (x.held ++ a) b in
+      record {
+        same_writer = stopped.same_writer;
+        within =
+            let le = stopped.within in
+            omega arith;
+        out =
+            stopped.out
+            ∙ ap (λ t. sent x.writer.now ++ t)
+            (sym (take-append-le n (x.held ++ a) b stopped.within) ∙ ap (take n) all);
+        why = reason lengths stopped.why;
+      }
     where
-      reason : ((z.stop ≡ Some stop.Memory) × (failures z.writer.now ≡ failures x.writer.now))
-          ⊎ ((z.stop ≡ Some (stop.Write (x.written + n))) × (n < length a)
+      reason : length (x.held ++ (a ++ b)) ≡ length (x.held ++ a) + length b
+          → ((z.stop ≡ Some stop.Memory) × (failures z.writer.now ≡ failures x.writer.now))
+          ⊎ ((z.stop ≡ Some (stop.Write (x.written + n))) × (n < length (x.held ++ a))
           × (failures z.writer.now ≡ failures x.writer.now + 1))
           → ((z.stop ≡ Some stop.Memory) × (failures z.writer.now ≡ failures x.writer.now))
-          ⊎ ((z.stop ≡ Some (stop.Write (x.written + n))) × (n < length (a ++ b))
+          ⊎ ((z.stop ≡ Some (stop.Write (x.written + n)))
+          × (n < length (x.held ++ (a ++ b)))
           × (failures z.writer.now ≡ failures x.writer.now + 1))
-      reason (inl memory) = inl memory
-      reason (inr write) =
-          let len = length-append a b in
+      reason lengths (inl memory) = inl memory
+      reason lengths (inr write) =
           let short = write.1 in
           inr (write.0, omega arith, write.2)
 
-  -- a text went out, or not all of it
+  -- a text went out or is held, or not all of it
   abbrev pub Outcome : List ℕ → Report K → Report K → Type 0
   Outcome text x z = WentOut sent failures text x z
       ⊎ ((n : ℕ) × StoppedAfter sent failures text x z n)
@@ -114,8 +146,12 @@ module _ {K : Type 0} (sent : K → List ℕ) (failures : K → ℕ) where
   pub outcome_more : (a b : List ℕ) (x y z : Report K) → WentOut sent failures a x y → Outcome b y z
       → Outcome (a ++ b) x z
   outcome_more a b x y z first (inl went) = inl (went_more a b x y z first went)
-  outcome_more a b x y z first (inr stopped) =
-      inr (length a + stopped.0, went_stopped a b x y z stopped.0 first stopped.1)
+  outcome_more a b x y z first (inr stopped) = inr (went_stopped a b x y z first stopped)
+
+  pub puts_more : (a b : List ℕ) (x y z : Report K) (more : Bool) → WentOut sent failures a x y
+      → Puts sent failures b y more z → Puts sent failures (a ++ b) x more z
+  puts_more a b x y z true first went = went_more a b x y z first went
+  puts_more a b x y z false first stopped = went_stopped a b x y z first stopped
 
   -- what went out of a text by the end of a walk
   abbrev pub Progress : List ℕ → Report K → Report K → Result (Unit {0}) BookFault → Type 0
@@ -127,11 +163,13 @@ module _ {K : Type 0} (sent : K → List ℕ) (failures : K → ℕ) where
   progress_more a b x y z (Err f) first rest = (
     rest.0 ∙ first.same_writer,
     (
-      length a + rest.1.0,
+      length first.gone + rest.1.0,
       rest.1.1
-          ∙ (ap (λ s. s ++ take rest.1.0 b) first.out
-          ∙ (append_assoc (sent x.writer.now) a (take rest.1.0 b)
-          ∙ ap (λ t. sent x.writer.now ++ t) (sym (take-append-add a b rest.1.0)))),
+          ∙ (ap (λ s. s ++ take rest.1.0 (y.held ++ b)) first.out
+          ∙ (append_assoc (sent x.writer.now) first.gone (take rest.1.0 (y.held ++ b))
+          ∙ ap (λ t. sent x.writer.now ++ t)
+          (sym (take-append-add first.gone (y.held ++ b) rest.1.0)
+          ∙ ap (take (length first.gone + rest.1.0)) (sym (gone_first a b x y first))))),
     ),
     rest.2 ∙ first.failed,
   )
@@ -141,54 +179,124 @@ module _ {K : Type 0} (sent : K → List ℕ) (failures : K → ℕ) where
       → Progress (a ++ b) x z (Ok tt)
   progress_stopped a b x z n stopped = inr (n, stopped_more a b x z n stopped)
 
-  -- a text went out, and nothing of what is behind it
+  -- a text went out or is held, and nothing of what is behind it was put
   pub begins_part : (a b : List ℕ) (x z : Report K) (f : BookFault) → WentOut sent failures a x z
       → Progress (a ++ b) x z (Err f)
   begins_part a b x z f went = (
     went.same_writer,
-    (length a, went.out ∙ ap (λ t. sent x.writer.now ++ t) (sym (take-append_seam a b))),
+    (
+      length went.gone,
+      went.out
+          ∙ ap (λ t. sent x.writer.now ++ t)
+          (sym (take-append_seam went.gone (z.held ++ b))
+          ∙ ap (take (length went.gone)) (sym (gone_first a b x z went))),
+    ),
     went.failed,
   )
 
-  -- what the report ends with
+  -- ---- what the report ends with
+
   abbrev Tells : List ℕ → Report K → Report K → Result (Unit {0}) ReportFault → Type 0
   Tells text x z result =
       Reports None text (sent x.writer.now) (sent z.writer.now) result
       × (failures z.writer.now ≡ failures x.writer.now + failed_writes result)
 
-  told-stopped : (text : List ℕ) (x z : Report K) (n : ℕ) → x.written ≡ 0
-      → sent z.writer.now ≡ sent x.writer.now ++ take n text
-      → ((z.stop ≡ Some stop.Memory) × (failures z.writer.now ≡ failures x.writer.now))
-      ⊎ ((z.stop ≡ Some (stop.Write (x.written + n))) × (n < length text)
-      × (failures z.writer.now ≡ failures x.writer.now + 1))
-      → Tells text x z (end_of (Ok tt) z.stop)
-  told-stopped text x z n fresh out (inl memory) =
-      let same = memory.1 in
-      let count : failures z.writer.now ≡ failures x.writer.now + 0 = omega arith in
-      subst (λ s. Tells text x z (end_of (Ok tt) s)) (sym memory.0) ((n, out), count)
-  told-stopped text x z n fresh out (inr write) =
-      let all : x.written + n ≡ n = omega arith in
-      subst (λ s. Tells text x z (end_of (Ok tt) s))
-      (sym (write.0 ∙ ap (λ m. Some (stop.Write m)) all)) ((refl, write.1, out), write.2)
+  told-stopped : (text : List ℕ) (x z : Report K) (n : ℕ) → IsFresh x
+      → StoppedAfter sent failures text x z n → Tells text x z (end_of (Ok tt) z.stop)
+  told-stopped text x z n fresh stopped = at out why
+    where
+      alone : x.held ++ text ≡ text
+      alone = ap (λ h. h ++ text) fresh.1
 
-  told : (text : List ℕ) (x z : Report K) (w : Result (Unit {0}) BookFault) → x.written ≡ 0 →
-      x.stop ≡ None
-      → Progress text x z w → Tells text x z (end_of w z.stop)
-  told text x z (Ok tt) fresh begun (inl went) =
+      out : sent z.writer.now ≡ sent x.writer.now ++ take n text
+      out = stopped.out ∙ ap (λ t. sent x.writer.now ++ take n t) alone
+
+      why : ((z.stop ≡ Some stop.Memory) × (failures z.writer.now ≡ failures x.writer.now))
+          ⊎ ((z.stop ≡ Some (stop.Write (x.written + n))) × (n < length text)
+          × (failures z.writer.now ≡ failures x.writer.now + 1))
+      why =
+          subst (λ t. ((z.stop ≡ Some stop.Memory)
+          × (failures z.writer.now ≡ failures x.writer.now))
+          ⊎ ((z.stop ≡ Some (stop.Write (x.written + n))) × (n < length t)
+          × (failures z.writer.now ≡ failures x.writer.now + 1))) alone stopped.why
+
+      at : sent z.writer.now ≡ sent x.writer.now ++ take n text
+          → ((z.stop ≡ Some stop.Memory) × (failures z.writer.now ≡ failures x.writer.now))
+          ⊎ ((z.stop ≡ Some (stop.Write (x.written + n))) × (n < length text)
+          × (failures z.writer.now ≡ failures x.writer.now + 1))
+          → Tells text x z (end_of (Ok tt) z.stop)
+      at out (inl memory) =
+          let same = memory.1 in
+          let count : failures z.writer.now ≡ failures x.writer.now + 0 = omega arith in
+          subst (λ s. Tells text x z (end_of (Ok tt) s)) (sym memory.0) ((n, out), count)
+      at out (inr write) =
+          let zero = fresh.0 in
+          let all : x.written + n ≡ n = omega arith in
+          subst (λ s. Tells text x z (end_of (Ok tt) s))
+          (sym (write.0 ∙ ap (λ m. Some (stop.Write m)) all)) ((refl, write.1, out), write.2)
+
+  told-went : (text : List ℕ) (x z : Report K) → IsFresh x → x.stop ≡ None
+      → WentOut sent failures text x z → z.held ≡ []
+      → Tells text x z (end_of (Ok tt) z.stop)
+  told-went text x z fresh begun went empty =
       let same = went.failed in
       let count : failures z.writer.now ≡ failures x.writer.now + 0 = omega arith in
+      let all : went.gone ≡ text =
+      sym (append-nil went.gone)
+      ∙ (ap (λ h. went.gone ++ h) (sym empty) ∙ (went.held ∙ ap (λ h. h ++ text) fresh.1)) in
       subst (λ s. Tells text x z (end_of (Ok tt) s)) (sym (went.stop ∙ begun))
-      ((refl, went.out), count)
-  told text x z (Ok tt) fresh begun (inr stopped) =
-      told-stopped text x z stopped.0 fresh stopped.1.out stopped.1.why
-  told text x z (Err book.TheVariants.Memory) fresh begun rest =
+      ((refl, went.out ∙ ap (λ t. sent x.writer.now ++ t) all), count)
+
+  -- a walk that failed
+  told-failed : (text : List ℕ) (x z : Report K) (f : BookFault) → IsFresh x
+      → Progress text x z (Err f) → Tells text x z (end_of (Err f) z.stop)
+  told-failed text x z book.TheVariants.Memory fresh rest =
       let same = rest.2 in
-      let count : failures z.writer.now ≡ failures x.writer.now + 0 = omega arith in
-      (rest.1, count)
-  told text x z (Err book.TheVariants.Store) fresh begun rest =
+      let count : failures z.writer.now ≡ failures x.writer.now + 0 = omega arith in (
+        (
+          rest.1.0,
+          rest.1.1 ∙ ap (λ h. sent x.writer.now ++ take rest.1.0 (h ++ text)) fresh.1,
+        ),
+        count,
+      )
+  told-failed text x z book.TheVariants.Store fresh rest =
       let same = rest.2 in
-      let count : failures z.writer.now ≡ failures x.writer.now + 0 = omega arith in
-      (rest.1, count)
+      let count : failures z.writer.now ≡ failures x.writer.now + 0 = omega arith in (
+        (
+          rest.1.0,
+          rest.1.1 ∙ ap (λ h. sent x.writer.now ++ take rest.1.0 (h ++ text)) fresh.1,
+        ),
+        count,
+      )
+
+  -- what is held goes out behind the text
+  settled : (text : List ℕ) (x z u : Report K) (w : Result (Unit {0}) BookFault)
+      (before : Option Stop) → z.stop ≡ before → IsFresh x → x.stop ≡ None → Progress text x z w
+      → Settles sent failures w before z u → Tells text x u (end_of w u.stop)
+  settled text x z u (Err f) before is fresh begun rest same =
+      subst (λ r. Tells text x r (end_of (Err f) r.stop)) (sym same)
+      (told-failed text x z f fresh rest)
+  settled text x z u (Ok tt) (Some why) is fresh begun (inl went) same =
+      absurd (let a = is in let b = went.stop in let c = begun in cc)
+  settled text x z u (Ok tt) (Some why) is fresh begun (inr stopped) same =
+      subst (λ r. Tells text x r (end_of (Ok tt) r.stop)) (sym same)
+      (told-stopped text x z stopped.0 fresh stopped.1)
+  settled text x z u (Ok tt) None is fresh begun (inr stopped) last =
+      absurd (never stopped.1.why)
+    where
+      never : ((z.stop ≡ Some stop.Memory) × (failures z.writer.now ≡ failures x.writer.now))
+          ⊎ ((z.stop ≡ Some (stop.Write (x.written + stopped.0)))
+          × (stopped.0 < length (x.held ++ text))
+          × (failures z.writer.now ≡ failures x.writer.now + 1)) → ⊥
+      never (inl memory) = let a = is in let b = memory.0 in cc
+      never (inr write) = let a = is in let b = write.0 in cc
+  settled text x z u (Ok tt) None is fresh begun (inl went) (inl last) =
+      subst (λ t. Tells t x u (end_of (Ok tt) u.stop)) (append-nil text)
+      (told-went (text ++ []) x u fresh begun (went_more text [] x z u went last.0) last.1)
+  settled text x z u (Ok tt) None is fresh begun (inl went) (inr stopped) =
+      let all = went_stopped text [] x z u went stopped in
+      subst (λ t. Tells t x u (end_of (Ok tt) u.stop)) (append-nil text)
+      (told-stopped (text ++ []) x u all.0 fresh all.1)
 
   same_name : (text : List ℕ) (x z : Report K) (w : Result (Unit {0}) BookFault) →
       Progress text x z w
@@ -197,17 +305,53 @@ module _ {K : Type 0} (sent : K → List ℕ) (failures : K → ℕ) where
   same_name text x z (Ok u) (inr stopped) = sym stopped.1.same_writer
   same_name text x z (Err f) rest = sym rest.0
 
+  same_last : (z u : Report K) (w : Result (Unit {0}) BookFault) (before : Option Stop)
+      → Settles sent failures w before z u → z.writer.ghost_name ≡ u.writer.ghost_name
+  same_last z u (Ok v) None (inl last) = sym last.0.same_writer
+  same_last z u (Ok v) None (inr stopped) = sym stopped.1.same_writer
+  same_last z u (Ok v) (Some why) same = ap (λ r. r.writer.ghost_name) (sym same)
+  same_last z u (Err f) before same = ap (λ r. r.writer.ghost_name) (sym same)
+
   -- the same of what it was written to, which is `first` before and `last` after
-  pub finished : (text : List ℕ) (x z : Report K) (w : Result (Unit {0}) BookFault) (first last : K)
-      (result : Result (Unit {0}) ReportFault) → x.written ≡ 0 → x.stop ≡ None →
+  told : (text : List ℕ) (x z u : Report K) (w : Result (Unit {0}) BookFault) (first last : K)
+      (result : Result (Unit {0}) ReportFault) → IsFresh x → x.stop ≡ None →
       x.writer.now ≡ first
-      → (x.writer.ghost_name ≡ z.writer.ghost_name → last ≡ z.writer.now) → result ≡ end_of w z.stop
+      → (x.writer.ghost_name ≡ u.writer.ghost_name → last ≡ u.writer.now)
+      → result ≡ end_of w u.stop → Settles sent failures w z.stop z u
       → Progress text x z w
       → Writes sent failures text first last result
-  finished text x z w first last result fresh begun starts ends is rest =
-      let tells = told text x z w fresh begun rest in
-      let same = ends (same_name text x z w rest) in
+  told text x z u w first last result fresh begun starts ends is settles rest =
+      let tells = settled text x z u w z.stop refl fresh begun rest settles in
+      let same = ends (same_name text x z w rest ∙ same_last z u w z.stop settles) in
       rw (is, same, ← starts) tells
+
+  pub finished : (text : List ℕ) (x z : Report K) {u : Report K} (w : Result (Unit {0}) BookFault)
+      (first last : K)
+      (result : Result (Unit {0}) ReportFault) → IsFresh x → x.stop ≡ None →
+      x.writer.now ≡ first
+      → (x.writer.ghost_name ≡ u.writer.ghost_name → last ≡ u.writer.now)
+      → Ends sent failures w z result u
+      → Progress text x z w
+      → Writes sent failures text first last result
+  finished text x z {u} w first last result fresh begun starts ends is rest =
+      told text x z u w first last result fresh begun starts ends is.tells is.settles rest
+
+  pub puts_outcome : (text : List ℕ) (x z : Report K) (more : Bool)
+      → Puts sent failures text x more z → Outcome text x z
+  puts_outcome text x z true went = inl went
+  puts_outcome text x z false stopped = inr stopped
+
+  -- a report that ends so ends so of one text, too
+  pub ended : (z u : Report K) (w : Result (Unit {0}) BookFault)
+      (result : Result (Unit {0}) ReportFault) → result ≡ end_of w u.stop
+      → Settles sent failures w z.stop z u → Ends sent failures w z result u
+  ended z u w result is settles = record {
+    tells = is;
+    settles = settles;
+    alone = λ text x first last more well fresh begun starts ends puts.
+        told text x z u w first last result fresh begun starts ends is settles
+        (subst (λ v. Progress text x z v) (sym well) (puts_outcome text x z more puts));
+  }
 
 module _ {K Row V : Type 0} (sent : K → List ℕ) (failures : K → ℕ) (report : V → Report K)
     (line : Row → List ℕ)
@@ -248,21 +392,14 @@ module _ {K Row V : Type 0} (sent : K → List ℕ) (failures : K → ℕ) (repo
   begun : (rows : List Row) (v w : V) (f : BookFault) → Keeps v → SawSome sees rows v w
       → Progress sent failures (flat_map line rows) (report v) (report w) (Err f)
   begun rows v w f kept (n, saw) =
-      let went = all_out (take n rows) v w kept saw in
       let front = flat_map line (take n rows) in
       let back = flat_map line (drop n rows) in
       let whole : flat_map line rows ≡ front ++ back =
       ap (flat_map line) (sym (take-append-drop n rows)) ∙ flat_map-append line (take n rows)
-      (drop n rows) in (
-        went.same_writer,
-        (
-          length front,
-          went.out
-              ∙ ap (λ t. sent (report v).writer.now ++ t)
-              (sym (take-append_seam front back) ∙ ap (take (length front)) (sym whole)),
-        ),
-        went.failed,
-      )
+      (drop n rows) in
+      subst (λ t. Progress sent failures t (report v) (report w) (Err f)) (sym whole)
+      (begins_part sent failures front back (report v) (report w) f
+      (all_out (take n rows) v w kept saw))
 
   pub progress : (rows : List Row) (v w : V) (r : Result (Unit {0}) BookFault) → Keeps v
       → OnOk r (SawAll sees rows v w) → OnErr r (SawSome sees rows v w)

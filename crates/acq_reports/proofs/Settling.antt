@@ -1,7 +1,7 @@
 -- The merchants' lines, as far as the loop over their names has come, and the lines around them.
 use Rattle.std.proofs.Common.{◌≡◌, ℕ, ◌+◌, ◌<◌, List, [], ◌∷◌, ◌++◌, take, drop, length}
 use Rattle.std.proofs.Common.{slice_index_or}
-use Rattle.std.proofs.Common.{Bool, true, false, inl, inr, sym, ap, ◌∙◌, subst, add-one}
+use Rattle.std.proofs.Common.{Bool, inr, sym, ap, ◌∙◌, subst, add-one}
 use Rattle.std.proofs.Common.{append_assoc, append-nil}
 use Rattle.std.proofs.lemmas.List.{take-append-drop}
 use Rattle.std.proofs.lemmas.Grind.{flat_map-append}
@@ -12,7 +12,7 @@ use Rattle.acq_book.specs.declared.book_fault.BookFault.{BookFault}
 use Rattle.acq_reports.specs.declared.report.Report.{Report}
 use Rattle.acq_reports.specs.Writing.{WentOut, StoppedAfter, Puts, PutsReport, Begins}
 use Rattle.acq_reports.proofs.Lines.{Outcome, went_more, went_stopped, stopped_more, outcome_more}
-use Rattle.acq_reports.proofs.Lines.{progress_more}
+use Rattle.acq_reports.proofs.Lines.{progress_more, puts_outcome}
 use Rattle.acq_reports.proofs.Lines.{begins_part}
 
 take_next : (names : List (List ℕ)) (i : ℕ) (name : List ℕ) → i < length names →
@@ -56,13 +56,13 @@ module _ {K : Type 0} (sent : K → List ℕ) (failures : K → ℕ) (line : Lis
     pub stopped_here : (x y z : Report K) → WentOut sent failures front x y
         → (n : ℕ) × StoppedAfter sent failures (line name) y z n
         → (n : ℕ) × StoppedAfter sent failures (flat_map line names) x z n
-    stopped_here x y z first (n, second) = (
-      length front + n,
-      subst (λ t. StoppedAfter sent failures t x z (length front + n)) (sym all_lines)
-          (stopped_more sent failures (front ++ line name) (flat_map line (drop (i + 1) names)) x z
-          (length front + n)
-          (went_stopped sent failures front (line name) x y z n first second)),
-    )
+    stopped_here x y z first second =
+        let stopped = went_stopped sent failures front (line name) x y z first second in (
+          stopped.0,
+          subst (λ t. StoppedAfter sent failures t x z stopped.0) (sym all_lines)
+              (stopped_more sent failures (front ++ line name)
+              (flat_map line (drop (i + 1) names)) x z stopped.0 stopped.1),
+        )
 
     pub failed_here : (x y z : Report K) (f : BookFault) → WentOut sent failures front x y → z ≡ y
         → PutsReport sent failures (flat_map line names) x z (Err f)
@@ -84,17 +84,18 @@ module _ {K : Type 0} (sent : K → List ℕ) (failures : K → ℕ) (first line
             ∙ ap (take (length (take n a))) whole),
       )
 
-  puts_outcome : (text : List ℕ) (x z : Report K) (more : Bool) → Puts sent failures text x more z
-      → Outcome sent failures text x z
-  puts_outcome text x z true went = inl went
-  puts_outcome text x z false stopped = inr stopped
-
   pub failed_between : (x y z : Report K) (f : BookFault) → WentOut sent failures first x y
       → PutsReport sent failures lines y z (Err f)
       → PutsReport sent failures (first ++ (lines ++ last)) x z (Err f)
   failed_between x y z f went rest =
-      progress_more sent failures first (lines ++ last) x y z (Err f) went
-      (rest.0, begins_longer lines last (sent y.writer.now) (sent z.writer.now) rest.1, rest.2)
+      let longer =
+      begins_longer (y.held ++ lines) last (sent y.writer.now) (sent z.writer.now) rest.1 in
+      progress_more sent failures first (lines ++ last) x y z (Err f) went (
+        rest.0,
+        subst (λ t. Begins t (sent y.writer.now) (sent z.writer.now))
+            (append_assoc y.held lines last) longer,
+        rest.2,
+      )
 
   pub stopped_between : (x y z : Report K) → WentOut sent failures first x y
       → (n : ℕ) × StoppedAfter sent failures lines y z n
@@ -108,7 +109,8 @@ module _ {K : Type 0} (sent : K → List ℕ) (failures : K → ℕ) (first line
       → Outcome sent failures (first ++ (lines ++ last)) x u
   put_last x y z u more went through puts =
       outcome_more sent failures first (lines ++ last) x y u went
-      (outcome_more sent failures lines last y z u through (puts_outcome last z u more puts))
+      (outcome_more sent failures lines last y z u through
+      (puts_outcome sent failures last z u more puts))
 
   pub stopped_first : (x y : Report K) → (n : ℕ) × StoppedAfter sent failures first x y n
       → Outcome sent failures (first ++ (lines ++ last)) x y

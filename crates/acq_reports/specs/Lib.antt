@@ -3,6 +3,7 @@ pub mod Marks
 pub mod SettlementReport
 pub mod OpenHolds
 pub mod Refusals
+pub mod Pieces
 pub mod Writing
 pub mod Naming
 pub mod DaySums

@@ -60,34 +60,40 @@ Allows refusal (Err (StillPending n)) = refusal ≡ Some (StillPending n)
 
 -- ---- a report in writing. `sent` and `failures` are those of what it is written to.
 
--- a text went out whole
+-- A text went out, or is held behind what was held: what went out meanwhile is a beginning of both,
+-- and what is held now is the rest.
 pub record WentOut {K : Type 0} (sent : K → List ℕ) (failures : K → ℕ) (text : List ℕ)
     (old new : Report K) : Type 0 where
   pub same_writer : new.writer.ghost_name ≡ old.writer.ghost_name
   pub stop : new.stop ≡ old.stop
-  pub out : sent new.writer.now ≡ sent old.writer.now ++ text
-  pub written : new.written ≡ old.written + length text
+  pub gone : List ℕ
+  pub out : sent new.writer.now ≡ sent old.writer.now ++ gone
+  pub held : gone ++ new.held ≡ old.held ++ text
+  pub written : new.written ≡ old.written + length gone
   pub failed : failures new.writer.now ≡ failures old.writer.now
 
--- so many bytes of a text went out, and then memory ran out or a write failed
+-- so many bytes of what was held and a text behind it went out, and then memory ran out or a write
+-- failed
 pub record StoppedAfter {K : Type 0} (sent : K → List ℕ) (failures : K → ℕ) (text : List ℕ)
     (old new : Report K) (n : ℕ) : Type 0 where
   pub same_writer : new.writer.ghost_name ≡ old.writer.ghost_name
-  pub within : n ≤ length text
-  pub out : sent new.writer.now ≡ sent old.writer.now ++ take n text
+  pub within : n ≤ length (old.held ++ text)
+  pub out : sent new.writer.now ≡ sent old.writer.now ++ take n (old.held ++ text)
   pub why :
       ((new.stop ≡ Some stop.Memory) × (failures new.writer.now ≡ failures old.writer.now))
-      ⊎ ((new.stop ≡ Some (stop.Write (old.written + n))) × (n < length text)
+      ⊎ ((new.stop ≡ Some (stop.Write (old.written + n)))
+      × (n < length (old.held ++ text))
       × (failures new.writer.now ≡ failures old.writer.now + 1))
 
--- by the end of a walk a text went out, or not all of it; where the book failed, some of it
+-- by the end of a walk a text went out or is held, or not all of it; where the book failed, some of
+-- it went out
 abbrev pub PutsReport : {K : Type 0} → (K → List ℕ) → (K → ℕ) → List ℕ → Report K → Report K
     → Result (Unit {0}) BookFault → Type 0
 PutsReport sent failures text old new (Ok u) =
     WentOut sent failures text old new ⊎ ((n : ℕ) × StoppedAfter sent failures text old new n)
 PutsReport sent failures text old new (Err f) =
     (new.writer.ghost_name ≡ old.writer.ghost_name)
-    × Begins text (sent old.writer.now) (sent new.writer.now)
+    × Begins (old.held ++ text) (sent old.writer.now) (sent new.writer.now)
     × (failures new.writer.now ≡ failures old.writer.now)
 
 -- ---- how it ends
@@ -102,7 +108,7 @@ end_of (Err fault) stop = Err (of_book fault)
 end_of (Ok u) None = Ok u
 end_of (Ok u) (Some stop) = Err (fault_of stop)
 
--- A text went out, so that more may follow, or not all of it, so that none may.
+-- A text went out or is held, so that more may follow, or not all of it, so that none may.
 abbrev pub Puts : {K : Type 0} → (K → List ℕ) → (K → ℕ) → List ℕ → Report K → Bool → Report K
     → Type 0
 Puts sent failures text old true new = WentOut sent failures text old new
@@ -114,3 +120,28 @@ abbrev pub PutsLines : {K : Type 0} → (K → List ℕ) → (K → ℕ) → Lis
     → Result Bool BookFault → Type 0
 PutsLines sent failures text old new (Ok more) = Puts sent failures text old more new
 PutsLines sent failures text old new (Err f) = PutsReport sent failures text old new (Err f)
+
+-- what is held goes out at the end, or not all of it, where the walk succeeded and nothing stopped
+-- the report before; else nothing more does
+abbrev pub Settles : {K : Type 0} → (K → List ℕ) → (K → ℕ) → Result (Unit {0}) BookFault
+    → Option Stop → Report K → Report K → Type 0
+Settles sent failures (Ok u) None old new =
+    (WentOut sent failures [] old new × (new.held ≡ []))
+    ⊎ ((n : ℕ) × StoppedAfter sent failures [] old new n)
+Settles sent failures (Ok u) (Some stop) old new = new ≡ old
+Settles sent failures (Err f) stop old new = new ≡ old
+
+-- nothing was put yet
+abbrev pub IsFresh : {K : Type 0} → Report K → Type 0
+IsFresh report = (report.written ≡ 0) × (report.held ≡ [])
+
+-- how a report ends after a walk that ended so; and what that is of one text that was put alone
+pub record Ends {K : Type 0} (sent : K → List ℕ) (failures : K → ℕ)
+    (walked : Result (Unit {0}) BookFault) (old : Report K) (result : Result (Unit {0}) ReportFault)
+    (new : Report K) : Type 0 where
+  pub tells : result ≡ end_of walked new.stop
+  pub settles : Settles sent failures walked old.stop old new
+  pub alone : (text : List ℕ) (start : Report K) (first last : K) (more : Bool)
+      → walked ≡ Ok tt → IsFresh start → start.stop ≡ None → start.writer.now ≡ first
+      → (start.writer.ghost_name ≡ new.writer.ghost_name → last ≡ new.writer.now)
+      → Puts sent failures text start more old → Writes sent failures text first last result

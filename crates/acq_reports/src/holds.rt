@@ -74,7 +74,7 @@ fn write_holds<B: Book, K: Sink>(
     holds.report.end(walked)
 }
 
-/// Writes the holds that are open at a moment.
+/// Puts the holds that are open at a moment.
 #[derive(Drop)]
 struct OpenHolds<'a, K> {
     report: Report<'a, K>,

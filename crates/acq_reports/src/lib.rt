@@ -1,12 +1,13 @@
 //! Reports over any book: the settlement report of a day that is over, a merchant's open holds, and
 //! what other reports are made of.
 //!
-//! [`open_holds`] writes a line for each row that the book hands over, and keeps none of them.
+//! [`open_holds`] puts a line for each row that the book hands over, and keeps none of the rows.
 //! [`settlement`] compares the day's postings with its totals first, and keeps the merchants' names
 //! and sums meanwhile. The texts are defined over the tables in `specs/SettlementReport.antt` and
 //! `specs/OpenHolds.antt`. What writes another text of a book's rows holds a [`Report`], which
-//! tells how far it went out, and makes its lines by [`record_text`]; what reports on a day calls
-//! [`check_day`] and [`check_sums`] first.
+//! gathers the lines, writes them in pieces of 64 KiB and tells how far they went out, and makes
+//! its lines by [`record_text`]; what reports on a day calls [`check_day`] and [`check_sums`]
+//! first.
 #![tactic(auto)]
 
 mod hold_ends;
@@ -16,6 +17,7 @@ mod leg_sum;
 mod masks;
 mod merchant_sums;
 mod names;
+mod piece_buffer;
 mod records;
 mod refusals;
 mod report;

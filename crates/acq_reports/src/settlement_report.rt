@@ -80,7 +80,7 @@ fn write_report<B: Book, K: Sink>(
     report.end(written)
 }
 
-/// Writes the lines of the report, as far as they go out.
+/// Puts the lines of the report, until a write fails.
 #[tactic(auto, using(crate::proofs::Chains::looks_more))]
 fn write_lines<B: Book, K: Sink>(
     book: &mut B,
@@ -109,7 +109,7 @@ fn write_lines<B: Book, K: Sink>(
     }
 }
 
-/// Writes the lines of these merchants, and returns whether all of them went out.
+/// Puts the lines of these merchants, and returns whether more may follow.
 #[tactic(auto, using(crate::proofs::Chains::looks_more))]
 fn write_merchants<B: Book, K: Sink>(
     book: &mut B,
@@ -135,7 +135,7 @@ fn write_merchants<B: Book, K: Sink>(
     Ok(true)
 }
 
-/// Writes a merchant's line, and returns whether all of it went out.
+/// Puts a merchant's line, and returns whether more may follow.
 #[tactic(auto, using(crate::proofs::Chains::looks_more))]
 fn write_merchant<B: Book, K: Sink>(
     book: &mut B,

@@ -1,4 +1,4 @@
-use Rattle.std.proofs.Common.{true, [], ◌+◌, ◌++◌, length, Err, rules, refl, subst, ◌∙◌}
+use Rattle.std.proofs.Common.{true, [], ◌++◌, Err, rules, refl, subst, ◌∙◌}
 use Rattle.acq_reports.specs.SettlementReport.{merchant_line}
 use Rattle.acq_reports.specs.Writing.{Puts}
 use Rattle.acq_reports.proofs.Chains.{looks_more}
@@ -83,11 +83,8 @@ returns-in-Ok-false-clause-any g c =
     let stopped = subst (λ more. Puts sent failures one.0 c.loop-name.report more
     c.write_merchant.new.report) c.in-Ok-false.field-0-test one.1 in (
       so.0 ++ one.0,
-      (
-        length so.0 + stopped.0,
-        went_stopped sent failures so.0 one.0 c.args.report.now c.loop-name.report
-            c.write_merchant.new.report stopped.0 so.1 stopped.1,
-      ),
+      went_stopped sent failures so.0 one.0 c.args.report.now c.loop-name.report
+          c.write_merchant.new.report so.1 stopped,
     )
 
 pub returns-in-Err-clause-any : goal.returns-in-Err-clause-any
