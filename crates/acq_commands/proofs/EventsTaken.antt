@@ -1,18 +1,18 @@
 -- What a stop leaves of events that were taken one after the other.
-use Rattle.std.proofs.Common.{◌≡◌, ◌⊎◌, ℕ, ◌<◌, ◌≤◌, Bool, false, List, [], length, take, get_or}
+use Rattle.std.proofs.Common.{◌≡◌, ◌⊎◌, ℕ, ◌+◌, ◌≤◌, Bool, List, [], length, take}
 use Rattle.std.proofs.Common.{Result, Ok, Err, inl, inr, ⊎_elim, refl, sym, ap, subst, ◌∙◌, arith}
 use Rattle.std.proofs.lemmas.List.{take_all}
 use Rattle.std.specs.Prelude.{IfErr}
 use Rattle.acq_core.specs.declared.event.Event.{Event}
 use Rattle.acq_core.specs.declared.output.Output.{Output}
-use Rattle.acq_core.specs.Arrivals.{arrival_of}
-use Rattle.acq_core.specs.Tables.{step_tables, tables_after}
+use Rattle.acq_core.specs.Tables.{tables_after}
 use Rattle.acq_book.specs.declared.book.Book.{Ghosts}
-use Rattle.acq_book.specs.Calls.{Looks, Makes}
-use Rattle.acq_host.proofs.Runs.{HasTaken, LeavesTables, may_stop_at, leaves_books_at}
+use Rattle.acq_book.specs.Calls.{Looks}
+use Rattle.acq_host.specs.Runs.{after_first}
+use Rattle.acq_host.proofs.Runs.{HasTaken, LeavesTables}
 use Rattle.acq_front.specs.Stops.{left_of, LeavesAll, StopLeaves}
 use Rattle.acq_out.specs.EventLines.{events_of_text}
-use Rattle.acq_commands.specs.DayReports.{Takes, TakesFirst, TakesSome}
+use Rattle.acq_commands.specs.DayReports.{Takes, TakesSome}
 use Rattle.acq_commands.specs.Replay.{IsUntaken, Replays, Stops, TakesUpTo}
 use Rattle.acq_commands.specs.Streams.{Course, Stream}
 use Rattle.acq_faults.specs.declared.fault.Fault as fault
@@ -32,30 +32,13 @@ module _ {S : Type 0} (book : Ghosts S) (settled : LeavesTables book) where
         stored = stored b still;
       }
 
-  -- some first of them were, and the next one wasn't
-  pub first_taken : (a b c : S) (events : List Event) (at : ℕ) (e : Event) (said : List Output) →
-      at < length events → e ≡ get_or events at e → HasTaken book a b (take at events) said →
-      Makes book b c false (step_tables (book.tables b) (arrival_of e)) →
-      book.is_honest c → book.is_open a → TakesFirst (book.tables a) (left_of book c) events
-  first_taken a b c events at e said within is took makes honest opened =
-      let was = makes.was_honest honest in
-      record {
-        taken = at;
-        in_hand = within;
-        leads = λ o. makes.unmade refl (took.stays_open was opened) o ∙ took.leads was opened;
-        stop = record {
-          tables = may_stop_at book a b c events at e said took makes honest opened within is
-              settled;
-          stored = leaves_books_at book a b c events at e said took makes honest opened;
-        };
-      }
-
 -- ---- of a text
 
 module _ {S : Type 0} (book : Ghosts S) (settled : LeavesTables book)
-    (stored : (s : S) → book.is_open s → book.leaves_books s) (a c : S) (text : List ℕ) where
+    (stored : (s : S) → book.is_open s → book.leaves_books s) (group : ℕ) (a c : S)
+    (text : List ℕ) where
   abbrev it : Course S
-  it = record { left = left_of book; old = a; new = c }
+  it = record { left = left_of book; group = group; old = a; new = c }
 
   -- none was taken
   up_to_none : (r : Result (Unit {0}) fault.Fault) → IsUntaken text r → book.is_open a → c ≡ a →
@@ -64,9 +47,10 @@ module _ {S : Type 0} (book : Ghosts S) (settled : LeavesTables book)
     events = [];
     spelled = inr (refl, untaken);
     taken = 0;
+    whole = inr refl;
     leads = λ o. ap book.tables same;
     stop = subst (λ (s : S). StopLeaves (left_of book s)
-        (λ t. (t ≡ book.tables a) ⊎ (t ≡ book.tables a))) (sym same)
+        (λ t. (t ≡ book.tables a) ⊎ (t ≡ after_first (0 + group) (book.tables a) []))) (sym same)
         (record { tables = λ t l. inl (settled a opened t l); stored = stored a opened });
   }
 
@@ -80,6 +64,7 @@ module _ {S : Type 0} (book : Ghosts S) (settled : LeavesTables book)
         events = events;
         spelled = inl spelled;
         taken = length events;
+        whole = inr refl;
         leads = λ o. led ∙ at;
         stop = record { tables = λ t l. inl (stop.tables t l ∙ at); stored = stop.stored };
       }
@@ -89,6 +74,7 @@ module _ {S : Type 0} (book : Ghosts S) (settled : LeavesTables book)
     events = some.events;
     spelled = inl some.spelled;
     taken = some.first.taken;
+    whole = some.first.whole;
     leads = some.first.leads;
     stop = some.first.stop;
   }
@@ -100,6 +86,7 @@ module _ {S : Type 0} (book : Ghosts S) (settled : LeavesTables book)
     events = events;
     spelled = inl spelled;
     taken = stops.taken;
+    whole = stops.whole;
     leads = stops.leads;
     stop = record {
       tables = λ t l. ⊎_elim inl (λ next. inr next.1) (stops.stop.tables t l);
@@ -153,11 +140,12 @@ module _ {S : Type 0} (book : Ghosts S) (settled : LeavesTables book)
   pub looked_up_to : (d : S) (succeeded : Bool) (taken ended : Result (Unit {0}) fault.Fault)
       (more : fault.Fault → Type 0) → IfErr taken (λ cause. (ended ≡ Err cause) × more cause) →
       book.is_honest d → Looks book c d succeeded → TakesUpTo it text taken →
-      TakesUpTo (record { left = left_of book; old = a; new = d }) text ended
+      TakesUpTo (record { left = left_of book; group = group; old = a; new = d }) text ended
   looked_up_to d succeeded taken ended more stopped honest looks up = record {
     events = up.events;
     spelled = spelled_on up.events taken ended more stopped up.spelled;
     taken = up.taken;
+    whole = up.whole;
     leads = λ o. looks.same o ∙ up.leads (looks.was_open o);
     stop = record {
       tables = λ t l. up.stop.tables t (looks.leaves honest t l);

@@ -25,7 +25,7 @@ use Rattle.acq_faults.specs.Faults.{of_out, CountsStore, TellsStore}
 use Rattle.acq_faults.specs.Ends.{going_on}
 use Rattle.acq_commands.specs.Once.{told_of}
 use Rattle.acq_faults.proofs.ToldLater.{tells_later}
-use Rattle.acq_commands.specs.Replay.{AfterReading, StopsAt, StopsEvents}
+use Rattle.acq_commands.specs.Replay.{AfterReading, StopsAt, StopsEvents, StopsLines}
 use Rattle.acq_commands.specs.Streams.{Course, Stream}
 use Rattle.acq_faults.specs.declared.fault.Fault as fault
 
@@ -245,12 +245,17 @@ some_taken it text book.TheVariants.Store some = some
 
 -- ---- a fault of an output's line
 
-pub line_stops : (o : Output) (old new : List ℕ) (e : out.OutFault) → WritesLine o old new (Err e) →
+line_stops : (o : Output) (old new : List ℕ) (e : out.OutFault) → WritesLine o old new (Err e) →
     StopsEvents (of_out e)
 line_stops o old new out.TheVariants.Memory h = tt
 line_stops o old new out.TheVariants.Read h = absurd h
 line_stops o old new (out.TheVariants.Write n) h = tt
 line_stops o old new (out.TheVariants.BadLine n) h = absurd h
+
+-- and of one of several lines
+pub lines_stop : (said : List Output) (old new : List ℕ) (e : out.OutFault) →
+    StopsLines said old new e → StopsEvents (of_out e)
+lines_stop said old new e stopped = line_stops stopped.output _ new e stopped.line
 
 pub line_writes : (e : out.OutFault) (old new : ℕ) → new ≡ old + outs.writes_failed e →
     new ≡ old + failed_writes (Err (of_out e))

@@ -14,6 +14,7 @@ use Rattle.acq_faults.specs.declared.day_report.DayReport.{DayReport}
 use Rattle.acq_faults.specs.declared.fault.Fault as fault
 use Rattle.acq_faults.specs.Faults.{of_report}
 use Rattle.acq_faults.specs.DayReport.{report_text}
+use Rattle.acq_commands.specs.Groups.{AreWhole}
 use Rattle.acq_commands.specs.Streams.{Course, Stream, left_after, tables_before}
 
 -- the texts of reports, one after the other
@@ -65,20 +66,21 @@ pub record TakesEvents (old : Tables) (left : Left) (text : List ℕ) : Type 0 w
   pub leads : left.tables ≡ tables_after old events
   pub stop : LeavesAll left old events
 
--- So many first events were taken, and not the next one. A stop leaves these, or these and the
--- next.
-pub record TakesFirst (old : Tables) (left : Left) (events : List Event) : Type 0 where
+-- So many first events were taken, in whole groups, and not the next one. A stop leaves these, or
+-- these and the next group: as many as a group has, or all that are left.
+pub record TakesFirst (group : ℕ) (old : Tables) (left : Left) (events : List Event) : Type 0 where
   pub taken : ℕ
   pub in_hand : taken < length events
+  pub whole : AreWhole group taken events
   pub leads : left.is_open → left.tables ≡ after_first taken old events
   pub stop : StopLeaves left
-      (λ t. (t ≡ after_first taken old events) ⊎ (t ≡ after_first (taken + 1) old events))
+      (λ t. (t ≡ after_first taken old events) ⊎ (t ≡ after_first (taken + group) old events))
 
 -- some first events of a text were taken
 pub record TakesSome {S : Type 0} (book : Course S) (text : List ℕ) : Type 0 where
   pub events : List Event
   pub spelled : events_of_text text ≡ Ok events
-  pub first : TakesFirst (tables_before book) (left_after book) events
+  pub first : TakesFirst book.group (tables_before book) (left_after book) events
 
 -- Why not all events of a text were taken: a bad line, or a read that failed, before the first; or
 -- memory ran out or the store failed, after some.

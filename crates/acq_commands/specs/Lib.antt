@@ -1,5 +1,6 @@
 pub mod ClockMoments
 pub mod DayReports
+pub mod Groups
 pub mod Listening
 pub mod Once
 pub mod Replay

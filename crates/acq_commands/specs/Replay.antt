@@ -1,5 +1,6 @@
 -- Event lines in, output lines out, over any book.
-use Rattle.std.specs.Prelude.{◌≡◌, ◌⊎◌, ℕ, ◌+◌, ◌<◌, List, [], ◌++◌, length, take, slice_get}
+use Rattle.std.specs.Prelude.{◌≡◌, ◌⊎◌, ℕ, ◌+◌, ◌<◌, ◌≤◌, List, [], ◌++◌, length, take}
+use Rattle.std.specs.Prelude.{slice_get}
 use Rattle.std.specs.Prelude.{Some, Result, Ok, Err}
 use Rattle.std.specs.List.{flat_map}
 use Rattle.acq_core.specs.declared.event.Event.{Event}
@@ -7,8 +8,10 @@ use Rattle.acq_core.specs.declared.output.Output.{Output}
 use Rattle.acq_core.specs.Tables.{Tables, outputs, tables_after}
 use Rattle.acq_host.specs.Runs.{after_first}
 use Rattle.acq_out.specs.EventLines.{events_of_text}
-use Rattle.acq_out.specs.OutputLines.{line_of}
+use Rattle.acq_out.specs.OutputLines.{WritesLine, line_of}
+use Rattle.acq_out.specs.declared.out_fault.OutFault.{OutFault}
 use Rattle.acq_front.specs.Stops.{LeavesAll, StopLeaves}
+use Rattle.acq_commands.specs.Groups.{AreWhole}
 use Rattle.acq_commands.specs.Streams.{Course, Stream, left_after, tables_before}
 use Rattle.acq_faults.specs.declared.fault.Fault as fault
 
@@ -16,22 +19,30 @@ use Rattle.acq_faults.specs.declared.fault.Fault as fault
 abbrev pub lines : Tables → List Event → List ℕ
 lines t events = flat_map line_of (outputs t events)
 
+-- Some first outputs' lines went out behind other bytes, and of the next what this fault lets out.
+pub record StopsLines (said : List Output) (sent sent_after : List ℕ) (cause : OutFault)
+    : Type 0 where
+  pub written : ℕ
+  pub output : Output
+  pub in_hand : slice_get said written ≡ Some output
+  pub line : WritesLine output (sent ++ flat_map line_of (take written said)) sent_after (Err cause)
+
 -- the first n bytes of the line of the output at a place, fewer than all
 abbrev pub BeginsLine : List Output → ℕ → ℕ → List ℕ → Type 0
 BeginsLine said at n part =
     (output : Output) × (slice_get said at ≡ Some output)
     × (n < length (line_of output)) × (part ≡ take n (line_of output))
 
--- How far the event in hand came, by the fault. Where the store failed, it was not taken; where a
--- write failed, it was taken, and so many first bytes of its line went out; for want of memory it
--- was taken or not, and nothing of its line went out.
-abbrev pub Reaches : List Output → (taken written : ℕ) → List ℕ → fault.Fault → Type 0
-Reaches said taken written part fault.TheVariants.Memory =
-    ((taken ≡ written) ⊎ (taken ≡ written + 1)) × (part ≡ [])
-Reaches said taken written part fault.TheVariants.Store = (taken ≡ written) × (part ≡ [])
-Reaches said taken written part (fault.TheVariants.Write n) =
-    (taken ≡ written + 1) × BeginsLine said written n part
-Reaches said taken written part other = ⊥
+-- How far the group in hand came, by the fault. Where the store failed, it was not taken; where a
+-- write failed, it was taken, and some of its lines went out, and so many first bytes of the next;
+-- for want of memory it was taken or not, and some of its lines went out, or none.
+abbrev pub Reaches : (group : ℕ) → List Output → (taken written : ℕ) → List ℕ → fault.Fault → Type 0
+Reaches group said taken written part fault.TheVariants.Memory =
+    (written ≤ taken) × (taken ≤ written + group) × (part ≡ [])
+Reaches group said taken written part fault.TheVariants.Store = (taken ≡ written) × (part ≡ [])
+Reaches group said taken written part (fault.TheVariants.Write n) =
+    (written < taken) × (taken ≤ written + group) × BeginsLine said written n part
+Reaches group said taken written part other = ⊥
 
 -- All events of a text were taken, and a stop leaves them; and their lines were written.
 pub record ReplaysAll {S : Type 0} (book : Course S) (text : List ℕ) (sent : Stream) : Type 0 where
@@ -41,9 +52,9 @@ pub record ReplaysAll {S : Type 0} (book : Course S) (text : List ℕ) (sent : S
   pub leads : (left_after book).tables ≡ tables_after (tables_before book) events
   pub stop : LeavesAll (left_after book) (tables_before book) events
 
--- So many first events were taken, and so many lines written whole, with a part of the next; and
--- an event was in hand. A stop leaves the events that were taken, or these and the one in hand,
--- where it wasn't.
+-- So many first events were taken, in whole groups, and so many lines written whole, with a part of
+-- the next; and a group was in hand. A stop leaves the events that were taken, or these and the
+-- group in hand, where it wasn't: as many as a group has, or all that are left.
 pub record Stops {S : Type 0} (book : Course S) (events : List Event) (sent : Stream)
     (cause : fault.Fault) : Type 0 where
   pub taken : ℕ
@@ -52,12 +63,15 @@ pub record Stops {S : Type 0} (book : Course S) (events : List Event) (sent : St
   pub lines_sent :
       sent.after ≡ sent.before ++ (lines (tables_before book) (take written events) ++ part)
   pub in_hand : written < length events
-  pub next : Reaches (outputs (tables_before book) events) taken written part cause
+  pub within : taken ≤ length events
+  pub whole : AreWhole book.group taken events
+  pub next :
+      Reaches book.group (outputs (tables_before book) events) taken written part cause
   pub leads : (left_after book).is_open →
       (left_after book).tables ≡ after_first taken (tables_before book) events
   pub stop : StopLeaves (left_after book)
       (λ t. (t ≡ after_first taken (tables_before book) events)
-      ⊎ ((taken ≡ written) × (t ≡ after_first (taken + 1) (tables_before book) events)))
+      ⊎ ((taken ≡ written) × (t ≡ after_first (taken + book.group) (tables_before book) events)))
 
 -- The faults that can stop the events of a text once they are read.
 abbrev pub StopsEvents : fault.Fault → Type 0
@@ -104,15 +118,16 @@ IsUntaken text (Err fault.TheVariants.Memory) = Unit {0}
 IsUntaken text (Err fault.TheVariants.Read) = Unit {0}
 IsUntaken text other = ⊥
 
--- The book took so many first events of a text, or none where it was not taken. A stop leaves
--- these, or these and the next.
+-- The book took so many first events of a text, in whole groups, or none where it was not taken. A
+-- stop leaves these, or these and the next group.
 pub record TakesUpTo {S : Type 0} (book : Course S) (text : List ℕ)
     (ended : Result (Unit {0}) fault.Fault) : Type 0 where
   pub events : List Event
   pub spelled : (events_of_text text ≡ Ok events) ⊎ ((events ≡ []) × IsUntaken text ended)
   pub taken : ℕ
+  pub whole : AreWhole book.group taken events
   pub leads : (left_after book).is_open →
       (left_after book).tables ≡ after_first taken (tables_before book) events
   pub stop : StopLeaves (left_after book)
       (λ t. (t ≡ after_first taken (tables_before book) events)
-      ⊎ (t ≡ after_first (taken + 1) (tables_before book) events))
+      ⊎ (t ≡ after_first (taken + book.group) (tables_before book) events))

@@ -15,11 +15,12 @@ use Rattle.acq_commands.specs.Replay.{Replays}
 use Rattle.acq_commands.specs.Streams.{Course, Stream, tables_before}
 
 -- The event lines that were read were taken over a new book, and what came of them was written.
-abbrev pub RunsLines : Opening → (received sent : Stream) → Result (Unit {0}) Fault → Type 0
-RunsLines opening received sent ended =
+abbrev pub RunsLines : Opening → (group : ℕ) → (received sent : Stream)
+    → Result (Unit {0}) Fault → Type 0
+RunsLines opening group received sent ended =
     (text : List ℕ) × (book : Tables) × (received.after ≡ received.before ++ text)
     × Replays
-    (record { left = open_at; old = new_tables opening; new = book })
+    (record { left = open_at; group = group; old = new_tables opening; new = book })
     text sent ended
 
 -- Over the tables behind all events of a text, these reports went out by the result.
@@ -40,28 +41,30 @@ EndsWithReports book reports text sent ended =
     × ReportsBehind (tables_before book) reports text sent written)
 
 -- the same over a new book
-abbrev pub RunsReports : Opening → List DayReport → (received sent : Stream)
+abbrev pub RunsReports : Opening → (group : ℕ) → List DayReport → (received sent : Stream)
     → Result (Unit {0}) Fault → Type 0
-RunsReports opening reports received sent ended =
+RunsReports opening group reports received sent ended =
     (text : List ℕ) × (book : Tables) × (received.after ≡ received.before ++ text)
-    × EndsWithReports (record { left = open_at; old = new_tables opening; new = book })
+    × EndsWithReports
+    (record { left = open_at; group = group; old = new_tables opening; new = book })
     reports text sent ended
 
 -- lines of what came of the events, or reports where some are asked for
-abbrev pub RunsEither : Opening → List DayReport → (received sent : Stream)
+abbrev pub RunsEither : Opening → (group : ℕ) → List DayReport → (received sent : Stream)
     → Result (Unit {0}) Fault → Type 0
-RunsEither opening [] received sent ended = RunsLines opening received sent ended
-RunsEither opening (r ∷ rs) received sent ended =
-    RunsReports opening (r ∷ rs) received sent ended
+RunsEither opening group [] received sent ended = RunsLines opening group received sent ended
+RunsEither opening group (r ∷ rs) received sent ended =
+    RunsReports opening group (r ∷ rs) received sent ended
 
 -- over a new book where there is no file; what is done to the book of a file is said by the calls
 -- that open it and take the events
-abbrev pub RunsIn : Option (String Global) → Opening → List DayReport → (received sent : Stream)
-    → Result (Unit {0}) Fault → Type 0
-RunsIn None opening reports received sent ended = RunsEither opening reports received sent ended
-RunsIn (Some path) opening reports received sent ended = Unit {0}
+abbrev pub RunsIn : Option (String Global) → Opening → (group : ℕ) → List DayReport
+    → (received sent : Stream) → Result (Unit {0}) Fault → Type 0
+RunsIn None opening group reports received sent ended =
+    RunsEither opening group reports received sent ended
+RunsIn (Some path) opening group reports received sent ended = Unit {0}
 
 abbrev pub RunsReplay : ReplayOptions → (received sent : Stream) → Result (Unit {0}) Fault → Type 0
 RunsReplay options received sent ended =
     RunsIn options.book (record { limit = options.limit; first_day = options.first_day })
-    options.reports.items received sent ended
+    options.group options.reports.items received sent ended

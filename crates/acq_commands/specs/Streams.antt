@@ -8,9 +8,10 @@ pub record Stream : Type 0 where
   pub before : List ℕ
   pub after : List ℕ
 
--- a book before and after, and what is left of it
+-- a book before and after, what is left of it, and how many events it took at once
 pub record Course (S : Type 0) : Type 1 where
   pub left : S → Left
+  pub group : ℕ
   pub old : S
   pub new : S
 

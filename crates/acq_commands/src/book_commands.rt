@@ -16,6 +16,7 @@ ghost use Rattle.acq_commands.specs.Runs.{EndsWithReports};
 
 use crate::book_report::BookReport;
 use crate::day_reports::{report_if_taken, told, write_report};
+use crate::group_size::GroupSize;
 use crate::holds_options::HoldsOptions;
 use crate::progress::Progress;
 use crate::replaying::replay;
@@ -27,11 +28,12 @@ use acq_link::{Sink, Source};
 use acq_reports::open_holds;
 use std::alloc::Global;
 
-/// Replays an input over a book, and gives it back with how that ended: writes a line of what comes
-/// of each event, or where reports are asked for, these.
+/// Replays an input over a book, in groups of this size, and gives it back with how that ended:
+/// writes a line of what comes of each event, or where reports are asked for, these.
 pub fn replay_on<B: Book + Drop, S: Source, K: Sink, P: Progress>(
     alloc: Global,
     book: B,
+    group: GroupSize,
     reports: &[DayReport],
     input: &mut S,
     output: &mut K,
@@ -41,17 +43,20 @@ pub fn replay_on<B: Book + Drop, S: Source, K: Sink, P: Progress>(
     // What the book took of the events that were read, and what a stop may leave.
     ensures takes { B.is_honest result.0 → B.is_open book → (text : List ℕ)
         × (S.received input.new ≡ S.received input.old ++ text)
-        × TakesUpTo (record { left = left_of B.Book; old = book; new = result.0 }) text
+        × TakesUpTo
+        (record { left = left_of B.Book; group = group; old = book; new = result.0 }) text
         result.1 }
     // Where no reports are asked for, the line of each event that was taken was written,
     ensures lines { reports.now ≡ [] → B.is_honest result.0 → B.is_open book → (text : List ℕ)
         × (S.received input.new ≡ S.received input.old ++ text)
-        × Replays (record { left = left_of B.Book; old = book; new = result.0 }) text
+        × Replays
+        (record { left = left_of B.Book; group = group; old = book; new = result.0 }) text
         (record { before = K.sent output.old; after = K.sent output.new }) result.1 }
     // and else these reports, of the tables behind all of them.
     ensures reports { (reports.now ≡ [] → ⊥) → B.is_honest result.0 → B.is_open book
         → (text : List ℕ) × (S.received input.new ≡ S.received input.old ++ text)
-        × EndsWithReports (record { left = left_of B.Book; old = book; new = result.0 })
+        × EndsWithReports
+        (record { left = left_of B.Book; group = group; old = book; new = result.0 })
         reports.now text (record { before = K.sent output.old; after = K.sent output.new })
         result.1 }
     // Unless memory ran out or a read failed, the whole input was read.
@@ -67,11 +72,11 @@ pub fn replay_on<B: Book + Drop, S: Source, K: Sink, P: Progress>(
 {
     let mut host = Host::new(alloc, book);
     if reports.is_empty() {
-        let ended = replay(alloc, &mut host, input, output, progress);
+        let ended = replay(alloc, &mut host, group, input, output, progress);
         progress.end();
         return (host.into_book(), ended);
     }
-    let taken = take_events(alloc, &mut host, input, progress);
+    let taken = take_events(alloc, &mut host, group, input, progress);
     progress.end();
     let mut book = host.into_book();
     let ended = report_if_taken(alloc, taken, &mut book, reports, output);

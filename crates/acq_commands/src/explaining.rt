@@ -102,9 +102,9 @@ pub fn explain_in_memory<S: Source, K: Sink>(
 {
     let book = new_list_book(alloc, keys, options.limit, options.first_day);
     let mut host = Host::new(alloc, book);
-    match host.run(events) {
+    match host.take_group(events) {
         Ok(said) => drop(said),
-        Err(stopped) => return Err(Fault::from(stopped.fault)),
+        Err(fault) => return Err(Fault::from(fault)),
     }
     let mut book = host.into_book();
     let ended = explain_on(alloc, &mut book, options.form, moment, input, output);

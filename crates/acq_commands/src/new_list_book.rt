@@ -3,6 +3,7 @@
 ghost use Rattle.std.specs.Prelude.{◌≡◌};
 ghost use Rattle.acq_core.specs.Pasts.{HasPast};
 ghost use Rattle.acq_core.specs.Tables.{new_tables};
+ghost use Rattle.acq_list_book.specs.declared.group.Group.TheVariants.{NotBegun};
 
 use acq_core::Limit;
 use acq_list_book::ListBook;
@@ -19,9 +20,11 @@ pub(crate) fn new_list_book(
     limit: Limit,
     first_day: Day,
 ) -> ListBook
-    ensures book { result ≡ new_tables (record { limit = limit; first_day = first_day }) }
-    // A new book began so, and no event has come.
-    ensures past { HasPast result }
+    ensures tables { result.tables ≡ new_tables
+        (record { limit = limit; first_day = first_day }) }
+    // A new book began so, and no event has come, in a group or by itself.
+    ensures past { HasPast result.tables }
+    ensures outside { result.group ≡ NotBegun }
 {
     every_opening(limit, first_day);
     books_are_sound();

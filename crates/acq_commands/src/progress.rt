@@ -11,3 +11,10 @@ pub trait Progress {
     /// The run has ended.
     fn end(&mut self);
 }
+
+/// Tells that so many events more are done.
+pub(crate) fn all_done<P: Progress>(progress: &mut P, events: usize) {
+    for _ in 0..events {
+        progress.done();
+    }
+}

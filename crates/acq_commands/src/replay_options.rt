@@ -1,5 +1,6 @@
 //! What a replay is asked for.
 
+use crate::group_size::GroupSize;
 use acq_core::Limit;
 use acq_faults::DayReport;
 use day_totals::Day;
@@ -13,6 +14,8 @@ pub struct ReplayOptions {
     pub limit: Limit,
     /// The first business day of the new book.
     pub first_day: Day,
+    /// How many events are taken at once.
+    pub group: GroupSize,
     /// The reports that are written in place of a line of what comes of each event, if any.
     pub reports: Vec<DayReport>,
 }

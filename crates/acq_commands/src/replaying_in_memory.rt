@@ -31,6 +31,6 @@ pub fn replay_in_memory<S: Source, K: Sink, P: Progress>(
 {
     let book = new_list_book(alloc, keys, options.limit, options.first_day);
     let reports = options.reports.as_slice();
-    let ran = replay_on(alloc, book, reports, input, output, progress);
+    let ran = replay_on(alloc, book, options.group, reports, input, output, progress);
     end_of(ran)
 }

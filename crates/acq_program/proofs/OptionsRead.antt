@@ -22,6 +22,7 @@ found_texts-rows f =
       first_value-rows f (codes "db"),
       first_value-rows f (codes "limit"),
       first_value-rows f (codes "day"),
+      first_value-rows f (codes "group"),
       first_value-rows f (codes "merchant"),
       first_value-rows f (codes "at"),
       first_value-rows f (codes "hex"),

@@ -56,6 +56,7 @@ abbrev pub name_of_option : OptionName → Text
 name_of_option option.Db = codes "--db"
 name_of_option option.Limit = codes "--limit"
 name_of_option option.Day = codes "--day"
+name_of_option option.Group = codes "--group"
 name_of_option option.Merchant = codes "--merchant"
 name_of_option option.At = codes "--at"
 name_of_option option.Port = codes "--port"
@@ -84,6 +85,7 @@ pub record OptionTexts : Type 0 where
   pub db : Option Text
   pub limit : Option Text
   pub day : Option Text
+  pub group : Option Text
   pub merchant : Option Text
   pub moment : Option Text
   pub clearing : List Text
@@ -119,6 +121,7 @@ option_texts rows = record {
   db = first_of (codes "db") rows;
   limit = first_of (codes "limit") rows;
   day = first_of (codes "day") rows;
+  group = first_of (codes "group") rows;
   merchant = first_of (codes "merchant") rows;
   moment = first_of (codes "at") rows;
   clearing = values_of (codes "clearing") rows;
@@ -155,6 +158,7 @@ found_texts found = record {
   db = first_value found (codes "db");
   limit = first_value found (codes "limit");
   day = first_value found (codes "day");
+  group = first_value found (codes "group");
   merchant = first_value found (codes "merchant");
   moment = first_value found (codes "at");
   clearing = values_found found (codes "clearing");
@@ -203,6 +207,10 @@ is_number_text digits least greatest text =
 abbrev pub number_of_text : ℕ → ℕ → ℕ → Text → Option ℕ
 number_of_text digits least greatest text =
     if is_number_text digits least greatest text then Some (digits_value 10 text) else None
+
+-- how many events are taken at once, 1 to 10,000
+abbrev pub group_of_text : Text → Option ℕ
+group_of_text text = number_of_text 5 1 10000 text
 
 -- a port of TCP, 1 to 65,535
 abbrev pub port_of_text : Text → Option ℕ
@@ -257,6 +265,14 @@ abbrev pub DayIfThere : OptionTexts → Result (Option ℕ) OptionName → Type 
 DayIfThere texts (Ok None) = texts.day ≡ None
 DayIfThere texts (Ok (Some day)) = texts.day ≡ Some (date_text_of day)
 DayIfThere texts (Err name) = (name ≡ option.Day) × GivesNoDay texts.day
+
+-- so many events at once: without the option 1
+abbrev pub group_if_there : Option Text → Result ℕ OptionName
+group_if_there None = Ok 1
+group_if_there (Some text) = ok_or (group_of_text text) option.Group
+
+abbrev pub GroupIs : OptionTexts → Result ℕ OptionName → Type 0
+GroupIs texts read = read ≡ group_if_there texts.group
 
 -- a merchant, as event lines have it
 abbrev pub MerchantIs : OptionTexts → Result (List ℕ) OptionName → Type 0
@@ -558,33 +574,36 @@ IsListen asked read = read ≡ unless_clash (clash_of asked) asked
 abbrev pub AsksListen : OptionTexts → Result Action OptionName → Type 0
 AsksListen texts = Then (ListenedIs texts) IsListen
 
--- a replay over this book, with these reports
+-- a replay over this book, in groups of this size, with these reports
 abbrev pub IsReplay
-    : Option Text → ℕ → ℕ → List DayReport → Result Action OptionName → Type 0
-IsReplay book limit day reports (Ok (Replay asked)) =
+    : Option Text → ℕ → ℕ → ℕ → List DayReport → Result Action OptionName → Type 0
+IsReplay book limit day group reports (Ok (Replay asked)) =
     (option_map string_bytes asked.book ≡ book) × (asked.limit ≡ limit) × (asked.first_day ≡ day)
-    × (asked.reports.items ≡ reports)
-IsReplay book limit day reports other = ⊥
+    × (asked.group ≡ group) × (asked.reports.items ≡ reports)
+IsReplay book limit day group reports other = ⊥
 
 abbrev pub ReplayBehind
-    : OptionTexts → ℕ → ℕ → List DayReport → List DayReport → Result Action OptionName → Type 0
-ReplayBehind texts limit day clearings settlements =
-    IsReplay texts.db limit day (clearings ++ settlements)
+    : OptionTexts → ℕ → ℕ → ℕ → List DayReport → List DayReport → Result Action OptionName → Type 0
+ReplayBehind texts limit day group clearings settlements =
+    IsReplay texts.db limit day group (clearings ++ settlements)
 
 abbrev pub ReplayWith
-    : OptionTexts → ℕ → ℕ → List DayReport → Result Action OptionName → Type 0
-ReplayWith texts limit day clearings =
-    Then (ReportsAre kinds.Settlement texts.report) (ReplayBehind texts limit day clearings)
+    : OptionTexts → ℕ → ℕ → ℕ → List DayReport → Result Action OptionName → Type 0
+ReplayWith texts limit day group clearings =
+    Then (ReportsAre kinds.Settlement texts.report) (ReplayBehind texts limit day group clearings)
+
+abbrev pub ReplayBy : OptionTexts → ℕ → ℕ → ℕ → Result Action OptionName → Type 0
+ReplayBy texts limit day group =
+    Then (ReportsAre kinds.Clearing texts.clearing) (ReplayWith texts limit day group)
 
 abbrev pub ReplayOn : OptionTexts → ℕ → ℕ → Result Action OptionName → Type 0
-ReplayOn texts limit day =
-    Then (ReportsAre kinds.Clearing texts.clearing) (ReplayWith texts limit day)
+ReplayOn texts limit day = Then (GroupIs texts) (ReplayBy texts limit day)
 
 abbrev pub ReplayUpTo : OptionTexts → ℕ → Result Action OptionName → Type 0
 ReplayUpTo texts limit = Then (DayIs texts) (ReplayOn texts limit)
 
--- what `replay` is asked for: the limit first, then the day, then the clearing files and the
--- settlement reports
+-- what `replay` is asked for: the limit first, then the day, then the group's size, then the
+-- clearing files and the settlement reports
 abbrev pub AsksReplay : OptionTexts → Result Action OptionName → Type 0
 AsksReplay texts = Then (LimitIs texts) (ReplayUpTo texts)
 

@@ -55,12 +55,13 @@ listen =
     (option (codes "stop-within"))) (option (codes "together"))) (option (codes "control")))
     (option (codes "log"))) (option (codes "log-bytes"))
 
--- `replay [--db FILE] [--limit N] [--day DAY] [--clearing DAY].. [--report DAY]..`
+-- `replay [--db FILE] [--limit N] [--day DAY] [--group N] [--clearing DAY].. [--report DAY]..`
 abbrev pub replay : App
 replay =
-    with_rule (with_rule (with_rule (with_rule (with_rule (new_app (codes "replay"))
+    with_rule (with_rule (with_rule (with_rule (with_rule (with_rule (new_app (codes "replay"))
     (option (codes "db"))) (option (codes "limit"))) (option (codes "day")))
-    (option_with_value (codes "clearing") Append)) (option_with_value (codes "report") Append)
+    (option (codes "group"))) (option_with_value (codes "clearing") Append))
+    (option_with_value (codes "report") Append)
 
 -- `clearing --db FILE --day DAY`, or `report` with the same options
 abbrev pub on_a_day : Text → App

@@ -10,7 +10,8 @@ ghost use Rattle.acq_program.specs.Arguments.{AsksMigrate, AsksOnce};
 ghost use Rattle.acq_program.specs.Arguments.{AddressIs, AsksPending, DayIfThere, EndpointIs};
 ghost use Rattle.acq_program.specs.Arguments.{AsksReplay, AsksReport, AsksStatus, AsksTell};
 ghost use Rattle.acq_program.specs.Arguments.{BoundsAre, CountIs, DayIs, ListenedIs, LogBytesIs};
-ghost use Rattle.acq_program.specs.Arguments.{FileIs, FrameWithinIs, IdleIs, IdleWhenFullIs};
+ghost use Rattle.acq_program.specs.Arguments.{FileIs, FrameWithinIs, GroupIs, IdleIs};
+ghost use Rattle.acq_program.specs.Arguments.{IdleWhenFullIs};
 ghost use Rattle.acq_program.specs.Arguments.{IsNoMemory, LimitIs, MerchantIs};
 ghost use Rattle.acq_program.specs.Arguments.{MomentIfThere, MomentIs, PathIs, PatienceIs, PortIs, Reads};
 ghost use Rattle.acq_program.specs.Arguments.{ReadsArguments, StopWithinIs, TogetherIs, WithinIs};
@@ -24,15 +25,17 @@ use crate::apart::clash_in;
 use crate::ask_options::AskOptions;
 use crate::bounds::Bounds;
 use crate::option_name::OptionName;
-use crate::options::{bytes_of, count_of, limit_of, port_of, repeat_of, seconds_of, together_of};
+use crate::options::{
+    bytes_of, count_of, group_of, limit_of, port_of, repeat_of, seconds_of, together_of,
+};
 use crate::pending_options::PendingOptions;
 use crate::program::program;
 use crate::tell_options::TellOptions;
 use crate::usage_fault::UsageFault;
 use crate::wanted_reports::add_reports;
 use acq_commands::{
-    BookReport, ExplainOptions, HoldsOptions, InputForm, NewBook, OnceOptions, ReplayOptions,
-    SaidForm, ShownForm, first_day_of_all, greatest_limit,
+    BookReport, ExplainOptions, GroupSize, HoldsOptions, InputForm, NewBook, OnceOptions,
+    ReplayOptions, SaidForm, ShownForm, first_day_of_all, greatest_limit,
 };
 use acq_core::{Limit, MerchantId, Moment};
 use acq_faults::{DayReport, ListenOptions, Patience, ReportKind};
@@ -205,6 +208,7 @@ fn replay_of(alloc: Global, options: &ArgMatches) -> Result<Action, UsageFault>
 {
     let limit = limit_option(options)?;
     let first_day = day_option(options)?;
+    let group = group_option(options)?;
     let mut reports = Vec::new(alloc);
     add_reports(
         &mut reports,
@@ -221,6 +225,7 @@ fn replay_of(alloc: Global, options: &ArgMatches) -> Result<Action, UsageFault>
         book,
         limit,
         first_day,
+        group,
         reports,
     }))
 }
@@ -444,6 +449,16 @@ fn day_if_there(options: &ArgMatches) -> Result<Option<Day>, UsageFault>
     match Day::read(text) {
         Some(day) => Ok(Some(day)),
         None => Err(UsageFault::BadValue(OptionName::Day)),
+    }
+}
+
+/// How many events are to be taken at once: without the option 1.
+fn group_option(options: &ArgMatches) -> Result<GroupSize, UsageFault>
+    ensures { Reads (GroupIs (found_texts (found_of options.now))) result }
+{
+    match options.get_str("group") {
+        Some(text) => group_of(text).ok_or(UsageFault::BadValue(OptionName::Group)),
+        None => Ok(GroupSize::one()),
     }
 }
 

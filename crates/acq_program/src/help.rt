@@ -151,6 +151,11 @@ What comes of an event is one line:
 With --db the book is the one in this file, and --limit and --day are not used. Each event is in the
 file, whole, before its line is written; a stop at any moment leaves all events so far.
 
+With --group N events are taken N at a time, which is faster where many are imported into a file.
+Each group is put into the file as one, whole or not at all, and its lines are written then, before
+the next group is taken. A stop at any moment leaves whole groups; what was written is never ahead
+of the file, and behind it by one group at most.
+
 With --clearing or --report these texts are written in place of the lines, once all events are
 taken: first the clearing files in the order given, then the settlement reports.
 
@@ -170,7 +175,8 @@ error, and what was written before it stands:
 Examples:
   acqd replay --day 2024-05-01 < examples/day.csv
   acqd replay --day 2024-05-01 --clearing 2024-05-01 < examples/day.csv
-  acqd replay --db book.db < examples/day.csv";
+  acqd replay --db book.db < examples/day.csv
+  acqd replay --db book.db --group 1000 < examples/day.csv";
 
 pub(crate) const ABOUT_CLEARING: &str = "Writes the clearing file of a business day that is over";
 

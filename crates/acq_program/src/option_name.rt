@@ -12,6 +12,8 @@ pub enum OptionName {
     Limit,
     /// The first business day of a new book, or the day of a report.
     Day,
+    /// How many events are taken at once.
+    Group,
     /// The merchant whose open holds are asked for.
     Merchant,
     /// The moment at which something is.
@@ -67,6 +69,7 @@ impl fmt::Display for OptionName {
             OptionName::Db => "--db",
             OptionName::Limit => "--limit",
             OptionName::Day => "--day",
+            OptionName::Group => "--group",
             OptionName::Merchant => "--merchant",
             OptionName::At => "--at",
             OptionName::Port => "--port",

@@ -1,16 +1,25 @@
-//! The values of a limit, a port, and numbers of connections, of seconds, of bytes and of times.
+//! The values of a limit, a port, and numbers of events, of connections, of seconds, of bytes and
+//! of times.
 
 ghost use Rattle.std.specs.Prelude.{◌≡◌, ◌≤◌, IfSome};
-ghost use Rattle.acq_program.specs.Arguments.{bytes_of_text, count_of_text, limit_of_text};
+ghost use Rattle.acq_program.specs.Arguments.{bytes_of_text, count_of_text, group_of_text};
+ghost use Rattle.acq_program.specs.Arguments.{limit_of_text};
 ghost use Rattle.acq_program.specs.Arguments.{number_of_text, port_of_text, repeat_of_text, seconds_of_text};
 ghost use Rattle.acq_program.specs.Arguments.{together_of_text};
 
+use acq_commands::GroupSize;
 use acq_core::Limit;
 use acq_message::digits_value;
 use iso_codec::all_digits;
 
 /// The most digits of a limit.
 const MOST_LIMIT_DIGITS: usize = 6;
+
+/// The most digits of how many events are taken at once.
+const MOST_GROUP_DIGITS: usize = 5;
+
+/// The most events that are taken at once.
+const GREATEST_GROUP: u64 = 10_000;
 
 /// The most digits of a port.
 const MOST_PORT_DIGITS: usize = 5;
@@ -51,6 +60,14 @@ pub(crate) fn limit_of(text: &str) -> Option<Limit>
         return None;
     }
     Limit::from_number(u32::try_from(digits_value(digits)).ok()?)
+}
+
+/// How many events a text has taken at once: one to five digits, 1 to 10,000 (own profile).
+pub(crate) fn group_of(text: &str) -> Option<GroupSize>
+    ensures { result ≡ group_of_text text.now }
+{
+    let number = number_of(text, MOST_GROUP_DIGITS, 1, GREATEST_GROUP)?;
+    GroupSize::new(number as usize)
 }
 
 /// The port that a text spells: one to five digits, 1 to 65,535 (own profile).
@@ -102,6 +119,7 @@ fn number_of(text: &str, most_digits: usize, least: u64, greatest: u64) -> Optio
     requires { most_digits ≤ 16 }
     ensures value { result ≡ number_of_text most_digits least greatest text.now }
     ensures bound { IfSome result (λ number. number ≤ greatest) }
+    ensures least { IfSome result (λ number. least ≤ number) }
 {
     let digits = text.as_bytes();
     if digits.is_empty() || digits.len() > most_digits || !all_digits(digits) {

@@ -158,7 +158,7 @@ const LISTEN: [Parameter<'static>; 14] = [
 ];
 
 /// What `replay` takes.
-const REPLAY: [Parameter<'static>; 5] = [
+const REPLAY: [Parameter<'static>; 6] = [
     Parameter {
         name: "db",
         kind: Optional("FILE"),
@@ -173,6 +173,11 @@ const REPLAY: [Parameter<'static>; 5] = [
         name: "day",
         kind: Optional("YYYY-MM-DD"),
         help: FIRST_DAY_OF_NEW,
+    },
+    Parameter {
+        name: "group",
+        kind: Optional("N"),
+        help: "How many events are taken at once, 1 to 10000 [default: 1]",
     },
     Parameter {
         name: "clearing",

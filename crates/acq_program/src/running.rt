@@ -438,7 +438,7 @@ fn replay_in_file<B: Book + Drop, M: Machine<B> + Drop, S: Source, K: Sink, P: P
 {
     let book = machine.open_book(path.as_str())?;
     let reports = options.reports.as_slice();
-    closed::<B, M>(replay_on(alloc, book, reports, input, output, progress))
+    closed::<B, M>(replay_on(alloc, book, options.group, reports, input, output, progress))
 }
 
 /// Writes what clap says of the arguments, help and the version to `output`, and returns the

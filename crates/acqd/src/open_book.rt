@@ -15,7 +15,7 @@ ghost use Rattle.acq_sql_rows.specs.Schema.{no_schema};
 ghost use Rattle.acq_sql_rows.specs.Standing.{IsAtOf};
 ghost use Rattle.acq_sql_checking.specs.Checked.{IsFailure};
 ghost use Rattle.acq_sql_opening.specs.Files.{FilesHold, FilesHoldOf};
-ghost use Rattle.acq_sql.specs.Memos.{nothing_recalled};
+ghost use Rattle.acq_sql.specs.Kept.{IsFresh};
 ghost use Rattle.acq_sql.specs.Opened.{IsOpenAt, IsRoomy};
 ghost use Rattle.acq_sql_checking.specs.declared.opening_fault.OpeningFault.TheVariants.{NotABook};
 ghost use Rattle.acqd.specs.Found.{IsFound};
@@ -44,7 +44,7 @@ pub fn open_book<D: Start>(
     ensures same { IfOk result (λ book. HasCleanDisk (file_state book.connection) → (t : Tables)
         → FilesHold (image_at D.Start) t → HasPast t → IsOpenAt (file_state book.connection) t) }
     ensures unlimited { IfOk result (λ book. (file_state book.connection).step_limit ≡ None) }
-    ensures recalls { IfOk result (λ book. book.memo ≡ nothing_recalled) }
+    ensures fresh { IfOk result IsFresh }
     ensures accepts { IfErr result (λ none. IfSome none.connection (λ connection.
         HasCleanDisk (file_state connection)) → (t : Tables) → FilesHold (image_at D.Start) t
         → IsFailure none.fault) }
@@ -72,7 +72,7 @@ pub fn make_book<D: Start>(
         (new_tables (record { limit = limit; first_day = first_day }))) }
     ensures room { IfOk result (λ book. HasCleanDisk (file_state book.connection)
         → IsRoomy (file_state book.connection)) }
-    ensures recalls { IfOk result (λ book. book.memo ≡ nothing_recalled) }
+    ensures fresh { IfOk result IsFresh }
 {
     let connection = connect(rt, path, start)?;
     match created(rt.alloc(), connection, limit, first_day) {
@@ -92,7 +92,7 @@ pub fn migrate_book<D: Start>(
     ensures done { IfOk result (λ book. HasCleanDisk (file_state book.connection) → (t : Tables)
         → FilesHoldOf version_of_six_digits (image_at D.Start) t → HasPastUnder six_digits t
         → IsOpenAt (file_state book.connection) (widened_tables t)) }
-    ensures recalls { IfOk result (λ book. book.memo ≡ nothing_recalled) }
+    ensures fresh { IfOk result IsFresh }
 {
     match connect(rt, path, start) {
         Ok(connection) => migrated(rt.alloc(), connection),
@@ -116,7 +116,7 @@ fn created<S: Alter + Drop>(
     ensures room { IfOk result (λ book. HasCleanDisk (state S.Store book.connection)
         → (state S.Store connection).step_limit ≡ None
         → IsRoomy (state S.Store book.connection)) }
-    ensures recalls { IfOk result (λ book. book.memo ≡ nothing_recalled) }
+    ensures fresh { IfOk result IsFresh }
     ensures refused { IfErr result (λ fault.
         (fault ≡ NotABook) ↔ (connection.schema ≢ no_schema)) }
 {
@@ -134,7 +134,7 @@ fn opened<S: Alter>(alloc: Global, connection: Connection<S>) -> Result<SqlBook<
         → IsOpenAt (state S.Store book.connection) t) }
     ensures limit { IfOk result (λ book. (state S.Store book.connection).step_limit
         ≡ (state S.Store connection).step_limit) }
-    ensures recalls { IfOk result (λ book. book.memo ≡ nothing_recalled) }
+    ensures fresh { IfOk result IsFresh }
     ensures accepts { IfErr result (λ none.
         IfSome none.connection (λ left. HasCleanDisk (state S.Store left)) → (t : Tables)
         → IsFound version (state S.Store connection) t → IsFailure none.fault) }
@@ -161,7 +161,7 @@ fn migrated<S: Alter + Drop>(
         → (t : Tables) → IsFound version_of_six_digits (state S.Store connection) t
         → HasPastUnder six_digits t
         → IsOpenAt (state S.Store book.connection) (widened_tables t)) }
-    ensures recalls { IfOk result (λ book. book.memo ≡ nothing_recalled) }
+    ensures fresh { IfOk result IsFresh }
 {
     an_open_finds_a_book_of_any_version(&connection);
     let ordered = match in_order(alloc, connection) {

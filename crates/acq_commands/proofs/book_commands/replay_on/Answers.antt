@@ -17,17 +17,27 @@ returns-then-is_empty-clause-takes g c = λ h o.
     let ended = c.into_book.ensures.book in
     let opened = subst g.B.Book.is_open (sym began) o in
     let so = c.replay-ended.ensures.replays (subst g.B.Book.is_honest ended h) opened in
-    let up = replayed_up_to g.B.Book g.met.B.Book.settled g.met.B.Book.stored c.new-host.result
-    c.replay-ended.new.host so.0 opened _ c.replay-ended.result so.2 in (
+    let up = replayed_up_to g.B.Book g.met.B.Book.settled g.met.B.Book.stored c.args.group
+    c.new-host.result c.replay-ended.new.host so.0 opened _ c.replay-ended.result so.2 in (
       so.0,
       so.1,
       subst (λ s. TakesUpTo
-          (record { left = left_of g.B.Book; old = s; new = c.into_book.result }) so.0
-          c.replay-ended.result)
+          (record {
+            left = left_of g.B.Book;
+            group = c.args.group;
+            old = s;
+            new = c.into_book.result;
+          })
+          so.0 c.replay-ended.result)
           began
           (subst (λ s. TakesUpTo
-          (record { left = left_of g.B.Book; old = c.new-host.result; new = s }) so.0
-          c.replay-ended.result)
+          (record {
+            left = left_of g.B.Book;
+            group = c.args.group;
+            old = c.new-host.result;
+            new = s;
+          })
+          so.0 c.replay-ended.result)
           (sym ended) up),
     )
 
@@ -39,19 +49,29 @@ returns-clause-takes g c = λ h o.
     let opened = subst g.B.Book.is_open (sym began) o in
     let so = c.take_events-taken.ensures.takes
     (subst g.B.Book.is_honest ended (looks.1.was_honest h)) opened in
-    let up = taken_up_to g.B.Book g.met.B.Book.settled g.met.B.Book.stored c.new-host.result
-    c.take_events-taken.new.host so.0 opened c.take_events-taken.result so.2 in
+    let up = taken_up_to g.B.Book g.met.B.Book.settled g.met.B.Book.stored c.args.group
+    c.new-host.result c.take_events-taken.new.host so.0 opened c.take_events-taken.result so.2 in
     let then = subst (λ s. TakesUpTo
-    (record { left = left_of g.B.Book; old = c.new-host.result; new = s }) so.0
-    c.take_events-taken.result) (sym ended) up in (
+    (record {
+      left = left_of g.B.Book;
+      group = c.args.group;
+      old = c.new-host.result;
+      new = s;
+    })
+    so.0 c.take_events-taken.result) (sym ended) up in (
       so.0,
       so.1,
       subst (λ s. TakesUpTo
-          (record { left = left_of g.B.Book; old = s; new = c.report_if_taken-ended.new.book })
+          (record {
+            left = left_of g.B.Book;
+            group = c.args.group;
+            old = s;
+            new = c.report_if_taken-ended.new.book;
+          })
           so.0 c.report_if_taken-ended.result)
           began
-          (looked_up_to g.B.Book g.met.B.Book.settled g.met.B.Book.stored c.new-host.result
-          c.into_book-book.result so.0 c.report_if_taken-ended.new.book looks.0
+          (looked_up_to g.B.Book g.met.B.Book.settled g.met.B.Book.stored c.args.group
+          c.new-host.result c.into_book-book.result so.0 c.report_if_taken-ended.new.book looks.0
           c.take_events-taken.result c.report_if_taken-ended.result _
           c.report_if_taken-ended.ensures.stopped h looks.1 then),
     )
@@ -99,12 +119,23 @@ returns-then-is_empty-clause-lines g c = λ none h o.
     } in (
       so.0,
       so.1,
-      subst (λ s. Replays (record { left = left_of g.B.Book; old = s; new = c.into_book.result })
+      subst (λ s. Replays
+          (record {
+            left = left_of g.B.Book;
+            group = c.args.group;
+            old = s;
+            new = c.into_book.result;
+          })
           so.0 sent c.replay-ended.result)
           began
           (subst (λ s. Replays
-          (record { left = left_of g.B.Book; old = c.new-host.result; new = s }) so.0 sent
-          c.replay-ended.result)
+          (record {
+            left = left_of g.B.Book;
+            group = c.args.group;
+            old = c.new-host.result;
+            new = s;
+          })
+          so.0 sent c.replay-ended.result)
           (sym ended) so.2),
     )
 
@@ -137,12 +168,13 @@ returns-clause-reports g c = λ some h o.
       so.0,
       so.1,
       subst (λ s. EndsWithReports
-          (record { left = left_of it; old = s; new = ended.new.book }) c.args.reports.now so.0 sent
-          ended.result)
+          (record { left = left_of it; group = c.args.group; old = s; new = ended.new.book })
+          c.args.reports.now so.0 sent ended.result)
           began
-          (ends_with_reports it start book ended.new.book c.args.reports.now so.0 sent taken.result
-          ended.result
-          (subst (λ s. Takes (record { left = left_of it; old = start; new = s }) so.0
+          (ends_with_reports it c.args.group start book ended.new.book c.args.reports.now so.0 sent
+          taken.result ended.result
+          (subst (λ s. Takes
+          (record { left = left_of it; group = c.args.group; old = start; new = s }) so.0
           taken.result) (sym back) so.2)
           ended.ensures.stopped ended.ensures.unasked
           (subst (λ s. OnOk taken.result (it.is_open s)) (sym back)

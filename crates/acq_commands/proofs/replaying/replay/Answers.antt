@@ -13,7 +13,12 @@ returns-in_err-events-clause-replays g c = λ h o.
       came.1,
       rw (p.1, p.2)
           (unreplayed
-          (record { left = left_of g.B.Book; old = c.args.host.now; new = c.args.host.now })
+          (record {
+            left = left_of g.B.Book;
+            group = c.args.group;
+            old = c.args.host.now;
+            new = c.args.host.now;
+          })
           came.0 refl
           (record {
             before = g.K.Sink.sent c.args.output.now;

@@ -10,6 +10,7 @@ pub returns-clause-runs : goal.returns-clause-runs
 returns-clause-runs g c =
     let options = c.args.options.now in
     let ran = c.replay_on-ran in
+    let book = c.new_list_book-book in
     let opening : Opening = record { limit = options.limit; first_day = options.first_day } in
     let received : Stream = record {
       before = g.S.Source.received c.args.input.now;
@@ -20,8 +21,10 @@ returns-clause-runs g c =
       after = g.K.Sink.sent ran.new.output;
     } in
     rw c.end_of.ensures (subst
-    (λ (asked : List DayReport). RunsIn options.book opening asked received sent ran.result.1)
+    (λ (asked : List DayReport). RunsIn options.book opening options.group asked received sent
+    ran.result.1)
     c.as_slice-reports.ensures.value
-    (runs_either opening options.book c.as_slice-reports.result.now c.new_list_book-book.result
-    ran.result.0 received sent ran.result.1 c.new_list_book-book.ensures.book
-    (λ none. ran.ensures.lines none tt tt) (λ some. ran.ensures.reports some tt tt)))
+    (runs_either _ options.group opening options.book c.as_slice-reports.result.now book.result
+    ran.result.0 received sent ran.result.1 book.ensures.tables
+    (λ none. ran.ensures.lines none tt (book.ensures.outside, book.ensures.past))
+    (λ some. ran.ensures.reports some tt (book.ensures.outside, book.ensures.past))))

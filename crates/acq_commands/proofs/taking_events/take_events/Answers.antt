@@ -14,7 +14,12 @@ returns-in_err-events-clause-takes g c = λ h o.
       came.1,
       rw (p.1, p.2)
           (untaken
-          (record { left = left_of g.B.Book; old = c.args.host.now; new = c.args.host.now })
+          (record {
+            left = left_of g.B.Book;
+            group = c.args.group;
+            old = c.args.host.now;
+            new = c.args.host.now;
+          })
           came.0 refl c.in_err-events.field-0.0 came.2),
     )
 
@@ -58,7 +63,12 @@ returns-clause-takes g c = λ h o.
       came.1,
       rw c.from.ensures
           (some_taken
-          (record { left = left_of g.B.Book; old = c.args.host.now; new = c.take_each.new.host })
+          (record {
+            left = left_of g.B.Book;
+            group = c.args.group;
+            old = c.args.host.now;
+            new = c.take_each.new.host;
+          })
           came.0 c.in-Err.fault
           (record {
             events = c.as_slice.result.now;
