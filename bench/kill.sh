@@ -1,17 +1,18 @@
 #!/bin/sh
-# kill.sh [KILLS]: kills `acqd replay --db` at random moments (20 unless said otherwise) with SIGKILL, on
-# a real file, and looks each time at a copy of the book: that each event whose line was written is in
-# it, the one in hand whole or not at all, and none in part. It goes on from there each time. At the end
-# the book's clearing file has to be that of a run that nobody killed. It needs python3.
+# kill.sh [KILLS [N]]: kills `acqd replay --db --group N` at random moments (20 unless said otherwise) with
+# SIGKILL, on a real file, and looks each time at a copy of the book: that each event whose line was
+# written is in it, the group in hand (of N events, 1 unless said otherwise) whole or not at all, and none
+# in part. It goes on from there each time. At the end the book's clearing file has to be that of a run
+# that nobody killed. It needs python3.
 set -eu
 unset CDPATH
 cd "$(dirname "$0")/.."
 ./acqd build
-python3 - "${1:-20}" <<'PY'
+python3 - "${1:-20}" "${2:-1}" <<'PY'
 import os, random, shutil, signal, sqlite3, subprocess, sys, tempfile, time
 
 PROGRAM = os.path.abspath('crates/acqd/out/acqd')
-KILLS = int(sys.argv[1])
+KILLS, GROUP = int(sys.argv[1]), int(sys.argv[2])
 MERCHANTS = 50
 MOMENT = 1714555800
 DAY = '2024-05-01'
@@ -86,7 +87,8 @@ try:
             file.write(''.join(line + '\n' for line in lines[at:]))
         output = os.path.join(scratch, 'output')
         with open(os.path.join(scratch, 'input')) as source, open(output, 'wb') as sink:
-            child = subprocess.Popen([PROGRAM, 'replay', '--db', book], stdin=source, stdout=sink)
+            words = [PROGRAM, 'replay', '--db', book, '--group', str(GROUP)]
+            child = subprocess.Popen(words, stdin=source, stdout=sink)
             if killed < KILLS:
                 time.sleep(random.uniform(0.02, 0.6))
                 child.send_signal(signal.SIGKILL)
@@ -95,19 +97,21 @@ try:
         with open(output, 'rb') as file:
             said = file.read().split(b'\n')[:-1]
         assert said == want[at:at + len(said)], 'lines that were not to be expected'
-        at += len(said)
-        state = state_of(book, scratch)
-        if state != state_after(lines[:at]):
-            at, unsaid = at + 1, unsaid + 1
-            assert state == state_after(lines[:at]), f'{state} after {at - 1} lines'
+        # The groups of which lines were written, and the next one.
+        whole = min(at + -(-len(said) // GROUP) * GROUP, len(lines))
+        written, at, state = at + len(said), whole, state_of(book, scratch)
+        if written == whole and state != state_after(lines[:at]):
+            at = min(at + GROUP, len(lines))
+        unsaid += at != written
+        assert state == state_after(lines[:at]), f'{state} after {written} lines'
         print(f'run {runs}: {len(said)} lines written, {at} of {len(lines)} events in the book')
     cutover = [f'cutover,{MOMENT},,,,']
     run(['replay', '--db', book], cutover)
     cleared = run(['clearing', '--db', book, '--day', DAY], [])
     alone = run(['replay', '--day', DAY, '--clearing', DAY], lines + cutover)
     assert cleared == alone, 'another clearing file'
-    print(f'{killed} kills: no event lost whose line was written, none in part; {unsaid} times the event in '
-          f'hand was in the book already')
+    print(f'{killed} kills: no event lost whose line was written, no group of {GROUP} in part; {unsaid} times the '
+          f'group in hand was in the book already')
 finally:
     shutil.rmtree(scratch)
 PY

@@ -1,12 +1,14 @@
 #!/usr/bin/env python3
 """files.py PROGRAM: the two files of a book: who may read them, when the database alone is the
 book, that a close for which there is no room fails, that a log whose database is away for a while
-is left as it is, and that reports fail if rows are gone or changed."""
+is left as it is, that reports fail if rows are gone or changed, and go out in pieces."""
 import os
 import resource
 import shutil
+import socket
 import sqlite3
 import stat
+import subprocess
 import sys
 import tempfile
 
@@ -181,6 +183,28 @@ def rows_changed(_):
                 wanted(f"{words[0]} after {text}", acqd(words), (3, b"", "acqd: 2 Store\n"))
 
 
+def in_pieces(_):
+    """A clearing file goes out in pieces of 64 KiB, and not line by line: here each write is a
+    message of its own."""
+    new_book()
+    answer = "answer,1714555800,MERCHANT0000001,{},approved,A1B2C3\n"
+    work = b"".join(event(it) + answer.format(it).encode() for it in range(1, 2001))
+    work = SETUP + work + b"cutover,1714555800,,,,\n"
+    wanted("many sales", acqd(["replay", "--group", "1000"], work)[0], 0)
+    ours, theirs = socket.socketpair(socket.AF_UNIX, socket.SOCK_SEQPACKET)
+    with ours:
+        with theirs:
+            words = [PROGRAM, "clearing", "--db", "book.db", *DAY]
+            clearing = subprocess.Popen(words, stdout=theirs)
+        pieces = list(iter(lambda: ours.recv(1 << 18), b""))
+    wanted("how the clearing ended", clearing.wait(), 0)
+    lines = b"".join(pieces).splitlines(True)
+    wanted("lines of the clearing file", len(lines), 2001)
+    least = 65536 - max(map(len, lines))
+    thin = [len(it) for it in pieces[:-1] if not least < len(it) <= 65536]
+    wanted("pieces that aren't full", thin, [])
+
+
 def in_a_folder_of_its_own(tries):
     os.umask(0o022)
     folder = tempfile.mkdtemp()
@@ -192,7 +216,7 @@ def in_a_folder_of_its_own(tries):
         shutil.rmtree(folder)
 
 
-TRIES = [owners_alone, one_file, no_room, log_alone, nothing_made, rows_changed]
+TRIES = [owners_alone, one_file, no_room, log_alone, nothing_made, rows_changed, in_pieces]
 
 if __name__ == "__main__":
     sys.exit(in_a_folder_of_its_own(TRIES))

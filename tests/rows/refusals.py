@@ -1,7 +1,7 @@
 """Scenarios over each book, with each allocation of the program refused in turn: what it writes is
 what it writes undisturbed, all of it, or the lines before it says that memory ran out. Over a book
 in a file what is left then is a book that holds all events that were answered, with or without the
-one in hand, and goes on as written."""
+group in hand, whole, and goes on as written."""
 
 import os
 import shutil
@@ -13,8 +13,8 @@ from kept_files import KeptFiles
 from preloaded import Preloaded, library_of
 from program import Process, Ran, Streams, read_from, run
 from row_bytes import NoRow
-from scenarios import TAKEN, Play, described, in_memory, in_sql, taken_again
-from stops import PARTS, Going, Stop, files_in
+from scenarios import TAKEN, Play, described, in_memory, in_sevens, in_sql, taken_again
+from stops import PARTS, Going, Stop, files_in, in_hand
 
 # Of a run that opens a book like one that was opened before, so many of the last are refused.
 LAST = 1000
@@ -37,7 +37,7 @@ def play_refusals(books, setup, scenario, part, findings):
     if not allocations(books, books.room, ["--version"]):
         raise NoRow("no allocation can be refused: the program has memory of its own")
     opened = set()
-    for play in (in_memory, in_sql, taken_again):
+    for play in (in_memory, in_sql, taken_again, in_sevens):
         with books.new_room() as room:
             play(RefusedPlay(going, room, part, opened))
     refused, whole = findings.counts["refusals"], findings.counts["undisturbed"]
@@ -56,8 +56,9 @@ class RefusedPlay(Play):
         self.going, self.part = going, part
         # What was done with each allocation refused.
         self.opened = opened
-        # How many events were taken in the runs before, and what refusals led to.
-        self.taken, self.seen = 0, set()
+        # How many events were taken in the runs before, what the run in hand is given, and what
+        # refusals led to.
+        self.taken, self.given, self.seen = 0, b"", set()
 
     def make_book(self):
         """Makes the scenario's book."""
@@ -75,6 +76,7 @@ class RefusedPlay(Play):
 
     def run(self, words, given=b""):
         """Runs the program undisturbed, and again with refusals; what it came to both times."""
+        self.given = given
         with self.books.new_room() as grave:
             kept = KeptFiles(self.room, grave)
             whole = super().run(words, given)
@@ -112,13 +114,15 @@ class RefusedPlay(Play):
             return
         self.seen.add(key)
         over = f"{self.over}, {words[0]} with a refusal"
-        taken = self.taken + (came.output.count(b"\n") if words[0] == "replay" else 0)
+        said = came.output.count(b"\n") if words[0] == "replay" else 0
+        taken, group = self.taken + said, group_of(words)
         if not fits(whole, came):
             self.tell(taken, over, whole, came)
         elif words[0] == "init":
             self.make_again(words, Stop(over, 0, left))
         elif "--db" in words:
-            self.going.from_events(Stop(over, taken, left))
+            more = in_hand(group, self.taken, self.given.count(b"\n"), taken)
+            self.going.from_events(Stop(over, taken, left, more))
 
     def make_again(self, words, stop):
         """Makes the book again where a refusal left none, and has it take all events."""
@@ -139,6 +143,11 @@ def fits(whole, came):
         return True
     is_begun = whole.output.startswith(came.output) and came.output[-1:] in (b"", b"\n")
     return is_begun and (came.status, came.faults) == OUT_OF_MEMORY
+
+
+def group_of(words):
+    """How many events a run takes at once."""
+    return int(words[words.index("--group") + 1]) if "--group" in words else 1
 
 
 def allocations(books, room, words, given=b""):

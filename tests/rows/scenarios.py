@@ -1,5 +1,6 @@
-"""Scenarios over each book: in memory; in SQL; in SQL and taken again before each event; and where
-a scenario says so, among another merchant's events, or with a book that is migrated."""
+"""Scenarios over each book: in memory; in SQL; in SQL and taken again before each event; in groups
+of events, over both; and where a scenario says so, among another merchant's events, or with a book
+that is migrated."""
 
 from another_merchant import lot_of_another
 from books import make_version
@@ -7,6 +8,8 @@ from program import Ran, run
 from row_bytes import NoRow
 from scenario_file import NOT_COMPARED, Step
 
+# The most events that a group may have.
+LARGEST_GROUP = 10000
 NOT_WRITTEN = b""
 TAKEN = Ran(0, b"", b"")
 MIGRATED_ALREADY = Ran(1, b"", b"acqd: 41 OtherVersion 2\n")
@@ -14,9 +17,9 @@ MIGRATED_ALREADY = Ran(1, b"", b"acqd: 41 OtherVersion 2\n")
 
 def play_scenario(books, setup, scenario, findings):
     """Plays a scenario over each book."""
-    plays = [in_memory, in_sql, taken_again]
+    plays = [in_memory, in_sql, taken_again, in_pairs, in_sevens, in_one]
     if scenario.others is not None:
-        plays += [among_in_memory, among_in_sql]
+        plays += [among_in_memory, among_in_sql, among_in_groups]
     if scenario.migrated is not None:
         plays += [migrated]
     for play in plays:
@@ -127,6 +130,31 @@ def in_sql(play):
     play.ask()
 
 
+def grouped_in_sql(play, size):
+    """Over a book in a file, so many events a transaction."""
+    play.over = f"in SQL, in groups of {size}"
+    play.make_book()
+    play.take(play.setup + play.scenario.steps, ("--db", "book", "--group", str(size)))
+    play.ask()
+
+
+def in_pairs(play):
+    """In groups of two, over a book in a file."""
+    grouped_in_sql(play, 2)
+
+
+def in_sevens(play):
+    """In groups of seven, over a book in a file, and over one in memory."""
+    grouped_in_sql(play, 7)
+    play.over = "in memory, in groups of 7"
+    play.take(play.setup + play.scenario.steps, (*terms_of(play.scenario), "--group", "7"))
+
+
+def in_one(play):
+    """All in one group, over a book in a file."""
+    grouped_in_sql(play, LARGEST_GROUP)
+
+
 def taken_again(play):
     """Over a book in a file that each event has a run of its own on."""
     play.over = "in SQL, taken again before each event"
@@ -159,6 +187,13 @@ def among_in_sql(play):
     play.over = "in SQL, among another merchant's events"
     play.make_book()
     play.take(among(play))
+
+
+def among_in_groups(play):
+    """Among another merchant's events, which share the groups, over a book in a file."""
+    play.over = "in SQL, in groups of 7 among another merchant's events"
+    play.make_book()
+    play.take(among(play), ("--db", "book", "--group", "7"))
 
 
 def make_old_book(play):
