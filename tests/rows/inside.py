@@ -8,7 +8,8 @@ without one. Status 1 where anything differs.
 `card`, `track2` and `class` read bytes, and `hex` messages in hexadecimal; `ranges` reads a file of
 ranges, `in-memory` one that is in memory, and `failing` how many bytes of one can be read, each by
 a read of its own, and the file; `find`, `add` and `remove` ask for a prefix or a range, on the
-ranges 40000000 to 49999999 and 50000000 to 59999999; `day` reads a date, and `resolve` a month and
+ranges 40000000 to 49999999 and 50000000 to 59999999; `asks` takes steps over a book of which things
+are recalled, and tells what it is asked for at each; `day` reads a date, and `resolve` a month and
 day and the day that it is today; `element` sets an element to a content; `type` gives the type of
 the reply; `totals` are four counts and four amounts, of credits, their reversals, debits and
 theirs; and the names of texts and numbers say whether one is taken.
@@ -30,7 +31,7 @@ DATA = Path(__file__).resolve().with_name("inside")
 KINDS = (
     "card track2 class hex ranges in-memory failing find add remove day resolve element type "
     "totals merchant terminal currency trace transmission approval decline moment amount reference "
-    "first-reference admitted limit used prefix day-number"
+    "first-reference admitted limit used prefix day-number asks"
 ).split()
 
 

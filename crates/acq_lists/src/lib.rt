@@ -14,6 +14,8 @@ mod reconciliations;
 mod requests;
 mod terminals;
 
+pub use merchant_day::MerchantDay;
+pub use merchant_terminal::MerchantTerminal;
 pub use merchants::Merchants;
 pub use postings::Postings;
 pub use reconciliations::Reconciliations;

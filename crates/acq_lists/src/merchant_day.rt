@@ -5,7 +5,7 @@ use day_totals::Day;
 
 /// A day of a merchant.
 #[derive(Clone, Copy, PartialEq, Eq, Hash)]
-pub(crate) struct MerchantDay {
+pub struct MerchantDay {
     pub merchant: MerchantId,
     pub day: Day,
 }

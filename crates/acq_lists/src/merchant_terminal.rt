@@ -4,7 +4,7 @@ use acq_core::{MerchantId, TerminalId};
 
 /// The name of a terminal at a merchant.
 #[derive(Clone, Copy, PartialEq, Eq, Hash)]
-pub(crate) struct MerchantTerminal {
+pub struct MerchantTerminal {
     pub merchant: MerchantId,
     pub id: TerminalId,
 }

@@ -26,6 +26,7 @@ use acq_commands::{
 use acq_faults::{Fault, ListenOptions};
 use acq_front::{Clock, FixedClock, Issuer, NoIssuer};
 use acq_link::{Sink, Source};
+use acq_recall::{Lenient, RecallingBook};
 use clap::error::ErrorKind;
 use std::alloc::Global;
 use std::convert::AsStr;
@@ -43,7 +44,7 @@ const USAGE: u8 = 2;
 /// `progress`.
 pub fn command<
     W: AsStr,
-    B: Book + Drop,
+    B: Lenient + Drop,
     M: Machine<B> + Drop,
     C: Clock,
     S: Source,
@@ -94,7 +95,7 @@ pub fn command<
 }
 
 /// Does what is asked, and returns the status where no fault stops it.
-fn run<B: Book + Drop, M: Machine<B> + Drop, C: Clock, S: Source, K: Sink, F: Sink, P: Progress>(
+fn run<B: Lenient + Drop, M: Machine<B> + Drop, C: Clock, S: Source, K: Sink, F: Sink, P: Progress>(
     alloc: Global,
     keys: RandomState,
     action: Action,
@@ -116,7 +117,7 @@ fn run<B: Book + Drop, M: Machine<B> + Drop, C: Clock, S: Source, K: Sink, F: Si
         Action::Init(new) => plainly(init(machine, &new)),
         Action::Migrate(path) => plainly(migrate(machine, &path)),
         Action::Once(asked) => { plainly(once(alloc, keys, machine, &asked, clock, input, output)) }
-        Action::Listen(asked) => plainly(listen(alloc, machine, &asked, clock, faults)),
+        Action::Listen(asked) => plainly(listen(alloc, keys, machine, &asked, clock, faults)),
         Action::Replay(options) => plainly(replay(
             alloc, keys, machine, &options, input, output, progress,
         )),
@@ -162,7 +163,7 @@ fn migrate<B: Book + Drop, M: Machine<B>>(machine: M, path: &String) -> Result<(
 }
 
 /// Answers the frames of the input, and asks the issuers' file, or without one nobody.
-fn once<B: Book + Drop, M: Machine<B> + Drop, C: Clock, S: Source, K: Sink>(
+fn once<B: Lenient + Drop, M: Machine<B> + Drop, C: Clock, S: Source, K: Sink>(
     alloc: Global,
     keys: RandomState,
     machine: M,
@@ -196,7 +197,7 @@ fn once<B: Book + Drop, M: Machine<B> + Drop, C: Clock, S: Source, K: Sink>(
 }
 
 /// Answers the frames of the input, at one moment where one is asked for.
-fn once_at<B: Book + Drop, M: Machine<B> + Drop, C: Clock, I: Issuer + Drop, S: Source, K: Sink>(
+fn once_at<B: Lenient + Drop, M: Machine<B> + Drop, C: Clock, I: Issuer + Drop, S: Source, K: Sink>(
     alloc: Global,
     keys: RandomState,
     machine: M,
@@ -230,7 +231,7 @@ fn once_at<B: Book + Drop, M: Machine<B> + Drop, C: Clock, I: Issuer + Drop, S: 
 
 /// Answers the frames of the input over the book in a file, or without one over a new book. Where
 /// the issuers' file can't be read, that is told behind what is wrong with the book.
-fn once_over<B: Book + Drop, M: Machine<B> + Drop, C: Clock, I: Issuer + Drop, S: Source, K: Sink>(
+fn once_over<B: Lenient + Drop, M: Machine<B> + Drop, C: Clock, I: Issuer + Drop, S: Source, K: Sink>(
     alloc: Global,
     keys: RandomState,
     machine: M,
@@ -254,6 +255,7 @@ fn once_over<B: Book + Drop, M: Machine<B> + Drop, C: Clock, I: Issuer + Drop, S
         Some(path) => {
             let opened = machine.open_book(path.as_str());
             let (book, mut issuer, ()) = all_opened(opened, issuers, Ok(()))?;
+            let book = RecallingBook::new(alloc, keys, book);
             closed::<B, M>(once_on(alloc, book, clock, &mut issuer, input, output))
         }
         None => {
@@ -264,8 +266,9 @@ fn once_over<B: Book + Drop, M: Machine<B> + Drop, C: Clock, I: Issuer + Drop, S
 }
 
 /// Answers the frames of connections, and asks the issuers' file, or without one nobody.
-fn listen<B: Book + Drop, M: Machine<B> + Drop, C: Clock, F: Sink>(
+fn listen<B: Lenient + Drop, M: Machine<B> + Drop, C: Clock, F: Sink>(
     alloc: Global,
+    keys: RandomState,
     machine: M,
     asked: &ListenOptions,
     clock: &mut C,
@@ -274,15 +277,16 @@ fn listen<B: Book + Drop, M: Machine<B> + Drop, C: Clock, F: Sink>(
     match &asked.issuers {
         Some(path) => {
             let answers = machine.read_answers(alloc, path.as_str());
-            listen_at(alloc, machine, asked, clock, answers, faults)
+            listen_at(alloc, keys, machine, asked, clock, answers, faults)
         }
-        None => listen_at(alloc, machine, asked, clock, Ok(NoIssuer), faults),
+        None => listen_at(alloc, keys, machine, asked, clock, Ok(NoIssuer), faults),
     }
 }
 
 /// Answers the frames of connections, at one moment where one is asked for.
-fn listen_at<B: Book + Drop, M: Machine<B> + Drop, C: Clock, I: Issuer + Drop, F: Sink>(
+fn listen_at<B: Lenient + Drop, M: Machine<B> + Drop, C: Clock, I: Issuer + Drop, F: Sink>(
     alloc: Global,
+    keys: RandomState,
     machine: M,
     asked: &ListenOptions,
     clock: &mut C,
@@ -292,17 +296,18 @@ fn listen_at<B: Book + Drop, M: Machine<B> + Drop, C: Clock, I: Issuer + Drop, F
     match asked.moment {
         Some(moment) => {
             let mut clock = FixedClock::new(moment);
-            listen_over(alloc, machine, asked, &mut clock, issuers, faults)
+            listen_over(alloc, keys, machine, asked, &mut clock, issuers, faults)
         }
-        None => listen_over(alloc, machine, asked, clock, issuers, faults),
+        None => listen_over(alloc, keys, machine, asked, clock, issuers, faults),
     }
 }
 
 /// Answers the frames of connections over the book in a file, one connection after the other or
 /// many at once. What is wrong is told of the book first, then of the issuers' file, then of the
 /// port.
-fn listen_over<B: Book + Drop, M: Machine<B> + Drop, C: Clock, I: Issuer + Drop, F: Sink>(
+fn listen_over<B: Lenient + Drop, M: Machine<B> + Drop, C: Clock, I: Issuer + Drop, F: Sink>(
     alloc: Global,
+    keys: RandomState,
     machine: M,
     asked: &ListenOptions,
     clock: &mut C,
@@ -310,14 +315,14 @@ fn listen_over<B: Book + Drop, M: Machine<B> + Drop, C: Clock, I: Issuer + Drop,
     faults: &mut F,
 ) -> Result<(), Fault> {
     if asked.together > 1 || asked.control.is_some() || asked.log.is_some() {
-        return gather_over(alloc, machine, asked, clock, issuers, faults);
+        return gather_over(alloc, keys, machine, asked, clock, issuers, faults);
     }
     let connections = machine.listen_at(asked.endpoint, asked.patience);
     let opened = machine.open_book(asked.path.as_str());
     let (book, mut issuer, mut connections) = all_opened(opened, issuers, connections)?;
     closed::<B, M>(listen_on(
         alloc,
-        book,
+        RecallingBook::new(alloc, keys, book),
         &mut connections,
         asked.count,
         clock,
@@ -327,8 +332,9 @@ fn listen_over<B: Book + Drop, M: Machine<B> + Drop, C: Clock, I: Issuer + Drop,
 }
 
 /// Answers the frames of connections over the book in a file, many at once.
-fn gather_over<B: Book + Drop, M: Machine<B> + Drop, C: Clock, I: Issuer + Drop, F: Sink>(
+fn gather_over<B: Lenient + Drop, M: Machine<B> + Drop, C: Clock, I: Issuer + Drop, F: Sink>(
     alloc: Global,
+    keys: RandomState,
     machine: M,
     asked: &ListenOptions,
     clock: &mut C,
@@ -340,7 +346,7 @@ fn gather_over<B: Book + Drop, M: Machine<B> + Drop, C: Clock, I: Issuer + Drop,
     let (book, mut issuer, mut gathering) = all_opened(opened, issuers, gathering)?;
     let ran = listen_together_on(
         alloc,
-        book,
+        RecallingBook::new(alloc, keys, book),
         &mut gathering,
         asked.count,
         clock,
@@ -365,12 +371,14 @@ fn all_opened<B: Drop, I: Drop, N: Drop>(
 }
 
 /// Gives back the book of a run that ended well.
-fn closed<B: Book + Drop, M: Machine<B>>(ran: (B, Result<(), Fault>)) -> Result<(), Fault>
+fn closed<B: Lenient + Drop, M: Machine<B>>(
+    ran: (RecallingBook<B>, Result<(), Fault>),
+) -> Result<(), Fault>
     ensures { OnOk result (ran.1 ≡ Ok tt) }
 {
     let (book, ended) = ran;
     match ended {
-        Ok(()) => M::close_book(book),
+        Ok(()) => M::close_book(book.into_book()),
         Err(fault) => Err(fault),
     }
 }
@@ -402,7 +410,7 @@ fn holds<B: Book + Drop, M: Machine<B>, K: Sink>(
 }
 
 /// Replays an input over the book in a file, or without one over a new book.
-fn replay<B: Book + Drop, M: Machine<B> + Drop, S: Source, K: Sink, P: Progress>(
+fn replay<B: Lenient + Drop, M: Machine<B> + Drop, S: Source, K: Sink, P: Progress>(
     alloc: Global,
     keys: RandomState,
     machine: M,
@@ -418,16 +426,19 @@ fn replay<B: Book + Drop, M: Machine<B> + Drop, S: Source, K: Sink, P: Progress>
         (S.remaining input.old) (S.received input.old) (S.received input.new) result }
 {
     match &options.book {
-        Some(path) => replay_in_file(alloc, machine, path, options, input, output, progress),
+        Some(path) => {
+            let opened = machine.open_book(path.as_str());
+            replay_in_file::<B, M, S, K, P>(alloc, keys, opened, options, input, output, progress)
+        }
         None => replay_in_memory(alloc, keys, options, input, output, progress),
     }
 }
 
-/// Replays an input over the book in a file.
-fn replay_in_file<B: Book + Drop, M: Machine<B> + Drop, S: Source, K: Sink, P: Progress>(
+/// Replays an input over the book that was opened.
+fn replay_in_file<B: Lenient + Drop, M: Machine<B> + Drop, S: Source, K: Sink, P: Progress>(
     alloc: Global,
-    machine: M,
-    path: &String,
+    keys: RandomState,
+    opened: Result<B, Fault>,
     options: &ReplayOptions,
     input: &mut S,
     output: &mut K,
@@ -436,7 +447,7 @@ fn replay_in_file<B: Book + Drop, M: Machine<B> + Drop, S: Source, K: Sink, P: P
     ensures { ReadsWhole
         (S.remaining input.old) (S.received input.old) (S.received input.new) result }
 {
-    let book = machine.open_book(path.as_str())?;
+    let book = RecallingBook::new(alloc, keys, opened?);
     let reports = options.reports.as_slice();
     closed::<B, M>(replay_on(alloc, book, options.group, reports, input, output, progress))
 }

@@ -29,6 +29,7 @@ use acq_book::{Book, BookFault, Visit};
 use acq_core::{
     Change, Limit, Looked, Merchant, MerchantId, Posting, Reconciliation, Request, Wanted,
 };
+use acq_recall::Lenient;
 use acq_soundness::every_opening;
 use acq_sql_checking::check_book;
 use acq_sql_opening::{make_book, migrate_book};
@@ -404,10 +405,7 @@ impl<S: Alter> Book for SqlBook<S> {
     }
 
     fn apply(&mut self, change: &Change) -> Result<(), BookFault> {
-        let in_group = self.in_group;
-        let made = crate::apply::apply(&mut self.connection, self.alloc, change, in_group);
-        self.memo = self.memo.after(change, made.is_ok());
-        counted(&mut self.failures, made)
+        self.apply_any(change)
     }
 
     fn begin(&mut self) -> Result<(), BookFault> {
@@ -445,5 +443,14 @@ fn without_number(last: Option<(u64, Reconciliation)>) -> Option<Reconciliation>
     match last {
         Some((_, reconciliation)) => Some(reconciliation),
         None => None,
+    }
+}
+
+impl<S: Alter> Lenient for SqlBook<S> {
+    fn apply_any(&mut self, change: &Change) -> Result<(), BookFault> {
+        let in_group = self.in_group;
+        let made = crate::apply::apply(&mut self.connection, self.alloc, change, in_group);
+        self.memo = self.memo.after(change, made.is_ok());
+        counted(&mut self.failures, made)
     }
 }

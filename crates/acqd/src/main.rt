@@ -22,11 +22,11 @@ mod stopped_runs;
 mod terminals_host;
 mod this_machine;
 
-use acq_book::Book;
 use acq_causes::{Asked, Emptiness, Explained, Signs};
 use acq_commands::{Progress, PromptLines, SystemClock, TerminalProgress};
 use acq_link::{ReadSource, Sink, Source, WriteSink};
 use acq_program::{Machine, command, memory_fault, read_fault, utf8_fault};
+use acq_recall::Lenient;
 use acq_sql::SqlBook;
 use fault_event::log_fault;
 pub use no_book::NoBook;
@@ -127,7 +127,7 @@ fn run_over_store<
 }
 
 /// Runs the program with the arguments of this process.
-fn run_over<B: Book + Drop, M: Machine<B> + Drop, S: Source, K: Sink, F: Sink, P: Progress>(
+fn run_over<B: Lenient + Drop, M: Machine<B> + Drop, S: Source, K: Sink, F: Sink, P: Progress>(
     rt: &HostRuntime,
     machine: M,
     input: &mut S,

@@ -18,12 +18,14 @@ ghost use Rattle.acq_sql.specs.Opened.{
   may_leave,
   tables,
 };
+ghost use Rattle.acq_recall.specs.Recalled.{Recalls};
 ghost use Rattle.acqd.specs.StoppedRuns.{IsLeftBy, IsNoRefusal};
 
 use crate::no_book::NoBook;
 use crate::open_book::open_book;
 use acq_core::{Event, Output};
 use acq_host::{Host, RunFault};
+use acq_recall::RecallingBook;
 use acq_sql::{SqlBook, a_stop_leaves_a_book};
 use sqlite::Alter;
 use sqlite_disk::{Disk, Start};
@@ -34,13 +36,14 @@ use sqlite_store::FileStore;
 /// files that are left then hold a book, at the tables after all these events, or after a fault
 /// those before it, perhaps with the one at which it came.
 pub fn stopped_run<D: Disk + Drop>(
-    host: Host<SqlBook<FileStore<D>>>,
+    host: Host<RecallingBook<SqlBook<FileStore<D>>>>,
     events: &[Event],
 ) -> (FileStore<D>, Result<Vec<Output>, RunFault>)
-    ensures { IsClean (files.view result.0) → is_open over_files host → (left : Image)
+    ensures { IsClean (files.view result.0) → is_open over_files host.book
+        → Recalls host.recalled (tables over_files host.book) → (left : Image)
         → (files.state result.0).may_leave left
-        → ∥ ((t : Tables) × IsLeftBy (tables over_files host) events.now result.1 t × HasPast t
-        × FilesHold left t) ∥₁ }
+        → ∥ ((t : Tables) × IsLeftBy (tables over_files host.book) events.now result.1 t
+        × HasPast t × FilesHold left t) ∥₁ }
 {
     let (book, ran) = given_up(host, events);
     (a_stop_leaves_a_book(book), ran)
@@ -49,17 +52,18 @@ pub fn stopped_run<D: Disk + Drop>(
 /// Takes events over a book, and gives it up as it then is. It is said of any store: a proof over
 /// that of this machine alone takes minutes.
 fn given_up<S: Alter + Drop>(
-    mut host: Host<SqlBook<S>>,
+    mut host: Host<RecallingBook<SqlBook<S>>>,
     events: &[Event],
 ) -> (SqlBook<S>, Result<Vec<Output>, RunFault>)
-    ensures books { is_honest S.Store result.0 → is_open S.Store host
-        → leaves_books S.Store result.0 }
-    ensures left { is_honest S.Store result.0 → is_open S.Store host
+    ensures books { is_honest S.Store result.0 → is_open S.Store host.book
+        → Recalls host.recalled (tables S.Store host.book) → leaves_books S.Store result.0 }
+    ensures left { is_honest S.Store result.0 → is_open S.Store host.book
+        → Recalls host.recalled (tables S.Store host.book)
         → (t : Tables) → may_leave S.Store result.0 t
-        → IsLeftBy (tables S.Store host) events.now result.1 t × HasPast t }
+        → IsLeftBy (tables S.Store host.book) events.now result.1 t × HasPast t }
 {
     let ran = host.run(events);
-    (host.into_book(), ran)
+    (host.into_book().into_book(), ran)
 }
 
 /// Takes events over a book in files, gives it up as a stop does, and opens the files at a path,
@@ -68,7 +72,7 @@ fn given_up<S: Alter + Drop>(
 /// refused, only memory or the store was in the way.
 pub fn reopened<D: Disk + Drop, E: Start>(
     rt: &HostRuntime,
-    host: Host<SqlBook<FileStore<D>>>,
+    host: Host<RecallingBook<SqlBook<FileStore<D>>>>,
     events: &[Event],
     path: &str,
     start: E,
@@ -77,12 +81,14 @@ pub fn reopened<D: Disk + Drop, E: Start>(
     Result<Vec<Output>, RunFault>,
     Result<SqlBook<FileStore<FileFrom<E>>>, NoBook<FileStore<FileFrom<E>>>>,
 )
-    ensures opens { IsClean (files.view result.0) → is_open over_files host
+    ensures opens { IsClean (files.view result.0) → is_open over_files host.book
+        → Recalls host.recalled (tables over_files host.book)
         → (files.state result.0).may_leave (image_at E.Start) → IfOk result.2 (λ book.
         HasCleanDisk (file_state book.connection) → ∥ ((t : Tables)
-        × IsLeftBy (tables over_files host) events.now result.1 t
+        × IsLeftBy (tables over_files host.book) events.now result.1 t
         × IsOpenAt (file_state book.connection) t) ∥₁) }
-    ensures accepts { IsClean (files.view result.0) → is_open over_files host
+    ensures accepts { IsClean (files.view result.0) → is_open over_files host.book
+        → Recalls host.recalled (tables over_files host.book)
         → (files.state result.0).may_leave (image_at E.Start) → IfErr result.2 (λ none.
         IfSome none.connection (λ connection. HasCleanDisk (file_state connection))
         → IsNoRefusal none.fault) }

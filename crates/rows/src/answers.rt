@@ -1,15 +1,17 @@
 //! The kinds of rows, by their numbers.
 
+use crate::asking::put_asked;
 use crate::cards::{put_card, put_track2};
 use crate::days::{put_day, put_resolved, put_totals};
 use crate::messages::{put_class, put_element, put_frames, put_reply_type};
 use crate::ranges::{put_added, put_found, put_removed, read_failing, read_in_memory, read_ranges};
 use crate::values::{put_number_taken, put_text_taken};
-use std::alloc::Global;
+use std::hash::RandomState;
 
 /// Puts what is said of a text. `None` where there is no such kind, the text is not in its form, or
 /// memory runs out.
-pub fn put_answer(alloc: Global, question: &[u8], answer: &mut String) -> Option<()> {
+pub fn put_answer(rt: &HostRuntime, question: &[u8], answer: &mut String) -> Option<()> {
+    let alloc = rt.alloc();
     let (kind, text) = question.split_first()?;
     match kind {
         0 => put_card(text, answer),
@@ -27,6 +29,7 @@ pub fn put_answer(alloc: Global, question: &[u8], answer: &mut String) -> Option
         12 => put_element(alloc, text, answer),
         13 => put_reply_type(text, answer),
         14 => put_totals(text, answer),
+        31 => put_asked(alloc, RandomState::new(rt).ok()?, text, answer),
         15..=21 => put_text_taken(*kind, text, answer),
         _ => put_number_taken(*kind, text, answer),
     }

@@ -7,6 +7,8 @@
 #![tactic(auto)]
 
 mod answers;
+mod asked_book;
+mod asking;
 mod cards;
 mod days;
 mod failing_reader;
@@ -31,6 +33,6 @@ fn answer(rt: &HostRuntime) -> Option<String> {
     let mut question = Vec::new(rt.alloc());
     let mut answer = String::new(rt.alloc());
     let read = rt.stdin().read_to_end(&mut question).ok();
-    let said = read.and(put_answer(rt.alloc(), question.as_slice(), &mut answer));
+    let said = read.and(put_answer(rt, question.as_slice(), &mut answer));
     said.map(|()| answer)
 }
