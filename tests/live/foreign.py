@@ -2,10 +2,11 @@
 """foreign.py PROGRAM: books that other programs wrote, and files that are no books.
 
 SQLite (Python's sqlite3) vacuums, dumps, copies and changes a book in the midst of the day of two
-shops, and the day then goes on as on one that nobody touched: a book as it is made now, one whose
-index stands where earlier builds put it, and one of builds before the index. Where something else
-stands in the file no command writes a byte. The last day is that of examples/, so its lines, its
-clearing file and its report are those that stand there."""
+shops, and the day then goes on as on one that nobody touched: a book as it is made now, one of
+earlier builds, whose keys are unique and stay so, one whose index stands where still earlier builds
+put it, and one of builds before the index. Where something else stands in the file no command
+writes a byte. The last day is that of examples/, so its lines, its clearing file and its report are
+those that stand there."""
 
 import gzip
 import os
@@ -25,9 +26,24 @@ NO_LOG = "PRAGMA journal_mode = DELETE"
 # The event lines of the day before SQLite has the book.
 BEFORE = 20
 
+# The tables that earlier builds made with unique keys, which new books have as plain indexes.
+UNIQUE_TABLES = {
+    "requests": "CREATE TABLE requests (merchant TEXT, terminal TEXT, kind TEXT, trace TEXT, "
+    "stamp TEXT, essence TEXT NOT NULL, day INTEGER NOT NULL, status INTEGER NOT NULL, "
+    "admitted INTEGER NOT NULL, reference INTEGER, follows INTEGER, amount INTEGER NOT NULL, "
+    "leg INTEGER NOT NULL, card TEXT, acquirer TEXT, hold_days INTEGER, until INTEGER, "
+    "reply TEXT NOT NULL, PRIMARY KEY (merchant, terminal, kind, trace, stamp)) STRICT",
+    "postings": "CREATE TABLE postings (merchant TEXT, day INTEGER, number INTEGER, "
+    "leg INTEGER NOT NULL, amount INTEGER NOT NULL, reference INTEGER NOT NULL, "
+    "card TEXT NOT NULL, terminal TEXT NOT NULL, trace TEXT NOT NULL, PRIMARY KEY (day, merchant, "
+    "number)) STRICT",
+    "reconciliations": "CREATE TABLE reconciliations (merchant TEXT, day INTEGER, number INTEGER, "
+    "in_balance INTEGER NOT NULL, PRIMARY KEY (day, merchant, number)) STRICT",
+}
+
 # Requests as builds made them that had no index of references.
-OLD_KEYS = "PRIMARY KEY (merchant, terminal, kind, trace, stamp)"
-UNIQUE = f"{OLD_KEYS}, UNIQUE (merchant, reference)"
+KEYS = "PRIMARY KEY (merchant, terminal, kind, trace, stamp)"
+UNIQUE_REFERENCES = f"{KEYS}, UNIQUE (merchant, reference)"
 
 # Each command that opens a book, and what it is given.
 COMMANDS = [
@@ -126,10 +142,10 @@ def inserts(book, table):
 
 def index_again(path, _new):
     book = sqlite3.connect(path)
-    asked = "SELECT sql FROM sqlite_schema WHERE type = 'index' AND sql NOT NULL"
+    asked = "SELECT name, sql FROM sqlite_schema WHERE type = 'index' AND sql NOT NULL"
     found = book.execute(asked).fetchall()
-    for (text,) in found:
-        book.execute("DROP INDEX requests_by_reference")
+    for name, text in found:
+        book.execute(f"DROP INDEX {name}")
         book.execute(text)
     book.commit()
     book.close()
@@ -153,7 +169,7 @@ CHANGES = {
     "a user version": statements("PRAGMA user_version = 7"),
     "an application's number": statements("PRAGMA application_id = 7"),
     "a table made and dropped": statements("CREATE TABLE other (x)", "DROP TABLE other"),
-    "the index dropped and made": index_again,
+    "each index dropped and made": index_again,
 }
 
 # What leaves no book: an object more or less.
@@ -165,6 +181,8 @@ SPOILING = {
     "a trigger": "CREATE TRIGGER paid AFTER DELETE ON running BEGIN SELECT 1; END",
     "a column more": "ALTER TABLE merchants ADD COLUMN town TEXT",
     "no index": "DROP INDEX requests_by_reference",
+    "no index of keys": "DROP INDEX requests_by_key",
+    "an index more": "CREATE UNIQUE INDEX by_number ON postings (day, merchant, number)",
     "a table less": "DROP TABLE running",
 }
 
@@ -173,10 +191,16 @@ SPOILING = {
 
 
 def texts_of(book):
-    """The texts of a book's tables in their order, and that of its index."""
+    """The texts of a book's tables in their order, with the unique keys of earlier builds, and that
+    of the index of references."""
     asked = "SELECT name, sql FROM sqlite_schema WHERE sql NOT NULL ORDER BY rowid"
-    texts = dict(book.execute(asked).fetchall())
+    texts = {**dict(book.execute(asked).fetchall()), **UNIQUE_TABLES}
     return [texts[it] for it in TABLES], texts["requests_by_reference"]
+
+
+def with_unique_keys(path, new):
+    """All keys unique, and the index of references behind the tables."""
+    rebuilt(path, new, lambda tables, index: [*tables, index])
 
 
 def as_earlier(path, new):
@@ -188,9 +212,20 @@ def as_before_the_index(path, new):
     """Requests with a unique key in place of the index."""
 
     def order(tables, _index):
-        keyed = tables[4].replace(OLD_KEYS, UNIQUE)
+        keyed = tables[4].replace(KEYS, UNIQUE_REFERENCES)
         wanted("requests have other keys", keyed != tables[4], True)
         return [*tables[:4], keyed, *tables[5:]]
+
+    rebuilt(path, new, order)
+
+
+def with_some_unique_keys(path, new):
+    """The keys of requests unique, and those of postings not: neither form of a book."""
+
+    def order(tables, index):
+        plain = tables[5].replace(", PRIMARY KEY (day, merchant, number)", "")
+        wanted("postings have no key", plain != tables[5], True)
+        return [*tables[:5], plain, *tables[6:], index]
 
     rebuilt(path, new, order)
 
@@ -253,7 +288,7 @@ class Books:
 
 
 def changed_books(books):
-    makes = {"now": None, "by an earlier build": as_earlier}
+    makes = {"now": None, "with unique keys": with_unique_keys, "by an earlier build": as_earlier}
     makes["before the index"] = as_before_the_index
     for build, make in makes.items():
         for name, change in CHANGES.items():
@@ -271,6 +306,31 @@ def changed_books(books):
     statements(NO_LOG, "PRAGMA auto_vacuum = FULL", "VACUUM")(books.book, books.new)
     came = acqd(books.program, ["report", "--db", books.book, *DAY])
     wanted("a book that frees its pages", came, (3, "", "acqd: 2 Store\n"))
+
+
+def both_forms(books):
+    """A book of either form goes on as it is: no command writes its tables anew. What is neither is
+    no book."""
+    for what, make in {"plain indexes": None, "unique keys": with_unique_keys}.items():
+        books.anew(make)
+        before = schema_of(books.book)
+        has_plain = any(it[2] == "requests_by_key" for it in before)
+        wanted(f"a book with {what} has them", has_plain, make is None)
+        books.goes_on(f"a book with {what}")
+        wanted(f"a book with {what}, then", schema_of(books.book), before)
+    books.anew(with_some_unique_keys)
+    before = schema_of(books.book)
+    for words in COMMANDS:
+        came = acqd(books.program, [words[0], "--db", books.book, *words[1:]])
+        wanted(f"a book with some unique keys: {words[0]}", came, NOT_A_BOOK)
+    wanted("a book with some unique keys, then", schema_of(books.book), before)
+
+
+def schema_of(path):
+    book = sqlite3.connect(path)
+    found = book.execute("SELECT rowid, * FROM sqlite_schema").fetchall()
+    book.close()
+    return found
 
 
 def version_one(books):
@@ -341,7 +401,7 @@ def over_books(tried):
     return one
 
 
-TRIES = [over_books(it) for it in (changed_books, version_one, no_books)]
+TRIES = [over_books(it) for it in (changed_books, both_forms, version_one, no_books)]
 
 if __name__ == "__main__":
     sys.exit(main(TRIES))

@@ -289,7 +289,7 @@ module _ {S : Type 0} (g : Ghosts S) (old new : Kept S) (result : Result (Unit {
     leaves = λ began faults clean w t way. ⊎_elim
         (λ (was : (state g old.connection).may_leave way.0). inl (way.0, was, way.2))
         (λ whole. inr (way.2 ∙ tables_of-holds _ (tables g old)
-        (left_holds (state g old.connection).now way.0 (tables g old) w.inside.holds whole)))
+        (left_holds (state g old.connection).now way.0 (tables g old) w.inside.holds whole).1))
         (stop.crash clean way.0 way.1);
     books = λ began faults clean w was trees way. ⊎_elim
         (λ (earlier : (state g old.connection).may_leave trees). was trees earlier)

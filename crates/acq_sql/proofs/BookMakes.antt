@@ -123,7 +123,7 @@ module _ {S T : Type 0} (g : Ghosts S) (law : LeavesCommit g) (old new : Kept S)
     leaves = λ o clean t way. ⊎_elim
         (λ (was : before.may_leave way.0). inl (way.0, was, way.2))
         (λ whole. inr (way.2
-        ∙ tables_of-holds _ changed (whole (tables g old) o.opened.at (suits o))))
+        ∙ tables_of-holds _ changed (whole (tables g old) o.opened.at (suits o)).1))
         (applies.stop.crash clean way.0 way.1);
     settled = λ is o clean t way.
         settled_at g law new (opens_changed is clean o) t way

@@ -174,6 +174,7 @@ book_rows t (opening, book) =
       texts = each_of HasShortTexts t.requests (λ row h. short_texts row
           (All-contains KeepsNoSensitiveData t.requests row sound.card_data
           (from_In row t.requests h)));
+      keys = sound.keys.requests;
       cards = each_of (λ row. IsShortText row.1.card) t.postings (λ row h.
           let fits = All-contains (FitsPosting t.limit) t.postings row sound.rows.postings
           (from_In row t.postings h) in card_few row.1.card fits.card);

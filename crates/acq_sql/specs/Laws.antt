@@ -24,9 +24,9 @@ LeavesCommit {S} g =
 -- trees that store tables read as these
 pub stores_what_it_reads : (t : Tables) (trees : Trees) → HoldsAfter t trees
     → HoldsAfter (tables_left trees) trees
-stores_what_it_reads t trees holds =
-    subst (λ u. HoldsAfter u trees)
-    (sym (tables_of-holds (record { schema = book_schema; trees = trees }) t holds)) holds
+stores_what_it_reads t trees (form, holds) =
+    let db : Database = record { schema = book_schema form; trees = trees } in
+    (form, subst (λ u. Holds db u) (sym (tables_of-holds db t holds)) holds)
 
 -- a transaction that is open can be rolled back
 pub returnable : {s : State} {began t : Tables} {faults : ℕ} {memo : Memo} {in_group : Bool}
@@ -48,16 +48,18 @@ module _ {S : Type 0} (g : Ghosts S) (law : LeavesCommit g) where
   left_at c t at trees left =
       let same : trees ≡ (state g c).now.trees =
       law c.store trees at.is_open left ∙ sym (ap (λ (d : Database). d.trees) at.same) in
+      let has = at.holds.rows.schema in
       let now_is : ◌≡◌ {A = Database} (state g c).now
-      (record { schema = book_schema; trees = trees }) =
-      λ i. record { schema = at.holds.rows.schema i; trees = sym same i } in
-      subst (λ d. Holds d t) now_is at.holds
+      (record { schema = book_schema has.0; trees = trees }) =
+      λ i. record { schema = has.1 i; trees = sym same i } in
+      (has.0, subst (λ d. Holds d t) now_is at.holds)
 
   module _ (book : Kept S) (opened : is_open g book) where
     pub settled_at : (t : Tables) → may_leave g book t → t ≡ tables g book
     settled_at t way =
-        way.2 ∙ tables_of-holds (record { schema = book_schema; trees = way.0 }) (tables g book)
-        (left_at book.connection (tables g book) opened.opened.at way.0 way.1)
+        let left = left_at book.connection (tables g book) opened.opened.at way.0 way.1 in
+        way.2 ∙ tables_of-holds (record { schema = book_schema left.0; trees = way.0 })
+        (tables g book) left.1
 
     pub stored_at : leaves_books g book
     stored_at trees left = stores_what_it_reads (tables g book) trees

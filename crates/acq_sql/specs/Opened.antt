@@ -6,8 +6,7 @@ use Rattle.sqlite.specs.State.{State, HasCleanDisk}
 use Rattle.sqlite.specs.Held.{state}
 use Rattle.acq_core.specs.Pasts.{HasPast}
 use Rattle.acq_core.specs.Tables.{Tables}
-use Rattle.acq_sql_rows.specs.Schema.{book_schema}
-use Rattle.acq_sql_rows.specs.ReadBack.{tables_of}
+use Rattle.acq_sql_rows.specs.ReadBack.{tables_in, tables_of}
 use Rattle.acq_book.specs.Promise.{HasRisen}
 use Rattle.acq_sql_rows.specs.Standing.{IsAt, IsBased, IsIn, HoldsAfter}
 use Rattle.acq_sql_writes.specs.Refused.{HasNumbersLeft}
@@ -17,7 +16,7 @@ use Rattle.acq_sql.specs.declared.memo.Memo.{Memo}
 
 -- the tables that trees of a book stand for
 abbrev pub tables_left : Trees → Tables
-tables_left trees = tables_of (record { schema = book_schema; trees = trees })
+tables_left trees = tables_in trees
 
 -- the disk gave back what was written, and the connection is at tables that events led to
 pub record IsOpenAt (s : State) (t : Tables) : Type 0 where

@@ -37,27 +37,30 @@ pub left_holds : (db : Database) (trees : Trees) (t : Tables) → Holds db t →
     HoldsAfter t trees
 left_holds db trees t h is =
     let r = h.rows in
-    rw is (record {
-      runs = h.runs;
-      rows =
-          record {
-            schema = refl;
-            sound = r.sound;
-            book = r.book;
-            merchants = r.merchants;
-            terminals = r.terminals;
-            ranges = r.ranges;
-            rising = r.rising;
-            requests = r.requests;
-            recorded = r.recorded;
-            postings = r.postings;
-            reconciliations = r.reconciliations;
-            running = r.running;
-            apart = r.apart;
-          };
-      tallied = h.tallied;
-      short = h.short;
-    })
+    rw is (
+      r.schema.0,
+      record {
+        runs = h.runs;
+        rows =
+            record {
+              schema = (r.schema.0, refl);
+              sound = r.sound;
+              book = r.book;
+              merchants = r.merchants;
+              terminals = r.terminals;
+              ranges = r.ranges;
+              rising = r.rising;
+              requests = r.requests;
+              recorded = r.recorded;
+              postings = r.postings;
+              reconciliations = r.reconciliations;
+              running = r.running;
+              apart = r.apart;
+            };
+        tallied = h.tallied;
+        short = h.short;
+      },
+    )
 
 -- what a transaction wrote is gone where it was rolled back
 at_undone : {earlier : ℕ} (old last end : State) (t : Tables) → IsTrue end.is_open

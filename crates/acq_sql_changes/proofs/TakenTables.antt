@@ -109,7 +109,12 @@ module _ {change : Change} {fits : Tables → Type 0} {db : Database} {t : Table
       taken.numbers.requests
 
   pub short_requests : HasShortRequests t
-  short_requests = record { texts = taken.takes.before.texts; room = requests_left }
+  short_requests =
+      record {
+        texts = taken.takes.before.texts;
+        keys = taken.takes.before.keys;
+        room = requests_left;
+      }
 
   -- columns can keep what the lists come to before the running totals are raised
   pub takes_more : (u : Tables) (merchant : List ℕ) (day : ℕ) (more : Tally)

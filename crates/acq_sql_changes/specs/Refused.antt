@@ -1,10 +1,12 @@
 -- When a whole change is refused.
-use Rattle.std.specs.Prelude.{◌≡◌, ℕ, ◌+◌, ◌≤◌, true}
+use Rattle.std.specs.Prelude.{◌≡◌, ℕ, ◌+◌, ◌≤◌, true, map}
 use Rattle.std.specs.Prelude.{Result}
 use Rattle.std.specs.List.{AllByRecursion, list_all}
 use Rattle.sqlite.specs.declared.error.Error.{Error}
 use Rattle.sqlite.specs.State.{State}
 use Rattle.card_no.specs.Ranges.{is_valid_range}
+use Rattle.acq_message.specs.Elements.{same_key}
+use Rattle.acq_soundness.specs.Keys.{are_distinct}
 use Rattle.acq_core.specs.declared.change.Change.{Change}
 use Rattle.acq_core.specs.declared.posting.Posting.{Posting}
 use Rattle.acq_core.specs.declared.reconciliation.Reconciliation.{Reconciliation}
@@ -14,11 +16,13 @@ use Rattle.acq_sql_rows.specs.Rows.{version}
 use Rattle.acq_sql_rows.specs.Standing.{FailsExcused, FailsExcusedAt, IsInside}
 use Rattle.acq_sql_writes.specs.Refused.{IsShortText, AreShort, HasNumbersLeft}
 
--- What the rows of a book are like. Tables with a past have such rows: no posting has a higher
--- number than its merchant has postings of its day, and so it is of reconciliations.
+-- What the rows of a book are like. Tables with a past have such rows: no two requests have one
+-- key, no posting has a higher number than its merchant has postings of its day, and so it is of
+-- reconciliations.
 pub record HasBookRows (t : Tables) : Type 0 where
   pub ranges : list_all is_valid_range t.ranges ≡ true
   pub texts : AreShort t.requests
+  pub keys : are_distinct same_key (map (λ row. row.key) t.requests) ≡ true
   pub cards : AllByRecursion (λ row. IsShortText row.1.card) t.postings
   pub postings : AllByRecursion (λ row. row.0 ≤ postings_before t.postings row.1) t.postings
   pub reconciliations :

@@ -6,8 +6,8 @@ use Rattle.sqlite_value.specs.declared.value.Value.{Value}
 use Rattle.sqlite_value.specs.declared.value.Value.TheVariants.{Null}
 use Rattle.sqlite_schema.specs.declared.schema.Column.{Column}
 use Rattle.sqlite_schema.specs.declared.schema.Table.{Table}
+use Rattle.acq_sql_rows.specs.declared.form.Form.{Form}
 use Rattle.acq_sql_rows.specs.Schema.{book_schema}
-use Rattle.acq_sql_rows.specs.Schema as schema
 use Rattle.acq_sql_checking.specs.Plain.{IsPlainColumn, IsPlainTable, IsPlainSchema, no_stamps}
 
 abbrev is_null : Value → Bool
@@ -32,10 +32,9 @@ plain_table t checks references computed stamps columns = (
   plain_columns t.columns columns,
 )
 
-pub plain_book : IsPlainSchema book_schema
-unfolding book_schema schema.up_to_reconciliations schema.up_to_postings schema.up_to_requests
-    schema.up_to_ranges schema.up_to_terminals schema.up_to_merchants schema.up_to_book
-plain_book = (
+pub plain_book : (form : Form) → IsPlainSchema (book_schema form)
+unfolding book_schema
+plain_book form = (
   refl,
   (
     plain_table _ refl refl refl refl refl,

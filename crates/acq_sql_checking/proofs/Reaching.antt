@@ -1,5 +1,5 @@
 -- How far statements that make tables have come, and why one of them fails.
-use Rattle.std.proofs.Common.{◌≡◌, ◌∙◌, sym, subst, arith, Ok, Err, Result}
+use Rattle.std.proofs.Common.{◌≡◌, ◌∙◌, refl, sym, subst, arith, Ok, Err, Result}
 use Rattle.std.specs.Result.{IsErrAnd}
 use Rattle.sqlite_schema.specs.declared.schema.Schema.{Schema}
 use Rattle.sqlite.specs.declared.error.Error.{Error}
@@ -64,3 +64,11 @@ module _ {T : Type 0} {e : Error} {from : Schema} (needs : Database → Type 0) 
       (excused_wider old mid new new e so_far.on.stop.counts (omega arith)
       (never clean shown.mode shown.is_open (so_far.on.stop.limit ∙ free)
       (meets mid.now (so_far.made early within blank))))
+
+-- where the last statement is never refused, none of them is
+pub fails_next : {T : Type 0} {from to : Schema} {old mid new : State} (result : Result T Error)
+    → Reached from to old mid → CommitsNothing mid new
+    → IsNeverRefused mid new result (IsBlank to) → IsNeverRefused old new result (IsBlank from)
+fails_next (Ok x) so_far stop never = λ clean within opened free blank. tt
+fails_next {T} {to = to} (Err e) so_far stop never =
+    fails_then {T = T} {e = e} (IsBlank to) so_far stop never (λ db new. new.rows) (Err e) refl

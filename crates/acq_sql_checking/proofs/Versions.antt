@@ -24,8 +24,8 @@ use Rattle.row_lemmas.proofs.QueriesSucceed.{query_excused}
 use Rattle.row_lemmas.proofs.QueryRows.{plain_shown}
 use Rattle.acq_core.specs.Tables.{Tables}
 use Rattle.acq_sql_rows.specs.Relation.{HoldsOf}
-use Rattle.acq_sql_rows.specs.Schema.{book_schema}
-use Rattle.acq_sql_rows.specs.Schema as schema
+use Rattle.acq_sql_rows.specs.declared.form.Form.{Form}
+use Rattle.acq_sql_rows.specs.Schema.{IsBookSchema, book_schema}
 use Rattle.acq_sql_reads.specs.Looked.{LooksOnly}
 use Rattle.acq_sql_reads.proofs.Failing.{IsAlone}
 use Rattle.acq_sql_reads.proofs.TextLemmas.{Asks}
@@ -39,32 +39,33 @@ use Rattle.acq_sql_checking.specs.Checked.{HasBadVersion, HasNoNumber, Judges, J
 use Rattle.acq_sql_checking.specs.Checked.{IsFailure}
 
 pub version_asks : Asks version_text version_query (codes "version" ∷ [])
-unfolding understood everything book_schema schema.up_to_reconciliations schema.up_to_postings
-    schema.up_to_requests schema.up_to_ranges schema.up_to_terminals schema.up_to_merchants
-    schema.up_to_book
-version_asks = record { is = refl; plain = (refl, refl); unlisted = refl; begins = refl }
+unfolding understood everything book_schema
+version_asks = record {
+  is = λ form. refl;
+  plain = λ form. (refl, refl);
+  unlisted = λ form. refl;
+  begins = refl;
+}
 
 version_alone : IsAlone version_text 0
-unfolding understood everything book_schema schema.up_to_reconciliations schema.up_to_postings
-    schema.up_to_requests schema.up_to_ranges schema.up_to_terminals schema.up_to_merchants
-    schema.up_to_book
-version_alone = record { whole = refl; given = refl }
+unfolding understood everything book_schema
+version_alone = record { whole = λ form. refl; given = λ form. refl }
 
-version_typed : accepts_program book_schema [] version_query [] ≡ true
-unfolding book_schema schema.up_to_reconciliations schema.up_to_postings schema.up_to_requests
-    schema.up_to_ranges schema.up_to_terminals schema.up_to_merchants schema.up_to_book
-version_typed = refl
+version_typed : (form : Form) → accepts_program (book_schema form) [] version_query [] ≡ true
+unfolding book_schema
+version_typed form = refl
 
 -- of a book's tables
 pub version_fails : {V : Type 0} (old new : State) (res : Result V Error)
-    → old.now.schema ≡ book_schema
+    → IsBookSchema old.now.schema
     → (HasCleanDisk new → IfErr res (FailsToQuery version_text [] old new))
     → FailsExcusably old new res
 version_fails old new res has failed clean opened free =
-    query_excused 0 [] (query.column 1 ∷ []) [] query.no_limit book_schema [] version_typed
-    version_text old new (codes "version" ∷ []) res has version_asks.is version_asks.plain
-    (omega (arith, version_alone.whole)) (sym version_alone.given) version_asks.unlisted opened
-    free (failed clean)
+    query_excused 0 [] (query.column 1 ∷ []) [] query.no_limit (book_schema has.0) []
+    (version_typed has.0) version_text old new (codes "version" ∷ []) res has.1
+    (version_asks.is has.0) (version_asks.plain has.0)
+    (omega (arith, version_alone.whole has.0)) (sym (version_alone.given has.0))
+    (version_asks.unlisted has.0) opened free (failed clean)
 
 abbrev pub cells : Trees → List Row
 cells trees = map (λ row. column row 1 ∷ []) (trees 0)
@@ -73,12 +74,12 @@ all_pass : {X : Type 0} (xs : List X) → filter (λ x. true) xs ≡ xs
 all_pass [] = refl
 all_pass (x ∷ xs) = ap (λ l. x ∷ l) (all_pass xs)
 
-pub versions_shown : (old new : State) (rows : List Row) → old.now.schema ≡ book_schema
+pub versions_shown : (old new : State) (rows : List Row) → IsBookSchema old.now.schema
     → Shown version_text [] old new rows → IsPermutation (cells old.now.trees) rows
 versions_shown old new rows has shown =
-    let answers = reads_as version_text [] old new book_schema has
-    (Select (query.alone version_query) (codes "version" ∷ [])) version_asks.is version_asks.plain
-    version_asks.unlisted rows shown in
+    let answers = reads_as version_text [] old new (book_schema has.0) has.1
+    (Select (query.alone version_query) (codes "version" ∷ [])) (version_asks.is has.0)
+    (version_asks.plain has.0) (version_asks.unlisted has.0) rows shown in
     subst (λ l. IsPermutation (map (λ row. column row 1 ∷ []) l) rows) (all_pass (old.now.trees 0))
     (plain_shown 0 [] (query.column 1 ∷ []) old.now.trees [] rows (answers.answer Null))
 
@@ -182,7 +183,7 @@ looks_still old new accepted looks =
 
 module _ (wanted : ℕ) (found : Option ℕ) where
   pub judges : (db : Database) → HasVersion db.trees found
-      → (result : Result (Unit {0}) OpeningFault) → db.schema ≡ book_schema
+      → (result : Result (Unit {0}) OpeningFault) → IsBookSchema db.schema
       → JudgesVersion wanted found result → Judges wanted db result
   judges db read (Ok x) has is = (has, subst (HasVersion db.trees) is read)
   judges db read (Err NotABook) has is = inr (has, subst (HasVersion db.trees) is read)

@@ -8,7 +8,7 @@ use Rattle.sqlite_trees.specs.Tree.{Trees}
 use Rattle.sqlite.specs.Effect.{Database}
 use Rattle.row_lemmas.specs.Values.{number}
 use Rattle.row_lemmas.specs.Queries as query
-use Rattle.acq_sql_rows.specs.Schema.{book_schema}
+use Rattle.acq_sql_rows.specs.Schema.{IsBookSchema}
 use Rattle.acq_sql_checking.specs.declared.checking.TheConstants.{VERSION_OF_BOOK}
 use Rattle.acq_sql_checking.specs.declared.opening_fault.OpeningFault.{OpeningFault}
 use Rattle.acq_sql_checking.specs.declared.opening_fault.OpeningFault.TheVariants.{Memory, Store}
@@ -38,17 +38,17 @@ HasNoNumber trees = (v : Value) × (versions_in trees ≡ v ∷ []) × ((n : ℕ
 
 -- the database has the book's tables, and such a version
 abbrev pub HasBadVersion : Database → Type 0
-HasBadVersion db = (db.schema ≡ book_schema) × HasNoNumber db.trees
+HasBadVersion db = IsBookSchema db.schema × HasNoNumber db.trees
 
 -- ---- the answer
 
 -- what each answer says, where a book of this version is wanted
 abbrev pub Judges : {T : Type 0} → ℕ → Database → Result T OpeningFault → Type 0
-Judges wanted db (Ok x) = (db.schema ≡ book_schema) × HasVersion db.trees (Some wanted)
+Judges wanted db (Ok x) = IsBookSchema db.schema × HasVersion db.trees (Some wanted)
 Judges wanted db (Err NotABook) =
-    (db.schema ≢ book_schema) ⊎ ((db.schema ≡ book_schema) × HasVersion db.trees None)
+    (¬ IsBookSchema db.schema) ⊎ (IsBookSchema db.schema × HasVersion db.trees None)
 Judges wanted db (Err (OtherVersion n)) =
-    (db.schema ≡ book_schema) × HasVersion db.trees (Some n) × (n ≢ wanted)
+    IsBookSchema db.schema × HasVersion db.trees (Some n) × (n ≢ wanted)
 Judges wanted db (Err Memory) = Unit {0}
 Judges wanted db (Err Store) = Unit {0}
 

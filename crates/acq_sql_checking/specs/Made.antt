@@ -39,6 +39,14 @@ AddsIndex old new result sql =
     (index : Index) → Indexes schema sql at table index → IsBlank schema old.now
     → OnOk result (IsNew (indexed schema table index) new.now)
 
+-- the same of a table and an index of it
+abbrev pub AddsIndexed : {T : Type 0} → State → State → Result T Error → List ℕ → List ℕ → Type 0
+AddsIndexed old new result sql index_sql =
+    HasCleanDisk new → IsTrue old.in_transaction → (schema : Schema) (table : Table) (at : ℕ)
+    (placed : Table) (index : Index) → Makes schema sql table
+    → Indexes (created schema table) index_sql at placed index → IsBlank schema old.now
+    → OnOk result (IsNew (indexed (created schema table) placed index) new.now)
+
 -- statements that succeeded lead from one schema with no rows to another
 abbrev pub Extends : {T : Type 0} → State → State → Result T Error → Schema → Schema → Type 0
 Extends old new result from to =
@@ -93,6 +101,14 @@ abbrev pub RefusesNoIndex : {T : Type 0} → State → State → Result T Error 
 RefusesNoIndex old new result sql =
     (schema : Schema) (at : ℕ) (table : Table) (index : Index)
     → TakesIndex schema sql at table index → IsNeverRefused old new result (IsBlank schema)
+
+-- and so do those of a table and an index of it
+abbrev pub RefusesNoIndexed :
+    {T : Type 0} → State → State → Result T Error → List ℕ → List ℕ → Type 0
+RefusesNoIndexed old new result sql index_sql =
+    (schema : Schema) (table : Table) (at : ℕ) (placed : Table) (index : Index)
+    → TakesTable schema sql table → TakesIndex (created schema table) index_sql at placed index
+    → IsNeverRefused old new result (IsBlank schema)
 
 -- ---- the whole book
 

@@ -1,13 +1,13 @@
 //! Books that a database holds already.
 
-ghost use Rattle.std.specs.Prelude.{◌≡◌, ◌≢◌, ◌↔◌, ◌∷◌, [], false, map, IsTrue};
+ghost use Rattle.std.specs.Prelude.{◌≡◌, ◌↔◌, ◌∷◌, [], false, map, IsTrue};
 ghost use Rattle.std.specs.Prelude.{IfOk, IfErr, OnOk, is_ok};
 ghost use Rattle.std.specs.List.Sorted.{IsPermutation};
 ghost use Rattle.sqlite_value.specs.Order.{column};
 ghost use Rattle.sqlite.specs.State.{HasCleanDisk};
 ghost use Rattle.sqlite.specs.Held.{state};
 ghost use Rattle.acq_core.specs.Tables.{Tables};
-ghost use Rattle.acq_sql_rows.specs.Schema.{no_schema, book_schema};
+ghost use Rattle.acq_sql_rows.specs.Schema.{IsBookSchema, no_schema, book_schema};
 ghost use Rattle.acq_sql_rows.specs.Standing.{IsAtOf};
 ghost use Rattle.acq_sql_reads.specs.Failing.{FailsForMemory};
 ghost use Rattle.acq_sql_reads.specs.Looked.{LooksOnly};
@@ -18,6 +18,7 @@ ghost use Rattle.acq_sql_checking.specs.Checked.{HasBadVersion, HasNoNumber};
 use crate::alike::Alike;
 use crate::opening_fault::OpeningFault;
 use crate::tables::{create_enrolments, create_records};
+use acq_sql_rows::Form;
 use sqlite::{Alter, Connection, Error, Row};
 use sqlite_schema::schema::Schema;
 use std::alloc::Global;
@@ -37,7 +38,7 @@ pub fn check_book<S: Alter>(
     ensures accepts { HasCleanDisk (state S.Store conn.new) → (t : Tables)
         → IsAtOf wanted (state S.Store conn.old) t → IfErr result IsFailure }
     ensures looks { LooksOnly (state S.Store conn.old) (state S.Store conn.new) (is_ok result) }
-    ensures unchanged { conn.old.schema ≢ book_schema → conn.new ≡ conn.old }
+    ensures unchanged { ¬ IsBookSchema conn.old.schema → conn.new ≡ conn.old }
     ensures settled { conn.old.in_transaction ≡ false → conn.new.in_transaction ≡ false }
     ensures blames { IfErr result (λ fault. ¬ HasBadVersion (state S.Store conn.old).now
         → OpeningBlamesStore (state S.Store conn.old) (state S.Store conn.new) fault) }
@@ -59,37 +60,45 @@ fn judge(found: Option<u64>, wanted: u32) -> Result<(), OpeningFault>
     }
 }
 
-/// Whether a schema is the one that the texts of the tables make.
+/// Whether a schema is a book's, in one of its two forms.
 pub fn is_book_schema(alloc: Global, schema: &Schema) -> Result<bool, Error>
-    ensures same { IfOk result (λ is. IsTrue is ↔ (schema.now ≡ book_schema)) }
+    ensures same { IfOk result (λ is. IsTrue is ↔ IsBookSchema schema.now) }
+    ensures fails { FailsForMemory result }
+{
+    Ok(has_form(alloc, schema, Form::Plain)? || has_form(alloc, schema, Form::Unique)?)
+}
+
+/// Whether a schema is the one that the texts of the tables make in this form.
+pub fn has_form(alloc: Global, schema: &Schema, form: Form) -> Result<bool, Error>
+    ensures same { IfOk result (λ is. IsTrue is ↔ (schema.now ≡ book_schema form)) }
     ensures fails { FailsForMemory result }
 {
     let mut ours = Connection::open_in_memory(alloc)?;
-    create_tables(&mut ours)?;
+    create_tables(&mut ours, form)?;
     Ok(ours.schema().is_alike(schema))
 }
 
-/// Makes the tables, with no rows.
-pub fn create_tables<S: Alter>(conn: &mut Connection<S>) -> Result<(), Error>
+/// Makes the tables in this form, with no rows.
+pub fn create_tables<S: Alter>(conn: &mut Connection<S>, form: Form) -> Result<(), Error>
     requires settled { conn.old.in_transaction ≡ false }
     requires empty { conn.old.schema ≡ no_schema }
     ensures made { HasCleanDisk (state S.Store conn.new)
-        → OnOk result (conn.new.schema ≡ book_schema) }
+        → OnOk result (conn.new.schema ≡ book_schema form) }
     ensures fails { FailsExcusably (state S.Store conn.old) (state S.Store conn.new) result }
 {
     let mut tx = conn.transaction();
     create_enrolments(&mut tx)?;
-    create_records(&mut tx)?;
+    create_records(&mut tx, form)?;
     tx.commit()
 }
 
 /// The version of the book's one row, or `None` where it hasn't one row.
 fn version<S: Alter>(conn: &mut Connection<S>) -> Result<Option<u64>, Error>
-    ensures read { HasCleanDisk (state S.Store conn.new) → conn.old.schema ≡ book_schema
+    ensures read { HasCleanDisk (state S.Store conn.new) → IsBookSchema conn.old.schema
         → IfOk result (HasVersion (state S.Store conn.old).now.trees) }
     ensures looks { LooksOnly (state S.Store conn.old) (state S.Store conn.new) (is_ok result) }
     ensures settled { conn.old.in_transaction ≡ false → conn.new.in_transaction ≡ false }
-    ensures fails { conn.old.schema ≡ book_schema
+    ensures fails { IsBookSchema conn.old.schema
         → ¬ HasNoNumber (state S.Store conn.old).now.trees
         → FailsExcusably (state S.Store conn.old) (state S.Store conn.new) result }
 {
@@ -101,12 +110,12 @@ fn version<S: Alter>(conn: &mut Connection<S>) -> Result<Option<u64>, Error>
 }
 
 fn version_rows<S: Alter>(conn: &mut Connection<S>) -> Result<Vec<Row>, Error>
-    ensures shows { HasCleanDisk (state S.Store conn.new) → conn.old.schema ≡ book_schema
+    ensures shows { HasCleanDisk (state S.Store conn.new) → IsBookSchema conn.old.schema
         → IfOk result (λ rows. IsPermutation
         (map (λ row. column row 1 ∷ []) ((state S.Store conn.old).now.trees 0)) rows.items) }
     ensures looks { LooksOnly (state S.Store conn.old) (state S.Store conn.new) (is_ok result) }
     ensures settled { conn.old.in_transaction ≡ false → conn.new.in_transaction ≡ false }
-    ensures fails { conn.old.schema ≡ book_schema
+    ensures fails { IsBookSchema conn.old.schema
         → FailsExcusably (state S.Store conn.old) (state S.Store conn.new) result }
 {
     conn.query_all(VERSION_OF_BOOK, &[])

@@ -1,6 +1,6 @@
-//! Whether a database is a book in SQL of a version: it has the book's tables, to the last column, key
-//! and index, and no other object, and the book's one row with that version. It is compared with the
-//! tables that a new book gets, which are made here, too.
+//! Whether a database is a book in SQL of a version: it has the book's tables in one of their two
+//! forms, to the last column, key and index, and no other object, and the book's one row with that
+//! version. It is compared with the tables of each form, which are made here, too.
 #![tactic(auto)]
 
 mod alike;
@@ -9,6 +9,6 @@ mod opening_fault;
 mod tables;
 
 pub use alike::{Alike, has_same_columns};
-pub use checking::{check_book, create_tables, is_book_schema};
+pub use checking::{check_book, create_tables, has_form, is_book_schema};
 pub use opening_fault::OpeningFault;
 pub use tables::{create_enrolments, create_records};

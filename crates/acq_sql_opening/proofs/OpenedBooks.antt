@@ -18,12 +18,14 @@ use Rattle.acq_sql_rows.specs.Standing.{IsAtOf, HoldsAfterOf}
 -- the trees that the last commit left tell the schema, and the rows the tables
 pub opened_at : {number : ℕ} (s : State) (t : Tables) → Opens s → IsLive s
     → HoldsAfterOf number t s.committed.trees → IsAtOf number s t
-opened_at {number} s t opens live left =
+opened_at {number} s t opens live (form, left) =
     let same : s.now.trees ≡ s.committed.trees = ap (λ (d : Database). d.trees) opens.clean in
-    let schema_is : s.now.schema ≡ book_schema =
-    one_schema book_schema s.now (live opens.is_open).0 (rw same left.rows.sound) in
-    let now_is : ◌≡◌ {A = Database} (record { schema = book_schema; trees = s.committed.trees })
-    s.now =
+    let known : book_schema form ≡ book_schema left.rows.schema.0 = left.rows.schema.1 in
+    let schema_is : s.now.schema ≡ book_schema form =
+    one_schema (book_schema form) s.now (live opens.is_open).0
+    (rw (same, known) left.rows.sound) in
+    let now_is : ◌≡◌ {A = Database}
+    (record { schema = book_schema form; trees = s.committed.trees }) s.now =
     λ i. record { schema = sym schema_is i; trees = sym same i } in
     record {
       is_open = opens.is_open;

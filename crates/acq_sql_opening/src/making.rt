@@ -17,6 +17,7 @@ ghost use Rattle.acq_sql_checking.specs.declared.opening_fault.OpeningFault.TheV
 
 use acq_core::Limit;
 use acq_sql_checking::{OpeningFault, create_enrolments, create_records};
+use acq_sql_rows::Form;
 use acq_sql_writes::add_book;
 use day_totals::Day;
 use sqlite::{Alter, Connection, Error, Transaction};
@@ -109,7 +110,7 @@ fn write_tables<S: Alter>(
         result (IsBlank no_schema) }
 {
     create_enrolments(tx)?;
-    create_records(tx)?;
+    create_records(tx, Form::Plain)?;
     add_book(tx, limit, first_day)?;
     Ok(())
 }

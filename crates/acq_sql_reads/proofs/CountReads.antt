@@ -64,9 +64,11 @@ module _ (day : ℕ) where
       → ShowsCount text.pending_text (number day ∷ []) old new (pending_at t day)
   pending_found old new t runs has rows shown =
       let ask = asks.pending_asks in
-      shows_count request_row book_schema 6 t.requests old new has.schema has.requests
+      shows_count request_row (book_schema has.schema.0) 6 t.requests old new has.schema.1
+      has.requests
       text.pending_text
-      (number day ∷ []) _ ask.plain ask.unlisted rows shown query.pending_on [] waits tested ask.is
+      (number day ∷ []) _ (ask.plain has.schema.0) (ask.unlisted has.schema.0) rows shown
+      query.pending_on [] waits tested (ask.is has.schema.0)
       ∙ ap (λ n. (count n ∷ []) ∷ []) (counted waits t.requests)
 
 -- of all days
@@ -80,9 +82,11 @@ pub waiting_found : (old new : State) (t : Tables) (runs : List Running)
     → ShowsCount text.waiting_count_text [] old new (waiting_count_at t)
 waiting_found old new t runs has rows shown =
     let ask = asks.waiting_count_asks in
-    shows_count request_row book_schema 6 t.requests old new has.schema has.requests
-    text.waiting_count_text [] _ ask.plain ask.unlisted rows shown query.waiting []
-    (λ x. is_pending x.status) waits_test ask.is
+    shows_count request_row (book_schema has.schema.0) 6 t.requests old new has.schema.1
+    has.requests
+    text.waiting_count_text [] _ (ask.plain has.schema.0) (ask.unlisted has.schema.0) rows shown
+    query.waiting []
+    (λ x. is_pending x.status) waits_test (ask.is has.schema.0)
 
 -- the bit of a request that was admitted
 admitted_is : (b : Bool) → (bit_of b == 1) ≡ b
@@ -108,10 +112,12 @@ module _ (day : ℕ) where
       → ShowsCount text.used_on_text (number day ∷ []) old new (used_on_at t day)
   used_found old new t runs has rows shown =
       let ask = asks.used_on_asks in
-      shows_count request_row book_schema 6 t.requests old new has.schema has.requests
+      shows_count request_row (book_schema has.schema.0) 6 t.requests old new has.schema.1
+      has.requests
       text.used_on_text
-      (number day ∷ []) _ ask.plain ask.unlisted rows shown query.admitted_on [] counts counts_test
-      ask.is
+      (number day ∷ []) _ (ask.plain has.schema.0) (ask.unlisted has.schema.0) rows shown
+      query.admitted_on [] counts counts_test
+      (ask.is has.schema.0)
       ∙ ap (λ n. (count n ∷ []) ∷ []) (counted counts t.requests)
 
 -- ---- whole tables
@@ -125,9 +131,11 @@ pub terminals_found : (old new : State) (t : Tables) (runs : List Running)
     → ShowsCount text.terminal_count_text [] old new (terminal_count_at t)
 terminals_found old new t runs has rows shown =
     let ask = asks.terminal_count_asks in
-    shows_count terminal_row book_schema 3 t.terminals old new has.schema has.terminals
-    text.terminal_count_text [] _ ask.plain ask.unlisted rows shown [] [] (λ x. true)
-    (λ id x. refl) ask.is
+    shows_count terminal_row (book_schema has.schema.0) 3 t.terminals old new has.schema.1
+    has.terminals
+    text.terminal_count_text [] _ (ask.plain has.schema.0) (ask.unlisted has.schema.0) rows shown []
+    [] (λ x. true)
+    (λ id x. refl) (ask.is has.schema.0)
     ∙ ap (λ n. (count n ∷ []) ∷ []) (every t.terminals)
 
 -- their rowids are keys of their own
@@ -136,8 +144,9 @@ pub ranges_found : (old new : State) (t : Tables) (runs : List Running)
     → ShowsCount text.range_count_text [] old new (range_count_at t)
 ranges_found old new t runs has rows shown =
     let ask = asks.range_count_asks in
-    let read = reads_as text.range_count_text [] old new book_schema has.schema
-    (Select (alone query.range_count_query) _) ask.is ask.plain ask.unlisted rows shown in
+    let read = reads_as text.range_count_text [] old new (book_schema has.schema.0) has.schema.1
+    (Select (alone query.range_count_query) _) (ask.is has.schema.0) (ask.plain has.schema.0)
+    (ask.unlisted has.schema.0) rows shown in
     rows_counted 5 [] old.now.trees [] rows (read.answer Null)
     ∙ ap (λ n. (count n ∷ []) ∷ [])
     (every (old.now.trees 5) ∙ (ap length has.ranges ∙ length-map range_row t.ranges))

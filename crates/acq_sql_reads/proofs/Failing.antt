@@ -57,8 +57,8 @@ use Rattle.acq_soundness.proofs.BooksAreSound.{books_are_sound}
 use Rattle.acq_soundness.proofs.Members.{In, from_In, In-filtered, In-find}
 use Rattle.acq_sql_rows.specs.Rows.{version, key_row, merchant_row, request_row, tally_row}
 use Rattle.acq_sql_rows.specs.Tallies.{tally_of}
-use Rattle.acq_sql_rows.specs.Schema.{book_schema}
-use Rattle.acq_sql_rows.specs.Schema as schema
+use Rattle.acq_sql_rows.specs.declared.form.Form.{Form}
+use Rattle.acq_sql_rows.specs.Schema.{IsBookSchema, book_schema}
 use Rattle.acq_sql_rows.specs.Standing.{IsOpenOver}
 use Rattle.acq_sql_reads.specs.Failing.{FailsForMemory, FailsOnlyExcused, IsBalanceRow}
 use Rattle.acq_sql_reads.specs.Failing.{IsMerchantRow, IsRangeRow, IsRequestRow, IsTallyRow}
@@ -79,190 +79,154 @@ use Rattle.acq_sql_reads.proofs.TextLemmas as asks
 
 -- it has so many parameters, and nothing behind it
 pub record IsAlone (text : List ℕ) (many : ℕ) : Type 0 where
-  pub whole : tail_of (understood book_schema text) ≡ length text
-  pub given : names_of (understood book_schema text) ≡ many
+  pub whole : (form : Form) → tail_of (understood (book_schema form) text) ≡ length text
+  pub given : (form : Form) → names_of (understood (book_schema form) text) ≡ many
 
 business_alone : IsAlone text.business_text 0
-unfolding understood everything book_schema schema.up_to_reconciliations schema.up_to_postings
-    schema.up_to_requests schema.up_to_ranges schema.up_to_terminals schema.up_to_merchants
-    schema.up_to_book
-business_alone = record { whole = refl; given = refl }
+unfolding understood everything book_schema
+business_alone = record { whole = λ form. refl; given = λ form. refl }
 
 merchant_alone : IsAlone text.merchant_text 1
-unfolding understood everything book_schema schema.up_to_reconciliations schema.up_to_postings
-    schema.up_to_requests schema.up_to_ranges schema.up_to_terminals schema.up_to_merchants
-    schema.up_to_book
-merchant_alone = record { whole = refl; given = refl }
+unfolding understood everything book_schema
+merchant_alone = record { whole = λ form. refl; given = λ form. refl }
 
 terminal_alone : IsAlone text.terminal_text 2
-unfolding understood everything book_schema schema.up_to_reconciliations schema.up_to_postings
-    schema.up_to_requests schema.up_to_ranges schema.up_to_terminals schema.up_to_merchants
-    schema.up_to_book
-terminal_alone = record { whole = refl; given = refl }
+unfolding understood everything book_schema
+terminal_alone = record { whole = λ form. refl; given = λ form. refl }
 
 running_alone : IsAlone text.running_text 2
-unfolding understood everything book_schema schema.up_to_reconciliations schema.up_to_postings
-    schema.up_to_requests schema.up_to_ranges schema.up_to_terminals schema.up_to_merchants
-    schema.up_to_book
-running_alone = record { whole = refl; given = refl }
+unfolding understood everything book_schema
+running_alone = record { whole = λ form. refl; given = λ form. refl }
 
 reconciliation_alone : IsAlone text.reconciliation_text 2
-unfolding understood everything book_schema schema.up_to_reconciliations schema.up_to_postings
-    schema.up_to_requests schema.up_to_ranges schema.up_to_terminals schema.up_to_merchants
-    schema.up_to_book
-reconciliation_alone = record { whole = refl; given = refl }
+unfolding understood everything book_schema
+reconciliation_alone = record { whole = λ form. refl; given = λ form. refl }
 
 nearest_alone : IsAlone text.nearest_text 1
-unfolding understood everything book_schema schema.up_to_reconciliations schema.up_to_postings
-    schema.up_to_requests schema.up_to_ranges schema.up_to_terminals schema.up_to_merchants
-    schema.up_to_book
-nearest_alone = record { whole = refl; given = refl }
+unfolding understood everything book_schema
+nearest_alone = record { whole = λ form. refl; given = λ form. refl }
 
 overlapping_alone : IsAlone text.overlapping_text 2
-unfolding understood everything book_schema schema.up_to_reconciliations schema.up_to_postings
-    schema.up_to_requests schema.up_to_ranges schema.up_to_terminals schema.up_to_merchants
-    schema.up_to_book
-overlapping_alone = record { whole = refl; given = refl }
+unfolding understood everything book_schema
+overlapping_alone = record { whole = λ form. refl; given = λ form. refl }
 
 pending_alone : IsAlone text.pending_text 1
-unfolding understood everything book_schema schema.up_to_reconciliations schema.up_to_postings
-    schema.up_to_requests schema.up_to_ranges schema.up_to_terminals schema.up_to_merchants
-    schema.up_to_book
-pending_alone = record { whole = refl; given = refl }
+unfolding understood everything book_schema
+pending_alone = record { whole = λ form. refl; given = λ form. refl }
 
 waiting_count_alone : IsAlone text.waiting_count_text 0
-unfolding understood everything book_schema schema.up_to_reconciliations schema.up_to_postings
-    schema.up_to_requests schema.up_to_ranges schema.up_to_terminals schema.up_to_merchants
-    schema.up_to_book
-waiting_count_alone = record { whole = refl; given = refl }
+unfolding understood everything book_schema
+waiting_count_alone = record { whole = λ form. refl; given = λ form. refl }
 
 used_on_alone : IsAlone text.used_on_text 1
-unfolding understood everything book_schema schema.up_to_reconciliations schema.up_to_postings
-    schema.up_to_requests schema.up_to_ranges schema.up_to_terminals schema.up_to_merchants
-    schema.up_to_book
-used_on_alone = record { whole = refl; given = refl }
+unfolding understood everything book_schema
+used_on_alone = record { whole = λ form. refl; given = λ form. refl }
 
 terminal_count_alone : IsAlone text.terminal_count_text 0
-unfolding understood everything book_schema schema.up_to_reconciliations schema.up_to_postings
-    schema.up_to_requests schema.up_to_ranges schema.up_to_terminals schema.up_to_merchants
-    schema.up_to_book
-terminal_count_alone = record { whole = refl; given = refl }
+unfolding understood everything book_schema
+terminal_count_alone = record { whole = λ form. refl; given = λ form. refl }
 
 range_count_alone : IsAlone text.range_count_text 0
-unfolding understood everything book_schema schema.up_to_reconciliations schema.up_to_postings
-    schema.up_to_requests schema.up_to_ranges schema.up_to_terminals schema.up_to_merchants
-    schema.up_to_book
-range_count_alone = record { whole = refl; given = refl }
+unfolding understood everything book_schema
+range_count_alone = record { whole = λ form. refl; given = λ form. refl }
 
 request_alone : IsAlone text.request_text 5
-unfolding understood everything book_schema schema.up_to_reconciliations schema.up_to_postings
-    schema.up_to_requests schema.up_to_ranges schema.up_to_terminals schema.up_to_merchants
-    schema.up_to_book
-request_alone = record { whole = refl; given = refl }
+unfolding understood everything book_schema
+request_alone = record { whole = λ form. refl; given = λ form. refl }
 
 reference_alone : IsAlone text.reference_text 2
-unfolding understood everything book_schema schema.up_to_reconciliations schema.up_to_postings
-    schema.up_to_requests schema.up_to_ranges schema.up_to_terminals schema.up_to_merchants
-    schema.up_to_book
-reference_alone = record { whole = refl; given = refl }
+unfolding understood everything book_schema
+reference_alone = record { whole = λ form. refl; given = λ form. refl }
 
 greatest_alone : IsAlone text.greatest_text 1
-unfolding understood everything book_schema schema.up_to_reconciliations schema.up_to_postings
-    schema.up_to_requests schema.up_to_ranges schema.up_to_terminals schema.up_to_merchants
-    schema.up_to_book
-greatest_alone = record { whole = refl; given = refl }
+unfolding understood everything book_schema
+greatest_alone = record { whole = λ form. refl; given = λ form. refl }
 
-typed_business : accepts_program book_schema [] query.business_query [] ≡ true
-unfolding book_schema schema.up_to_reconciliations schema.up_to_postings schema.up_to_requests
-    schema.up_to_ranges schema.up_to_terminals schema.up_to_merchants schema.up_to_book
-typed_business = refl
-
-typed_merchant : (id : List ℕ)
-    → accepts_program book_schema [] query.merchant_query (Text id ∷ []) ≡ true
-unfolding book_schema schema.up_to_reconciliations schema.up_to_postings schema.up_to_requests
-    schema.up_to_ranges schema.up_to_terminals schema.up_to_merchants schema.up_to_book
-typed_merchant id = refl
-
-typed_terminal : (merchant id : List ℕ)
-    → accepts_program book_schema [] query.terminal_query (Text merchant ∷ Text id ∷ []) ≡ true
-unfolding book_schema schema.up_to_reconciliations schema.up_to_postings schema.up_to_requests
-    schema.up_to_ranges schema.up_to_terminals schema.up_to_merchants schema.up_to_book
-typed_terminal merchant id = refl
-
-typed_running : (merchant : List ℕ) (day : ℕ)
-    → accepts_program book_schema [] query.running_query (Text merchant ∷ number day ∷ []) ≡ true
-unfolding book_schema schema.up_to_reconciliations schema.up_to_postings schema.up_to_requests
-    schema.up_to_ranges schema.up_to_terminals schema.up_to_merchants schema.up_to_book
-typed_running merchant day = refl
-
-typed_reconciliation : (day : ℕ) (merchant : List ℕ)
-    → accepts_program book_schema [] query.reconciliation_query (number day ∷ Text merchant ∷ [])
+typed_business : (form : Form) → accepts_program (book_schema form) [] query.business_query []
     ≡ true
-unfolding book_schema schema.up_to_reconciliations schema.up_to_postings schema.up_to_requests
-    schema.up_to_ranges schema.up_to_terminals schema.up_to_merchants schema.up_to_book
-typed_reconciliation day merchant = refl
+unfolding book_schema
+typed_business form = refl
 
-typed_nearest : (prefix : ℕ)
-    → accepts_program book_schema [] query.nearest_query (number prefix ∷ []) ≡ true
-unfolding book_schema schema.up_to_reconciliations schema.up_to_postings schema.up_to_requests
-    schema.up_to_ranges schema.up_to_terminals schema.up_to_merchants schema.up_to_book
-typed_nearest prefix = refl
+typed_merchant : (form : Form) (id : List ℕ)
+    → accepts_program (book_schema form) [] query.merchant_query (Text id ∷ []) ≡ true
+unfolding book_schema
+typed_merchant form id = refl
 
-typed_overlapping : (low high : ℕ)
-    → accepts_program book_schema [] query.overlapping_query (number low ∷ number high ∷ []) ≡ true
-unfolding book_schema schema.up_to_reconciliations schema.up_to_postings schema.up_to_requests
-    schema.up_to_ranges schema.up_to_terminals schema.up_to_merchants schema.up_to_book
-typed_overlapping low high = refl
+typed_terminal : (form : Form) (merchant id : List ℕ)
+    → accepts_program (book_schema form) [] query.terminal_query (Text merchant ∷ Text id ∷ [])
+    ≡ true
+unfolding book_schema
+typed_terminal form merchant id = refl
 
-typed_request : (key : RequestKey)
-    → accepts_program book_schema [] query.request_query (key_row key) ≡ true
-unfolding book_schema schema.up_to_reconciliations schema.up_to_postings schema.up_to_requests
-    schema.up_to_ranges schema.up_to_terminals schema.up_to_merchants schema.up_to_book
-typed_request key = refl
+typed_running : (form : Form) (merchant : List ℕ) (day : ℕ)
+    → accepts_program (book_schema form) [] query.running_query (Text merchant ∷ number day ∷ [])
+    ≡ true
+unfolding book_schema
+typed_running form merchant day = refl
 
-typed_reference : (merchant : List ℕ) (n : ℕ)
-    → accepts_program book_schema [] query.reference_query (Text merchant ∷ number n ∷ []) ≡ true
-unfolding book_schema schema.up_to_reconciliations schema.up_to_postings schema.up_to_requests
-    schema.up_to_ranges schema.up_to_terminals schema.up_to_merchants schema.up_to_book
-typed_reference merchant n = refl
+typed_reconciliation : (form : Form) (day : ℕ) (merchant : List ℕ)
+    → accepts_program (book_schema form) [] query.reconciliation_query
+    (number day ∷ Text merchant ∷ [])
+    ≡ true
+unfolding book_schema
+typed_reconciliation form day merchant = refl
 
-typed_greatest : (merchant : List ℕ)
-    → accepts_program book_schema [] query.greatest_query (Text merchant ∷ []) ≡ true
-unfolding book_schema schema.up_to_reconciliations schema.up_to_postings schema.up_to_requests
-    schema.up_to_ranges schema.up_to_terminals schema.up_to_merchants schema.up_to_book
-typed_greatest merchant = refl
+typed_nearest : (form : Form) (prefix : ℕ)
+    → accepts_program (book_schema form) [] query.nearest_query (number prefix ∷ []) ≡ true
+unfolding book_schema
+typed_nearest form prefix = refl
 
-typed_pending : (day : ℕ)
-    → accepts_program book_schema [] query.pending_query (number day ∷ []) ≡ true
-unfolding book_schema schema.up_to_reconciliations schema.up_to_postings schema.up_to_requests
-    schema.up_to_ranges schema.up_to_terminals schema.up_to_merchants schema.up_to_book
-typed_pending day = refl
+typed_overlapping : (form : Form) (low high : ℕ)
+    → accepts_program (book_schema form) [] query.overlapping_query (number low ∷ number high ∷ [])
+    ≡ true
+unfolding book_schema
+typed_overlapping form low high = refl
 
-typed_waiting_count : accepts_program book_schema [] query.waiting_count_query [] ≡ true
-unfolding book_schema schema.up_to_reconciliations schema.up_to_postings schema.up_to_requests
-    schema.up_to_ranges schema.up_to_terminals schema.up_to_merchants schema.up_to_book
-typed_waiting_count = refl
+typed_request : (form : Form) (key : RequestKey)
+    → accepts_program (book_schema form) [] query.request_query (key_row key) ≡ true
+unfolding book_schema
+typed_request form key = refl
 
-typed_used_on : (day : ℕ)
-    → accepts_program book_schema [] query.used_on_query (number day ∷ []) ≡ true
-unfolding book_schema schema.up_to_reconciliations schema.up_to_postings schema.up_to_requests
-    schema.up_to_ranges schema.up_to_terminals schema.up_to_merchants schema.up_to_book
-typed_used_on day = refl
+typed_reference : (form : Form) (merchant : List ℕ) (n : ℕ)
+    → accepts_program (book_schema form) [] query.reference_query (Text merchant ∷ number n ∷ [])
+    ≡ true
+unfolding book_schema
+typed_reference form merchant n = refl
 
-typed_terminal_count : accepts_program book_schema [] query.terminal_count_query [] ≡ true
-unfolding book_schema schema.up_to_reconciliations schema.up_to_postings schema.up_to_requests
-    schema.up_to_ranges schema.up_to_terminals schema.up_to_merchants schema.up_to_book
-typed_terminal_count = refl
+typed_greatest : (form : Form) (merchant : List ℕ)
+    → accepts_program (book_schema form) [] query.greatest_query (Text merchant ∷ []) ≡ true
+unfolding book_schema
+typed_greatest form merchant = refl
 
-typed_range_count : accepts_program book_schema [] query.range_count_query [] ≡ true
-unfolding book_schema schema.up_to_reconciliations schema.up_to_postings schema.up_to_requests
-    schema.up_to_ranges schema.up_to_terminals schema.up_to_merchants schema.up_to_book
-typed_range_count = refl
+typed_pending : (form : Form) (day : ℕ)
+    → accepts_program (book_schema form) [] query.pending_query (number day ∷ []) ≡ true
+unfolding book_schema
+typed_pending form day = refl
+
+typed_waiting_count : (form : Form) → accepts_program (book_schema form) []
+    query.waiting_count_query [] ≡ true
+unfolding book_schema
+typed_waiting_count form = refl
+
+typed_used_on : (form : Form) (day : ℕ)
+    → accepts_program (book_schema form) [] query.used_on_query (number day ∷ []) ≡ true
+unfolding book_schema
+typed_used_on form day = refl
+
+typed_terminal_count : (form : Form) → accepts_program (book_schema form) []
+    query.terminal_count_query [] ≡ true
+unfolding book_schema
+typed_terminal_count form = refl
+
+typed_range_count : (form : Form) → accepts_program (book_schema form) [] query.range_count_query []
+    ≡ true
+unfolding book_schema
+typed_range_count form = refl
 
 -- the book's database refuses no query of this kind
 abbrev pub IsNeverRefused : Query → Row → Type 0
 IsNeverRefused q params =
-    (db : Database) (e : Error) → db.schema ≡ book_schema
+    (db : Database) (e : Error) → IsBookSchema db.schema
     → ¬ RefusesQuery None db (alone q) params e
 
 -- count(*) always tells a number
@@ -273,11 +237,12 @@ counted group zero a low at none =
 counted group (suc j) a low at none = absurd (omega arith)
 
 count_succeeds : (tree : ℕ) (test : List Term) (params : Row)
-    → accepts_program book_schema [] (query.count_query tree test) params ≡ true
+    → ((form : Form) → accepts_program (book_schema form) [] (query.count_query tree test) params
+    ≡ true)
     → IsNeverRefused (query.count_query tree test) params
 count_succeeds tree test params typed db e has (inl h) =
-    true≢false (sym typed
-    ∙ ap (λ s. accepts_program s [] (query.count_query tree test) params) (sym has) ∙ h.1)
+    true≢false (sym (typed has.0)
+    ∙ ap (λ s. accepts_program s [] (query.count_query tree test) params) (sym has.1) ∙ h.1)
 count_succeeds tree test params typed db e has
     (inr (inl (is, inl (groups, all, (k, group, low, at, (j, a, below, here, none)))))) =
     counted group j a below here none
@@ -291,11 +256,13 @@ query_excused : (old new : State) (sql : List ℕ) (params : Row) (q : Query)
     → IsNeverRefused q params → (t : Tables) → IsOpenOver version old t → old.step_limit ≡ None
     → (e : Error) → FailsToQuery sql params old new e → IsExcused old new e
 query_excused old new sql params q names ask lone succeeds t at free e h =
-    elim (fails_to_show sql params old new book_schema at.holds.rows.schema
-    (Select (alone q) names) ask.is ask.plain (omega (arith, lone.whole)) (sym lone.given)
-    at.is_open (alone q) names refl ask.unlisted e h) [
+    let has = at.holds.rows.schema in
+    elim (fails_to_show sql params old new (book_schema has.0) has.1
+    (Select (alone q) names) (ask.is has.0) (ask.plain has.0)
+    (omega (arith, lone.whole has.0)) (sym (lone.given has.0))
+    at.is_open (alone q) names refl (ask.unlisted has.0) e h) [
       | inl why ↦ why
-      | inr refuses ↦ absurd (succeeds old.now e at.holds.rows.schema
+      | inr refuses ↦ absurd (succeeds old.now e has
           (subst (λ l. RefusesQuery l old.now (alone q) params e) free refuses))
     ]
 
@@ -319,11 +286,13 @@ module _ {V : Type 0} (old new : State) (res : Result V Error) where
       (order : List (Term × Key)) (limit : Term) (names : List (List ℕ))
       → Asks sql (table_query t test None project order limit) names
       → IsAlone sql (length params)
-      → accepts_program book_schema [] (table_query t test None project order limit) params ≡ true
+      → ((form : Form) → accepts_program (book_schema form) []
+      (table_query t test None project order limit) params ≡ true)
       → Failed sql params → FailsOnlyExcused old new res
   fails sql params t test project order limit names ask lone typed =
       never sql params _ names ask lone
-      (query_succeeds t test project order limit book_schema params typed)
+      (λ db e has. query_succeeds t test project order limit (book_schema has.0) params
+      (typed has.0) db e has.1)
 
   pub business_fails : Failed text.business_text [] → FailsOnlyExcused old new res
   business_fails =
@@ -333,58 +302,58 @@ module _ {V : Type 0} (old new : State) (res : Result V Error) where
       → FailsOnlyExcused old new res
   merchant_fails id =
       fails text.merchant_text (Text id ∷ []) _ _ _ _ _ _ asks.merchant_asks merchant_alone
-      (typed_merchant id)
+      (λ form. typed_merchant form id)
 
   pub terminal_fails : (merchant id : List ℕ)
       → Failed text.terminal_text (Text merchant ∷ Text id ∷ []) → FailsOnlyExcused old new res
   terminal_fails merchant id =
       fails text.terminal_text (Text merchant ∷ Text id ∷ []) _ _ _ _ _ _ asks.terminal_asks
-      terminal_alone (typed_terminal merchant id)
+      terminal_alone (λ form. typed_terminal form merchant id)
 
   pub running_fails : (merchant : List ℕ) (day : ℕ)
       → Failed text.running_text (Text merchant ∷ number day ∷ []) → FailsOnlyExcused old new res
   running_fails merchant day =
       fails text.running_text (Text merchant ∷ number day ∷ []) _ _ _ _ _ _ asks.running_asks
-      running_alone (typed_running merchant day)
+      running_alone (λ form. typed_running form merchant day)
 
   pub reconciliation_fails : (day : ℕ) (merchant : List ℕ)
       → Failed text.reconciliation_text (number day ∷ Text merchant ∷ [])
       → FailsOnlyExcused old new res
   reconciliation_fails day merchant =
       fails text.reconciliation_text (number day ∷ Text merchant ∷ []) _ _ _ _ _ _
-      asks.reconciliation_asks reconciliation_alone (typed_reconciliation day merchant)
+      asks.reconciliation_asks reconciliation_alone (λ form. typed_reconciliation form day merchant)
 
   pub nearest_fails : (prefix : ℕ) → Failed text.nearest_text (number prefix ∷ [])
       → FailsOnlyExcused old new res
   nearest_fails prefix =
       fails text.nearest_text (number prefix ∷ []) _ _ _ _ _ _ asks.nearest_asks nearest_alone
-      (typed_nearest prefix)
+      (λ form. typed_nearest form prefix)
 
   pub overlapping_fails : (low high : ℕ)
       → Failed text.overlapping_text (number low ∷ number high ∷ [])
       → FailsOnlyExcused old new res
   overlapping_fails low high =
       fails text.overlapping_text (number low ∷ number high ∷ []) _ _ _ _ _ _
-      asks.overlapping_asks overlapping_alone (typed_overlapping low high)
+      asks.overlapping_asks overlapping_alone (λ form. typed_overlapping form low high)
 
   pub request_fails : (key : RequestKey) → Failed text.request_text (key_row key)
       → FailsOnlyExcused old new res
   request_fails key =
       fails text.request_text (key_row key) _ _ _ _ _ _ asks.request_asks request_alone
-      (typed_request key)
+      (λ form. typed_request form key)
 
   pub reference_fails : (merchant : List ℕ) (n : ℕ)
       → Failed text.reference_text (Text merchant ∷ number n ∷ [])
       → FailsOnlyExcused old new res
   reference_fails merchant n =
       fails text.reference_text (Text merchant ∷ number n ∷ []) _ _ _ _ _ _
-      asks.reference_asks reference_alone (typed_reference merchant n)
+      asks.reference_asks reference_alone (λ form. typed_reference form merchant n)
 
   pub greatest_fails : (merchant : List ℕ) → Failed text.greatest_text (Text merchant ∷ [])
       → FailsOnlyExcused old new res
   greatest_fails merchant =
       fails text.greatest_text (Text merchant ∷ []) _ _ _ _ _ _ asks.greatest_asks greatest_alone
-      (typed_greatest merchant)
+      (λ form. typed_greatest form merchant)
 
 -- a call that fails for memory, or as its query does
 module _ {V : Type 0} (old new : State) (res : Result V Error) (t : Tables)
@@ -409,7 +378,8 @@ module _ {V : Type 0} (old new : State) (res : Result V Error) (t : Tables)
       → IfErr res (IsExcused old new)
   pending_fails day =
       query_fails text.pending_text (number day ∷ []) query.pending_query _ asks.pending_asks
-      pending_alone (count_succeeds 6 query.pending_on (number day ∷ []) (typed_pending day))
+      pending_alone (count_succeeds 6 query.pending_on (number day ∷ [])
+      (λ form. typed_pending form day))
 
   pub waiting_count_fails : HandedOver text.waiting_count_text [] → IfErr res (IsExcused old new)
   waiting_count_fails =
@@ -420,7 +390,8 @@ module _ {V : Type 0} (old new : State) (res : Result V Error) (t : Tables)
       → IfErr res (IsExcused old new)
   used_on_fails day =
       query_fails text.used_on_text (number day ∷ []) query.used_on_query _ asks.used_on_asks
-      used_on_alone (count_succeeds 6 query.admitted_on (number day ∷ []) (typed_used_on day))
+      used_on_alone (count_succeeds 6 query.admitted_on (number day ∷ [])
+      (λ form. typed_used_on form day))
 
   pub terminal_count_fails : HandedOver text.terminal_count_text [] → IfErr res (IsExcused old new)
   terminal_count_fails =

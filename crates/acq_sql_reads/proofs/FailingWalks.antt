@@ -28,8 +28,8 @@ use Rattle.acq_book.specs.Lookups.{holds_at, merchants_at, postings_at, waiting_
 use Rattle.acq_soundness.specs.Rows.{FitsMerchant, FitsPosting}
 use Rattle.acq_soundness.proofs.Members.{In, from_In}
 use Rattle.acq_sql_rows.specs.Rows.{version, merchant_row, posting_row, request_row}
+use Rattle.acq_sql_rows.specs.declared.form.Form.{Form}
 use Rattle.acq_sql_rows.specs.Schema.{book_schema}
-use Rattle.acq_sql_rows.specs.Schema as schema
 use Rattle.acq_sql_rows.specs.Standing.{IsOpenOver}
 use Rattle.acq_sql_reads.specs.Failing.{CanBeWalked, IsMerchantRow, IsPostingRow, IsRequestRow}
 use Rattle.acq_sql_reads.specs.Shown.{FailsToHandOver, ShowsOnly}
@@ -47,50 +47,39 @@ use Rattle.acq_sql_reads.proofs.Walking.{ShowsList, front}
 -- ---- its query
 
 postings_alone : IsAlone text.postings_text 1
-unfolding understood everything book_schema schema.up_to_reconciliations schema.up_to_postings
-    schema.up_to_requests schema.up_to_ranges schema.up_to_terminals schema.up_to_merchants
-    schema.up_to_book
-postings_alone = record { whole = refl; given = refl }
+unfolding understood everything book_schema
+postings_alone = record { whole = λ form. refl; given = λ form. refl }
 
 merchants_alone : IsAlone text.merchants_text 0
-unfolding understood everything book_schema schema.up_to_reconciliations schema.up_to_postings
-    schema.up_to_requests schema.up_to_ranges schema.up_to_terminals schema.up_to_merchants
-    schema.up_to_book
-merchants_alone = record { whole = refl; given = refl }
+unfolding understood everything book_schema
+merchants_alone = record { whole = λ form. refl; given = λ form. refl }
 
 holds_alone : IsAlone text.holds_text 1
-unfolding understood everything book_schema schema.up_to_reconciliations schema.up_to_postings
-    schema.up_to_requests schema.up_to_ranges schema.up_to_terminals schema.up_to_merchants
-    schema.up_to_book
-holds_alone = record { whole = refl; given = refl }
+unfolding understood everything book_schema
+holds_alone = record { whole = λ form. refl; given = λ form. refl }
 
 waiting_alone : IsAlone text.waiting_text 0
-unfolding understood everything book_schema schema.up_to_reconciliations schema.up_to_postings
-    schema.up_to_requests schema.up_to_ranges schema.up_to_terminals schema.up_to_merchants
-    schema.up_to_book
-waiting_alone = record { whole = refl; given = refl }
+unfolding understood everything book_schema
+waiting_alone = record { whole = λ form. refl; given = λ form. refl }
 
-typed_postings : (day : ℕ)
-    → accepts_program book_schema [] query.postings_query (number day ∷ []) ≡ true
-unfolding book_schema schema.up_to_reconciliations schema.up_to_postings schema.up_to_requests
-    schema.up_to_ranges schema.up_to_terminals schema.up_to_merchants schema.up_to_book
-typed_postings day = refl
+typed_postings : (form : Form) (day : ℕ)
+    → accepts_program (book_schema form) [] query.postings_query (number day ∷ []) ≡ true
+unfolding book_schema
+typed_postings form day = refl
 
-typed_merchants : accepts_program book_schema [] query.merchants_query [] ≡ true
-unfolding book_schema schema.up_to_reconciliations schema.up_to_postings schema.up_to_requests
-    schema.up_to_ranges schema.up_to_terminals schema.up_to_merchants schema.up_to_book
-typed_merchants = refl
+typed_merchants : (form : Form) → accepts_program (book_schema form) [] query.merchants_query []
+    ≡ true
+unfolding book_schema
+typed_merchants form = refl
 
-typed_holds : (m : List ℕ)
-    → accepts_program book_schema [] query.holds_query (Text m ∷ []) ≡ true
-unfolding book_schema schema.up_to_reconciliations schema.up_to_postings schema.up_to_requests
-    schema.up_to_ranges schema.up_to_terminals schema.up_to_merchants schema.up_to_book
-typed_holds m = refl
+typed_holds : (form : Form) (m : List ℕ)
+    → accepts_program (book_schema form) [] query.holds_query (Text m ∷ []) ≡ true
+unfolding book_schema
+typed_holds form m = refl
 
-typed_waiting : accepts_program book_schema [] query.waiting_query [] ≡ true
-unfolding book_schema schema.up_to_reconciliations schema.up_to_postings schema.up_to_requests
-    schema.up_to_ranges schema.up_to_terminals schema.up_to_merchants schema.up_to_book
-typed_waiting = refl
+typed_waiting : (form : Form) → accepts_program (book_schema form) [] query.waiting_query [] ≡ true
+unfolding book_schema
+typed_waiting form = refl
 
 -- ---- its rows
 
@@ -173,32 +162,37 @@ module _ {V : Type 0} (old new : State) (res : Result V Error) (t : Tables)
   pub postings_excused : (day : ℕ) → CanBeWalked (postings_at t day)
       → Walked text.postings_text (number day ∷ []) IsPostingRow → IfErr res (IsExcused old new)
   postings_excused day =
-      walked text.postings_text (number day ∷ []) (postings_list old t day at.holds) IsPostingRow
-      postings_alone (query_succeeds 8 query.postings_query.filter query.postings_query.project
-      query.postings_query.order query.postings_query.limit book_schema (number day ∷ [])
-      (typed_postings day))
+      walked text.postings_text (number day ∷ []) (postings_list old t day at.holds past)
+      IsPostingRow
+      postings_alone (λ db e has. query_succeeds 8 query.postings_query.filter
+      query.postings_query.project query.postings_query.order
+      query.postings_query.limit (book_schema has.0) (number day ∷ []) (typed_postings has.0 day) db
+      e has.1)
       (posting_fits_row t past day)
 
   pub merchants_excused : CanBeWalked (merchants_at t)
       → Walked text.merchants_text [] IsMerchantRow → IfErr res (IsExcused old new)
   merchants_excused =
       walked text.merchants_text [] (merchants_list old t at.holds) IsMerchantRow
-      merchants_alone (query_succeeds 1 query.merchants_query.filter query.merchants_query.project
-      query.merchants_query.order query.merchants_query.limit book_schema [] typed_merchants)
+      merchants_alone (λ db e has. query_succeeds 1 query.merchants_query.filter
+      query.merchants_query.project query.merchants_query.order
+      query.merchants_query.limit (book_schema has.0) [] (typed_merchants has.0) db e has.1)
       (merchant_fits_row t past)
 
   pub holds_excused : (m : List ℕ) → CanBeWalked (holds_at t m)
       → Walked text.holds_text (Text m ∷ []) IsRequestRow → IfErr res (IsExcused old new)
   holds_excused m =
       walked text.holds_text (Text m ∷ []) (holds_list m old t at.holds past) IsRequestRow
-      holds_alone (query_succeeds 6 query.holds_query.filter query.holds_query.project
-      query.holds_query.order query.holds_query.limit book_schema (Text m ∷ []) (typed_holds m))
+      holds_alone (λ db e has. query_succeeds 6 query.holds_query.filter query.holds_query.project
+      query.holds_query.order
+      query.holds_query.limit (book_schema has.0) (Text m ∷ []) (typed_holds has.0 m) db e has.1)
       (λ y here. request_fits_row t past y (holds_among m t y here))
 
   pub waiting_excused : CanBeWalked (waiting_at t)
       → Walked text.waiting_text [] IsRequestRow → IfErr res (IsExcused old new)
   waiting_excused =
       walked text.waiting_text [] (waiting_list old t at.holds) IsRequestRow
-      waiting_alone (query_succeeds 6 query.waiting_query.filter query.waiting_query.project
-      query.waiting_query.order query.waiting_query.limit book_schema [] typed_waiting)
+      waiting_alone (λ db e has. query_succeeds 6 query.waiting_query.filter
+      query.waiting_query.project query.waiting_query.order
+      query.waiting_query.limit (book_schema has.0) [] (typed_waiting has.0) db e has.1)
       (λ y here. request_fits_row t past y (waiting_among t y here))

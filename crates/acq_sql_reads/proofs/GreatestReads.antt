@@ -218,10 +218,12 @@ module _ (m : List ℕ) where
   greatest_first old new t runs rows has shown =
       let ask = asks.greatest_asks in
       let it = query.greatest_query in
-      let all = shows_ordered request_row book_schema 6 t.requests old new has.schema has.requests
-      text.greatest_text (Text m ∷ []) _ ask.plain ask.unlisted rows shown it.filter it.project mine
+      let all = shows_ordered request_row (book_schema has.schema.0) 6 t.requests old new
+      has.schema.1 has.requests
+      text.greatest_text (Text m ∷ []) _ (ask.plain has.schema.0) (ask.unlisted has.schema.0) rows
+      shown it.filter it.project mine
       tested
-      it.order it.limit out (λ id x. refl) ask.is in
+      it.order it.limit out (λ id x. refl) (ask.is has.schema.0) in
       first_element Later (requests_of m t.requests) all.0 reference_cells rows all.1
       (ascending_weaker _ Later (λ x y h. reference_at_most y.reference x.reference
       (ap is_gt (sym (then-Equal

@@ -201,11 +201,13 @@ module _ (m : List ℕ) where
   holds_found old t runs has past rows shown =
       let ask = asks.holds_asks in
       let it = query.holds_query in
-      let all = shows_ordered request_row book_schema 6 t.requests old old has.schema has.requests
+      let all = shows_ordered request_row (book_schema has.schema.0) 6 t.requests old old
+      has.schema.1 has.requests
       text.holds_text
-      (Text m ∷ []) _ ask.plain ask.unlisted rows shown it.filter it.project passes tested it.order
+      (Text m ∷ []) _ (ask.plain has.schema.0) (ask.unlisted has.schema.0) rows shown it.filter
+      it.project passes tested it.order
       it.limit out
-      (λ id x. refl) ask.is in
+      (λ id x. refl) (ask.is has.schema.0) in
       all.3
       ∙ ap (map request_row) (ordered_is by_reference (sorted_total query.holds_query out)
       (λ a b. is_reference_before a.reference b.reference) compare same tied

@@ -28,8 +28,8 @@ use Rattle.acq_core.specs.declared.merchant.Merchant.{Merchant}
 use Rattle.acq_core.specs.declared.terminal.Terminal.{Terminal}
 use Rattle.acq_core.specs.Tables.{Tables}
 use Rattle.acq_book.specs.Lookups.{merchant_at, has_terminal_at}
+use Rattle.acq_sql_rows.specs.declared.form.Form.{Form}
 use Rattle.acq_sql_rows.specs.Schema.{book_schema}
-use Rattle.acq_sql_rows.specs.Schema as schema
 use Rattle.acq_sql_rows.specs.Rows.{book_row, merchant_row, terminal_row, running_row, tally_row}
 use Rattle.acq_sql_rows.specs.Tallies.{Running, is_for, tally_of}
 use Rattle.acq_sql_rows.specs.Relation.{HoldsRows, Holds}
@@ -58,22 +58,23 @@ pub business_found : (old new : State) (t : Tables) (runs : List Running) (rows 
 business_found old new t runs rows has shown =
     let ask = asks.business_asks in
     one_permutation _ rows
-    (shows_all limits_row book_schema 0 ((t.limit, t.day) ∷ []) old new has.schema has.book
+    (shows_all limits_row (book_schema has.schema.0) 0 ((t.limit, t.day) ∷ []) old new has.schema.1
+    has.book
     text.business_text [] _
-    ask.plain ask.unlisted rows shown query.business_query.filter query.business_query.project
+    (ask.plain has.schema.0) (ask.unlisted has.schema.0) rows shown query.business_query.filter
+    query.business_query.project
     (λ x. true)
-    (λ id x. refl) (λ x. number x.0 ∷ number x.1 ∷ []) (λ id x. refl) ask.is)
+    (λ id x. refl) (λ x. number x.0 ∷ number x.1 ∷ []) (λ id x. refl) (ask.is has.schema.0))
 
 -- ---- merchants
 
 abbrev merchant_key : Index
 merchant_key = automatic at.the_merchants 0 (1 ∷ []) 2
 
-merchant_keyed : Has book_schema.tables (bare at.the_merchants)
-    × Has book_schema.indexes merchant_key
-unfolding book_schema schema.up_to_reconciliations schema.up_to_postings schema.up_to_requests
-    schema.up_to_ranges schema.up_to_terminals schema.up_to_merchants schema.up_to_book
-merchant_keyed = (inr (inl refl), inl refl)
+merchant_keyed : (form : Form) → Has (book_schema form).tables (bare at.the_merchants)
+    × Has (book_schema form).indexes merchant_key
+unfolding book_schema
+merchant_keyed form = (inr (inl refl), inl refl)
 
 module _ (id : List ℕ) where
   abbrev q : Merchant → Bool
@@ -98,37 +99,40 @@ module _ (id : List ℕ) where
   merchant_found old new t runs rows has shown =
       let ask = asks.merchant_asks in
       let test = query.merchant_query.filter in
-      shows_one merchant_row book_schema 1 t.merchants old new has.schema has.merchants
+      shows_one merchant_row (book_schema has.schema.0) 1 t.merchants old new has.schema.1
+      has.merchants
       text.merchant_text
-      (Text id ∷ []) _ ask.plain ask.unlisted rows shown test query.merchant_query.project q tested
+      (Text id ∷ []) _ (ask.plain has.schema.0) (ask.unlisted has.schema.0) rows shown test
+      query.merchant_query.project q tested
       merchant_row
-      (λ k x. refl) ask.is
-      (one_passes merchant_row book_schema old.now.trees (bare at.the_merchants) merchant_key
-      (fits_of book_schema old.now.trees has.sound) merchant_keyed.0
-      merchant_keyed.1 refl t.merchants has.merchants test (Text id ∷ []) q tested keyed)
+      (λ k x. refl) (ask.is has.schema.0)
+      (one_passes merchant_row (book_schema has.schema.0) old.now.trees (bare at.the_merchants)
+      merchant_key
+      (fits_of (book_schema has.schema.0) old.now.trees has.sound) (merchant_keyed has.schema.0).0
+      (merchant_keyed has.schema.0).1 refl t.merchants has.merchants test (Text id ∷ []) q tested
+      keyed)
 
   -- no two merchants have one name
-  pub one_merchant : (db : Trees) (xs : List Merchant) → Fits book_schema db →
+  pub one_merchant : (form : Form) (db : Trees) (xs : List Merchant) → Fits (book_schema form) db →
       db 1 ≡ rows_of merchant_row xs
       → length (filter q xs) ≤ 1
-  one_merchant db xs fits held =
+  one_merchant form db xs fits held =
       let test = query.merchant_query.filter in
       let count = numbered_counted merchant_row (picked test (Text id ∷ [])) q xs tested in
       subst (λ n. n ≤ 1) (ap (λ l. length (filter (picked test (Text id ∷ [])) l)) held ∙ count)
-      (few_pass_key merchant_row book_schema db (bare at.the_merchants) merchant_key fits
-      merchant_keyed.0
-      merchant_keyed.1 refl xs held test (Text id ∷ []) q tested keyed)
+      (few_pass_key merchant_row (book_schema form) db (bare at.the_merchants) merchant_key fits
+      (merchant_keyed form).0
+      (merchant_keyed form).1 refl xs held test (Text id ∷ []) q tested keyed)
 
 -- ---- terminals
 
 abbrev terminal_key : Index
 terminal_key = automatic at.the_terminals 0 (1 ∷ 2 ∷ []) 4
 
-terminal_keyed : Has book_schema.tables (bare at.the_terminals)
-    × Has book_schema.indexes terminal_key
-unfolding book_schema schema.up_to_reconciliations schema.up_to_postings schema.up_to_requests
-    schema.up_to_ranges schema.up_to_terminals schema.up_to_merchants schema.up_to_book
-terminal_keyed = (inr (inr (inl refl)), inr (inl refl))
+terminal_keyed : (form : Form) → Has (book_schema form).tables (bare at.the_terminals)
+    × Has (book_schema form).indexes terminal_key
+unfolding book_schema
+terminal_keyed form = (inr (inr (inl refl)), inr (inl refl))
 
 module _ (merchant id : List ℕ) where
   abbrev is_it : Terminal → Bool
@@ -166,14 +170,18 @@ module _ (merchant id : List ℕ) where
       → is_any rows ≡ has_terminal_at t merchant id
   terminal_found old new t runs rows has shown =
       let ask = asks.terminal_asks in
-      let are = shows_one terminal_row book_schema 3 t.terminals old new has.schema has.terminals
+      let are = shows_one terminal_row (book_schema has.schema.0) 3 t.terminals old new has.schema.1
+      has.terminals
       text.terminal_text
-      names _ ask.plain ask.unlisted rows shown query.two_are query.terminal_query.project is_it
+      names _ (ask.plain has.schema.0) (ask.unlisted has.schema.0) rows shown query.two_are
+      query.terminal_query.project is_it
       named terminal_row
-      (λ k x. refl) ask.is
-      (one_passes terminal_row book_schema old.now.trees (bare at.the_terminals) terminal_key
-      (fits_of book_schema old.now.trees has.sound)
-      terminal_keyed.0 terminal_keyed.1 refl t.terminals has.terminals query.two_are names is_it
+      (λ k x. refl) (ask.is has.schema.0)
+      (one_passes terminal_row (book_schema has.schema.0) old.now.trees (bare at.the_terminals)
+      terminal_key
+      (fits_of (book_schema has.schema.0) old.now.trees has.sound)
+      (terminal_keyed has.schema.0).0 (terminal_keyed has.schema.0).1 refl t.terminals has.terminals
+      query.two_are names is_it
       named one_name) in
       ap is_any are ∙ any_found terminal_row is_it t.terminals
 
@@ -182,10 +190,10 @@ module _ (merchant id : List ℕ) where
 abbrev running_key : Index
 running_key = automatic at.the_running 0 (1 ∷ 2 ∷ []) 13
 
-running_keyed : Has book_schema.tables (bare at.the_running) × Has book_schema.indexes running_key
-unfolding book_schema schema.up_to_reconciliations schema.up_to_postings schema.up_to_requests
-    schema.up_to_ranges schema.up_to_terminals schema.up_to_merchants schema.up_to_book
-running_keyed = (
+running_keyed : (form : Form) → Has (book_schema form).tables (bare at.the_running)
+    × Has (book_schema form).indexes running_key
+unfolding book_schema
+running_keyed form = (
   inr (inr (inr (inr (inr (inr (inr (inl refl))))))),
   inr (inr (inr (inr (inr (inl refl))))),
 )
@@ -228,12 +236,16 @@ module _ (merchant : List ℕ) (day : ℕ) where
       let has = holds.rows in
       let runs = holds.runs in
       let cells = λ (r : Running). tally_row r.tally in
-      let are = shows_one running_row book_schema 12 runs old new has.schema has.running
+      let are = shows_one running_row (book_schema has.schema.0) 12 runs old new has.schema.1
+      has.running
       text.running_text day_row _
-      ask.plain ask.unlisted rows shown query.two_are query.running_query.project of_day day_tested
+      (ask.plain has.schema.0) (ask.unlisted has.schema.0) rows shown query.two_are
+      query.running_query.project of_day day_tested
       cells
-      (λ k x. refl) ask.is
-      (one_passes running_row book_schema old.now.trees (bare at.the_running) running_key
-      (fits_of book_schema old.now.trees has.sound) running_keyed.0
-      running_keyed.1 refl runs has.running query.two_are day_row of_day day_tested one_day) in
+      (λ k x. refl) (ask.is has.schema.0)
+      (one_passes running_row (book_schema has.schema.0) old.now.trees (bare at.the_running)
+      running_key
+      (fits_of (book_schema has.schema.0) old.now.trees has.sound) (running_keyed has.schema.0).0
+      (running_keyed has.schema.0).1 refl runs has.running query.two_are day_row of_day day_tested
+      one_day) in
       tally_shown (find of_day runs) rows (tally_of t merchant day) are (holds.tallied merchant day)

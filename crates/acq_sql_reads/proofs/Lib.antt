@@ -7,6 +7,7 @@ pub mod CountReads
 pub mod RequestRows
 pub mod RequestReads
 pub mod ReconciliationNumbers
+pub mod PostingNumbers
 pub mod ReconciliationReads
 pub mod GreatestReads
 pub mod WalkTextLemmas

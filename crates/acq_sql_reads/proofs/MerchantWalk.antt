@@ -52,18 +52,21 @@ merchants_found : (old : State) (t : Tables) (runs : List Running) → HoldsRows
 merchants_found old t runs has rows shown =
     let ask = asks.merchants_asks in
     let it = query.merchants_query in
-    let all = shows_ordered merchant_row book_schema 1 t.merchants old old has.schema has.merchants
+    let all = shows_ordered merchant_row (book_schema has.schema.0) 1 t.merchants old old
+    has.schema.1 has.merchants
     text.merchants_text
-    [] _ ask.plain ask.unlisted rows shown it.filter it.project (λ x. true)
+    [] _ (ask.plain has.schema.0) (ask.unlisted has.schema.0) rows shown it.filter it.project
+    (λ x. true)
     (λ id x. refl) it.order it.limit out
-    (λ id x. refl) ask.is in
+    (λ id x. refl) (ask.is has.schema.0) in
     let every = filter_all t.merchants in
     all.3
     ∙ ap (map merchant_row) (ordered_is by_name (sorted_total query.merchants_query out)
     (λ a b. is_lt (slice_cmp nat_cmp a.id b.id))
     (λ a b. ap is_lt (names_compare a b)) (λ a b. bytes_eq b.id a.id) tied t.merchants all.0
     (subst (λ l. IsPermutation l all.0) every all.1) all.2
-    (λ a. one_merchant a.id old.now.trees t.merchants (fits_of book_schema old.now.trees has.sound)
+    (λ a. one_merchant a.id has.schema.0 old.now.trees t.merchants
+    (fits_of (book_schema has.schema.0) old.now.trees has.sound)
     has.merchants))
   where
     filter_all : (xs : List Merchant) → filter (λ x. true) xs ≡ xs

@@ -79,11 +79,13 @@ waiting_found old t runs has rows shown =
     let placed = placed_from 1 t.requests in
     let passing = filter (λ (p : Placed). waits p.1) placed in
     let rise = passing_rise waits 1 t.requests in
-    let all = shows_keyed (placed_row request_row) book_schema 6 placed old old has.schema
+    let all = shows_keyed (placed_row request_row) (book_schema has.schema.0) 6 placed old old
+    has.schema.1
     (has.requests ∙ rows_placed request_row 1 t.requests) text.waiting_text
-    [] _ ask.plain ask.unlisted rows shown it.filter it.project (λ (p : Placed). waits p.1) tested
+    [] _ (ask.plain has.schema.0) (ask.unlisted has.schema.0) rows shown it.filter it.project
+    (λ (p : Placed). waits p.1) tested
     it.order it.limit out
-    (λ p. refl) ask.is in
+    (λ p. refl) (ask.is has.schema.0) in
     all.3
     ∙ ap (map (λ (p : Placed). request_row p.1))
     (ordered_is by_rowid (sorted_total query.waiting_query out) precedes compare same tied passing

@@ -1,46 +1,35 @@
 -- What the walk over the postings of a day answers.
-use Rattle.std.proofs.Common.{◌≡◌, ◌&&◌, ◌==◌, ◌≤◌, Bool, true, inl, inr, ℕ, pos, Ordering, Less}
+use Rattle.std.proofs.Common.{◌≡◌, ◌&&◌, ◌==◌, ◌≤◌, Bool, true, false, ℕ, pos, Ordering, Less}
 use Rattle.std.proofs.Common.{Equal, Greater, List}
 use Rattle.std.proofs.Common.{[]}
 use Rattle.std.proofs.Common.{◌∷◌, map, filter, length, refl, sym, ap, ap₂, subst, ◌∙◌}
 use Rattle.std.specs.Str.{bytes_eq}
 use Rattle.std.specs.Ordering.{is_lt, is_eq, nat_cmp, ordering_then}
 use Rattle.std.specs.Cmp.Lexicographic.{slice_cmp}
-use Rattle.std.proofs.lemmas.Bool.{and_parts, and_from}
+use Rattle.std.proofs.lemmas.Bool.{and_from}
 use Rattle.std.proofs.lemmas.Map.Text.{is_eq-slice_cmp}
 use Rattle.sqlite_value.specs.declared.value.Value.TheVariants.{Int, Text}
 use Rattle.sqlite_value.specs.Order.{Row, value_cmp}
-use Rattle.sqlite_value.specs.Keys.{first_key}
 use Rattle.sqlite_value.proofs.OrderLemmas.{then-Equal, value_cmp-Text}
-use Rattle.sqlite_trees.specs.Tree.{Trees}
 use Rattle.sqlite_sql.specs.Query.{Output, output_cmp}
-use Rattle.sqlite_sql.specs.Term.{Term}
-use Rattle.sqlite_schema.specs.declared.schema.Index.{Index}
-use Rattle.sqlite_schema.specs.Rules.{Fits, agree}
-use Rattle.sqlite_catalog.specs.Listing.{automatic}
 use Rattle.sqlite_rules.specs.Lists.{Has}
 use Rattle.sqlite_rules.proofs.ListLemmas.{has_filtered}
 use Rattle.sqlite.specs.State.{State, Shown}
-use Rattle.row_lemmas.specs.Numbered.{rows_of}
-use Rattle.row_lemmas.specs.Queries.{is_param}
 use Rattle.row_lemmas.specs.Values.{number}
 use Rattle.row_lemmas.proofs.ColumnTests.{text_test, number_test, and_true}
-use Rattle.row_lemmas.proofs.CountedRows.{numbered_counted}
-use Rattle.row_lemmas.proofs.ListReads.{shows_ordered, few_pass_key}
+use Rattle.row_lemmas.proofs.ListReads.{shows_ordered}
 use Rattle.row_lemmas.proofs.QueryRows.{picked}
-use Rattle.row_lemmas.proofs.StatementEffects.{bare}
 use Rattle.acq_core.specs.declared.posting.Posting.{Posting}
+use Rattle.acq_core.specs.Pasts.{HasPast}
 use Rattle.acq_core.specs.Tables.{Tables}
 use Rattle.acq_book.specs.Lookups.{is_posting_before, postings_at}
-use Rattle.row_lemmas.proofs.UniqueKeys.{fits_of}
 use Rattle.acq_sql_rows.specs.Schema.{book_schema}
-use Rattle.acq_sql_rows.specs.Schema as schema
 use Rattle.acq_sql_rows.specs.Rows.{posting_row, leg_number}
 use Rattle.acq_sql_rows.specs.Tallies.{Running}
 use Rattle.acq_sql_rows.specs.Relation.{Holds, HoldsRows}
-use Rattle.acq_sql_rows.proofs.SameKeys.{bytes_same, number_same}
-use Rattle.acq_sql_rows.proofs.TableTurns as at
-use Rattle.acq_sql_reads.proofs.KeyReads.{bytes_own, number_own}
+use Rattle.acq_sql_rows.proofs.SameKeys.{bytes_same}
+use Rattle.acq_sql_reads.proofs.KeyReads.{bytes_own}
+use Rattle.acq_sql_reads.proofs.PostingNumbers.{postings_on, one_numbered}
 use Rattle.acq_sql_reads.proofs.RequestRows.{leg_same}
 use Rattle.acq_sql_reads.specs.WalkTexts as text
 use Rattle.acq_sql_reads.specs.WalkQueries as query
@@ -86,15 +75,13 @@ tied a b is =
     ∙ bytes_own b.1.merchant)
     (numbers_tied a.0 b.0 parts.1)
 
--- ---- the key
+-- ---- one at most has a number
 
-abbrev posting_key : Index
-posting_key = automatic at.the_postings 0 (2 ∷ 1 ∷ 3 ∷ []) 9
-
-posting_keyed : Has book_schema.tables (bare at.the_postings) × Has book_schema.indexes posting_key
-unfolding book_schema schema.up_to_reconciliations schema.up_to_postings schema.up_to_requests
-    schema.up_to_ranges schema.up_to_terminals schema.up_to_merchants schema.up_to_book
-posting_keyed = (inr (inr (inr (inr (inr (inl refl))))), inr (inr (inr (inl refl))))
+day_first : (a b c : Bool) → ((a && b) && c) ≡ (b && (a && c))
+day_first true true c = refl
+day_first true false c = refl
+day_first false true c = refl
+day_first false false c = refl
 
 module _ (day : ℕ) where
   abbrev on_day : Numbered → Bool
@@ -111,77 +98,41 @@ module _ (day : ℕ) where
     abbrev is_it : Numbered → Bool
     is_it x = on_day x && same_number a x
 
-    abbrev key_test : List Term
-    key_test = is_param 2 0 ∷ is_param 1 1 ∷ is_param 3 2 ∷ []
+    same_rows : (rows : List Numbered)
+        → filter (λ (row : Numbered). row.0 == a.0) (postings_on a.1.merchant day rows)
+        ≡ filter (same_number a) (filter on_day rows)
+    same_rows rows =
+        filter_both (λ (row : Numbered). bytes_eq row.1.merchant a.1.merchant && (row.1.day == day))
+        (λ (row : Numbered). row.0 == a.0) rows
+        ∙ (λ i. filter (λ (row : Numbered). day_first (bytes_eq row.1.merchant a.1.merchant)
+        (row.1.day == day) (row.0 == a.0) i) rows)
+        ∙ sym (filter_both on_day (same_number a) rows)
 
-    abbrev sought : Row
-    sought = number day ∷ Text a.1.merchant ∷ number a.0 ∷ []
-
-    matched : (k : ℕ) (x : Numbered) →
-        picked key_test sought (Int (pos k) ∷ posting_row x) ≡ is_it x
-    matched k x =
-        rw (
-          number_test x.1.day day,
-          text_test x.1.merchant a.1.merchant,
-          number_test x.0 a.0,
-          and_true,
-        ) refl
-
-    keyed : (i j : ℕ) (x y : Numbered) → is_it x ≡ true → is_it y ≡ true
-        → agree posting_key.order posting_key.columns
-        (Int (pos i) ∷ posting_row x) posting_key.columns
-        (Int (pos j) ∷ posting_row y) ≡ true
-    unfolding first_key
-    keyed i j x y h k =
-        let first = and_parts _ _ h in
-        let first_key = and_parts _ _ first.1 in
-        let second = and_parts _ _ k in
-        let second_key = and_parts _ _ second.1 in
-        rw (
-          number_test x.1.day y.1.day,
-          text_test x.1.merchant y.1.merchant,
-          number_test x.0 y.0,
-          and_true,
-          number_same x.1.day day first.0,
-          number_same y.1.day day second.0,
-          bytes_same x.1.merchant a.1.merchant first_key.0,
-          bytes_same y.1.merchant a.1.merchant second_key.0,
-          number_same x.0 a.0 first_key.1,
-          number_same y.0 a.0 second_key.1,
-          number_own day,
-          number_own a.0,
-          bytes_own a.1.merchant,
-        ) refl
-
-    one_posting : (db : Trees) (xs : List Numbered) → Fits book_schema db →
-        db 8 ≡ rows_of posting_row xs
-        → length (filter (same_number a) (filter on_day xs)) ≤ 1
-    one_posting db xs fits held =
-        let count = numbered_counted posting_row (picked key_test sought) is_it xs matched in
-        subst (λ n. n ≤ 1)
-        (ap (λ l. length (filter (picked key_test sought) l)) held ∙ count
-        ∙ ap length (sym (filter_both on_day (same_number a) xs)))
-        (few_pass_key posting_row book_schema db (bare at.the_postings) posting_key fits
-        posting_keyed.0
-        posting_keyed.1 refl xs held key_test sought is_it matched keyed)
+    -- a merchant's postings of a day are numbered
+    one_posting : (t : Tables) → HasPast t
+        → length (filter (same_number a) (filter on_day t.postings)) ≤ 1
+    one_posting t past =
+        subst (λ l. length l ≤ 1) (same_rows t.postings)
+        (one_numbered t past a.1.merchant day a.0)
 
   postings_found : (old : State) (t : Tables) (runs : List Running) → HoldsRows old.now t runs
-      → (rows : List Row) → Shown text.postings_text day_row old old rows →
+      → HasPast t → (rows : List Row) → Shown text.postings_text day_row old old rows →
       rows ≡ map posting_row (postings_at t day)
-  postings_found old t runs has rows shown =
+  postings_found old t runs has past rows shown =
       let ask = asks.postings_asks in
       let it = query.postings_query in
-      let all = shows_ordered posting_row book_schema 8 t.postings old old has.schema has.postings
-      text.postings_text day_row _ ask.plain ask.unlisted rows shown it.filter it.project on_day
+      let all = shows_ordered posting_row (book_schema has.schema.0) 8 t.postings old old
+      has.schema.1 has.postings
+      text.postings_text day_row _ (ask.plain has.schema.0) (ask.unlisted has.schema.0) rows shown
+      it.filter it.project on_day
       tested it.order
-      it.limit out (λ id x. refl) ask.is in
+      it.limit out (λ id x. refl) (ask.is has.schema.0) in
       all.3
       ∙ ap (map posting_row)
       (ordered_is by_number (sorted_total query.postings_query out) is_posting_before
       (λ a b. ap is_lt (postings_compare a b)) same_number tied (filter on_day t.postings) all.0
       all.1 all.2
-      (λ a. one_posting a old.now.trees t.postings (fits_of book_schema old.now.trees has.sound)
-      has.postings))
+      (λ a. one_posting a t past))
 
   pub postings_among : (t : Tables) (y : Numbered) → Has (postings_at t day) y
       → Has t.postings y
@@ -222,15 +173,15 @@ postings_own : (ys : List Numbered) →
     AreOwn (λ row p. length row ≡ 9 → row ≡ posting_row p) posting_row ys
 postings_own ys y x here read = same_posting x y (sym (read refl))
 
-pub postings_list : (old : State) (t : Tables) (day : ℕ) → Holds old.now t →
-    ShowsList text.postings_text
+pub postings_list : (old : State) (t : Tables) (day : ℕ) → Holds old.now t → HasPast t
+    → ShowsList text.postings_text
     (number day ∷ []) old (λ row p. length row ≡ 9 → row ≡ posting_row p) query.postings_query
     posting_row (postings_at t day)
-postings_list old t day holds =
+postings_list old t day holds past =
     record {
       names = _;
       ask = asks.postings_asks;
       has = holds.rows.schema;
-      found = postings_found day old t holds.runs holds.rows;
+      found = postings_found day old t holds.runs holds.rows past;
       own = postings_own (postings_at t day);
     }

@@ -93,11 +93,13 @@ module _ (prefix : ℕ) where
   nearest_first old new t runs rows has shown =
       let ask = asks.nearest_asks in
       let it = query.nearest_query in
-      let all = shows_keyed range_row book_schema 5 t.ranges old new has.schema has.ranges
+      let all = shows_keyed range_row (book_schema has.schema.0) 5 t.ranges old new has.schema.1
+      has.ranges
       text.nearest_text
-      (number prefix ∷ []) _ ask.plain ask.unlisted rows shown it.filter it.project begins_by
+      (number prefix ∷ []) _ (ask.plain has.schema.0) (ask.unlisted has.schema.0) rows shown
+      it.filter it.project begins_by
       (λ x. rw (at_most_test x.low prefix, and_true) refl) it.order it.limit range_out
-      (λ x. refl) ask.is in
+      (λ x. refl) (ask.is has.schema.0) in
       first_element Nearer (filter begins_by t.ranges) all.0 range_cells rows all.1
       (ascending_weaker _ Nearer (λ x y h. number_at_most y.low x.low
       (ap is_gt (sym (then-Equal (value_cmp (number y.low) (number x.low)))) ∙ h)) all.0 all.2)
@@ -194,12 +196,14 @@ module _ (low high : ℕ) where
   overlapping_found old new t runs rows has shown =
       let ask = asks.overlapping_asks in
       let it = query.overlapping_query in
-      let all = shows_keyed range_row book_schema 5 t.ranges old new has.schema has.ranges
+      let all = shows_keyed range_row (book_schema has.schema.0) 5 t.ranges old new has.schema.1
+      has.ranges
       text.overlapping_text
-      ends_row _ ask.plain ask.unlisted rows shown it.filter it.project overlaps_ends
+      ends_row _ (ask.plain has.schema.0) (ask.unlisted has.schema.0) rows shown it.filter
+      it.project overlaps_ends
       (λ x. rw (at_most_test low x.high, at_most_test x.low high, and_true) refl) it.order it.limit
       range_out
-      (λ x. refl) ask.is in
+      (λ x. refl) (ask.is has.schema.0) in
       least_is t.ranges rows has.rising
       (first_element NotAbove (filter overlaps_ends t.ranges) all.0 range_cells rows all.1
       (ascending_weaker _ NotAbove (λ x y h. number_at_most x.low y.low

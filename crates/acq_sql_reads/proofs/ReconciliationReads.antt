@@ -116,10 +116,12 @@ module _ (m : List ℕ) (day : ℕ) where
       let ask = asks.reconciliation_asks in
       let it = query.reconciliation_query in
       let xs = reconciliations_of m day t.reconciliations in
-      let all = shows_ordered reconciliation_row book_schema 10 t.reconciliations old new has.schema
-      has.reconciliations text.reconciliation_text sought _ ask.plain ask.unlisted rows shown
+      let all = shows_ordered reconciliation_row (book_schema has.schema.0) 10 t.reconciliations old
+      new has.schema.1
+      has.reconciliations text.reconciliation_text sought _ (ask.plain has.schema.0)
+      (ask.unlisted has.schema.0) rows shown
       it.filter it.project
-      of_day tested it.order it.limit out (λ id x. refl) ask.is in
+      of_day tested it.order it.limit out (λ id x. refl) (ask.is has.schema.0) in
       last_shown 1 xs rows (numbered_by_past t past m day)
       (first_element Later xs all.0 balance_cells rows all.1
       (ascending_weaker _ Later (λ x y h. number_at_most y.0 x.0

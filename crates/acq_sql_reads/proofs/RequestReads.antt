@@ -12,23 +12,17 @@ use Rattle.std.proofs.lemmas.Bool.Decides.{nat_tests}
 use Rattle.sqlite_value.specs.declared.keys.Collation.TheVariants.{Binary}
 use Rattle.sqlite_value.specs.declared.value.Value.TheVariants.{Int, Text}
 use Rattle.sqlite_value.specs.Order.{Row}
-use Rattle.sqlite_value.specs.Keys.{first_key}
 use Rattle.sqlite_sql.specs.declared.ops.BinaryOp.TheVariants.{Compare}
 use Rattle.sqlite_sql.specs.declared.ops.CompareOp.TheVariants.{Eq}
 use Rattle.sqlite_sql.specs.Ops.{binary, is_true}
-use Rattle.sqlite_schema.specs.declared.schema.Index.{Index}
-use Rattle.sqlite_schema.specs.Rules.{agree}
-use Rattle.sqlite_catalog.specs.Listing.{automatic}
-use Rattle.sqlite_rules.specs.Lists.{Has}
 use Rattle.sqlite_rules.proofs.ListLemmas.{all_has, has_found}
 use Rattle.sqlite.specs.State.{State, Shown}
 use Rattle.row_lemmas.specs.Values.{number, number_or_null}
-use Rattle.row_lemmas.proofs.UniqueKeys.{fits_of, one_of_few}
+use Rattle.row_lemmas.proofs.UniqueKeys.{one_of_few}
 use Rattle.row_lemmas.proofs.ColumnTests.{text_test, number_test, and_true}
 use Rattle.row_lemmas.proofs.CountedRows.{numbered_counted}
 use Rattle.row_lemmas.proofs.QueryRows.{picked}
-use Rattle.row_lemmas.proofs.ListReads.{one_passes, shows_one}
-use Rattle.row_lemmas.proofs.StatementEffects.{bare}
+use Rattle.row_lemmas.proofs.ListReads.{shows_one}
 use Rattle.acq_message.specs.declared.request_key.RequestKey.{RequestKey}
 use Rattle.acq_message.specs.Numbers.{is_number}
 use Rattle.acq_message.specs.Services.{digits_of, same_service}
@@ -41,18 +35,15 @@ use Rattle.acq_soundness.specs.Keys.{are_distinct}
 use Rattle.acq_soundness.specs.References.{references_in}
 use Rattle.acq_soundness.proofs.BooksAreSound.{books_are_sound}
 use Rattle.acq_sql_rows.specs.Schema.{book_schema}
-use Rattle.acq_sql_rows.specs.Schema as schema
 use Rattle.acq_sql_rows.specs.Rows.{request_row, key_row}
 use Rattle.acq_sql_rows.specs.Queries.{key_is}
 use Rattle.acq_sql_rows.specs.Tallies.{Running}
 use Rattle.acq_sql_rows.specs.Relation.{HoldsRows, AreRecorded}
-use Rattle.acq_sql_rows.proofs.SameKeys.{bytes_same}
-use Rattle.acq_sql_rows.proofs.TableTurns as at
+use Rattle.acq_sql_rows.proofs.DistinctKeys.{few_keyed}
 use Rattle.acq_sql_reads.specs.Recorded.{ShowsRequest}
 use Rattle.acq_sql_reads.specs.Texts as text
 use Rattle.acq_sql_reads.specs.Queries as query
 use Rattle.acq_sql_reads.proofs.TextLemmas as asks
-use Rattle.acq_sql_reads.proofs.KeyReads.{bytes_own}
 use Rattle.acq_sql_reads.proofs.Ordering.{filter_both}
 
 -- what was found of requests whose replies are messages
@@ -67,42 +58,12 @@ shown_request p xs rows whole are = go (find p xs) refl are
 
 -- ---- by key
 
-abbrev request_key : Index
-request_key = automatic at.the_requests 0 (1 ∷ 2 ∷ 3 ∷ 4 ∷ 5 ∷ []) 7
-
-request_keyed : Has book_schema.tables (bare at.the_requests) × Has book_schema.indexes request_key
-unfolding book_schema schema.up_to_reconciliations schema.up_to_postings schema.up_to_requests
-    schema.up_to_ranges schema.up_to_terminals schema.up_to_merchants schema.up_to_book
-request_keyed = (inr (inr (inr (inr (inl refl)))), inr (inr (inl refl)))
-
 all_five : (a b c d e : Bool) → (a && (b && (c && (d && (e && true))))) ≡ (a && b && c && d && e)
 all_five true true true true e = and_true e
 all_five true true true false e = refl
 all_five true true false d e = refl
 all_five true false c d e = refl
 all_five false b c d e = refl
-
--- the five parts of a key are those of another
-record SameParts (a b : RequestKey) : Type 0 where
-  merchant : a.merchant ≡ b.merchant
-  terminal : a.terminal ≡ b.terminal
-  kind : digits_of a.service ≡ digits_of b.service
-  trace : a.trace ≡ b.trace
-  stamp : a.transmission ≡ b.transmission
-
-same_parts : (a b : RequestKey) → same_key a b ≡ true → SameParts a b
-same_parts a b h =
-    let four = and_parts _ (bytes_eq a.transmission b.transmission) h in
-    let three = and_parts _ (bytes_eq a.trace b.trace) four.0 in
-    let two = and_parts _ (same_service a.service b.service) three.0 in
-    let one = and_parts _ (bytes_eq a.terminal b.terminal) two.0 in
-    record {
-      merchant = bytes_same a.merchant b.merchant one.0;
-      terminal = bytes_same a.terminal b.terminal one.1;
-      kind = bytes_same (digits_of a.service) (digits_of b.service) two.1;
-      trace = bytes_same a.trace b.trace three.1;
-      stamp = bytes_same a.transmission b.transmission four.1;
-    }
 
 module _ (key : RequestKey) where
   abbrev has_key : Request → Bool
@@ -121,52 +82,28 @@ module _ (key : RequestKey) where
       (same_service x.key.service key.service) (bytes_eq x.key.trace key.trace)
       (bytes_eq x.key.transmission key.transmission))
 
-  keyed : (a b : ℕ) (x y : Request) → has_key x ≡ true → has_key y ≡ true
-      → agree request_key.order request_key.columns
-      (Int (pos a) ∷ request_row x) request_key.columns
-      (Int (pos b) ∷ request_row y) ≡ true
-  unfolding first_key
-  keyed a b x y h k =
-      let i = same_parts x.key key h in
-      let j = same_parts y.key key k in
-      rw (
-        text_test x.key.merchant y.key.merchant,
-        text_test x.key.terminal y.key.terminal,
-        text_test (digits_of x.key.service) (digits_of y.key.service),
-        text_test x.key.trace y.key.trace,
-        text_test x.key.transmission y.key.transmission,
-        and_true,
-        i.merchant,
-        j.merchant,
-        i.terminal,
-        j.terminal,
-        i.kind,
-        j.kind,
-        i.trace,
-        j.trace,
-        i.stamp,
-        j.stamp,
-        bytes_own key.merchant,
-        bytes_own key.terminal,
-        bytes_own (digits_of key.service),
-        bytes_own key.trace,
-        bytes_own key.transmission,
-      ) refl
+  -- no two requests have one key
+  one_key : (t : Tables) → HasPast t → length (filter has_key t.requests) ≤ 1
+  one_key t (opening, book) =
+      few_keyed key t.requests (books_are_sound opening t book).keys.requests
 
   pub request_found : (old new : State) (t : Tables) (runs : List Running) (rows : List Row) →
-      HoldsRows old.now t runs
+      HoldsRows old.now t runs → HasPast t
       → Shown text.request_text (key_row key) old new rows → ShowsRequest (request_at t key) rows
-  request_found old new t runs rows has shown =
+  request_found old new t runs rows has past shown =
       let ask = asks.request_asks in
+      let counted = ap (λ l. length (filter (picked key_is (key_row key)) l)) has.requests
+      ∙ numbered_counted request_row (picked key_is (key_row key)) has_key t.requests tested in
       shown_request has_key t.requests rows has.recorded
-      (shows_one request_row book_schema 6 t.requests old new has.schema has.requests
+      (shows_one request_row (book_schema has.schema.0) 6 t.requests old new has.schema.1
+      has.requests
       text.request_text (key_row key) _
-      ask.plain ask.unlisted rows shown key_is query.request_query.project has_key tested
+      (ask.plain has.schema.0) (ask.unlisted has.schema.0) rows shown key_is
+      query.request_query.project has_key tested
       request_row (λ k x. refl)
-      ask.is
-      (one_passes request_row book_schema old.now.trees (bare at.the_requests) request_key
-      (fits_of book_schema old.now.trees has.sound) request_keyed.0
-      request_keyed.1 refl t.requests has.requests key_is (key_row key) has_key tested keyed))
+      (ask.is has.schema.0)
+      (one_of_few (picked key_is (key_row key)) (old.now.trees 6)
+      (subst (λ n. n ≤ 1) (sym counted) (one_key t past))))
 
 -- ---- by reference
 
@@ -262,11 +199,13 @@ module _ (merchant : List ℕ) (reference : ℕ) where
       ∙ numbered_counted request_row (picked test sought) is_it t.requests refers in
       let few = subst (λ n. n ≤ 1) (sym counted) (one_reference t past) in
       let found = shown_request is_it t.requests rows has.recorded
-      (shows_one request_row book_schema 6 t.requests old new has.schema has.requests
+      (shows_one request_row (book_schema has.schema.0) 6 t.requests old new has.schema.1
+      has.requests
       text.reference_text sought _
-      ask.plain ask.unlisted rows shown test query.reference_query.project is_it refers request_row
+      (ask.plain has.schema.0) (ask.unlisted has.schema.0) rows shown test
+      query.reference_query.project is_it refers request_row
       (λ k x. refl)
-      ask.is
+      (ask.is has.schema.0)
       (one_of_few (picked test sought) (old.now.trees 6) few)) in
       rw (find_filtered (λ (x : Request). bytes_eq x.key.merchant merchant)
       (λ (x : Request). is_number reference x.reference) t.requests) at found

@@ -7,39 +7,49 @@ use Rattle.sqlite.specs.Listing.{understood, reads_listing}
 use Rattle.sqlite.proofs.Callers.{IsPlain, command_of}
 use Rattle.row_lemmas.specs.Queries.{alone}
 use Rattle.row_lemmas.specs.Selects.{IsSelect}
+use Rattle.acq_sql_rows.specs.declared.form.Form.{Form}
 use Rattle.acq_sql_rows.specs.Schema.{book_schema}
-use Rattle.acq_sql_rows.specs.Schema as schema
 use Rattle.acq_sql_reads.specs.Texts as text
 use Rattle.acq_sql_reads.specs.Queries as query
 
 -- the text is one statement, which reads tables of the book alone, and answers this query
 pub record Asks (text : List ℕ) (query : Query) (names : List (List ℕ)) : Type 0 where
-  pub is : command_of (understood book_schema text) ≡ Select (alone query) names
-  pub plain : IsPlain (understood book_schema text)
-  pub unlisted : reads_listing book_schema text ≡ false
+  pub is : (form : Form)
+      → command_of (understood (book_schema form) text) ≡ Select (alone query) names
+  pub plain : (form : Form) → IsPlain (understood (book_schema form) text)
+  pub unlisted : (form : Form) → reads_listing (book_schema form) text ≡ false
   pub begins : IsSelect text
 
 pub business_asks : Asks text.business_text query.business_query
     (codes "max_a_day" ∷ codes "day" ∷ [])
-unfolding understood everything book_schema schema.up_to_reconciliations schema.up_to_postings
-    schema.up_to_requests schema.up_to_ranges schema.up_to_terminals schema.up_to_merchants
-    schema.up_to_book
-business_asks = record { is = refl; plain = (refl, refl); unlisted = refl; begins = refl }
+unfolding understood everything book_schema
+business_asks = record {
+  is = λ form. refl;
+  plain = λ form. (refl, refl);
+  unlisted = λ form. refl;
+  begins = refl;
+}
 
 pub merchant_asks :
     Asks text.merchant_text query.merchant_query
     (codes "merchant" ∷ codes "currency" ∷ codes "first" ∷ [])
-unfolding understood everything book_schema schema.up_to_reconciliations schema.up_to_postings
-    schema.up_to_requests schema.up_to_ranges schema.up_to_terminals schema.up_to_merchants
-    schema.up_to_book
-merchant_asks = record { is = refl; plain = (refl, refl); unlisted = refl; begins = refl }
+unfolding understood everything book_schema
+merchant_asks = record {
+  is = λ form. refl;
+  plain = λ form. (refl, refl);
+  unlisted = λ form. refl;
+  begins = refl;
+}
 
 pub terminal_asks : Asks text.terminal_text query.terminal_query
     (codes "merchant" ∷ codes "terminal" ∷ [])
-unfolding understood everything book_schema schema.up_to_reconciliations schema.up_to_postings
-    schema.up_to_requests schema.up_to_ranges schema.up_to_terminals schema.up_to_merchants
-    schema.up_to_book
-terminal_asks = record { is = refl; plain = (refl, refl); unlisted = refl; begins = refl }
+unfolding understood everything book_schema
+terminal_asks = record {
+  is = λ form. refl;
+  plain = λ form. (refl, refl);
+  unlisted = λ form. refl;
+  begins = refl;
+}
 
 pub running_asks : Asks text.running_text query.running_query
     (codes "used" ∷ codes "credits" ∷ codes "credit_reversals" ∷ codes "debits"
@@ -47,66 +57,93 @@ pub running_asks : Asks text.running_text query.running_query
     ∷ codes "credit_amount" ∷ codes "credit_reversal_amount" ∷ codes "debit_amount"
     ∷ codes "debit_reversal_amount"
     ∷ [])
-unfolding understood everything book_schema schema.up_to_reconciliations schema.up_to_postings
-    schema.up_to_requests schema.up_to_ranges schema.up_to_terminals schema.up_to_merchants
-    schema.up_to_book
-running_asks = record { is = refl; plain = (refl, refl); unlisted = refl; begins = refl }
+unfolding understood everything book_schema
+running_asks = record {
+  is = λ form. refl;
+  plain = λ form. (refl, refl);
+  unlisted = λ form. refl;
+  begins = refl;
+}
 
 abbrev range_names : List (List ℕ)
 range_names = codes "low" ∷ codes "high" ∷ codes "issuer" ∷ codes "hold_days" ∷ []
 
 pub nearest_asks : Asks text.nearest_text query.nearest_query range_names
-unfolding understood everything book_schema schema.up_to_reconciliations schema.up_to_postings
-    schema.up_to_requests schema.up_to_ranges schema.up_to_terminals schema.up_to_merchants
-    schema.up_to_book
-nearest_asks = record { is = refl; plain = (refl, refl); unlisted = refl; begins = refl }
+unfolding understood everything book_schema
+nearest_asks = record {
+  is = λ form. refl;
+  plain = λ form. (refl, refl);
+  unlisted = λ form. refl;
+  begins = refl;
+}
 
 pub overlapping_asks : Asks text.overlapping_text query.overlapping_query range_names
-unfolding understood everything book_schema schema.up_to_reconciliations schema.up_to_postings
-    schema.up_to_requests schema.up_to_ranges schema.up_to_terminals schema.up_to_merchants
-    schema.up_to_book
-overlapping_asks = record { is = refl; plain = (refl, refl); unlisted = refl; begins = refl }
+unfolding understood everything book_schema
+overlapping_asks = record {
+  is = λ form. refl;
+  plain = λ form. (refl, refl);
+  unlisted = λ form. refl;
+  begins = refl;
+}
 
 pub pending_asks : Asks text.pending_text query.pending_query (codes "count(*)" ∷ [])
-unfolding understood everything book_schema schema.up_to_reconciliations schema.up_to_postings
-    schema.up_to_requests schema.up_to_ranges schema.up_to_terminals schema.up_to_merchants
-    schema.up_to_book
-pending_asks = record { is = refl; plain = (refl, refl); unlisted = refl; begins = refl }
+unfolding understood everything book_schema
+pending_asks = record {
+  is = λ form. refl;
+  plain = λ form. (refl, refl);
+  unlisted = λ form. refl;
+  begins = refl;
+}
 
 pub waiting_count_asks :
     Asks text.waiting_count_text query.waiting_count_query (codes "count(*)" ∷ [])
-unfolding understood everything book_schema schema.up_to_reconciliations schema.up_to_postings
-    schema.up_to_requests schema.up_to_ranges schema.up_to_terminals schema.up_to_merchants
-    schema.up_to_book
-waiting_count_asks = record { is = refl; plain = (refl, refl); unlisted = refl; begins = refl }
+unfolding understood everything book_schema
+waiting_count_asks = record {
+  is = λ form. refl;
+  plain = λ form. (refl, refl);
+  unlisted = λ form. refl;
+  begins = refl;
+}
 
 pub used_on_asks : Asks text.used_on_text query.used_on_query (codes "count(*)" ∷ [])
-unfolding understood everything book_schema schema.up_to_reconciliations schema.up_to_postings
-    schema.up_to_requests schema.up_to_ranges schema.up_to_terminals schema.up_to_merchants
-    schema.up_to_book
-used_on_asks = record { is = refl; plain = (refl, refl); unlisted = refl; begins = refl }
+unfolding understood everything book_schema
+used_on_asks = record {
+  is = λ form. refl;
+  plain = λ form. (refl, refl);
+  unlisted = λ form. refl;
+  begins = refl;
+}
 
 pub terminal_count_asks :
     Asks text.terminal_count_text query.terminal_count_query (codes "count(*)" ∷ [])
-unfolding understood everything book_schema schema.up_to_reconciliations schema.up_to_postings
-    schema.up_to_requests schema.up_to_ranges schema.up_to_terminals schema.up_to_merchants
-    schema.up_to_book
-terminal_count_asks = record { is = refl; plain = (refl, refl); unlisted = refl; begins = refl }
+unfolding understood everything book_schema
+terminal_count_asks = record {
+  is = λ form. refl;
+  plain = λ form. (refl, refl);
+  unlisted = λ form. refl;
+  begins = refl;
+}
 
 pub range_count_asks :
     Asks text.range_count_text query.range_count_query (codes "count(*)" ∷ [])
-unfolding understood everything book_schema schema.up_to_reconciliations schema.up_to_postings
-    schema.up_to_requests schema.up_to_ranges schema.up_to_terminals schema.up_to_merchants
-    schema.up_to_book
-range_count_asks = record { is = refl; plain = (refl, refl); unlisted = refl; begins = refl }
+unfolding understood everything book_schema
+range_count_asks = record {
+  is = λ form. refl;
+  plain = λ form. (refl, refl);
+  unlisted = λ form. refl;
+  begins = refl;
+}
 
 pub reconciliation_asks :
     Asks text.reconciliation_text query.reconciliation_query
     (codes "number" ∷ codes "in_balance" ∷ [])
-unfolding understood everything book_schema schema.up_to_reconciliations schema.up_to_postings
-    schema.up_to_requests schema.up_to_ranges schema.up_to_terminals schema.up_to_merchants
-    schema.up_to_book
-reconciliation_asks = record { is = refl; plain = (refl, refl); unlisted = refl; begins = refl }
+unfolding understood everything book_schema
+reconciliation_asks = record {
+  is = λ form. refl;
+  plain = λ form. (refl, refl);
+  unlisted = λ form. refl;
+  begins = refl;
+}
 
 abbrev request_names : List (List ℕ)
 request_names =
@@ -118,19 +155,28 @@ request_names =
     ∷ codes "reply" ∷ []
 
 pub request_asks : Asks text.request_text query.request_query request_names
-unfolding understood everything book_schema schema.up_to_reconciliations schema.up_to_postings
-    schema.up_to_requests schema.up_to_ranges schema.up_to_terminals schema.up_to_merchants
-    schema.up_to_book
-request_asks = record { is = refl; plain = (refl, refl); unlisted = refl; begins = refl }
+unfolding understood everything book_schema
+request_asks = record {
+  is = λ form. refl;
+  plain = λ form. (refl, refl);
+  unlisted = λ form. refl;
+  begins = refl;
+}
 
 pub reference_asks : Asks text.reference_text query.reference_query request_names
-unfolding understood everything book_schema schema.up_to_reconciliations schema.up_to_postings
-    schema.up_to_requests schema.up_to_ranges schema.up_to_terminals schema.up_to_merchants
-    schema.up_to_book
-reference_asks = record { is = refl; plain = (refl, refl); unlisted = refl; begins = refl }
+unfolding understood everything book_schema
+reference_asks = record {
+  is = λ form. refl;
+  plain = λ form. (refl, refl);
+  unlisted = λ form. refl;
+  begins = refl;
+}
 
 pub greatest_asks : Asks text.greatest_text query.greatest_query (codes "reference" ∷ [])
-unfolding understood everything book_schema schema.up_to_reconciliations schema.up_to_postings
-    schema.up_to_requests schema.up_to_ranges schema.up_to_terminals schema.up_to_merchants
-    schema.up_to_book
-greatest_asks = record { is = refl; plain = (refl, refl); unlisted = refl; begins = refl }
+unfolding understood everything book_schema
+greatest_asks = record {
+  is = λ form. refl;
+  plain = λ form. (refl, refl);
+  unlisted = λ form. refl;
+  begins = refl;
+}

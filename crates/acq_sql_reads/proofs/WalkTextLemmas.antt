@@ -3,7 +3,6 @@ use Rattle.std.proofs.Common.{refl, [], ◌∷◌, codes}
 use Rattle.sqlite_tied.specs.Compute.{everything}
 use Rattle.sqlite.specs.Listing.{understood}
 use Rattle.acq_sql_rows.specs.Schema.{book_schema}
-use Rattle.acq_sql_rows.specs.Schema as schema
 use Rattle.acq_sql_reads.proofs.TextLemmas.{Asks}
 use Rattle.acq_sql_reads.specs.WalkTexts as text
 use Rattle.acq_sql_reads.specs.WalkQueries as query
@@ -12,18 +11,24 @@ pub postings_asks : Asks text.postings_text query.postings_query
     (codes "merchant" ∷ codes "day" ∷ codes "number" ∷ codes "leg" ∷ codes "amount"
     ∷ codes "reference" ∷ codes "card"
     ∷ codes "terminal" ∷ codes "trace" ∷ [])
-unfolding understood everything book_schema schema.up_to_reconciliations schema.up_to_postings
-    schema.up_to_requests schema.up_to_ranges schema.up_to_terminals schema.up_to_merchants
-    schema.up_to_book
-postings_asks = record { is = refl; plain = (refl, refl); unlisted = refl; begins = refl }
+unfolding understood everything book_schema
+postings_asks = record {
+  is = λ form. refl;
+  plain = λ form. (refl, refl);
+  unlisted = λ form. refl;
+  begins = refl;
+}
 
 pub merchants_asks :
     Asks text.merchants_text query.merchants_query
     (codes "merchant" ∷ codes "currency" ∷ codes "first" ∷ [])
-unfolding understood everything book_schema schema.up_to_reconciliations schema.up_to_postings
-    schema.up_to_requests schema.up_to_ranges schema.up_to_terminals schema.up_to_merchants
-    schema.up_to_book
-merchants_asks = record { is = refl; plain = (refl, refl); unlisted = refl; begins = refl }
+unfolding understood everything book_schema
+merchants_asks = record {
+  is = λ form. refl;
+  plain = λ form. (refl, refl);
+  unlisted = λ form. refl;
+  begins = refl;
+}
 
 pub holds_asks : Asks text.holds_text query.holds_query
     (codes "merchant" ∷ codes "terminal" ∷ codes "kind" ∷ codes "trace" ∷ codes "stamp"
@@ -32,10 +37,13 @@ pub holds_asks : Asks text.holds_text query.holds_query
     ∷ codes "amount"
     ∷ codes "leg" ∷ codes "card" ∷ codes "acquirer" ∷ codes "hold_days" ∷ codes "until"
     ∷ codes "reply" ∷ [])
-unfolding understood everything book_schema schema.up_to_reconciliations schema.up_to_postings
-    schema.up_to_requests schema.up_to_ranges schema.up_to_terminals schema.up_to_merchants
-    schema.up_to_book
-holds_asks = record { is = refl; plain = (refl, refl); unlisted = refl; begins = refl }
+unfolding understood everything book_schema
+holds_asks = record {
+  is = λ form. refl;
+  plain = λ form. (refl, refl);
+  unlisted = λ form. refl;
+  begins = refl;
+}
 
 pub waiting_asks : Asks text.waiting_text query.waiting_query
     (codes "merchant" ∷ codes "terminal" ∷ codes "kind" ∷ codes "trace" ∷ codes "stamp"
@@ -44,7 +52,10 @@ pub waiting_asks : Asks text.waiting_text query.waiting_query
     ∷ codes "amount"
     ∷ codes "leg" ∷ codes "card" ∷ codes "acquirer" ∷ codes "hold_days" ∷ codes "until"
     ∷ codes "reply" ∷ [])
-unfolding understood everything book_schema schema.up_to_reconciliations schema.up_to_postings
-    schema.up_to_requests schema.up_to_ranges schema.up_to_terminals schema.up_to_merchants
-    schema.up_to_book
-waiting_asks = record { is = refl; plain = (refl, refl); unlisted = refl; begins = refl }
+unfolding understood everything book_schema
+waiting_asks = record {
+  is = λ form. refl;
+  plain = λ form. (refl, refl);
+  unlisted = λ form. refl;
+  begins = refl;
+}

@@ -10,7 +10,7 @@ use Rattle.sqlite.specs.Listing.{understood}
 use Rattle.sqlite.specs.State.{State, Shown}
 use Rattle.sqlite.proofs.Callers.{EndsIn, command_of, begins_shown}
 use Rattle.acq_book.specs.Visits.{SawAll, SawSome}
-use Rattle.acq_sql_rows.specs.Schema.{book_schema}
+use Rattle.acq_sql_rows.specs.Schema.{IsBookSchema, book_schema}
 use Rattle.acq_sql_reads.proofs.TextLemmas.{Asks}
 use Rattle.acq_sql_reads.specs.Shown.{AreFirst, SawFirst, SawEnough}
 use Rattle.acq_sql_reads.proofs.Showing.{unchanged_itself}
@@ -26,7 +26,7 @@ pub record ShowsList {T : Type 0} (sql : List ℕ) (params : Row) (old : State)
     (shows : Row → T → Type 0) (query : Query) (cells : T → Row) (ys : List T) : Type 0 where
   pub names : List (List ℕ)
   pub ask : Asks sql query names
-  pub has : old.now.schema ≡ book_schema
+  pub has : IsBookSchema old.now.schema
   pub found : (rows : List Row) → Shown sql params old old rows → rows ≡ map cells ys
   pub own : AreOwn shows cells ys
 
@@ -34,7 +34,7 @@ module _ {T : Type 0} {sql : List ℕ} {params : Row} {old : State} {shows : Row
     {query : Query} {cells : T → Row} {ys : List T}
     (list : ShowsList sql params old shows query cells ys) where
   pub is_plain : IsPlain (understood old.now.schema sql)
-  is_plain = subst (λ d. IsPlain (understood d sql)) (sym list.has) list.ask.plain
+  is_plain = subst (λ d. IsPlain (understood d sql)) (sym list.has.1) (list.ask.plain list.has.0)
 
   -- the first rows are those of the list
   pub front : (rows : List Row) → AreFirst sql params old rows →
@@ -43,9 +43,9 @@ module _ {T : Type 0} {sql : List ℕ} {params : Row} {old : State} {shows : Row
   front rows (inr begun) =
       let shown = begins_shown sql params old old rows begun.1 (unchanged_itself old begun.0)
       (λ c db it source.
-      let known : understood book_schema sql ≡ Ok c = ap (λ s. understood s sql) (sym list.has)
-      ∙ it.is in
-      let is = ap command_of (sym known) ∙ list.ask.is in
+      let known : understood (book_schema list.has.0) sql ≡ Ok c =
+      ap (λ s. understood s sql) (sym list.has.1) ∙ it.is in
+      let is = ap command_of (sym known) ∙ list.ask.is list.has.0 in
       subst (λ d. EndsIn d db (timed params c.formats it.now)) (sym is) tt) in
       (shown.0, list.found (rows ++ shown.0) shown.1)
 

@@ -7,7 +7,7 @@ ghost use Rattle.acq_core.specs.Tables.{Tables};
 ghost use Rattle.acq_core.specs.Pasts.{HasPast};
 ghost use Rattle.acq_book.specs.Lookups.{request_at, referred_at};
 ghost use Rattle.acq_sql_rows.specs.Relation.{Holds};
-ghost use Rattle.acq_sql_reads.specs.Looked.{Answers, AnswersWhere, LooksOnly};
+ghost use Rattle.acq_sql_reads.specs.Looked.{AnswersWhere, LooksOnly};
 ghost use Rattle.acq_sql_reads.specs.Recorded.{ShowsRequest};
 ghost use Rattle.acq_sql_reads.specs.Failing.{FailsOnlyExcused};
 
@@ -34,8 +34,8 @@ pub fn request<S: Alter>(
     alloc: Global,
     key: RequestKey,
 ) -> Result<Option<Request>, Error>
-    ensures answers { Answers (state S.Store conn.old) (state S.Store conn.new) result
-        (λ t. request_at t key) }
+    ensures answers { AnswersWhere (state S.Store conn.old) (state S.Store conn.new) result
+        HasPast (λ t. request_at t key) }
     ensures looks { LooksOnly (state S.Store conn.old) (state S.Store conn.new) (is_ok result) }
     ensures fails { FailsOnlyExcused (state S.Store conn.old) (state S.Store conn.new) result }
 {
@@ -49,7 +49,7 @@ pub fn request<S: Alter>(
 /// The request's row, if there is one.
 fn request_rows<S: Alter>(conn: &mut Connection<S>, key: RequestKey) -> Result<Vec<Row>, Error>
     ensures answers { HasCleanDisk (state S.Store conn.new) → (t : Tables)
-        → Holds (state S.Store conn.old).now t → IfOk result
+        → Holds (state S.Store conn.old).now t → HasPast t → IfOk result
         (λ rows. ShowsRequest (request_at t key) rows.items) }
     ensures looks { LooksOnly (state S.Store conn.old) (state S.Store conn.new) (is_ok result) }
     ensures fails { FailsOnlyExcused (state S.Store conn.old) (state S.Store conn.new) result }

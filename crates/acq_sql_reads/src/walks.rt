@@ -41,10 +41,10 @@ pub fn walk_postings<S: Alter, V: Visit<(u64, Posting)>>(
     day: Day,
     visitor: &mut V,
 ) -> Result<(), Error>
-    ensures seen { WalksAll (state S.Store conn.old) (state S.Store conn.new) result
-        V.sees (λ t. postings_at t day) visitor.old visitor.new }
-    ensures begun { WalksSome (state S.Store conn.old) (state S.Store conn.new) result
-        V.sees (λ t. postings_at t day) visitor.old visitor.new }
+    ensures seen { WalksAllWhere (state S.Store conn.old) (state S.Store conn.new) result
+        V.sees HasPast (λ t. postings_at t day) visitor.old visitor.new }
+    ensures begun { WalksSomeWhere (state S.Store conn.old) (state S.Store conn.new) result
+        V.sees HasPast (λ t. postings_at t day) visitor.old visitor.new }
     ensures shown { SawRows V.sees visitor.old visitor.new (is_ok result) }
     ensures looks { LooksOnly (state S.Store conn.old) (state S.Store conn.new) (is_ok result) }
     ensures fails { FailsOnlyExcusedWhere (state S.Store conn.old) (state S.Store conn.new) result

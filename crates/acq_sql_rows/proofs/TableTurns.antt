@@ -14,7 +14,9 @@ use Rattle.row_lemmas.specs.Numbered.{numbered_from, rows_of}
 use Rattle.row_lemmas.specs.Created.{IsBlank}
 use Rattle.row_lemmas.proofs.StatementEffects.{bare}
 use Rattle.acq_core.specs.Tables.{Tables, Opening, new_tables}
-use Rattle.acq_sql_rows.specs.Schema.{book_schema, book_tree, merchants_tree, terminals_tree}
+use Rattle.acq_sql_rows.specs.declared.form.Form.{Form}
+use Rattle.acq_sql_rows.specs.Schema.{book_schema, book_tree, merchants_tree}
+use Rattle.acq_sql_rows.specs.Schema.{terminals_tree}
 use Rattle.acq_sql_rows.specs.Schema.{ranges_tree, requests_tree, postings_tree}
 use Rattle.acq_sql_rows.specs.Schema.{reconciliations_tree, running_tree}
 use Rattle.acq_sql_rows.specs.Schema as schema
@@ -38,64 +40,60 @@ the_terminals = record schema.terminals { tree = terminals_tree }
 abbrev pub the_ranges : Table
 the_ranges = record schema.ranges { tree = ranges_tree }
 
-abbrev pub the_requests : Table
-the_requests = record schema.requests { tree = requests_tree }
+abbrev pub the_requests : Form → Table
+the_requests form = record (schema.requests form) { tree = requests_tree }
 
-abbrev pub the_postings : Table
-the_postings = record schema.postings { tree = postings_tree }
+abbrev pub the_postings : Form → Table
+the_postings form = record (schema.postings form) { tree = postings_tree }
 
-abbrev pub the_reconciliations : Table
-the_reconciliations = record schema.reconciliations { tree = reconciliations_tree }
+abbrev pub the_reconciliations : Form → Table
+the_reconciliations form = record (schema.reconciliations form) { tree = reconciliations_tree }
 
 abbrev pub the_running : Table
 the_running = record schema.running { tree = running_tree }
 
-pub book_placed : slice_get book_schema.tables 0 ≡ Some (bare the_book)
-unfolding book_schema schema.up_to_reconciliations schema.up_to_postings schema.up_to_requests
-    schema.up_to_ranges schema.up_to_terminals schema.up_to_merchants schema.up_to_book
-book_placed = refl
+pub book_placed : (form : Form) → slice_get (book_schema form).tables 0 ≡ Some (bare the_book)
+unfolding book_schema
+book_placed form = refl
 
-pub merchants_placed : slice_get book_schema.tables 1 ≡ Some (bare the_merchants)
-unfolding book_schema schema.up_to_reconciliations schema.up_to_postings schema.up_to_requests
-    schema.up_to_ranges schema.up_to_terminals schema.up_to_merchants schema.up_to_book
-merchants_placed = refl
+pub merchants_placed : (form : Form) → slice_get (book_schema form).tables 1
+    ≡ Some (bare the_merchants)
+unfolding book_schema
+merchants_placed form = refl
 
-pub terminals_placed : slice_get book_schema.tables 2 ≡ Some (bare the_terminals)
-unfolding book_schema schema.up_to_reconciliations schema.up_to_postings schema.up_to_requests
-    schema.up_to_ranges schema.up_to_terminals schema.up_to_merchants schema.up_to_book
-terminals_placed = refl
+pub terminals_placed : (form : Form) → slice_get (book_schema form).tables 2
+    ≡ Some (bare the_terminals)
+unfolding book_schema
+terminals_placed form = refl
 
-pub ranges_placed : slice_get book_schema.tables 3 ≡ Some (bare the_ranges)
-unfolding book_schema schema.up_to_reconciliations schema.up_to_postings schema.up_to_requests
-    schema.up_to_ranges schema.up_to_terminals schema.up_to_merchants schema.up_to_book
-ranges_placed = refl
+pub ranges_placed : (form : Form) → slice_get (book_schema form).tables 3 ≡ Some (bare the_ranges)
+unfolding book_schema
+ranges_placed form = refl
 
-pub requests_placed : slice_get book_schema.tables 4 ≡ Some (bare the_requests)
-unfolding book_schema schema.up_to_reconciliations schema.up_to_postings schema.up_to_requests
-    schema.up_to_ranges schema.up_to_terminals schema.up_to_merchants schema.up_to_book
-requests_placed = refl
+pub requests_placed : (form : Form) → slice_get (book_schema form).tables 4
+    ≡ Some (bare (the_requests form))
+unfolding book_schema
+requests_placed form = refl
 
-pub postings_placed : slice_get book_schema.tables 5 ≡ Some (bare the_postings)
-unfolding book_schema schema.up_to_reconciliations schema.up_to_postings schema.up_to_requests
-    schema.up_to_ranges schema.up_to_terminals schema.up_to_merchants schema.up_to_book
-postings_placed = refl
+pub postings_placed : (form : Form) → slice_get (book_schema form).tables 5
+    ≡ Some (bare (the_postings form))
+unfolding book_schema
+postings_placed form = refl
 
-pub reconciliations_placed : slice_get book_schema.tables 6 ≡ Some (bare the_reconciliations)
-unfolding book_schema schema.up_to_reconciliations schema.up_to_postings schema.up_to_requests
-    schema.up_to_ranges schema.up_to_terminals schema.up_to_merchants schema.up_to_book
-reconciliations_placed = refl
+pub reconciliations_placed : (form : Form) → slice_get (book_schema form).tables 6
+    ≡ Some (bare (the_reconciliations form))
+unfolding book_schema
+reconciliations_placed form = refl
 
-pub running_placed : slice_get book_schema.tables 7 ≡ Some (bare the_running)
-unfolding book_schema schema.up_to_reconciliations schema.up_to_postings schema.up_to_requests
-    schema.up_to_ranges schema.up_to_terminals schema.up_to_merchants schema.up_to_book
-running_placed = refl
+pub running_placed : (form : Form) → slice_get (book_schema form).tables 7 ≡ Some (bare the_running)
+unfolding book_schema
+running_placed form = refl
 
 -- no foreign key acts on any of them
-pub lone : (tree : ℕ) (keys : Keys) (taken news : List Row) →
-    works book_schema keys 0 tree taken news ≡ []
-unfolding book_schema schema.up_to_reconciliations schema.up_to_postings schema.up_to_requests
-    schema.up_to_ranges schema.up_to_terminals schema.up_to_merchants schema.up_to_book
-lone tree keys taken news = refl
+pub lone : (form : Form) (tree : ℕ) (keys : Keys) (taken news : List Row)
+    → works (book_schema form) keys 0 tree taken news ≡ []
+unfolding book_schema
+lone form tree keys taken news = refl
 
 -- ---- a write of one table
 
@@ -129,12 +127,10 @@ Others db next tree =
     (book_tree ∷ merchants_tree ∷ terminals_tree ∷ ranges_tree ∷ requests_tree ∷ postings_tree
     ∷ reconciliations_tree ∷ running_tree ∷ [])
 
-pub others_of : (keys : Keys) (db next : Trees) (edit : Edit) →
-    Applies book_schema keys db edit next
-    → Others db next edit.table.tree
-unfolding book_schema schema.up_to_reconciliations schema.up_to_postings schema.up_to_requests
-    schema.up_to_ranges schema.up_to_terminals schema.up_to_merchants schema.up_to_book
-others_of keys db next edit applied = applied.tables
+pub others_of : (form : Form) (keys : Keys) (db next : Trees) (edit : Edit)
+    → Applies (book_schema form) keys db edit next → Others db next edit.table.tree
+unfolding book_schema
+others_of form keys db next edit applied = applied.tables
 
 -- one tree has these rows, and each other what it had
 abbrev pub turn : ℕ → List Row → ℕ × List Row → ℕ × List Row
@@ -159,14 +155,14 @@ has_rows : (number : ℕ) (ranges : List Row) (db : Database) (t : Tables) (runs
     → HoldsRowsBut number ranges db t runs → HasRows db.trees (rows_at number ranges t runs)
 has_rows number ranges db t runs h = assumption
 
-holds_rows : (number : ℕ) (ranges : List Row) (db : Database) (t : Tables) (runs : List Running)
-    → db.schema ≡ book_schema
+holds_rows : (form : Form) (number : ℕ) (ranges : List Row) (db : Database) (t : Tables)
+    (runs : List Running) → db.schema ≡ book_schema form
     → IsDatabase db → HasRows db.trees (rows_at number ranges t runs)
     → AreRising t.ranges → AreRecorded t.requests → AreApart runs
     → HoldsRowsBut number ranges db t runs
-holds_rows number ranges db t runs schema_is sound has rising recorded apart =
+holds_rows form number ranges db t runs schema_is sound has rising recorded apart =
     record {
-      schema = schema_is;
+      schema = (form, schema_is);
       sound = subst (λ s. IsSound s db.trees) schema_is sound;
       book = has.0;
       merchants = has.1.0;
@@ -182,22 +178,22 @@ holds_rows number ranges db t runs schema_is sound has rising recorded apart =
     }
 
 -- the book's row, and no other
-pub book_begun : (db next : Database) → IsBlank book_schema db → next.schema ≡ book_schema
-    → IsDatabase next → Others db.trees next.trees book_tree → (opening : Opening)
+pub book_begun : (form : Form) (db next : Database) → IsBlank (book_schema form) db
+    → next.schema ≡ book_schema form → IsDatabase next → Others db.trees next.trees book_tree
+    → (opening : Opening)
     → next.trees book_tree ≡ numbered_from 1 (book_row opening.limit opening.first_day ∷ [])
     → HoldsRows next (new_tables opening) []
-unfolding book_schema schema.up_to_reconciliations schema.up_to_postings schema.up_to_requests
-    schema.up_to_ranges schema.up_to_terminals schema.up_to_merchants schema.up_to_book
-book_begun db next none schema_is sound rest opening now =
-    holds_rows version [] next (new_tables opening) [] schema_is sound
+unfolding book_schema
+book_begun form db next none schema_is sound rest opening now =
+    holds_rows form version [] next (new_tables opening) [] schema_is sound
     (others_stay db.trees next.trees book_tree _ now
     (map (λ place. (place.0, [])) (rows_at version [] (new_tables opening) [])) rest none.blank)
     tt tt tt
 
 -- one table has other rows, and these are the tables with them
 pub turned : {earlier later : ℕ} {was ranges : List Row} (db next : Database) (t : Tables)
-    (runs : List Running) → HoldsRowsBut earlier was db t runs
-    → next.schema ≡ book_schema → IsDatabase next
+    (runs : List Running) (has : HoldsRowsBut earlier was db t runs)
+    → next.schema ≡ book_schema has.schema.0 → IsDatabase next
     → (tree : ℕ) (rows : List Row) → Others db.trees next.trees tree → next.trees tree ≡ rows
     → (after : Tables) (now_runs : List Running)
     → map (turn tree rows) (rows_at earlier was t runs) ≡ rows_at later ranges after now_runs
@@ -205,7 +201,7 @@ pub turned : {earlier later : ℕ} {was ranges : List Row} (db next : Database) 
     → HoldsRowsBut later ranges next after now_runs
 turned {earlier} {later} {was} {ranges} db next t runs has schema_is sound tree rows rest now after
     now_runs same =
-    holds_rows later ranges next after now_runs schema_is sound
+    holds_rows has.schema.0 later ranges next after now_runs schema_is sound
     (subst (HasRows next.trees) same
     (others_stay db.trees next.trees tree rows now (rows_at earlier was t runs) rest
     (has_rows earlier was db t runs has)))

@@ -12,22 +12,24 @@ use Rattle.sqlite.specs.Listing.{understood}
 use Rattle.sqlite.proofs.Callers.{IsPlain, command_of}
 use Rattle.row_lemmas.specs.Queries.{alone}
 use Rattle.row_lemmas.proofs.StatementFailures.{tail_of, names_of}
+use Rattle.acq_sql_rows.specs.declared.form.Form.{Form}
+use Rattle.acq_sql_rows.specs.declared.form.Form.TheVariants.{Unique, Plain}
 use Rattle.acq_sql_rows.specs.Schema.{book_schema}
-use Rattle.acq_sql_rows.specs.Schema as schema
 use Rattle.acq_sql_rows.specs.Texts as text
 use Rattle.acq_sql_rows.specs.Queries.{new_row, new_range, set_day_query, drop_range_query}
 use Rattle.acq_sql_rows.specs.Queries.{widen_ranges_query, turn_ranges_query, set_version_query}
 use Rattle.acq_sql_rows.specs.Queries.{answer_query, follow_query, raises}
 
 -- the text is one statement, with this command
-abbrev pub Means : List ℕ → Command → Type 0
-Means text command =
-    (command_of (understood book_schema text) ≡ command) × IsPlain (understood book_schema text)
+abbrev pub Means : Form → List ℕ → Command → Type 0
+Means form text command =
+    (command_of (understood (book_schema form) text) ≡ command)
+    × IsPlain (understood (book_schema form) text)
 
 -- the text is nothing else, and it has no parameter
-pub record IsAlone (text : List ℕ) : Type 0 where
-  pub whole : tail_of (understood book_schema text) ≡ length text
-  pub given : names_of (understood book_schema text) ≡ 0
+pub record IsAlone (form : Form) (text : List ℕ) : Type 0 where
+  pub whole : tail_of (understood (book_schema form) text) ≡ length text
+  pub given : names_of (understood (book_schema form) text) ≡ 0
 
 -- ---- what begins and ends a transaction means the same over any schema
 
@@ -52,110 +54,85 @@ rollback_is schema = record { is = refl; plain = (refl, refl); whole = refl; giv
 
 -- ---- the writes
 
-pub add_book_means : Means text.add_book_text (Insert 0 (Values (new_row 3) 4))
-unfolding understood everything book_schema schema.up_to_reconciliations schema.up_to_postings
-    schema.up_to_requests schema.up_to_ranges schema.up_to_terminals schema.up_to_merchants
-    schema.up_to_book
-add_book_means = (refl, (refl, refl))
+pub add_book_means : (form : Form) → Means form text.add_book_text (Insert 0 (Values (new_row 3) 4))
+unfolding understood everything book_schema
+add_book_means form = (refl, (refl, refl))
 
-pub set_day_means : Means text.set_day_text (Update 0 (alone set_day_query))
-unfolding understood everything book_schema schema.up_to_reconciliations schema.up_to_postings
-    schema.up_to_requests schema.up_to_ranges schema.up_to_terminals schema.up_to_merchants
-    schema.up_to_book
-set_day_means = (refl, (refl, refl))
+pub set_day_means : (form : Form) → Means form text.set_day_text (Update 0 (alone set_day_query))
+unfolding understood everything book_schema
+set_day_means form = (refl, (refl, refl))
 
-pub add_merchant_means : Means text.add_merchant_text (Insert 1 (Values (new_row 3) 4))
-unfolding understood everything book_schema schema.up_to_reconciliations schema.up_to_postings
-    schema.up_to_requests schema.up_to_ranges schema.up_to_terminals schema.up_to_merchants
-    schema.up_to_book
-add_merchant_means = (refl, (refl, refl))
+pub add_merchant_means : (form : Form) → Means form text.add_merchant_text
+    (Insert 1 (Values (new_row 3) 4))
+unfolding understood everything book_schema
+add_merchant_means form = (refl, (refl, refl))
 
-pub add_terminal_means : Means text.add_terminal_text (Insert 2 (Values (new_row 2) 3))
-unfolding understood everything book_schema schema.up_to_reconciliations schema.up_to_postings
-    schema.up_to_requests schema.up_to_ranges schema.up_to_terminals schema.up_to_merchants
-    schema.up_to_book
-add_terminal_means = (refl, (refl, refl))
+pub add_terminal_means : (form : Form) → Means form text.add_terminal_text
+    (Insert 2 (Values (new_row 2) 3))
+unfolding understood everything book_schema
+add_terminal_means form = (refl, (refl, refl))
 
-pub add_range_means : Means text.add_range_text (Insert 3 (Values new_range 5))
-unfolding understood everything book_schema schema.up_to_reconciliations schema.up_to_postings
-    schema.up_to_requests schema.up_to_ranges schema.up_to_terminals schema.up_to_merchants
-    schema.up_to_book
-add_range_means = (refl, (refl, refl))
+pub add_range_means : (form : Form) → Means form text.add_range_text (Insert 3 (Values new_range 5))
+unfolding understood everything book_schema
+add_range_means form = (refl, (refl, refl))
 
-pub drop_range_means : Means text.drop_range_text (Delete 3 (alone drop_range_query))
-unfolding understood everything book_schema schema.up_to_reconciliations schema.up_to_postings
-    schema.up_to_requests schema.up_to_ranges schema.up_to_terminals schema.up_to_merchants
-    schema.up_to_book
-drop_range_means = (refl, (refl, refl))
+pub drop_range_means : (form : Form) → Means form text.drop_range_text
+    (Delete 3 (alone drop_range_query))
+unfolding understood everything book_schema
+drop_range_means form = (refl, (refl, refl))
 
-pub widen_ranges_means : Means text.widen_ranges_text (Update 3 (alone widen_ranges_query))
-unfolding understood everything book_schema schema.up_to_reconciliations schema.up_to_postings
-    schema.up_to_requests schema.up_to_ranges schema.up_to_terminals schema.up_to_merchants
-    schema.up_to_book
-widen_ranges_means = (refl, (refl, refl))
+pub widen_ranges_means : (form : Form) → Means form text.widen_ranges_text
+    (Update 3 (alone widen_ranges_query))
+unfolding understood everything book_schema
+widen_ranges_means form = (refl, (refl, refl))
 
-pub widen_ranges_alone : IsAlone text.widen_ranges_text
-unfolding understood everything book_schema schema.up_to_reconciliations schema.up_to_postings
-    schema.up_to_requests schema.up_to_ranges schema.up_to_terminals schema.up_to_merchants
-    schema.up_to_book
-widen_ranges_alone = record { whole = refl; given = refl }
+pub widen_ranges_alone : (form : Form) → IsAlone form text.widen_ranges_text
+unfolding understood everything book_schema
+widen_ranges_alone form = record { whole = refl; given = refl }
 
-pub turn_ranges_means : Means text.turn_ranges_text (Update 3 (alone turn_ranges_query))
-unfolding understood everything book_schema schema.up_to_reconciliations schema.up_to_postings
-    schema.up_to_requests schema.up_to_ranges schema.up_to_terminals schema.up_to_merchants
-    schema.up_to_book
-turn_ranges_means = (refl, (refl, refl))
+pub turn_ranges_means : (form : Form) → Means form text.turn_ranges_text
+    (Update 3 (alone turn_ranges_query))
+unfolding understood everything book_schema
+turn_ranges_means form = (refl, (refl, refl))
 
-pub turn_ranges_alone : IsAlone text.turn_ranges_text
-unfolding understood everything book_schema schema.up_to_reconciliations schema.up_to_postings
-    schema.up_to_requests schema.up_to_ranges schema.up_to_terminals schema.up_to_merchants
-    schema.up_to_book
-turn_ranges_alone = record { whole = refl; given = refl }
+pub turn_ranges_alone : (form : Form) → IsAlone form text.turn_ranges_text
+unfolding understood everything book_schema
+turn_ranges_alone form = record { whole = refl; given = refl }
 
-pub set_version_means : Means text.set_version_text (Update 0 (alone set_version_query))
-unfolding understood everything book_schema schema.up_to_reconciliations schema.up_to_postings
-    schema.up_to_requests schema.up_to_ranges schema.up_to_terminals schema.up_to_merchants
-    schema.up_to_book
-set_version_means = (refl, (refl, refl))
+pub set_version_means : (form : Form) → Means form text.set_version_text
+    (Update 0 (alone set_version_query))
+unfolding understood everything book_schema
+set_version_means form = (refl, (refl, refl))
 
-pub set_version_alone : IsAlone text.set_version_text
-unfolding understood everything book_schema schema.up_to_reconciliations schema.up_to_postings
-    schema.up_to_requests schema.up_to_ranges schema.up_to_terminals schema.up_to_merchants
-    schema.up_to_book
-set_version_alone = record { whole = refl; given = refl }
+pub set_version_alone : (form : Form) → IsAlone form text.set_version_text
+unfolding understood everything book_schema
+set_version_alone form = record { whole = refl; given = refl }
 
-pub add_request_means : Means text.add_request_text (Insert 4 (Values (new_row 18) 19))
-unfolding understood everything book_schema schema.up_to_reconciliations schema.up_to_postings
-    schema.up_to_requests schema.up_to_ranges schema.up_to_terminals schema.up_to_merchants
-    schema.up_to_book
-add_request_means = (refl, (refl, refl))
+pub add_request_means : (form : Form) → Means form text.add_request_text
+    (Insert 4 (Values (new_row 18) 19))
+unfolding understood everything book_schema
+add_request_means form = (refl, (refl, refl))
 
-pub answer_means : Means text.answer_text (Update 4 (alone answer_query))
-unfolding understood everything book_schema schema.up_to_reconciliations schema.up_to_postings
-    schema.up_to_requests schema.up_to_ranges schema.up_to_terminals schema.up_to_merchants
-    schema.up_to_book
-answer_means = (refl, (refl, refl))
+pub answer_means : (form : Form) → Means form text.answer_text (Update 4 (alone answer_query))
+unfolding understood everything book_schema
+answer_means form = (refl, (refl, refl))
 
-pub follow_means : Means text.follow_text (Update 4 (alone follow_query))
-unfolding understood everything book_schema schema.up_to_reconciliations schema.up_to_postings
-    schema.up_to_requests schema.up_to_ranges schema.up_to_terminals schema.up_to_merchants
-    schema.up_to_book
-follow_means = (refl, (refl, refl))
+pub follow_means : (form : Form) → Means form text.follow_text (Update 4 (alone follow_query))
+unfolding understood everything book_schema
+follow_means form = (refl, (refl, refl))
 
-pub add_posting_means : Means text.add_posting_text (Insert 5 (Values (new_row 9) 10))
-unfolding understood everything book_schema schema.up_to_reconciliations schema.up_to_postings
-    schema.up_to_requests schema.up_to_ranges schema.up_to_terminals schema.up_to_merchants
-    schema.up_to_book
-add_posting_means = (refl, (refl, refl))
+pub add_posting_means : (form : Form) → Means form text.add_posting_text
+    (Insert 5 (Values (new_row 9) 10))
+unfolding understood everything book_schema
+add_posting_means form = (refl, (refl, refl))
 
-pub add_reconciliation_means : Means text.add_reconciliation_text (Insert 6 (Values (new_row 4) 5))
-unfolding understood everything book_schema schema.up_to_reconciliations schema.up_to_postings
-    schema.up_to_requests schema.up_to_ranges schema.up_to_terminals schema.up_to_merchants
-    schema.up_to_book
-add_reconciliation_means = (refl, (refl, refl))
+pub add_reconciliation_means : (form : Form) → Means form text.add_reconciliation_text
+    (Insert 6 (Values (new_row 4) 5))
+unfolding understood everything book_schema
+add_reconciliation_means form = (refl, (refl, refl))
 
-pub raise_means : Means text.raise_text (InsertOr 7 Abort (Values (new_row 11) 12) (raises ∷ []))
-unfolding understood everything book_schema schema.up_to_reconciliations schema.up_to_postings
-    schema.up_to_requests schema.up_to_ranges schema.up_to_terminals schema.up_to_merchants
-    schema.up_to_book
-raise_means = (refl, (refl, refl))
+pub raise_means : (form : Form) → Means form text.raise_text
+    (InsertOr 7 Abort (Values (new_row 11) 12) (raises ∷ []))
+unfolding understood everything book_schema
+raise_means Unique = (refl, (refl, refl))
+raise_means Plain = (refl, (refl, refl))

@@ -10,7 +10,7 @@ use Rattle.sqlite.specs.Effect.{Database}
 use Rattle.row_lemmas.specs.Numbered.{numbered_from, rows_of}
 use Rattle.acq_core.specs.declared.request.Request.{Request}
 use Rattle.acq_core.specs.Tables.{Tables}
-use Rattle.acq_sql_rows.specs.Schema.{book_schema}
+use Rattle.acq_sql_rows.specs.Schema.{IsBookSchema, book_schema}
 use Rattle.acq_sql_rows.specs.Schema.{book_tree, merchants_tree, terminals_tree, ranges_tree}
 use Rattle.acq_sql_rows.specs.Schema.{requests_tree, postings_tree, reconciliations_tree}
 use Rattle.acq_sql_rows.specs.Schema.{running_tree}
@@ -31,9 +31,9 @@ AreRecorded = AllByRecursion (λ row. IsMessage row.reply)
 -- ranges have these rows
 pub record HoldsRowsBut (version : ℕ) (rows : List Row) (db : Database) (t : Tables)
     (runs : List Running) : Type 0 where
-  pub schema : db.schema ≡ book_schema
-  -- the trees list the schema and obey it, so an open finds it, and no key comes twice
-  pub sound : IsSound book_schema db.trees
+  pub schema : IsBookSchema db.schema
+  -- the trees list the schema and obey it, so an open finds it
+  pub sound : IsSound (book_schema schema.0) db.trees
   pub book : db.trees book_tree ≡ numbered_from 1 (book_row_of version t.limit t.day ∷ [])
   pub merchants : db.trees merchants_tree ≡ rows_of merchant_row t.merchants
   pub terminals : db.trees terminals_tree ≡ rows_of terminal_row t.terminals

@@ -5,6 +5,7 @@ use Rattle.sqlite.specs.State.{State, HasCleanDisk}
 use Rattle.sqlite_trees.specs.Tree.{Trees}
 use Rattle.row_lemmas.specs.Excused.{IsExcused}
 use Rattle.acq_core.specs.Tables.{Tables}
+use Rattle.acq_sql_rows.specs.declared.form.Form.{Form}
 use Rattle.acq_sql_rows.specs.Schema.{book_schema}
 use Rattle.acq_sql_rows.specs.Rows.{version}
 use Rattle.acq_sql_rows.specs.Relation.{HoldsOf, Holds}
@@ -22,9 +23,10 @@ pub record IsOpenOver (version : ℕ) (s : State) (t : Tables) : Type 0 where
   pub is_open : IsTrue s.is_open
   pub holds : HoldsOf version s.now t
 
--- what a stop left holds these tables in a book of this version
+-- what a stop left holds these tables in a book of this version, in one of its forms
 abbrev pub HoldsAfterOf : ℕ → Tables → Trees → Type 0
-HoldsAfterOf version t trees = HoldsOf version (record { schema = book_schema; trees = trees }) t
+HoldsAfterOf version t trees =
+    (form : Form) × HoldsOf version (record { schema = book_schema form; trees = trees }) t
 
 -- the same of the version in force
 abbrev pub IsAt : State → Tables → Type 0

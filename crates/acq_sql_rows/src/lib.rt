@@ -7,10 +7,12 @@
 //! that a row is written as.
 #![tactic(auto)]
 
+mod form;
 pub mod tables;
 pub mod texts;
 mod values;
 
+pub use form::Form;
 pub use values::{
     amount_value, bit_value, day_value, first_reference_value, hold_days_value, hold_end_value,
     leg_value, number_value, reference_if, reference_value, short_value, status_value, text_if,

@@ -16,7 +16,8 @@ use Rattle.sqlite.specs.State.{shows_rows}
 use Rattle.sqlite.specs.State as sqlite
 use Rattle.sqlite.proofs.Callers.{runs_as, statement_of, command_of}
 use Rattle.sqlite.proofs.StateLemmas.{survives_weaker}
-use Rattle.acq_sql_rows.specs.Schema.{book_schema}
+use Rattle.acq_sql_rows.specs.declared.form.Form.{Form}
+use Rattle.acq_sql_rows.specs.Schema.{IsBookSchema, book_schema}
 use Rattle.acq_sql_rows.proofs.TextLemmas.{Means}
 use Rattle.acq_sql_writes.specs.Written.{Executes, ExecutesInside, WritesInside, WritesGuarded}
 use Rattle.acq_sql_writes.specs.Written.{CommitsNothing}
@@ -51,12 +52,13 @@ ShowsMade old new =
 
 -- in a transaction over the book's tables a write commits nothing
 writes_inside : (old : State) (sql : List ℕ) (given : Row) (command : Command) → IsWrite command
-    → Means sql command → (db : Trees) → old.now.schema ≡ book_schema → IsTrue old.in_transaction
+    → ((form : Form) → Means form sql command) → (db : Trees) → IsBookSchema old.now.schema
+    → IsTrue old.in_transaction
     → CommitsBy sql given old db → ⊥
 unfolding CommitsBy
 writes_inside old sql given command write means db has inside (c, it, may) =
     let same : c.command ≡ command =
-    ap command_of (sym it.is ∙ ap (λ s. understood s sql) has) ∙ means.0 in
+    ap command_of (sym it.is ∙ ap (λ s. understood s sql) has.1) ∙ (means has.0).0 in
     let its : IsWrite c.command = subst IsWrite (sym same) write in
     elim may [
       | inl (inl commit, is) ↦ subst IsWrite commit its
@@ -72,21 +74,23 @@ module _ (old new : State) (res : Result (Unit {0}) Error) where
   -- where the command ran over the book's tables
   abbrev IsLedBy : Command → Row → (Database → Database → Type 0) → Type 0
   IsLedBy command params Leads =
-      (old.now.schema ≡ book_schema → Ran old new command params) → Leads old.now new.now
+      (IsBookSchema old.now.schema → Ran old new command params) → Leads old.now new.now
 
-  runs : (sql : List ℕ) (params : Row) (command : Command) → Means sql command → (count : ℕ)
-      → sqlite.Executes sql params old new (Ok count) → old.now.schema ≡ book_schema
+  runs : (sql : List ℕ) (params : Row) (command : Command)
+      → ((form : Form) → Means form sql command) → (count : ℕ)
+      → sqlite.Executes sql params old new (Ok count) → IsBookSchema old.now.schema
       → Ran old new command params
   runs sql params command means count h has =
       record {
-        text = statement_of sql (understood book_schema sql);
+        text = statement_of sql (understood (book_schema has.0) sql);
         count = count;
-        ran = runs_as sql params old new book_schema has command means.0 means.1 count h;
+        ran = runs_as sql params old new (book_schema has.0) has.1 command (means has.0).0
+            (means has.0).1 count h;
       }
 
   -- a write leads where its command does
   pub writes : (sql : List ℕ) (params : Row) (Leads : Database → Database → Type 0)
-      (command : Command) → Means sql command → IsWrite command
+      (command : Command) → ((form : Form) → Means form sql command) → IsWrite command
       → (Ran old new command params → ShowsMade old new) → IsLedBy command params Leads
       → MayCommit sql → (HasCleanDisk new → Executes sql params old new res)
       → WritesInside old new res Leads
@@ -106,7 +110,7 @@ module _ (old new : State) (res : Result (Unit {0}) Error) where
       led (Ok done) (count, h) = leads (runs sql params command means count h)
       led (Err e) h = tt
 
-      shown : old.now.schema ≡ book_schema → IsTrue old.in_transaction
+      shown : IsBookSchema old.now.schema → IsTrue old.in_transaction
           → (r : Result (Unit {0}) Error) → Executes sql params old new r
           → OnOk r (Shows old new new.now old.committed true)
       shown has inside (Ok done) (count, h) =
@@ -121,7 +125,7 @@ module _ (old new : State) (res : Result (Unit {0}) Error) where
 
   -- so does one in a transaction that ends where it is dropped
   pub writes_guarded : (sql : List ℕ) (params : Row) (Leads : Database → Database → Type 0)
-      (command : Command) → Means sql command → IsLedBy command params Leads
+      (command : Command) → ((form : Form) → Means form sql command) → IsLedBy command params Leads
       → CommitsNothing old new
       → (HasCleanDisk new → IsTrue old.in_transaction → ExecutesInside sql params old new res)
       → WritesGuarded old new res Leads

@@ -200,8 +200,9 @@ module _ (old new : State) (res : Result (Unit {0}) Error) where
       writes_guarded old new res text.add_book_text (book_row opening.limit opening.first_day)
       (BeginsBook opening)
       (Insert 0 (Values (new_row 3) 4)) text_means.add_book_means
-      (λ ran blank. let w = ran blank.schema_is in
-      list.book_added old.step_limit (mode_of old) old.now new.now w.text w.ran.tally opening blank
+      (λ ran form blank. let w = ran (form, blank.schema_is) in
+      list.book_added form old.step_limit (mode_of old) old.now new.now w.text w.ran.tally opening
+      blank
       w.ran.sound w.ran.changed)
 
   pub widening_inside : CommitsNothing old new → Guarded text.widen_ranges_text []

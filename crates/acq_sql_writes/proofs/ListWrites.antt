@@ -31,10 +31,10 @@ use Rattle.acq_core.specs.declared.remains.Remains.{Remains}
 use Rattle.acq_core.specs.declared.posting.Posting.{Posting}
 use Rattle.acq_core.specs.declared.reconciliation.Reconciliation.{Reconciliation}
 use Rattle.acq_core.specs.Tables.{Tables, Opening, new_tables, answered_row, followed_row}
+use Rattle.acq_sql_rows.specs.declared.form.Form.{Form}
 use Rattle.acq_sql_rows.specs.Schema.{book_schema}
 use Rattle.acq_sql_rows.specs.Schema.{book_tree, merchants_tree, terminals_tree, requests_tree}
 use Rattle.acq_sql_rows.specs.Schema.{postings_tree, reconciliations_tree}
-use Rattle.acq_sql_rows.specs.Schema as schema
 use Rattle.acq_sql_rows.specs.Tallies.{Running}
 use Rattle.acq_sql_rows.specs.Rows.{book_row, merchant_row, terminal_row, key_row, request_row}
 use Rattle.acq_sql_rows.specs.Rows.{version, posting_row}
@@ -97,9 +97,9 @@ pub laid_terminal : (x : Terminal) →
     cast_row at.the_terminals (Null ∷ terminal_row x) ≡ Null ∷ terminal_row x
 laid_terminal x = rw cast_null
 
-pub laid_posting : (p : ℕ × Posting) →
-    cast_row at.the_postings (Null ∷ posting_row p) ≡ Null ∷ posting_row p
-laid_posting p =
+pub laid_posting : (form : Form) (p : ℕ × Posting) →
+    cast_row (at.the_postings form) (Null ∷ posting_row p) ≡ Null ∷ posting_row p
+laid_posting form p =
     rw (
       cast_null,
       cast_int (pos p.1.day),
@@ -109,9 +109,10 @@ laid_posting p =
       cast_int (pos p.1.reference),
     )
 
-pub laid_reconciliation : (r : ℕ × Reconciliation)
-    → cast_row at.the_reconciliations (Null ∷ reconciliation_row r) ≡ Null ∷ reconciliation_row r
-laid_reconciliation r =
+pub laid_reconciliation : (form : Form) (r : ℕ × Reconciliation)
+    → cast_row (at.the_reconciliations form) (Null ∷ reconciliation_row r)
+    ≡ Null ∷ reconciliation_row r
+laid_reconciliation form r =
     rw (
       cast_null,
       cast_int (pos r.1.day),
@@ -119,9 +120,9 @@ laid_reconciliation r =
       cast_int (pos (bit_of r.1.in_balance)),
     )
 
-pub laid_request : (r : Request) →
-    cast_row at.the_requests (Null ∷ request_row r) ≡ Null ∷ request_row r
-laid_request r =
+pub laid_request : (form : Form) (r : Request) →
+    cast_row (at.the_requests form) (Null ∷ request_row r) ≡ Null ∷ request_row r
+laid_request form r =
     rw (
       cast_null,
       cast_int (pos r.day),
@@ -137,9 +138,9 @@ laid_request r =
       cast_number r.hold_end,
     )
 
-pub laid_number : (id : ℕ) (r : Request)
-    → cast_row at.the_requests (Int (pos id) ∷ request_row r) ≡ Int (pos id) ∷ request_row r
-laid_number id r =
+pub laid_number : (form : Form) (id : ℕ) (r : Request)
+    → cast_row (at.the_requests form) (Int (pos id) ∷ request_row r) ≡ Int (pos id) ∷ request_row r
+laid_number form id r =
     rw (
       cast_int (pos id),
       cast_int (pos r.day),
@@ -175,25 +176,26 @@ abbrev pub follow_params : RequestKey → Remains → Row
 follow_params key remains = key_row key ++ remains_row remains
 
 -- INSERT of the book's row
-pub book_added : (limit : Option ℕ) (mode : Mode) (old new : Database) (text : List ℕ)
+pub book_added : (form : Form) (limit : Option ℕ) (mode : Mode) (old new : Database) (text : List ℕ)
     (noted : Noted)
-    (opening : Opening) → IsBlank book_schema old → IsDatabase new
+    (opening : Opening) → IsBlank (book_schema form) old → IsDatabase new
     → Does limit mode (book_row opening.limit opening.first_day) old text None
     (Insert 0 (Values (new_row 3) 4))
     (Ok (noted, new))
     → HoldsRows new (new_tables opening) []
-unfolding book_schema schema.up_to_reconciliations schema.up_to_postings schema.up_to_requests
-    schema.up_to_ranges schema.up_to_terminals schema.up_to_merchants schema.up_to_book
-book_added limit mode old new text noted opening blank sound does =
+unfolding book_schema
+book_added form limit mode old new text noted opening blank sound does =
     let row = book_row opening.limit opening.first_day in
-    let w = inserted book_schema 0 at.the_book at.book_placed
-    (at.lone book_tree) limit mode old new blank.schema_is text
+    let w = inserted (book_schema form) 0 at.the_book (at.book_placed form)
+    (at.lone form book_tree) limit mode old new blank.schema_is text
     row noted (new_row 3) 4 does in
-    let added = numbered_added (λ (o : Opening). book_row o.limit o.first_day) book_schema mode.keys
+    let added = numbered_added (λ (o : Opening). book_row o.limit o.first_day) (book_schema form)
+    mode.keys
     old.trees new.trees
     at.the_book (Null ∷ row) [] opening blank.blank.0
     (laid_new_book opening.limit opening.first_day) w.1 in
-    at.book_begun old new blank w.0 sound (at.others_of mode.keys old.trees new.trees _ w.1) opening
+    at.book_begun form old new blank w.0 sound (at.others_of form mode.keys old.trees new.trees _
+    w.1) opening
     added
 
 module _ (limit : Option ℕ) (mode : Mode) (old new : Database) (text : List ℕ) (noted : Noted)
@@ -206,14 +208,17 @@ module _ (limit : Option ℕ) (mode : Mode) (old new : Database) (text : List �
       (Ok (noted, new))
       → HoldsRows new (with_merchant m t) runs
   merchant_added m does =
-      let w = inserted book_schema 1 at.the_merchants at.merchants_placed
-      (at.lone merchants_tree) limit mode old new has.schema text
+      let w = inserted (book_schema has.schema.0) 1 at.the_merchants
+      (at.merchants_placed has.schema.0)
+      (at.lone has.schema.0 merchants_tree) limit mode old new has.schema.1 text
       (merchant_row m) noted (new_row 3) 4 does in
-      let added = numbered_added merchant_row book_schema mode.keys old.trees new.trees
+      let added = numbered_added merchant_row (book_schema has.schema.0) mode.keys old.trees
+      new.trees
       at.the_merchants
       (Null ∷ merchant_row m) t.merchants m has.merchants (laid_merchant m) w.1 in
       at.turned old new t runs has w.0 sound merchants_tree _
-      (at.others_of mode.keys old.trees new.trees _ w.1) added (with_merchant m t) runs refl
+      (at.others_of has.schema.0 mode.keys old.trees new.trees _ w.1) added (with_merchant m t) runs
+      refl
       has.rising has.recorded has.apart
 
   pub terminal_added : (x : Terminal)
@@ -221,14 +226,17 @@ module _ (limit : Option ℕ) (mode : Mode) (old new : Database) (text : List �
       (Ok (noted, new))
       → HoldsRows new (with_terminal x t) runs
   terminal_added x does =
-      let w = inserted book_schema 2 at.the_terminals at.terminals_placed
-      (at.lone terminals_tree) limit mode old new has.schema text
+      let w = inserted (book_schema has.schema.0) 2 at.the_terminals
+      (at.terminals_placed has.schema.0)
+      (at.lone has.schema.0 terminals_tree) limit mode old new has.schema.1 text
       (terminal_row x) noted (new_row 2) 3 does in
-      let added = numbered_added terminal_row book_schema mode.keys old.trees new.trees
+      let added = numbered_added terminal_row (book_schema has.schema.0) mode.keys old.trees
+      new.trees
       at.the_terminals
       (Null ∷ terminal_row x) t.terminals x has.terminals (laid_terminal x) w.1 in
       at.turned old new t runs has w.0 sound terminals_tree _
-      (at.others_of mode.keys old.trees new.trees _ w.1) added (with_terminal x t) runs refl
+      (at.others_of has.schema.0 mode.keys old.trees new.trees _ w.1) added (with_terminal x t) runs
+      refl
       has.rising has.recorded has.apart
 
   pub request_added : (r : Request) → IsMessage r.reply
@@ -236,14 +244,17 @@ module _ (limit : Option ℕ) (mode : Mode) (old new : Database) (text : List �
       (Ok (noted, new))
       → HoldsRows new (with_request r t) runs
   request_added r whole does =
-      let w = inserted book_schema 4 at.the_requests at.requests_placed
-      (at.lone requests_tree) limit mode old new has.schema text
+      let w = inserted (book_schema has.schema.0) 4 (at.the_requests has.schema.0)
+      (at.requests_placed has.schema.0)
+      (at.lone has.schema.0 requests_tree) limit mode old new has.schema.1 text
       (request_row r) noted (new_row 18) 19 does in
-      let added = numbered_added request_row book_schema mode.keys old.trees new.trees
-      at.the_requests
-      (Null ∷ request_row r) t.requests r has.requests (laid_request r) w.1 in
+      let added = numbered_added request_row (book_schema has.schema.0) mode.keys old.trees
+      new.trees
+      (at.the_requests has.schema.0)
+      (Null ∷ request_row r) t.requests r has.requests (laid_request has.schema.0 r) w.1 in
       at.turned old new t runs has w.0 sound requests_tree _
-      (at.others_of mode.keys old.trees new.trees _ w.1) added (with_request r t) runs refl
+      (at.others_of has.schema.0 mode.keys old.trees new.trees _ w.1) added (with_request r t) runs
+      refl
       has.rising (recorded_more t.requests r has.recorded whole) has.apart
 
   pub posting_added : (n : ℕ) (p : Posting)
@@ -251,14 +262,18 @@ module _ (limit : Option ℕ) (mode : Mode) (old new : Database) (text : List �
       (Ok (noted, new))
       → HoldsRows new (with_posting n p t) runs
   posting_added n p does =
-      let w = inserted book_schema 5 at.the_postings at.postings_placed
-      (at.lone postings_tree) limit mode old new has.schema text
+      let w = inserted (book_schema has.schema.0) 5 (at.the_postings has.schema.0)
+      (at.postings_placed has.schema.0)
+      (at.lone has.schema.0 postings_tree) limit mode old new has.schema.1 text
       (posting_row (n, p)) noted (new_row 9) 10 does in
-      let added = numbered_added posting_row book_schema mode.keys old.trees new.trees
-      at.the_postings
-      (Null ∷ posting_row (n, p)) t.postings (n, p) has.postings (laid_posting (n, p)) w.1 in
+      let added = numbered_added posting_row (book_schema has.schema.0) mode.keys old.trees
+      new.trees
+      (at.the_postings has.schema.0)
+      (Null ∷ posting_row (n, p)) t.postings (n, p) has.postings (laid_posting has.schema.0 (n, p))
+      w.1 in
       at.turned old new t runs has w.0 sound postings_tree _
-      (at.others_of mode.keys old.trees new.trees _ w.1) added (with_posting n p t) runs refl
+      (at.others_of has.schema.0 mode.keys old.trees new.trees _ w.1) added (with_posting n p t)
+      runs refl
       has.rising has.recorded has.apart
 
   pub reconciliation_added : (n : ℕ) (r : Reconciliation)
@@ -266,15 +281,18 @@ module _ (limit : Option ℕ) (mode : Mode) (old new : Database) (text : List �
       (Ok (noted, new))
       → HoldsRows new (with_reconciliation n r t) runs
   reconciliation_added n r does =
-      let w = inserted book_schema 6 at.the_reconciliations at.reconciliations_placed
-      (at.lone reconciliations_tree) limit mode old new
-      has.schema text (reconciliation_row (n, r)) noted (new_row 4) 5 does in
-      let added = numbered_added reconciliation_row book_schema mode.keys old.trees new.trees
-      at.the_reconciliations
+      let w = inserted (book_schema has.schema.0) 6 (at.the_reconciliations has.schema.0)
+      (at.reconciliations_placed has.schema.0)
+      (at.lone has.schema.0 reconciliations_tree) limit mode old new
+      has.schema.1 text (reconciliation_row (n, r)) noted (new_row 4) 5 does in
+      let added = numbered_added reconciliation_row (book_schema has.schema.0) mode.keys old.trees
+      new.trees
+      (at.the_reconciliations has.schema.0)
       (Null ∷ reconciliation_row (n, r)) t.reconciliations (n, r) has.reconciliations
-      (laid_reconciliation (n, r)) w.1 in
+      (laid_reconciliation has.schema.0 (n, r)) w.1 in
       at.turned old new t runs has w.0 sound reconciliations_tree _
-      (at.others_of mode.keys old.trees new.trees _ w.1) added (with_reconciliation n r t) runs refl
+      (at.others_of has.schema.0 mode.keys old.trees new.trees _ w.1) added
+      (with_reconciliation n r t) runs refl
       has.rising has.recorded has.apart
 
   -- ---- UPDATE of the book's row
@@ -285,16 +303,17 @@ module _ (limit : Option ℕ) (mode : Mode) (old new : Database) (text : List �
       → HoldsRows new (on_day day t) runs
   day_set day does =
       let params = number day ∷ [] in
-      let w = updated_by book_schema 0 at.the_book at.book_placed
-      (at.lone book_tree) limit mode old new has.schema text
+      let w = updated_by (book_schema has.schema.0) 0 at.the_book (at.book_placed has.schema.0)
+      (at.lone has.schema.0 book_tree) limit mode old new has.schema.1 text
       params noted set_day_query does in
-      let set = numbered_updated (book_row t.limit) book_schema mode.keys old.trees new.trees
+      let set = numbered_updated (book_row t.limit) (book_schema has.schema.0) mode.keys old.trees
+      new.trees
       at.the_book (t.day ∷ [])
       has.book [] (drop 1 set_day_query.project) params w.1.0 (w.1.1.answer Null)
       (λ d. true) (λ d. day) (λ id d here among. refl)
       (λ id d here among is. laid_book t.limit id day) w.1.2 in
       at.turned old new t runs has w.0 sound book_tree _
-      (at.others_of mode.keys old.trees new.trees _ w.1.2) set (on_day day t) runs refl
+      (at.others_of has.schema.0 mode.keys old.trees new.trees _ w.1.2) set (on_day day t) runs refl
       has.rising has.recorded has.apart
 
   -- ---- UPDATE of the request with a key
@@ -311,17 +330,19 @@ module _ (limit : Option ℕ) (mode : Mode) (old new : Database) (text : List �
         let more = number (status_number status) ∷ number_or_null hold_end ∷ Text (spelling reply)
         ∷ [] in
         let params = key_row key ++ more in
-        let w = updated_by book_schema 4 at.the_requests at.requests_placed
-        (at.lone requests_tree) limit mode old new has.schema text
+        let w = updated_by (book_schema has.schema.0) 4 (at.the_requests has.schema.0)
+        (at.requests_placed has.schema.0)
+        (at.lone has.schema.0 requests_tree) limit mode old new has.schema.1 text
         params noted answer_query does in
         let u = answered_row status reply hold_end in
-        let changed = numbered_updated request_row book_schema mode.keys old.trees new.trees
-        at.the_requests t.requests
+        let changed = numbered_updated request_row (book_schema has.schema.0) mode.keys old.trees
+        new.trees
+        (at.the_requests has.schema.0) t.requests
         has.requests key_is (drop 1 answer_query.project) params w.1.0 (w.1.1.answer Null)
         (λ x. same_key x.key key) u (λ id x here among. key_test key more id x)
-        (λ id x here among is. laid_number id (u x)) w.1.2 in
+        (λ id x here among is. laid_number has.schema.0 id (u x)) w.1.2 in
         at.turned old new t runs has w.0 sound requests_tree _
-        (at.others_of mode.keys old.trees new.trees _ w.1.2) changed
+        (at.others_of has.schema.0 mode.keys old.trees new.trees _ w.1.2) changed
         (with_answer key status reply hold_end t) runs refl has.rising
         (recorded_changed (λ x. same_key x.key key) u (λ row is. whole) t.requests has.recorded)
         has.apart
@@ -333,17 +354,20 @@ module _ (limit : Option ℕ) (mode : Mode) (old new : Database) (text : List �
     request_followed remains does =
         let more = remains_row remains in
         let params = follow_params key remains in
-        let w = updated_by book_schema 4 at.the_requests at.requests_placed
-        (at.lone requests_tree) limit mode old new has.schema text
+        let w = updated_by (book_schema has.schema.0) 4 (at.the_requests has.schema.0)
+        (at.requests_placed has.schema.0)
+        (at.lone has.schema.0 requests_tree) limit mode old new has.schema.1 text
         params noted follow_query does in
         let u = followed_row remains in
-        let changed = numbered_updated request_row book_schema mode.keys old.trees new.trees
-        at.the_requests t.requests
+        let changed = numbered_updated request_row (book_schema has.schema.0) mode.keys old.trees
+        new.trees
+        (at.the_requests has.schema.0) t.requests
         has.requests key_is (drop 1 follow_query.project) params w.1.0 (w.1.1.answer Null)
         (λ x. same_key x.key key) u (λ id x here among. key_test key more id x)
-        (λ id x here among is. laid_number id (u x)) w.1.2 in
+        (λ id x here among is. laid_number has.schema.0 id (u x)) w.1.2 in
         at.turned old new t runs has w.0 sound requests_tree _
-        (at.others_of mode.keys old.trees new.trees _ w.1.2) changed (with_remains key remains t)
+        (at.others_of has.schema.0 mode.keys old.trees new.trees _ w.1.2) changed
+        (with_remains key remains t)
         runs refl has.rising
         (recorded_changed (λ x. same_key x.key key) u (λ row is. is) t.requests has.recorded)
         has.apart

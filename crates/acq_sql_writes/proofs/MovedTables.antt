@@ -11,35 +11,32 @@ use Rattle.row_lemmas.proofs.InsertsSucceed.{IsPlainSchema}
 use Rattle.row_lemmas.proofs.MovesSucceed.{Moved}
 use Rattle.row_lemmas.proofs.ShortRows.{IsNarrow}
 use Rattle.row_lemmas.proofs.StatementEffects.{bare}
+use Rattle.acq_sql_rows.specs.declared.form.Form.{Form}
+use Rattle.acq_sql_rows.specs.declared.form.Form.TheVariants.{Unique, Plain}
 use Rattle.acq_sql_rows.specs.Schema.{book_schema}
-use Rattle.acq_sql_rows.specs.Schema as schema
 use Rattle.acq_sql_rows.proofs.TableTurns as at
 use Rattle.acq_sql_rows.proofs.TableTurns.{Others}
 
-pub book_listed : Has book_schema.tables (bare at.the_book)
-unfolding book_schema schema.up_to_reconciliations schema.up_to_postings schema.up_to_requests
-    schema.up_to_ranges schema.up_to_terminals schema.up_to_merchants schema.up_to_book
-book_listed = inl refl
+pub book_listed : (form : Form) → Has (book_schema form).tables (bare at.the_book)
+unfolding book_schema
+book_listed form = inl refl
 
-pub ranges_listed : Has book_schema.tables (bare at.the_ranges)
-unfolding book_schema schema.up_to_reconciliations schema.up_to_postings schema.up_to_requests
-    schema.up_to_ranges schema.up_to_terminals schema.up_to_merchants schema.up_to_book
-ranges_listed = inr (inr (inr (inl refl)))
+pub ranges_listed : (form : Form) → Has (book_schema form).tables (bare at.the_ranges)
+unfolding book_schema
+ranges_listed form = inr (inr (inr (inl refl)))
 
 -- no table has a foreign key, and each has a tree of its own
-pub plain : IsPlainSchema book_schema
-unfolding book_schema schema.up_to_reconciliations schema.up_to_postings schema.up_to_requests
-    schema.up_to_ranges schema.up_to_terminals schema.up_to_merchants schema.up_to_book
-plain =
+pub plain : (form : Form) → IsPlainSchema (book_schema form)
+unfolding book_schema
+plain form =
     record {
       alone = (refl, (refl, (refl, (refl, (refl, (refl, (refl, (refl, tt))))))));
-      apart = apart_by_test book_schema.tables refl;
+      apart = apart_by_test (book_schema form).tables refl;
     }
 
-pub book_narrow : IsNarrow book_schema (bare at.the_book)
-unfolding book_schema schema.up_to_reconciliations schema.up_to_postings schema.up_to_requests
-    schema.up_to_ranges schema.up_to_terminals schema.up_to_merchants schema.up_to_book
-book_narrow =
+pub book_narrow : (form : Form) → IsNarrow (book_schema form) (bare at.the_book)
+unfolding book_schema
+book_narrow form =
     record {
       reals = refl;
       indexes = (
@@ -60,10 +57,9 @@ book_narrow =
       );
     }
 
-pub ranges_narrow : IsNarrow book_schema (bare at.the_ranges)
-unfolding book_schema schema.up_to_reconciliations schema.up_to_postings schema.up_to_requests
-    schema.up_to_ranges schema.up_to_terminals schema.up_to_merchants schema.up_to_book
-ranges_narrow =
+pub ranges_narrow : (form : Form) → IsNarrow (book_schema form) (bare at.the_ranges)
+unfolding book_schema
+ranges_narrow form =
     record {
       reals = refl;
       indexes = (
@@ -85,20 +81,19 @@ ranges_narrow =
     }
 
 -- no unique index is of these two
-pub book_unguarded :
-    AllByRecursion (λ (i : Index). guards i (bare at.the_book) ≡ false) book_schema.indexes
-unfolding book_schema schema.up_to_reconciliations schema.up_to_postings schema.up_to_requests
-    schema.up_to_ranges schema.up_to_terminals schema.up_to_merchants schema.up_to_book
-book_unguarded = (refl, (refl, (refl, (refl, (refl, (refl, (refl, tt)))))))
+pub book_unguarded : (form : Form) →
+    AllByRecursion (λ (i : Index). guards i (bare at.the_book) ≡ false) (book_schema form).indexes
+unfolding book_schema
+book_unguarded Unique = (refl, (refl, (refl, (refl, (refl, (refl, (refl, tt)))))))
+book_unguarded Plain = (refl, (refl, (refl, (refl, (refl, (refl, (refl, tt)))))))
 
-pub ranges_unguarded :
-    AllByRecursion (λ (i : Index). guards i (bare at.the_ranges) ≡ false) book_schema.indexes
-unfolding book_schema schema.up_to_reconciliations schema.up_to_postings schema.up_to_requests
-    schema.up_to_ranges schema.up_to_terminals schema.up_to_merchants schema.up_to_book
-ranges_unguarded = (refl, (refl, (refl, (refl, (refl, (refl, (refl, tt)))))))
+pub ranges_unguarded : (form : Form) →
+    AllByRecursion (λ (i : Index). guards i (bare at.the_ranges) ≡ false) (book_schema form).indexes
+unfolding book_schema
+ranges_unguarded Unique = (refl, (refl, (refl, (refl, (refl, (refl, (refl, tt)))))))
+ranges_unguarded Plain = (refl, (refl, (refl, (refl, (refl, (refl, (refl, tt)))))))
 
-pub others_moved : (db next : Database) (tree : ℕ) (rows : List Row)
-    → Moved book_schema tree db next rows → Others db.trees next.trees tree
-unfolding book_schema schema.up_to_reconciliations schema.up_to_postings schema.up_to_requests
-    schema.up_to_ranges schema.up_to_terminals schema.up_to_merchants schema.up_to_book
-others_moved db next tree rows moved = moved.others
+pub others_moved : (form : Form) (db next : Database) (tree : ℕ) (rows : List Row)
+    → Moved (book_schema form) tree db next rows → Others db.trees next.trees tree
+unfolding book_schema
+others_moved form db next tree rows moved = moved.others

@@ -35,9 +35,10 @@ use Rattle.row_lemmas.proofs.TableRows.{same_row}
 use Rattle.row_lemmas.proofs.StatementEffects.{bare, upserted, Raises}
 use Rattle.row_lemmas.proofs.RowChanges.{numbered_updated}
 use Rattle.acq_core.specs.Tables.{Tables}
+use Rattle.acq_sql_rows.specs.declared.form.Form.{Form}
+use Rattle.acq_sql_rows.specs.declared.form.Form.TheVariants.{Unique, Plain}
 use Rattle.acq_sql_rows.specs.Schema.{book_schema}
 use Rattle.acq_sql_rows.specs.Schema.{running_tree}
-use Rattle.acq_sql_rows.specs.Schema as schema
 use Rattle.acq_sql_rows.specs.Tallies.{Tally, Running, AreApart, FitsTally, is_for, plus, tally_in}
 use Rattle.acq_sql_rows.specs.Tallies.{or_no_tally, raised}
 use Rattle.acq_sql_rows.specs.Tallies.{raised_at, raised_in}
@@ -87,13 +88,14 @@ or_false true = refl
 or_false false = refl
 
 -- the row that is there has the key of the new one
-pub conflict_test : (new id : ℤ) (r x : Running)
-    → conflicts (Some (1 ∷ 2 ∷ [])) book_schema.indexes (bare at.the_running)
+pub conflict_test : (form : Form) (new id : ℤ) (r x : Running)
+    → conflicts (Some (1 ∷ 2 ∷ [])) (book_schema form).indexes (bare at.the_running)
     (Int new ∷ running_row r) (Int id ∷ running_row x)
     ≡ is_for r.merchant r.day x
-unfolding book_schema schema.up_to_reconciliations schema.up_to_postings schema.up_to_requests
-    schema.up_to_ranges schema.up_to_terminals schema.up_to_merchants schema.up_to_book first_key
-conflict_test new id r x =
+unfolding book_schema first_key
+conflict_test Unique new id r x =
+    rw (text_test x.merchant r.merchant, number_test x.day r.day, and_true, or_false) refl
+conflict_test Plain new id r x =
     rw (text_test x.merchant r.merchant, number_test x.day r.day, and_true, or_false) refl
 
 pub none_find : {X : Type 0} (p : X → Bool) (xs : List X) → ((x : X) → Has xs x → p x ≡ false) →
@@ -108,13 +110,15 @@ module _ (merchant : List ℕ) (day : ℕ) (more : Tally) where
   abbrev pub raise : Running → Running
   raise y = record y { tally = plus y.tally more }
 
-  abbrev hits : ℤ → Row → Bool
-  hits new = conflicts (Some (1 ∷ 2 ∷ [])) book_schema.indexes (bare at.the_running)
+  abbrev hits : Form → ℤ → Row → Bool
+  hits form new =
+      conflicts (Some (1 ∷ 2 ∷ [])) (book_schema form).indexes (bare at.the_running)
       (Int new ∷ running_row it)
 
-  hit_of : (new : ℤ) (id : ℕ) (x : Running) (r : Row) → r ≡ Int (pos id) ∷ running_row x
-      → hits new r ≡ is_for merchant day x
-  hit_of new id x r is = ap (hits new) is ∙ conflict_test new (pos id) it x
+  hit_of : (form : Form) (new : ℤ) (id : ℕ) (x : Running) (r : Row)
+      → r ≡ Int (pos id) ∷ running_row x
+      → hits form new r ≡ is_for merchant day x
+  hit_of form new id x r is = ap (hits form new) is ∙ conflict_test form new (pos id) it x
 
   pub never_two : (x y : Running) → is_for y.merchant y.day x ≡ false → is_for merchant day x ≡ true
       → is_for merchant day y ≡ true → ⊥
@@ -125,21 +129,22 @@ module _ (merchant : List ℕ) (day : ℕ) (more : Tally) where
       true≢false (sym one ∙ sym same ∙ apart)
 
   -- one row has the key at most
-  one_hit : (new : ℤ) (n : ℕ) (xs : List Running) (r s : Row) → AreApart xs →
+  one_hit : (form : Form) (new : ℤ) (n : ℕ) (xs : List Running) (r s : Row) → AreApart xs →
       Has (numbered_from n (map running_row xs)) r
-      → Has (numbered_from n (map running_row xs)) s → hits new r ≡ true → hits new s ≡ true → r ≡ s
-  one_hit new n [] r s apart here there h k = absurd here
-  one_hit new n (x ∷ xs) r s apart (inl is) (inl too) h k = is ∙ sym too
-  one_hit new n (x ∷ xs) r s apart (inl is) (inr later) h k =
+      → Has (numbered_from n (map running_row xs)) s → hits form new r ≡ true
+      → hits form new s ≡ true → r ≡ s
+  one_hit form new n [] r s apart here there h k = absurd here
+  one_hit form new n (x ∷ xs) r s apart (inl is) (inl too) h k = is ∙ sym too
+  one_hit form new n (x ∷ xs) r s apart (inl is) (inr later) h k =
       let y = of_element running_row (suc n) xs s later in
-      absurd (never_two x y.1 (all_has _ xs y.1 apart.0 y.2) (sym (hit_of new n x r is) ∙ h)
-      (sym (hit_of new y.0 y.1 s y.3) ∙ k))
-  one_hit new n (x ∷ xs) r s apart (inr later) (inl is) h k =
+      absurd (never_two x y.1 (all_has _ xs y.1 apart.0 y.2) (sym (hit_of form new n x r is) ∙ h)
+      (sym (hit_of form new y.0 y.1 s y.3) ∙ k))
+  one_hit form new n (x ∷ xs) r s apart (inr later) (inl is) h k =
       let y = of_element running_row (suc n) xs r later in
-      absurd (never_two x y.1 (all_has _ xs y.1 apart.0 y.2) (sym (hit_of new n x s is) ∙ k)
-      (sym (hit_of new y.0 y.1 r y.3) ∙ h))
-  one_hit new n (x ∷ xs) r s apart (inr later) (inr too) h k =
-      one_hit new (suc n) xs r s apart.1 later too h k
+      absurd (never_two x y.1 (all_has _ xs y.1 apart.0 y.2) (sym (hit_of form new n x s is) ∙ k)
+      (sym (hit_of form new y.0 y.1 r y.3) ∙ h))
+  one_hit form new n (x ∷ xs) r s apart (inr later) (inr too) h k =
+      one_hit form new (suc n) xs r s apart.1 later too h k
 
   -- the day of the row that is there has room
   pub fits_there : (runs : List Running) → AreApart runs
@@ -190,7 +195,8 @@ module _ (merchant : List ℕ) (day : ℕ) (more : Tally) where
     in_tree r h = subst (λ l. Has l r) (sym has.running) h
 
     abbrev Meets : List Row → Type 0
-    Meets found = AreConflicts (Some (1 ∷ 2 ∷ [])) book_schema.indexes (bare at.the_running)
+    Meets found =
+        AreConflicts (Some (1 ∷ 2 ∷ [])) (book_schema has.schema.0).indexes (bare at.the_running)
         (old.trees running_tree) row found
 
     absent : Meets [] → find (is_for merchant day) runs ≡ None
@@ -198,11 +204,12 @@ module _ (merchant : List ℕ) (day : ℕ) (more : Tally) where
         elim (cases_Bool (is_for merchant day x)) [
           | inl passes ↦
               let here = has_number running_row 1 runs x h in
-              absurd (none.complete _ (in_tree _ here.1) (hit_of next here.0 x _ refl ∙ passes))
+              absurd (none.complete _ (in_tree _ here.1)
+              (hit_of has.schema.0 next here.0 x _ refl ∙ passes))
           | inr fails ↦ fails
         ])
 
-    appended : Applies book_schema mode.keys old.trees
+    appended : Applies (book_schema has.schema.0) mode.keys old.trees
         (edit_of old.trees (bare at.the_running) [] Given 0 (row ∷ [])) new.trees
         → new.trees running_tree ≡ rows_of running_row (runs ++ it ∷ [])
     appended applied =
@@ -222,8 +229,8 @@ module _ (merchant : List ℕ) (day : ℕ) (more : Tally) where
       p_of : (id : ℕ) (y : Running) → p (Int (pos id) ∷ running_row y) ≡ (id == k)
       p_of id y = rw (number_test id k, and_true) refl
 
-      first_hits : hits next (Int (pos k) ∷ running_row x) ≡ true
-      first_hits = hit_of next k x _ refl ∙ passes
+      first_hits : hits has.schema.0 next (Int (pos k) ∷ running_row x) ≡ true
+      first_hits = hit_of has.schema.0 next k x _ refl ∙ passes
 
       same_test : (id : ℕ) (y : Running) → Has rows (Int (pos id) ∷ running_row y)
           → p (Int (pos id) ∷ running_row y) ≡ is_for merchant day y
@@ -239,22 +246,23 @@ module _ (merchant : List ℕ) (day : ℕ) (more : Tally) where
               let one = same_row rows (Int (pos id) ∷ running_row y) (Int (pos k) ∷ running_row x)
               (numbered_shaped 1 (map running_row runs)).0 h held tied in
               absurd (true≢false
-              (sym first_hits ∙ sym (ap (hits next) one) ∙ hit_of next id y _ refl ∙ d))
+              (sym first_hits ∙ sym (ap (hits has.schema.0 next) one)
+              ∙ hit_of has.schema.0 next id y _ refl ∙ d))
           go false true e d =
-              let one = one_hit next 1 runs (Int (pos id) ∷ running_row y)
+              let one = one_hit has.schema.0 next 1 runs (Int (pos id) ∷ running_row y)
               (Int (pos k) ∷ running_row x) has.apart h held
-              (hit_of next id y _ refl ∙ d) first_hits in
+              (hit_of has.schema.0 next id y _ refl ∙ d) first_hits in
               absurd (true≢false
               (sym (number_itself k) ∙ sym (p_of k x) ∙ sym (ap p one) ∙ p_of id y ∙ e))
 
       changed : (answers : List Row)
-          → Answers (record { schema = book_schema; trees = old.trees })
+          → Answers (record { schema = book_schema has.schema.0; trees = old.trees })
           (alone raise_query) given answers
-          → Applies book_schema mode.keys old.trees
+          → Applies (book_schema has.schema.0) mode.keys old.trees
           (edit_of old.trees (bare at.the_running) (ids_of answers) Given 1 answers) new.trees
           → new.trees running_tree ≡ rows_of running_row (raised_in merchant day more runs)
       changed answers answer applied =
-          numbered_updated running_row book_schema mode.keys old.trees new.trees
+          numbered_updated running_row (book_schema has.schema.0) mode.keys old.trees new.trees
           (bare at.the_running) runs has.running
           raise_query.filter (drop 1 raise_query.project) given answers (answer.answer Null)
           (is_for merchant day) raise
@@ -267,8 +275,9 @@ module _ (merchant : List ℕ) (day : ℕ) (more : Tally) where
 
     abbrev Lands : Row → List Row → Type 0
     Lands r found =
-        Raises book_schema 7 at.the_running at.running_placed (at.lone running_tree) limit mode old
-        new has.schema text
+        Raises (book_schema has.schema.0) 7 at.the_running (at.running_placed has.schema.0)
+        (at.lone has.schema.0 running_tree) limit mode old
+        new has.schema.1 text
         (running_row it) noted (1 ∷ 2 ∷ []) raise_query r new.trees found
 
     pub running_raised :
@@ -276,19 +285,21 @@ module _ (merchant : List ℕ) (day : ℕ) (more : Tally) where
         (InsertOr 7 Abort (Values (new_row 11) 12) (raises ∷ [])) (Ok (noted, new))
         → HoldsRows new t (raised merchant day more runs)
     running_raised does =
-        let w = upserted book_schema 7 at.the_running at.running_placed
-        (at.lone running_tree) limit mode old new has.schema text
+        let w = upserted (book_schema has.schema.0) 7 at.the_running
+        (at.running_placed has.schema.0)
+        (at.lone has.schema.0 running_tree) limit mode old new has.schema.1 text
         (running_row it) noted (1 ∷ 2 ∷ []) raise_query (new_row 11) 12
         (Null ∷ running_row it) refl does in
         let laid : with_rowid Chosen (old.trees running_tree)
         (cast_row (bare at.the_running) (Null ∷ running_row it)) ≡ row =
         ap (with_rowid Chosen (old.trees running_tree)) (laid_running it) in
         let conflict : Row →
-        Type 0 = λ r. AreConflicts (Some (1 ∷ 2 ∷ [])) book_schema.indexes (bare at.the_running)
+        Type 0 = λ r. AreConflicts (Some (1 ∷ 2 ∷ [])) (book_schema has.schema.0).indexes
+        (bare at.the_running)
         (old.trees running_tree) r w.1.0 in
         go w.1.0 (subst conflict laid w.1.1) (subst (λ r. Lands r w.1.0) laid w.1.2) w.0
       where
-        whole : new.schema ≡ book_schema → at.Others old.trees new.trees running_tree
+        whole : new.schema ≡ (book_schema has.schema.0) → at.Others old.trees new.trees running_tree
             → new.trees running_tree ≡ rows_of running_row (raised merchant day more runs)
             → HoldsRows new t (raised merchant day more runs)
         whole schema_is rest all =
@@ -296,24 +307,25 @@ module _ (merchant : List ℕ) (day : ℕ) (more : Tally) where
             t (raised merchant day more runs) refl has.rising has.recorded
             (raised_apart merchant day more runs has.apart)
 
-        go : (found : List Row) → Meets found → Lands row found → new.schema ≡ book_schema
+        go : (found : List Row) → Meets found → Lands row found
+            → new.schema ≡ book_schema has.schema.0
             → HoldsRows new t (raised merchant day more runs)
         go [] none applied schema_is =
-            whole schema_is (at.others_of mode.keys old.trees new.trees _ applied)
+            whole schema_is (at.others_of has.schema.0 mode.keys old.trees new.trees _ applied)
             (appended applied
             ∙ ap (λ o. rows_of running_row (raised_at runs merchant day more o))
             (sym (absent none)))
         go (there ∷ others) conflict (answers, answer, applied) schema_is =
             let s = conflict.sound there (inl refl) in
             let e = of_element running_row 1 runs s.0 (in_rows s.0 s.1) in
-            let passes = sym (hit_of next e.0 e.1 s.0 e.3) ∙ s.2 in
+            let passes = sym (hit_of has.schema.0 next e.0 e.1 s.0 e.3) ∙ s.2 in
             let held = subst (Has rows) e.3 (in_rows s.0 s.1) in
             let id : rowid there ≡ Int (pos e.0) = ap rowid s.3 ∙ ap rowid e.3 in
             let answered =
-            subst (λ v. Answers (record { schema = book_schema; trees = old.trees })
+            subst (λ v. Answers (record { schema = book_schema has.schema.0; trees = old.trees })
             (alone raise_query)
             (running_row it ++ v ∷ shown (bare at.the_running) row) answers) id answer in
-            whole schema_is (at.others_of mode.keys old.trees new.trees _ applied)
+            whole schema_is (at.others_of has.schema.0 mode.keys old.trees new.trees _ applied)
             (changed e.0 e.1 e.2 passes held answers answered applied
             ∙ ap (λ o. rows_of running_row (raised_at runs merchant day more o))
             (sym (found_first merchant day more runs e.1 has.apart e.2 passes)))

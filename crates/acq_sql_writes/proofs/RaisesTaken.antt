@@ -17,6 +17,8 @@ use Rattle.sqlite_rules.specs.Lists.{Has}
 use Rattle.sqlite_rules.specs.InPlace.{KeepsKeys}
 use Rattle.sqlite_rules.specs.Cast.{cast_row}
 use Rattle.sqlite.specs.declared.error.Error.{Error}
+use Rattle.sqlite_catalog.specs.Listing.{automatic}
+use Rattle.sqlite_schema.specs.declared.schema.Index.{Index}
 use Rattle.sqlite.specs.declared.run.Mode.{Mode}
 use Rattle.sqlite.specs.Effect.{Database}
 use Rattle.sqlite.specs.Does.{Does}
@@ -30,8 +32,9 @@ use Rattle.row_lemmas.proofs.UniqueKeys.{fits_of}
 use Rattle.row_lemmas.proofs.Upserts.{IsLone}
 use Rattle.acq_message.specs.Names.{is_merchant}
 use Rattle.acq_core.specs.Tables.{Tables}
+use Rattle.acq_sql_rows.specs.declared.form.Form.{Form}
+use Rattle.acq_sql_rows.specs.declared.form.Form.TheVariants.{Unique, Plain}
 use Rattle.acq_sql_rows.specs.Schema.{book_schema}
-use Rattle.acq_sql_rows.specs.Schema as schema
 use Rattle.acq_sql_rows.specs.Tallies.{Tally, Running, is_for}
 use Rattle.acq_sql_rows.specs.Rows.{running_row}
 use Rattle.acq_sql_rows.specs.Queries.{new_row, raise_query, raises}
@@ -49,55 +52,49 @@ running_few : (r : Running) → length r.merchant ≤ 10 ^ 6 → AreShort (runni
 running_few r few =
     (few, (tt, (tt, (tt, (tt, (tt, (tt, (tt, (tt, (tt, (tt, tt)))))))))))
 
-running_keys : (xs : List Running) (r : Running)
+abbrev running_key : Index
+running_key = automatic at.the_running 0 (1 ∷ 2 ∷ []) 13
+
+running_new : (xs : List Running) (r : Running)
     → ((y : Running) → Has xs y → is_for r.merchant r.day y ≡ false)
-    → AllByRecursion (HasNewKey running_row xs r (bare at.the_running)) book_schema.indexes
-unfolding book_schema schema.up_to_reconciliations schema.up_to_postings schema.up_to_requests
-    schema.up_to_ranges schema.up_to_terminals schema.up_to_merchants schema.up_to_book first_key
-running_keys xs r none = (
-  other,
-  (
-    other,
-    (
-      other,
-      (
-        other,
-        (
-          other,
-          (
-            λ g id y h.
-                rw (text_test y.merchant r.merchant, number_test y.day r.day)
-                (all_two (bytes_eq y.merchant r.merchant) (y.day == r.day) ∙ none y h),
-            (other, tt),
-          ),
-        ),
-      ),
-    ),
-  ),
-)
+    → HasNewKey running_row xs r (bare at.the_running) running_key
+unfolding first_key
+running_new xs r none g id y h =
+    rw (text_test y.merchant r.merchant, number_test y.day r.day)
+    (all_two (bytes_eq y.merchant r.merchant) (y.day == r.day) ∙ none y h)
+
+running_keys : (form : Form) (xs : List Running) (r : Running)
+    → ((y : Running) → Has xs y → is_for r.merchant r.day y ≡ false)
+    → AllByRecursion (HasNewKey running_row xs r (bare at.the_running)) (book_schema form).indexes
+unfolding book_schema
+running_keys Unique xs r none =
+    (other, (other, (other, (other, (other, (running_new xs r none, (other, tt)))))))
+running_keys Plain xs r none =
+    (other, (other, (other, (other, (other, (running_new xs r none, (other, tt)))))))
 
 -- a change that leaves the merchant and the day keeps the unique keys
-keeps_keys : (id : ℕ) (x y : Running) → x.merchant ≡ y.merchant → x.day ≡ y.day
-    → KeepsKeys book_schema (bare at.the_running) (Int (pos id) ∷ running_row x)
+keeps_keys : (form : Form) (id : ℕ) (x y : Running) → x.merchant ≡ y.merchant → x.day ≡ y.day
+    → KeepsKeys (book_schema form) (bare at.the_running) (Int (pos id) ∷ running_row x)
     (Int (pos id) ∷ running_row y)
-unfolding book_schema schema.up_to_reconciliations schema.up_to_postings schema.up_to_requests
-    schema.up_to_ranges schema.up_to_terminals schema.up_to_merchants schema.up_to_book
-keeps_keys id x y merchant day =
+unfolding book_schema
+keeps_keys Unique id x y merchant day =
     record {
       unique = (
         other,
         (
           other,
-          (
-            other,
-            (
-              other,
-              (
-                other,
-                (λ g. (ap Text merchant, (ap number day, tt)), (other, tt)),
-              ),
-            ),
-          ),
+          (other, (other, (other, (λ g. (ap Text merchant, (ap number day, tt)), (other, tt))))),
+        ),
+      );
+      refers = tt;
+    }
+keeps_keys Plain id x y merchant day =
+    record {
+      unique = (
+        other,
+        (
+          other,
+          (other, (other, (other, (λ g. (ap Text merchant, (ap number day, tt)), (other, tt))))),
         ),
       );
       refers = tt;
@@ -118,28 +115,32 @@ module _ (merchant : List ℕ) (day : ℕ) (more : Tally) (mode : Mode) (old : D
   -- the parameters, the rowid of the row that is there, and the row that is not inserted
   abbrev params : ℕ → Row
   params k =
-      given running_row book_schema plain 7 at.the_running at.running_placed rule.running_listed
-      rule.running_narrow mode old has.schema (fits_of book_schema old.trees has.sound) text
+      given running_row (book_schema has.schema.0) (plain has.schema.0) 7 at.the_running
+      (at.running_placed has.schema.0) (rule.running_listed has.schema.0)
+      (rule.running_narrow has.schema.0) mode old has.schema.1
+      (fits_of (book_schema has.schema.0) old.trees has.sound) text
       (running_row row) runs has.running row (1 ∷ 2 ∷ []) raise_query.filter
       (drop 1 raise_query.project) (is_for merchant day) (raise merchant day more) lone (number k)
 
-  typed_raise : (k : ℕ) → accepts_program book_schema [] raise_query (params k) ≡ true
-  unfolding book_schema schema.up_to_reconciliations schema.up_to_postings schema.up_to_requests
-      schema.up_to_ranges schema.up_to_terminals schema.up_to_merchants schema.up_to_book
+  typed_raise : (k : ℕ) → accepts_program (book_schema has.schema.0) [] raise_query (params k)
+      ≡ true
+  unfolding book_schema
   typed_raise k = refl
 
-  good : IsGoodUpsert running_row book_schema plain 7 at.the_running at.running_placed
-      rule.running_listed rule.running_narrow mode old has.schema
-      (fits_of book_schema old.trees has.sound) text (running_row row) runs has.running row
+  good : IsGoodUpsert running_row (book_schema has.schema.0) (plain has.schema.0) 7 at.the_running
+      (at.running_placed has.schema.0)
+      (rule.running_listed has.schema.0) (rule.running_narrow has.schema.0) mode old has.schema.1
+      (fits_of (book_schema has.schema.0) old.trees has.sound) text (running_row row) runs
+      has.running row
       (1 ∷ 2 ∷ []) raise_query.filter (drop 1 raise_query.project) (is_for merchant day)
       (raise merchant day more) lone
   good =
       record {
-        hit = λ id y. conflict_test (pos (1 + length runs)) (pos id) row y;
+        hit = λ id y. conflict_test has.schema.0 (pos (1 + length runs)) (pos id) row y;
         room = takes.room;
         new_laid = laid_at (pos (1 + length runs)) row;
         new_passes = record { typed = refl; present = refl; checked = refl };
-        new_keys = running_keys runs row;
+        new_keys = running_keys has.schema.0 runs row;
         new_short = running_few row (merchant_few merchant named);
         wide = λ y. (omega arith, omega arith);
         typed = typed_raise;
@@ -149,7 +150,7 @@ module _ (merchant : List ℕ) (day : ℕ) (more : Tally) (mode : Mode) (old : D
             (fits_there merchant day more runs has.apart takes.fits y h is))
             ∙ laid_at (pos id) (raise merchant day more y);
         passes = λ id y h is. record { typed = refl; present = refl; checked = refl };
-        keys = λ id y h is. keeps_keys id y (raise merchant day more y) refl refl;
+        keys = λ id y h is. keeps_keys has.schema.0 id y (raise merchant day more y) refl refl;
         short = λ y h is. running_few (raise merchant day more y)
             (subst (λ text. length text ≤ 10 ^ 6)
             (sym (bytes_same y.merchant merchant (and_parts _ _ is).0))
@@ -160,9 +161,11 @@ module _ (merchant : List ℕ) (day : ℕ) (more : Tally) (mode : Mode) (old : D
       → ¬ Does None mode (running_row row) old text None
       (InsertOr 7 Abort (Values (new_row 11) 12) (raises ∷ [])) (Err stop)
   raise_succeeds =
-      list_upsert_succeeds running_row book_schema plain 7 at.the_running at.running_placed
-      rule.running_listed rule.running_narrow mode old has.schema
-      (fits_of book_schema old.trees has.sound) text (running_row row) runs has.running row
+      list_upsert_succeeds running_row (book_schema has.schema.0) (plain has.schema.0) 7
+      at.the_running (at.running_placed has.schema.0)
+      (rule.running_listed has.schema.0) (rule.running_narrow has.schema.0) mode old has.schema.1
+      (fits_of (book_schema has.schema.0) old.trees has.sound) text (running_row row) runs
+      has.running row
       (1 ∷ 2 ∷ []) raise_query.filter (drop 1 raise_query.project) (is_for merchant day)
       (raise merchant day more) lone good (new_row 11) 12 (Null ∷ running_row row) refl refl
       (laid_running row)

@@ -36,6 +36,7 @@ use Rattle.card_no.specs.declared.range.Range.{Range}
 use Rattle.card_no.specs.Prefix.{PrefixProfile, six_digits, eight_digits}
 use Rattle.card_no.specs.Ranges.{is_valid_range_under}
 use Rattle.card_no.specs.Widening.{widened, widened_ranges}
+use Rattle.acq_sql_rows.specs.declared.form.Form.{Form}
 use Rattle.acq_sql_rows.specs.Schema.{book_schema}
 use Rattle.acq_sql_rows.specs.Rows.{range_row, range_rows, turned_row, turned_rows}
 use Rattle.acq_sql_rows.specs.Queries.{widened_columns, turned_columns}
@@ -168,8 +169,8 @@ turned_shaped xs up = (
 
 -- ---- a row of either form keeps the rules
 
-abbrev IsSound : Row → Type 0
-IsSound = IsSoundRow book_schema (bare the_ranges)
+abbrev IsSound : (form : Form) → Row → Type 0
+IsSound form = IsSoundRow (book_schema form) (bare the_ranges)
 
 pub short_range : (r : Range) → length r.issuer ≤ 11 → AreShort (range_row r)
 short_range r few = (tt, (tt, (tt, (omega (arith, few), (tt, tt)))))
@@ -177,25 +178,27 @@ short_range r few = (tt, (tt, (tt, (omega (arith, few), (tt, tt)))))
 short_turned : (r : Range) → length r.issuer ≤ 11 → AreShort (turned_row r)
 short_turned r few = (tt, (tt, (tt, (omega (arith, few), (tt, tt)))))
 
-range_sound : (r : Range) → r.low < 2 ^ 63 → length r.issuer ≤ 11 → IsSound (range_row r)
-range_sound r low few =
+range_sound : (form : Form) (r : Range) → r.low < 2 ^ 63 → length r.issuer ≤ 11
+    → IsSound form (range_row r)
+range_sound form r low few =
     record {
       id = pos r.low;
       at = refl;
       small = small_fits r.low low;
       pass = record { typed = refl; present = refl; checked = refl };
-      sized = not_oversized book_schema (bare the_ranges) (range_row r) ranges_narrow
+      sized = not_oversized (book_schema form) (bare the_ranges) (range_row r) (ranges_narrow form)
           (short_range r few) (omega arith) (omega arith);
     }
 
-turned_sound : (r : Range) → r.low < 2 ^ 63 → length r.issuer ≤ 11 → IsSound (turned_row r)
-turned_sound r low few =
+turned_sound : (form : Form) (r : Range) → r.low < 2 ^ 63 → length r.issuer ≤ 11
+    → IsSound form (turned_row r)
+turned_sound form r low few =
     record {
       id = negsuc r.low;
       at = refl;
       small = negative_fits r.low low;
       pass = record { typed = refl; present = refl; checked = refl };
-      sized = not_oversized book_schema (bare the_ranges) (turned_row r) ranges_narrow
+      sized = not_oversized (book_schema form) (bare the_ranges) (turned_row r) (ranges_narrow form)
           (short_turned r few) (omega arith) (omega arith);
     }
 
@@ -226,19 +229,19 @@ all_turned (x ∷ xs) valid =
     ap₂ (λ r rows. r ∷ rows) (row_turned x (low_of x (narrow_of eight_digits x parts.0)))
     (all_turned xs parts.1)
 
-pub widen_moves : (xs : List Range) → AreRising xs
+pub widen_moves : (form : Form) (xs : List Range) → AreRising xs
     → list_all (is_valid_range_under six_digits) xs ≡ true
-    → IsMove book_schema (bare the_ranges) widened_columns [] (range_rows xs)
+    → IsMove (book_schema form) (bare the_ranges) widened_columns [] (range_rows xs)
     (turned_rows (widened_ranges xs))
-widen_moves xs up valid =
+widen_moves form xs up valid =
     record {
       sound = λ r h.
           let it = map_has range_row xs r h in
           let one = test_has (is_valid_range_under six_digits) xs it.0 valid it.1 in
           let narrow = narrow_of six_digits it.0 one in
           let wide = narrow_of eight_digits (widened it.0) (widened_valid it.0 one) in
-          subst IsSound (sym (ap widen it.2 ∙ row_widened it.0 narrow))
-          (turned_sound (widened it.0) (low_of (widened it.0) wide) narrow.issuer);
+          subst (IsSound form) (sym (ap widen it.2 ∙ row_widened it.0 narrow))
+          (turned_sound form (widened it.0) (low_of (widened it.0) wide) narrow.issuer);
       up = turned_table (widened_ranges xs) (still_rising xs up);
       same =
           subst (λ rows. IsPermutation rows (turned_rows (widened_ranges xs)))
@@ -246,10 +249,10 @@ widen_moves xs up valid =
           (IsPermutation-reverse (map turned_row (widened_ranges xs)));
     }
 
-pub turn_moves : (xs : List Range) → AreRising xs
+pub turn_moves : (form : Form) (xs : List Range) → AreRising xs
     → list_all (is_valid_range_under eight_digits) xs ≡ true
-    → IsMove book_schema (bare the_ranges) turned_columns [] (turned_rows xs) (range_rows xs)
-turn_moves xs up valid =
+    → IsMove (book_schema form) (bare the_ranges) turned_columns [] (turned_rows xs) (range_rows xs)
+turn_moves form xs up valid =
     let rows = map turned_row xs in
     record {
       sound = λ r h.
@@ -257,7 +260,7 @@ turn_moves xs up valid =
           let narrow = narrow_of eight_digits it.0
           (test_has (is_valid_range_under eight_digits) xs it.0 valid it.1) in
           let is : turn r ≡ range_row it.0 = ap turn it.2 ∙ row_turned it.0 (low_of it.0 narrow) in
-          subst IsSound (sym is) (range_sound it.0 (low_of it.0 narrow) narrow.issuer);
+          subst (IsSound form) (sym is) (range_sound form it.0 (low_of it.0 narrow) narrow.issuer);
       up = (ranges_shaped xs up).0;
       same =
           subst (IsPermutation (map turn (reverse rows))) (all_turned xs valid)

@@ -33,6 +33,7 @@ use Rattle.row_lemmas.proofs.RowChanges.{rows_deleted}
 use Rattle.card_no.specs.declared.range.Range.{Range}
 use Rattle.card_no.specs.Ranges.{with_range, has_ends}
 use Rattle.acq_core.specs.Tables.{Tables}
+use Rattle.acq_sql_rows.specs.declared.form.Form.{Form}
 use Rattle.acq_sql_rows.specs.Schema.{book_schema}
 use Rattle.acq_sql_rows.specs.Schema.{ranges_tree}
 use Rattle.acq_sql_rows.specs.Tallies.{Running}
@@ -135,8 +136,8 @@ module _ (limit : Option ℕ) (mode : Mode) (old new : Database) (text : List �
       (Ok (noted, new))
       → HoldsRows new (with_added_range r t) runs
   range_added r does =
-      let w = inserted book_schema 3 at.the_ranges at.ranges_placed
-      (at.lone ranges_tree) limit mode old new has.schema text
+      let w = inserted (book_schema has.schema.0) 3 at.the_ranges (at.ranges_placed has.schema.0)
+      (at.lone has.schema.0 ranges_tree) limit mode old new has.schema.1 text
       (range_params r) noted new_range 5 does in
       let given =
       with_rowid Chosen (old.trees ranges_tree) (cast_row at.the_ranges (range_row r)) in
@@ -153,7 +154,8 @@ module _ (limit : Option ℕ) (mode : Mode) (old new : Database) (text : List �
       ∙ ap (put_row (range_row r)) has.ranges
       ∙ range_put t.ranges r free in
       at.turned old new t runs has w.0 sound ranges_tree _
-      (at.others_of mode.keys old.trees new.trees _ w.1) added (with_added_range r t) runs refl
+      (at.others_of has.schema.0 mode.keys old.trees new.trees _ w.1) added (with_added_range r t)
+      runs refl
       (still_rising t.ranges r has.rising free) has.recorded has.apart
 
   pub range_dropped : (low high : ℕ)
@@ -162,20 +164,21 @@ module _ (limit : Option ℕ) (mode : Mode) (old new : Database) (text : List �
       → HoldsRows new (with_dropped_range low high t) runs
   range_dropped low high does =
       let params = number low ∷ number high ∷ [] in
-      let w = deleted_by book_schema 3 at.the_ranges at.ranges_placed
-      (at.lone ranges_tree) limit mode old new has.schema text
+      let w = deleted_by (book_schema has.schema.0) 3 at.the_ranges (at.ranges_placed has.schema.0)
+      (at.lone has.schema.0 ranges_tree) limit mode old new has.schema.1 text
       params noted drop_range_query does in
       let p = picked ends_are params in
       let shaped = subst (IsShaped shape.Table) (sym has.ranges) (ranges_shaped t.ranges has.rising)
       in
-      let gone = rows_deleted book_schema mode.keys old.trees new.trees
+      let gone = rows_deleted (book_schema has.schema.0) mode.keys old.trees new.trees
       (bare at.the_ranges) shaped ends_are [] params
       w.1.0 (w.1.1.answer Null) w.1.2 in
       let left = gone ∙ ap (filter (λ r. not (p r))) has.ranges
       ∙ filter-map (λ r. not (p r)) range_row t.ranges
       ∙ (λ i. range_rows (filter (λ x. not (ends_test low high x i)) t.ranges)) in
       at.turned old new t runs has w.0 sound ranges_tree _
-      (at.others_of mode.keys old.trees new.trees _ w.1.2) left (with_dropped_range low high t) runs
+      (at.others_of has.schema.0 mode.keys old.trees new.trees _ w.1.2) left
+      (with_dropped_range low high t) runs
       refl
       (ascending-filter (λ (a b : Range). a.low < b.low) (λ x. not (has_ends low high x)) t.ranges
       has.rising) has.recorded has.apart

@@ -32,7 +32,8 @@ use Rattle.acq_core.specs.declared.remains.Remains.{Remains}
 use Rattle.acq_core.specs.declared.posting.Posting.{Posting}
 use Rattle.acq_core.specs.declared.reconciliation.Reconciliation.{Reconciliation}
 use Rattle.acq_core.specs.Tables.{Tables, Opening}
-use Rattle.acq_sql_rows.specs.Schema.{book_schema}
+use Rattle.acq_sql_rows.specs.declared.form.Form.{Form}
+use Rattle.acq_sql_rows.specs.Schema.{IsBookSchema, book_schema}
 use Rattle.acq_sql_rows.specs.Texts as text
 use Rattle.acq_sql_rows.specs.Queries.{widen_ranges_query, turn_ranges_query, set_version_query}
 use Rattle.acq_sql_rows.specs.Queries.{new_row, set_day_query, answer_query, follow_query}
@@ -64,8 +65,9 @@ use Rattle.acq_sql_writes.proofs.Moves.{widening_succeeds, turning_succeeds, set
 use Rattle.acq_sql_writes.proofs.Moves.{day_succeeds}
 
 -- a text with no parameters
-alone_whole : (sql : List ℕ) → IsAlone sql → IsWhole sql 0
-alone_whole sql lone = record { whole = lone.whole; given = lone.given }
+alone_whole : (sql : List ℕ) → ((form : Form) → IsAlone form sql) → (form : Form)
+    → IsWhole form sql 0
+alone_whole sql lone form = record { whole = (lone form).whole; given = (lone form).given }
 
 module _ (old new : State) (res : Result (Unit {0}) Error) where
   -- the statement was executed
@@ -78,17 +80,17 @@ module _ (old new : State) (res : Result (Unit {0}) Error) where
       HasCleanDisk new → IsTrue old.in_transaction → ExecutesInside sql params old new res
 
   -- the command never stops
-  abbrev NeverStops : List ℕ → Row → Command → Type 0
-  NeverStops sql params command =
-      (stop : Option Error)
-      → ¬ Does None (mode_of old) params old.now (statement_of sql (understood book_schema sql))
-      None command (Err stop)
+  abbrev NeverStops : Row → Command → Type 0
+  NeverStops params command =
+      (source : List ℕ) (stop : Option Error)
+      → ¬ Does None (mode_of old) params old.now source None command (Err stop)
 
   -- where the command never stops
   never : (fits : Database → Type 0) (sql : List ℕ) (params : Row) (command : Command)
-      → Means sql command → IsWhole sql (length params) → IsSteady old command
-      → (fits old.now → old.now.schema ≡ book_schema)
-      → (fits old.now → NeverStops sql params command)
+      → ((form : Form) → Means form sql command)
+      → ((form : Form) → IsWhole form sql (length params)) → IsSteady old command
+      → (fits old.now → IsBookSchema old.now.schema)
+      → (fits old.now → NeverStops params command)
       → Executed sql params → IsNeverRefused old new res fits
   never fits sql params command means whole steady schema_is succeeds executed clean inside opened
       free fit =
@@ -98,14 +100,17 @@ module _ (old new : State) (res : Result (Unit {0}) Error) where
           → IfErr r (IsExcused old new)
       go (Ok done) h = tt
       go (Err e) h =
-          excused_alone sql params old new book_schema (schema_is fit) command means.0 means.1
-          (omega (arith, whole.whole)) (sym whole.given) opened steady
-          (λ (stop, does). succeeds fit stop (rw free at does)) e h
+          let is = schema_is fit in
+          excused_alone sql params old new (book_schema is.0) is.1 command (means is.0).0
+          (means is.0).1 (omega (arith, (whole is.0).whole)) (sym (whole is.0).given) opened steady
+          (λ (stop, does). succeeds fit (statement_of sql (understood (book_schema is.0) sql)) stop
+          (rw free at does)) e h
 
   never_guarded : (fits : Database → Type 0) (sql : List ℕ) (params : Row) (command : Command)
-      → Means sql command → IsWhole sql (length params) → IsSteady old command
-      → (fits old.now → old.now.schema ≡ book_schema)
-      → (fits old.now → NeverStops sql params command)
+      → ((form : Form) → Means form sql command)
+      → ((form : Form) → IsWhole form sql (length params)) → IsSteady old command
+      → (fits old.now → IsBookSchema old.now.schema)
+      → (fits old.now → NeverStops params command)
       → Guarded sql params → IsNeverRefused old new res fits
   never_guarded fits sql params command means whole steady schema_is succeeds executed clean inside
       opened free fit =
@@ -115,14 +120,17 @@ module _ (old new : State) (res : Result (Unit {0}) Error) where
           → IfErr r (IsExcused old new)
       go (Ok done) h = tt
       go (Err e) h =
-          inside_excused sql params old new book_schema (schema_is fit) command means.0 means.1
-          (omega (arith, whole.whole)) (sym whole.given) opened steady free (succeeds fit) (Err e) h
+          let is = schema_is fit in
+          inside_excused sql params old new (book_schema is.0) is.1 command (means is.0).0
+          (means is.0).1 (omega (arith, (whole is.0).whole)) (sym (whole is.0).given) opened steady
+          free (succeeds fit (statement_of sql (understood (book_schema is.0) sql))) (Err e) h
 
   -- of the rows of tables
   of_tables : (fits : Tables → Type 0) (sql : List ℕ) (params : Row) (command : Command)
-      → Means sql command → IsWhole sql (length params) → IsSteady old command
+      → ((form : Form) → Means form sql command)
+      → ((form : Form) → IsWhole form sql (length params)) → IsSteady old command
       → ((t : Tables) (runs : List Running) → HoldsRows old.now t runs → fits t
-      → NeverStops sql params command)
+      → NeverStops params command)
       → Executed sql params → IsNeverRefused old new res (HasTables fits)
   of_tables fits sql params command means whole steady succeeds =
       never (HasTables fits) sql params command means whole steady
@@ -134,17 +142,16 @@ module _ (old new : State) (res : Result (Unit {0}) Error) where
   book_excused opening =
       never_guarded IsEmptyBook text.add_book_text (book_row opening.limit opening.first_day)
       (Insert 0 (Values (new_row 3) 4)) text_means.add_book_means ends.add_book_whole
-      (steady_insert old 0 (Values (new_row 3) 4)) (λ empty. empty.rows.schema_is)
-      (book_succeeds (mode_of old) old.now
-      (statement_of text.add_book_text (understood book_schema text.add_book_text)) opening)
+      (steady_insert old 0 (Values (new_row 3) 4)) (λ empty. (empty.form, empty.rows.schema_is))
+      (λ empty source. book_succeeds (mode_of old) old.now source opening empty)
 
   pub day_excused : (day : ℕ) → Executed text.set_day_text (number day ∷ [])
       → IsNeverRefused old new res (HasTables AnyTables)
   day_excused day =
       of_tables AnyTables text.set_day_text (number day ∷ []) (Update 0 (alone set_day_query))
       text_means.set_day_means ends.set_day_whole (steady_update old 0 (alone set_day_query))
-      (λ t runs has any. day_succeeds (mode_of old) old.now
-      (statement_of text.set_day_text (understood book_schema text.set_day_text)) t runs has day)
+      (λ t runs has any source. day_succeeds (mode_of old) old.now
+      source t runs has day)
 
   pub merchant_excused : (m : Merchant) → is_merchant m.id ≡ true → is_currency m.currency ≡ true
       → Executed text.add_merchant_text (merchant_row m)
@@ -153,8 +160,8 @@ module _ (old new : State) (res : Result (Unit {0}) Error) where
       of_tables (TakesMerchant m) text.add_merchant_text (merchant_row m)
       (Insert 1 (Values (new_row 3) 4)) text_means.add_merchant_means ends.add_merchant_whole
       (steady_insert old 1 (Values (new_row 3) 4))
-      (λ t runs has takes. merchant_succeeds (mode_of old) old.now
-      (statement_of text.add_merchant_text (understood book_schema text.add_merchant_text)) t runs
+      (λ t runs has takes source. merchant_succeeds (mode_of old) old.now
+      source t runs
       has m named priced takes.name takes.room)
 
   pub terminal_excused : (x : Terminal) → is_merchant x.merchant ≡ true → is_terminal x.id ≡ true
@@ -164,8 +171,8 @@ module _ (old new : State) (res : Result (Unit {0}) Error) where
       of_tables (TakesTerminal x) text.add_terminal_text (terminal_row x)
       (Insert 2 (Values (new_row 2) 3)) text_means.add_terminal_means ends.add_terminal_whole
       (steady_insert old 2 (Values (new_row 2) 3))
-      (λ t runs has takes. terminal_succeeds (mode_of old) old.now
-      (statement_of text.add_terminal_text (understood book_schema text.add_terminal_text)) t runs
+      (λ t runs has takes source. terminal_succeeds (mode_of old) old.now
+      source t runs
       has x named numbered takes.name takes.room)
 
   pub request_excused : (r : Request) → IsKey r.key → IsMessage r.reply
@@ -175,8 +182,8 @@ module _ (old new : State) (res : Result (Unit {0}) Error) where
       of_tables (TakesRequest r) text.add_request_text (request_row r)
       (Insert 4 (Values (new_row 18) 19)) text_means.add_request_means ends.add_request_whole
       (steady_insert old 4 (Values (new_row 18) 19))
-      (λ t runs has takes. request_succeeds (mode_of old) old.now
-      (statement_of text.add_request_text (understood book_schema text.add_request_text)) t runs
+      (λ t runs has takes source. request_succeeds (mode_of old) old.now
+      source t runs
       has r key whole takes)
 
   pub answer_excused : (key : RequestKey) (status : Status) (reply : IsoMessage)
@@ -187,8 +194,8 @@ module _ (old new : State) (res : Result (Unit {0}) Error) where
       of_tables HasShortRequests text.answer_text (answer_params key status reply hold_end)
       (Update 4 (alone answer_query)) text_means.answer_means ends.answer_whole
       (steady_update old 4 (alone answer_query))
-      (λ t runs has short. answer_succeeds (mode_of old) old.now
-      (statement_of text.answer_text (understood book_schema text.answer_text)) t runs has
+      (λ t runs has short source. answer_succeeds (mode_of old) old.now
+      source t runs has
       key status reply hold_end valid whole short)
 
   pub follow_excused : (key : RequestKey) (remains : Remains) → IsKey key
@@ -198,8 +205,8 @@ module _ (old new : State) (res : Result (Unit {0}) Error) where
       of_tables HasShortRequests text.follow_text (follow_params key remains)
       (Update 4 (alone follow_query)) text_means.follow_means ends.follow_whole
       (steady_update old 4 (alone follow_query))
-      (λ t runs has short. follow_succeeds (mode_of old) old.now
-      (statement_of text.follow_text (understood book_schema text.follow_text)) t runs has
+      (λ t runs has short source. follow_succeeds (mode_of old) old.now
+      source t runs has
       key remains valid short)
 
   pub posting_excused : (n : ℕ) (p : Posting) → is_merchant p.merchant ≡ true
@@ -210,8 +217,8 @@ module _ (old new : State) (res : Result (Unit {0}) Error) where
       of_tables (TakesPosting n p) text.add_posting_text (posting_row (n, p))
       (Insert 5 (Values (new_row 9) 10)) text_means.add_posting_means ends.add_posting_whole
       (steady_insert old 5 (Values (new_row 9) 10))
-      (λ t runs has takes. posting_succeeds (mode_of old) old.now
-      (statement_of text.add_posting_text (understood book_schema text.add_posting_text)) t runs
+      (λ t runs has takes source. posting_succeeds (mode_of old) old.now
+      source t runs
       has n p named numbered traced takes)
 
   pub reconciliation_excused : (n : ℕ) (r : Reconciliation) → is_merchant r.merchant ≡ true
@@ -222,17 +229,16 @@ module _ (old new : State) (res : Result (Unit {0}) Error) where
       (reconciliation_row (n, r)) (Insert 6 (Values (new_row 4) 5))
       text_means.add_reconciliation_means ends.add_reconciliation_whole
       (steady_insert old 6 (Values (new_row 4) 5))
-      (λ t runs has takes. reconciliation_succeeds (mode_of old) old.now
-      (statement_of text.add_reconciliation_text
-      (understood book_schema text.add_reconciliation_text)) t runs has n r named takes)
+      (λ t runs has takes source. reconciliation_succeeds (mode_of old) old.now
+      source t runs has n r named takes)
 
   pub range_excused : (r : Range) → Executed text.add_range_text (range_params r)
       → IsNeverRefused old new res (HasTables (TakesRange r))
   range_excused r =
       of_tables (TakesRange r) text.add_range_text (range_params r) (Insert 3 (Values new_range 5))
       text_means.add_range_means ends.add_range_whole (steady_insert old 3 (Values new_range 5))
-      (λ t runs has takes. range_succeeds (mode_of old) old.now
-      (statement_of text.add_range_text (understood book_schema text.add_range_text)) t runs
+      (λ t runs has takes source. range_succeeds (mode_of old) old.now
+      source t runs
       has r takes)
 
   pub drop_excused : (low high : ℕ)
@@ -242,8 +248,8 @@ module _ (old new : State) (res : Result (Unit {0}) Error) where
       of_tables AnyTables text.drop_range_text (number low ∷ number high ∷ [])
       (Delete 3 (alone drop_range_query)) text_means.drop_range_means ends.drop_range_whole
       (steady_delete old 3 (alone drop_range_query))
-      (λ t runs has any. drop_succeeds (mode_of old) old.now
-      (statement_of text.drop_range_text (understood book_schema text.drop_range_text)) t runs
+      (λ t runs has any source. drop_succeeds (mode_of old) old.now
+      source t runs
       has low high)
 
   pub raise_excused : (merchant : List ℕ) (day : ℕ) (more : Tally) → is_merchant merchant ≡ true
@@ -255,8 +261,8 @@ module _ (old new : State) (res : Result (Unit {0}) Error) where
       (InsertOr 7 Abort (Values (new_row 11) 12) (raises ∷ [])) text_means.raise_means
       ends.raise_whole (steady_upsert old 7 Abort (Values (new_row 11) 12) (raises ∷ []))
       (λ (t, runs, takes, has). has.schema)
-      (λ (t, runs, takes, has). raise_succeeds merchant day more (mode_of old) old.now
-      (statement_of text.raise_text (understood book_schema text.raise_text)) t runs has named
+      (λ (t, runs, takes, has) source. raise_succeeds merchant day more (mode_of old) old.now
+      source t runs has named
       takes)
 
   pub widening_excused : Guarded text.widen_ranges_text []
@@ -268,8 +274,8 @@ module _ (old new : State) (res : Result (Unit {0}) Error) where
       (alone_whole text.widen_ranges_text text_means.widen_ranges_alone)
       (steady_update old 3 (alone widen_ranges_query))
       (λ (number, t, runs, six, has). has.schema)
-      (λ (number, t, runs, six, has). widening_succeeds (mode_of old) old.now
-      (statement_of text.widen_ranges_text (understood book_schema text.widen_ranges_text)) number t
+      (λ (number, t, runs, six, has) source. widening_succeeds (mode_of old) old.now
+      source number t
       runs six has)
 
   pub turning_excused : Guarded text.turn_ranges_text []
@@ -280,8 +286,8 @@ module _ (old new : State) (res : Result (Unit {0}) Error) where
       text_means.turn_ranges_means (alone_whole text.turn_ranges_text text_means.turn_ranges_alone)
       (steady_update old 3 (alone turn_ranges_query))
       (λ (number, t, runs, eight, has). has.schema)
-      (λ (number, t, runs, eight, has). turning_succeeds (mode_of old) old.now
-      (statement_of text.turn_ranges_text (understood book_schema text.turn_ranges_text)) number t
+      (λ (number, t, runs, eight, has) source. turning_succeeds (mode_of old) old.now
+      source number t
       runs eight has)
 
   pub setting_excused : Guarded text.set_version_text []
@@ -292,6 +298,6 @@ module _ (old new : State) (res : Result (Unit {0}) Error) where
       text_means.set_version_means (alone_whole text.set_version_text text_means.set_version_alone)
       (steady_update old 0 (alone set_version_query))
       (λ (number, t, runs, eight, has). has.schema)
-      (λ (number, t, runs, eight, has). setting_succeeds (mode_of old) old.now
-      (statement_of text.set_version_text (understood book_schema text.set_version_text)) number t
+      (λ (number, t, runs, eight, has) source. setting_succeeds (mode_of old) old.now
+      source number t
       runs has)

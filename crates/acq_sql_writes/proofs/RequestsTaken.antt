@@ -31,7 +31,7 @@ use Rattle.sqlite.specs.Does.{Does}
 use Rattle.row_lemmas.specs.Queries.{alone, plain_query}
 use Rattle.row_lemmas.specs.Values.{number, number_or_null, text_or_null}
 use Rattle.row_lemmas.proofs.ColumnTests.{text_test, and_true}
-use Rattle.row_lemmas.proofs.ListReads.{few_pass_key}
+use Rattle.row_lemmas.proofs.CountedRows.{numbered_counted}
 use Rattle.row_lemmas.proofs.NewForms.{new_forms}
 use Rattle.row_lemmas.proofs.NewRows.{HasNewKey}
 use Rattle.row_lemmas.proofs.NumberedRows.{numbered_shaped}
@@ -53,8 +53,9 @@ use Rattle.acq_core.specs.declared.status.Status.{Status}
 use Rattle.acq_core.specs.declared.remains.Remains.{Remains}
 use Rattle.acq_core.specs.Statuses.{status_number}
 use Rattle.acq_core.specs.Tables.{Tables, answered_row, followed_row}
+use Rattle.acq_sql_rows.specs.declared.form.Form.{Form}
+use Rattle.acq_sql_rows.specs.declared.form.Form.TheVariants.{Unique, Plain}
 use Rattle.acq_sql_rows.specs.Schema.{book_schema}
-use Rattle.acq_sql_rows.specs.Schema as schema
 use Rattle.acq_sql_rows.specs.Tallies.{Running}
 use Rattle.acq_sql_rows.specs.Rows.{request_row, key_row}
 use Rattle.acq_sql_rows.specs.Queries.{new_row as given_row, key_is, answer_query, follow_query}
@@ -69,6 +70,7 @@ use Rattle.acq_sql_writes.proofs.ReplyLengths.{spelling_few}
 use Rattle.acq_sql_rows.proofs.SameKeys.{bytes_same, bytes_itself}
 use Rattle.acq_sql_writes.proofs.RunningTotals.{find_none}
 use Rattle.acq_sql_writes.proofs.TableRules as rule
+use Rattle.acq_sql_rows.proofs.DistinctKeys.{few_keyed}
 use Rattle.acq_sql_rows.proofs.TableTurns as at
 
 -- ---- values that may be absent
@@ -202,9 +204,9 @@ request_few r key texts whole =
       ),
     )
 
-request_passes : (id : ℕ) (r : Request)
-    → PassAlone (bare at.the_requests) ((Int (pos id) ∷ request_row r) ∷ [])
-request_passes id r =
+request_passes : (form : Form) (id : ℕ) (r : Request)
+    → PassAlone (bare (at.the_requests form)) ((Int (pos id) ∷ request_row r) ∷ [])
+request_passes form id r =
     record {
       typed =
           rw (
@@ -230,80 +232,40 @@ request_accepted r =
       class_number r.hold_end,
     ) refl
 
-request_keys : (xs : List Request) (r : Request) → find (λ row. same_key row.key r.key) xs ≡ None
-    → AllByRecursion (HasNewKey request_row xs r (bare at.the_requests)) book_schema.indexes
-unfolding book_schema schema.up_to_reconciliations schema.up_to_postings schema.up_to_requests
-    schema.up_to_ranges schema.up_to_terminals schema.up_to_merchants schema.up_to_book first_key
-request_keys xs r none = (
-  other,
-  (
-    other,
-    (
-      λ g id y h.
-          rw (
-            text_test y.key.merchant r.key.merchant,
-            text_test y.key.terminal r.key.terminal,
-            text_test (digits_of y.key.service) (digits_of r.key.service),
-            text_test y.key.trace r.key.trace,
-            text_test y.key.transmission r.key.transmission,
-          ) (all_five (bytes_eq y.key.merchant r.key.merchant)
-          (bytes_eq y.key.terminal r.key.terminal) (same_service y.key.service r.key.service)
-          (bytes_eq y.key.trace r.key.trace) (bytes_eq y.key.transmission r.key.transmission)
-          ∙ find_none (λ row. same_key row.key r.key) xs y none h),
-      (other, (other, (other, (other, tt)))),
-    ),
-  ),
-)
-
--- ---- the key of the table
-
 abbrev request_key : Index
-request_key = automatic at.the_requests 0 (1 ∷ 2 ∷ 3 ∷ 4 ∷ 5 ∷ []) 7
+request_key = automatic (at.the_requests Unique) 0 (1 ∷ 2 ∷ 3 ∷ 4 ∷ 5 ∷ []) 7
 
-keyed_by : Has book_schema.indexes request_key
-unfolding book_schema schema.up_to_reconciliations schema.up_to_postings schema.up_to_requests
-    schema.up_to_ranges schema.up_to_terminals schema.up_to_merchants schema.up_to_book
-keyed_by = inr (inr (inl refl))
-
-one_key : (key : RequestKey) (a b : ℕ) (x y : Request) → same_key x.key key ≡ true
-    → same_key y.key key ≡ true
-    → agree request_key.order request_key.columns (Int (pos a) ∷ request_row x)
-    request_key.columns (Int (pos b) ∷ request_row y) ≡ true
+request_new : (xs : List Request) (r : Request) → find (λ row. same_key row.key r.key) xs ≡ None
+    → HasNewKey request_row xs r (bare (at.the_requests Unique)) request_key
 unfolding first_key
-one_key key a b x y h k =
-    let i = same_parts x.key key h in
-    let j = same_parts y.key key k in
+request_new xs r none g id y h =
     rw (
-      text_test x.key.merchant y.key.merchant,
-      text_test x.key.terminal y.key.terminal,
-      text_test (digits_of x.key.service) (digits_of y.key.service),
-      text_test x.key.trace y.key.trace,
-      text_test x.key.transmission y.key.transmission,
-      and_true,
-      i.merchant,
-      j.merchant,
-      i.terminal,
-      j.terminal,
-      i.kind,
-      j.kind,
-      i.trace,
-      j.trace,
-      i.stamp,
-      j.stamp,
-      bytes_itself key.merchant,
-      bytes_itself key.terminal,
-      bytes_itself (digits_of key.service),
-      bytes_itself key.trace,
-      bytes_itself key.transmission,
-    ) refl
+      text_test y.key.merchant r.key.merchant,
+      text_test y.key.terminal r.key.terminal,
+      text_test (digits_of y.key.service) (digits_of r.key.service),
+      text_test y.key.trace r.key.trace,
+      text_test y.key.transmission r.key.transmission,
+    ) (all_five (bytes_eq y.key.merchant r.key.merchant)
+    (bytes_eq y.key.terminal r.key.terminal) (same_service y.key.service r.key.service)
+    (bytes_eq y.key.trace r.key.trace) (bytes_eq y.key.transmission r.key.transmission)
+    ∙ find_none (λ row. same_key row.key r.key) xs y none h)
+
+request_keys : (form : Form) (xs : List Request) (r : Request)
+    → find (λ row. same_key row.key r.key) xs ≡ None
+    → AllByRecursion (HasNewKey request_row xs r (bare (at.the_requests form)))
+    (book_schema form).indexes
+unfolding book_schema
+request_keys Unique xs r none =
+    (other, (other, (request_new xs r none, (other, (other, (other, (other, tt)))))))
+request_keys Plain xs r none =
+    (other, (other, (other, (other, (other, (other, (other, tt)))))))
 
 -- an update that leaves the key keeps the unique keys
-keeps_keys : (id : ℕ) (x y : Request) → x.key ≡ y.key
-    → KeepsKeys book_schema (bare at.the_requests) (Int (pos id) ∷ request_row x)
+keeps_keys : (form : Form) (id : ℕ) (x y : Request) → x.key ≡ y.key
+    → KeepsKeys (book_schema form) (bare (at.the_requests form)) (Int (pos id) ∷ request_row x)
     (Int (pos id) ∷ request_row y)
-unfolding book_schema schema.up_to_reconciliations schema.up_to_postings schema.up_to_requests
-    schema.up_to_ranges schema.up_to_terminals schema.up_to_merchants schema.up_to_book
-keeps_keys id x y same =
+unfolding book_schema
+keeps_keys Unique id x y same =
     record {
       unique = (
         other,
@@ -329,6 +291,11 @@ keeps_keys id x y same =
       );
       refers = tt;
     }
+keeps_keys Plain id x y same =
+    record {
+      unique = (other, (other, (other, (other, (other, (other, (other, tt)))))));
+      refers = tt;
+    }
 
 -- ---- the statements
 
@@ -339,13 +306,15 @@ module _ (mode : Mode) (old : Database) (text : List ℕ) (t : Tables) (runs : L
       → ¬ Does None mode (request_row r) old text None (Insert 4 (Values (given_row 18) 19))
       (Err stop)
   request_succeeds r key whole takes =
-      row_succeeds request_row 4 at.the_requests at.requests_placed rule.requests_listed
-      rule.requests_narrow mode old has.schema has.sound text t.requests r has.requests
+      row_succeeds has.schema.0 request_row 4 (at.the_requests has.schema.0)
+      (at.requests_placed has.schema.0) (rule.requests_listed has.schema.0)
+      (rule.requests_narrow has.schema.0) mode old has.schema.1 has.sound text t.requests r
+      has.requests
       (record {
         room = takes.room;
-        laid = laid_request r;
-        pass = request_passes (1 + length t.requests) r;
-        keys = request_keys t.requests r takes.key;
+        laid = laid_request has.schema.0 r;
+        pass = request_passes has.schema.0 (1 + length t.requests) r;
+        keys = request_keys has.schema.0 t.requests r takes.key;
         short = request_few r key takes.texts whole;
         some = omega arith;
         few = omega arith;
@@ -362,7 +331,7 @@ module _ (mode : Mode) (old : Database) (text : List ℕ) (t : Tables) (runs : L
     abbrev is_it : Request → Bool
     is_it x = same_key x.key key
 
-    shaped : IsShaped shape.Table (old.trees at.the_requests.tree)
+    shaped : IsShaped shape.Table (old.trees (at.the_requests has.schema.0).tree)
     shaped = subst (IsShaped shape.Table) (sym has.requests)
         (numbered_shaped 1 (map request_row t.requests))
 
@@ -370,30 +339,39 @@ module _ (mode : Mode) (old : Database) (text : List ℕ) (t : Tables) (runs : L
         → picked key_is params (Int (pos id) ∷ request_row x) ≡ is_it x
     tested id x = key_test key more id x
 
-    few_with_key : length (filter (picked key_is params) (old.trees at.the_requests.tree)) ≤ 1
+    few_with_key : length (filter (picked key_is params)
+        (old.trees (at.the_requests has.schema.0).tree)) ≤ 1
     few_with_key =
-        few_pass_key request_row book_schema old.trees (bare at.the_requests) request_key
-        (fits_of book_schema old.trees has.sound) rule.requests_listed keyed_by refl t.requests
-        has.requests key_is params is_it tested (one_key key)
+        let counted = numbered_counted request_row (picked key_is params) is_it t.requests tested in
+        subst (λ n. n ≤ 1)
+        (sym (ap (λ l. length (filter (picked key_is params) l)) has.requests ∙ counted))
+        (few_keyed key t.requests short.keys)
 
     pub update_of_key_succeeds : (project : List Term)
         → ((id : ℕ) (x : Request) → shown_of project params (Int (pos id) ∷ request_row x)
         ≡ Int (pos id) ∷ request_row (u x))
-        → accepts_program book_schema [] (plain_query 6 key_is (col 1 0 ∷ project) []) params ≡ true
+        → accepts_program (book_schema has.schema.0) [] (plain_query 6 key_is (col 1 0 ∷ project)
+        []) params ≡ true
         → (stop : Option Error)
         → ¬ Does None mode params old text None
         (Update 4 (alone (plain_query 6 key_is (col 1 0 ∷ project) []))) (Err stop)
     update_of_key_succeeds project shows typed =
-        update_succeeds book_schema plain 4 at.the_requests at.requests_placed rule.requests_listed
-        mode old has.schema (fits_of book_schema old.trees has.sound) shaped text params key_is
+        update_succeeds (book_schema has.schema.0) (plain has.schema.0) 4
+        (at.the_requests has.schema.0) (at.requests_placed has.schema.0)
+        (rule.requests_listed has.schema.0)
+        mode old has.schema.1 (fits_of (book_schema has.schema.0) old.trees has.sound) shaped text
+        params key_is
         project few_with_key
-        (new_forms request_row t.requests (old.trees at.the_requests.tree) has.requests book_schema
-        (bare at.the_requests) rule.requests_narrow key_is project params is_it u
+        (new_forms request_row t.requests (old.trees (at.the_requests has.schema.0).tree)
+        has.requests (book_schema has.schema.0)
+        (bare (at.the_requests has.schema.0)) (rule.requests_narrow has.schema.0) key_is project
+        params is_it u
         (λ id x h. tested id x)
-        (λ id x h is. ap (cast_row (bare at.the_requests)) (shows id x) ∙ laid_number id (u x))
+        (λ id x h is. ap (cast_row (bare (at.the_requests has.schema.0))) (shows id x)
+        ∙ laid_number has.schema.0 id (u x))
         (omega (arith, short.room))
-        (λ id x h is. request_passes id (u x))
-        (λ id x h is. keeps_keys id x (u x) (sym (kept x)))
+        (λ id x h is. request_passes has.schema.0 id (u x))
+        (λ id x h is. keeps_keys has.schema.0 id x (u x) (sym (kept x)))
         (λ x h is. request_few (u x)
         (subst IsKey (sym (kept x)) (key_of_same x.key key is valid))
         (texts x (all_has HasShortTexts t.requests x short.texts h))
@@ -402,10 +380,9 @@ module _ (mode : Mode) (old : Database) (text : List ℕ) (t : Tables) (runs : L
         typed
 
   typed_answer : (key : RequestKey) (status : ℕ) (hold_end : Option ℕ) (reply : List ℕ)
-      → accepts_program book_schema [] answer_query
+      → accepts_program (book_schema has.schema.0) [] answer_query
       (key_row key ++ number status ∷ number_or_null hold_end ∷ Text reply ∷ []) ≡ true
-  unfolding book_schema schema.up_to_reconciliations schema.up_to_postings schema.up_to_requests
-      schema.up_to_ranges schema.up_to_terminals schema.up_to_merchants schema.up_to_book
+  unfolding book_schema
   typed_answer key status None reply = refl
   typed_answer key status (Some n) reply = refl
 
@@ -424,9 +401,9 @@ module _ (mode : Mode) (old : Database) (text : List ℕ) (t : Tables) (runs : L
       (typed_answer key (status_number status) hold_end (spelling reply))
 
   typed_follow : (key : RequestKey) (remains : Remains)
-      → accepts_program book_schema [] follow_query (follow_params key remains) ≡ true
-  unfolding book_schema schema.up_to_reconciliations schema.up_to_postings schema.up_to_requests
-      schema.up_to_ranges schema.up_to_terminals schema.up_to_merchants schema.up_to_book
+      → accepts_program (book_schema has.schema.0) [] follow_query (follow_params key remains)
+      ≡ true
+  unfolding book_schema
   typed_follow key remains = refl
 
   pub follow_succeeds : (key : RequestKey) (remains : Remains) → IsKey key → HasShortRequests t

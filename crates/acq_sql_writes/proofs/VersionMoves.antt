@@ -15,6 +15,7 @@ use Rattle.row_lemmas.proofs.QueryRows.{shown_of}
 use Rattle.row_lemmas.proofs.ShortRows.{not_oversized}
 use Rattle.row_lemmas.proofs.StatementEffects.{bare}
 use Rattle.row_lemmas.proofs.MovesSucceed.{IsSoundRow, IsMove}
+use Rattle.acq_sql_rows.specs.declared.form.Form.{Form}
 use Rattle.acq_sql_rows.specs.Schema.{book_schema}
 use Rattle.row_lemmas.specs.Values.{number}
 use Rattle.acq_sql_rows.specs.Rows.{version, book_row, book_row_of}
@@ -39,27 +40,27 @@ row_set : (number limit day : ℕ)
 row_set number limit day =
     rw (cast_int (pos 1), cast_int (pos version), cast_int (pos limit), cast_int (pos day)) refl
 
-book_sound : (limit day : ℕ)
-    → IsSoundRow book_schema (bare the_book) (Int (pos 1) ∷ book_row limit day)
-book_sound limit day =
+book_sound : (form : Form) (limit day : ℕ)
+    → IsSoundRow (book_schema form) (bare the_book) (Int (pos 1) ∷ book_row limit day)
+book_sound form limit day =
     record {
       id = pos 1;
       at = refl;
       small = refl;
       pass = record { typed = refl; present = refl; checked = refl };
-      sized = not_oversized book_schema (bare the_book) (Int (pos 1) ∷ book_row limit day)
-          book_narrow (tt, (tt, (tt, (tt, tt)))) (omega arith) (omega arith);
+      sized = not_oversized (book_schema form) (bare the_book) (Int (pos 1) ∷ book_row limit day)
+          (book_narrow form) (tt, (tt, (tt, (tt, tt)))) (omega arith) (omega arith);
     }
 
-pub version_moves : (number limit day : ℕ)
-    → IsMove book_schema (bare the_book) version_columns [] (book_rows number limit day)
+pub version_moves : (form : Form) (number limit day : ℕ)
+    → IsMove (book_schema form) (bare the_book) version_columns [] (book_rows number limit day)
     (book_rows version limit day)
-version_moves number limit day =
+version_moves form number limit day =
     record {
       sound = λ r h. elim h [
         | inl is ↦
-            subst (IsSoundRow book_schema (bare the_book))
-            (sym (ap set is ∙ row_set number limit day)) (book_sound limit day)
+            subst (IsSoundRow (book_schema form) (bare the_book))
+            (sym (ap set is ∙ row_set number limit day)) (book_sound form limit day)
         | inr none ↦ absurd none
       ];
       up = (book_shaped version limit day).0;
@@ -81,15 +82,15 @@ row_on : (limit earlier day : ℕ)
 row_on limit earlier day =
     rw (cast_int (pos 1), cast_int (pos version), cast_int (pos limit), cast_int (pos day)) refl
 
-pub day_moves : (limit earlier day : ℕ)
-    → IsMove book_schema (bare the_book) day_columns (number day ∷ [])
+pub day_moves : (form : Form) (limit earlier day : ℕ)
+    → IsMove (book_schema form) (bare the_book) day_columns (number day ∷ [])
     (book_rows version limit earlier) (book_rows version limit day)
-day_moves limit earlier day =
+day_moves form limit earlier day =
     record {
       sound = λ r h. elim h [
         | inl is ↦
-            subst (IsSoundRow book_schema (bare the_book))
-            (sym (ap (on day) is ∙ row_on limit earlier day)) (book_sound limit day)
+            subst (IsSoundRow (book_schema form) (bare the_book))
+            (sym (ap (on day) is ∙ row_on limit earlier day)) (book_sound form limit day)
         | inr none ↦ absurd none
       ];
       up = (book_shaped version limit day).0;

@@ -1,6 +1,6 @@
 -- When a write is refused.
 use Rattle.std.specs.Prelude.{◌≡◌, ℕ, ◌+◌, ◌<◌, ◌≤◌, ◌^◌, ◌==◌, ◌&&◌, Bool, true, false, List}
-use Rattle.std.specs.Prelude.{length, None, IfSome}
+use Rattle.std.specs.Prelude.{length, map, None, IfSome}
 use Rattle.std.specs.List.{AllByRecursion, list_any}
 use Rattle.std.specs.Str.{bytes_eq}
 use Rattle.sqlite.specs.Effect.{Database}
@@ -14,8 +14,12 @@ use Rattle.acq_core.specs.declared.request.Request.{Request}
 use Rattle.acq_core.specs.declared.posting.Posting.{Posting}
 use Rattle.acq_core.specs.declared.reconciliation.Reconciliation.{Reconciliation}
 use Rattle.acq_core.specs.Tables.{Tables}
+use Rattle.acq_soundness.specs.Keys.{are_distinct}
+use Rattle.acq_message.specs.Elements.{same_key}
 use Rattle.acq_book.specs.Lookups.{merchant_at, has_terminal_at, request_at}
-use Rattle.acq_sql_rows.specs.Schema.{book_schema, merchants_tree, terminals_tree, ranges_tree}
+use Rattle.acq_sql_rows.specs.declared.form.Form.{Form}
+use Rattle.acq_sql_rows.specs.Schema.{book_schema, merchants_tree, terminals_tree}
+use Rattle.acq_sql_rows.specs.Schema.{ranges_tree}
 use Rattle.acq_sql_rows.specs.Schema.{requests_tree, postings_tree, reconciliations_tree}
 use Rattle.acq_sql_rows.specs.Schema.{running_tree}
 use Rattle.acq_sql_rows.specs.Tallies.{Tally, Running, FitsTally, plus, tally_in}
@@ -32,8 +36,9 @@ AnyTables t = Unit {0}
 
 -- its tables are those of a book, and have no rows
 pub record IsEmptyBook (db : Database) : Type 0 where
-  pub rows : IsBlank book_schema db
-  pub sound : IsSound book_schema db.trees
+  pub form : Form
+  pub rows : IsBlank (book_schema form) db
+  pub sound : IsSound (book_schema form) db.trees
 
 -- rows are numbered from 1, and one more row gets a number that a column can keep
 abbrev pub HasNumberLeft : {X : Type 0} → List X → Type 0
@@ -73,9 +78,10 @@ pub record TakesRequest (row : Request) (t : Tables) : Type 0 where
 abbrev pub AreShort : List Request → Type 0
 AreShort = AllByRecursion HasShortTexts
 
--- so it is of the requests that are there
+-- so it is of the requests that are there, and no two have one key
 pub record HasShortRequests (t : Tables) : Type 0 where
   pub texts : AreShort t.requests
+  pub keys : are_distinct same_key (map (λ row. row.key) t.requests) ≡ true
   pub room : HasNumberLeft t.requests
 
 -- a row has this number of a merchant and day

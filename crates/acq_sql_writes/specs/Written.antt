@@ -22,7 +22,8 @@ use Rattle.acq_core.specs.declared.reconciliation.Reconciliation.{Reconciliation
 use Rattle.acq_core.specs.declared.change.Change.TheVariants as change
 use Rattle.acq_core.specs.Tables.{Tables, Opening, new_tables, after, with_changed}
 use Rattle.acq_core.specs.Tables.{answered_row, followed_row}
-use Rattle.acq_sql_rows.specs.Schema.{book_schema}
+use Rattle.acq_sql_rows.specs.declared.form.Form.{Form}
+use Rattle.acq_sql_rows.specs.Schema.{IsBookSchema, book_schema}
 use Rattle.acq_sql_rows.specs.Tallies.{Tally, Running, FitsTally, plus, tally_in, raised}
 use Rattle.acq_sql_rows.specs.Relation.{HoldsRows}
 
@@ -51,7 +52,7 @@ CommitsNothing old new = Survives old new (λ _. ⊥)
 -- nor of a write in a transaction over the book's tables
 abbrev pub CommitsNothingInside : State → State → Type 0
 CommitsNothingInside old new =
-    Survives old new (λ _. old.now.schema ≡ book_schema → IsTrue old.in_transaction → ⊥)
+    Survives old new (λ _. IsBookSchema old.now.schema → IsTrue old.in_transaction → ⊥)
 
 -- a statement was executed, whatever the number of rows that it changed
 abbrev pub Executes : List ℕ → Row → State → State → Result (Unit {0}) Error → Type 0
@@ -69,7 +70,7 @@ ExecutesInside sql params old new (Err e) = RunsInside 0 sql params old new (Err
 pub record WritesInside {T : Type 0} (old new : State) (result : Result T Error)
     (Leads : Database → Database → Type 0) : Type 0 where
   pub leads : HasCleanDisk new → IsTrue old.in_transaction → OnOk result (Leads old.now new.now)
-  pub inside : old.now.schema ≡ book_schema → StaysInside old new result
+  pub inside : IsBookSchema old.now.schema → StaysInside old new result
   pub undone : ChangesNothing old new result
   pub stop : CommitsNothingInside old new
 
@@ -97,7 +98,8 @@ Raises merchant day more db next =
 
 -- a book begins, where the tables had no rows
 abbrev pub BeginsBook : Opening → Database → Database → Type 0
-BeginsBook opening db next = IsBlank book_schema db → HoldsRows next (new_tables opening) []
+BeginsBook opening db next =
+    (form : Form) → IsBlank (book_schema form) db → HoldsRows next (new_tables opening) []
 
 -- ---- what each makes of the tables
 

@@ -1,7 +1,7 @@
 use Rattle.std.proofs.Common.{◌≡◌, is_ok, refl, rules}
 use Rattle.std.proofs.lemmas.Result.{err_from_is_err_and, IfErr-weaker}
 use Rattle.sqlite.specs.Held.{state}
-use Rattle.acq_sql_rows.specs.Schema.{book_schema}
+use Rattle.acq_sql_rows.specs.Schema.{IsBookSchema}
 use Rattle.acq_sql_reads.proofs.Leaves.{looks_nowhere}
 use Rattle.acq_sql_checking.proofs.Blaming.{excused_blames, memory_blames}
 use Rattle.acq_sql_checking.proofs.Failures.{error_fails, failure_judges}
@@ -29,7 +29,7 @@ returns-in_err-version g c =
     let result = c.from_residual-in_err-version.result in
     let p = err_from_is_err_and result c.from_residual-in_err-version.ensures.1 in
     let fails = error_fails c.in_err-version.field-0.0 in
-    let has : c.args.conn.now.schema ≡ book_schema = search rules in
+    let has : IsBookSchema c.args.conn.now.schema = search rules in
     record {
       judged = λ clean. rw (p.1, p.2) (failure_judges (Unit {0}) c.args.wanted
           (state g.S.Store c.args.conn.now).now _ fails);
@@ -52,7 +52,7 @@ returns g c =
     let wanted = c.args.wanted in
     let found = c.in_ok-version.field-0 in
     let result = c.judge.result in
-    let has : c.args.conn.now.schema ≡ book_schema = search rules in
+    let has : IsBookSchema c.args.conn.now.schema = search rules in
     record {
       judged = λ clean. judges wanted found old.now (c.in_ok-version.ensures.read clean has) result
           has c.judge.ensures;

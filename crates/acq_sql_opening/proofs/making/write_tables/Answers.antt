@@ -2,6 +2,7 @@ use Rattle.std.proofs.Common.{rules}
 use Rattle.sqlite.specs.Held.{state}
 use Rattle.sqlite.specs.State.{HasCleanDisk}
 use Rattle.row_lemmas.specs.Created.{IsBlank}
+use Rattle.acq_sql_rows.specs.declared.form.Form.TheVariants.{Plain}
 use Rattle.acq_sql_rows.specs.Schema.{no_schema, up_to_ranges}
 use Rattle.acq_sql_writes.specs.Refused.{IsEmptyBook}
 use Rattle.acq_sql_writes.proofs.Within.{was_clean}
@@ -54,7 +55,7 @@ returns-in_err-add_book g c =
       survives = stop_then two.on c.add_book.ensures.writes.stop;
       fails = fails_then IsEmptyBook two c.add_book.ensures.writes.stop
           c.in_err-add_book.ensures.fails
-          (λ db new. record { rows = new.rows; sound = new.sound })
+          (λ db new. record { form = Plain; rows = new.rows; sound = new.sound })
           c.from_residual-in_err-add_book.result c.from_residual-in_err-add_book.ensures.1;
     }
 
@@ -77,7 +78,7 @@ returns g c =
       begins = λ clean within empty.
           let early : HasCleanDisk (state g.S.Store c.create_records.new.tx.conn.now) =
           was_clean _ _ last.stop.clean clean in
-          c.in_ok-add_book.ensures.writes.leads clean (two.on.inside early within).mode
+          c.in_ok-add_book.ensures.writes.leads clean (two.on.inside early within).mode Plain
           (two.made early within (record { schema_is = empty; blank = tt })).rows;
       inside = all.inside;
       kept = all.kept;

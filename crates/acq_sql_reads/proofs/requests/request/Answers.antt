@@ -9,14 +9,14 @@ use Rattle.acq_sql_reads.proofs.Failing.{request_shown}
 use Rattle.acq_sql_reads.proofs.requests.request.Goals as goal
 
 pub returns-in-Some-clause-answers : goal.returns-in-Some-clause-answers
-returns-in-Some-clause-answers g c clean t holds =
+returns-in-Some-clause-answers g c clean t holds past =
     row_is (request_at t c.args.key) c.in_ok-rows.rows.items c.in-Some.row.now
-    c.in_ok-read_request-in-Some.field-0 (c.in_ok-rows.ensures.answers clean t holds)
+    c.in_ok-read_request-in-Some.field-0 (c.in_ok-rows.ensures.answers clean t holds past)
     (c.in-Some.ensures.value ∙ ap (λ l. slice_get l 0) c.deref.ensures.value)
     c.in_ok-read_request-in-Some.ensures.value
 
 pub returns-in_err-rows-clause-answers : goal.returns-in_err-rows-clause-answers
-returns-in_err-rows-clause-answers g c clean t holds =
+returns-in_err-rows-clause-answers g c clean t holds past =
     IfOk-from_err c.from_residual.result _ c.from_residual.ensures.0
 
 pub returns-in_err-rows-clause-looks : goal.returns-in_err-rows-clause-looks
@@ -25,7 +25,7 @@ returns-in_err-rows-clause-looks g c =
 
 pub returns-in_err-read_request-in-Some-clause-answers :
     goal.returns-in_err-read_request-in-Some-clause-answers
-returns-in_err-read_request-in-Some-clause-answers g c clean t holds =
+returns-in_err-read_request-in-Some-clause-answers g c clean t holds past =
     IfOk-from_err c.from_residual-in_err-read_request-in-Some.result _
     c.from_residual-in_err-read_request-in-Some.ensures.0
 
@@ -53,5 +53,5 @@ returns-in_err-read_request-in-Some-clause-fails g c clean t at past free =
     rw (p.1, p.2) (inl (c.in_err-read_request-in-Some.ensures.fails
     (request_shown t past c.args.key
     c.in_ok-rows.rows.items c.in-Some.row.now
-    (c.in_ok-rows.ensures.answers clean t at.holds)
+    (c.in_ok-rows.ensures.answers clean t at.holds past)
     (c.in-Some.ensures.value ∙ ap (λ l. slice_get l 0) c.deref.ensures.value))))

@@ -10,11 +10,11 @@ use Rattle.acq_sql_reads.proofs.Failing.{request_fails}
 use Rattle.acq_sql_reads.proofs.requests.request_rows.Goals as goal
 
 pub returns-clause-answers : goal.returns-clause-answers
-returns-clause-answers g c clean t holds =
+returns-clause-answers g c clean t holds past =
     IfOk-weaker c.query_all.result _ _
     (λ rows shown. request_found c.args.key (state g.S.Store c.args.conn.now)
     (state g.S.Store c.query_all.new.self)
-    t holds.runs rows.items holds.rows
+    t holds.runs rows.items holds.rows past
     (rw (
       c.to_bytes-merchant.ensures.value,
       c.to_bytes-terminal.ensures.value,

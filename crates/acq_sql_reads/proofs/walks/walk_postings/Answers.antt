@@ -7,15 +7,15 @@ use Rattle.acq_sql_reads.proofs.FailingWalks.{postings_excused}
 use Rattle.acq_sql_reads.proofs.walks.walk_postings.Goals as goal
 
 pub returns-clause-seen : goal.returns-clause-seen
-returns-clause-seen g c clean t holds =
-    let list = postings_list (state g.S.Store c.args.conn.now) t c.args.day holds in
+returns-clause-seen g c clean t holds past =
+    let list = postings_list (state g.S.Store c.args.conn.now) t c.args.day holds past in
     OnOk-map c.show_rows.result _ _
     (saw_enough list g.V.Visit.sees c.args.visitor.now c.show_rows.new.visitor)
     (rw c.day_value.ensures at (c.show_rows.ensures.seen clean list.ask.begins))
 
 pub returns-clause-begun : goal.returns-clause-begun
-returns-clause-begun g c clean t holds =
-    let list = postings_list (state g.S.Store c.args.conn.now) t c.args.day holds in
+returns-clause-begun g c clean t holds past =
+    let list = postings_list (state g.S.Store c.args.conn.now) t c.args.day holds past in
     on_err_weaker c.show_rows.result
     (saw_first list g.V.Visit.sees c.args.visitor.now c.show_rows.new.visitor)
     (rw c.day_value.ensures at (c.show_rows.ensures.begun clean list.ask.begins))

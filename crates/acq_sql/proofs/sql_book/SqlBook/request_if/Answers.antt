@@ -10,5 +10,5 @@ returns g c =
     asked g.S.Store _ _ answer.new.conn c.counted.new.failures c.self.view_is c.self.invariant
     c.settled.ensures answer.result c.counted.result answer.ensures.looks c.counted.ensures
     (λ t. option_and_then (request_at t) c.args.key)
-    (λ clean t holds past. rw c.in-Some.is (answer.ensures.answers clean t holds))
+    (λ clean t holds past. rw c.in-Some.is (answer.ensures.answers clean t holds past))
     _ answer.ensures.fails has_past

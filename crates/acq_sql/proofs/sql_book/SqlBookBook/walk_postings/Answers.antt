@@ -9,6 +9,6 @@ returns g c =
     walked g.S.Store _ _ walk.new.conn c.counted.new.failures c.self.view_is c.self.invariant
     c.settled.ensures g.V.Visit.sees (λ t. postings_at t c.args.day) c.args.visitor.now
     walk.new.visitor walk.result c.counted.result walk.ensures.looks c.counted.ensures
-    (λ clean t holds past. walk.ensures.seen clean t holds)
-    (λ clean t holds past. walk.ensures.begun clean t holds)
+    walk.ensures.seen
+    walk.ensures.begun
     walk.ensures.shown _ walk.ensures.fails (postings_walked c.args.day)

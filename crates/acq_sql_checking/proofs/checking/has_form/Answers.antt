@@ -7,14 +7,18 @@ use Rattle.acq_sql_rows.specs.Schema.{book_schema}
 use Rattle.acq_sql_checking.specs.Plain.{IsPlainSchema}
 use Rattle.acq_sql_checking.proofs.Blaming.{memory_fails}
 use Rattle.acq_sql_checking.proofs.PlainBook.{plain_book}
-use Rattle.acq_sql_checking.proofs.checking.is_book_schema.Goals as goal
+use Rattle.acq_sql_checking.proofs.checking.has_form.Goals as goal
 
 pub returns-clause-same : goal.returns-clause-same
 returns-clause-same c =
     let made = c.in_ok-create_tables.ensures.made (memory_is_clean c.create_tables.new.conn) in
-    let ours : c.schema.result.now ≡ book_schema = c.schema.ensures.value ∙ made in (
+    let ours : c.schema.result.now ≡ book_schema c.args.form = c.schema.ensures.value ∙ made in (
       λ is. sym (c.is_alike.ensures.0 is).0 ∙ ours,
-      λ is. c.is_alike.ensures.1 (ours ∙ sym is, subst IsPlainSchema (sym ours) plain_book),
+      λ is. c.is_alike.ensures.1 (
+        ours ∙ sym is,
+        subst IsPlainSchema (sym ours)
+            (plain_book c.args.form),
+      ),
     )
 
 pub returns-in_err-create_tables-clause-fails : goal.returns-in_err-create_tables-clause-fails
