@@ -7,3 +7,4 @@ pub mod Turned
 pub mod Following
 pub mod Rounds
 pub mod Turning
+pub mod Holding

@@ -10,3 +10,4 @@ pub mod Log
 pub mod Outgoing
 pub mod Ends
 pub mod Silences
+pub mod Ready

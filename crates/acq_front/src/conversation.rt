@@ -1,13 +1,17 @@
 //! One end of a connection, without its reads and writes.
 
 ghost use Rattle.std.specs.Prelude.{◌≡◌, ◌==◌, ◌+◌, ◌≤◌, ◌<◌, ◌++◌, ℕ, [], length, drop};
-ghost use Rattle.std.specs.Prelude.{IfSome};
+ghost use Rattle.std.specs.Prelude.{IfErr, IfNone, IfOk, IfSome, true};
 ghost use Rattle.acq_link.specs.Deframing.{longest_frame};
+ghost use Rattle.acq_link.specs.FirstMessage.{begins_with_message, behind_message, first_message};
 ghost use Rattle.acq_link.specs.FramesAt.{MayBecomeFrame};
 ghost use Rattle.acq_front.specs.Ends.{held_of, unsent_of, hand_of, gone_of, Steps, StopsAt};
 ghost use Rattle.acq_front.specs.Ends.{HoldsFrame, unanswered_of};
-ghost use Rattle.acq_front.specs.Faults.{TellsStore, UnlessRefused};
+ghost use Rattle.acq_front.specs.Faults.{IfStore, TellsStore, UnlessRefused};
+ghost use Rattle.acq_front.specs.Outgoing.{frame_said};
+ghost use Rattle.acq_front.specs.Ready.{IsOfStream, ends_after, is_ready};
 ghost use Rattle.acq_front.specs.Stops.{left_of};
+ghost use Rattle.acq_front.specs.Turns.{ReplyFits};
 
 use crate::outgoing::Outgoing;
 use crate::taking::take_message;
@@ -15,9 +19,9 @@ use crate::turn::Turn;
 use crate::unanswered::{Unanswered, kind_of};
 use crate::{Clock, FrontFault, Issuer};
 use acq_book::Book;
-use acq_core::{Query, Verdict};
+use acq_core::{Output, Query, Verdict};
 use acq_host::Host;
-use acq_link::Deframer;
+use acq_link::{Deframer, Front};
 use acq_reasons::Reason;
 use std::alloc::Global;
 
@@ -64,6 +68,13 @@ impl Conversation {
         ensures gone { gone_of self.new ≡ gone_of self.old }
     {
         self.input.feed(piece);
+    }
+
+    /// What came and belongs to no message yet.
+    pub fn held(&self) -> &[u8]
+        ensures { result.now ≡ held_of self.now }
+    {
+        self.input.as_slice()
     }
 
     /// Whether it holds nothing that belongs to no message yet.
@@ -154,5 +165,66 @@ impl Conversation {
         self.reason = host.reason();
         self.output.hold(&said)?;
         Ok(Turn::Took)
+    }
+
+    /// Whether a message is whole, and nothing is to be written before it is taken.
+    pub fn is_ready(&self) -> bool
+        ensures { result ≡ is_ready (held_of self.now) (unsent_of self.now) }
+    {
+        self.output.as_slice().is_empty() && self.input.has_message()
+    }
+
+    /// Why what it holds can become no message, if it can't: its length is bad.
+    pub fn fault(&self) -> Option<FrontFault>
+        ensures { IfSome result (IsOfStream (held_of self.now)) }
+    {
+        match self.input.front() {
+            Front::BadLength => Some(FrontFault::BadLength),
+            _ => None,
+        }
+    }
+
+    /// The next message, copied, if one is whole: it is still to be taken. A bad length is told.
+    pub fn message(&self, alloc: Global) -> Result<Option<Vec<u8>>, FrontFault>
+        ensures some { IfOk result (λ o. IfSome o (λ message.
+            (begins_with_message (held_of self.now) ≡ true)
+            × (message.items ≡ first_message (held_of self.now)))) }
+        ensures none { IfOk result (λ o. IfNone o (MayBecomeFrame (held_of self.now))) }
+        ensures fault { IfErr result (IsOfStream (held_of self.now)) }
+    {
+        let message = self.input.message(alloc)?;
+        Ok(message)
+    }
+
+    /// The next message was taken, and the host said this to it last; the reply is then to be
+    /// written. One that doesn't read ends the connection. A reply that fits no frame can only come
+    /// of rows that no host wrote.
+    pub fn hold(&mut self, said: &Output, reason: Option<Reason>) -> Result<(), FrontFault>
+        requires { is_ready (held_of self.old) (unsent_of self.old) ≡ true }
+        ensures held { held_of self.new ≡ behind_message (held_of self.old) }
+        ensures unsent { ReplyFits said.now → unsent_of self.new ≡ frame_said said.now }
+        ensures ends { ReplyFits said.now → result ≡ ends_after said.now }
+        // Of a message that gets no reply, nothing is to be written.
+        ensures silent { IfSome (unanswered_of self.new) (λ message. unsent_of self.new ≡ []) }
+        ensures gone { gone_of self.new ≡ 0 }
+        ensures store { IfStore result (ReplyFits said.now → ⊥) }
+    {
+        let kind = self.kind_in_front();
+        self.input.discard();
+        self.output.clear();
+        self.unanswered = Unanswered::of(kind, said);
+        self.reason = reason;
+        if let Output::Undecodable(fault) = said {
+            return Err(FrontFault::Undecodable(*fault));
+        }
+        self.output.hold(said)
+    }
+
+    /// The type of the next message, if one is whole.
+    fn kind_in_front(&self) -> [u8; 4] {
+        match self.input.front() {
+            Front::Frame { message, .. } => kind_of(message),
+            _ => [0; 4],
+        }
     }
 }

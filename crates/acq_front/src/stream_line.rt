@@ -36,6 +36,20 @@ impl<S> StreamLine<S> {
         }
     }
 
+    /// What came so far.
+    pub fn received(&self) -> &Transcript
+        ensures { result.now.bytes ≡ received_of self.now }
+    {
+        &self.received
+    }
+
+    /// What went out so far.
+    pub fn sent(&self) -> &Transcript
+        ensures { result.now.bytes ≡ sent_of self.now }
+    {
+        &self.sent
+    }
+
     /// The stream.
     pub fn stream(&self) -> &S
         ensures { result.now ≡ stream_of self.now }

@@ -9,8 +9,8 @@ use Rattle.acq_core.specs.Pasts.{HasPast}
 use Rattle.acq_core.specs.Tables.{Tables, outputs, tables_after, step_output, step_tables}
 use Rattle.acq_book.specs.declared.book.Book.{Ghosts}
 use Rattle.acq_book.specs.Calls.{Makes, MakesWithin}
-use Rattle.acq_book.specs.Groups.{BeginsBy, KeepsBy, ReturnsBy}
 use Rattle.acq_book.specs.Promise.{HasRisen}
+use Rattle.acq_host.specs.Groups.{Begins, Keeps, Returns}
 use Rattle.acq_host.proofs.Runs.{LeavesTables, after_next, first_and_next, outputs-push}
 
 -- within a group the book became another by taking these events, to which this was said
@@ -115,21 +115,6 @@ pub record Laws {S : Type 0} (book : Ghosts S) : Type 0 where
   pub settled : LeavesTables book
   pub stored : (s : S) → book.is_open s → book.leaves_books s
   pub past : (s : S) → book.is_open s → HasPast (book.tables s)
-
-abbrev pub Begins : {S : Type 0} → Ghosts S → S → S → Bool → Type 0
-Begins book =
-    BeginsBy book.tables book.is_honest book.is_open book.is_within book.may_leave
-    book.leaves_books book.failures book.store_faults
-
-abbrev pub Keeps : {S : Type 0} → Ghosts S → S → S → Bool → Type 0
-Keeps book =
-    KeepsBy book.tables book.is_honest book.is_open book.is_within book.may_leave
-    book.leaves_books book.failures book.store_faults
-
-abbrev pub Returns : {S : Type 0} → Ghosts S → S → S → Type 0
-Returns book =
-    ReturnsBy book.tables book.is_honest book.is_open book.can_return book.may_leave
-    book.leaves_books book.failures book.store_faults
 
 -- none was begun
 pub group_unbegun : {S : Type 0} (book : Ghosts S) → Laws book → (a b : S) (changed : Tables) →

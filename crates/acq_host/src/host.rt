@@ -7,6 +7,7 @@ ghost use Rattle.acq_core.specs.Tables.{Tables, outputs, step_output, step_table
 ghost use Rattle.acq_book.specs.Calls.{Makes, MakesWithin};
 ghost use Rattle.acq_book.specs.Promise.{CountsFault, HasRisen};
 ghost use Rattle.acq_core.specs.Pasts.{HasPast};
+ghost use Rattle.acq_host.specs.Groups.{Begins, Keeps, Returns};
 ghost use Rattle.acq_host.specs.Runs.{CountsRun, IsWellSaid, StopsAt, after_first};
 
 mod looking;
@@ -75,6 +76,8 @@ impl<B: Book + Drop> Host<B> {
         ensures output_within { (began : Tables) (faults : ℕ) → B.is_honest self.new
             → B.is_within self.old began faults → IfOk result (λ output.
             output ≡ step_output (B.tables self.old) (arrival_of event.now)) }
+        ensures reply_within { (began : Tables) (faults : ℕ) → B.is_honest self.new
+            → B.is_within self.old began faults → IfOk result IsWellSaid }
         ensures within { MakesWithin B.Book self.old self.new (is_ok result)
             (step_tables (B.tables self.old) (arrival_of event.now)) }
         ensures past { B.is_open self.new → HasPast (B.tables self.new) }
@@ -169,6 +172,29 @@ impl<B: Book + Drop> Host<B> {
                 Err(fault)
             }
         }
+    }
+
+    /// Begins a group: what is taken from now on is kept whole, or not at all.
+    pub fn begin(&mut self) -> Result<(), BookFault>
+        ensures begins { Begins B.Book self.old self.new (is_ok result) }
+        ensures store { CountsFault result (B.failures self.old) (B.failures self.new) }
+    {
+        self.book.begin()
+    }
+
+    /// Keeps the group, whole. If it can't be kept, it is given up.
+    pub fn keep(&mut self) -> Result<(), BookFault>
+        ensures keeps { Keeps B.Book self.old self.new (is_ok result) }
+        ensures store { CountsFault result (B.failures self.old) (B.failures self.new) }
+    {
+        self.book.keep()
+    }
+
+    /// Gives up the group, and leads back to the tables at which it began.
+    pub fn give_up(&mut self)
+        ensures { Returns B.Book self.old self.new }
+    {
+        self.book.give_up();
     }
 
     /// Takes events within a group, to the last or to the first fault.

@@ -1,7 +1,6 @@
 -- Frames at the front of an input, one after another.
-use Rattle.std.proofs.Common.{◌≡◌, ℕ, Bool, true, List, [], ◌∷◌, ◌++◌, refl, sym, ap, ◌∙◌}
+use Rattle.std.proofs.Common.{◌≡◌, ℕ, true, List, [], ◌∷◌, ◌++◌, refl, sym, ap, ◌∙◌}
 use Rattle.std.proofs.Common.{append_assoc, append-nil}
-use Rattle.std.specs.List.{list_all}
 use Rattle.std.proofs.lemmas.List.Folds.{list_all-append}
 use Rattle.acq_link.specs.Frames.{Frames, FramesThen, fit_frames, fits_frame, frame, framed}
 use Rattle.acq_link.proofs.WrittenFrames.{framed-append, framed-push}

@@ -42,7 +42,7 @@ stated : (n : ℕ) → stated_length (n / 256) (n % 256) ≡ n
 stated n = omega arith
 
 -- a frame is one at the front
-has_frame-frame : (message rest : List ℕ) → fits_frame message ≡ true →
+pub has_frame-frame : (message rest : List ℕ) → fits_frame message ≡ true →
     has_frame (frame message ++ rest) ≡ true
 has_frame-frame message rest fits =
     let P : ℕ → Type 0 = λ n. (fits_length n && nat_le n (length (message ++ rest))) ≡ true in

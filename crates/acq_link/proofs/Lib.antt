@@ -1,5 +1,6 @@
 pub mod EmptyStruct
 mod FilledFrames
+pub mod FirstMessages
 pub mod FramesInOrder
 pub mod FramesReadOnce
 pub mod RestKept

@@ -1,5 +1,6 @@
 pub mod Call
 pub mod Deframing
+pub mod FirstMessage
 pub mod FaultTexts
 pub mod Frames
 pub mod FramesAt

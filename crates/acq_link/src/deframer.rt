@@ -1,10 +1,12 @@
 //! Frames out of a stream that comes in pieces.
 
 ghost use Rattle.std.specs.Prelude.{◌≡◌, ◌==◌, ◌+◌, ◌-◌, ◌<◌, ◌≤◌, ◌++◌, [], length, true};
-ghost use Rattle.std.specs.Prelude.{drop, take};
+ghost use Rattle.std.specs.Prelude.{drop, false, take};
 ghost use Rattle.std.specs.Prelude.{IfOk, IfSome, IfNone, IsErrOf, OnErr};
 ghost use Rattle.acq_link.specs.Frames.{has_bad_length};
 ghost use Rattle.acq_link.specs.FramesAt.{BeginsWithFrame, MayBecomeFrame};
+ghost use Rattle.acq_link.specs.FirstMessage.{begins_with_message, behind_message, first_message};
+ghost use Rattle.acq_link.specs.Fronts.{IsFront};
 ghost use Rattle.acq_link.specs.Deframing.{longest_frame};
 
 use crate::deframe_fault::DeframeFault;
@@ -46,6 +48,13 @@ impl Deframer {
         }
     }
 
+    /// What it holds.
+    pub fn as_slice(&self) -> &[u8]
+        ensures { result.now ≡ self.now }
+    {
+        &self.bytes[self.start..self.end]
+    }
+
     /// Whether it holds nothing.
     pub fn is_empty(&self) -> bool
         ensures { result ≡ (length self.now == 0) }
@@ -74,6 +83,53 @@ impl Deframer {
         self.end = end;
     }
 
+    /// What stands in front of what it holds.
+    pub fn front(&self) -> Front<'_>
+        ensures { IsFront self.now result }
+    {
+        frame_at(self.as_slice())
+    }
+
+    /// Whether a whole frame stands in front.
+    pub fn has_message(&self) -> bool
+        ensures { result ≡ begins_with_message self.now }
+    {
+        match self.front() {
+            Front::Frame { .. } => true,
+            _ => false,
+        }
+    }
+
+    /// The message in front, copied, if its frame is whole. A bad length is told as soon as its two
+    /// bytes are there.
+    pub fn message(&self, alloc: Global) -> Result<Option<Vec<u8>>, DeframeFault>
+        ensures some { IfOk result (λ o. IfSome o (λ message.
+            (begins_with_message self.now ≡ true)
+            × (message.items ≡ first_message self.now))) }
+        ensures none { IfOk result (λ o. IfNone o (MayBecomeFrame self.now)) }
+        ensures bad { IsErrOf result DeframeFault.BadLength → has_bad_length self.now ≡ true }
+    {
+        match self.front() {
+            Front::BadLength => Err(DeframeFault::BadLength),
+            Front::Partial => Ok(None),
+            Front::Frame { message, .. } => {
+                let message = Vec::from_slice(alloc, message)?;
+                Ok(Some(message))
+            }
+        }
+    }
+
+    /// Lets the message in front go, if its frame is whole.
+    pub fn discard(&mut self)
+        ensures gone { begins_with_message self.old ≡ true → self.new ≡ behind_message self.old }
+        ensures kept { begins_with_message self.old ≡ false → self.new ≡ self.old }
+    {
+        let Front::Frame { rest, .. } = frame_at(&self.bytes[self.start..self.end]) else {
+            return;
+        };
+        self.start = self.end - rest.len();
+    }
+
     /// Takes out the message in front, if its frame is whole. A bad length is told as soon as its
     /// two bytes are there. After an `Err` nothing has changed.
     pub fn take_message(&mut self, alloc: Global) -> Result<Option<Vec<u8>>, DeframeFault>
@@ -84,15 +140,11 @@ impl Deframer {
         ensures bad { IsErrOf result DeframeFault.BadLength → has_bad_length self.old ≡ true }
         ensures kept { OnErr result (self.new ≡ self.old) }
     {
-        match frame_at(&self.bytes[self.start..self.end]) {
-            Front::BadLength => Err(DeframeFault::BadLength),
-            Front::Partial => Ok(None),
-            Front::Frame { message, rest } => {
-                let message = Vec::from_slice(alloc, message)?;
-                self.start = self.end - rest.len();
-                Ok(Some(message))
-            }
+        let message = self.message(alloc);
+        if let Ok(Some(_)) = &message {
+            self.discard();
         }
+        message
     }
 }
 

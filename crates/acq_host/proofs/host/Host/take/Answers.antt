@@ -163,6 +163,17 @@ returns-clause-output_within g c began n h w =
     (within.value began n mid).0
     ∙ ap (λ b. step_output (g.B.Book.tables b) (arrival_of c.args.event.now)) c.self.view_is
 
+pub returns-clause-reply_within : goal.returns-clause-reply_within
+returns-clause-reply_within g c began n h w party text is =
+    let t = g.B.Book.tables c.self.inside.book in
+    let within = c.in_ok-output.ensures.within in
+    let was = subst (λ b. g.B.Book.is_within b began n) (sym c.self.view_is) w in
+    let past = g.met.B.Book.past_within c.self.inside.book began n was in
+    let mid = within.looks.stays began n refl (c.in_ok-made.ensures.makes.was_honest h) was in
+    let output = (within.value began n mid).0 in
+    (books_are_sound past.0 t past.1).next_reply c.args.event.now party text c.every_event.ensures
+    (sym output ∙ is)
+
 pub returns-clause-within : goal.returns-clause-within
 returns-clause-within g c =
     let book = g.B.Book in

@@ -1,7 +1,8 @@
 -- events led to what a stop leaves of a group, kept or not
 use Rattle.std.proofs.Common.{false, true, ⊎_elim, refl, sym, subst}
 use Rattle.acq_core.specs.Pasts.{HasPast}
-use Rattle.acq_host.proofs.Groups.{Keeps, Laws, Returns, group_given_up, past_of_group}
+use Rattle.acq_host.specs.Groups.{Keeps, Returns}
+use Rattle.acq_host.proofs.Groups.{Laws, group_given_up, past_of_group}
 use Rattle.acq_host.proofs.host.Host.take_group.Goals as goal
 
 pub returns-in_err-keep-in-Ok-clause-left : goal.returns-in_err-keep-in-Ok-clause-left

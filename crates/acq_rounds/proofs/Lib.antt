@@ -1,0 +1,9 @@
+pub mod Lists
+pub mod Acting
+pub mod Grouping
+pub mod Lasting
+pub mod Moving
+pub mod Running
+pub mod Served
+pub mod Together
+pub mod WithinGroups

@@ -1,0 +1,140 @@
+use Rattle.std.proofs.Common.{◌≡◌, ◌+◌, ◌<◌, ◌≤◌, ◌∙◌, ℕ, ap, arith, inl, inr, length, refl, sym}
+use Rattle.acq_front.specs.Stops.{left_of}
+use Rattle.acq_front.proofs.StopsLeave.{none_stop}
+use Rattle.acq_rounds.specs.Places.{count_of, seen_in}
+use Rattle.acq_rounds.specs.Runs.{RanUntil, whole}
+use Rattle.acq_rounds.proofs.Running.{begins_same, in_both, in_earlier, in_quietly, in_same}
+use Rattle.acq_rounds.proofs.Running.{ran_both, ran_same, until_behind}
+use Rattle.acq_rounds.proofs.Together.{on_err}
+use Rattle.acq_rounds.proofs.rounds.Rounds.serve_all.Goals as goal
+
+gave : (a b c x y z : ℕ) → b + x ≡ a + y → c + y ≡ b + z → c + x ≡ a + z
+gave a b c x y z e f = omega (arith, e, f)
+
+pub loop-init : goal.loop-init
+loop-init g c =
+    let book = g.B.Book in
+    let w = whole (g.G.Gate.ended c.args.gate.now) (seen_in g.L.Line g.T.Talk c.args.self.now)
+    (count_of g.L.Line g.T.Talk c.args.self.now) (book.tables c.args.host.now) in
+    record {
+      was_honest = λ h. h;
+      stays_open = λ h o. o;
+      ran = λ h o. in_quietly (g.C.Clock.may_give c.args.clock.now)
+          (g.I.Issuer.may_say c.args.issuer.now) w w refl (begins_same _ _ refl) (λ acts s. s);
+      given = refl;
+      said_later = λ q v h. h;
+      given_later = λ m h. h;
+      store = refl;
+    }
+
+pub loop-preserved : goal.loop-preserved
+loop-preserved g c =
+    let book = g.B.Book in
+    let here = seen_in g.L.Line g.T.Talk in
+    let count = count_of g.L.Line g.T.Talk in
+    let ended = g.G.Gate.ended in
+    let inv = c.loop.invariant in
+    let next = c.in_ok-round.ensures in
+    let may_give = g.C.Clock.may_give c.args.clock.now in
+    let may_say = g.I.Issuer.may_say c.args.issuer.now in
+    let w0 = whole (ended c.args.gate.now) (here c.args.self.now) (count c.args.self.now)
+    (book.tables c.args.host.now) in
+    let w1 = whole (ended c.loop.gate) (here c.loop.self) (count c.loop.self)
+    (book.tables c.loop.host) in
+    let mid = whole (ended c.wait.new.self) (here c.loop.self) (count c.loop.self)
+    (book.tables c.loop.host) in
+    let w2 = whole (ended c.round.new.gate) (here c.round.new.self) (count c.round.new.self)
+    (book.tables c.round.new.host) in
+    record {
+      was_honest = λ h. inv.was_honest (next.was_honest h);
+      stays_open = λ h o. next.stays_open h (inv.stays_open (next.was_honest h) o);
+      ran = λ h o.
+          let was = next.was_honest h in
+          let more = next.ran h (inv.stays_open was o) in
+          in_both may_give may_say c.loop.counter 1 w0 w1 w2 (inv.ran was o)
+          (in_both may_give may_say 0 1 w1 mid w2
+          (in_same may_give may_say w1 mid refl c.wait.ensures.ended refl refl)
+          (in_earlier (g.C.Clock.may_give c.loop.clock) may_give
+          (g.I.Issuer.may_say c.loop.issuer) may_say inv.given_later inv.said_later 1 mid w2
+          (record { ran = more.ran; long = more.long })));
+      given = gave (count c.args.self.now) (count c.loop.self) (count c.round.new.self)
+          (g.G.Gate.given c.args.gate.now) (g.G.Gate.given c.wait.new.self)
+          (g.G.Gate.given c.round.new.gate)
+          (inv.given ∙ ap (λ n. count c.args.self.now + n) (sym c.wait.ensures.given)) next.given;
+      said_later = λ q v h. inv.said_later q v (next.said_later q v h);
+      given_later = λ m h. inv.given_later m (next.given_later m h);
+      store = next.store ∙ inv.store;
+    }
+
+pub returns-in_err-round-clause-stopped : goal.returns-in_err-round-clause-stopped
+returns-in_err-round-clause-stopped g c h o =
+    let book = g.B.Book in
+    let here = seen_in g.L.Line g.T.Talk in
+    let count = count_of g.L.Line g.T.Talk in
+    let ended = g.G.Gate.ended in
+    let inv = c.loop.invariant in
+    let next = c.in_err-round.ensures in
+    let was = next.was_honest h in
+    let may_give = g.C.Clock.may_give c.args.clock.now in
+    let may_say = g.I.Issuer.may_say c.args.issuer.now in
+    let left = left_of book c.round.new.host in
+    let w0 = whole (ended c.args.gate.now) (here c.args.self.now) (count c.args.self.now)
+    (book.tables c.args.host.now) in
+    let w1 = whole (ended c.loop.gate) (here c.loop.self) (count c.loop.self)
+    (book.tables c.loop.host) in
+    let mid = whole (ended c.wait.new.self) (here c.loop.self) (count c.loop.self)
+    (book.tables c.loop.host) in
+    on_err c.from_residual.result
+    (RanUntil may_give may_say w0 (ended c.round.new.gate) (here c.round.new.self)
+    (count c.round.new.self) left)
+    (until_behind (g.C.Clock.may_give c.loop.clock) (g.I.Issuer.may_say c.loop.issuer) may_give
+    may_say inv.given_later inv.said_later w0 mid (ended c.round.new.gate)
+    (here c.round.new.self) (count c.round.new.self) left
+    (ran_both may_give may_say w0 w1 mid (inv.ran was o).ran
+    (ran_same may_give may_say w1 mid refl c.wait.ensures.ended refl refl))
+    (next.stopped h (inv.stays_open was o)))
+
+at_end : (n k rounds : ℕ) → n ≡ k → k ≤ rounds → rounds ≤ k → n ≡ rounds
+at_end n k rounds e l m = omega (arith, e, l, m)
+
+pub returns-clause-ran : goal.returns-clause-ran
+returns-clause-ran g c h o =
+    let inv = c.loop.invariant in
+    let ran = inv.ran h o in
+    record {
+      ran = ran.ran;
+      long = inl (at_end (length ran.ran.groups) c.loop.counter c.args.rounds ran.long
+          c.loop.auto.counter-end c.loop-test.false);
+      stop = none_stop g.B.Book g.met.B.Book.settled g.met.B.Book.stored c.loop.host
+          (inv.stays_open h o);
+    }
+
+so_far : (n k rounds : ℕ) → n ≡ k + 0 → k < rounds → n ≤ rounds
+so_far n k rounds e l = omega (arith, e, l)
+
+pub returns-then-not-wait-clause-ran : goal.returns-then-not-wait-clause-ran
+returns-then-not-wait-clause-ran g c h o =
+    let book = g.B.Book in
+    let here = seen_in g.L.Line g.T.Talk in
+    let count = count_of g.L.Line g.T.Talk in
+    let ended = g.G.Gate.ended in
+    let inv = c.loop.invariant in
+    let may_give = g.C.Clock.may_give c.args.clock.now in
+    let may_say = g.I.Issuer.may_say c.args.issuer.now in
+    let w0 = whole (ended c.args.gate.now) (here c.args.self.now) (count c.args.self.now)
+    (book.tables c.args.host.now) in
+    let w1 = whole (ended c.loop.gate) (here c.loop.self) (count c.loop.self)
+    (book.tables c.loop.host) in
+    let mid = whole (ended c.wait.new.self) (here c.loop.self) (count c.loop.self)
+    (book.tables c.loop.host) in
+    let ran = in_both may_give may_say c.loop.counter 0 w0 w1 mid (inv.ran h o)
+    (in_same may_give may_say w1 mid refl c.wait.ensures.ended refl refl) in
+    record {
+      ran = ran.ran;
+      long = inr (
+        c.if-not-wait.ensures.stopped,
+        so_far (length ran.ran.groups) c.loop.counter c.args.rounds ran.long c.loop-test.true,
+      );
+      stop = none_stop book g.met.B.Book.settled g.met.B.Book.stored c.loop.host
+          (inv.stays_open h o);
+    }

@@ -1,0 +1,9 @@
+pub mod Acts
+pub mod Groups
+pub mod Moves
+pub mod Past
+pub mod Places
+pub mod Runs
+pub mod Said
+pub mod Taking
+pub mod Within

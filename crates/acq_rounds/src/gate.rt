@@ -1,0 +1,49 @@
+//! Where connections come from, and where they go.
+
+ghost use Rattle.std.specs.Prelude.{◌≡◌, ◌+◌, ◌++◌, ℕ, Bool, not, List, [], ◌∷◌, IfSome, is_some};
+ghost use Rattle.std.specs.Prelude.{if◌then◌else◌};
+ghost use Rattle.acq_rounds.specs.Acts.{Connection};
+ghost use Rattle.acq_rounds.specs.Places.{seen};
+
+use crate::place::Place;
+use crate::talk::Talk;
+use acq_front::Line;
+
+/// Where connections come from, and where they go.
+pub trait Gate<L: Line, T: Talk> {
+    // The connections that ended, as they were then.
+    ghost ended: { Self → List Connection };
+
+    // How many connections it gave so far.
+    ghost given: { Self → ℕ };
+
+    // Whether it said that no round is to follow.
+    ghost has_stopped: { Self → Bool };
+
+    /// Waits until a line has something to do, or a connection comes; not at all, where one has
+    /// already. Whether a round is to follow.
+    fn wait(&mut self, has_already: bool) -> bool
+        ensures given { given self.new ≡ given self.old }
+        ensures ended { ended self.new ≡ ended self.old }
+        ensures stopped { has_stopped self.new ≡ not result };
+
+    /// The number of the next connection whose line has something to do, if one has.
+    fn woken(&mut self) -> Option<u64>
+        ensures given { given self.new ≡ given self.old }
+        ensures ended { ended self.new ≡ ended self.old };
+
+    /// The next connection, if one came: nothing has passed over it yet.
+    fn next(&mut self) -> Option<(L, T)>
+        ensures received { IfSome result (λ c. L.received c.0 ≡ []) }
+        ensures sent { IfSome result (λ c. L.sent c.0 ≡ []) }
+        ensures held { IfSome result (λ c. T.held c.1 ≡ []) }
+        ensures unsent { IfSome result (λ c. T.unsent c.1 ≡ []) }
+        ensures given { given self.new ≡ given self.old + (if is_some result then 1 else 0) }
+        ensures ended { ended self.new ≡ ended self.old };
+
+    /// A connection ended.
+    fn part(&mut self, place: Place<L, T>)
+        ensures given { given self.new ≡ given self.old }
+        ensures stopped { has_stopped self.new ≡ has_stopped self.old }
+        ensures ended { ended self.new ≡ ended self.old ++ seen L.Line T.Talk place ∷ [] };
+}
