@@ -73,3 +73,14 @@ def change(path, statements):
         connection.commit()
     finally:
         connection.close()
+
+
+def all_rows(path):
+    """The rows of each table of a book, in their order."""
+    connection = sqlite3.connect(path)
+    try:
+        named = connection.execute("SELECT name FROM sqlite_schema WHERE type = 'table'")
+        tables = sorted(name for name, in named)
+        return {it: list(connection.execute(f"SELECT rowid, * FROM {it}")) for it in tables}
+    finally:
+        connection.close()

@@ -3,7 +3,7 @@ of events, over both; and where a scenario says so, among another merchant's eve
 that is migrated."""
 
 from another_merchant import lot_of_another
-from books import make_version
+from books import all_rows, make_version
 from program import Ran, run
 from row_bytes import NoRow
 from scenario_file import NOT_COMPARED, Step
@@ -151,8 +151,15 @@ def in_sevens(play):
 
 
 def in_one(play):
-    """All in one group, over a book in a file."""
+    """All in one group, over a book in a file, which then has the rows of one by one."""
     grouped_in_sql(play, LARGEST_GROUP)
+    grouped = all_rows(f"{play.room}/book")
+    with play.books.new_room() as alone:
+        play.books.put(f"{alone}/book", play.scenario.limit, play.scenario.day)
+        steps = play.setup + play.scenario.steps
+        run(play.books.program, alone, ["replay", "--db", "book"], lines_of(steps))
+        if all_rows(f"{alone}/book") != grouped:
+            play.findings.compare(steps[-1].line, play.over, b"the rows of one by one", b"others")
 
 
 def taken_again(play):

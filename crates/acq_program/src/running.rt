@@ -231,7 +231,14 @@ fn once_at<B: Lenient + Drop, M: Machine<B> + Drop, C: Clock, I: Issuer + Drop, 
 
 /// Answers the frames of the input over the book in a file, or without one over a new book. Where
 /// the issuers' file can't be read, that is told behind what is wrong with the book.
-fn once_over<B: Lenient + Drop, M: Machine<B> + Drop, C: Clock, I: Issuer + Drop, S: Source, K: Sink>(
+fn once_over<
+    B: Lenient + Drop,
+    M: Machine<B> + Drop,
+    C: Clock,
+    I: Issuer + Drop,
+    S: Source,
+    K: Sink,
+>(
     alloc: Global,
     keys: RandomState,
     machine: M,

@@ -1,8 +1,8 @@
 //! What a host recalls of its book's tables, so that an event needs few looks at them.
 //!
 //! A [`RecallingBook`] stands in front of any other book. It keeps in memory what control events
-//! alone change (merchants, terminals, ranges), how many requests were admitted and count, and those
-//! that wait for their issuer's answer, each up to a bound. It asks the book for the rest.
+//! alone change (merchants, terminals, ranges), how many requests were admitted and count, and
+//! those that wait for their issuer's answer, each up to a bound. It asks the book for the rest.
 #![tactic(auto)]
 
 mod bounded_map;

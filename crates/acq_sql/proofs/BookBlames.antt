@@ -31,7 +31,7 @@ use Rattle.acq_sql_rows.specs.Rows.{version, merchant_row, terminal_row, range_r
 use Rattle.acq_sql_rows.specs.Rows.{posting_row}
 use Rattle.acq_sql_rows.specs.Schema.{merchants_tree, terminals_tree, requests_tree}
 use Rattle.acq_sql_rows.specs.Schema.{postings_tree}
-use Rattle.acq_sql_changes.specs.Refused.{FailsAmong, FailsInside, Takes}
+use Rattle.acq_sql_changes.specs.Refused.{FailsAmong, FailsInside}
 use Rattle.acq_sql_writes.specs.Refused.{HasNumberLeft, HasNumbersLeft}
 use Rattle.acq_sql_rows.specs.Standing.{FailsExcused, FailsExcusedAt, IsOpenOver}
 use Rattle.acq_sql_changes.proofs.TakenTables.{number_left}

@@ -1,6 +1,6 @@
 -- What a look-up or a walk over a connection gives, its book gives.
 use Rattle.std.proofs.Common.{◌≡◌, ℕ, Bool, List, Result, Ok, Err, IfOk, OnOk, OnErr, IsErr, is_ok}
-use Rattle.std.proofs.Common.{false, true≢false}
+use Rattle.std.proofs.Common.{true≢false}
 use Rattle.std.proofs.Common.{refl, sym, subst}
 use Rattle.std.proofs.lemmas.Result.{IfOk-weaker}
 use Rattle.std.specs.Result.{IsErrAnd}

@@ -1,11 +1,10 @@
 -- Groups over a connection are groups of its book.
-use Rattle.std.proofs.Common.{◌≡◌, ◌⊎◌, inl, inr, ℕ, ◌≤◌, Bool, true, false, true≢false, IsTrue}
-use Rattle.std.proofs.Common.{⊎_elim, refl, sym, ap, subst, ◌∙◌, arith, Result, Ok, Err, is_ok}
-use Rattle.std.proofs.Common.{OnOk, OnErr, IfOk, IfErr}
-use Rattle.sqlite_trees.specs.Tree.{Trees}
+use Rattle.std.proofs.Common.{◌≡◌, inl, inr, ℕ, ◌≤◌, Bool, true, false, true≢false, IsTrue}
+use Rattle.std.proofs.Common.{⊎_elim, sym, ap, subst, ◌∙◌, arith, Result, Ok, Err, is_ok}
+use Rattle.std.proofs.Common.{IfOk, IfErr}
 use Rattle.sqlite_trees.specs.declared.store.Store.{Ghosts}
 use Rattle.sqlite.specs.declared.error.Error.{Error}
-use Rattle.sqlite.specs.State.{State, HasCleanDisk}
+use Rattle.sqlite.specs.State.{HasCleanDisk}
 use Rattle.sqlite.specs.Held.{state}
 use Rattle.acq_core.specs.declared.change.Change.{Change}
 use Rattle.acq_core.specs.Pasts.{HasPast}
@@ -17,9 +16,9 @@ use Rattle.acq_book.specs.Promise.{BlamesStore, HasRisen, MakesBy}
 use Rattle.acq_book.proofs.Chains.{risen_after}
 use Rattle.acq_sql_rows.specs.ReadBack.{tables_of}
 use Rattle.acq_sql_rows.proofs.TablesReadBack.{tables_of-holds}
-use Rattle.acq_sql_rows.specs.Standing.{IsAt, IsBased, IsIn}
+use Rattle.acq_sql_rows.specs.Standing.{IsAt, IsIn}
 use Rattle.acq_sql_writes.specs.Written.{CommitsNothing}
-use Rattle.acq_sql_changes.specs.Transactions.{Begins, CommitsShown, FailsWhile, Keeps, LeadsInside}
+use Rattle.acq_sql_changes.specs.Transactions.{Begins, CommitsShown, FailsWhile, Keeps}
 use Rattle.acq_sql_changes.specs.Transactions.{Returns, ReturnsOnErr, StaysAt}
 use Rattle.acq_sql_changes.proofs.Commits.{left_holds}
 use Rattle.acq_sql_checking.proofs.Blaming.{risen_by}
@@ -31,10 +30,11 @@ use Rattle.acq_sql.specs.Memos.{Recalls, nothing_recalled}
 use Rattle.acq_sql.specs.Opened.{tables, is_honest, is_open, is_within, can_return, may_leave}
 use Rattle.acq_sql.specs.Opened.{leaves_books, store_faults}
 use Rattle.acq_sql.proofs.BookBlames.{told}
+use Rattle.acq_sql.proofs.BookChanges.{changes_at}
 use Rattle.acq_sql.proofs.BookMakes.{nothing_wrong, opens}
 
 -- a count that has risen has risen later, too
-risen_on : {a b c : ℕ} → b ≤ c → HasRisen a b → HasRisen a c
+pub risen_on : {a b c : ℕ} → b ≤ c → HasRisen a b → HasRisen a c
 risen_on up risen = grind arith
 
 -- ---- a change
@@ -55,12 +55,6 @@ makes_outside_only g old new succeeded outside = record {
 module _ {S T : Type 0} (g : Ghosts S) (old new : Kept S) (change : Change)
     (result : Result T Error)
     (applies : AppliesInside (state g old.connection) (state g new.connection) result change) where
-  abbrev before : State
-  before = state g old.connection
-
-  abbrev after : State
-  after = state g new.connection
-
   abbrev changed : core.Tables
   changed = core.after (tables g old) change
 
@@ -90,63 +84,13 @@ module _ {S T : Type 0} (g : Ghosts S) (old new : Kept S) (change : Change)
       (recalls : is_ok result ≡ true → (t : core.Tables) → Recalls old.memo t
       → Recalls new.memo (core.after t change))
       (same_group : new.in_group ≡ old.in_group) where
-    shown : (began : core.Tables) (faults : ℕ) → is_ok result ≡ true → HasCleanDisk after
-        → is_within g old began faults → IsIn after began changed
-    shown began faults is clean w =
-        let suits : Suits change (tables g old) = (fits (inr (began, (faults, w))), w.past) in
-        let step : (r : Result T Error)
-        → LeadsInside before after r (Suits change) (λ t. core.after t change)
-        → is_ok r ≡ true → IsIn after began changed =
-        elim [
-          | Ok x ↦ (λ did is. did clean began (tables g old) w.inside suits)
-          | Err e ↦ (λ did is. absurd (true≢false (sym is)))
-        ] in
-        step result applies.done is
-
-    shows : (began : core.Tables) (faults : ℕ) → is_ok result ≡ true → HasCleanDisk after
-        → is_within g old began faults → tables g new ≡ changed
-    shows began faults is clean w =
-        tables_of-holds after.now changed (shown began faults is clean w).holds
-
     pub makes_within_at : MakesWithinBy (tables g) (is_honest g) (is_within g) (can_return g)
         (may_leave g) (leaves_books g) old new (is_ok result) changed
-    makes_within_at = record {
-      stays = λ began faults is clean w.
-          let same = sym (shows began faults is clean w) in
-          let up = applies.stop.counts in
-          let since = w.since in
-          record {
-            clean = clean;
-            inside = subst (IsIn after began) same (shown began faults is clean w);
-            past = subst HasPast same (past (inr (began, (faults, w))));
-            began_past = w.began_past;
-            recalls = subst (Recalls new.memo) same (recalls is (tables g old) w.recalls);
-            begun = same_group ∙ w.begun;
-            since = omega (arith, up, since);
-          };
-      made = shows;
-      breaks = λ began faults is clean w.
-          let up = applies.stop.counts in
-          let since = w.since in
-          record {
-            based = applies.based clean began (tables g old) w.inside;
-            past = w.began_past;
-            shuts = ⊎_elim inl (λ more. inr (risen_after since up (risen_by more)))
-                (applies.stop.closes clean w.inside.is_open);
-            since = omega (arith, up, since);
-          };
-      leaves = λ began faults clean w t way. (
-        way.0,
-        ⊎_elim (λ (was : before.may_leave way.0). was)
-            (λ none. absurd (none began (tables g old) w.inside))
-            (applies.stop.crash clean way.0 way.1),
-        way.2,
-      );
-      books = λ began faults clean w was trees way. was trees
-          (⊎_elim (λ (earlier : before.may_leave trees). earlier)
-          (λ none. absurd (none began (tables g old) w.inside))
-          (applies.stop.crash clean trees way));
-    }
+    makes_within_at =
+        changes_at g old new result (Suits change) (λ t. core.after t change) applies
+        (λ began faults w. (fits (inr (began, (faults, w))), w.past))
+        (λ began faults w. past (inr (began, (faults, w))))
+        (λ is. recalls is (tables g old)) same_group
 
 -- ---- its beginning
 

@@ -18,7 +18,6 @@ use Rattle.acq_book.specs.declared.book_fault.BookFault.{BookFault}
 use Rattle.acq_book.specs.Groups.{GivesWithinBy, LooksWithinBy}
 use Rattle.acq_book.specs.Promise.{LooksBy}
 use Rattle.acq_book.proofs.Chains.{risen_after}
-use Rattle.acq_book.proofs.GroupChains.{unlooked_within}
 use Rattle.acq_sql_rows.specs.Relation.{Holds}
 use Rattle.acq_sql_rows.specs.ReadBack.{tables_of}
 use Rattle.acq_sql_rows.specs.Standing.{IsAt}

@@ -5,3 +5,8 @@ pub mod BookBlames
 pub mod BookMakes
 pub mod PastRows
 pub mod BookGroups
+pub mod BookChanges
+pub mod GroupChanges
+pub mod EndedRows
+pub mod Holding
+pub mod Showing

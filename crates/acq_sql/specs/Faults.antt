@@ -1,12 +1,12 @@
 -- What an error of the database is to a book that is open.
-use Rattle.std.specs.Prelude.{◌≡◌, ◌≤◌, ℕ, ◌+◌, ◌-◌, ◌^◌, min, Result, Ok, Err}
+use Rattle.std.specs.Prelude.{◌≡◌, ◌≢◌, ◌≤◌, ℕ, Bool, true, ◌+◌, ◌-◌, ◌^◌, min, Result, Ok, Err}
 use Rattle.std.specs.Prelude.{IfOk, IfErr, is_ok}
 use Rattle.sqlite.specs.declared.error.Error.{Error}
 use Rattle.sqlite.specs.declared.error.Error.TheVariants.{SqliteFailure}
 use Rattle.sqlite.specs.declared.error.ErrorCode.TheVariants as code
 use Rattle.acq_book.specs.declared.book_fault.BookFault.{BookFault}
 use Rattle.acq_book.specs.declared.book_fault.BookFault.TheVariants as book
-use Rattle.acq_book.specs.Promise.{CountsFault}
+use Rattle.acq_book.specs.Promise.{CountsFault, HasRisen}
 
 abbrev pub book_fault_of : Error → BookFault
 book_fault_of (SqliteFailure code.OutOfMemory) = book.Memory
@@ -27,3 +27,10 @@ pub record IsTold {T : Type 0} (answer : Result T Error) (result : Result T Book
   pub count : later ≡ failures_after failures result
   pub store : CountsFault result failures later
   pub rise : failures ≤ later
+
+-- where it ended its transaction, and neither memory nor the size of a row was its cause, the store
+-- has met one fault more
+abbrev pub IsTheStores : Bool → ℕ → ℕ → Error → Type 0
+IsTheStores has_ended faults later e =
+    has_ended ≡ true → e ≢ SqliteFailure code.OutOfMemory → e ≢ SqliteFailure code.TooBig
+    → HasRisen faults later

@@ -5,3 +5,5 @@ pub mod Laws
 pub mod Applied
 pub mod Faults
 pub mod Given
+pub mod Holding
+pub mod HeldLaws

@@ -6,9 +6,12 @@
 
 mod answers;
 mod applying;
+mod ended_requests;
 mod follows;
 mod numbers;
 mod request_columns;
 mod requests;
 
 pub use applying::apply;
+pub use ended_requests::add_ended;
+pub use requests::add_request;

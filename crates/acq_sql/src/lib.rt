@@ -10,10 +10,12 @@ mod answers;
 mod apply;
 mod laws;
 mod memo;
+mod once_book;
 mod refusal;
 mod sql_book;
 
 pub use laws::a_stop_leaves_a_book;
 pub use memo::{MayWait, Memo, UsedOn};
+pub use once_book::OnceBook;
 pub use refusal::Refusal;
 pub use sql_book::SqlBook;

@@ -1,6 +1,10 @@
 //! What a book recalls of its tables.
 
-ghost use Rattle.std.specs.Prelude.{◌≡◌, IfOk, IfSome, None, true, false};
+ghost use Rattle.std.specs.Prelude.{◌≡◌, ◌++◌, ◌∷◌, [], List, Option, IfOk, IfSome, None};
+ghost use Rattle.std.specs.Prelude.{true, false};
+ghost use Rattle.acq_core.specs.declared.posting.Posting.{Posting};
+ghost use Rattle.acq_core.specs.declared.request.Request.{Request};
+ghost use Rattle.acq_sql_changes.specs.Changed.{with_posted};
 ghost use Rattle.acq_core.specs.Tables.{Tables, after};
 ghost use Rattle.acq_book.specs.Lookups.{used_on_at, waiting_count_at};
 ghost use Rattle.acq_sql.specs.Memos.{CountsUsed, HasRow, Recalls, nothing_recalled};
@@ -9,7 +13,7 @@ mod may_wait;
 mod used_on;
 
 use acq_book::BookFault;
-use acq_core::{Change, Limit};
+use acq_core::{Change, Limit, Request};
 use day_totals::Day;
 pub use may_wait::MayWait;
 pub use used_on::UsedOn;
@@ -49,6 +53,22 @@ impl Memo {
             row: row_after(self.row, change),
             waiting: self.waiting.after(change),
             used: used_after(self.used, change),
+        }
+    }
+
+    /// What is recalled once a request is recorded, with the posting that it makes, if any.
+    pub(crate) fn with_request(self, request: &Request, is_made: bool) -> Memo
+        ensures made { is_made ≡ true → (t : Tables) (posting : Option Posting) → Recalls self t
+            → Recalls result (with_posted request.now posting t) }
+        ensures failed { is_made ≡ false → result ≡ nothing_recalled }
+    {
+        if !is_made {
+            return Memo::nothing();
+        }
+        Memo {
+            row: self.row,
+            waiting: self.waiting.with(request),
+            used: used_with(self.used, request),
         }
     }
 
@@ -141,4 +161,12 @@ fn used_after(used: Option<UsedOn>, change: &Change) -> Option<UsedOn>
         → CountsUsed result (after t change.now).requests }
 {
     used?.after(change)
+}
+
+/// What is recalled of a day with one more request.
+fn used_with(used: Option<UsedOn>, request: &Request) -> Option<UsedOn>
+    ensures { (rows : List Request) → CountsUsed used rows
+        → CountsUsed result (rows ++ request.now ∷ []) }
+{
+    used?.with(request)
 }

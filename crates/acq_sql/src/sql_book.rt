@@ -21,6 +21,7 @@ ghost use Rattle.acq_sql_opening.specs.Migrated.{IsAsItSays, IsOfSixDigits};
 ghost use Rattle.acq_sql.specs.Opened.{IsOpenAt, IsRoomy};
 
 mod looking_up;
+mod recording;
 
 use crate::answers::counted;
 use crate::memo::Memo;

@@ -4,6 +4,7 @@ pub mod RaisedDays
 pub mod TakenTables
 pub mod Progress
 pub mod Outcomes
+pub mod ToldApart
 pub mod Commands
 pub mod Transactions
 pub mod Commits

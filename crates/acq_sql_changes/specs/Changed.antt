@@ -12,6 +12,7 @@ use Rattle.acq_message.specs.declared.request_key.RequestKey.{RequestKey}
 use Rattle.iso_codec.specs.Message.{IsoMessage}
 use Rattle.acq_core.specs.Numbers.{is_used_count}
 use Rattle.acq_core.specs.Tables.{Tables, after, postings_before, reconciliations_before}
+use Rattle.acq_core.specs.Tables.{with_next_posting}
 use Rattle.acq_book.specs.Lookups.{used_at}
 use Rattle.acq_book.specs.Fits.{HasRoom, IsPostedBy}
 use Rattle.acq_sql_rows.specs.Rows.{version}
@@ -82,6 +83,15 @@ with_follow row original remains posting t =
 -- number
 abbrev pub HasRoomToFollow : Request → ℕ → Posting → Tables → Type 0
 HasRoomToFollow row number p t = HasRoomFor row t × HasRoomToPost number p t × IsPostedBy row p
+
+-- ---- a request that posts as it is recorded
+
+-- the tables with a request and the posting that it makes, if any
+abbrev pub with_posted : Request → Option Posting → Tables → Tables
+with_posted row posting t =
+    record (after t (change.AddRequest row)) {
+      postings = with_next_posting t.postings posting;
+    }
 
 -- ---- a request that reconciles
 

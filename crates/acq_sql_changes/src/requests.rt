@@ -9,7 +9,7 @@ ghost use Rattle.acq_sql_writes.specs.Written.{with_request, IsShortEnd};
 ghost use Rattle.acq_sql_changes.specs.Transactions.{ChangesInside};
 ghost use Rattle.acq_sql_changes.specs.Changed.{HasRoomFor};
 ghost use Rattle.acq_sql_writes.specs.Refused.{AnyTables};
-ghost use Rattle.acq_sql_changes.specs.Refused.{FailsInside};
+ghost use Rattle.acq_sql_changes.specs.Refused.{FailsInside, TellsApart};
 
 use crate::tallies::used_by;
 use acq_core::Request;
@@ -30,6 +30,7 @@ pub fn record_request<'x, S: Alter>(
         (HasRoomFor request.now) (with_request request.now) }
     ensures fails { FailsInside (state S.Store conn.old) (state S.Store conn.new) result
         (change.AddRequest request.now) AnyTables }
+    ensures apart { TellsApart (state S.Store conn.old) (state S.Store conn.new) result }
 {
     if !request.admitted {
         return add_request(conn, request, reply);

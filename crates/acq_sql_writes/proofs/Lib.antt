@@ -14,6 +14,7 @@ pub mod RangesTaken
 pub mod RaisesTaken
 pub mod Refusals
 pub mod Executed
+pub mod Apart
 pub mod Inside
 pub mod Bound
 pub mod RunningTotals

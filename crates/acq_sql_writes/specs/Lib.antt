@@ -1,3 +1,4 @@
 pub mod Written
 pub mod Widened
 pub mod Refused
+pub mod Apart

@@ -5,6 +5,7 @@ ghost use Rattle.sqlite.specs.Held.{state};
 ghost use Rattle.acq_sql_writes.specs.Written.{WritesInside, Changes, with_request, IsShortEnd};
 ghost use Rattle.acq_sql_writes.specs.Widened.{IsNeverRefused};
 ghost use Rattle.acq_sql_writes.specs.Refused.{HasTables, TakesRequest};
+ghost use Rattle.acq_sql_writes.specs.Apart.{FailsApart};
 ghost use Rattle.iso_codec.specs.Message.{IsMessage};
 ghost use Rattle.iso_codec.specs.Reading.{spelling};
 
@@ -30,6 +31,7 @@ pub fn add_request<'x, S: Alter>(
         result (Changes (with_request request.now)) }
     ensures fails { IsNeverRefused (state S.Store conn.old)
         (state S.Store conn.new) result (HasTables (TakesRequest request.now)) }
+    ensures apart { FailsApart (state S.Store conn.old) (state S.Store conn.new) result }
 {
     let merchant = request.key.merchant.to_bytes();
     let terminal = request.key.terminal.to_bytes();

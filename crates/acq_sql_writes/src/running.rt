@@ -8,6 +8,7 @@ ghost use Rattle.day_totals.specs.Totals.{total_for};
 ghost use Rattle.acq_sql_writes.specs.Written.{WritesInside, Raises, tally_from};
 ghost use Rattle.acq_sql_writes.specs.Widened.{IsNeverRefused};
 ghost use Rattle.acq_sql_writes.specs.Refused.{HasRuns, TakesMore};
+ghost use Rattle.acq_sql_writes.specs.Apart.{FailsApart};
 
 use crate::statement::execute;
 use acq_core::MerchantId;
@@ -31,6 +32,7 @@ pub fn raise<S: Alter>(
     ensures fails { IsNeverRefused (state S.Store conn.old)
         (state S.Store conn.new) result
         (HasRuns (TakesMore merchant day (tally_from used posted.now))) }
+    ensures apart { FailsApart (state S.Store conn.old) (state S.Store conn.new) result }
 {
     let merchant = merchant.to_bytes();
     execute(

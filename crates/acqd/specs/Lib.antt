@@ -1,3 +1,4 @@
 pub mod BookFiles
 pub mod Found
+pub mod Hosts
 pub mod StoppedRuns

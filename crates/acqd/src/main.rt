@@ -27,7 +27,7 @@ use acq_commands::{Progress, PromptLines, SystemClock, TerminalProgress};
 use acq_link::{ReadSource, Sink, Source, WriteSink};
 use acq_program::{Machine, command, memory_fault, read_fault, utf8_fault};
 use acq_recall::Lenient;
-use acq_sql::SqlBook;
+use acq_sql::OnceBook;
 use fault_event::log_fault;
 pub use no_book::NoBook;
 pub use open_book::{make_book, migrate_book, open_book};
@@ -108,7 +108,7 @@ fn run_over_files<D: Start, S: Source, K: Sink, F: Sink, P: Progress>(
 /// machine has, for the same reason.
 fn run_over_store<
     T: Alter + Drop,
-    M: Machine<SqlBook<T>> + Drop,
+    M: Machine<OnceBook<T>> + Drop,
     S: Source,
     K: Sink,
     F: Sink,

@@ -10,15 +10,8 @@ ghost use Rattle.sqlite.specs.State.{HasCleanDisk};
 ghost use Rattle.acq_core.specs.Pasts.{HasPast};
 ghost use Rattle.acq_core.specs.Tables.{Tables};
 ghost use Rattle.acq_sql_opening.specs.Files.{FilesHold};
-ghost use Rattle.acq_sql.specs.Opened.{
-  IsOpenAt,
-  is_honest,
-  is_open,
-  leaves_books,
-  may_leave,
-  tables,
-};
-ghost use Rattle.acq_recall.specs.Recalled.{Recalls};
+ghost use Rattle.acq_sql.specs.Opened.{IsOpenAt, is_honest, leaves_books, may_leave};
+ghost use Rattle.acqd.specs.Hosts.{IsOpen, tables};
 ghost use Rattle.acqd.specs.StoppedRuns.{IsLeftBy, IsNoRefusal};
 
 use crate::no_book::NoBook;
@@ -26,7 +19,7 @@ use crate::open_book::open_book;
 use acq_core::{Event, Output};
 use acq_host::{Host, RunFault};
 use acq_recall::RecallingBook;
-use acq_sql::{SqlBook, a_stop_leaves_a_book};
+use acq_sql::{OnceBook, SqlBook, a_stop_leaves_a_book};
 use sqlite::Alter;
 use sqlite_disk::{Disk, Start};
 use sqlite_std_file::FileFrom;
@@ -36,13 +29,12 @@ use sqlite_store::FileStore;
 /// files that are left then hold a book, at the tables after all these events, or after a fault
 /// those before it, perhaps with the one at which it came.
 pub fn stopped_run<D: Disk + Drop>(
-    host: Host<RecallingBook<SqlBook<FileStore<D>>>>,
+    host: Host<RecallingBook<OnceBook<FileStore<D>>>>,
     events: &[Event],
 ) -> (FileStore<D>, Result<Vec<Output>, RunFault>)
-    ensures { IsClean (files.view result.0) → is_open over_files host.book
-        → Recalls host.recalled (tables over_files host.book) → (left : Image)
+    ensures { IsClean (files.view result.0) → IsOpen over_files host → (left : Image)
         → (files.state result.0).may_leave left
-        → ∥ ((t : Tables) × IsLeftBy (tables over_files host.book) events.now result.1 t
+        → ∥ ((t : Tables) × IsLeftBy (tables over_files host) events.now result.1 t
         × HasPast t × FilesHold left t) ∥₁ }
 {
     let (book, ran) = given_up(host, events);
@@ -52,18 +44,17 @@ pub fn stopped_run<D: Disk + Drop>(
 /// Takes events over a book, and gives it up as it then is. It is said of any store: a proof over
 /// that of this machine alone takes minutes.
 fn given_up<S: Alter + Drop>(
-    mut host: Host<RecallingBook<SqlBook<S>>>,
+    mut host: Host<RecallingBook<OnceBook<S>>>,
     events: &[Event],
 ) -> (SqlBook<S>, Result<Vec<Output>, RunFault>)
-    ensures books { is_honest S.Store result.0 → is_open S.Store host.book
-        → Recalls host.recalled (tables S.Store host.book) → leaves_books S.Store result.0 }
-    ensures left { is_honest S.Store result.0 → is_open S.Store host.book
-        → Recalls host.recalled (tables S.Store host.book)
+    ensures books { is_honest S.Store result.0 → IsOpen S.Store host
+        → leaves_books S.Store result.0 }
+    ensures left { is_honest S.Store result.0 → IsOpen S.Store host
         → (t : Tables) → may_leave S.Store result.0 t
-        → IsLeftBy (tables S.Store host.book) events.now result.1 t × HasPast t }
+        → IsLeftBy (tables S.Store host) events.now result.1 t × HasPast t }
 {
     let ran = host.run(events);
-    (host.into_book().into_book(), ran)
+    (host.into_book().into_book().into_book(), ran)
 }
 
 /// Takes events over a book in files, gives it up as a stop does, and opens the files at a path,
@@ -72,7 +63,7 @@ fn given_up<S: Alter + Drop>(
 /// refused, only memory or the store was in the way.
 pub fn reopened<D: Disk + Drop, E: Start>(
     rt: &HostRuntime,
-    host: Host<RecallingBook<SqlBook<FileStore<D>>>>,
+    host: Host<RecallingBook<OnceBook<FileStore<D>>>>,
     events: &[Event],
     path: &str,
     start: E,
@@ -81,14 +72,12 @@ pub fn reopened<D: Disk + Drop, E: Start>(
     Result<Vec<Output>, RunFault>,
     Result<SqlBook<FileStore<FileFrom<E>>>, NoBook<FileStore<FileFrom<E>>>>,
 )
-    ensures opens { IsClean (files.view result.0) → is_open over_files host.book
-        → Recalls host.recalled (tables over_files host.book)
+    ensures opens { IsClean (files.view result.0) → IsOpen over_files host
         → (files.state result.0).may_leave (image_at E.Start) → IfOk result.2 (λ book.
         HasCleanDisk (file_state book.connection) → ∥ ((t : Tables)
-        × IsLeftBy (tables over_files host.book) events.now result.1 t
+        × IsLeftBy (tables over_files host) events.now result.1 t
         × IsOpenAt (file_state book.connection) t) ∥₁) }
-    ensures accepts { IsClean (files.view result.0) → is_open over_files host.book
-        → Recalls host.recalled (tables over_files host.book)
+    ensures accepts { IsClean (files.view result.0) → IsOpen over_files host
         → (files.state result.0).may_leave (image_at E.Start) → IfErr result.2 (λ none.
         IfSome none.connection (λ connection. HasCleanDisk (file_state connection))
         → IsNoRefusal none.fault) }

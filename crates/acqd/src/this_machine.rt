@@ -21,7 +21,7 @@ use acq_faults::{Fault, ListenOptions, Patience};
 use acq_link::{ReadSource, WriteSink};
 use acq_out::read_events;
 use acq_program::Machine;
-use acq_sql::SqlBook;
+use acq_sql::OnceBook;
 use acq_sql_checking::OpeningFault;
 use acq_stand_in::StandIn;
 use acq_tcp::{HostLog, TcpConnections, TcpGathering};
@@ -60,7 +60,7 @@ impl<'a, D: Start> ThisMachine<'a, D> {
     }
 }
 
-impl<'a, D: Start> Machine<SqlBook<FileStore<FileFrom<D>>>> for ThisMachine<'a, D> {
+impl<'a, D: Start> Machine<OnceBook<FileStore<FileFrom<D>>>> for ThisMachine<'a, D> {
     type Connections = TcpConnections<'a, HostRuntime>;
 
     type Gathering = TcpGathering<'a, HostRuntime, LogOutput<'a>>;
@@ -73,14 +73,14 @@ impl<'a, D: Start> Machine<SqlBook<FileStore<FileFrom<D>>>> for ThisMachine<'a, 
 
     type Replies = ReadSource<HostLine<'a, TcpStream>>;
 
-    fn open_book(self, path: &str) -> Result<SqlBook<FileStore<FileFrom<D>>>, Fault> {
+    fn open_book(self, path: &str) -> Result<OnceBook<FileStore<FileFrom<D>>>, Fault> {
         if let Err(cause) = find_book(self.rt, path) {
             return Err(fault_of_opening(cause));
         }
         match open_book(self.rt, path, self.start) {
             Ok(book) => {
                 self.signs.opened_book();
-                Ok(book)
+                Ok(OnceBook::new(self.rt.alloc(), book))
             }
             Err(none) => Err(fault_of_opening(none.into_fault())),
         }
@@ -101,20 +101,20 @@ impl<'a, D: Start> Machine<SqlBook<FileStore<FileFrom<D>>>> for ThisMachine<'a, 
         }
     }
 
-    fn migrate_book(self, path: &str) -> Result<SqlBook<FileStore<FileFrom<D>>>, Fault> {
+    fn migrate_book(self, path: &str) -> Result<OnceBook<FileStore<FileFrom<D>>>, Fault> {
         if let Err(cause) = find_book(self.rt, path) {
             return Err(fault_of_opening(cause));
         }
         match migrate_book(self.rt, path, self.start) {
-            Ok(book) => Ok(book),
+            Ok(book) => Ok(OnceBook::new(self.rt.alloc(), book)),
             Err(cause) => Err(fault_of_opening(cause)),
         }
     }
 
-    fn close_book(book: SqlBook<FileStore<FileFrom<D>>>) -> Result<(), Fault>
+    fn close_book(book: OnceBook<FileStore<FileFrom<D>>>) -> Result<(), Fault>
         ensures { IfErr result IsClosing }
     {
-        match book.close() {
+        match book.into_book().close() {
             Ok(()) => Ok(()),
             Err(error) => Err(fault_of_closing(&error)),
         }

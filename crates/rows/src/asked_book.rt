@@ -186,7 +186,11 @@ impl Book for AskedBook {
     }
 
     fn keep(&mut self) -> Result<(), BookFault> {
-        if self.fails { Err(BookFault::Memory) } else { Ok(()) }
+        if self.fails {
+            Err(BookFault::Memory)
+        } else {
+            Ok(())
+        }
     }
 
     fn give_up(&mut self) {}
@@ -194,6 +198,10 @@ impl Book for AskedBook {
 
 impl Lenient for AskedBook {
     fn apply_any(&mut self, _change: &Change) -> Result<(), BookFault> {
-        if self.fails { Err(BookFault::Memory) } else { Ok(()) }
+        if self.fails {
+            Err(BookFault::Memory)
+        } else {
+            Ok(())
+        }
     }
 }

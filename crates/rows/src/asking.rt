@@ -15,8 +15,8 @@ use std::hash::RandomState;
 
 /// Puts what a book is asked for at each of these steps, which follow one another, and a bar behind
 /// each: a `sale`, the `answer` to the last one, one of `another` merchant, a `range` that is
-/// added, a `cutover`, a `status`, `group`, `keep` and `give-up`. Behind `fault` changes and groups fail,
-/// until it is said again.
+/// added, a `cutover`, a `status`, `group`, `keep` and `give-up`. Behind `fault` changes and groups
+/// fail, until it is said again.
 pub fn put_asked(alloc: Global, keys: RandomState, text: &[u8], answer: &mut String) -> Option<()> {
     let mut asking = Asking {
         alloc,

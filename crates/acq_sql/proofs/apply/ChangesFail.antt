@@ -16,7 +16,7 @@ use Rattle.acq_sql_rows.specs.Relation.{Holds}
 use Rattle.acq_sql_rows.specs.Rows.{version}
 use Rattle.acq_sql_rows.specs.Standing.{IsOpenOver}
 use Rattle.acq_sql_changes.specs.Transactions.{ChangesInside}
-use Rattle.acq_sql_changes.specs.Refused.{FailsInside}
+use Rattle.acq_sql_changes.specs.Refused.{FailsInside, TellsApart}
 use Rattle.acq_sql_writes.specs.Refused.{HasNumbersLeft}
 use Rattle.acq_sql_reads.specs.Looked.{LooksOnly}
 use Rattle.acq_sql.proofs.apply.ChangesLooked.{in_unchanged}
@@ -74,3 +74,8 @@ module _ {T : Type 0} {change : Change} where
   fails_for_memory old new memory (Ok x) is = absurd (true≢false (sym is.0))
   fails_for_memory old new memory (Err r) is =
       λ left clean t inside takes free. inl (is.1 ∙ memory)
+
+-- where nothing was written, the transaction is open still
+pub still_apart : {T : Type 0} (s : State) (result : Result T Error) → TellsApart s s result
+still_apart s (Ok x) clean t at = tt
+still_apart s (Err e) clean t (began, i) = inl i.inside

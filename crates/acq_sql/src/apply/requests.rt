@@ -3,7 +3,7 @@
 ghost use Rattle.sqlite.specs.Held.{state};
 ghost use Rattle.acq_core.specs.declared.change.Change.TheVariants as change;
 ghost use Rattle.acq_core.specs.Pasts.{HasPast};
-ghost use Rattle.acq_sql_changes.specs.Refused.{FailsInside};
+ghost use Rattle.acq_sql_changes.specs.Refused.{FailsInside, TellsApart};
 ghost use Rattle.acq_sql_writes.specs.Written.{IsShortEnd};
 ghost use Rattle.acq_sql.specs.Applied.{AppliesInside};
 
@@ -25,6 +25,7 @@ pub fn add_request<'x, S: Alter>(
     ensures fails { IsShortEnd request.now.hold_end
         → FailsInside (state S.Store conn.old) (state S.Store conn.new) result
         (change.AddRequest request.now) HasPast }
+    ensures apart { TellsApart (state S.Store conn.old) (state S.Store conn.new) result }
 {
     check_hold_end(request.hold_end)?;
     let reply = spelled(alloc, &request.reply)?;

@@ -38,7 +38,7 @@ impl MayWait {
     }
 
     /// With one more request.
-    fn with(self, request: &Request) -> MayWait
+    pub(crate) fn with(self, request: &Request) -> MayWait
         ensures { (rows : List Request) → WaitsNoOther self rows
             → WaitsNoOther result (rows ++ request.now ∷ []) }
     {

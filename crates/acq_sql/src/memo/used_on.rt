@@ -33,7 +33,7 @@ impl UsedOn {
 
     /// With one more request.
     #[tactic(auto, using(crate::proofs::Memos::used_pushed))]
-    fn with(self, request: &Request) -> Option<UsedOn>
+    pub(crate) fn with(self, request: &Request) -> Option<UsedOn>
         ensures { (rows : List Request) → CountsUsed (Some self) rows
             → CountsUsed result (rows ++ request.now ∷ []) }
     {

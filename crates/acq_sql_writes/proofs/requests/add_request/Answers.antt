@@ -1,3 +1,4 @@
+use Rattle.acq_sql_writes.proofs.Apart.{fails_apart}
 use Rattle.acq_sql_writes.proofs.Bound.{bound_number, bound_text}
 use Rattle.acq_sql_writes.proofs.Inside.{request_inside}
 use Rattle.acq_sql_writes.proofs.Refusals.{request_excused}
@@ -42,4 +43,5 @@ returns g c =
         trace = c.to_bytes-trace.ensures.valid;
         transmission = c.to_bytes-stamp.ensures.valid;
       }) c.requires.whole ran;
+      apart = fails_apart _ _ c.execute.result _ _ ran;
     }

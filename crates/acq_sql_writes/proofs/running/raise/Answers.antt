@@ -1,4 +1,5 @@
 use Rattle.acq_sql_writes.specs.Written.{tally_from}
+use Rattle.acq_sql_writes.proofs.Apart.{fails_apart}
 use Rattle.acq_sql_writes.proofs.Inside.{raised_inside}
 use Rattle.acq_sql_writes.proofs.Refusals.{raise_excused}
 use Rattle.acq_sql_writes.proofs.running.raise.Goals as goal
@@ -24,4 +25,5 @@ returns g c =
           (tally_from c.args.used c.args.posted.now) (_, c.execute.ensures.survives) ran;
       fails = raise_excused _ _ c.execute.result c.args.merchant c.args.day
           (tally_from c.args.used c.args.posted.now) c.to_bytes-merchant.ensures.valid ran;
+      apart = fails_apart _ _ c.execute.result _ _ ran;
     }

@@ -1,7 +1,7 @@
 use Rattle.std.proofs.Common.{true≢false, sym}
 use Rattle.sqlite.specs.Held.{state}
 use Rattle.acq_sql_writes.specs.Refused.{AnyTables}
-use Rattle.acq_sql.proofs.apply.ChangesFail.{fails_for, fails_for_memory}
+use Rattle.acq_sql.proofs.apply.ChangesFail.{fails_for, fails_for_memory, still_apart}
 use Rattle.acq_sql.proofs.apply.ChangesLooked.{inside_for, inside_refuses}
 use Rattle.acq_sql.proofs.apply.requests.add_request.Goals as goal
 
@@ -32,3 +32,11 @@ returns-in_err-reply-clause-fails g c short =
     fails_for_memory (state g.S.Store c.args.conn.now) (state g.S.Store c.args.conn.now)
     c.in_err-reply.ensures.fails c.from_residual-in_err-reply.result
     c.from_residual-in_err-reply.ensures
+
+pub returns-in_err-check_hold_end-clause-apart : goal.returns-in_err-check_hold_end-clause-apart
+returns-in_err-check_hold_end-clause-apart g c =
+    still_apart (state g.S.Store c.args.conn.now) c.from_residual.result
+
+pub returns-in_err-reply-clause-apart : goal.returns-in_err-reply-clause-apart
+returns-in_err-reply-clause-apart g c =
+    still_apart (state g.S.Store c.args.conn.now) c.from_residual-in_err-reply.result

@@ -2,9 +2,7 @@
 use Rattle.std.proofs.Common.{◌≡◌, ◌≤◌, inl, Bool, true, false, is_ok, refl, subst, sym, ◌∙◌, arith}
 use Rattle.sqlite.specs.Held.{state}
 use Rattle.sqlite.specs.State.{HasCleanDisk}
-use Rattle.acq_core.specs.Pasts.{HasPast}
 use Rattle.acq_core.specs.Tables.{after}
-use Rattle.acq_book.specs.Fits.{Fits}
 use Rattle.acq_book.specs.Groups.{IsLive, MakesWithinBy}
 use Rattle.acq_book.specs.Promise.{MakesBy}
 use Rattle.acq_recall.specs.Suits.{Suits}
