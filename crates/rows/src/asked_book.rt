@@ -32,8 +32,10 @@ impl AskedBook {
 
     fn note(&mut self, word: &str) {
         // Without memory a row differs.
+        if !self.asked.is_empty() {
+            let _ = self.asked.push_str(" ");
+        }
         let _ = self.asked.push_str(word);
-        let _ = self.asked.push_str(" ");
     }
 
     fn note_wanted(&mut self, wanted: &Wanted) {
