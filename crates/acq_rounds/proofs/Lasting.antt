@@ -198,3 +198,13 @@ pub serves_last : (acts : List Act) (ended xs : List Connection) (x : Connection
 serves_last acts ended xs x count s =
     subst (λ (l : List Connection). Serves acts (ended ++ x ∷ []) l count) (append-nil xs)
     (serves_less acts ended xs x [] count s)
+
+pub serves_counted : (acts : List Act) (ended here : List Connection) (count now : ℕ) →
+    now ≡ count → Serves acts ended here count → Serves acts ended here now
+serves_counted acts ended here count now is s = subst (Serves acts ended here) (sym is) s
+
+pub serves_as : (acts : List Act) (ended now here there : List Connection) (count : ℕ) →
+    now ≡ ended → there ≡ here → Serves acts ended here count → Serves acts now there count
+serves_as acts ended now here there count e h s =
+    subst (λ (l : List Connection). Serves acts l there count) (sym e)
+    (subst (λ (l : List Connection). Serves acts ended l count) (sym h) s)

@@ -2,6 +2,7 @@ pub mod Lists
 pub mod Acting
 pub mod Grouping
 pub mod Lasting
+pub mod Turning
 pub mod Moving
 pub mod Running
 pub mod Served

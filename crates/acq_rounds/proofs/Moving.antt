@@ -1,10 +1,10 @@
 -- Connections of which one moves.
-use Rattle.std.proofs.Common.{◌≡◌, ◌<◌, ◌≤◌, ◌+◌, ℕ, true, false, suc, List, [], ◌∷◌, ◌++◌}
+use Rattle.std.proofs.Common.{◌≡◌, ◌<◌, ◌≤◌, ◌+◌, ℕ, true, false, List, [], ◌∷◌, ◌++◌}
 use Rattle.std.proofs.Common.{map, take, drop, length, set, get_or, cond, refl, sym, ap, subst}
 use Rattle.std.proofs.Common.{◌∙◌, append_assoc, append-nil, take-append-drop, arith}
 use Rattle.std.proofs.Math.ListN.{get_or-map}
 use Rattle.std.proofs.Math.Seq.{map-set_same}
-use Rattle.std.proofs.lemmas.List.{map-append, map-set, drop_more, take_more, take_more_set}
+use Rattle.std.proofs.lemmas.List.{map-append, map-set, drop_more, take_more_set}
 use Rattle.std.proofs.lemmas.List.{drop-set-lt, drop_all, set-get_or, take_all}
 use Rattle.std.specs.List.{AllByRecursion, remove}
 use Rattle.acq_link.specs.FirstMessage.{first_message}
@@ -14,6 +14,7 @@ use Rattle.acq_rounds.specs.Groups.{answered, asked, handed, is_ready}
 use Rattle.acq_rounds.specs.Moves.{AllGoOn, GoesOn}
 use Rattle.acq_rounds.proofs.Lasting.{serves_less, serves_more}
 use Rattle.acq_rounds.proofs.Lists.{all_set}
+use Rattle.acq_rounds.proofs.Turning.{parts, without}
 
 -- ---- one goes on
 
@@ -133,12 +134,15 @@ module _ {X : Type 0} (view : X → Connection) (ps : List X) (i : ℕ) (d : X) 
         ∙ sym (ap (λ (l : List Connection). handed l (r ∷ rs)) next))
 
     -- this one wasn't ready
-    pub handed_pass : (rs : List (List (List ℕ))) → is_ready c ≡ false →
-        map view (take (i + 1) ps) ++ handed rest rs
+    pub handed_pass : (y : X) (rs : List (List (List ℕ))) → is_ready c ≡ false → view y ≡ c →
+        map view (take (i + 1) (set ps i y)) ++ handed (map view (drop (i + 1) (set ps i y))) rs
         ≡ map view (take i ps) ++ handed (map view (drop i ps)) rs
-    handed_pass rs off =
-        ap (λ (l : List Connection). l ++ handed rest rs)
-        (ap (map view) (take_more ps i d lt) ∙ map-append view (take i ps) (get_or ps i d ∷ []))
+    handed_pass y rs off is =
+        ap (λ (l : List X). map view (take (i + 1) (set ps i y)) ++ handed (map view l) rs)
+        (drop-set-lt (i + 1) ps i y (omega arith))
+        ∙ ap (λ (l : List Connection). l ++ handed rest rs)
+        (ap (map view) (take_more_set ps i y lt) ∙ map-append view (take i ps) (y ∷ [])
+        ∙ ap (λ (x : Connection). map view (take i ps) ++ (x ∷ [])) is)
         ∙ append_assoc (map view (take i ps)) (c ∷ []) (handed rest rs)
         ∙ ap (λ (l : List Connection). map view (take i ps) ++ l)
         (passed rs ∙ sym (ap (λ (l : List Connection). handed l rs) next)) where
@@ -165,21 +169,26 @@ handed_all view ps i rs le =
 -- ---- one ends
 
 pub serves_remove : {X : Type 0} (view : X → Connection) (acts : List Act)
-    (ended : List Connection) (ps : List X) (i : ℕ) (d : X) (count : ℕ) → i < length ps →
-    Serves acts ended (map view ps) count →
-    Serves acts (ended ++ view (get_or ps i d) ∷ []) (map view (remove ps i)) count
-serves_remove view acts ended ps i d count lt s =
-    let x = get_or ps i d in
-    let split : map view ps ≡ map view (take i ps) ++ view x ∷ map view (drop (i + 1) ps) =
-    ap (map view) (sym (take-append-drop i ps)) ∙ map-append view (take i ps) (drop i ps)
-    ∙ ap (λ (l : List _). map view (take i ps) ++ map view l) (drop_more ps i d lt) in
-    subst (λ (l : List Connection). Serves acts (ended ++ view x ∷ []) l count)
-    (sym (ap (λ n. map view (take i ps ++ drop n ps)) (next_is i)
-    ∙ map-append view (take i ps) (drop (i + 1) ps)))
-    (serves_less acts ended (map view (take i ps)) (view x) (map view (drop (i + 1) ps)) count
-    (subst (λ (l : List Connection). Serves acts ended l count) split s)) where
-      next_is : (i : ℕ) → suc i ≡ i + 1
-      next_is i = omega arith
+    (ended front behind : List Connection) (ps : List X) (i : ℕ) (d : X) (count : ℕ) →
+    i < length ps → Serves acts ended (front ++ (map view ps ++ behind)) count →
+    Serves acts (ended ++ view (get_or ps i d) ∷ [])
+    (front ++ (map view (remove ps i) ++ behind)) count
+serves_remove view acts ended front behind ps i d count lt s =
+    let x = view (get_or ps i d) in
+    let before = map view (take i ps) in
+    let more = map view (drop (i + 1) ps) in
+    let split : front ++ (map view ps ++ behind) ≡ (front ++ before) ++ (x ∷ (more ++ behind)) =
+    ap (λ (l : List Connection). front ++ (l ++ behind)) (parts view ps i d lt)
+    ∙ ap (λ (l : List Connection). front ++ l) (append_assoc before (x ∷ more) behind)
+    ∙ sym (append_assoc front before (x ∷ (more ++ behind))) in
+    let rest : front ++ (map view (remove ps i) ++ behind)
+    ≡ (front ++ before) ++ (more ++ behind) =
+    ap (λ (l : List Connection). front ++ (l ++ behind)) (without view ps i d lt)
+    ∙ ap (λ (l : List Connection). front ++ l) (append_assoc before more behind)
+    ∙ sym (append_assoc front before (more ++ behind)) in
+    subst (λ (l : List Connection). Serves acts (ended ++ x ∷ []) l count) (sym rest)
+    (serves_less acts ended (front ++ before) x (more ++ behind) count
+    (subst (λ (l : List Connection). Serves acts ended l count) split s))
 
 -- ---- one comes
 

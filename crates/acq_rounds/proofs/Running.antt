@@ -1,21 +1,25 @@
 -- Runs, one behind the other.
 use Rattle.std.proofs.Common.{◌≡◌, ◌+◌, ℕ, List, [], ◌∷◌, ◌++◌, refl, sym, ap, subst, subst₂}
-use Rattle.std.proofs.Common.{◌∙◌, append_assoc, append-nil, drop, inl, inr, length}
-use Rattle.std.proofs.Common.{length-append, take}
-use Rattle.std.proofs.lemmas.List.{map-append, take_at}
+use Rattle.std.proofs.Common.{◌∙◌, ◌⊎◌, append_assoc, append-nil, arith, drop, inl, inr, length}
+use Rattle.std.proofs.Common.{take}
+use Rattle.std.proofs.lemmas.List.{take_at}
 use Rattle.std.proofs.lemmas.List.Elements.{All-weaker}
 use Rattle.acq_message.specs.declared.verdict.Verdict.{Verdict}
 use Rattle.acq_core.specs.declared.query.Query.{Query}
+use Rattle.acq_core.specs.declared.event.Event.{Event}
 use Rattle.acq_core.specs.Tables.{Tables, tables_after}
+use Rattle.acq_soundness.proofs.Runs.{tables_after-append}
 use Rattle.acq_front.specs.Stops.{Left}
 use Rattle.acq_front.specs.Talk.{AreSaid, Saying, queries}
 use Rattle.acq_rounds.specs.Acts.{Act, Connection, IsTaken, Serves, Taken, Took, messages_of}
 use Rattle.acq_rounds.specs.Acts.{said_of, taken_of}
 use Rattle.acq_rounds.specs.Groups.{acts_in, asked, handed}
 use Rattle.acq_rounds.specs.Moves.{AllGoOn}
-use Rattle.acq_rounds.specs.Runs.{AreFair, Begins, Group, Ran, ServesAll, Whole, acts_of, all_acts}
-use Rattle.acq_rounds.specs.Runs.{RanUntil, whole}
-use Rattle.acq_rounds.specs.Taking.{LeavesGroup, TookNone}
+use Rattle.acq_rounds.specs.Reaching.{ReachesSome}
+use Rattle.acq_rounds.specs.Runs.{AreFair, Begins, Between, Did, Group, Grouped, LeavesInHand, Ran}
+use Rattle.acq_rounds.specs.Runs.{RanUntil, ServesAll, Step, Whole, acts_of, all_acts, groups_in}
+use Rattle.acq_rounds.specs.Runs.{whole}
+use Rattle.acq_rounds.specs.Taking.{TookNone}
 use Rattle.acq_rounds.proofs.Grouping.{each_has_its, taken_group}
 use Rattle.acq_rounds.proofs.Lasting.{serves_group, serves_on}
 
@@ -30,28 +34,39 @@ begins_more a b x c f e = begins_both a b c f (x ∷ [], e)
 pub begins_same : (a b : List Connection) → b ≡ a → Begins a b
 begins_same a b e = ([], e ∙ sym (append-nil a))
 
-acts-append : (gs more : List Group) → all_acts (gs ++ more) ≡ all_acts gs ++ all_acts more
+acts-append : (steps more : List Step) → all_acts (steps ++ more) ≡ all_acts steps ++ all_acts more
 acts-append [] more = refl
-acts-append (g ∷ gs) more =
-    ap (λ (l : List Act). acts_of g ++ l) (acts-append gs more)
-    ∙ sym (append_assoc (acts_of g) (all_acts gs) (all_acts more))
+acts-append (Grouped g ∷ steps) more =
+    ap (λ (l : List Act). acts_of g ++ l) (acts-append steps more)
+    ∙ sym (append_assoc (acts_of g) (all_acts steps) (all_acts more))
+acts-append (Between events ∷ steps) more = acts-append steps more
 
-fair-append : (before : List Act) (mid new : List Connection) (gs more : List Group) →
-    Begins mid new → AreFair before mid gs → AreFair (before ++ all_acts gs) new more →
-    AreFair before new (gs ++ more)
+groups-append : (steps more : List Step) →
+    groups_in (steps ++ more) ≡ groups_in steps + groups_in more
+groups-append [] more = omega arith
+groups-append (Grouped g ∷ steps) more =
+    let e : _ = groups-append steps more in
+    omega (arith, e)
+groups-append (Between events ∷ steps) more = groups-append steps more
+
+fair-append : (before : List Act) (mid new : List Connection) (steps more : List Step) →
+    Begins mid new → AreFair before mid steps → AreFair (before ++ all_acts steps) new more →
+    AreFair before new (steps ++ more)
 fair-append before mid new [] more b f h =
     subst (λ (l : List Act). AreFair l new more) (append-nil before) h
-fair-append before mid new (g ∷ gs) more b f h = (
+fair-append before mid new (Grouped g ∷ steps) more b f h = (
   record { serves = f.0.serves; each = f.0.each; gone = begins_both g.ended mid new f.0.gone b },
-  fair-append (before ++ acts_of g) mid new gs more b f.1
+  fair-append (before ++ acts_of g) mid new steps more b f.1
       (subst (λ (l : List Act). AreFair l new more)
-      (sym (append_assoc before (acts_of g) (all_acts gs))) h),
+      (sym (append_assoc before (acts_of g) (all_acts steps))) h),
 )
+fair-append before mid new (Between events ∷ steps) more b f h =
+    fair-append before mid new steps more b f h
 
-pub fair_longer : (before : List Act) (mid new : List Connection) (gs : List Group) →
-    Begins mid new → AreFair before mid gs → AreFair before new gs
-fair_longer before mid new gs b f =
-    subst (AreFair before new) (append-nil gs) (fair-append before mid new gs [] b f tt)
+pub fair_longer : (before : List Act) (mid new : List Connection) (steps : List Step) →
+    Begins mid new → AreFair before mid steps → AreFair before new steps
+fair_longer before mid new steps b f =
+    subst (AreFair before new) (append-nil steps) (fair-append before mid new steps [] b f tt)
 
 -- ---- what a clock may give later, and an issuer say, they might before
 
@@ -83,11 +98,19 @@ module _ (may_give might_give : ℕ → Type 0) (may_say might_say : Saying)
   took_earlier old new (x ∷ xs) h =
       (taken_earlier old x h.0, took_earlier (tables_after old x.events) new xs h.1)
 
+  did_earlier : (old new : Tables) (steps : List Step) → Did may_give may_say old new steps →
+      Did might_give might_say old new steps
+  did_earlier old new [] h = h
+  did_earlier old new (Grouped g ∷ steps) h =
+      (h.0, took_earlier old h.0 (taken_of (acts_of g)) h.1, did_earlier h.0 new steps h.2)
+  did_earlier old new (Between events ∷ steps) h =
+      did_earlier (tables_after old events) new steps h
+
   pub ran_earlier : (old new : Whole) → Ran may_give may_say old new →
       Ran might_give might_say old new
   ran_earlier old new r = record {
-    groups = r.groups;
-    took = took_earlier old.tables new.tables (taken_of (all_acts r.groups)) r.took;
+    steps = r.steps;
+    did = did_earlier old.tables new.tables r.steps r.did;
     serves = r.serves;
     fair = r.fair;
     gone = r.gone;
@@ -102,13 +125,23 @@ module _ (may_give : ℕ → Type 0) (may_say : Saying) where
   took-append old mid new (x ∷ xs) more a b =
       (a.0, took-append (tables_after old x.events) mid new xs more a.1 b)
 
+  did-append : (old mid new : Tables) (steps more : List Step) →
+      Did may_give may_say old mid steps → Did may_give may_say mid new more →
+      Did may_give may_say old new (steps ++ more)
+  did-append old mid new [] more a b =
+      subst (λ (t : Tables). Did may_give may_say t new more) a b
+  did-append old mid new (Grouped g ∷ steps) more a b =
+      (a.0, a.1, did-append a.0 mid new steps more a.2 b)
+  did-append old mid new (Between events ∷ steps) more a b =
+      did-append (tables_after old events) mid new steps more a b
+
   -- nothing was taken
   pub ran_quietly : (old new : Whole) → new.tables ≡ old.tables → Begins old.ended new.ended →
       ((acts : List Act) → ServesAll acts old → ServesAll acts new) →
       Ran may_give may_say old new
   ran_quietly old new same begins on = record {
-    groups = [];
-    took = same;
+    steps = [];
+    did = same;
     serves = λ before s. subst (λ (l : List Act). ServesAll l new) (sym (append-nil before))
         (on before s);
     fair = λ before s. tt;
@@ -132,22 +165,16 @@ module _ (may_give : ℕ → Type 0) (may_say : Saying) where
   pub ran_both : (old mid new : Whole) → Ran may_give may_say old mid →
       Ran may_give may_say mid new → Ran may_give may_say old new
   ran_both old mid new a b =
-      let all = acts-append a.groups b.groups in
-      let parts : taken_of (all_acts (a.groups ++ b.groups))
-      ≡ taken_of (all_acts a.groups) ++ taken_of (all_acts b.groups) =
-      ap taken_of all
-      ∙ map-append (λ (x : Act). x.taken) (all_acts a.groups) (all_acts b.groups) in
+      let all = acts-append a.steps b.steps in
       record {
-        groups = a.groups ++ b.groups;
-        took = subst (Took may_give may_say old.tables new.tables) (sym parts)
-            (took-append old.tables mid.tables new.tables (taken_of (all_acts a.groups))
-            (taken_of (all_acts b.groups)) a.took b.took);
+        steps = a.steps ++ b.steps;
+        did = did-append old.tables mid.tables new.tables a.steps b.steps a.did b.did;
         serves = λ before s. subst (λ (l : List Act). ServesAll l new)
-            (append_assoc before (all_acts a.groups) (all_acts b.groups)
+            (append_assoc before (all_acts a.steps) (all_acts b.steps)
             ∙ ap (λ (l : List Act). before ++ l) (sym all))
-            (b.serves (before ++ all_acts a.groups) (a.serves before s));
-        fair = λ before s. fair-append before mid.ended new.ended a.groups b.groups b.gone
-            (a.fair before s) (b.fair (before ++ all_acts a.groups) (a.serves before s));
+            (b.serves (before ++ all_acts a.steps) (a.serves before s));
+        fair = λ before s. fair-append before mid.ended new.ended a.steps b.steps b.gone
+            (a.fair before s) (b.fair (before ++ all_acts a.steps) (a.serves before s));
         gone = begins_both old.ended mid.ended new.ended a.gone b.gone;
       }
 
@@ -158,11 +185,14 @@ module _ (may_give : ℕ → Type 0) (may_say : Saying) where
       Ran may_give may_say (whole ended here count old) (whole ended now count new)
   ran_group ended here now count old new taken brought is took =
       let g : Group = record { ended = ended; here = here; count = count; taken = taken } in
-      let one : all_acts (g ∷ []) ≡ acts_in here taken = append-nil (acts_in here taken) in
+      let one : all_acts (Grouped g ∷ []) ≡ acts_in here taken = append-nil (acts_in here taken) in
       record {
-        groups = g ∷ [];
-        took = subst (Took may_give may_say old new)
-            (sym (ap taken_of one ∙ taken_group here taken brought)) took;
+        steps = Grouped g ∷ [];
+        did = (
+          new,
+          subst (Took may_give may_say old new) (sym (taken_group here taken brought)) took,
+          refl,
+        );
         serves = λ before s. subst₂
             (λ (l : List Connection) (a : List Act). Serves (before ++ a) ended l count)
             (sym is) (sym one) (serves_group before ended here count taken brought s);
@@ -177,6 +207,20 @@ module _ (may_give : ℕ → Type 0) (may_say : Saying) where
         gone = ([], sym (append-nil ended));
       }
 
+  -- other events were taken
+  pub ran_between : (ended now here : List Connection) (count : ℕ) (old new : Tables)
+      (events : List Event) → now ≡ ended → new ≡ tables_after old events →
+      Ran may_give may_say (whole ended here count old) (whole now here count new)
+  ran_between ended now here count old new events same is = record {
+    steps = Between events ∷ [];
+    did = is;
+    serves = λ before s. subst₂
+        (λ (e : List Connection) (l : List Act). Serves l e here count)
+        (sym same) (sym (append-nil before)) s;
+    fair = λ before s. tt;
+    gone = begins_same ended now same;
+  }
+
   -- bytes came or went
   pub ran_on : (ended here now : List Connection) (count : ℕ) (t : Tables) → AllGoOn here now →
       Ran may_give may_say (whole ended here count t) (whole ended now count t)
@@ -187,7 +231,7 @@ module _ (may_give : ℕ → Type 0) (may_say : Saying) where
   -- with how many groups were taken
   pub record RanIn (n : ℕ) (old new : Whole) : Type 0 where
     pub ran : Ran may_give may_say old new
-    pub long : length ran.groups ≡ n
+    pub long : groups_in ran.steps ≡ n
 
   pub in_quietly : (old new : Whole) → new.tables ≡ old.tables → Begins old.ended new.ended →
       ((acts : List Act) → ServesAll acts old → ServesAll acts new) → RanIn 0 old new
@@ -206,8 +250,8 @@ module _ (may_give : ℕ → Type 0) (may_say : Saying) where
   unfolding ran_both
   in_both m n old mid new a b = record {
     ran = ran_both old mid new a.ran b.ran;
-    long = length-append a.ran.groups b.ran.groups
-        ∙ ap (λ k. k + length b.ran.groups) a.long ∙ ap (λ k. m + k) b.long;
+    long = groups-append a.ran.steps b.ran.steps
+        ∙ ap (λ k. k + groups_in b.ran.steps) a.long ∙ ap (λ k. m + k) b.long;
   }
 
   pub in_group : (ended here now : List Connection) (count : ℕ) (old new : Tables)
@@ -217,6 +261,13 @@ module _ (may_give : ℕ → Type 0) (may_say : Saying) where
   unfolding ran_group
   in_group ended here now count old new taken brought is took =
       record { ran = ran_group ended here now count old new taken brought is took; long = refl }
+
+  pub in_between : (ended now here : List Connection) (count : ℕ) (old new : Tables)
+      (events : List Event) → now ≡ ended → new ≡ tables_after old events →
+      RanIn 0 (whole ended here count old) (whole now here count new)
+  unfolding ran_between
+  in_between ended now here count old new events same is =
+      record { ran = ran_between ended now here count old new events same is; long = refl }
 
   pub in_on : (ended here now : List Connection) (count : ℕ) (t : Tables) → AllGoOn here now →
       RanIn 0 (whole ended here count t) (whole ended now count t)
@@ -241,18 +292,21 @@ pub leaves_earlier : (may_give might_give : ℕ → Type 0) (may_say might_say :
     (given : (m : ℕ) → may_give m → might_give m)
     (said : (q : Query) (v : Verdict) → may_say q v → might_say q v)
     (left : Left) (old : Tables) (messages : List (List ℕ)) →
-    LeavesGroup may_give may_say left old messages →
-    LeavesGroup might_give might_say left old messages
-leaves_earlier may_give might_give may_say might_say given said left old messages (inl same) =
-    inl same
-leaves_earlier may_give might_give may_say might_say given said left old messages (inr l) =
-    inr (
+    LeavesInHand may_give may_say left old messages →
+    LeavesInHand might_give might_say left old messages
+leaves_earlier may_give might_give may_say might_say given said left old messages
+    (inl (inl same)) = inl (inl same)
+leaves_earlier may_give might_give may_say might_say given said left old messages
+    (inl (inr l)) =
+    inl (inr (
       l.0,
       l.1,
       l.2,
       took_earlier may_give might_give may_say might_say given said old l.1 l.0 l.3,
       l.4,
-    )
+    ))
+leaves_earlier may_give might_give may_say might_say given said left old messages (inr one) =
+    inr one
 
 module _ (may_give : ℕ → Type 0) (may_say : Saying) where
   pub ran_until : (old : Whole) (ended here : List Connection) (count : ℕ) (left : Left)
@@ -260,7 +314,36 @@ module _ (may_give : ℕ → Type 0) (may_say : Saying) where
       TookNone may_give may_say kept left (asked here) →
       RanUntil may_give may_say old ended here count left
   ran_until old ended here count left kept ran none =
-      record { kept = kept; ran = ran; tables = none.tables; stop = none.stop }
+      record { kept = kept; ran = ran; tables = none.tables; stop = inl none.stop }
+
+  -- other events were taken, perhaps with one in hand
+  pub until_between : (old : Whole) (ended now here : List Connection) (count : ℕ) (left : Left)
+      (t : Tables) → Ran may_give may_say old (whole ended here count t) → now ≡ ended →
+      ReachesSome t left → RanUntil may_give may_say old now here count left
+  until_between old ended now here count left t ran same some =
+      let kept = tables_after t some.events in
+      record {
+        kept = kept;
+        ran = ran_both may_give may_say old (whole ended here count t)
+            (whole now here count kept) ran
+            (ran_between may_give may_say ended now here count t kept some.events same refl);
+        tables = some.tables;
+        stop = inr (
+          some.in_hand,
+          some.at_most_one,
+          record {
+            tables = λ s l. either s (some.stop.tables s l);
+            stored = some.stop.stored;
+          },
+        );
+      }
+    where
+      either : (s : Tables) →
+          (s ≡ tables_after t some.events) ⊎ (s ≡ tables_after t (some.events ++ some.in_hand)) →
+          (s ≡ tables_after t some.events)
+          ⊎ (s ≡ tables_after (tables_after t some.events) some.in_hand)
+      either s (inl is) = inl is
+      either s (inr is) = inr (is ∙ tables_after-append t some.events some.in_hand)
 
   -- behind a run that went on
   pub until_behind : (might_give : ℕ → Type 0) (might_say : Saying)

@@ -27,7 +27,8 @@ on_err_both (Err e) P Q f p = f p
 
 -- it began with nothing, and at its end all were parted with
 module _ (may_give : ℕ → Type 0) (may_say : Saying)
-    (ended0 here0 ended1 here1 had : List Connection) (count0 count1 began given : ℕ) (old : Tables) (first : Serves [] ended0 here0 count0)
+    (ended0 here0 ended1 here1 had : List Connection) (count0 count1 began given : ℕ)
+    (old : Tables) (first : Serves [] ended0 here0 count0)
     (zero : count0 ≡ 0) (none : began ≡ 0) (numbered : count1 + began ≡ count0 + given)
     (all : had ≡ ended1 ++ reverse here1)
     (part : (acts : List Act) (count : ℕ) → Serves acts ended1 here1 count →
@@ -36,12 +37,12 @@ module _ (may_give : ℕ → Type 0) (may_say : Saying)
       (ran : Ran may_give may_say (whole ended0 here0 count0 old) (whole ended1 here1 count1 now)) →
       HasServed may_give may_say old now had given
   has_served now ran =
-      let last = part (all_acts ran.groups) count1 (ran.serves [] first) in
+      let last = part (all_acts ran.steps) count1 (ran.serves [] first) in
       record {
-        groups = ran.groups;
-        took = ran.took;
+        steps = ran.steps;
+        did = ran.did;
         follow = last.ended_follow;
-        fair = fair_longer [] ended1 had ran.groups (reverse here1, all) (ran.fair [] first);
+        fair = fair_longer [] ended1 had ran.steps (reverse here1, all) (ran.fair [] first);
         distinct = last.ended_distinct;
         every = λ k l. one_of
             (last.each k (below k given count0 count1 began l numbered zero none));

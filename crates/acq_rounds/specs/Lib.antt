@@ -3,6 +3,7 @@ pub mod Groups
 pub mod Moves
 pub mod Past
 pub mod Places
+pub mod Reaching
 pub mod Runs
 pub mod Said
 pub mod Taking

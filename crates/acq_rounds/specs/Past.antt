@@ -19,3 +19,6 @@ pub record IsFresh (past : Past) : Type 0 where
 
 pub record IsAfter (old : Past) (last : Last) (new : Past) : Type 0 where
   pub list : new.list ≡ old.list ++ connection_in last ∷ []
+
+pub record IsThen (first other new : Past) : Type 0 where
+  pub list : new.list ≡ first.list ++ other.list

@@ -1,9 +1,10 @@
 -- What a run leaves.
-use Rattle.std.specs.Prelude.{◌≡◌, ◌⊎◌, ◌<◌, ◌≤◌, ℕ, Bool, true, List, [], ◌∷◌, ◌++◌, length}
-use Rattle.std.specs.Prelude.{reverse}
+use Rattle.std.specs.Prelude.{◌≡◌, ◌⊎◌, ◌<◌, ◌≤◌, ◌+◌, ℕ, Bool, true, List, [], ◌∷◌, ◌++◌}
+use Rattle.std.specs.Prelude.{length, reverse}
 use Rattle.std.specs.List.{AllByRecursion}
-use Rattle.acq_core.specs.Tables.{Tables}
-use Rattle.acq_front.specs.Stops.{Left, LeavesAll}
+use Rattle.acq_core.specs.declared.event.Event.{Event}
+use Rattle.acq_core.specs.Tables.{Tables, tables_after}
+use Rattle.acq_front.specs.Stops.{Left, LeavesAll, LeavesSome}
 use Rattle.acq_front.specs.Talk.{Saying}
 use Rattle.acq_rounds.specs.Acts.{Act, Connection, Distinct, Follows, IsAmong, Serves, Taken, Took}
 use Rattle.acq_rounds.specs.Acts.{messages_by, numbers, taken_of}
@@ -35,9 +36,23 @@ pub record Group : Type 0 where
 abbrev pub acts_of : Group → List Act
 acts_of g = acts_in g.here g.taken
 
-abbrev pub all_acts : List Group → List Act
+-- what a host did, step by step: it took a group, or between two groups other events, as those that
+-- control connections asked for
+pub data Step : Type 0 where
+  Grouped : Group → Step
+  Between : List Event → Step
+
+-- the acts of all groups, in order
+abbrev pub all_acts : List Step → List Act
 all_acts [] = []
-all_acts (g ∷ groups) = acts_of g ++ all_acts groups
+all_acts (Grouped g ∷ steps) = acts_of g ++ all_acts steps
+all_acts (Between events ∷ steps) = all_acts steps
+
+-- how many groups there are
+abbrev pub groups_in : List Step → ℕ
+groups_in [] = 0
+groups_in (Grouped g ∷ steps) = 1 + groups_in steps
+groups_in (Between events ∷ steps) = groups_in steps
 
 -- the first list is a beginning of the second
 abbrev pub Begins : List Connection → List Connection → Type 0
@@ -54,53 +69,66 @@ pub record IsFair (before : List Act) (final : List Connection) (g : Group) : Ty
   pub each : AllByRecursion (λ c. messages_by c.number (acts_of g) ≡ ready_message c) g.here
   pub gone : Begins g.ended final
 
-abbrev pub AreFair : List Act → List Connection → List Group → Type 0
+abbrev pub AreFair : List Act → List Connection → List Step → Type 0
 AreFair before final [] = Unit {0}
-AreFair before final (g ∷ groups) =
-    IsFair before final g × AreFair (before ++ acts_of g) final groups
+AreFair before final (Grouped g ∷ steps) =
+    IsFair before final g × AreFair (before ++ acts_of g) final steps
+AreFair before final (Between events ∷ steps) = AreFair before final steps
 
 -- as many as were asked for, or fewer, where the gate said that none is to follow
 abbrev pub IsLast : ℕ → Bool → ℕ → Type 0
 IsLast rounds stopped n = (n ≡ rounds) ⊎ ((stopped ≡ true) × (n ≤ rounds))
 
 module _ (may_give : ℕ → Type 0) (may_say : Saying) where
-  -- The host took groups, and all connections, those that ended too, have had just these in
-  -- addition.
+  -- The host did these steps, each over the tables behind those before it.
+  abbrev pub Did : Tables → Tables → List Step → Type 0
+  Did old new [] = new ≡ old
+  Did old new (Grouped g ∷ steps) =
+      (mid : Tables) × Took may_give may_say old mid (taken_of (acts_of g)) × Did mid new steps
+  Did old new (Between events ∷ steps) = Did (tables_after old events) new steps
+
+  -- a stop leaves these tables, or those with the group or the one event that was in hand
+  abbrev pub LeavesInHand : Left → Tables → List (List ℕ) → Type 0
+  LeavesInHand left kept messages = LeavesGroup may_give may_say left kept messages
+      ⊎ ((in_hand : List Event) × (length in_hand ≤ 1) × LeavesSome left kept [] in_hand)
+
+  -- The host did steps, and all connections, those that ended too, have had just these in addition.
   pub record Ran (old new : Whole) : Type 0 where
-    pub groups : List Group
-    pub took : Took may_give may_say old.tables new.tables (taken_of (all_acts groups))
+    pub steps : List Step
+    pub did : Did old.tables new.tables steps
     pub serves : (before : List Act) → ServesAll before old
-        → ServesAll (before ++ all_acts groups) new
-    pub fair : (before : List Act) → ServesAll before old → AreFair before new.ended groups
+        → ServesAll (before ++ all_acts steps) new
+    pub fair : (before : List Act) → ServesAll before old → AreFair before new.ended steps
     pub gone : Begins old.ended new.ended
 
   -- So it ran, taking so many groups, and a stop leaves their tables alone.
   pub record RanOn (old : Whole) (ended here : List Connection) (count : ℕ) (left : Left)
       (so_many : ℕ → Type 0) : Type 0 where
     pub ran : Ran old (whole ended here count left.tables)
-    pub long : so_many (length ran.groups)
+    pub long : so_many (groups_in ran.steps)
     pub stop : LeavesAll left left.tables []
 
   -- So it ran, until memory or the store refused something: a stop leaves the tables behind the
-  -- last group that was kept, or with the one in hand, which is what the open connections still
-  -- have ready.
+  -- last step that was kept, or with what was in hand: the group, which is what the open
+  -- connections still have ready, or one event between two groups.
   pub record RanUntil (old : Whole) (ended here : List Connection) (count : ℕ) (left : Left)
       : Type 0 where
     pub kept : Tables
     pub ran : Ran old (whole ended here count kept)
     pub tables : left.is_open → left.tables ≡ kept
-    pub stop : LeavesGroup may_give may_say left kept (asked here)
+    pub stop : LeavesInHand left kept (asked here)
 
-  -- The theorem. There is one list of acts. The host's tables are those behind them, and what it
-  -- said to each is what it says to the events that the message makes, over the tables behind those
-  -- before it. Of each connection that was had, the messages of its own acts are what came over it,
-  -- but for what was held, and what went out over it are the frames of what was said to them, but
-  -- for what was still to be written. No two have one number, and each that came is among them.
+  -- The theorem. There is one list of steps, and of acts in their groups. The host's tables are
+  -- those behind them, and what it said to each act's message is what it says to the events that
+  -- the message makes, over the tables behind what was before it. Of each connection that was had,
+  -- the messages of its own acts are what came over it, but for what was held, and what went out
+  -- over it are the frames of what was said to them, but for what was still to be written. No two
+  -- have one number, and each that came is among them.
   pub record HasServed (old new : Tables) (had : List Connection) (given : ℕ) : Type 0 where
-    pub groups : List Group
-    pub took : Took may_give may_say old new (taken_of (all_acts groups))
-    pub follow : AllByRecursion (Follows (all_acts groups)) had
-    pub fair : AreFair [] had groups
+    pub steps : List Step
+    pub did : Did old new steps
+    pub follow : AllByRecursion (Follows (all_acts steps)) had
+    pub fair : AreFair [] had steps
     pub distinct : Distinct (numbers had)
     -- no connection that came is left out
     pub every : (k : ℕ) → k < given → IsAmong k (numbers had)
@@ -109,12 +137,12 @@ module _ (may_give : ℕ → Type 0) (may_say : Saying) where
   pub record ServedOn (old : Tables) (left : Left) (had : List Connection) (given : ℕ)
       (so_many : ℕ → Type 0) : Type 0 where
     pub served : HasServed old left.tables had given
-    pub long : so_many (length served.groups)
+    pub long : so_many (groups_in served.steps)
     pub stop : LeavesAll left left.tables []
 
-  -- It has served until memory or the store refused something: a stop leaves the groups that were
-  -- kept, or with the one in hand, which is what the connections that were open then, the last that
-  -- ended, still had ready.
+  -- It has served until memory or the store refused something: a stop leaves the steps that were
+  -- kept, or with what was in hand: the group, which is what the connections that were open then,
+  -- the last that ended, still had ready, or one event between two groups.
   pub record ServedUntil (old : Tables) (left : Left) (had : List Connection) (given : ℕ) : Type 0
     where
       pub kept : Tables
@@ -122,4 +150,4 @@ module _ (may_give : ℕ → Type 0) (may_say : Saying) where
       pub tables : left.is_open → left.tables ≡ kept
       pub here : List Connection
       pub last : Ends (reverse here) had
-      pub stop : LeavesGroup may_give may_say left kept (asked here)
+      pub stop : LeavesInHand left kept (asked here)

@@ -1,13 +1,19 @@
 //! Where connections come from, and where they go.
 
 ghost use Rattle.std.specs.Prelude.{◌≡◌, ◌+◌, ◌++◌, ℕ, Bool, not, List, [], ◌∷◌, IfSome, is_some};
-ghost use Rattle.std.specs.Prelude.{if◌then◌else◌};
+ghost use Rattle.std.specs.Prelude.{if◌then◌else◌, OnOk};
+ghost use Rattle.acq_front.specs.Stops.{left_of};
 ghost use Rattle.acq_rounds.specs.Acts.{Connection};
 ghost use Rattle.acq_rounds.specs.Places.{seen};
+ghost use Rattle.acq_rounds.specs.Reaching.{ReachesBy};
+ghost use Rattle.acq_rounds.specs.Taking.{TellsFault};
 
 use crate::place::Place;
 use crate::talk::Talk;
-use acq_front::Line;
+use acq_book::{Book, BookFault};
+use acq_front::{Clock, FrontFault, Line};
+use acq_host::Host;
+use std::alloc::Global;
 
 /// Where connections come from, and where they go.
 pub trait Gate<L: Line, T: Talk> {
@@ -39,6 +45,40 @@ pub trait Gate<L: Line, T: Talk> {
         ensures held { IfSome result (λ c. T.held c.1 ≡ []) }
         ensures unsent { IfSome result (λ c. T.unsent c.1 ≡ []) }
         ensures given { given self.new ≡ given self.old + (if is_some result then 1 else 0) }
+        ensures ended { ended self.new ≡ ended self.old };
+
+    /// Does over the host what else is asked of it between two groups, as control connections ask.
+    fn between<B: Book + Drop, C: Clock>(
+        &mut self,
+        alloc: Global,
+        host: &mut Host<B>,
+        clock: &mut C,
+    ) -> Result<(), BookFault>
+        ensures given { given self.new ≡ given self.old }
+        ensures ended { ended self.new ≡ ended self.old }
+        ensures reaches { B.is_honest host.new → B.is_open host.old
+            → ReachesBy (B.tables host.old) (left_of B.Book host.new) result }
+        ensures was_honest { B.is_honest host.new → B.is_honest host.old }
+        ensures stays_open { B.is_honest host.new → B.is_open host.old
+            → OnOk result (B.is_open host.new) }
+        ensures given_later { (m : ℕ) → C.may_give clock.new m → C.may_give clock.old m }
+        ensures store { TellsFault result (B.failures host.old) (B.failures host.new)
+            (B.is_honest host.new → B.is_open host.old → ⊥) };
+
+    /// Whether it looks at the connections in this round, if one of them is to end.
+    fn looks(&mut self) -> bool
+        ensures given { given self.new ≡ given self.old }
+        ensures ended { ended self.new ≡ ended self.old };
+
+    /// How a connection is to end now, if it is: one that took too long, for example.
+    fn ends(&mut self, place: &Place<L, T>) -> Option<Result<(), FrontFault>>
+        ensures given { given self.new ≡ given self.old }
+        ensures ended { ended self.new ≡ ended self.old };
+
+    /// A message of this connection was taken, its group is kept, and what was said to it is about
+    /// to be written.
+    fn said(&mut self, place: &Place<L, T>)
+        ensures given { given self.new ≡ given self.old }
         ensures ended { ended self.new ≡ ended self.old };
 
     /// A connection ended.

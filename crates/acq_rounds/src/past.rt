@@ -29,7 +29,7 @@ impl Model for Past {
 }
 
 impl Past {
-    ghost use Rattle.acq_rounds.specs.Past.{IsFresh, IsAfter};
+    ghost use Rattle.acq_rounds.specs.Past.{IsAfter, IsFresh, IsThen};
 
     /// None ended yet.
     pub fn new() -> Past
@@ -41,6 +41,13 @@ impl Past {
     /// The list with one more at its end.
     pub fn after(&self, _last: &Last<'_>) -> Past
         ensures { IsAfter self.now _last.now result }
+    {
+        Past {}
+    }
+
+    /// The list with another one behind it.
+    pub fn then(&self, _other: &Past) -> Past
+        ensures { IsThen self.now _other.now result }
     {
         Past {}
     }

@@ -1,6 +1,6 @@
 //! A connection and its place.
 
-ghost use Rattle.std.specs.Prelude.{◌≡◌, true, IfOk};
+ghost use Rattle.std.specs.Prelude.{◌≡◌, false, true, IfOk};
 ghost use Rattle.acq_link.specs.FirstMessage.{first_message};
 ghost use Rattle.acq_rounds.specs.Groups.{answered, is_ready};
 ghost use Rattle.acq_rounds.specs.Moves.{GoesOn};
@@ -80,7 +80,9 @@ impl<L: Line, T: Talk> Place<L, T> {
     }
 
     /// Whether it has something to do before its line is waited for.
-    pub fn is_awake(&self) -> bool {
+    pub fn is_awake(&self) -> bool
+        ensures { result ≡ false → is_ready (seen L.Line T.Talk self.now) ≡ false }
+    {
         self.is_awake || self.ended.is_some() || self.talk.is_ready()
     }
 
@@ -140,6 +142,15 @@ impl<L: Line, T: Talk> Place<L, T> {
         }
     }
 
+    /// It ends so, unless it ended already.
+    pub fn end(&mut self, ended: Result<(), FrontFault>)
+        ensures { seen L.Line T.Talk self.new ≡ seen L.Line T.Talk self.old }
+    {
+        if self.ended.is_none() {
+            self.ended = Some(ended);
+        }
+    }
+
     /// Its message was taken, and this is what the host said.
     pub fn hold(&mut self, said: &Said)
         requires { is_ready (seen L.Line T.Talk self.old) ≡ true }
@@ -151,13 +162,13 @@ impl<L: Line, T: Talk> Place<L, T> {
         }
     }
 
-    /// Ends it where what it holds can become no message.
+    /// Ends it where what it holds can become no message, once its replies are out.
     pub fn check(&mut self)
         ensures { seen L.Line T.Talk self.new ≡ seen L.Line T.Talk self.old }
     {
-        if self.ended.is_none() {
+        if self.talk.unsent().is_empty() {
             if let Some(fault) = self.talk.fault() {
-                self.ended = Some(Err(fault));
+                self.end(Err(fault));
             }
         }
     }

@@ -1,20 +1,23 @@
-use Rattle.std.proofs.Common.{◌++◌, ◌+◌, ◌∙◌, ap, arith, drop, map, set, sym, take}
-use Rattle.std.proofs.lemmas.List.{set-get_or}
+use Rattle.std.proofs.Common.{◌<◌, ◌++◌, ◌+◌, ◌∙◌, ap, arith, drop, get_or, length, map, refl, set}
+use Rattle.std.proofs.Common.{sym, take}
+use Rattle.std.specs.Box.{with_value}
 use Rattle.std.specs.Slice.Iter.{iter_rest}
-use Rattle.acq_rounds.specs.Groups.{handed}
-use Rattle.acq_rounds.specs.Places.{seen}
+use Rattle.acq_rounds.specs.Groups.{answered, handed, is_ready}
+use Rattle.acq_rounds.specs.Places.{boxed, seen}
 use Rattle.acq_rounds.specs.Said.{replies_of, reply_of}
 use Rattle.acq_rounds.proofs.Lists.{empty}
-use Rattle.acq_rounds.proofs.Moving.{handed_out, handed_pass, handed_some}
+use Rattle.acq_rounds.proofs.Moving.{handed_out, handed_pass, handed_some, same_at}
 use Rattle.acq_rounds.proofs.rounds.hand_out.Goals as goal
 use Rattle.acq_rounds.proofs.rounds.hand_out.Goals.{else-is_ready, then-is_ready+in-Some}
 
-pub returns-in_default : goal.returns-in_default
-returns-in_default g c =
-    let view = seen g.L.Line g.T.Talk in
+pub returns-in_default-clause-out : goal.returns-in_default-clause-out
+returns-in_default-clause-out g c =
+    let view = boxed g.L.Line g.T.Talk in
     let ps = c.loop-place.places in
     let i = c.loop-place.place-index in
-    ap (map view) (set-get_or ps i c.place-item.result)
+    let d = c.place-item.result in
+    same_at view (map view ps) ps i d (with_value (get_or ps i d) c.deref_mut-place.result.now)
+    (ap (seen g.L.Line g.T.Talk) c.deref_mut-place.ensures.value) refl
     ∙ sym (handed_out view ps i)
     ∙ ap (λ l. map view (take i ps) ++ handed (map view (drop i ps)) (replies_of l))
     (sym (empty (iter_rest c.loop-place.said) c.in_default.ensures.steps.0))
@@ -22,33 +25,46 @@ returns-in_default g c =
 
 pub loop-place-preserved : goal.loop-place-preserved
 loop-place-preserved g c =
-    let view = seen g.L.Line g.T.Talk in
+    let see = seen g.L.Line g.T.Talk in
+    let view = boxed g.L.Line g.T.Talk in
     let ps = c.loop-place.places in
     let i = c.loop-place.place-index in
     let d = c.place-item.result in
+    let lt : i < length ps = omega (arith, c.loop-place-test.true, c.loop-place.auto.places) in
+    let is = c.deref_mut-place.ensures.value in
     elim c.if-is_ready.branch [
-      | then-is_ready+in-Some w ↦ record {
-        out = ap (λ l. map view (take (i + 1) l) ++ handed (map view (drop (i + 1) l))
-            (replies_of (iter_rest c.if-is_ready.said))) w.places-is
-            ∙ ap (λ r. map view (take (i + 1) (set ps i w.hold.new.self))
-            ++ handed (map view (drop (i + 1) (set ps i w.hold.new.self)))
-            (replies_of (iter_rest r))) w.said-is
-            ∙ handed_some view ps i d
-            (omega (arith, c.loop-place-test.true, c.loop-place.auto.places)) w.hold.new.self
-            (reply_of w.in-Some.next.now) (replies_of (iter_rest w.next.new.self))
-            (sym w.if-is_ready.ensures) w.hold.ensures
-            ∙ ap (λ l. map view (take i ps) ++ handed (map view (drop i ps)) (replies_of l))
-            (sym w.in-Some.ensures.steps)
-            ∙ c.loop-place.invariant.out;
-      }
-      | else-is_ready w ↦ record {
-        out = ap (λ l. map view (take (i + 1) l) ++ handed (map view (drop (i + 1) l))
-            (replies_of (iter_rest c.if-is_ready.said))) (w.places-is ∙ set-get_or ps i d)
-            ∙ ap (λ r. map view (take (i + 1) ps) ++ handed (map view (drop (i + 1) ps))
-            (replies_of (iter_rest r))) w.said-is
-            ∙ handed_pass view ps i d
-            (omega (arith, c.loop-place-test.true, c.loop-place.auto.places))
-            (replies_of (iter_rest c.loop-place.said)) (sym w.if-is_ready.ensures)
-            ∙ c.loop-place.invariant.out;
-      }
+      | then-is_ready+in-Some w ↦
+          let y = with_value (get_or ps i d) w.hold.new.self in
+          record {
+            out = ap (λ l. map view (take (i + 1) l) ++ handed (map view (drop (i + 1) l))
+                (replies_of (iter_rest c.if-is_ready.said))) w.places-is
+                ∙ ap (λ r. map view (take (i + 1) (set ps i y))
+                ++ handed (map view (drop (i + 1) (set ps i y)))
+                (replies_of (iter_rest r))) w.said-is
+                ∙ handed_some view ps i d lt y
+                (reply_of w.in-Some.next.now) (replies_of (iter_rest w.next.new.self))
+                (sym (w.if-is_ready.ensures ∙ ap (λ p. is_ready (see p)) is))
+                (w.hold.ensures ∙ ap (λ p. answered (see p) (reply_of w.in-Some.next.now)) is)
+                ∙ ap (λ l. map view (take i ps) ++ handed (map view (drop i ps)) (replies_of l))
+                (sym w.in-Some.ensures.steps)
+                ∙ c.loop-place.invariant.out;
+            given = ap g.G.Gate.given w.gate-is ∙ w.said.ensures.given
+                ∙ c.loop-place.invariant.given;
+            ended = ap g.G.Gate.ended w.gate-is ∙ w.said.ensures.ended
+                ∙ c.loop-place.invariant.ended;
+          }
+      | else-is_ready w ↦
+          let y = with_value (get_or ps i d) c.deref_mut-place.result.now in
+          record {
+            out = ap (λ l. map view (take (i + 1) l) ++ handed (map view (drop (i + 1) l))
+                (replies_of (iter_rest c.if-is_ready.said))) w.places-is
+                ∙ ap (λ r. map view (take (i + 1) (set ps i y))
+                ++ handed (map view (drop (i + 1) (set ps i y)))
+                (replies_of (iter_rest r))) w.said-is
+                ∙ handed_pass view ps i d lt y (replies_of (iter_rest c.loop-place.said))
+                (sym (w.if-is_ready.ensures ∙ ap (λ p. is_ready (see p)) is)) (ap see is)
+                ∙ c.loop-place.invariant.out;
+            given = ap g.G.Gate.given w.gate-is ∙ c.loop-place.invariant.given;
+            ended = ap g.G.Gate.ended w.gate-is ∙ c.loop-place.invariant.ended;
+          }
     ]

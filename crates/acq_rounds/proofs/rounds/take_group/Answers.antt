@@ -2,7 +2,7 @@ use Rattle.std.proofs.Common.{◌∙◌, ap, map, subst}
 use Rattle.acq_host.proofs.Groups.{Laws}
 use Rattle.acq_front.specs.Stops.{left_of}
 use Rattle.acq_rounds.specs.Groups.{asked, handed}
-use Rattle.acq_rounds.specs.Places.{seen}
+use Rattle.acq_rounds.specs.Places.{boxed}
 use Rattle.acq_rounds.specs.Said.{replies_of}
 use Rattle.acq_rounds.specs.Taking.{TookNone}
 use Rattle.acq_rounds.proofs.Together.{group_taken, on_err, untouched}
@@ -11,7 +11,7 @@ use Rattle.acq_rounds.proofs.rounds.take_group.Goals as goal
 pub returns-clause-took : goal.returns-clause-took
 returns-clause-took g c h o =
     let book = g.B.Book in
-    let view = seen g.L.Line g.T.Talk in
+    let view = boxed g.L.Line g.T.Talk in
     let may_give = g.C.Clock.may_give c.args.clock.now in
     let may_say = g.I.Issuer.may_say c.args.issuer.now in
     let before = map view c.args.places.now in
@@ -19,12 +19,12 @@ returns-clause-took g c h o =
     (left_of book c.take_together.new.host) (map (λ m. m.items) c.in_ok-messages.messages.items)
     (replies_of c.in_ok-said.said.items) before (map view c.hand_out.new.places)
     (c.in_ok-said.ensures.took h o) c.in_ok-messages.ensures.messages
-    (c.hand_out.ensures ∙ ap (λ l. handed before (replies_of l)) c.as_slice.ensures.value)
+    (c.hand_out.ensures.out ∙ ap (λ l. handed before (replies_of l)) c.as_slice.ensures.value)
 
 pub returns-in_err-said-clause-refused : goal.returns-in_err-said-clause-refused
 returns-in_err-said-clause-refused g c h o =
     let book = g.B.Book in
-    let view = seen g.L.Line g.T.Talk in
+    let view = boxed g.L.Line g.T.Talk in
     let may_give = g.C.Clock.may_give c.args.clock.now in
     let may_say = g.I.Issuer.may_say c.args.issuer.now in
     let none = TookNone may_give may_say (book.tables c.args.host.now)
@@ -35,7 +35,7 @@ returns-in_err-said-clause-refused g c h o =
 pub returns-in_err-messages-clause-refused : goal.returns-in_err-messages-clause-refused
 returns-in_err-messages-clause-refused g c h o =
     let book = g.B.Book in
-    let view = seen g.L.Line g.T.Talk in
+    let view = boxed g.L.Line g.T.Talk in
     let may_give = g.C.Clock.may_give c.args.clock.now in
     let may_say = g.I.Issuer.may_say c.args.issuer.now in
     let messages = asked (map view c.args.places.now) in

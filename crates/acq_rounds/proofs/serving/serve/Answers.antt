@@ -1,7 +1,8 @@
-use Rattle.std.proofs.Common.{◌+◌, ◌∙◌, ap, length, subst, sym}
+use Rattle.std.proofs.Common.{◌+◌, ◌∙◌, ap, subst, sym}
 use Rattle.acq_front.specs.Stops.{left_of}
 use Rattle.acq_rounds.specs.Places.{count_of, seen_in}
-use Rattle.acq_rounds.specs.Runs.{IsLast, RanOn, RanUntil, ServedOn, ServedUntil, whole}
+use Rattle.acq_rounds.specs.Runs.{IsLast, RanOn, RanUntil, ServedOn, ServedUntil, groups_in}
+use Rattle.acq_rounds.specs.Runs.{whole}
 use Rattle.acq_rounds.proofs.Lasting.{serves_at_first}
 use Rattle.acq_rounds.proofs.Served.{on_err_both, on_ok_both, served_on, served_until}
 use Rattle.acq_rounds.proofs.serving.serve.Goals as goal
@@ -36,7 +37,7 @@ returns-clause-served g c h o =
     (IsLast c.args.rounds (g.G.Gate.has_stopped c.part_all.new.gate))
     (record {
       ran = ran.ran;
-      long = subst (λ b. IsLast c.args.rounds b (length ran.ran.groups))
+      long = subst (λ b. IsLast c.args.rounds b (groups_in ran.ran.steps))
           (sym c.part_all.ensures.stopped) ran.long;
       stop = ran.stop;
     }))

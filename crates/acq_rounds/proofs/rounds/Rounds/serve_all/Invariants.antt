@@ -1,7 +1,7 @@
 use Rattle.std.proofs.Common.{◌≡◌, ◌+◌, ℕ}
 use Rattle.acq_core.specs.declared.query.Query.{Query}
 use Rattle.acq_message.specs.declared.verdict.Verdict.{Verdict}
-use Rattle.acq_rounds.specs.Places.{count_of, seen_in}
+use Rattle.acq_rounds.specs.Places.{AreQuiet, asleep_in, count_of, seen_in}
 use Rattle.acq_rounds.specs.Runs.{whole}
 use Rattle.acq_rounds.proofs.Running.{RanIn}
 use Rattle.acq_rounds.proofs.rounds.Rounds.serve_all.Given as goal
@@ -14,6 +14,7 @@ invariant-loop g l =
     let count = count_of g.L.Line g.T.Talk in
     let ended = g.G.Gate.ended in
     record {
+      quiet : AreQuiet (asleep_in g.L.Line g.T.Talk l.self);
       was_honest : book.is_honest l.host → book.is_honest l.fn.host;
       stays_open : book.is_honest l.host → book.is_open l.fn.host → book.is_open l.host;
       ran : book.is_honest l.host → book.is_open l.fn.host →
