@@ -4,7 +4,7 @@ ghost use Rattle.std.specs.Prelude.{◌≡◌, ℕ, OnOk};
 ghost use Rattle.acq_core.specs.Pasts.{HasPast};
 ghost use Rattle.acq_front.specs.Stops.{left_of};
 ghost use Rattle.acq_faults.specs.Faults.{TellsStore};
-ghost use Rattle.acq_faults.specs.Reaching.{ReachesBy};
+ghost use Rattle.acq_faults.specs.Serving.{Serves};
 ghost use Rattle.acq_commands.specs.Listening.{Served, ServesConnections};
 ghost use Rattle.acq_faults.specs.Ends.{going_on};
 ghost use Rattle.acq_commands.specs.Listening.{ServesOne, traffic};
@@ -12,7 +12,7 @@ ghost use Rattle.acq_commands.specs.Listening.{with_served};
 
 use acq_book::Book;
 use acq_core::{Query, Verdict};
-use acq_faults::{Fault, Gathering, end_connection};
+use acq_faults::{Fault, Server, end_connection};
 use acq_front::{Clock, Issuer};
 use acq_host::Host;
 use acq_link::Sink;
@@ -52,24 +52,26 @@ pub fn listen_on<B: Book + Drop, N: Connections, C: Clock, I: Issuer, F: Sink>(
 /// Serves so many connections over a book, many at once. A connection's fault is a line of
 /// `faults`, and the others go on; want of memory and a fault of the store end it. The book is
 /// given back with how it ended.
-pub fn listen_together_on<B: Book + Drop, N: Gathering, C: Clock, I: Issuer, F: Sink>(
+pub fn listen_together_on<B: Book + Drop, N: Server, C: Clock, I: Issuer, F: Sink>(
     alloc: Global,
     book: B,
-    gathering: &mut N,
+    server: &mut N,
     count: u64,
     clock: &mut C,
     issuer: &mut I,
     faults: &mut F,
 ) -> (B, Result<(), Fault>)
     requires past { B.is_open book → HasPast (B.tables book) }
-    // The book that is left has what it had, and what the host took; and what a stop may leave.
-    ensures reaches { B.is_honest result.0 → B.is_open book
-        → ReachesBy (B.tables book) (left_of B.Book result.0) result.1 }
+    // One list of acts is what the book that is left has in addition, and what all connections had.
+    ensures serves { B.is_honest result.0 → B.is_open book
+        → Serves (C.may_give clock.old) (I.may_say issuer.old) (B.tables book)
+        (left_of B.Book result.0) (N.had server.old) (N.had server.new) (N.many server.old)
+        (N.many server.new) result.1 }
     ensures store { TellsStore result.1 (B.failures book) (B.failures result.0)
         (B.is_honest result.0 → B.is_open book → ⊥) }
 {
     let mut host = Host::new(alloc, book);
-    let ended = gathering.serve_all(alloc, &mut host, count, clock, issuer, faults);
+    let ended = server.serve_all(alloc, &mut host, count, clock, issuer, faults);
     (host.into_book(), ended)
 }
 

@@ -133,8 +133,8 @@ abbrev pub IsOfAnswers : Fault → Type 0
 IsOfAnswers fault = (cause : records.RecordFault) × (fault ≡ of_answers cause)
 
 -- why connections can't be had at a port: for want of memory, or by the system
-abbrev pub IsOfGathering : Fault → Type 0
-IsOfGathering fault = (fault ≡ Memory) ⊎ (fault ≡ Read)
+abbrev pub IsOfListening : Fault → Type 0
+IsOfListening fault = (fault ≡ Memory) ⊎ (fault ≡ Read)
 
 -- what a fault of a report is
 abbrev pub of_report : report.ReportFault → Fault

@@ -1,4 +1,4 @@
 pub mod Faults
 pub mod Ends
-pub mod Reaching
+pub mod Serving
 pub mod DayReport

@@ -7,16 +7,16 @@ mod connection_end;
 mod day_report;
 mod fault;
 mod fault_line;
-mod gathering;
 mod listen_options;
 mod patience;
 mod report_kind;
+mod server;
 
 pub use connection_end::end_connection;
 pub use day_report::DayReport;
 pub use fault::Fault;
 pub use fault_line::write_fault_line;
-pub use gathering::Gathering;
 pub use listen_options::ListenOptions;
 pub use patience::Patience;
 pub use report_kind::ReportKind;
+pub use server::Server;

@@ -3,7 +3,7 @@
 use acq_ask::Watch;
 use acq_book::Book;
 use acq_core::{Event, Limit};
-use acq_faults::{Fault, Gathering, ListenOptions, Patience};
+use acq_faults::{Fault, ListenOptions, Patience, Server};
 use acq_link::{Sink, Source};
 use acq_serving::Connections;
 use acq_stand_in::StandIn;
@@ -17,14 +17,14 @@ pub trait Machine<B: Book + Drop>: Sized + Watch {
     ghost use Rattle.std.specs.Prelude.{◌≡◌, ◌⊎◌, IfErr, IfOk};
     ghost use Rattle.acq_core.specs.Pasts.{HasPast};
     ghost use Rattle.acq_faults.specs.declared.fault.Fault.TheVariants.{Read, Silent};
-    ghost use Rattle.acq_faults.specs.Faults.{IsOfAnswers, IsOfGathering};
+    ghost use Rattle.acq_faults.specs.Faults.{IsOfAnswers, IsOfListening};
     ghost use Rattle.acq_program.specs.BookFaults.{IsClosing, IsOfEvents, IsOpening};
 
     /// The connections that come in at a port.
     type Connections: Connections + Drop;
 
     /// Connections that come in at a port and are served at once.
-    type Gathering: Gathering + Drop;
+    type Server: Server + Drop;
 
     /// Where lines to a host go.
     type Lines: Sink + Drop;
@@ -79,11 +79,11 @@ pub trait Machine<B: Book + Drop>: Sized + Watch {
     /// Listens as it is asked for, as `listen_at` does, for so many connections at once, and at the
     /// socket for control connections, if one is asked for. A file, or for `-` standard error,
     /// takes a log for operators, if one is asked for.
-    fn gather_at(&self, alloc: Global, asked: &ListenOptions) -> Result<Self::Gathering, Fault>
-        ensures { IfErr result IsOfGathering };
+    fn serve_at(&self, alloc: Global, asked: &ListenOptions) -> Result<Self::Server, Fault>
+        ensures { IfErr result IsOfListening };
 
     /// Lets connections go, and what was made for them.
-    fn end_gathering(gathering: Self::Gathering, asked: &ListenOptions);
+    fn end_serving(server: Self::Server, asked: &ListenOptions);
 
     /// Connects to the host that takes control connections at a path, for whose answers so many
     /// seconds are waited; 0 is for ever.

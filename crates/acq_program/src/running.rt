@@ -322,7 +322,7 @@ fn listen_over<B: Lenient + Drop, M: Machine<B> + Drop, C: Clock, I: Issuer + Dr
     faults: &mut F,
 ) -> Result<(), Fault> {
     if asked.together > 1 || asked.control.is_some() || asked.log.is_some() {
-        return gather_over(alloc, keys, machine, asked, clock, issuers, faults);
+        return serve_over(alloc, keys, machine, asked, clock, issuers, faults);
     }
     let connections = machine.listen_at(asked.endpoint, asked.patience);
     let opened = machine.open_book(asked.path.as_str());
@@ -339,7 +339,7 @@ fn listen_over<B: Lenient + Drop, M: Machine<B> + Drop, C: Clock, I: Issuer + Dr
 }
 
 /// Answers the frames of connections over the book in a file, many at once.
-fn gather_over<B: Lenient + Drop, M: Machine<B> + Drop, C: Clock, I: Issuer + Drop, F: Sink>(
+fn serve_over<B: Lenient + Drop, M: Machine<B> + Drop, C: Clock, I: Issuer + Drop, F: Sink>(
     alloc: Global,
     keys: RandomState,
     machine: M,
@@ -348,19 +348,19 @@ fn gather_over<B: Lenient + Drop, M: Machine<B> + Drop, C: Clock, I: Issuer + Dr
     issuers: Result<I, Fault>,
     faults: &mut F,
 ) -> Result<(), Fault> {
-    let gathering = machine.gather_at(alloc, asked);
+    let server = machine.serve_at(alloc, asked);
     let opened = machine.open_book(asked.path.as_str());
-    let (book, mut issuer, mut gathering) = all_opened(opened, issuers, gathering)?;
+    let (book, mut issuer, mut server) = all_opened(opened, issuers, server)?;
     let ran = listen_together_on(
         alloc,
         RecallingBook::new(alloc, keys, book),
-        &mut gathering,
+        &mut server,
         asked.count,
         clock,
         &mut issuer,
         faults,
     );
-    M::end_gathering(gathering, asked);
+    M::end_serving(server, asked);
     closed::<B, M>(ran)
 }
 

@@ -1,0 +1,45 @@
+//! Connections that are served at once.
+
+ghost use Rattle.std.specs.Prelude.{ℕ, List};
+ghost use Rattle.acq_faults.specs.Faults.{TellsStore};
+ghost use Rattle.acq_faults.specs.Serving.{Serves};
+ghost use Rattle.acq_front.specs.Stops.{left_of};
+ghost use Rattle.acq_rounds.specs.Acts.{Connection};
+
+use crate::fault::Fault;
+use acq_book::Book;
+use acq_front::{Clock, Issuer};
+use acq_host::Host;
+use acq_link::Sink;
+use std::alloc::Global;
+
+/// Serves connections at once.
+pub trait Server {
+    // The connections that it had, in the order in which they ended.
+    ghost had: { Self → List Connection };
+
+    // How many connections it had.
+    ghost many: { Self → ℕ };
+
+    /// Serves so many connections over a host, many at once, in rounds: the messages that are ready
+    /// are taken in one group. A connection's fault is a line of `faults`, and the others go on;
+    /// want of memory and a fault of the store end it.
+    fn serve_all<B: Book + Drop, C: Clock, I: Issuer, F: Sink>(
+        &mut self,
+        alloc: Global,
+        host: &mut Host<B>,
+        count: u64,
+        clock: &mut C,
+        issuer: &mut I,
+        faults: &mut F,
+    ) -> Result<(), Fault>
+        // One list of acts is what the host took and what all connections had.
+        ensures serves { B.is_honest host.new → B.is_open host.old
+            → Serves (C.may_give clock.old) (I.may_say issuer.old) (B.tables host.old)
+            (left_of B.Book host.new) (had self.old) (had self.new) (many self.old)
+            (many self.new) result }
+        // The store's fault comes only where a call of it failed, or gave what no host wrote; and
+        // with any other end none failed.
+        ensures store { TellsStore result (B.failures host.old) (B.failures host.new)
+            (B.is_honest host.new → B.is_open host.old → ⊥) };
+}
