@@ -1,30 +1,21 @@
 -- What one part reaches, and the next one from there, both reach.
-use Rattle.std.proofs.Common.{◌≡◌, ℕ, List, [], ◌∷◌, ◌++◌, ◌∙◌, ap, sym, refl, inl, inr, arith}
-use Rattle.std.proofs.Common.{Option, Some, None, Result, Ok, Err, Bool, true, false}
+use Rattle.std.proofs.Common.{◌≡◌, ℕ, [], ◌++◌, ◌∙◌, ap, sym, refl, inl, arith}
+use Rattle.std.proofs.Common.{Option, Some, None, Result, Ok, Err, Bool, true}
 use Rattle.std.proofs.Common.{length-append}
 use Rattle.acq_book.specs.Calls.{Looks}
 use Rattle.acq_book.specs.Promise.{CountsFault}
 use Rattle.acq_book.specs.declared.book.Book.{Ghosts}
 use Rattle.acq_book.specs.declared.book_fault.BookFault as book_fault
 use Rattle.acq_core.specs.Tables.{Tables, tables_after}
-use Rattle.acq_core.specs.declared.event.Event.TheVariants.{Frame}
 use Rattle.acq_soundness.proofs.Runs.{tables_after-append}
 use Rattle.acq_host.proofs.Runs.{LeavesTables}
-use Rattle.acq_reports.specs.Faults.{CountsStore, is_settled}
+use Rattle.acq_reports.specs.Faults.{CountsStore}
 use Rattle.acq_reports.specs.declared.report_fault.ReportFault as report
-use Rattle.acq_faults.specs.Faults.{TellsStore, of_book, of_report}
-use Rattle.acq_faults.specs.Ends.{going_on}
-use Rattle.acq_faults.specs.Reaching.{Reaches, ReachesSome, ReachesBy}
-use Rattle.acq_faults.specs.declared.fault.Fault as fault
+use Rattle.acq_faults.specs.Faults.{TellsStore, of_book}
 use Rattle.acq_front.proofs.StopsLeave.{all_behind, some_behind}
-use Rattle.acq_front.specs.Ends.{Steps}
-use Rattle.acq_front.specs.Exchanges.{Goes, Passed, late_fault}
 use Rattle.acq_front.specs.Faults as front
 use Rattle.acq_front.specs.Stops.{Left, LeavesAll, left_of}
-use Rattle.acq_front.specs.Talk.{Saying}
-use Rattle.acq_front.specs.Turns.{Incoming, Refused}
 use Rattle.acq_front.specs.declared.front_fault.FrontFault as ended
-use Rattle.acq_front.specs.declared.round.Round.{Round}
 use Rattle.acq_control.specs.Answers.{events_asked}
 use Rattle.acq_control.specs.Ends.{RefusesLine}
 use Rattle.acq_control.specs.Exchanges as control
@@ -32,7 +23,11 @@ use Rattle.acq_status.specs.declared.serving.Serving.{Serving}
 use Rattle.acq_control.specs.declared.control_round.ControlRound.{ControlRound}
 use Rattle.acq_control.specs.declared.control_round.ControlRound.TheVariants as control_round
 use Rattle.acq_control.specs.declared.wish.Wish.{Wish}
-use Rattle.acq_tcp.specs.Rounds.{IsNotStores, RoundReaches, RoundTells}
+use Rattle.acq_rounds.specs.Reaching.{Reaches, ReachesSome, ReachesBy}
+use Rattle.acq_rounds.specs.Taking.{TellsFault}
+use Rattle.acq_rounds.proofs.Together.{tells_on}
+use Rattle.acq_tcp.specs.Rounds.{IsNotStores, Looked, RoundReaches, RoundTells}
+use Rattle.acq_tcp.specs.Rounds.{going_on, of_looked}
 
 -- nothing was taken
 pub reaches_none : (left : Left) → LeavesAll left left.tables [] → Reaches left.tables left
@@ -58,26 +53,15 @@ some_on old mid left one two = record {
   stop = some_behind left old mid.tables one.events one.tables two.events two.in_hand two.stop;
 }
 
-pub refused_on : (old : Tables) (mid left : Left) (f : fault.Fault) → Reaches old mid →
-    ReachesBy mid.tables left (Err f) → ReachesBy old left (Err f)
-refused_on old mid left fault.TheVariants.Memory one two = some_on old mid left one two
-refused_on old mid left fault.TheVariants.Store one two = some_on old mid left one two
-refused_on old mid left (fault.TheVariants.BadAnswer n) one two = reached_on old mid left one two
-refused_on old mid left fault.TheVariants.NoSuchMerchant one two = reached_on old mid left one two
-refused_on old mid left fault.TheVariants.NotABook one two = reached_on old mid left one two
-refused_on old mid left (fault.TheVariants.OtherVersion n) one two = reached_on old mid left one two
-refused_on old mid left fault.TheVariants.BadLength one two = reached_on old mid left one two
-refused_on old mid left fault.TheVariants.Ended one two = reached_on old mid left one two
-refused_on old mid left (fault.TheVariants.Undecodable u) one two = reached_on old mid left one two
-refused_on old mid left fault.TheVariants.Read one two = reached_on old mid left one two
-refused_on old mid left (fault.TheVariants.Write n) one two = reached_on old mid left one two
-refused_on old mid left fault.TheVariants.DayNotOver one two = reached_on old mid left one two
-refused_on old mid left (fault.TheVariants.StillPending n) one two = reached_on old mid left one two
-refused_on old mid left (fault.TheVariants.BadLine n) one two = reached_on old mid left one two
-refused_on old mid left fault.TheVariants.Silent one two = reached_on old mid left one two
-refused_on old mid left (fault.TheVariants.OtherDay day) one two = reached_on old mid left one two
-refused_on old mid left (fault.TheVariants.BadMessage line cause) one two =
-    reached_on old mid left one two
+pub refused_on : (old : Tables) (mid left : Left) (f : book_fault.BookFault) → Reaches old mid →
+    ReachesBy {X = Unit {0}} mid.tables left (Err f) → ReachesBy {X = Unit {0}} old left (Err f)
+refused_on old mid left f one two = some_on old mid left one two
+
+-- so the next part, whether it was refused or not
+pub reached_then : (old : Tables) (mid left : Left) (r : Result (Unit {0}) book_fault.BookFault) →
+    Reaches old mid → ReachesBy mid.tables left r → ReachesBy old left r
+reached_then old mid left (Ok x) one two = reached_on old mid left one two
+reached_then old mid left (Err f) one two = some_on old mid left one two
 
 -- where some were, and none was refused
 pub some_of : (old : Tables) (left : Left) → Reaches old left → ReachesSome old left
@@ -101,44 +85,6 @@ reached_still (Some (Err ended.TheVariants.Ended)) old left h = h
 reached_still (Some (Err (ended.TheVariants.Undecodable f))) old left h = h
 reached_still (Some (Err ended.TheVariants.Read)) old left h = h
 reached_still (Some (Err (ended.TheVariants.Write n))) old left h = h
-
-module _ (may_give : ℕ → Type 0) (may_say : Saying) (old : Tables) (left : Left) where
-  -- of a message nothing was taken, or not its issuer's answer
-  refused : (m : Incoming) (out : List ℕ) → Refused may_say old left m out → ReachesSome old left
-  refused m out (none, inl untaken) = record {
-    events = [];
-    in_hand = Frame untaken.moment m.message ∷ [];
-    at_most_one = omega arith;
-    tables = untaken.tables;
-    stop = untaken.stop;
-  }
-  refused m out (none, inr most) = record {
-    events = most.came ∷ [];
-    in_hand = most.answer ∷ [];
-    at_most_one = omega arith;
-    tables = most.tables;
-    stop = most.stop;
-  }
-
-  module _ (before after : Passed) where
-    pub round_reaches : Goes may_give may_say old left before after → Reaches old left
-    round_reaches goes = record { events = goes.events; tables = goes.tables; stop = goes.stop }
-
-    -- and so where the round ended it
-    pub end_reaches : (held rest unsent : List ℕ) (f : ended.FrontFault) →
-        front.UnlessRefused {X = Round} (Err f) (Goes may_give may_say old left before after) →
-        front.IfRefused {X = Round} (Err f)
-        (λ g. Steps may_give may_say old left held rest unsent (Err g)) →
-        RoundReaches old left (Some (Err f))
-    end_reaches held rest unsent ended.TheVariants.Memory h (inl none) = some_of old left
-        (record { events = []; tables = none.tables; stop = none.stop })
-    end_reaches held rest unsent ended.TheVariants.Memory h (inr next) = refused _ unsent next.turns
-    end_reaches held rest unsent ended.TheVariants.Store h next = refused _ unsent next.turns
-    end_reaches held rest unsent ended.TheVariants.BadLength h none = round_reaches h
-    end_reaches held rest unsent ended.TheVariants.Ended h none = round_reaches h
-    end_reaches held rest unsent (ended.TheVariants.Undecodable f) h none = round_reaches h
-    end_reaches held rest unsent ended.TheVariants.Read h none = round_reaches h
-    end_reaches held rest unsent (ended.TheVariants.Write n) h none = round_reaches h
 
 -- ---- the tables were looked at
 
@@ -169,37 +115,44 @@ module _ {S : Type 0} (it : Ghosts S) (a c : S) (honest : it.is_honest c) (opene
     };
   }
 
-  -- and the look was refused
-  pub looked_refused : (f : book_fault.BookFault) (done : Bool) → Looks it a c done →
-      ReachesBy (it.tables a) (left_of it c) (Err (of_book f))
-  looked_refused book_fault.TheVariants.Memory done looks = looked_some done looks
-  looked_refused book_fault.TheVariants.Store done looks = looked_some done looks
+  -- whether it was refused or not
+  pub looked_at : (done : Bool) → Looks it a c done → Looked (it.tables a) (left_of it c)
+  looked_at done looks =
+      record { tables = λ is. looks.same is; stop = looked_stop done looks }
 
-  -- and so was a report
-  pub looked_report : (f : report.ReportFault) → Looks it a c (is_settled {T = Unit {0}} (Err f)) →
-      ReachesBy (it.tables a) (left_of it c) (Err (of_report f))
-  looked_report report.TheVariants.Memory looks = looked_some false looks
-  looked_report report.TheVariants.Store looks = looked_some false looks
-  looked_report report.TheVariants.NoSuchMerchant looks = looked_all looks
-  looked_report (report.TheVariants.Write n) looks = looked_all looks
-  looked_report report.TheVariants.DayNotOver looks = looked_all looks
-  looked_report (report.TheVariants.StillPending n) looks = looked_all looks
-
--- what a look that was refused tells of the store
-pub tells_looked : (T : Type 0) (f : book_fault.BookFault) (a c : ℕ) (P : Type 0) →
-    CountsFault {T = T} (Err f) a c → TellsStore (Err (of_book f)) a c P
-tells_looked T book_fault.TheVariants.Memory a c P counts = counts
-tells_looked T book_fault.TheVariants.Store a c P counts = inl counts
+  -- a report that was refused
+  pub looked_report : (done : Bool) (f : book_fault.BookFault) → Looks it a c done →
+      ReachesBy {X = Unit {0}} (it.tables a) (left_of it c) (Err f)
+  looked_report done f looks = looked_some done looks
 
 -- what a report that was refused tells of the store
 pub tells_report : (f : report.ReportFault) (a c : ℕ) (P : Type 0) →
-    CountsStore {T = Unit {0}} (Err f) a c → TellsStore (Err (of_report f)) a c P
+    CountsStore {T = Unit {0}} (Err f) a c → TellsFault {X = Unit {0}} (Err (of_looked f)) a c P
 tells_report report.TheVariants.Memory a c P counts = counts
 tells_report report.TheVariants.Store a c P counts = inl counts
 tells_report report.TheVariants.NoSuchMerchant a c P counts = counts
 tells_report (report.TheVariants.Write n) a c P counts = counts
 tells_report report.TheVariants.DayNotOver a c P counts = counts
 tells_report (report.TheVariants.StillPending n) a c P counts = counts
+
+-- what a look that was refused tells of the store
+pub tells_looked : (X T : Type 0) (f : book_fault.BookFault) (a c : ℕ) (P : Type 0) →
+    CountsFault {T = T} (Err f) a c → TellsFault {X = X} (Err f) a c P
+tells_looked X T book_fault.TheVariants.Memory a c P counts = counts
+tells_looked X T book_fault.TheVariants.Store a c P counts = inl counts
+
+-- what is told behind a part in which nothing failed, with a weaker reason
+pub tells_then : (r : Result (Unit {0}) book_fault.BookFault) (P Q : Type 0) {a b : ℕ} (c : ℕ) →
+    b ≡ a → (P → Q) → TellsFault r b c P → TellsFault r a c Q
+tells_then (Ok x) P Q c same so told = told ∙ same
+tells_then (Err f) P Q c same so told =
+    tells_on (Unit {0}) (Unit {0}) f P Q c same refl so told
+
+-- what is told of the book's store is told of the host's
+pub tells_host : (f : book_fault.BookFault) (a c : ℕ) (P : Type 0) →
+    TellsFault {X = Unit {0}} (Err f) a c P → TellsStore (Err (of_book f)) a c P
+tells_host book_fault.TheVariants.Memory a c P told = told
+tells_host book_fault.TheVariants.Store a c P told = told
 
 -- what the end of a connection is for the program
 pub program_reaches : (old : Tables) (left : Left) (r : Result (Unit {0}) ended.FrontFault) →
@@ -216,10 +169,6 @@ program_reaches old left (Err (ended.TheVariants.Write n)) h = h
 -- ---- what is told of the store
 
 -- it took too long
-pub late_unstored : (unsent : List ℕ) (gone : ℕ) → IsNotStores (Some (Err (late_fault unsent gone)))
-late_unstored [] gone = tt
-late_unstored (x ∷ xs) gone = tt
-
 pub tells_late : (r : Option (Result (Unit {0}) ended.FrontFault)) (P : Type 0) {a b : ℕ} → b ≡ a →
     IsNotStores r → RoundTells r a b P
 tells_late None P same not = same

@@ -1,3 +1,5 @@
 pub mod Frames
-pub mod Rounds
+pub mod Had
 pub mod Passing
+pub mod Rounds
+pub mod Terminals

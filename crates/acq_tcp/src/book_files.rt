@@ -1,7 +1,7 @@
 //! The files of the book that is served.
 
 ghost use Rattle.std.specs.Prelude.{IfErr};
-ghost use Rattle.acq_faults.specs.Faults.{IsOfGathering};
+ghost use Rattle.acq_faults.specs.Faults.{IsOfListening};
 
 use acq_faults::Fault;
 use std::alloc::{AllocError, Global};
@@ -25,7 +25,7 @@ pub(crate) struct BookSizes {
 impl BookFiles {
     /// Those of the book at a path. Its WAL file lies beside it, where a link leads.
     pub(crate) fn at<F: Files>(files: &F, alloc: Global, path: &str) -> Result<BookFiles, Fault>
-        ensures { IfErr result IsOfGathering }
+        ensures { IfErr result IsOfListening }
     {
         let paths = match files.canonicalize(alloc, path) {
             Ok(real) => BookFiles::named(alloc, real.as_str()),

@@ -11,22 +11,20 @@ const KEPT: usize = 6;
 pub(crate) struct FrameHead {
     bytes: [u8; KEPT],
     /// How many of them came.
-    count: u8,
+    count: usize,
 }
 
 impl FrameHead {
-    /// One of which nothing came yet.
-    pub(crate) const EMPTY: FrameHead = FrameHead {
-        bytes: [0; KEPT],
-        count: 0,
-    };
-
-    /// The next byte of the frame came.
-    pub(crate) fn push(&mut self, byte: u8) {
-        if let Some(next) = self.bytes.get_mut(usize::from(self.count)) {
-            *next = byte;
-            self.count = self.count.saturating_add(1);
-        }
+    /// That of the frame in front of these bytes: a frame of no bytes has its length alone.
+    pub(crate) fn of(came: &[u8]) -> FrameHead {
+        let whole = match came {
+            [high, low, ..] => LENGTH + 256 * usize::from(*high) + usize::from(*low),
+            _ => LENGTH,
+        };
+        let count = came.len().min(whole).min(KEPT);
+        let mut bytes = [0; KEPT];
+        bytes[..count].copy_from_slice(&came[..count]);
+        FrameHead { bytes, count }
     }
 
     /// Its length, once both bytes of it came.
@@ -39,7 +37,7 @@ impl FrameHead {
 
     /// What came of it, from its length on.
     pub(crate) fn bytes(&self) -> &[u8] {
-        self.bytes.get(..usize::from(self.count)).unwrap_or(&[])
+        self.bytes.get(..self.count).unwrap_or(&[])
     }
 
     /// What came of its message.

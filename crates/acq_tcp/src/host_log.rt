@@ -4,11 +4,11 @@ use crate::connection_name::ConnectionName;
 use crate::ending::Ending;
 use crate::first_bytes::FirstBytes;
 use crate::frame_head::FrameHead;
+use crate::held_reply::HeldReply;
 use crate::line_rate::LineRate;
 use crate::log_line::LogLine;
 use crate::log_target::LogTarget;
 use crate::log_time::{LogTime, second_of};
-use crate::open_connection::HeldReply;
 use acq_front::{FrontFault, Silence, Unanswered};
 use card_no::CardNumber;
 use day_totals::Day;
@@ -135,13 +135,13 @@ impl<W: LogTarget> HostLog<W> {
         self.end_line();
     }
 
-    /// A terminal's connection ended for this fault of a frame, which begins so, if that is known.
+    /// A terminal's connection ended for this fault of a frame, which begins so.
     pub(crate) fn closed_at_frame<T: time::Clock>(
         &mut self,
         clock: &T,
         name: ConnectionName,
         fault: FrontFault,
-        frame: Option<FrameHead>,
+        frame: FrameHead,
     ) {
         if !self.refused.admits(second_of(clock)) {
             return;
@@ -154,21 +154,17 @@ impl<W: LogTarget> HostLog<W> {
                 self.line.put_number("element", u64::from(cause.element()));
             }
         }
-        if let Some(frame) = frame {
-            self.put_frame(fault, frame);
-        }
+        self.put_frame(fault, frame);
         self.end_line();
     }
 
-    /// A terminal gets this reply, of which this is known, so long after the message's last byte
-    /// came.
+    /// A terminal gets this reply, of which this is known.
     pub(crate) fn replied<T: time::Clock>(
         &mut self,
         clock: &T,
         name: ConnectionName,
         message: &Message,
         held: &HeldReply,
-        total: Option<Duration>,
     ) {
         if is_of_network(&message.kind()) && !self.echoes.admits(second_of(clock)) {
             return;
@@ -180,7 +176,7 @@ impl<W: LogTarget> HostLog<W> {
             self.line.put_why(reason);
         }
         self.put_duration("microseconds", held.took);
-        self.put_duration("total_microseconds", total);
+        self.put_duration("total_microseconds", held.total);
         self.end_line();
     }
 

@@ -8,9 +8,9 @@ use crate::connection_name::ConnectionName;
 use crate::ending::Ending;
 use crate::first_seen::FirstSeen;
 use crate::frame_head::FrameHead;
+use crate::held_reply::HeldReply;
 use crate::host_log::HostLog;
 use crate::log_target::LogTarget;
-use crate::open_connection::HeldReply;
 use crate::places::Places;
 use crate::serving_counts::ServingCounts;
 use acq_book::Book;
@@ -183,12 +183,12 @@ impl<'a, T: time::Clock, W: LogTarget> Journal<'a, T, W> {
         }
     }
 
-    /// A terminal's connection ended for this fault of a frame, which begins so, if that is known.
+    /// A terminal's connection ended for this fault of a frame, which begins so.
     pub(crate) fn refused_frame(
         &mut self,
         name: ConnectionName,
         fault: FrontFault,
-        frame: Option<FrameHead>,
+        frame: FrameHead,
     ) {
         self.counts.refused_frames = self.counts.refused_frames.saturating_add(1);
         if let Some(log) = &mut self.log {
@@ -196,27 +196,23 @@ impl<'a, T: time::Clock, W: LogTarget> Journal<'a, T, W> {
         }
     }
 
-    /// A message of a terminal was taken, at which the host began then, and has a reply. Returns
-    /// how long it took.
-    pub(crate) fn took(
+    /// A message of a terminal was taken at this time, and the terminal gets the first bytes of
+    /// this frame now, of which this is known.
+    pub(crate) fn replied(
         &mut self,
-        began: Option<Instant>,
+        name: ConnectionName,
+        frame: &[u8],
+        held: HeldReply,
         now: Option<Instant>,
-    ) -> Option<Duration> {
+    ) {
         self.counts.answered(now);
-        self.since(began)
-    }
-
-    /// A terminal gets the first bytes of this frame now, of which this is known.
-    pub(crate) fn replied(&mut self, name: ConnectionName, frame: &[u8], held: HeldReply) {
-        let total = self.since(held.came);
         let reply = frame
             .get(HEADER..)
             .and_then(|text| decode(self.alloc, text).ok());
         let code = reply.as_ref().and_then(|reply| reply.get(39));
-        self.counts.replied(code.unwrap_or(b""), total);
+        self.counts.replied(code.unwrap_or(b""), held.total);
         if let (Some(log), Some(reply)) = (&mut self.log, &reply) {
-            log.replied(self.time, name, reply, &held, total);
+            log.replied(self.time, name, reply, &held);
         }
     }
 

@@ -1,5 +1,6 @@
 //! A control connection among others.
 
+ghost use Rattle.std.specs.Prelude.{ℕ};
 ghost use Rattle.acq_front.specs.Stops.{left_of};
 ghost use Rattle.acq_tcp.specs.Rounds.{IsNotStores, RoundReaches, RoundTells, UnlessRefused};
 
@@ -120,6 +121,7 @@ impl OpenControl {
         ensures stays_open { B.is_honest host.new → B.is_open host.old
             → UnlessRefused result (B.is_open host.new) }
         ensures was_honest { B.is_honest host.new → B.is_honest host.old }
+        ensures given_later { (m : ℕ) → C.may_give clock.new m → C.may_give clock.old m }
         ensures store { RoundTells result (B.failures host.old) (B.failures host.new)
             (B.is_honest host.new → B.is_open host.old → ⊥) }
     {

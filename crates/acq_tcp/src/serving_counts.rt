@@ -4,7 +4,7 @@ use acq_front::Silence;
 use acq_status::{ReplyCounts, ReplyDurations, UnansweredCounts};
 use std::time::{Duration, Instant};
 
-/// Counts of what a gathering has served since it began.
+/// Counts of what a server has served since it began.
 #[derive(Clone, Copy)]
 pub(crate) struct ServingCounts {
     /// Connections of terminals that got a place.

@@ -26,6 +26,11 @@ impl TimeLimits {
             stop: limit_of(patience.stop_within),
         }
     }
+
+    /// Within how long a connection that moves now can't take too long.
+    pub(crate) fn shortest(self) -> Option<Duration> {
+        shorter(self.idle, self.frame)
+    }
 }
 
 /// So many seconds; for 0 no limit.
@@ -48,4 +53,31 @@ pub(crate) fn shorter(one: Option<Duration>, other: Option<Duration>) -> Option<
         (one, None) => one,
         (None, other) => other,
     }
+}
+
+/// When so much time is over, from its beginning on, where both are known and it ends.
+pub(crate) fn deadline(limit: Option<Duration>, began: Option<Instant>) -> Option<Instant> {
+    began?.checked_add(limit?)
+}
+
+/// The earlier of two times that are known.
+pub(crate) fn earlier(one: Option<Instant>, other: Option<Instant>) -> Option<Instant> {
+    match (one, other) {
+        (Some(one), Some(other)) if other < one => Some(other),
+        (None, other) => other,
+        (one, _) => one,
+    }
+}
+
+/// Whether a time is known that isn't later than now.
+pub(crate) fn has_come(then: Option<Instant>, now: Option<Instant>) -> bool {
+    match (then, now) {
+        (Some(then), Some(now)) => then <= now,
+        _ => false,
+    }
+}
+
+/// How much time lies between two times that are known.
+pub(crate) fn between(then: Option<Instant>, now: Option<Instant>) -> Option<Duration> {
+    Some(now?.duration_since(then?))
 }

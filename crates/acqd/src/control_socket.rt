@@ -1,7 +1,7 @@
 //! The socket at which control connections come.
 
 ghost use Rattle.std.specs.Prelude.{IfErr};
-ghost use Rattle.acq_faults.specs.Faults.{IsOfGathering};
+ghost use Rattle.acq_faults.specs.Faults.{IsOfListening};
 
 use acq_faults::Fault;
 use mio::net::{UnixListener, UnixStream};
@@ -24,7 +24,7 @@ const LONGEST_PATH: usize = 107;
 /// socket stands, a link among it, it is left as it is. So is a path that nobody could connect to,
 /// since it is too long.
 pub(crate) fn control_socket(rt: &HostRuntime, path: &str) -> Result<UnixListener, Fault>
-    ensures { IfErr result IsOfGathering }
+    ensures { IfErr result IsOfListening }
 {
     if path.len() > LONGEST_PATH || is_taken(rt, path) {
         return Err(Fault::Read);

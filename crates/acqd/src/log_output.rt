@@ -1,7 +1,7 @@
 //! Where a log for operators goes.
 
 ghost use Rattle.std.specs.Prelude.{◌≤◌, IfErr, length};
-ghost use Rattle.acq_faults.specs.Faults.{IsOfGathering};
+ghost use Rattle.acq_faults.specs.Faults.{IsOfListening};
 
 use crate::at_once::open_at_once;
 use crate::standard_error::StandardError;
@@ -45,7 +45,7 @@ impl<'a> LogOutput<'a> {
         path: &str,
         most_bytes: u64,
     ) -> Result<LogOutput<'a>, Fault>
-        ensures { IfErr result IsOfGathering }
+        ensures { IfErr result IsOfListening }
     {
         if path == STANDARD_ERROR {
             return Ok(LogOutput::StandardError(StandardError::new(rt)));

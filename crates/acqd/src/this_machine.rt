@@ -1,7 +1,7 @@
 //! The machine that the program runs on.
 
 ghost use Rattle.std.specs.Prelude.{◌≡◌, IfErr};
-ghost use Rattle.acq_faults.specs.Faults.{IsOfAnswers, IsOfGathering};
+ghost use Rattle.acq_faults.specs.Faults.{IsOfAnswers, IsOfListening};
 ghost use Rattle.acq_program.specs.BookFaults.{IsClosing, IsOfEvents, IsOpening};
 ghost use Rattle.acqd.specs.BookFiles.{of_opening};
 
@@ -24,7 +24,7 @@ use acq_program::Machine;
 use acq_sql::OnceBook;
 use acq_sql_checking::OpeningFault;
 use acq_stand_in::StandIn;
-use acq_tcp::{HostLog, TcpConnections, TcpGathering};
+use acq_tcp::{HostLog, TcpConnections, TcpServer};
 use day_totals::Day;
 use mio::net::UnixListener;
 use sqlite::{Error, ErrorCode};
@@ -63,7 +63,7 @@ impl<'a, D: Start> ThisMachine<'a, D> {
 impl<'a, D: Start> Machine<OnceBook<FileStore<FileFrom<D>>>> for ThisMachine<'a, D> {
     type Connections = TcpConnections<'a, HostRuntime>;
 
-    type Gathering = TcpGathering<'a, HostRuntime, LogOutput<'a>>;
+    type Server = TcpServer<'a, HostRuntime, LogOutput<'a>>;
 
     type Lines = WriteSink<HostLine<'a, UnixStream>>;
 
@@ -151,11 +151,11 @@ impl<'a, D: Start> Machine<OnceBook<FileStore<FileFrom<D>>>> for ThisMachine<'a,
         }
     }
 
-    fn gather_at(
+    fn serve_at(
         &self,
         alloc: Global,
         asked: &ListenOptions,
-    ) -> Result<TcpGathering<'a, HostRuntime, LogOutput<'a>>, Fault> {
+    ) -> Result<TcpServer<'a, HostRuntime, LogOutput<'a>>, Fault> {
         self.signs.listens.set(true);
         if names_a_file_twice(self.rt, asked) {
             self.signs.note(Lack::SameFile);
@@ -163,19 +163,16 @@ impl<'a, D: Start> Machine<OnceBook<FileStore<FileFrom<D>>>> for ThisMachine<'a,
         }
         let log = log_asked(self.rt, alloc, self.signs, asked)?;
         let control = control_asked(self.rt, self.signs, asked)?;
-        let listening = TcpGathering::listen(self.rt, self.rt, alloc, asked, control, log);
+        let listening = TcpServer::listen(self.rt, self.rt, alloc, asked, control, log);
         if listening.is_err() {
             note_port(self.rt, self.signs, asked.endpoint);
         }
         listening
     }
 
-    fn end_gathering(
-        gathering: TcpGathering<'a, HostRuntime, LogOutput<'a>>,
-        asked: &ListenOptions,
-    ) {
-        let rt = gathering.clock();
-        drop(gathering);
+    fn end_serving(server: TcpServer<'a, HostRuntime, LogOutput<'a>>, asked: &ListenOptions) {
+        let rt = server.clock();
+        drop(server);
         if let Some(path) = &asked.control {
             remove_socket(rt, path.as_str());
         }
@@ -256,7 +253,7 @@ fn log_asked<'a>(
     signs: &Signs,
     asked: &ListenOptions,
 ) -> Result<Option<HostLog<LogOutput<'a>>>, Fault>
-    ensures { IfErr result IsOfGathering }
+    ensures { IfErr result IsOfListening }
 {
     let Some(path) = &asked.log else {
         return Ok(None);
@@ -279,7 +276,7 @@ fn control_asked(
     signs: &Signs,
     asked: &ListenOptions,
 ) -> Result<Option<UnixListener>, Fault>
-    ensures { IfErr result IsOfGathering }
+    ensures { IfErr result IsOfListening }
 {
     let Some(path) = &asked.control else {
         return Ok(None);

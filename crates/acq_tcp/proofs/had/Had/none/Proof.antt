@@ -1,0 +1,36 @@
+-- `none` makes the empty struct, and picks 0. Assumes `Logic`.
+use Rattle.std.proofs.Common.{[], ◌∷◌, refl}
+use Rattle.std.proofs.raw_atomic.Walks.{proved}
+use types.Kit.{raw, ◌$◌, ◌∵◌, !, qed, drop, fjoin, suffices, done}
+use types.Part.{agg}
+use types.Run.{enter, returns, no_more}
+use types.ByLocal.{alloc_all, pass_all, free_all, look_at, sets}
+use denote.Steps.{nothing}
+use denote.Triple.Entry.{on_entry}
+use denote.Triple.Walked.{says, Stays, walk_of, ends_at}
+use Rattle.acq_link.proofs.EmptyStruct.{empty_value, owns_empty}
+use Rattle.acq_tcp.specs.contracts.had.Had as Had
+use Rattle.acq_tcp.specs.contracts.had.Had.none as f
+use Rattle.acq_tcp.proofs.had.Had.none.Statement.{statement}
+use Rattle.acq_tcp.proofs.had.Had.none.Code as code
+
+abbrev stayed : Stays f.ended.signature.params f.ended.kept
+stayed = tt
+
+pub none_spec : {M : Type 1} → statement M
+none_spec 𝓤 𝓛 𝓜 𝓡 wired =
+    let c = f.clauses 𝓛 𝓜.mem 𝓡.returns in let W = walk_of 𝓛 f.ended stayed c in
+    proved 𝓛 f.ended stayed c 𝓜 𝓡 tt
+    f.Key.name code.function (code.unfolded 𝓤 𝓛.H 𝓜 𝓡 wired)
+    (λ κs. tt) (λ κs. tt) (λ κs qs bounds a n are.
+    let y : W.Ghost = ((κs, qs, bounds, a, tt), n) in
+    let made : Had.the_row.Denot = record { count = 0 } in
+    qed 𝓛 (raw (on_entry 𝓛 f.signature κs qs a y.0.4) ∷ raw ((c κs a).requires n) ∷ []) ∵ drop !
+    $ drop ! $
+    enter ! _ _ _ _ _ $ alloc_all ! (λ l. pass_all ! refl tt $
+    sets ! (agg ! (no_more !)) refl (tt, tt) $
+    nothing ! $ owns_empty ! $ fjoin ! $
+    returns ! (look_at ! 0 refl) $ free_all ! refl $
+    suffices ! _ (ends_at 𝓛 f.ended stayed c y empty_value made tt tt) $ says !
+    (record { count = refl }) $
+    nothing ! $ nothing ! $ done !))

@@ -1,0 +1,366 @@
+//! The places of terminals, while they are served.
+
+ghost use Rattle.std.specs.Prelude.{ℕ, OnOk};
+ghost use Rattle.acq_front.specs.Stops.{left_of};
+ghost use Rattle.acq_rounds.specs.Reaching.{ReachesBy};
+ghost use Rattle.acq_rounds.specs.Taking.{TellsFault};
+
+use crate::connection_name::ConnectionName;
+use crate::ending::Ending;
+use crate::held_reply::HeldReply;
+use crate::log_target::LogTarget;
+use crate::look::Look;
+use crate::parted::Parted;
+use crate::parting::ends_in_bad_frame;
+use crate::places::Places;
+use crate::round_time::RoundTime;
+use crate::tcp_server::TcpServer;
+use crate::terminal_talk::TerminalPlace;
+use crate::time_limits::{between, shorter};
+use acq_book::{Book, BookFault};
+use acq_faults::end_connection;
+use acq_front::{Clock, FrontFault};
+use acq_host::Host;
+use acq_link::Sink;
+use acq_rounds::Talk;
+use mio::net::TcpStream;
+use std::alloc::Global;
+use std::fs::Files;
+use std::time;
+use std::time::{Duration, Instant};
+
+/// The places of terminals, while they are served: which of them are taken, and for how long.
+#[derive(Drop)]
+pub(crate) struct OpenPlaces<'s, 'r, 'a, T, W, F> {
+    server: &'s mut TcpServer<'a, T, W>,
+    faults: &'s mut F,
+    time: &'r RoundTime,
+    /// How many connections are still to come.
+    left: u64,
+    /// How many are open.
+    open: usize,
+    /// Those that are parted with. They have a place until that is over.
+    parted: Vec<Parted<'r>>,
+    look: Look,
+    /// When what was said in this round was known.
+    said: Option<Instant>,
+    /// The host was asked to end.
+    is_stopping: bool,
+    /// And what is there is cut off, since the time for it is over.
+    is_over: bool,
+    /// The system couldn't be waited for.
+    has_failed: bool,
+}
+
+impl<'s, 'r, 'a, T: time::Clock + Files, W: LogTarget + Drop, F: Sink> OpenPlaces<
+    's,
+    'r,
+    'a,
+    T,
+    W,
+    F,
+> {
+    /// None is taken, and so many connections are to come.
+    pub(crate) fn new(
+        alloc: Global,
+        server: &'s mut TcpServer<'a, T, W>,
+        faults: &'s mut F,
+        time: &'r RoundTime,
+        count: u64,
+    ) -> OpenPlaces<'s, 'r, 'a, T, W, F> {
+        let look = Look::new(server.limits);
+        OpenPlaces {
+            server,
+            faults,
+            time,
+            left: count,
+            open: 0,
+            parted: Vec::new(alloc),
+            look,
+            said: None,
+            is_stopping: false,
+            is_over: false,
+            has_failed: false,
+        }
+    }
+
+    /// Whether the system couldn't be waited for.
+    pub(crate) fn has_failed(&self) -> bool {
+        self.has_failed
+    }
+
+    /// Cuts off the control connections, where the host ends since its time is over.
+    pub(crate) fn end(&mut self) {
+        if self.is_over {
+            self.server.cut_off_controls(self.faults);
+        }
+    }
+
+    /// Waits until there is something to do, not at all where there is already, and begins the next
+    /// round. Returns whether there is one.
+    pub(crate) fn wait(&mut self, has_already: bool) -> bool {
+        let begins_to_stop = self.note_stop();
+        if self.is_over || self.is_done() {
+            return false;
+        }
+        let longest = if has_already || begins_to_stop {
+            Some(Duration::ZERO)
+        } else {
+            self.longest_wait()
+        };
+        if self.server.wait(longest).is_err() {
+            self.has_failed = true;
+            return false;
+        }
+        let now = self.server.now();
+        self.time.set(now);
+        self.said = None;
+        self.read_away(now);
+        true
+    }
+
+    /// Notes that the host was asked to end, if it was, and whether what is there is cut off.
+    /// Returns whether it was asked since the last wait.
+    fn note_stop(&mut self) -> bool {
+        if !self.server.has_stopped() {
+            return false;
+        }
+        let now = self.server.now();
+        if self.server.stopping.is_none() {
+            self.server.stopping = now;
+        }
+        self.is_over = self
+            .server
+            .stop_left(now)
+            .is_some_and(|left| left.is_zero());
+        let begins = !self.is_stopping;
+        self.is_stopping = true;
+        self.left = 0;
+        begins
+    }
+
+    /// Whether nothing is left to do.
+    fn is_done(&self) -> bool {
+        self.left == 0 && self.open == 0 && self.parted.is_empty() && !self.server.is_answering()
+    }
+
+    /// How long it may wait where no connection has something to do: until the first one may have
+    /// taken too long, or, where more are taken, one may be had.
+    fn longest_wait(&self) -> Option<Duration> {
+        let now = self.server.now();
+        let mut longest = match &self.server.control {
+            Some(control) => control.time_left(now, self.server.limits),
+            None => None,
+        };
+        longest = shorter(longest, self.server.stop_left(now));
+        longest = shorter(longest, self.arrival_left(now));
+        for parted in self.parted.iter() {
+            longest = shorter(longest, Some(parted.time_left(now)));
+        }
+        if self.open > 0 {
+            longest = shorter(longest, self.look.time_left(now));
+        }
+        if self.wants_room() {
+            longest = shorter(longest, self.look.room_left(now));
+        }
+        longest
+    }
+
+    /// How long it is until a connection may be had, where more are taken and one may be there.
+    fn arrival_left(&self, now: Option<Instant>) -> Option<Duration> {
+        if self.left == 0 {
+            None
+        } else if self.server.waiting.is_some() {
+            self.has_room().then_some(Duration::ZERO)
+        } else if self.server.may_come {
+            Some(self.server.pause_left(now))
+        } else {
+            None
+        }
+    }
+
+    /// How many places are taken.
+    fn taken(&self) -> usize {
+        self.open.saturating_add(self.parted.len())
+    }
+
+    /// Whether a place is free.
+    fn has_room(&self) -> bool {
+        self.taken() < self.server.places
+    }
+
+    /// Whether a connection waits for a place, and none is free.
+    fn wants_room(&self) -> bool {
+        self.server.waiting.is_some() && !self.has_room()
+    }
+
+    /// How many places there are, and how many are free.
+    fn places(&self) -> Places {
+        Places {
+            all: self.server.places as u64,
+            open: self.server.places.saturating_sub(self.taken()) as u64,
+        }
+    }
+
+    /// Reads away what came over those that are parted with.
+    fn read_away(&mut self, now: Option<Instant>) {
+        let may_have = !self.server.woken.is_empty();
+        let mut at = 0;
+        while at < self.parted.len() {
+            let parted = &mut self.parted[at];
+            if may_have {
+                parted.make_ready();
+            }
+            if parted.read_away(now) {
+                drop(self.parted.swap_remove(at));
+            } else {
+                at += 1;
+            }
+        }
+    }
+
+    /// The number of the next connection that has something to do, if one has.
+    pub(crate) fn woken(&mut self) -> Option<u64> {
+        self.server.woken.pop()
+    }
+
+    /// The next connection that came, if one did: it gets this number. Where no place is free it
+    /// waits, and doesn't count yet. One that can't be had counts, and is told.
+    pub(crate) fn next(&mut self, number: u64) -> Option<(ConnectionName, TcpStream)> {
+        if self.left == 0 {
+            return None;
+        }
+        let now = self.time.get();
+        let came = if self.has_room() {
+            self.server.take_in(number, now)
+        } else {
+            self.server.let_wait(now).map(|_| None)
+        };
+        match came {
+            Ok(None) => None,
+            Ok(Some(next)) => {
+                self.left -= 1;
+                self.open = self.open.saturating_add(1);
+                Some(next)
+            }
+            Err(_) => {
+                self.left -= 1;
+                let _ = end_connection(Err(FrontFault::Read), self.faults);
+                None
+            }
+        }
+    }
+
+    /// Looks at the book where figures are to be told, and gives control connections a round.
+    pub(crate) fn between<B: Book + Drop, C: Clock>(
+        &mut self,
+        alloc: Global,
+        host: &mut Host<B>,
+        clock: &mut C,
+    ) -> Result<(), BookFault>
+        ensures reaches { B.is_honest host.new → B.is_open host.old
+            → ReachesBy (B.tables host.old) (left_of B.Book host.new) result }
+        ensures stays_open { B.is_honest host.new → B.is_open host.old
+            → OnOk result (B.is_open host.new) }
+        ensures was_honest { B.is_honest host.new → B.is_honest host.old }
+        ensures given_later { (m : ℕ) → C.may_give clock.new m → C.may_give clock.old m }
+        ensures store { TellsFault result (B.failures host.old) (B.failures host.new)
+            (B.is_honest host.new → B.is_open host.old → ⊥) }
+    {
+        let (now, places) = (self.time.get(), self.places());
+        self.server.look_at_book(alloc, host, now)?;
+        self.server
+            .give_control_rounds(alloc, host, clock, places, now, self.faults)
+    }
+
+    /// Whether the open connections are looked at in this round.
+    pub(crate) fn looks(&mut self) -> bool {
+        let (now, wants_room) = (self.time.get(), self.wants_room());
+        let looks = self.is_stopping || wants_room || self.look.is_due(now);
+        if looks {
+            self.look.begin(now, wants_room);
+        }
+        looks
+    }
+
+    /// How a connection is to end now, if it is: it took too long, or makes room, or the host ends
+    /// and it has its replies.
+    pub(crate) fn ends(&mut self, place: &TerminalPlace<'r>) -> Option<Result<(), FrontFault>> {
+        if place.ended().is_some() {
+            self.look.has_room();
+            return None;
+        }
+        let talk = place.talk();
+        if self.is_stopping && !place.is_ready() && talk.unsent().is_empty() {
+            return Some(Ok(()));
+        }
+        if self.look.is_late(place, self.time.get()) {
+            talk.end_late();
+            return Some(Err(talk.late_fault()));
+        }
+        None
+    }
+
+    /// A message of this connection was taken: its reply is about to be written, or it gets none.
+    pub(crate) fn said(&mut self, place: &TerminalPlace<'r>) {
+        let (talk, now) = (place.talk(), self.time.get());
+        let frame = talk.unsent();
+        if !frame.is_empty() {
+            if self.said.is_none() {
+                self.said = self.server.now();
+            }
+            let held = HeldReply {
+                took: between(now, self.said),
+                total: between(talk.came(), self.said),
+                reason: talk.reason(),
+            };
+            self.server.journal.replied(talk.name(), frame, held, now);
+        } else if let Some(message) = talk.unanswered() {
+            self.server.journal.unanswered(talk.name(), message, now);
+        }
+    }
+
+    /// A connection ended, or is cut off where the host ends since its time is over. Where memory
+    /// ran out or the store failed nothing is told of it.
+    pub(crate) fn part(&mut self, place: TerminalPlace<'r>) {
+        self.open = self.open.saturating_sub(1);
+        match place.ended() {
+            Some(ended) => self.part_with(place, ended),
+            None if self.is_over => {
+                let ended = Err(place.talk().late_fault());
+                let name = place.talk().name();
+                self.server.journal.closed(name, &ended, Ending::Stopped);
+                drop(place);
+                let _ = end_connection(ended, self.faults);
+            }
+            None => {}
+        }
+    }
+
+    /// Tells how a connection ended. Behind a bad frame, and where the host ends, it is parted
+    /// with: what it still sends is read away, or the system would throw away replies that it has
+    /// yet to send.
+    fn part_with(&mut self, place: TerminalPlace<'r>, ended: Result<(), FrontFault>) {
+        let talk = place.talk();
+        let is_bad_frame = ends_in_bad_frame(&ended);
+        match ended {
+            Err(fault) if is_bad_frame => {
+                let frame = talk.frame_head();
+                self.server.journal.refused_frame(talk.name(), fault, frame);
+            }
+            _ => {
+                let ending = talk.ending();
+                self.server.journal.closed(talk.name(), &ended, ending);
+            }
+        }
+        if is_bad_frame || self.is_stopping && ended.is_ok() {
+            if let Some(parted) = Parted::new(place, self.time.get()) {
+                // Without memory for it, it is closed at once.
+                let _ = self.parted.push(parted);
+            }
+        } else {
+            drop(place);
+        }
+        let _ = end_connection(ended, self.faults);
+    }
+}

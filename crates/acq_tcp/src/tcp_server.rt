@@ -1,0 +1,376 @@
+//! Connections over TCP that are served at once.
+
+ghost use Rattle.std.specs.Prelude.{◌≡◌, ℕ, IfErr, OnOk};
+ghost use Rattle.acq_faults.specs.Faults.{IsOfListening, TellsStore};
+ghost use Rattle.acq_front.specs.Stops.{left_of};
+ghost use Rattle.acq_rounds.specs.Reaching.{ReachesBy};
+ghost use Rattle.acq_rounds.specs.Taking.{TellsFault};
+ghost use Rattle.acq_tcp.specs.Rounds.{Looked, of_looked};
+
+use crate::arrivals::Arrivals;
+use crate::book_files::BookFiles;
+use crate::connection_name::ConnectionName;
+use crate::control_server::ControlServer;
+use crate::had::Had;
+use crate::host_log::HostLog;
+use crate::journal::Journal;
+use crate::listening::{FIRST_TERMINAL, LISTENER, Listening};
+use crate::log_target::LogTarget;
+use crate::places::Places;
+use crate::round_time::RoundTime;
+use crate::tcp_connections::PAUSE;
+use crate::time_limits::{TimeLimits, left_of};
+use acq_book::{Book, BookFault};
+use acq_faults::{Fault, ListenOptions, Server};
+use acq_front::{Clock, Issuer};
+use acq_host::Host;
+use acq_link::Sink;
+use acq_reports::ReportFault;
+use acq_rounds::{Past, serve};
+use mio::net::{TcpListener, TcpStream, UnixListener};
+use mio::{Events, Interest, Poll, Token};
+use std::alloc::Global;
+use std::fs::Files;
+use std::io::ErrorKind;
+use std::net::{Net, SocketAddr};
+use std::time::{Duration, Instant};
+use std::{io, mem, time};
+
+/// Connections that come in at a port and are served at once, in rounds: each reads what came and
+/// has a message taken of it, so that none waits for another one's bytes.
+#[derive(Drop)]
+pub struct TcpServer<'a, T, W> {
+    listener: TcpListener,
+    poll: Poll,
+    events: Events,
+    /// The numbers of the connections that have something to do since the last wait.
+    pub(crate) woken: Vec<u64>,
+    time: &'a T,
+    pub(crate) limits: TimeLimits,
+    /// How many connections have a place at once.
+    pub(crate) places: usize,
+    /// Whether connections may be there that weren't taken yet.
+    pub(crate) may_come: bool,
+    /// When one last couldn't be had.
+    refused: Option<Instant>,
+    /// One that came when all places were taken.
+    pub(crate) waiting: Option<(TcpStream, SocketAddr)>,
+    /// Control connections, where they can come.
+    pub(crate) control: Option<ControlServer>,
+    /// When the host was asked to end, where that time is known.
+    pub(crate) stopping: Option<Instant>,
+    book_files: BookFiles,
+    /// Whether it was looked which request waits the longest.
+    has_looked: bool,
+    pub(crate) journal: Journal<'a, T, W>,
+    /// What connections that ended have had, and how many it had.
+    past: Past,
+    had: Had,
+}
+
+impl<'a, T: time::Clock + Files, W: LogTarget + Drop> TcpServer<'a, T, W> {
+    /// Listens at the address and the port that are asked for, for so many connections at once. One
+    /// that takes longer than its patience lasts is closed. Beside them control connections come to
+    /// `control`. What is served is told to the log, where there is one.
+    pub fn listen<N: Net>(
+        net: &N,
+        time: &'a T,
+        alloc: Global,
+        asked: &ListenOptions,
+        control: Option<UnixListener>,
+        log: Option<HostLog<W>>,
+    ) -> Result<TcpServer<'a, T, W>, Fault>
+        ensures { IfErr result IsOfListening }
+    {
+        match Listening::begin(net, time, alloc, asked, control) {
+            Ok(listening) => Ok(TcpServer::new(
+                listening,
+                asked.together,
+                time,
+                TimeLimits::new(asked.patience),
+                Journal::new(alloc, time, log),
+            )),
+            Err(fault) => Err(fault),
+        }
+    }
+
+    /// Nothing has come yet.
+    fn new(
+        listening: Listening,
+        places: usize,
+        time: &'a T,
+        limits: TimeLimits,
+        journal: Journal<'a, T, W>,
+    ) -> TcpServer<'a, T, W> {
+        TcpServer {
+            listener: listening.listener,
+            poll: listening.poll,
+            events: listening.events,
+            woken: listening.woken,
+            time,
+            limits,
+            places,
+            may_come: true,
+            refused: None,
+            waiting: None,
+            control: listening.control,
+            stopping: None,
+            book_files: listening.book_files,
+            has_looked: false,
+            journal,
+            past: Past::new(),
+            had: Had::none(),
+        }
+    }
+
+    /// The clock that it was given.
+    pub fn clock(&self) -> &'a T {
+        self.time
+    }
+
+    /// The address that it listens at.
+    pub fn local_addr(&self) -> io::Result<SocketAddr> {
+        self.listener.local_addr()
+    }
+
+    /// The time, where the system tells it.
+    pub(crate) fn now(&self) -> Option<Instant> {
+        Instant::now(self.time).ok()
+    }
+
+    /// Takes in the connection that waits, or the next one that came, under this number, and
+    /// returns what it is called, if there is one.
+    pub(crate) fn take_in(
+        &mut self,
+        number: u64,
+        now: Option<Instant>,
+    ) -> io::Result<Option<(ConnectionName, TcpStream)>> {
+        let next = match self.waiting.take() {
+            Some(next) => Some(next),
+            None => self.accept(now)?,
+        };
+        let Some((mut stream, peer)) = next else {
+            return Ok(None);
+        };
+        stream.set_nodelay(true)?;
+        self.poll.registry().register(
+            &mut stream,
+            Token((number as usize).saturating_add(FIRST_TERMINAL)),
+            Interest::READABLE | Interest::WRITABLE,
+        )?;
+        Ok(Some((self.journal.terminal(peer), stream)))
+    }
+
+    /// Has the next connection that came wait, if there is one and none waits.
+    pub(crate) fn let_wait(&mut self, now: Option<Instant>) -> io::Result<()> {
+        if self.waiting.is_none() {
+            self.waiting = self.accept(now)?;
+        }
+        Ok(())
+    }
+
+    /// The next connection that came, and whence, if one did. Behind one that couldn't be had it
+    /// pauses.
+    fn accept(&mut self, now: Option<Instant>) -> io::Result<Option<(TcpStream, SocketAddr)>> {
+        if !self.may_come || !self.pause_left(now).is_zero() {
+            return Ok(None);
+        }
+        self.refused = None;
+        match self.listener.accept() {
+            Ok(next) => Ok(Some(next)),
+            Err(fault) if fault.kind() == ErrorKind::WouldBlock => {
+                self.may_come = false;
+                Ok(None)
+            }
+            Err(fault) => {
+                self.refused = now;
+                Err(fault)
+            }
+        }
+    }
+
+    /// How much is left of the pause behind a connection that couldn't be had: nothing, where one
+    /// may be had.
+    pub(crate) fn pause_left(&self, now: Option<Instant>) -> Duration {
+        match self.refused {
+            Some(_) => left_of(Duration::from_millis(PAUSE), self.refused, now),
+            None => Duration::ZERO,
+        }
+    }
+
+    /// Waits so long at most until a connection has something to do or one comes, and notes which.
+    pub(crate) fn wait(&mut self, longest: Option<Duration>) -> io::Result<()> {
+        self.woken.clear();
+        self.poll.poll(&mut self.events, longest)?;
+        for event in self.events.iter() {
+            let Token(token) = event.token();
+            if token == LISTENER {
+                self.may_come = true;
+            } else if let Some(number) = token.checked_sub(FIRST_TERMINAL) {
+                // There is room for as many as there are events.
+                let _ = self.woken.push(number as u64);
+            } else if let Some(control) = &mut self.control {
+                control.make_ready(token);
+            }
+        }
+        Ok(())
+    }
+
+    /// Where the host was asked to end, how much is left to those that are there, if they have a
+    /// limit.
+    pub(crate) fn stop_left(&self, now: Option<Instant>) -> Option<Duration> {
+        match (self.limits.stop, self.stopping) {
+            (Some(stop), Some(_)) => Some(left_of(stop, self.stopping, now)),
+            _ => None,
+        }
+    }
+
+    /// Whether a control connection asked that the host ends.
+    pub(crate) fn has_stopped(&self) -> bool {
+        match &self.control {
+            Some(control) => control.has_stopped(),
+            None => false,
+        }
+    }
+
+    /// Whether something that was said to a control connection is still to be written.
+    pub(crate) fn is_answering(&self) -> bool {
+        match &self.control {
+            Some(control) => control.is_answering(),
+            None => false,
+        }
+    }
+
+    /// Cuts off the control connections, since the host ends.
+    pub(crate) fn cut_off_controls<F: Sink>(&mut self, faults: &mut F) {
+        if let Some(control) = &mut self.control {
+            control.cut_off(&mut self.journal, faults);
+        }
+    }
+
+    /// Looks which request waits the longest, and how many bytes the book's files have, at first
+    /// and where figures are about to be asked for.
+    pub(crate) fn look_at_book<B: Book + Drop>(
+        &mut self,
+        alloc: Global,
+        host: &mut Host<B>,
+        now: Option<Instant>,
+    ) -> Result<(), BookFault>
+        ensures reaches { B.is_honest host.new → B.is_open host.old
+            → ReachesBy (B.tables host.old) (left_of B.Book host.new) result }
+        ensures stays_open { B.is_honest host.new → B.is_open host.old
+            → OnOk result (B.is_open host.new) }
+        ensures was_honest { B.is_honest host.new → B.is_honest host.old }
+        ensures store { TellsFault result (B.failures host.old) (B.failures host.new)
+            (B.is_honest host.new → B.is_open host.old → ⊥) }
+    {
+        let Some(control) = &self.control else {
+            return Ok(());
+        };
+        if self.has_looked && !control.asks_figures() {
+            return Ok(());
+        }
+        self.has_looked = true;
+        self.journal.saw_files(self.book_files.sizes(self.time));
+        match self.journal.look_at_waiting(alloc, host, now) {
+            Ok(()) => Ok(()),
+            Err(fault) => Err(fault_of_looking(fault)),
+        }
+    }
+
+    /// Takes in the control connections that came, and gives each that is ready a round, while so
+    /// many places of terminals are free.
+    pub(crate) fn give_control_rounds<B: Book + Drop, C: Clock, F: Sink>(
+        &mut self,
+        alloc: Global,
+        host: &mut Host<B>,
+        clock: &mut C,
+        places: Places,
+        now: Option<Instant>,
+        faults: &mut F,
+    ) -> Result<(), BookFault>
+        ensures reaches { B.is_honest host.new → B.is_open host.old
+            → ReachesBy (B.tables host.old) (left_of B.Book host.new) result }
+        ensures stays_open { B.is_honest host.new → B.is_open host.old
+            → OnOk result (B.is_open host.new) }
+        ensures was_honest { B.is_honest host.new → B.is_honest host.old }
+        ensures given_later { (m : ℕ) → C.may_give clock.new m → C.may_give clock.old m }
+        ensures store { TellsFault result (B.failures host.old) (B.failures host.new)
+            (B.is_honest host.new → B.is_open host.old → ⊥) }
+    {
+        let limits = self.limits;
+        let Some(control) = &mut self.control else {
+            return Ok(());
+        };
+        let journal = &mut self.journal;
+        control.admit(alloc, self.poll.registry(), journal, now, faults);
+        control.give_rounds(alloc, host, clock, journal, places, now, limits, faults)
+    }
+
+    /// Tells the log, where there is one, that it listens, and on which business day.
+    fn begin<B: Book + Drop>(&mut self, host: &mut Host<B>) -> Result<(), BookFault>
+        ensures looked { B.is_honest host.new → B.is_open host.old
+            → Looked (B.tables host.old) (left_of B.Book host.new) }
+        ensures stays_open { B.is_honest host.new → B.is_open host.old
+            → OnOk result (B.is_open host.new) }
+        ensures was_honest { B.is_honest host.new → B.is_honest host.old }
+        ensures store { TellsFault result (B.failures host.old) (B.failures host.new)
+            (B.is_honest host.new → B.is_open host.old → ⊥) }
+        ensures past { self.new.past ≡ self.old.past }
+        ensures had { self.new.had ≡ self.old.had }
+    {
+        if !self.journal.has_log() {
+            return Ok(());
+        }
+        let day = host.day()?;
+        let address = self.local_addr().ok();
+        self.journal.listening(address, day);
+        Ok(())
+    }
+}
+
+impl<T: time::Clock + Files, W: LogTarget + Drop> Server for TcpServer<'_, T, W> {
+    ghost use Rattle.acq_tcp.specs.Terminals.{had_by, many_by};
+
+    ghost had = { had_by };
+
+    ghost many = { many_by };
+
+    fn serve_all<B: Book + Drop, C: Clock, I: Issuer, F: Sink>(
+        &mut self,
+        alloc: Global,
+        host: &mut Host<B>,
+        count: u64,
+        clock: &mut C,
+        issuer: &mut I,
+        faults: &mut F,
+    ) -> Result<(), Fault> {
+        if let Err(fault) = self.begin(host) {
+            return Err(Fault::from(fault));
+        }
+        let past = mem::replace(&mut self.past, Past::new());
+        let had = mem::replace(&mut self.had, Had::none());
+        let time = RoundTime::new();
+        let mut arrivals = Arrivals::new(alloc, self, faults, &time, count);
+        let served = serve(alloc, host, clock, issuer, &mut arrivals, u64::MAX);
+        let last = arrivals.end();
+        self.past = past.then(&last.past);
+        self.had = had.plus(&last.given);
+        match served {
+            Ok(()) if last.has_failed => Err(Fault::Read),
+            Ok(()) => Ok(()),
+            Err(fault) => Err(Fault::from(fault)),
+        }
+    }
+}
+
+/// What a fault is of looking which request waits the longest. What else there is to fail than the
+/// store is the memory that its name is written to.
+fn fault_of_looking(fault: ReportFault) -> BookFault
+    ensures { result ≡ of_looked fault }
+{
+    match fault {
+        ReportFault::Store => BookFault::Store,
+        _ => BookFault::Memory,
+    }
+}
