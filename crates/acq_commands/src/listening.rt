@@ -62,11 +62,12 @@ pub fn listen_together_on<B: Book + Drop, N: Server, C: Clock, I: Issuer, F: Sin
     faults: &mut F,
 ) -> (B, Result<(), Fault>)
     requires past { B.is_open book → HasPast (B.tables book) }
-    // One list of acts is what the book that is left has in addition, and what all connections had.
+    // One list of steps is what the book that is left has in addition, what all connections had,
+    // and what others follow.
     ensures serves { B.is_honest result.0 → B.is_open book
-        → Serves (C.may_give clock.old) (I.may_say issuer.old) (B.tables book)
-        (left_of B.Book result.0) (N.had server.old) (N.had server.new) (N.many server.old)
-        (N.many server.new) result.1 }
+        → Serves (C.may_give clock.old) (I.may_say issuer.old) N.follow (B.tables book)
+        (left_of B.Book result.0) (N.others server.old) (N.others server.new)
+        (N.had server.old) (N.had server.new) (N.many server.old) (N.many server.new) result.1 }
     ensures store { TellsStore result.1 (B.failures book) (B.failures result.0)
         (B.is_honest result.0 → B.is_open book → ⊥) }
 {

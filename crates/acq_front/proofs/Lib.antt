@@ -4,7 +4,6 @@ pub mod MessagesTaken
 pub mod Reading
 pub mod StreamRead
 pub mod Turned
-pub mod Following
-pub mod Rounds
+pub mod Refusals
 pub mod Turning
 pub mod Holding

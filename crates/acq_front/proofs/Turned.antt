@@ -106,21 +106,6 @@ take_stops may_say old left m (fault.TheVariants.Undecodable u) h = h
 take_stops may_say old left m fault.TheVariants.Read h = absurd h
 take_stops may_say old left m (fault.TheVariants.Write n) h = absurd h
 
--- what the host said last is held as a frame, if it is a reply
-pub was_held : (may_say : Saying) (old : Tables) (left : Left) (m : Incoming) (o : Output) →
-    Said may_say old left m o →
-    Turns may_say old left m (frame_said o) (Ok tt)
-was_held may_say old left m o s = (
-  record { events = s.events; took = s.took; written = frames_held o s.replied s.fits },
-  s.reads,
-)
-  where
-    frames_held : (o : Output) → replies old s.events ≡ reply_in o → ReplyFits o →
-        Frames (frame_said o) (replies old s.events)
-    frames_held (Reply party text) are fits = frames_one text (replies old s.events) are
-        (fits party text refl)
-    frames_held o are fits = frames_none are
-
 -- ---- by what the host said
 
 module _ (may_say : Saying) (t : Tables) (moment : ℕ) (text message : List ℕ)

@@ -74,12 +74,6 @@ UnlessRefused (Err Memory) p = Unit {0}
 UnlessRefused (Err Store) p = Unit {0}
 UnlessRefused other p = p
 
--- where memory or the store stopped it, this holds of the fault
-abbrev pub IfRefused : {X : Type 0} → Result X FrontFault → (FrontFault → Type 0) → Type 0
-IfRefused (Err Memory) p = p Memory
-IfRefused (Err Store) p = p Store
-IfRefused other p = Unit {0}
-
 -- this holds where the input ended
 abbrev pub AtEnd : Result (Unit {0}) FrontFault → Type 0 → Type 0
 AtEnd (Ok u) p = p

@@ -4,9 +4,7 @@ pub mod Talk
 pub mod Faults
 pub mod Stops
 pub mod Turns
-pub mod Exchanges
 pub mod Lines
-pub mod Log
 pub mod Outgoing
 pub mod Ends
 pub mod Silences

@@ -1,26 +1,20 @@
 //! One end of a connection, without its reads and writes.
 
-ghost use Rattle.std.specs.Prelude.{◌≡◌, ◌==◌, ◌+◌, ◌≤◌, ◌<◌, ◌++◌, ℕ, [], length, drop};
+ghost use Rattle.std.specs.Prelude.{◌≡◌, ◌+◌, ◌≤◌, ◌<◌, ◌++◌, [], length, drop};
 ghost use Rattle.std.specs.Prelude.{IfErr, IfNone, IfOk, IfSome, true};
 ghost use Rattle.acq_link.specs.Deframing.{longest_frame};
 ghost use Rattle.acq_link.specs.FirstMessage.{begins_with_message, behind_message, first_message};
 ghost use Rattle.acq_link.specs.FramesAt.{MayBecomeFrame};
-ghost use Rattle.acq_front.specs.Ends.{held_of, unsent_of, hand_of, gone_of, Steps, StopsAt};
-ghost use Rattle.acq_front.specs.Ends.{HoldsFrame, unanswered_of};
-ghost use Rattle.acq_front.specs.Faults.{IfStore, TellsStore, UnlessRefused};
+ghost use Rattle.acq_front.specs.Ends.{held_of, unsent_of, hand_of, gone_of, unanswered_of};
+ghost use Rattle.acq_front.specs.Faults.{IfStore};
 ghost use Rattle.acq_front.specs.Outgoing.{frame_said};
 ghost use Rattle.acq_front.specs.Ready.{IsOfStream, ends_after, is_ready};
-ghost use Rattle.acq_front.specs.Stops.{left_of};
 ghost use Rattle.acq_front.specs.Turns.{ReplyFits};
 
+use crate::FrontFault;
 use crate::outgoing::Outgoing;
-use crate::taking::take_message;
-use crate::turn::Turn;
 use crate::unanswered::{Unanswered, kind_of};
-use crate::{Clock, FrontFault, Issuer};
-use acq_book::Book;
-use acq_core::{Output, Query, Verdict};
-use acq_host::Host;
+use acq_core::Output;
 use acq_link::{Deframer, Front};
 use acq_reasons::Reason;
 use std::alloc::Global;
@@ -31,7 +25,7 @@ use std::alloc::Global;
 pub struct Conversation {
     input: Deframer,
     output: Outgoing,
-    /// The message that the last turn took, if it gets no reply.
+    /// The message that was taken last, if it gets no reply.
     unanswered: Option<Unanswered>,
     /// Why its reply has another code than 00, if it has.
     reason: Option<Reason>,
@@ -77,14 +71,7 @@ impl Conversation {
         self.input.as_slice()
     }
 
-    /// Whether it holds nothing that belongs to no message yet.
-    pub fn is_between_frames(&self) -> bool
-        ensures { result ≡ (length (held_of self.now) == 0) }
-    {
-        self.input.is_empty()
-    }
-
-    /// What is to be written before the next turn.
+    /// What is to be written before the next message is taken.
     pub fn unsent(&self) -> &[u8]
         ensures { result.now ≡ unsent_of self.now }
     {
@@ -98,14 +85,14 @@ impl Conversation {
         self.output.gone()
     }
 
-    /// The message that the last turn took, if it gets no reply.
+    /// The message that was taken last, if it gets no reply.
     pub fn unanswered(&self) -> Option<Unanswered>
         ensures { result ≡ unanswered_of self.now }
     {
         self.unanswered
     }
 
-    /// Why the reply to the message that the last turn took has another code than 00, for logs.
+    /// Why the reply to the message that was taken last has another code than 00, for logs.
     pub fn reason(&self) -> Option<Reason> {
         self.reason
     }
@@ -119,52 +106,6 @@ impl Conversation {
         ensures gone { gone_of self.new ≡ gone_of self.old + n }
     {
         self.output.advance(n);
-    }
-
-    /// Has the host take the next message, if one is whole, and the issuer's answer where it is
-    /// asked; the reply is then to be written.
-    pub fn turn<B: Book + Drop, C: Clock, I: Issuer>(
-        &mut self,
-        alloc: Global,
-        host: &mut Host<B>,
-        clock: &mut C,
-        issuer: &mut I,
-    ) -> Result<Turn, FrontFault>
-        requires { unsent_of self.old ≡ [] }
-        ensures steps { B.is_honest host.new → B.is_open host.old
-            → Steps (C.may_give clock.old) (I.may_say issuer.old) (B.tables host.old)
-            (left_of B.Book host.new) (held_of self.old) (held_of self.new) (unsent_of self.new)
-            result }
-        // Where no message could be taken, what stands in front.
-        ensures stops { StopsAt (held_of self.new) (unsent_of self.new) result }
-        // Of a message that gets no reply, nothing is to be written.
-        ensures silent { IfSome (unanswered_of self.new) (λ message. unsent_of self.new ≡ []) }
-        // Nothing of its reply was written yet.
-        ensures gone { gone_of self.new ≡ 0 }
-        ensures was_honest { B.is_honest host.new → B.is_honest host.old }
-        ensures stays_open { B.is_honest host.new → B.is_open host.old
-            → UnlessRefused result (B.is_open host.new) }
-        ensures said_later { (q : Query) (v : Verdict) → I.may_say issuer.new q v
-            → I.may_say issuer.old q v }
-        ensures given_later { (m : ℕ) → C.may_give clock.new m → C.may_give clock.old m }
-        // The store's fault comes only where a call of it failed, or gave for a message that came
-        // what no host wrote; and with any other end none failed.
-        ensures store { TellsStore result (B.failures host.old) (B.failures host.new)
-            (HoldsFrame (held_of self.old)
-            × (B.is_honest host.new → B.is_open host.old → ⊥)) }
-    {
-        self.output.clear();
-        self.unanswered = None;
-        self.reason = None;
-        let Some(message) = self.input.take_message(alloc)? else {
-            return Ok(Turn::Waits);
-        };
-        let kind = kind_of(message.as_slice());
-        let said = take_message(message, host, clock, issuer)?;
-        self.unanswered = Unanswered::of(kind, &said);
-        self.reason = host.reason();
-        self.output.hold(&said)?;
-        Ok(Turn::Took)
     }
 
     /// Whether a message is whole, and nothing is to be written before it is taken.

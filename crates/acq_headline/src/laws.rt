@@ -6,9 +6,9 @@ ghost use Rattle.acq_core.specs.Events.{AreEvents};
 ghost use Rattle.acq_core.specs.Pasts.{HasPast};
 ghost use Rattle.acq_core.specs.Tables.{Tables, outputs, tables_after};
 ghost use Rattle.acq_front.specs.declared.front_fault.FrontFault.{FrontFault};
-ghost use Rattle.acq_front.specs.Log.{Entry, after_log, events_of};
 ghost use Rattle.acq_serving.specs.Serving.{Connection, Serves};
 ghost use Rattle.acq_front.specs.Stops.{left_of};
+ghost use Rattle.acq_rounds.specs.Runs.{Did, Step, events_in};
 ghost use Rattle.acq_history.specs.PartyHistory.{Party};
 ghost use Rattle.acq_history.specs.Isolation.{IsSameInTwoRuns};
 ghost use Rattle.acq_history.specs.QuietRepeats.{RepeatsAreQuiet};
@@ -20,7 +20,7 @@ ghost use Rattle.acq_headline.specs.WithinHolds.{CapturesWithinHolds};
 ghost use Rattle.acq_headline.specs.ServedAlone.{ServesAlone};
 
 use acq_book::Book;
-use acq_front::Issuer;
+use acq_front::{Clock, Issuer};
 use acq_host::Host;
 
 /// Of whatever events tables are led on by, each merchant, and nobody, gets what its own events
@@ -63,11 +63,13 @@ pub fn connections_are_alone<B: Book + Drop, I: Issuer>(left: &Host<B>, issuer: 
         → ServesAlone old (left_of B.Book left.now) c r }
 {}
 
-/// Of all that a host took by many connections, each merchant, and nobody, gets what its own events
-/// alone give.
-pub fn merchants_are_alone()
-    ensures { (t : Tables) (log : List Entry)
-        → IsAlone t (events_of log) (outputs t (events_of log)) (after_log t log) }
+/// Of all that a host did in the steps of a run over many connections, those of terminals and those
+/// of control connections, by a clock and an issuer that may give and say this, each merchant, and
+/// nobody, gets what its own events alone give.
+pub fn merchants_are_alone<C: Clock, I: Issuer>(clock: &C, issuer: &I)
+    ensures { (old new : Tables) (steps : List Step)
+        → Did (C.may_give clock.now) (I.may_say issuer.now) old new steps
+        → IsAlone old (events_in steps) (outputs old (events_in steps)) new }
 {}
 
 /// A repeat changes nothing of what its merchant gets of all else: where any of a merchant's

@@ -5,6 +5,7 @@ use Rattle.acq_front.specs.Lines.{received_of, sent_of}
 use Rattle.acq_front.specs.declared.conversation.Conversation.{Conversation}
 use Rattle.acq_front.specs.declared.stream_line.StreamLine.{StreamLine}
 use Rattle.acq_rounds.specs.Acts.{Connection}
+use Rattle.acq_rounds.specs.Runs.{Following}
 use Rattle.acq_rounds.specs.declared.place.Place.{Place}
 use Rattle.acq_memory_lines.specs.declared.memory_gate.MemoryGate.{MemoryGate}
 use Rattle.acq_memory_lines.specs.declared.memory_stream.MemoryStream.{MemoryStream}
@@ -18,6 +19,13 @@ given_at g = g.all - vec_len g.coming
 
 abbrev pub stopped_at : MemoryGate → Bool
 stopped_at g = g.has_stopped
+
+-- it serves nobody else
+abbrev pub others_at : MemoryGate → Unit {0}
+others_at g = tt
+
+abbrev pub follow : Following (Unit {0})
+follow t steps others = Unit {0}
 
 -- a connection, as a gate sees it
 abbrev pub connection_of : Place (StreamLine MemoryStream) Conversation → Connection

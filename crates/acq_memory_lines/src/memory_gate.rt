@@ -139,13 +139,23 @@ fn shuffle(numbers: &mut Vec<u64>, chance: &mut Chance) {
 
 impl Gate<StreamLine<MemoryStream>, Conversation> for MemoryGate {
     ghost use Rattle.acq_memory_lines.specs.Gates.{ended_at, given_at};
-    ghost use Rattle.acq_memory_lines.specs.Gates.{connection_of, stopped_at};
+    ghost use Rattle.acq_memory_lines.specs.Gates.{connection_of, follow, others_at, stopped_at};
 
     ghost ended = { ended_at };
 
     ghost given = { given_at };
 
     ghost has_stopped = { stopped_at };
+
+    ghost aside = { Unit {0} };
+
+    ghost others = { others_at };
+
+    ghost follow = { follow };
+
+    ghost past_group = { λ t steps g others is. tt };
+
+    ghost past_untold = { λ t steps events others is. tt };
 
     fn wait(&mut self, has_already: bool) -> bool {
         self.note(Noted::Waited);

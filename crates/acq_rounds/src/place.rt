@@ -86,9 +86,10 @@ impl<L: Line, T: Talk> Place<L, T> {
         self.is_awake || self.ended.is_some() || self.talk.is_ready()
     }
 
-    /// Whether it has something to do before it reads on.
+    /// Whether it has something to do before it reads on. What it holds may be a bad length, which is
+    /// told even where its line ended by then.
     fn is_busy(&self) -> bool {
-        self.talk.is_ready() || !self.talk.unsent().is_empty()
+        self.talk.is_ready() || !self.talk.unsent().is_empty() || self.talk.fault().is_some()
     }
 
     /// Reads what came, where it has nothing else to do.

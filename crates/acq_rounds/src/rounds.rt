@@ -61,6 +61,7 @@ impl<L: Line + Drop, T: Talk + Drop> Rounds<L, T> {
             → AreQuiet (asleep_in L.Line T.Talk self.new) }
         ensures count { count_of L.Line T.Talk self.new ≡ count_of L.Line T.Talk self.old }
         ensures given { G.given gate.new ≡ G.given gate.old }
+        ensures others { G.others gate.new ≡ G.others gate.old }
         ensures ended { G.ended gate.new ≡ G.ended gate.old }
         ensures fault { OfMemory result }
     {
@@ -83,6 +84,7 @@ impl<L: Line + Drop, T: Talk + Drop> Rounds<L, T> {
         // Each connection that the gate gave has a number.
         ensures given { count_of L.Line T.Talk self.new + G.given gate.old
             ≡ count_of L.Line T.Talk self.old + G.given gate.new }
+        ensures others { G.others gate.new ≡ G.others gate.old }
         ensures gone { Begins (G.ended gate.old) (G.ended gate.new) }
         ensures quiet { AreQuiet (asleep_in L.Line T.Talk self.old)
             → AreQuiet (asleep_in L.Line T.Talk self.new) }
@@ -121,18 +123,19 @@ impl<L: Line + Drop, T: Talk + Drop> Rounds<L, T> {
         requires quiet { AreQuiet (asleep_in L.Line T.Talk self.old) }
         ensures still_quiet { AreQuiet (asleep_in L.Line T.Talk self.new) }
         ensures ran { B.is_honest host.new → B.is_open host.old → OnOk result
-            (RanOn (C.may_give clock.old) (I.may_say issuer.old)
+            (RanOn (C.may_give clock.old) (I.may_say issuer.old) G.follow
             (whole (G.ended gate.old) (seen_in L.Line T.Talk self.old)
-            (count_of L.Line T.Talk self.old) (B.tables host.old))
+            (count_of L.Line T.Talk self.old) (B.tables host.old) (G.others gate.old))
             (G.ended gate.new) (seen_in L.Line T.Talk self.new)
-            (count_of L.Line T.Talk self.new) (left_of B.Book host.new) (λ n. n ≡ 1)) }
+            (count_of L.Line T.Talk self.new) (left_of B.Book host.new) (G.others gate.new)
+            (λ n. n ≡ 1)) }
         // Where memory or the store refused something.
         ensures stopped { B.is_honest host.new → B.is_open host.old → OnErr result
-            (RanUntil (C.may_give clock.old) (I.may_say issuer.old)
+            (RanUntil (C.may_give clock.old) (I.may_say issuer.old) G.follow
             (whole (G.ended gate.old) (seen_in L.Line T.Talk self.old)
-            (count_of L.Line T.Talk self.old) (B.tables host.old))
+            (count_of L.Line T.Talk self.old) (B.tables host.old) (G.others gate.old))
             (G.ended gate.new) (seen_in L.Line T.Talk self.new)
-            (count_of L.Line T.Talk self.new) (left_of B.Book host.new)) }
+            (count_of L.Line T.Talk self.new) (left_of B.Book host.new) (G.others gate.new)) }
         // Each connection that the gate gave has a number.
         ensures given { count_of L.Line T.Talk self.new + G.given gate.old
             ≡ count_of L.Line T.Talk self.old + G.given gate.new }
@@ -164,6 +167,7 @@ impl<L: Line + Drop, T: Talk + Drop> Rounds<L, T> {
             → AreQuiet (asleep_in L.Line T.Talk self.new) }
         ensures given { count_of L.Line T.Talk self.new + G.given gate.old
             ≡ count_of L.Line T.Talk self.old + G.given gate.new }
+        ensures others { G.others gate.new ≡ G.others gate.old }
         ensures gone { Begins (G.ended gate.old) (G.ended gate.new) }
         ensures fault { OfMemory result }
     {
@@ -184,6 +188,7 @@ impl<L: Line + Drop, T: Talk + Drop> Rounds<L, T> {
             → AreQuiet (asleep_in L.Line T.Talk self.new) }
         ensures count { count_of L.Line T.Talk self.new ≡ count_of L.Line T.Talk self.old }
         ensures given { G.given gate.new ≡ G.given gate.old }
+        ensures others { G.others gate.new ≡ G.others gate.old }
         ensures gone { Begins (G.ended gate.old) (G.ended gate.new) }
     {
         write_all(self.awake.as_mut_slice());
@@ -200,6 +205,7 @@ impl<L: Line + Drop, T: Talk + Drop> Rounds<L, T> {
             → AreQuiet (asleep_in L.Line T.Talk self.new) }
         ensures count { count_of L.Line T.Talk self.new ≡ count_of L.Line T.Talk self.old }
         ensures given { G.given gate.new ≡ G.given gate.old }
+        ensures others { G.others gate.new ≡ G.others gate.old }
         ensures gone { Begins (G.ended gate.old) (G.ended gate.new) }
     {
         if gate.looks() {
@@ -220,19 +226,19 @@ impl<L: Line + Drop, T: Talk + Drop> Rounds<L, T> {
     ) -> Result<(), BookFault>
         requires quiet { AreQuiet (asleep_in L.Line T.Talk self.old) }
         ensures ran { B.is_honest host.new → B.is_open host.old → OnOk result
-            (RanOn (C.may_give clock.old) (I.may_say issuer.old)
+            (RanOn (C.may_give clock.old) (I.may_say issuer.old) G.follow
             (whole (G.ended gate.old) (seen_in L.Line T.Talk self.old)
-            (count_of L.Line T.Talk self.old) (B.tables host.old))
+            (count_of L.Line T.Talk self.old) (B.tables host.old) (G.others gate.old))
             (G.ended gate.new) (seen_in L.Line T.Talk self.new)
-            (count_of L.Line T.Talk self.new) (left_of B.Book host.new)
+            (count_of L.Line T.Talk self.new) (left_of B.Book host.new) (G.others gate.new)
             (IsLast rounds (G.has_stopped gate.new))) }
         // Where memory or the store refused something.
         ensures stopped { B.is_honest host.new → B.is_open host.old → OnErr result
-            (RanUntil (C.may_give clock.old) (I.may_say issuer.old)
+            (RanUntil (C.may_give clock.old) (I.may_say issuer.old) G.follow
             (whole (G.ended gate.old) (seen_in L.Line T.Talk self.old)
-            (count_of L.Line T.Talk self.old) (B.tables host.old))
+            (count_of L.Line T.Talk self.old) (B.tables host.old) (G.others gate.old))
             (G.ended gate.new) (seen_in L.Line T.Talk self.new)
-            (count_of L.Line T.Talk self.new) (left_of B.Book host.new)) }
+            (count_of L.Line T.Talk self.new) (left_of B.Book host.new) (G.others gate.new)) }
         // Each connection that the gate gave has a number.
         ensures given { count_of L.Line T.Talk self.new + G.given gate.old
             ≡ count_of L.Line T.Talk self.old + G.given gate.new }
@@ -260,6 +266,7 @@ impl<L: Line + Drop, T: Talk + Drop> Rounds<L, T> {
     /// Parts with all connections, the last one first.
     pub fn part_all<G: Gate<L, T>>(&mut self, gate: &mut G)
         ensures given { G.given gate.new ≡ G.given gate.old }
+        ensures others { G.others gate.new ≡ G.others gate.old }
         ensures stopped { G.has_stopped gate.new ≡ G.has_stopped gate.old }
         ensures ended { G.ended gate.new
             ≡ G.ended gate.old ++ reverse (seen_in L.Line T.Talk self.old) }
@@ -278,6 +285,7 @@ fn part_each<L: Line + Drop, T: Talk + Drop, G: Gate<L, T>>(
     gate: &mut G,
 )
     ensures given { G.given gate.new ≡ G.given gate.old }
+    ensures others { G.others gate.new ≡ G.others gate.old }
     ensures stopped { G.has_stopped gate.new ≡ G.has_stopped gate.old }
     ensures ended { G.ended gate.new
         ≡ G.ended gate.old ++ reverse (map (boxed L.Line T.Talk) places.old.items) }
@@ -376,6 +384,7 @@ fn put_in<L: Line, T: Talk>(places: &mut Vec<Box<Place<L, T>>>, place: Box<Place
 fn look_at<L: Line, T: Talk, G: Gate<L, T>>(places: &mut [Box<Place<L, T>>], gate: &mut G)
     ensures same { map (boxed L.Line T.Talk) places.new ≡ map (boxed L.Line T.Talk) places.old }
     ensures given { G.given gate.new ≡ G.given gate.old }
+    ensures others { G.others gate.new ≡ G.others gate.old }
     ensures ended { G.ended gate.new ≡ G.ended gate.old }
 {
     for place in places.iter_mut() {
@@ -440,6 +449,7 @@ fn hand_out<L: Line, T: Talk, G: Gate<L, T>>(
     ensures out { map (boxed L.Line T.Talk) places.new
         ≡ handed (map (boxed L.Line T.Talk) places.old) (replies_of said.now) }
     ensures given { G.given gate.new ≡ G.given gate.old }
+    ensures others { G.others gate.new ≡ G.others gate.old }
     ensures ended { G.ended gate.new ≡ G.ended gate.old }
 {
     let mut said = said.iter();
@@ -465,6 +475,7 @@ fn take_group<L: Line, T: Talk, B: Book + Drop, C: Clock, I: Issuer, G: Gate<L, 
     gate: &mut G,
 ) -> Result<(), BookFault>
     ensures given { G.given gate.new ≡ G.given gate.old }
+    ensures others { G.others gate.new ≡ G.others gate.old }
     ensures ended { G.ended gate.new ≡ G.ended gate.old }
     ensures took { B.is_honest host.new → B.is_open host.old → OnOk result
         (TookGroup (C.may_give clock.old) (I.may_say issuer.old) (B.tables host.old)
@@ -496,6 +507,7 @@ fn clear<L: Line + Drop, T: Talk + Drop, G: Gate<L, T>>(
     gate: &mut G,
 )
     ensures given { G.given gate.new ≡ G.given gate.old }
+    ensures others { G.others gate.new ≡ G.others gate.old }
     ensures gone { Begins (G.ended gate.old) (G.ended gate.new) }
     ensures serves { (acts : List Act) (front behind : List Connection) (count : ℕ)
         → Serves acts (G.ended gate.old)

@@ -26,13 +26,14 @@ pub fn serve<L: Line + Drop, T: Talk + Drop, B: Book + Drop, C: Clock, I: Issuer
     requires none_ended { G.ended gate.old ≡ [] }
     requires none_given { G.given gate.old ≡ 0 }
     ensures served { B.is_honest host.new → B.is_open host.old → OnOk result
-        (ServedOn (C.may_give clock.old) (I.may_say issuer.old) (B.tables host.old)
-        (left_of B.Book host.new) (G.ended gate.new) (G.given gate.new)
-        (IsLast rounds (G.has_stopped gate.new))) }
+        (ServedOn (C.may_give clock.old) (I.may_say issuer.old) G.follow (B.tables host.old)
+        (left_of B.Book host.new) (G.ended gate.new) (G.given gate.new) (G.others gate.old)
+        (G.others gate.new) (IsLast rounds (G.has_stopped gate.new))) }
     // Where memory or the store refused something.
     ensures stopped { B.is_honest host.new → B.is_open host.old → OnErr result
-        (ServedUntil (C.may_give clock.old) (I.may_say issuer.old) (B.tables host.old)
-        (left_of B.Book host.new) (G.ended gate.new) (G.given gate.new)) }
+        (ServedUntil (C.may_give clock.old) (I.may_say issuer.old) G.follow (B.tables host.old)
+        (left_of B.Book host.new) (G.ended gate.new) (G.given gate.new) (G.others gate.old)
+        (G.others gate.new)) }
     ensures was_honest { B.is_honest host.new → B.is_honest host.old }
     ensures stays_open { B.is_honest host.new → B.is_open host.old
         → OnOk result (B.is_open host.new) }

@@ -75,11 +75,7 @@ fn compare_end(
         Some(Err(FrontFault::Undecodable(_))) => plain.is_unread,
         _ if plain.is_unread => false,
         Some(Ok(())) => matches!(script.ending, Ending::Well),
-        // A bad length behind a message is looked at once that is answered and more was read, so the
-        // end of the input may be told in its place.
-        Some(Err(FrontFault::Ended)) => {
-            matches!(script.ending, Ending::InsideFrame | Ending::BadLength)
-        }
+        Some(Err(FrontFault::Ended)) => matches!(script.ending, Ending::InsideFrame),
         Some(Err(FrontFault::Read)) => matches!(script.ending, Ending::Reset),
         Some(Err(FrontFault::BadLength)) => matches!(script.ending, Ending::BadLength),
         _ => false,

@@ -18,6 +18,7 @@ loop-at-preserved-then-is_some g c =
     ∙ ap (λ p. ended c.loop-at.gate ++ seen g.L.Line g.T.Talk p ∷ []) c.into_inner.ensures in
     record {
       given = c.part.ensures.given ∙ c.loop-at.invariant.given;
+      others = c.part.ensures.others ∙ c.loop-at.invariant.others;
       gone = begins_more (ended c.args.gate.now) (ended c.loop-at.gate) (view place)
           (ended c.part.new.self) c.loop-at.invariant.gone ended_is;
       quiet = λ q. subst (λ l. AreQuiet (map view l)) (sym c.remove-place.ensures.items)

@@ -11,6 +11,7 @@ invariant-loop-at g l =
     let ended = g.G.Gate.ended in
     record {
       given : g.G.Gate.given l.gate ≡ g.G.Gate.given l.fn.gate;
+      others : g.G.Gate.others l.gate ≡ g.G.Gate.others l.fn.gate;
       gone : Begins (ended l.fn.gate) (ended l.gate);
       quiet : AreQuiet (map view l.fn.places.items) → AreQuiet (map view l.places.items);
       serves : (acts : List Act) (front behind : List Connection) (count : ℕ)

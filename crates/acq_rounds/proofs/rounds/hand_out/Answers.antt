@@ -50,6 +50,8 @@ loop-place-preserved g c =
                 ∙ c.loop-place.invariant.out;
             given = ap g.G.Gate.given w.gate-is ∙ w.said.ensures.given
                 ∙ c.loop-place.invariant.given;
+            others = ap g.G.Gate.others w.gate-is ∙ w.said.ensures.others
+                ∙ c.loop-place.invariant.others;
             ended = ap g.G.Gate.ended w.gate-is ∙ w.said.ensures.ended
                 ∙ c.loop-place.invariant.ended;
           }
@@ -65,6 +67,7 @@ loop-place-preserved g c =
                 (sym (w.if-is_ready.ensures ∙ ap (λ p. is_ready (see p)) is)) (ap see is)
                 ∙ c.loop-place.invariant.out;
             given = ap g.G.Gate.given w.gate-is ∙ c.loop-place.invariant.given;
+            others = ap g.G.Gate.others w.gate-is ∙ c.loop-place.invariant.others;
             ended = ap g.G.Gate.ended w.gate-is ∙ c.loop-place.invariant.ended;
           }
     ]

@@ -14,5 +14,6 @@ invariant-loop-place g l =
           ++ handed (map view (drop l.place-index l.places)) (replies_of (iter_rest l.said))
           ≡ handed (map view l.fn.places) (replies_of l.fn.said);
       given : g.G.Gate.given l.gate ≡ g.G.Gate.given l.fn.gate;
+      others : g.G.Gate.others l.gate ≡ g.G.Gate.others l.fn.gate;
       ended : g.G.Gate.ended l.gate ≡ g.G.Gate.ended l.fn.gate;
     }

@@ -24,5 +24,6 @@ loop-place-preserved g c =
             is c.loop-place.invariant.same
       ];
       given = c.ends.ensures.given ∙ c.loop-place.invariant.given;
+      others = c.ends.ensures.others ∙ c.loop-place.invariant.others;
       ended = c.ends.ensures.ended ∙ c.loop-place.invariant.ended;
     }

@@ -9,5 +9,6 @@ invariant-loop-place g l =
     record {
       same : map view l.places ≡ map view l.fn.places;
       given : g.G.Gate.given l.gate ≡ g.G.Gate.given l.fn.gate;
+      others : g.G.Gate.others l.gate ≡ g.G.Gate.others l.fn.gate;
       ended : g.G.Gate.ended l.gate ≡ g.G.Gate.ended l.fn.gate;
     }

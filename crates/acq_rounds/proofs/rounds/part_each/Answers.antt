@@ -20,6 +20,7 @@ loop-place-preserved g c =
     ∙ map-append view c.pop.new.self.items (place ∷ []) in
     record {
       given = c.part.ensures.given ∙ c.loop-place.invariant.given;
+      others = c.part.ensures.others ∙ c.loop-place.invariant.others;
       stopped = c.part.ensures.stopped ∙ c.loop-place.invariant.stopped;
       all = ap (λ l. l ++ reverse rest) ended
           ∙ append_assoc before (view place ∷ []) (reverse rest)

@@ -10,6 +10,7 @@ invariant-loop-place g l =
     let ended = g.G.Gate.ended in
     record {
       given : g.G.Gate.given l.gate ≡ g.G.Gate.given l.fn.gate;
+      others : g.G.Gate.others l.gate ≡ g.G.Gate.others l.fn.gate;
       stopped : g.G.Gate.has_stopped l.gate ≡ g.G.Gate.has_stopped l.fn.gate;
       all : ended l.gate ++ reverse (map view l.places.items)
           ≡ ended l.fn.gate ++ reverse (map view l.fn.places.items);

@@ -17,7 +17,7 @@ use Rattle.acq_front.proofs.StopsLeave.{none_stop}
 use Rattle.acq_serving.proofs.FaultsApart.{stream_unended, stream_unread, stream_unwritten}
 use Rattle.acq_front.proofs.Turning.{stream_unstored}
 use Rattle.acq_serving.proofs.FaultsApart.{message_unended, message_unread}
-use Rattle.acq_front.proofs.Rounds.{unless_refused}
+use Rattle.acq_front.proofs.Refusals.{unless_refused}
 use Rattle.acq_serving.proofs.Served.{nothing_yet, going_none, going_held, with_piece, going_read}
 use Rattle.acq_serving.proofs.Served.{with_message, going_more, stream_stops, read_stops, ends_well}
 use Rattle.acq_serving.proofs.Served.{ends_inside, stopped, turns_weaker}

@@ -20,14 +20,17 @@ returns-in_err-take_in-clause-stopped g c h o =
     let book = g.B.Book in
     let may_give = g.C.Clock.may_give c.args.clock.now in
     let may_say = g.I.Issuer.may_say c.args.issuer.now in
+    let follow = g.G.Gate.follow in
+    let others = g.G.Gate.others c.args.gate.now in
     let here = seen_in g.L.Line g.T.Talk in
     let count = count_of g.L.Line g.T.Talk in
     let t = book.tables c.args.host.now in
     let old = whole (g.G.Gate.ended c.args.gate.now) (here c.args.self.now)
-    (count c.args.self.now) t in
+    (count c.args.self.now) t others in
     let ended = g.G.Gate.ended c.take_in.new.gate in
     let now = here c.take_in.new.self in
     let many = count c.take_in.new.self in
+    let in_took = g.G.Gate.others c.take_in.new.gate in
     let laws : Laws book = record {
       honest = g.met.B.Book.honest;
       settled = g.met.B.Book.settled;
@@ -35,10 +38,11 @@ returns-in_err-take_in-clause-stopped g c h o =
       past = g.met.B.Book.past;
     } in
     on_err c.from_residual.result
-    (RanUntil may_give may_say old ended now many (left_of book c.args.host.now))
-    (ran_until may_give may_say old ended now many (left_of book c.args.host.now) t
-    (ran_quietly may_give may_say old (whole ended now many t) refl
-    c.in_err-take_in.ensures.gone c.in_err-take_in.ensures.serves)
+    (RanUntil may_give may_say follow old ended now many (left_of book c.args.host.now) in_took)
+    (ran_until may_give may_say follow old ended now in_took many (left_of book c.args.host.now) t
+    (ran_quietly may_give may_say follow old (whole ended now many t in_took) refl
+    c.in_err-take_in.ensures.gone c.in_err-take_in.ensures.serves
+    c.in_err-take_in.ensures.others)
     (untouched book laws may_give may_say c.args.host.now (asked now) o))
 
 pub returns-in_err-take_group-clause-stopped : goal.returns-in_err-take_group-clause-stopped
@@ -46,11 +50,13 @@ returns-in_err-take_group-clause-stopped g c h o =
     let book = g.B.Book in
     let may_give = g.C.Clock.may_give c.args.clock.now in
     let may_say = g.I.Issuer.may_say c.args.issuer.now in
+    let follow = g.G.Gate.follow in
+    let others = g.G.Gate.others c.args.gate.now in
     let here = seen_in g.L.Line g.T.Talk in
     let view = boxed g.L.Line g.T.Talk in
     let t = book.tables c.args.host.now in
     let old = whole (g.G.Gate.ended c.args.gate.now) (here c.args.self.now)
-    c.args.self.now.count t in
+    c.args.self.now.count t others in
     let self = c.take_in.new.self in
     let ended = g.G.Gate.ended c.take_in.new.gate in
     let awake = map view self.awake.items in
@@ -63,17 +69,19 @@ returns-in_err-take_group-clause-stopped g c h o =
     let same = c.as_mut_slice-awake.ensures.value in
     let is : map view items ≡ awake =
     ap (map view) back ∙ c.in_err-take_group.ensures.kept ∙ ap (map view) same in
-    let w1 = whole ended (awake ++ asleep) self.count t in
-    let w2 = whole said (map view items ++ asleep) self.count t in
+    let came = g.G.Gate.others c.take_in.new.gate in
+    let behind = g.G.Gate.others c.take_group.new.gate in
+    let w1 = whole ended (awake ++ asleep) self.count t came in
+    let w2 = whole said (map view items ++ asleep) self.count t behind in
     let left = left_of book c.take_group.new.host in
     on_err c.from_residual-in_err-take_group.result
-    (RanUntil may_give may_say old said (map view items ++ asleep) self.count left)
-    (ran_until may_give may_say old said (map view items ++ asleep) self.count left t
-    (ran_both may_give may_say old w1 w2
-    (ran_quietly may_give may_say old w1 refl
-    c.in_ok-take_in.ensures.gone c.in_ok-take_in.ensures.serves)
-    (ran_same may_give may_say w1 w2 refl c.in_err-take_group.ensures.ended
-    (ap (λ l. l ++ asleep) is) refl))
+    (RanUntil may_give may_say follow old said (map view items ++ asleep) self.count left behind)
+    (ran_until may_give may_say follow old said (map view items ++ asleep) behind self.count left t
+    (ran_both may_give may_say follow old w1 w2
+    (ran_quietly may_give may_say follow old w1 refl
+    c.in_ok-take_in.ensures.gone c.in_ok-take_in.ensures.serves c.in_ok-take_in.ensures.others)
+    (ran_same may_give may_say follow w1 w2 refl c.in_err-take_group.ensures.ended
+    (ap (λ l. l ++ asleep) is) refl c.in_err-take_group.ensures.others))
     (subst (TookNone may_give may_say t left)
     (ap (λ l. asked (map view l)) same ∙ ap asked (sym is)
     ∙ sym (asked_awake (map view items) asleep
@@ -85,12 +93,14 @@ returns-clause-ran g c h o =
     let book = g.B.Book in
     let may_give = g.C.Clock.may_give c.args.clock.now in
     let may_say = g.I.Issuer.may_say c.args.issuer.now in
+    let follow = g.G.Gate.follow in
+    let others = g.G.Gate.others c.args.gate.now in
     let here = seen_in g.L.Line g.T.Talk in
     let view = boxed g.L.Line g.T.Talk in
     let t = book.tables c.args.host.now in
     let now = book.tables c.take_group.new.host in
     let old = whole (g.G.Gate.ended c.args.gate.now) (here c.args.self.now)
-    c.args.self.now.count t in
+    c.args.self.now.count t others in
     let self = c.take_in.new.self in
     let ended = g.G.Gate.ended c.take_in.new.gate in
     let awake = map view self.awake.items in
@@ -103,29 +113,34 @@ returns-clause-ran g c h o =
     (c.take_group.auto.places ∙ ap length c.as_mut_slice-awake.ensures.value) in
     let same = c.as_mut_slice-awake.ensures.value in
     let group = c.in_ok-take_group.ensures.took h o in
-    let w1 = whole ended (awake ++ asleep) self.count t in
-    let wg = whole ended (map view items ++ asleep) self.count now in
-    let w2 = whole said (map view items ++ asleep) self.count now in
+    let came = g.G.Gate.others c.take_in.new.gate in
+    let behind = g.G.Gate.others c.take_group.new.gate in
+    let w1 = whole ended (awake ++ asleep) self.count t came in
+    let wg = whole ended (map view items ++ asleep) self.count now came in
+    let w2 = whole said (map view items ++ asleep) self.count now behind in
     let w3 = whole (g.G.Gate.ended c.send_out.new.gate) (here c.send_out.new.self)
-    c.send_out.new.self.count now in
-    let ran = in_both may_give may_say 0 1 old w1 w3
-    (in_quietly may_give may_say old w1 refl
-    c.in_ok-take_in.ensures.gone c.in_ok-take_in.ensures.serves)
-    (in_both may_give may_say 1 0 w1 wg w3
-    (in_group may_give may_say ended (awake ++ asleep) (map view items ++ asleep) self.count t now
-    group.taken
+    c.send_out.new.self.count now (g.G.Gate.others c.send_out.new.gate) in
+    let ran = in_both may_give may_say follow 0 1 old w1 w3
+    (in_quietly may_give may_say follow old w1 refl
+    c.in_ok-take_in.ensures.gone c.in_ok-take_in.ensures.serves c.in_ok-take_in.ensures.others)
+    (in_both may_give may_say follow 1 0 w1 wg w3
+    (in_group may_give may_say follow ended (awake ++ asleep) (map view items ++ asleep) came
+    self.count t now group.taken
+    (λ t steps next. g.G.Gate.past_group t steps next came)
     (group.brought ∙ ap (λ l. asked (map view l)) same ∙ sym (asked_awake awake asleep quiet))
     (ap (λ l. l ++ asleep) (ap (map view) back ∙ group.held
     ∙ ap (λ l. handed (map view l) (said_of group.taken)) same)
     ∙ sym (handed_awake awake asleep (said_of group.taken) quiet)) group.took)
-    (in_both may_give may_say 0 0 wg w2 w3
-    (in_same may_give may_say wg w2 refl c.in_ok-take_group.ensures.ended refl refl)
-    (in_quietly may_give may_say w2 w3 refl c.send_out.ensures.gone
+    (in_both may_give may_say follow 0 0 wg w2 w3
+    (in_same may_give may_say follow wg w2 refl c.in_ok-take_group.ensures.ended refl refl
+    c.in_ok-take_group.ensures.others)
+    (in_quietly may_give may_say follow w2 w3 refl c.send_out.ensures.gone
     (λ acts s. serves_counted acts (g.G.Gate.ended c.send_out.new.gate)
     (here c.send_out.new.self) self.count c.send_out.new.self.count c.send_out.ensures.count
-    (c.send_out.ensures.serves acts self.count s))))) in
+    (c.send_out.ensures.serves acts self.count s)) c.send_out.ensures.others))) in
     record {
       ran = ran.ran;
+      told = ran.told;
       long = ran.long;
       stop = none_stop book g.met.B.Book.settled g.met.B.Book.stored c.take_group.new.host
           (c.in_ok-take_group.ensures.stays_open h o);

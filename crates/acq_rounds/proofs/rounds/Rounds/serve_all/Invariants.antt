@@ -18,9 +18,12 @@ invariant-loop g l =
       was_honest : book.is_honest l.host → book.is_honest l.fn.host;
       stays_open : book.is_honest l.host → book.is_open l.fn.host → book.is_open l.host;
       ran : book.is_honest l.host → book.is_open l.fn.host →
-          RanIn (g.C.Clock.may_give l.fn.clock) (g.I.Issuer.may_say l.fn.issuer) l.counter
-          (whole (ended l.fn.gate) (here l.fn.self) (count l.fn.self) (book.tables l.fn.host))
-          (whole (ended l.gate) (here l.self) (count l.self) (book.tables l.host));
+          RanIn (g.C.Clock.may_give l.fn.clock) (g.I.Issuer.may_say l.fn.issuer) g.G.Gate.follow
+          l.counter
+          (whole (ended l.fn.gate) (here l.fn.self) (count l.fn.self) (book.tables l.fn.host)
+          (g.G.Gate.others l.fn.gate))
+          (whole (ended l.gate) (here l.self) (count l.self) (book.tables l.host)
+          (g.G.Gate.others l.gate));
       given : count l.self + g.G.Gate.given l.fn.gate ≡ count l.fn.self + g.G.Gate.given l.gate;
       said_later : (q : Query) (v : Verdict) → g.I.Issuer.may_say l.issuer q v
           → g.I.Issuer.may_say l.fn.issuer q v;

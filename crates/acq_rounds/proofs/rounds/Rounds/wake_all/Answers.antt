@@ -11,5 +11,6 @@ loop-init g c =
       quiet = λ q. q;
       count = refl;
       given = refl;
+      others = refl;
       ended = refl;
     }

@@ -14,5 +14,6 @@ invariant-loop g l =
       quiet : AreQuiet (asleep l.fn.self) → AreQuiet (asleep l.self);
       count : count l.self ≡ count l.fn.self;
       given : g.G.Gate.given l.gate ≡ g.G.Gate.given l.fn.gate;
+      others : g.G.Gate.others l.gate ≡ g.G.Gate.others l.fn.gate;
       ended : g.G.Gate.ended l.gate ≡ g.G.Gate.ended l.fn.gate;
     }
