@@ -2,20 +2,17 @@
 use Rattle.std.proofs.Common.{◌≡◌, ◌≢◌, ◌==◌, ◌+◌, ℕ, Bool, true, false, List, [], ◌∷◌, ◌++◌}
 use Rattle.std.proofs.Common.{take, drop, length, cond, refl, sym, ap, subst, ◌∙◌, append_assoc}
 use Rattle.std.proofs.Common.{append-nil, take-append-drop, length-append, arith}
-use Rattle.std.specs.Prelude.{map, Option}
+use Rattle.std.specs.Prelude.{Option}
 use Rattle.std.proofs.lemmas.Bool.Decides.{nat_tests}
 use Rattle.std.proofs.lemmas.Grind.{flat_map-append}
-use Rattle.std.proofs.lemmas.List.{map-append}
 use Rattle.std.proofs.lemmas.List.Elements.{All-append, All-cons, All-nil}
 use Rattle.acq_core.specs.declared.event.Event.{Event}
-use Rattle.acq_core.specs.Tables.{Tables, tables_after}
-use Rattle.acq_soundness.proofs.Runs.{tables_after-append}
-use Rattle.acq_front.specs.Log.{Entry, after_log, by, events_of}
+use Rattle.acq_core.specs.Tables.{Tables}
 use Rattle.acq_control.specs.declared.question.Question.{Question}
 use Rattle.acq_control.specs.Answers.{answer_of}
 use Rattle.acq_control.specs.Lines.{BeginsWithLine, IsInLine, LinesThen, all_ended, ended}
 use Rattle.acq_control.specs.Log.{Act, FollowsActs, IsAskedBy, answers_to, asked_by, behind_act}
-use Rattle.acq_control.specs.Log.{behind_acts, entries, events_in, lines_by, lines_in, own, said_to}
+use Rattle.acq_control.specs.Log.{behind_acts, lines_by, lines_in, own, said_to, served_by}
 use Rattle.acq_control.specs.Questions.{Asks}
 
 -- ---- what an act has for a connection
@@ -95,29 +92,56 @@ follows_written k t acts input output held unsent taken n f = record {
       ∙ ap (λ (l : List ℕ). output ++ l) (take-append-drop n unsent) ∙ f.written;
 }
 
-pub follows_other : (k : ℕ) (t : Tables) (acts : List Act) (a : Act)
+-- an act that has nothing for the connection
+follows_past : (k : ℕ) (t : Tables) (acts : List Act) (a : Act)
     (input output held unsent : List ℕ) (taken : ℕ) →
-    FollowsActs k t acts input output held unsent taken → a.connection ≢ k →
+    FollowsActs k t acts input output held unsent taken →
+    own k a (lines_in a.deed) ≡ [] →
+    ((now : Tables) (number : ℕ) → own k a (said_to now number a.deed) ≡ []) → IsAskedBy k a →
     FollowsActs k t (acts ++ a ∷ []) input output held unsent taken
-follows_other k t acts a input output held unsent taken f other =
-    let none : lines_by k (a ∷ []) ≡ [] =
-    ap (λ (l : List (List ℕ)). l ++ []) (own_other k a (lines_in a.deed) other) in
+follows_past k t acts a input output held unsent taken f none silent asked =
     let lines : lines_by k (acts ++ a ∷ []) ≡ lines_by k acts =
     lines_by-append k acts (a ∷ [])
-    ∙ ap (λ (l : List (List ℕ)). lines_by k acts ++ l) none
+    ∙ ap (λ (l : List (List ℕ)). lines_by k acts ++ (l ++ [])) none
     ∙ append-nil (lines_by k acts) in
     let said : answers_to k t 0 (acts ++ a ∷ []) ≡ answers_to k t 0 acts =
     answers_to-append k t 0 acts (a ∷ [])
     ∙ ap (λ (l : List ℕ). answers_to k t 0 acts ++ (l ++ []))
-    (own_other k a (said_to (behind_acts t acts) (0 + length (lines_by k acts) + 1) a.deed) other)
+    (silent (behind_acts t acts) (0 + length (lines_by k acts) + 1))
     ∙ append-nil (answers_to k t 0 acts) in
     record {
       came = subst (λ (l : List (List ℕ)). LinesThen input l held) (sym lines) f.came;
       count = f.count ∙ ap length (sym lines);
       asked = All-append (IsAskedBy k) acts (a ∷ []) f.asked
-          (All-cons (IsAskedBy k) a [] (λ is. absurd (other is)) (All-nil (IsAskedBy k)));
+          (All-cons (IsAskedBy k) a [] asked (All-nil (IsAskedBy k)));
       written = f.written ∙ sym said;
     }
+
+pub follows_other : (k : ℕ) (t : Tables) (acts : List Act) (a : Act)
+    (input output held unsent : List ℕ) (taken : ℕ) →
+    FollowsActs k t acts input output held unsent taken → a.connection ≢ k →
+    FollowsActs k t (acts ++ a ∷ []) input output held unsent taken
+follows_other k t acts a input output held unsent taken f other =
+    follows_past k t acts a input output held unsent taken f
+    (own_other k a (lines_in a.deed) other)
+    (λ now number. own_other k a (said_to now number a.deed) other)
+    (λ is. absurd (other is))
+
+own_none : {X : Type 0} (k : ℕ) (a : Act) → own {X = X} k a [] ≡ []
+own_none k a = cond_none (a.connection == k)
+  where
+    cond_none : {X : Type 0} (b : Bool) → cond {A = List X} b [] [] ≡ []
+    cond_none true = refl
+    cond_none false = refl
+
+-- what was taken for a terminal is nothing to a control connection, whatever their numbers are
+pub follows_served : (k j : ℕ) (t : Tables) (acts : List Act) (events : List Event)
+    (input output held unsent : List ℕ) (taken : ℕ) →
+    FollowsActs k t acts input output held unsent taken →
+    FollowsActs k t (acts ++ served_by j events ∷ []) input output held unsent taken
+follows_served k j t acts events input output held unsent taken f =
+    follows_past k t acts (served_by j events) input output held unsent taken f
+    (own_none k (served_by j events)) (λ now number. own_none k (served_by j events)) (λ is. tt)
 
 module _ (k : ℕ) (t : Tables) (acts : List Act)
     (input output held left unsent line : List ℕ) (taken taken_then moment : ℕ)
@@ -179,31 +203,3 @@ pub behind-append : (t : Tables) (acts more : List Act) →
     behind_acts t (acts ++ more) ≡ behind_acts (behind_acts t acts) more
 behind-append t [] more = refl
 behind-append t (a ∷ acts) more = behind-append (behind_act t a) acts more
-
-events_own : (k : ℕ) (events : List Event) → events_of (map (by k) events) ≡ events
-events_own k [] = refl
-events_own k (e ∷ events) = ap (λ (l : List Event). e ∷ l) (events_own k events)
-
-pub entries_more : (t : Tables) (acts : List Act) (a : Act) →
-    entries t (acts ++ a ∷ [])
-    ≡ entries t acts ++ map (by a.connection) (events_in (behind_acts t acts) a.deed)
-entries_more t [] a = append-nil (map (by a.connection) (events_in t a.deed))
-entries_more t (b ∷ acts) a =
-    let first = map (by b.connection) (events_in t b.deed) in
-    let next = behind_act t b in
-    ap (λ (l : List Entry). first ++ l) (entries_more next acts a)
-    ∙ sym (append_assoc first (entries next acts)
-    (map (by a.connection) (events_in (behind_acts next acts) a.deed)))
-
-pub same_tables : (t : Tables) (acts : List Act) →
-    after_log t (entries t acts) ≡ behind_acts t acts
-same_tables t [] = refl
-same_tables t (a ∷ acts) =
-    let next = behind_act t a in
-    ap (tables_after t)
-    (map-append (λ (e : Entry). e.event) (map (by a.connection) (events_in t a.deed))
-    (entries next acts)
-    ∙ ap (λ (l : List Event). l ++ events_of (entries next acts))
-    (events_own a.connection (events_in t a.deed)))
-    ∙ tables_after-append t (events_in t a.deed) (events_of (entries next acts))
-    ∙ same_tables next acts

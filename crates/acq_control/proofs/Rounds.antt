@@ -1,6 +1,8 @@
 -- How one round goes.
-use Rattle.std.proofs.Common.{◌≡◌, ◌≢◌, ℕ, List, [], Option, Result, Ok, Err, ap, ◌∙◌}
-use Rattle.std.proofs.Common.{◌++◌, take, drop, refl, subst}
+use Rattle.std.proofs.Common.{◌≡◌, ◌≢◌, ◌==◌, ℕ, Bool, true, false, List, [], ◌∷◌, Option, Result}
+use Rattle.std.proofs.Common.{Ok, Err, ap, arith, length, sym, ◌∙◌, ◌++◌, take, drop, refl, subst}
+use Rattle.std.proofs.Common.{true≢false}
+use Rattle.std.proofs.lemmas.Bool.Decides.{nat_tests}
 use Rattle.acq_core.specs.Tables.{Tables}
 use Rattle.acq_front.specs.Stops.{Left, LeavesAll}
 use Rattle.acq_status.specs.declared.serving.Serving.{Serving}
@@ -128,3 +130,11 @@ module _ (may_give : ℕ → Type 0) (serving : Serving) (old : Tables) (left : 
   moved_on before after (Err (fault.TheVariants.Undecodable f)) not on = on
   moved_on before after (Err fault.TheVariants.Read) not on = on
   moved_on before after (Err (fault.TheVariants.Write n)) not on = on
+
+-- nothing is left, where that was seen
+pub none_left : (seen left : List ℕ) (b : Bool) → b ≡ (length seen == 0) → b ≡ true → seen ≡ left →
+    left ≡ []
+none_left [] left b is on same = sym same
+none_left (x ∷ seen) left b is on same =
+    let some : (length (x ∷ seen) == 0) ≡ false = grind (arith, nat_tests) in
+    absurd (true≢false (sym on ∙ is ∙ some))

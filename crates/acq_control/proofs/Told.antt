@@ -46,6 +46,7 @@ answer_stopped items it held came (fault.OtherVersion n) is why = absurd why
 answer_stopped items it held came (fault.Undecodable f) is why = absurd why
 answer_stopped items it held came (fault.Write n) is why = absurd why
 answer_stopped items it held came fault.Silent is why = absurd why
+answer_stopped items it held came fault.NoProxyHeader is why = absurd why
 answer_stopped items it held came fault.DayNotOver is why = absurd why
 answer_stopped items it held came (fault.StillPending n) is why = absurd why
 answer_stopped items it held came (fault.BadLine n) is why = absurd why
@@ -95,5 +96,6 @@ module _ (items it held came after : List ℕ) (answer : Answer) (kind : AnswerK
   turn_taken (Err (fault.StillPending n)) w = absurd w
   turn_taken (Err (fault.BadLine n)) w = absurd w
   turn_taken (Err fault.Silent) w = absurd w
+  turn_taken (Err fault.NoProxyHeader) w = absurd w
   turn_taken (Err (fault.OtherDay day)) w = absurd w
   turn_taken (Err (fault.BadMessage line cause)) w = absurd w

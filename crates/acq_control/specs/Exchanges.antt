@@ -61,6 +61,13 @@ pub record FollowsLog (k : ℕ) (t : Tables) (acts : List Act) (p : Passed) : Ty
   pub holds : Holds p.held held
   pub follows : FollowsActs k t acts p.came p.went held p.unsent p.taken
 
+-- Nothing came, nothing went out, and nothing more is said.
+pub record IsSilent (before after : Passed) : Type 0 where
+  pub came : after.came ≡ before.came
+  pub went : after.went ≡ before.went
+  pub unsent : after.unsent ≡ before.unsent
+  pub taken : after.taken ≡ before.taken
+
 -- whether a round tells that the input ended
 abbrev pub tells_end : Result ControlRound FrontFault → Bool
 tells_end (Ok Ended) = true

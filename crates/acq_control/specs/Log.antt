@@ -1,11 +1,10 @@
 -- Control connections and terminals to one host: what was done for whom, and what each control
 -- connection has of it.
-use Rattle.std.specs.Prelude.{◌≡◌, ◌==◌, ◌+◌, ℕ, List, [], ◌∷◌, ◌++◌, length, map, Option}
+use Rattle.std.specs.Prelude.{◌≡◌, ◌==◌, ◌+◌, ℕ, List, [], ◌∷◌, ◌++◌, length, Option}
 use Rattle.std.specs.Prelude.{if◌then◌else◌}
 use Rattle.std.specs.List.{All, flat_map}
 use Rattle.acq_core.specs.declared.event.Event.{Event}
 use Rattle.acq_core.specs.Tables.{Tables, tables_after}
-use Rattle.acq_front.specs.Log.{Entry, by}
 use Rattle.acq_control.specs.Lines.{LinesThen}
 use Rattle.acq_control.specs.Questions.{Asks}
 use Rattle.acq_control.specs.Answers.{answer_of, events_asked}
@@ -20,6 +19,10 @@ pub data Deed : Type 0 where
 pub record Act : Type 0 where
   pub connection : ℕ
   pub deed : Deed
+
+-- the events of a terminal's message were taken
+abbrev pub served_by : ℕ → List Event → Act
+served_by k events = record { connection = k; deed = Served events }
 
 -- a line of a control connection was taken, and what it asks was done
 abbrev pub asked_by : ℕ → (moment : ℕ) (line : List ℕ) → Option Question → Act
@@ -39,12 +42,6 @@ behind_act t a = tables_after t (events_in t a.deed)
 abbrev pub behind_acts : Tables → List Act → Tables
 behind_acts t [] = t
 behind_acts t (a ∷ acts) = behind_acts (behind_act t a) acts
-
--- the acts as the log of events that terminals follow
-abbrev pub entries : Tables → List Act → List Entry
-entries t [] = []
-entries t (a ∷ acts) =
-    map (by a.connection) (events_in t a.deed) ++ entries (behind_act t a) acts
 
 -- ---- what an act is to a control connection
 

@@ -1,6 +1,6 @@
 //! One end of a control connection, without its reads and writes.
 
-ghost use Rattle.std.specs.Prelude.{◌≡◌, ◌+◌, ◌<◌, ◌≤◌, ℕ, [], length, drop, Ok, OnOk};
+ghost use Rattle.std.specs.Prelude.{◌≡◌, ◌+◌, ◌<◌, ◌≤◌, ℕ, [], length, drop, Ok, OnErr, OnOk};
 ghost use Rattle.acq_front.specs.Stops.{left_of};
 ghost use Rattle.acq_control.specs.Doing.{TellsStore};
 ghost use Rattle.acq_control.specs.Lines.{IsInLine, longest_line};
@@ -133,6 +133,9 @@ impl ControlConversation {
         // It waits where no line is whole, and is then as it was.
         ensures waits { result ≡ Ok Waits
             → IsInLine (held_of self.old).kept × (end_of self.new ≡ end_of self.old) }
+        // Where memory or the store refused a call, nothing is said.
+        ensures silent { OnErr result ((unsent_of self.new ≡ unsent_of self.old)
+            × (taken_of self.new ≡ taken_of self.old)) }
         ensures was_honest { B.is_honest host.new → B.is_honest host.old }
         ensures stays_open { B.is_honest host.new → B.is_open host.old
             → OnOk result (B.is_open host.new) }

@@ -8,7 +8,7 @@ ghost use Rattle.acq_front.specs.Stops.{left_of};
 ghost use Rattle.acq_control.specs.Lines.{IsInLine};
 ghost use Rattle.acq_control.specs.Held.{HoldsMore, front_of, nothing};
 ghost use Rattle.acq_control.specs.Exchanges.{EndsWith, Goes, IfRefused, Moves, line_of, passed};
-ghost use Rattle.acq_control.specs.Exchanges.{tells_end};
+ghost use Rattle.acq_control.specs.Exchanges.{IsSilent, tells_end};
 ghost use Rattle.acq_control.specs.Exchanges.{held_of, taken_of, unsent_of};
 ghost use Rattle.acq_control.specs.Ends.{RefusesLine};
 ghost use Rattle.acq_control.specs.declared.control_round.ControlRound.TheVariants.{Took};
@@ -102,9 +102,12 @@ impl<L: Line> ControlExchange<L> {
         ensures ends { EndsWith (held_of self.new) (unsent_of self.new) result }
         ensures line_ends { L.has_ended (line_of self.old) ≡ false
             → L.has_ended (line_of self.new) ≡ tells_end result }
-        // Where memory or the store refused a call, an event was in hand or none.
+        // Where memory or the store refused a call, an event was in hand or none,
         ensures refused { B.is_honest host.new → B.is_open host.old → IfRefused result
             (RefusesLine (B.tables host.old) (left_of B.Book host.new)) }
+        // and nothing was said.
+        ensures silent { IfRefused result (IsSilent (passed L.received L.sent self.old)
+            (passed L.received L.sent self.new)) }
         // A fault of reading or writing is told exactly where a read or a write failed.
         ensures reads { L.read_failures (line_of self.new)
             ≡ L.read_failures (line_of self.old) + failed_reads result }

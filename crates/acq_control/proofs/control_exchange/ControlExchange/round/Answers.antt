@@ -2,14 +2,13 @@ use Rattle.std.proofs.Common.{◌≡◌, ◌∙◌, Ok, ap, refl, subst, sym, ru
 use Rattle.std.specs.Prelude.{Result}
 use Rattle.acq_book.specs.declared.book_fault.BookFault.{BookFault}
 use Rattle.acq_front.specs.Stops.{left_of}
-use Rattle.acq_front.proofs.Rounds.{none_left}
 use Rattle.acq_front.proofs.StopsLeave.{none_stop}
 use Rattle.acq_control.specs.declared.control_turn.ControlTurn.{ControlTurn}
 use Rattle.acq_control.specs.declared.control_turn.ControlTurn.TheVariants.{Took, Waits}
 use Rattle.acq_control.specs.Ends.{End, Steps, end_of}
 use Rattle.acq_control.specs.Lines.{IsInLine}
 use Rattle.acq_control.specs.Exchanges.{held_of, passed, taken_of, unsent_of}
-use Rattle.acq_control.proofs.Rounds.{moved_on, reads_on, takes_on, writes_on}
+use Rattle.acq_control.proofs.Rounds.{moved_on, none_left, reads_on, takes_on, writes_on}
 use Rattle.acq_control.proofs.control_exchange.ControlExchange.round.Goals as goal
 
 pub returns-in-Took-clause-goes : goal.returns-in-Took-clause-goes

@@ -1,0 +1,4 @@
+pub mod Acting
+mod Placing
+pub mod Staying
+mod Rounds

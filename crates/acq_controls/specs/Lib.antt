@@ -1,0 +1,4 @@
+pub mod Aside
+pub mod Following
+pub mod Going
+pub mod Parting
