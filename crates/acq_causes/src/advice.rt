@@ -20,9 +20,12 @@ const VALUES: [(&str, &str); 21] = [
     ("--address", "an IPv4 address, as in --address 127.0.0.1"),
     ("--count", "1 to 999999, as in --count 1"),
     ("--together", "1 to 1024, as in --together 64"),
+    (
+        "--from-one-address",
+        "1 to 1024, as in --from-one-address 8",
+    ),
     ("--idle", SECONDS),
     ("--frame-within", SECONDS),
-    ("--idle-when-full", SECONDS),
     ("--stop-within", SECONDS),
     ("--within", SECONDS),
     ("--repeat", "1 to 1000000, as in --repeat 1000"),
@@ -58,6 +61,7 @@ pub(crate) fn of_connection(number: u64) -> Option<&'static str> {
         52 => "a connection sent a frame that spells no message; `acqd show` says why",
         53 => "a connection couldn't be read, or was silent, or took for a frame, too long",
         54 => "a connection took nothing of a reply for too long, or left before it came",
+        56 => "a connection has no header in front: the proxy has to send it, as `send-proxy-v2`",
         _ => return None,
     })
 }

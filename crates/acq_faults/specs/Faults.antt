@@ -18,7 +18,8 @@ use Rattle.acq_faults.specs.declared.fault.Fault.TheVariants.{Memory, Store, Bad
 use Rattle.acq_faults.specs.declared.fault.Fault.TheVariants.{NoSuchMerchant}
 use Rattle.acq_faults.specs.declared.fault.Fault.TheVariants.{NotABook, OtherVersion, BadLength}
 use Rattle.acq_faults.specs.declared.fault.Fault.TheVariants.{Ended, Undecodable, Read, Write}
-use Rattle.acq_faults.specs.declared.fault.Fault.TheVariants.{Silent, DayNotOver, StillPending}
+use Rattle.acq_faults.specs.declared.fault.Fault.TheVariants.{Silent, NoProxyHeader}
+use Rattle.acq_faults.specs.declared.fault.Fault.TheVariants.{DayNotOver, StillPending}
 use Rattle.acq_faults.specs.declared.fault.Fault.TheVariants.{BadLine, OtherDay, BadMessage}
 
 -- a fault's number and name
@@ -35,6 +36,7 @@ heading_of (Undecodable fault) = codes "52 Undecodable"
 heading_of Read = codes "53 Read"
 heading_of (Write n) = codes "54 Write"
 heading_of Silent = codes "55 Silent"
+heading_of NoProxyHeader = codes "56 NoProxyHeader"
 heading_of DayNotOver = codes "60 DayNotOver"
 heading_of (StillPending n) = codes "61 StillPending"
 heading_of (BadLine n) = codes "62 BadLine"
@@ -78,6 +80,7 @@ status_of (Undecodable fault) = 1
 status_of Read = 1
 status_of (Write n) = 1
 status_of Silent = 1
+status_of NoProxyHeader = 1
 status_of DayNotOver = 1
 status_of (StillPending n) = 1
 status_of (BadLine n) = 1

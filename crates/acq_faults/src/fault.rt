@@ -46,6 +46,8 @@ pub enum Fault {
     Write(u64),
     /// 55: a host gave no answer within the time.
     Silent,
+    /// 56: a connection begins with no header of the PROXY protocol.
+    NoProxyHeader,
     /// 60: the day that a report was asked for isn't over.
     DayNotOver,
     /// 61: so many requests of that day are pending.
@@ -90,6 +92,7 @@ impl Fault {
             Fault::Read => "53 Read",
             Fault::Write(_) => "54 Write",
             Fault::Silent => "55 Silent",
+            Fault::NoProxyHeader => "56 NoProxyHeader",
             Fault::DayNotOver => "60 DayNotOver",
             Fault::StillPending(_) => "61 StillPending",
             Fault::BadLine(_) => "62 BadLine",

@@ -15,6 +15,10 @@ pub struct ListenOptions {
     pub count: u64,
     /// How many of them are served at once.
     pub together: usize,
+    /// How many of them may come from one address; without a number as many as come.
+    pub from_one_address: Option<usize>,
+    /// Whether each begins with the header of a proxy, which says whence it comes.
+    pub proxy_protocol: bool,
     /// How long a connection may take.
     pub patience: Patience,
     /// The path of the file that says what issuers answer; without one no issuer can be reached.

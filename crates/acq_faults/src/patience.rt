@@ -7,8 +7,6 @@ pub struct Patience {
     pub idle: u64,
     /// How many seconds may pass from a frame's first byte to its last.
     pub frame_within: u64,
-    /// For how many seconds it may be so silent while all places are taken and another one waits.
-    pub idle_when_full: u64,
     /// For how many seconds it may be there once the host was asked to end.
     pub stop_within: u64,
 }

@@ -16,6 +16,7 @@ closing_is_opening (fault.Undecodable f) h = h
 closing_is_opening fault.Read h = h
 closing_is_opening (fault.Write n) h = h
 closing_is_opening fault.Silent h = h
+closing_is_opening fault.NoProxyHeader h = h
 closing_is_opening fault.DayNotOver h = h
 closing_is_opening (fault.StillPending n) h = h
 closing_is_opening (fault.BadLine n) h = h

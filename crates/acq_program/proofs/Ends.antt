@@ -19,6 +19,7 @@ within (fault.Undecodable f) = omega arith
 within fault.Read = omega arith
 within (fault.Write n) = omega arith
 within fault.Silent = omega arith
+within fault.NoProxyHeader = omega arith
 within fault.DayNotOver = omega arith
 within (fault.StillPending n) = omega arith
 within (fault.BadLine n) = omega arith

@@ -64,9 +64,9 @@ name_of_option option.Address = codes "--address"
 name_of_option option.Count = codes "--count"
 name_of_option option.Idle = codes "--idle"
 name_of_option option.FrameWithin = codes "--frame-within"
-name_of_option option.IdleWhenFull = codes "--idle-when-full"
 name_of_option option.StopWithin = codes "--stop-within"
 name_of_option option.Together = codes "--together"
+name_of_option option.FromOneAddress = codes "--from-one-address"
 name_of_option option.Issuers = codes "--issuers"
 name_of_option option.Control = codes "--control"
 name_of_option option.Log = codes "--log"
@@ -99,9 +99,10 @@ pub record OptionTexts : Type 0 where
   pub count : Option Text
   pub idle : Option Text
   pub frame_within : Option Text
-  pub idle_when_full : Option Text
   pub stop_within : Option Text
   pub together : Option Text
+  pub from_one_address : Option Text
+  pub proxy_protocol : Option Text
   pub control : Option Text
   pub log : Option Text
   pub log_bytes : Option Text
@@ -135,9 +136,10 @@ option_texts rows = record {
   count = first_of (codes "count") rows;
   idle = first_of (codes "idle") rows;
   frame_within = first_of (codes "frame-within") rows;
-  idle_when_full = first_of (codes "idle-when-full") rows;
   stop_within = first_of (codes "stop-within") rows;
   together = first_of (codes "together") rows;
+  from_one_address = first_of (codes "from-one-address") rows;
+  proxy_protocol = first_of (codes "proxy-protocol") rows;
   control = first_of (codes "control") rows;
   log = first_of (codes "log") rows;
   log_bytes = first_of (codes "log-bytes") rows;
@@ -172,9 +174,10 @@ found_texts found = record {
   count = first_value found (codes "count");
   idle = first_value found (codes "idle");
   frame_within = first_value found (codes "frame-within");
-  idle_when_full = first_value found (codes "idle-when-full");
   stop_within = first_value found (codes "stop-within");
   together = first_value found (codes "together");
+  from_one_address = first_value found (codes "from-one-address");
+  proxy_protocol = first_value found (codes "proxy-protocol");
   control = first_value found (codes "control");
   log = first_value found (codes "log");
   log_bytes = first_value found (codes "log-bytes");
@@ -331,10 +334,6 @@ IdleIs texts read = read ≡ seconds_if_there 60 option.Idle texts.idle
 abbrev pub FrameWithinIs : OptionTexts → Result ℕ OptionName → Type 0
 FrameWithinIs texts read = read ≡ seconds_if_there 30 option.FrameWithin texts.frame_within
 
--- so many seconds of silence while others wait for a place: without the option 10
-abbrev pub IdleWhenFullIs : OptionTexts → Result ℕ OptionName → Type 0
-IdleWhenFullIs texts read = read ≡ seconds_if_there 10 option.IdleWhenFull texts.idle_when_full
-
 -- so many seconds once the host was asked to end: without the option 10
 abbrev pub StopWithinIs : OptionTexts → Result ℕ OptionName → Type 0
 StopWithinIs texts read = read ≡ seconds_if_there 10 option.StopWithin texts.stop_within
@@ -371,6 +370,15 @@ together_if_there (Some text) = ok_or (together_of_text text) option.Together
 
 abbrev pub TogetherIs : OptionTexts → Result ℕ OptionName → Type 0
 TogetherIs texts read = read ≡ together_if_there texts.together
+
+-- so many of them from one address, where there is a text
+abbrev pub from_one_if_there : Option Text → Result (Option ℕ) OptionName
+from_one_if_there None = Ok None
+from_one_if_there (Some text) =
+    ok_or (option_map (λ n. Some n) (together_of_text text)) option.FromOneAddress
+
+abbrev pub FromOneAddressIs : OptionTexts → Result (Option ℕ) OptionName → Type 0
+FromOneAddressIs texts read = read ≡ from_one_if_there texts.from_one_address
 
 -- a report of a kind on a day
 abbrev pub report_on : ReportKind → ℕ → DayReport
@@ -473,39 +481,43 @@ IsOnce book issuers moment other = ⊥
 abbrev pub AsksOnce : OptionTexts → Result Action OptionName → Type 0
 AsksOnce texts = Then (MomentIfThere texts) (IsOnce texts.db texts.issuers)
 
--- a connection may be idle so long, its frames may take so long, it may be idle so long while others
--- wait, and be there so long once the host was asked to end
-abbrev pub IsPatience : ℕ → ℕ → ℕ → ℕ → Result Patience OptionName → Type 0
-IsPatience idle frame_within idle_when_full stop_within read =
+-- a connection may be idle so long, its frames may take so long, and it may be there so long once
+-- the host was asked to end
+abbrev pub IsPatience : ℕ → ℕ → ℕ → Result Patience OptionName → Type 0
+IsPatience idle frame_within stop_within read =
     read ≡ Ok (record {
       idle = idle;
       frame_within = frame_within;
-      idle_when_full = idle_when_full;
       stop_within = stop_within;
     })
 
-abbrev pub PatienceUpTo : OptionTexts → ℕ → ℕ → ℕ → Result Patience OptionName → Type 0
-PatienceUpTo texts idle frame_within idle_when_full =
-    Then (StopWithinIs texts) (IsPatience idle frame_within idle_when_full)
-
 abbrev pub PatienceWith : OptionTexts → ℕ → ℕ → Result Patience OptionName → Type 0
 PatienceWith texts idle frame_within =
-    Then (IdleWhenFullIs texts) (PatienceUpTo texts idle frame_within)
+    Then (StopWithinIs texts) (IsPatience idle frame_within)
 
 abbrev pub PatienceFor : OptionTexts → ℕ → Result Patience OptionName → Type 0
 PatienceFor texts idle = Then (FrameWithinIs texts) (PatienceWith texts idle)
 
--- how long a connection may take: in silence first, then with a frame, then while others wait, then
--- once the host was asked to end
+-- how long a connection may take: in silence first, then with a frame, then once the host was asked
+-- to end
 abbrev pub PatienceIs : OptionTexts → Result Patience OptionName → Type 0
 PatienceIs texts = Then (IdleIs texts) (PatienceFor texts)
 
--- so many connections at once, and so many bytes of a log
-abbrev pub AreBounds : ℕ → ℕ → Result Bounds OptionName → Type 0
-AreBounds together log_bytes read = read ≡ Ok (record { together = together; log_bytes = log_bytes })
+-- so many connections at once, so many of them from one address, and so many bytes of a log
+abbrev pub AreBounds : ℕ → Option ℕ → ℕ → Result Bounds OptionName → Type 0
+AreBounds together from_one_address log_bytes read =
+    read ≡ Ok (record {
+      together = together;
+      from_one_address = from_one_address;
+      log_bytes = log_bytes;
+    })
+
+abbrev pub BoundsUpTo : OptionTexts → ℕ → Option ℕ → Result Bounds OptionName → Type 0
+BoundsUpTo texts together from_one_address =
+    Then (LogBytesIs texts) (AreBounds together from_one_address)
 
 abbrev pub BoundsWith : OptionTexts → ℕ → Result Bounds OptionName → Type 0
-BoundsWith texts together = Then (LogBytesIs texts) (AreBounds together)
+BoundsWith texts together = Then (FromOneAddressIs texts) (BoundsUpTo texts together)
 
 abbrev pub BoundsAre : OptionTexts → Result Bounds OptionName → Type 0
 BoundsAre texts = Then (TogetherIs texts) (BoundsWith texts)
@@ -523,14 +535,16 @@ abbrev pub EndpointIs : OptionTexts → Result SocketAddrV4 OptionName → Type 
 EndpointIs texts = Then (PortIs texts) (EndpointAt texts)
 
 -- so many connections here over this book, with this file of issuers' answers, at this moment, with
--- so much patience for each, so many of them at once, control connections at this socket, and a log
--- of so many bytes in this file
+-- so much patience for each, so many of them at once and from one address, each behind a proxy's
+-- header or none, control connections at this socket, and a log of so many bytes in this file
 abbrev pub IsListened : OptionTexts → String Global → SocketAddrV4 → ℕ → Option ℕ → Patience →
     Bounds → Result ListenOptions OptionName → Type 0
 IsListened texts path endpoint count moment patience bounds (Ok asked) =
     (asked.path ≡ path) × (asked.endpoint ≡ endpoint) × (asked.count ≡ count)
     × (option_map string_bytes asked.issuers ≡ texts.issuers) × (asked.moment ≡ moment)
     × (asked.patience ≡ patience) × (asked.together ≡ bounds.together)
+    × (asked.from_one_address ≡ bounds.from_one_address)
+    × (asked.proxy_protocol ≡ is_set texts.proxy_protocol)
     × (option_map string_bytes asked.control ≡ texts.control)
     × (option_map string_bytes asked.log ≡ texts.log) × (asked.log_bytes ≡ bounds.log_bytes)
 IsListened texts path endpoint count moment patience bounds (Err name) = ⊥
@@ -558,7 +572,7 @@ abbrev pub ListenIn : OptionTexts → String Global → Result ListenOptions Opt
 ListenIn texts path = Then (EndpointIs texts) (ListenOn texts path)
 
 -- the options of `listen`: the file first, then the port and the address, how many connections, the
--- moment, how long each may take, how many at once, and how many bytes of a log
+-- moment, how long each may take, how many at once and from one address, and how many bytes of a log
 abbrev pub ListenedIs : OptionTexts → Result ListenOptions OptionName → Type 0
 ListenedIs texts = Then (FileIs texts) (ListenIn texts)
 

@@ -11,7 +11,7 @@ ghost use Rattle.acq_program.specs.Arguments.{AddressIs, AsksPending, DayIfThere
 ghost use Rattle.acq_program.specs.Arguments.{AsksReplay, AsksReport, AsksStatus, AsksTell};
 ghost use Rattle.acq_program.specs.Arguments.{BoundsAre, CountIs, DayIs, ListenedIs, LogBytesIs};
 ghost use Rattle.acq_program.specs.Arguments.{FileIs, FrameWithinIs, GroupIs, IdleIs};
-ghost use Rattle.acq_program.specs.Arguments.{IdleWhenFullIs};
+ghost use Rattle.acq_program.specs.Arguments.{FromOneAddressIs};
 ghost use Rattle.acq_program.specs.Arguments.{IsNoMemory, LimitIs, MerchantIs};
 ghost use Rattle.acq_program.specs.Arguments.{MomentIfThere, MomentIs, PathIs, PatienceIs, PortIs, Reads};
 ghost use Rattle.acq_program.specs.Arguments.{ReadsArguments, StopWithinIs, TogetherIs, WithinIs};
@@ -53,9 +53,6 @@ const USUAL_IDLE: u64 = 60;
 
 /// How many seconds a frame may take, where nothing else is asked for.
 const USUAL_FRAME_WITHIN: u64 = 30;
-
-/// For how many seconds one may be silent while others wait, where nothing else is asked for.
-const USUAL_IDLE_WHEN_FULL: u64 = 10;
 
 /// How many seconds one may be there once the host was asked to end, where nothing else is asked
 /// for.
@@ -193,6 +190,8 @@ fn listen_options(alloc: Global, options: &ArgMatches) -> Result<ListenOptions, 
         endpoint,
         count,
         together: bounds.together,
+        from_one_address: bounds.from_one_address,
+        proxy_protocol: is_set(options, "proxy-protocol"),
         patience,
         issuers,
         moment,
@@ -543,12 +542,10 @@ fn patience_of(options: &ArgMatches) -> Result<Patience, UsageFault>
 {
     let idle = idle_option(options)?;
     let frame_within = frame_within_option(options)?;
-    let idle_when_full = idle_when_full_option(options)?;
     let stop_within = stop_within_option(options)?;
     Ok(Patience {
         idle,
         frame_within,
-        idle_when_full,
         stop_within,
     })
 }
@@ -570,16 +567,6 @@ fn frame_within_option(options: &ArgMatches) -> Result<u64, UsageFault>
     match options.get_str("frame-within") {
         Some(text) => seconds_of(text).ok_or(UsageFault::BadValue(OptionName::FrameWithin)),
         None => Ok(USUAL_FRAME_WITHIN),
-    }
-}
-
-/// How many seconds of silence are asked for while others wait: without the option 10.
-fn idle_when_full_option(options: &ArgMatches) -> Result<u64, UsageFault>
-    ensures { Reads (IdleWhenFullIs (found_texts (found_of options.now))) result }
-{
-    match options.get_str("idle-when-full") {
-        Some(text) => seconds_of(text).ok_or(UsageFault::BadValue(OptionName::IdleWhenFull)),
-        None => Ok(USUAL_IDLE_WHEN_FULL),
     }
 }
 
@@ -627,14 +614,17 @@ fn repeat_if_there(options: &ArgMatches) -> Result<Option<u64>, UsageFault>
     }
 }
 
-/// How many connections are served at once, and how many bytes a log has.
+/// How many connections are served at once, how many of them of one address, and how many bytes a
+/// log has.
 fn bounds_of(options: &ArgMatches) -> Result<Bounds, UsageFault>
     ensures { Reads (BoundsAre (found_texts (found_of options.now))) result }
 {
     let together = together_option(options)?;
+    let from_one_address = from_one_address_option(options)?;
     let log_bytes = log_bytes_option(options)?;
     Ok(Bounds {
         together,
+        from_one_address,
         log_bytes,
     })
 }
@@ -656,6 +646,19 @@ fn together_option(options: &ArgMatches) -> Result<usize, UsageFault>
     match options.get_str("together") {
         Some(text) => together_of(text).ok_or(UsageFault::BadValue(OptionName::Together)),
         None => Ok(1),
+    }
+}
+
+/// How many connections of one address may be served at once, where that is asked for.
+fn from_one_address_option(options: &ArgMatches) -> Result<Option<usize>, UsageFault>
+    ensures { Reads (FromOneAddressIs (found_texts (found_of options.now))) result }
+{
+    let Some(text) = options.get_str("from-one-address") else {
+        return Ok(None);
+    };
+    match together_of(text) {
+        Some(number) => Ok(Some(number)),
+        None => Err(UsageFault::BadValue(OptionName::FromOneAddress)),
     }
 }
 

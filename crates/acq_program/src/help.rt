@@ -100,12 +100,17 @@ the lines go to standard error. A line that would wait, or has no room, is lost 
 
 A connection that is silent for the SECONDS of --idle, or takes nothing of a reply for so long, is
 closed as one whose read or write failed. So is one whose frame takes longer than --frame-within,
-from its first byte to its last; and while all M places are taken and another connection waits, the
-one that is silent the longest, once that is longer than --idle-when-full. A connection's fault is
-one line on standard error, and the next one is served. A line that can't go out at once is dropped,
-and the next one that goes out says how many were. 1 and 2 end the program. The status is 0 where
-all connections were served, 1 for another fault, 2 for wrong usage, 3 where memory ran out or the
-file failed:
+from its first byte to its last. While all M places are taken and another connection waits, one over
+which no message of an enrolled terminal was answered makes room, the one that has been without the
+longest first; another one keeps its place for --idle behind the last such message. With
+--from-one-address N, no more than N connections of one address are served at once, and others are
+closed. With --proxy-protocol each connection begins with the header that HAProxy sends with
+`send-proxy` or `send-proxy-v2`; the log and that bound go by the address that it names.
+
+A connection's fault is one line on standard error, and the next one is served. A line that can't go
+out at once is dropped, and the next one that goes out says how many were. 1 and 2 end the program.
+The status is 0 where all connections were served, 1 for another fault, 2 for wrong usage, 3 where
+memory ran out or the file failed:
   acqd: 1 Memory
   acqd: 2 Store                    the file can't be opened, read or written
   acqd: 23 BadLine RECORD          this record of the issuers' file is out of its form
@@ -118,6 +123,7 @@ file failed:
                                    connection can't be had, or a connection was silent, or a frame
                                    took, too long
   acqd: 54 Write BYTES             a write failed after so many bytes of a reply's frame
+  acqd: 56 NoProxyHeader           with --proxy-protocol: a connection begins with no such header
 
 Example:
   acqd listen --db book.db --port 8583 --issuers issuers.csv";

@@ -28,12 +28,12 @@ pub enum OptionName {
     Idle,
     /// How many seconds a frame may take.
     FrameWithin,
-    /// For how many seconds a connection may be silent while others wait for a place.
-    IdleWhenFull,
     /// For how many seconds a connection may be there once the host was asked to end.
     StopWithin,
     /// How many connections are served at once.
     Together,
+    /// How many of them may come from one address.
+    FromOneAddress,
     /// The file that says what issuers answer.
     Issuers,
     /// The socket's file at which control connections come.
@@ -77,9 +77,9 @@ impl fmt::Display for OptionName {
             OptionName::Count => "--count",
             OptionName::Idle => "--idle",
             OptionName::FrameWithin => "--frame-within",
-            OptionName::IdleWhenFull => "--idle-when-full",
             OptionName::StopWithin => "--stop-within",
             OptionName::Together => "--together",
+            OptionName::FromOneAddress => "--from-one-address",
             OptionName::Issuers => "--issuers",
             OptionName::Control => "--control",
             OptionName::Log => "--log",

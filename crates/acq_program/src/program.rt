@@ -88,7 +88,7 @@ const ONCE: [Parameter<'static>; 3] = [
 ];
 
 /// What `listen` takes: its file, its port, how many connections come, and what is said of each.
-const LISTEN: [Parameter<'static>; 14] = [
+const LISTEN: [Parameter<'static>; 15] = [
     BOOK,
     Parameter {
         name: "port",
@@ -126,11 +126,6 @@ const LISTEN: [Parameter<'static>; 14] = [
         help: FRAME_WITHIN,
     },
     Parameter {
-        name: "idle-when-full",
-        kind: Optional("SECONDS"),
-        help: "How long one may be silent while others wait for a place, as --idle [default: 10]",
-    },
-    Parameter {
         name: "stop-within",
         kind: Optional("SECONDS"),
         help: "How long one may be there once `stop` came, as --idle [default: 10]",
@@ -139,6 +134,16 @@ const LISTEN: [Parameter<'static>; 14] = [
         name: "together",
         kind: Optional("M"),
         help: "How many connections are served at once, 1 to 1024 [default: 1]",
+    },
+    Parameter {
+        name: "from-one-address",
+        kind: Optional("N"),
+        help: "How many of them may come from one address, 1 to 1024 [default: all]",
+    },
+    Parameter {
+        name: "proxy-protocol",
+        kind: Flag,
+        help: "Each connection begins with the header of HAProxy's PROXY protocol, version 1 or 2",
     },
     Parameter {
         name: "control",

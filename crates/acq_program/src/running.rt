@@ -321,7 +321,7 @@ fn listen_over<B: Lenient + Drop, M: Machine<B> + Drop, C: Clock, I: Issuer + Dr
     issuers: Result<I, Fault>,
     faults: &mut F,
 ) -> Result<(), Fault> {
-    if asked.together > 1 || asked.control.is_some() || asked.log.is_some() {
+    if needs_server(asked) {
         return serve_over(alloc, keys, machine, asked, clock, issuers, faults);
     }
     let connections = machine.listen_at(asked.endpoint, asked.patience);
@@ -336,6 +336,15 @@ fn listen_over<B: Lenient + Drop, M: Machine<B> + Drop, C: Clock, I: Issuer + Dr
         &mut issuer,
         faults,
     ))
+}
+
+/// Whether connections are to be served as many at once are, of which one may be there alone.
+fn needs_server(asked: &ListenOptions) -> bool {
+    asked.together > 1
+        || asked.from_one_address.is_some()
+        || asked.proxy_protocol
+        || asked.control.is_some()
+        || asked.log.is_some()
 }
 
 /// Answers the frames of connections over the book in a file, many at once.

@@ -1,11 +1,12 @@
 -- What one part reaches, and the next one from there, both reach.
-use Rattle.std.proofs.Common.{◌≡◌, ℕ, [], ◌++◌, ◌∙◌, ap, sym, refl, inl, arith}
-use Rattle.std.proofs.Common.{Option, Some, None, Result, Ok, Err, Bool, true}
-use Rattle.std.proofs.Common.{length-append}
+use Rattle.std.proofs.Common.{◌≡◌, ℕ, List, [], ◌++◌, ◌∙◌, ap, sym, refl, inl, arith, subst}
+use Rattle.std.proofs.Common.{Option, Some, None, Result, Ok, Err, Bool, append-nil}
+use Rattle.std.proofs.Common.{append_assoc}
 use Rattle.acq_book.specs.Calls.{Looks}
 use Rattle.acq_book.specs.Promise.{CountsFault}
 use Rattle.acq_book.specs.declared.book.Book.{Ghosts}
 use Rattle.acq_book.specs.declared.book_fault.BookFault as book_fault
+use Rattle.acq_core.specs.declared.event.Event.{Event}
 use Rattle.acq_core.specs.Tables.{Tables, tables_after}
 use Rattle.acq_soundness.proofs.Runs.{tables_after-append}
 use Rattle.acq_host.proofs.Runs.{LeavesTables}
@@ -13,78 +14,155 @@ use Rattle.acq_reports.specs.Faults.{CountsStore}
 use Rattle.acq_reports.specs.declared.report_fault.ReportFault as report
 use Rattle.acq_faults.specs.Faults.{TellsStore, of_book}
 use Rattle.acq_front.proofs.StopsLeave.{all_behind, some_behind}
-use Rattle.acq_front.specs.Faults as front
-use Rattle.acq_front.specs.Stops.{Left, LeavesAll, left_of}
+use Rattle.acq_front.specs.Stops.{Left, LeavesAll, LeavesSome, left_of}
 use Rattle.acq_front.specs.declared.front_fault.FrontFault as ended
-use Rattle.acq_control.specs.Answers.{events_asked}
-use Rattle.acq_control.specs.Ends.{RefusesLine}
-use Rattle.acq_control.specs.Exchanges as control
-use Rattle.acq_status.specs.declared.serving.Serving.{Serving}
 use Rattle.acq_control.specs.declared.control_round.ControlRound.{ControlRound}
-use Rattle.acq_control.specs.declared.control_round.ControlRound.TheVariants as control_round
-use Rattle.acq_control.specs.declared.wish.Wish.{Wish}
 use Rattle.acq_rounds.specs.Reaching.{Reaches, ReachesSome, ReachesBy}
 use Rattle.acq_rounds.specs.Taking.{TellsFault}
 use Rattle.acq_rounds.proofs.Together.{tells_on}
-use Rattle.acq_tcp.specs.Rounds.{IsNotStores, Looked, RoundReaches, RoundTells}
-use Rattle.acq_tcp.specs.Rounds.{going_on, of_looked}
+use Rattle.acq_controls.specs.Aside.{Aside}
+use Rattle.acq_controls.specs.Following.{Stays}
+use Rattle.acq_controls.specs.Going.{ReachesIf, TellsIf}
+use Rattle.acq_controls.proofs.Staying.{GoesOn, go_go, go_none, go_stay, stay_go}
+use Rattle.acq_tcp.specs.Rounds.{IsNotStores, Looked, going_on, of_looked}
 
 -- nothing was taken
-pub reaches_none : (left : Left) → LeavesAll left left.tables [] → Reaches left.tables left
-reaches_none left stop = record { events = []; tables = refl; stop = stop }
+pub reaches_none : (left : Left) (a : Aside) → LeavesAll left left.tables [] →
+    Reaches left.tables left (GoesOn left.tables a a)
+reaches_none left a stop =
+    record { events = []; are_such = go_none left.tables a; tables = refl; stop = stop }
 
-pub reached_on : (old : Tables) (mid left : Left) → Reaches old mid → Reaches mid.tables left →
-    Reaches old left
-reached_on old mid left one two = record {
-  events = one.events ++ two.events;
-  tables = two.tables ∙ ap (λ (t : Tables). tables_after t two.events) one.tables
-      ∙ sym (tables_after-append old one.events two.events);
-  stop = all_behind left old mid.tables one.events one.tables two.events two.stop;
+module _ (old : Tables) (mid left : Left) (a b c : Aside)
+    (one : Reaches old mid (GoesOn old a b)) where
+  pub reached_on : Reaches mid.tables left (GoesOn mid.tables b c) →
+      Reaches old left (GoesOn old a c)
+  reached_on two = record {
+    events = one.events ++ two.events;
+    are_such = go_go old mid.tables a b c one.events two.events one.tables one.are_such two.are_such;
+    tables = two.tables ∙ ap (λ (t : Tables). tables_after t two.events) one.tables
+        ∙ sym (tables_after-append old one.events two.events);
+    stop = all_behind left old mid.tables one.events one.tables two.events two.stop;
+  }
+
+  some_on : ReachesSome mid.tables left (GoesOn mid.tables b c) →
+      ReachesSome old left (GoesOn old a c)
+  some_on two =
+      let same = sym (append_assoc one.events two.events two.untold) in
+      record {
+        events = one.events ++ two.events;
+        are_such = go_go old mid.tables a b c one.events two.events one.tables one.are_such
+            two.are_such;
+        untold = two.untold;
+        in_hand = two.in_hand;
+        at_most_one = two.at_most_one;
+        tables = λ o. two.tables o
+            ∙ ap (λ (t : Tables). tables_after t (two.events ++ two.untold)) one.tables
+            ∙ sym (tables_after-append old one.events (two.events ++ two.untold))
+            ∙ ap (tables_after old) same;
+        stop = subst (λ (l : List Event). LeavesSome left old l two.in_hand) same
+            (some_behind left old mid.tables one.events one.tables (two.events ++ two.untold)
+            two.in_hand two.stop);
+      }
+
+  pub refused_on : (f : book_fault.BookFault) →
+      ReachesBy {X = Unit {0}} mid.tables left (GoesOn mid.tables b c) (Err f) →
+      ReachesBy {X = Unit {0}} old left (GoesOn old a c) (Err f)
+  refused_on f two = some_on two
+
+module _ {such : List Event → Type 0} where
+  -- where some were, and none was refused
+  pub some_of : (old : Tables) (left : Left) → Reaches old left such → ReachesSome old left such
+  some_of old left all =
+      let same = sym (append-nil all.events) in
+      record {
+        events = all.events;
+        are_such = all.are_such;
+        untold = [];
+        in_hand = [];
+        at_most_one = omega arith;
+        tables = λ o. all.tables ∙ ap (tables_after old) same;
+        stop = subst (λ (l : List Event). LeavesSome left old l []) same
+            (record { tables = λ t l. inl (all.stop.tables t l); stored = all.stop.stored });
+      }
+
+  -- what a round leaves is reached, however the connection ended behind it
+  pub reached_still : (r : Option (Result (Unit {0}) ended.FrontFault)) (old : Tables)
+      (left : Left) → Reaches old left such → ReachesIf old left such r
+  reached_still None old left h = h
+  reached_still (Some (Ok u)) old left h = h
+  reached_still (Some (Err ended.TheVariants.Memory)) old left h = some_of old left h
+  reached_still (Some (Err ended.TheVariants.Store)) old left h = some_of old left h
+  reached_still (Some (Err ended.TheVariants.BadLength)) old left h = h
+  reached_still (Some (Err ended.TheVariants.Ended)) old left h = h
+  reached_still (Some (Err (ended.TheVariants.Undecodable f))) old left h = h
+  reached_still (Some (Err ended.TheVariants.Read)) old left h = h
+  reached_still (Some (Err (ended.TheVariants.Write n))) old left h = h
+
+-- a fault that is handed on
+pub same_fault : (f : ended.FrontFault) (old : Tables) (left : Left) (such : List Event → Type 0) →
+    ReachesIf {X = ControlRound} old left such (Some (Err f)) →
+    ReachesIf {X = Unit {0}} old left such (Some (Err f))
+same_fault ended.TheVariants.Memory old left such h = h
+same_fault ended.TheVariants.Store old left such h = h
+same_fault ended.TheVariants.BadLength old left such h = h
+same_fault ended.TheVariants.Ended old left such h = h
+same_fault (ended.TheVariants.Undecodable f) old left such h = h
+same_fault ended.TheVariants.Read old left such h = h
+same_fault (ended.TheVariants.Write n) old left such h = h
+
+-- control connections that stay behind it
+module _ (old : Tables) (left : Left) (a b c : Aside) (stays : Stays b c) where
+  reached_stay : Reaches old left (GoesOn old a b) → Reaches old left (GoesOn old a c)
+  reached_stay h = record {
+    events = h.events;
+    are_such = go_stay old a b c h.events h.are_such stays;
+    tables = h.tables;
+    stop = h.stop;
+  }
+
+  some_stay : ReachesSome old left (GoesOn old a b) → ReachesSome old left (GoesOn old a c)
+  some_stay h = record {
+    events = h.events;
+    are_such = go_stay old a b c h.events h.are_such stays;
+    untold = h.untold;
+    in_hand = h.in_hand;
+    at_most_one = h.at_most_one;
+    tables = h.tables;
+    stop = h.stop;
+  }
+
+  -- what the end of a connection is for the program
+  pub program_reaches : (r : Result (Unit {0}) ended.FrontFault) →
+      ReachesIf old left (GoesOn old a b) (Some r) →
+      ReachesBy old left (GoesOn old a c) (going_on r)
+  program_reaches (Ok u) h = reached_stay h
+  program_reaches (Err ended.TheVariants.Memory) h = some_stay h
+  program_reaches (Err ended.TheVariants.Store) h = some_stay h
+  program_reaches (Err ended.TheVariants.BadLength) h = reached_stay h
+  program_reaches (Err ended.TheVariants.Ended) h = reached_stay h
+  program_reaches (Err (ended.TheVariants.Undecodable f)) h = reached_stay h
+  program_reaches (Err ended.TheVariants.Read) h = reached_stay h
+  program_reaches (Err (ended.TheVariants.Write n)) h = reached_stay h
+
+-- and before it
+pub stay_reaches : (old : Tables) (left : Left) (a b c : Aside)
+    (r : Result (Unit {0}) book_fault.BookFault) → Stays a b →
+    ReachesBy old left (GoesOn old b c) r → ReachesBy old left (GoesOn old a c) r
+stay_reaches old left a b c (Ok u) stays h = record {
+  events = h.events;
+  are_such = stay_go old a b c h.events stays h.are_such;
+  tables = h.tables;
+  stop = h.stop;
 }
-
-some_on : (old : Tables) (mid left : Left) → Reaches old mid → ReachesSome mid.tables left →
-    ReachesSome old left
-some_on old mid left one two = record {
-  events = one.events ++ two.events;
-  in_hand = two.in_hand;
-  at_most_one = two.at_most_one;
-  tables = λ o. two.tables o ∙ ap (λ (t : Tables). tables_after t two.events) one.tables
-      ∙ sym (tables_after-append old one.events two.events);
-  stop = some_behind left old mid.tables one.events one.tables two.events two.in_hand two.stop;
+stay_reaches old left a b c (Err f) stays h = record {
+  events = h.events;
+  are_such = stay_go old a b c h.events stays h.are_such;
+  untold = h.untold;
+  in_hand = h.in_hand;
+  at_most_one = h.at_most_one;
+  tables = h.tables;
+  stop = h.stop;
 }
-
-pub refused_on : (old : Tables) (mid left : Left) (f : book_fault.BookFault) → Reaches old mid →
-    ReachesBy {X = Unit {0}} mid.tables left (Err f) → ReachesBy {X = Unit {0}} old left (Err f)
-refused_on old mid left f one two = some_on old mid left one two
-
--- so the next part, whether it was refused or not
-pub reached_then : (old : Tables) (mid left : Left) (r : Result (Unit {0}) book_fault.BookFault) →
-    Reaches old mid → ReachesBy mid.tables left r → ReachesBy old left r
-reached_then old mid left (Ok x) one two = reached_on old mid left one two
-reached_then old mid left (Err f) one two = some_on old mid left one two
-
--- where some were, and none was refused
-pub some_of : (old : Tables) (left : Left) → Reaches old left → ReachesSome old left
-some_of old left all = record {
-  events = all.events;
-  in_hand = [];
-  at_most_one = omega arith;
-  tables = λ o. all.tables;
-  stop = record { tables = λ t l. inl (all.stop.tables t l); stored = all.stop.stored };
-}
-
--- what a round leaves is reached, however the connection ended behind it
-pub reached_still : (r : Option (Result (Unit {0}) ended.FrontFault)) (old : Tables) (left : Left) →
-    Reaches old left → RoundReaches old left r
-reached_still None old left h = h
-reached_still (Some (Ok u)) old left h = h
-reached_still (Some (Err ended.TheVariants.Memory)) old left h = some_of old left h
-reached_still (Some (Err ended.TheVariants.Store)) old left h = some_of old left h
-reached_still (Some (Err ended.TheVariants.BadLength)) old left h = h
-reached_still (Some (Err ended.TheVariants.Ended)) old left h = h
-reached_still (Some (Err (ended.TheVariants.Undecodable f))) old left h = h
-reached_still (Some (Err ended.TheVariants.Read)) old left h = h
-reached_still (Some (Err (ended.TheVariants.Write n))) old left h = h
 
 -- ---- the tables were looked at
 
@@ -96,34 +174,30 @@ module _ {S : Type 0} (it : Ghosts S) (a c : S) (honest : it.is_honest c) (opene
     stored = looks.books honest (stored a opened);
   }
 
-  pub looked_all : Looks it a c true → Reaches (it.tables a) (left_of it c)
-  looked_all looks = record {
-    events = [];
-    tables = looks.same (looks.stays_open refl honest opened);
-    stop = looked_stop true looks;
-  }
-
-  looked_some : (done : Bool) → Looks it a c done → ReachesSome (it.tables a) (left_of it c)
-  looked_some done looks = record {
-    events = [];
-    in_hand = [];
-    at_most_one = omega arith;
-    tables = λ is. looks.same is;
-    stop = record {
-      tables = λ t l. inl ((looked_stop done looks).tables t l);
-      stored = (looked_stop done looks).stored;
-    };
-  }
-
   -- whether it was refused or not
   pub looked_at : (done : Bool) → Looks it a c done → Looked (it.tables a) (left_of it c)
   looked_at done looks =
       record { tables = λ is. looks.same is; stop = looked_stop done looks }
 
-  -- a report that was refused
-  pub looked_report : (done : Bool) (f : book_fault.BookFault) → Looks it a c done →
-      ReachesBy {X = Unit {0}} (it.tables a) (left_of it c) (Err f)
-  looked_report done f looks = looked_some done looks
+-- a look that was refused
+pub looked_some : (old : Tables) (left : Left) (a : Aside) → Looked old left →
+    ReachesSome old left (GoesOn old a a)
+looked_some old left a looked = record {
+  events = [];
+  are_such = go_none old a;
+  untold = [];
+  in_hand = [];
+  at_most_one = omega arith;
+  tables = looked.tables;
+  stop = record { tables = λ t l. inl (looked.stop.tables t l); stored = looked.stop.stored };
+}
+
+-- behind a look
+pub looked_then : (old mid : Tables) (left : Left) (a b : Aside)
+    (r : Result (Unit {0}) book_fault.BookFault) → mid ≡ old →
+    ReachesBy mid left (GoesOn mid a b) r → ReachesBy old left (GoesOn old a b) r
+looked_then old mid left a b r same h =
+    subst (λ (t : Tables). ReachesBy t left (GoesOn t a b) r) same h
 
 -- what a report that was refused tells of the store
 pub tells_report : (f : report.ReportFault) (a c : ℕ) (P : Type 0) →
@@ -154,23 +228,11 @@ pub tells_host : (f : book_fault.BookFault) (a c : ℕ) (P : Type 0) →
 tells_host book_fault.TheVariants.Memory a c P told = told
 tells_host book_fault.TheVariants.Store a c P told = told
 
--- what the end of a connection is for the program
-pub program_reaches : (old : Tables) (left : Left) (r : Result (Unit {0}) ended.FrontFault) →
-    RoundReaches old left (Some r) → ReachesBy old left (going_on r)
-program_reaches old left (Ok u) h = h
-program_reaches old left (Err ended.TheVariants.Memory) h = h
-program_reaches old left (Err ended.TheVariants.Store) h = h
-program_reaches old left (Err ended.TheVariants.BadLength) h = h
-program_reaches old left (Err ended.TheVariants.Ended) h = h
-program_reaches old left (Err (ended.TheVariants.Undecodable f)) h = h
-program_reaches old left (Err ended.TheVariants.Read) h = h
-program_reaches old left (Err (ended.TheVariants.Write n)) h = h
-
 -- ---- what is told of the store
 
 -- it took too long
 pub tells_late : (r : Option (Result (Unit {0}) ended.FrontFault)) (P : Type 0) {a b : ℕ} → b ≡ a →
-    IsNotStores r → RoundTells r a b P
+    IsNotStores r → TellsIf r a b P
 tells_late None P same not = same
 tells_late (Some (Ok u)) P same not = same
 tells_late (Some (Err ended.TheVariants.Store)) P same not = absurd not
@@ -180,45 +242,3 @@ tells_late (Some (Err ended.TheVariants.Ended)) P same not = same
 tells_late (Some (Err (ended.TheVariants.Undecodable f))) P same not = same
 tells_late (Some (Err ended.TheVariants.Read)) P same not = same
 tells_late (Some (Err (ended.TheVariants.Write n))) P same not = same
-
--- ---- control connections
-
-module _ (may_give : ℕ → Type 0) (serving : Serving) (old : Tables) (left : Left)
-    (before after : control.Passed) where
-  moved : control.MovesOn may_give serving old left before after → Reaches old left
-  moved on = record { events = []; tables = on.tables; stop = on.stop }
-
-  asked : (wish : Wish) → control.AsksOne may_give serving old left wish before after →
-      Reaches old left
-  asked wish one =
-      record { events = events_asked old one.asked; tables = one.tables; stop = one.stop }
-
-  pub control_reaches : (round : ControlRound) →
-      control.Goes may_give serving old left before after (Ok round) → Reaches old left
-  control_reaches control_round.GoesOn on = moved on
-  control_reaches (control_round.Took wish) one = asked wish one
-  control_reaches control_round.Waits on = moved on
-  control_reaches control_round.Ended on = moved on
-
-  refused_line : RefusesLine old left → ReachesSome old left
-  refused_line refused = record {
-    events = refused.taken;
-    in_hand = refused.in_hand;
-    at_most_one = omega (arith, refused.at_most_one, length-append refused.taken refused.in_hand);
-    tables = refused.tables;
-    stop = refused.stop;
-  }
-
-  -- and so where the round ended it
-  pub control_ends : (f : ended.FrontFault) →
-      front.UnlessRefused {X = ControlRound} (Err f)
-      (control.Goes may_give serving old left before after (Err f)) →
-      control.IfRefused {X = ControlRound} (Err f) (RefusesLine old left) →
-      RoundReaches old left (Some (Err f))
-  control_ends ended.TheVariants.Memory goes refused = refused_line refused
-  control_ends ended.TheVariants.Store goes refused = refused_line refused
-  control_ends ended.TheVariants.BadLength goes refused = moved goes
-  control_ends ended.TheVariants.Ended goes refused = moved goes
-  control_ends (ended.TheVariants.Undecodable f) goes refused = moved goes
-  control_ends ended.TheVariants.Read goes refused = moved goes
-  control_ends (ended.TheVariants.Write n) goes refused = moved goes

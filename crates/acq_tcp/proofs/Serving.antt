@@ -8,25 +8,29 @@ use Rattle.acq_faults.specs.Serving.{ServedBy, Serves}
 use Rattle.acq_front.specs.Stops.{Left}
 use Rattle.acq_front.specs.Talk.{Saying}
 use Rattle.acq_rounds.specs.Acts.{Connection}
-use Rattle.acq_rounds.specs.Runs.{HasServed, ServedOn, ServedUntil}
+use Rattle.acq_rounds.specs.Runs.{Following, HasServed, ServedOn, ServedUntil, Step}
 use Rattle.acq_tcp.specs.Rounds.{Looked}
 
-module _ (may_give : ℕ → Type 0) (may_say : Saying) (left : Left) where
+module _ {O : Type 0} (may_give : ℕ → Type 0) (may_say : Saying) (follow : Following O)
+    (left : Left) where
   -- no connection came
-  served_none : (t : Tables) → HasServed may_give may_say t t [] 0
-  served_none t = record {
+  served_none : (t : Tables) (others : O) →
+      HasServed may_give may_say follow t t [] 0 others others
+  served_none t others = record {
     steps = [];
     did = refl;
-    follow = tt;
+    had_follow = tt;
     fair = tt;
     distinct = tt;
     every = λ k l. absurd (omega arith);
+    others_follow = λ f. f;
   }
 
-  until_none : (old : Tables) → Looked old left → ServedUntil may_give may_say old left [] 0
-  until_none old looked = record {
+  until_none : (old : Tables) (others : O) → Looked old left →
+      ServedUntil may_give may_say follow old left [] 0 others others
+  until_none old others looked = record {
     kept = old;
-    served = served_none old;
+    served = served_none old others;
     tables = looked.tables;
     here = [];
     last = ([], refl);
@@ -34,41 +38,80 @@ module _ (may_give : ℕ → Type 0) (may_say : Saying) (left : Left) where
   }
 
   -- the tables couldn't be looked at
-  pub serves_none : (old : Tables) (before after : List Connection) (first last : ℕ)
-      (f : book.BookFault) → Looked old left → after ≡ before → last ≡ first →
-      Serves may_give may_say old left before after first last {X = Unit {0}} (Err (of_book f))
-  serves_none old before after first last book.TheVariants.Memory looked same many = record {
-    had = [];
-    given = 0;
-    behind = same ∙ sym (append-nil before);
-    many = omega (arith, many);
-    served = until_none old looked;
-  }
-  serves_none old before after first last book.TheVariants.Store looked same many = record {
-    had = [];
-    given = 0;
-    behind = same ∙ sym (append-nil before);
-    many = omega (arith, many);
-    served = until_none old looked;
-  }
+  pub serves_none : (old : Tables) (others now : O) (before after : List Connection)
+      (first last : ℕ) (f : book.BookFault) → Looked old left → now ≡ others → after ≡ before →
+      last ≡ first →
+      Serves may_give may_say follow old left others now before after first last {X = Unit {0}}
+      (Err (of_book f))
+  serves_none old others now before after first last book.TheVariants.Memory looked is same many =
+      record {
+        had = [];
+        given = 0;
+        behind = same ∙ sym (append-nil before);
+        many = omega (arith, many);
+        served = subst (ServedUntil may_give may_say follow old left [] 0 others) (sym is)
+            (until_none old others looked);
+      }
+  serves_none old others now before after first last book.TheVariants.Store looked is same many =
+      record {
+        had = [];
+        given = 0;
+        behind = same ∙ sym (append-nil before);
+        many = omega (arith, many);
+        served = subst (ServedUntil may_give may_say follow old left [] 0 others) (sym is)
+            (until_none old others looked);
+      }
 
-  module _ (old mid : Tables) (same : mid ≡ old) (had : List Connection) (given : ℕ) where
-    -- so many groups, or others
-    pub served_all : (so_many : ℕ → Type 0) →
-        ServedOn may_give may_say mid left had given so_many →
-        ServedOn may_give may_say old left had given (λ groups. Unit {0})
-    served_all so_many on =
-        let P : Tables → Type 0 = λ t. HasServed may_give may_say t left.tables had given in
-        record { served = subst P same on.served; long = tt; stop = on.stop }
+  -- others that stay behind it
+  module _ (had : List Connection) (given : ℕ) (first begun mid last : O) (same_first : begun ≡ first)
+      (stays : (t : Tables) (steps : List Step) → follow t steps mid → follow t steps last) where
+    served_on : (old new : Tables) →
+        HasServed may_give may_say follow old new had given begun mid →
+        HasServed may_give may_say follow old new had given first last
+    served_on old new s = record {
+      steps = s.steps;
+      did = s.did;
+      had_follow = s.had_follow;
+      fair = s.fair;
+      distinct = s.distinct;
+      every = s.every;
+      others_follow = λ f. stays old s.steps (s.others_follow (subst (follow old []) (sym same_first) f));
+    }
 
-    served_some : ServedUntil may_give may_say mid left had given →
-        ServedUntil may_give may_say old left had given
-    served_some until =
-        let P : Tables → Type 0 = λ t. ServedUntil may_give may_say t left had given in
-        subst P same until
+    module _ (old mid_tables : Tables) (same : mid_tables ≡ old) where
+      -- so many groups, or others
+      pub served_all : (so_many : ℕ → Type 0) →
+          ServedOn may_give may_say follow mid_tables left had given begun mid so_many →
+          ServedOn may_give may_say follow old left had given first last (λ groups. Unit {0})
+      unfolding served_on
+      served_all so_many on =
+          let P : Tables → Type 0 = λ t.
+          ServedOn may_give may_say follow t left had given first last (λ groups. Unit {0}) in
+          subst P same (record {
+            served = served_on mid_tables left.tables on.served;
+            told = on.told;
+            long = tt;
+            stop = on.stop;
+          })
 
-    -- memory or the store refused something
-    pub served_until : (f : book.BookFault) → ServedUntil may_give may_say mid left had given →
-        ServedBy may_give may_say old left had given {X = Unit {0}} (Err (of_book f))
-    served_until book.TheVariants.Memory until = served_some until
-    served_until book.TheVariants.Store until = served_some until
+      served_some : ServedUntil may_give may_say follow mid_tables left had given begun mid →
+          ServedUntil may_give may_say follow old left had given first last
+      served_some until =
+          let P : Tables → Type 0 = λ t.
+          ServedUntil may_give may_say follow t left had given first last in
+          subst P same (record {
+            kept = until.kept;
+            served = served_on mid_tables until.kept until.served;
+            tables = until.tables;
+            here = until.here;
+            last = until.last;
+            stop = until.stop;
+          })
+
+      -- memory or the store refused something
+      pub served_until : (f : book.BookFault) →
+          ServedUntil may_give may_say follow mid_tables left had given begun mid →
+          ServedBy may_give may_say follow old left first last had given {X = Unit {0}}
+          (Err (of_book f))
+      served_until book.TheVariants.Memory until = served_some until
+      served_until book.TheVariants.Store until = served_some until

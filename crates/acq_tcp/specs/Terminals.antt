@@ -1,6 +1,7 @@
 -- What terminals' connections show, where they come from, and what their server had of them.
 use Rattle.std.specs.Prelude.{ℕ, Bool, List}
 use Rattle.mio.specs.declared.net.stream.TcpStream.{TcpStream}
+use Rattle.acq_controls.specs.Aside.{Aside, aside_of}
 use Rattle.acq_front.specs.Ends as conversation
 use Rattle.acq_front.specs.Lines.{received_of, sent_of}
 use Rattle.acq_front.specs.declared.stream_line.StreamLine.{StreamLine}
@@ -40,9 +41,16 @@ module _ {T W F : Type 0} where
   abbrev pub stopped_at : Arrivals T W F → Bool
   stopped_at a = a.has_stopped
 
+  -- what control connections have had
+  abbrev pub controls_at : Arrivals T W F → Aside
+  controls_at a = aside_of a.controls
+
 module _ {T W : Type 0} where
   abbrev pub had_by : TcpServer T W → List Connection
   had_by s = s.past.list
 
   abbrev pub many_by : TcpServer T W → ℕ
   many_by s = s.had.count
+
+  abbrev pub controls_by : TcpServer T W → Aside
+  controls_by s = aside_of s.controls

@@ -1,7 +1,11 @@
 //! Where terminals' connections come from, and where they go.
 
 ghost use Rattle.std.specs.Prelude.{◌≡◌, ◌++◌, [], ◌∷◌, false};
-ghost use Rattle.acq_tcp.specs.Terminals.{connection_of, ended_at, given_at, stopped_at};
+ghost use Rattle.acq_controls.specs.Aside.{Aside, aside_of};
+ghost use Rattle.acq_controls.specs.Following.{ControlsFollow, Stays};
+ghost use Rattle.acq_controls.proofs.Staying.{past_group, past_untold};
+ghost use Rattle.acq_tcp.specs.Terminals.{connection_of, controls_at, ended_at, given_at};
+ghost use Rattle.acq_tcp.specs.Terminals.{stopped_at};
 
 use crate::had::Given;
 use crate::log_target::LogTarget;
@@ -10,11 +14,12 @@ use crate::round_time::RoundTime;
 use crate::tcp_server::TcpServer;
 use crate::terminal_talk::{TerminalPlace, TerminalTalk};
 use acq_book::{Book, BookFault};
+use acq_controls::Controls;
 use acq_front::{Clock, FrontFault, StreamLine};
 use acq_host::Host;
 use acq_link::Sink;
 use acq_rounds::{Gate, Last, Past, Talk};
-use mio::net::TcpStream;
+use mio::net::{TcpStream, UnixStream};
 use std::alloc::Global;
 use std::fs::Files;
 use std::time;
@@ -24,18 +29,20 @@ use std::time;
 pub(crate) struct Arrivals<'s, 'r, 'a, T, W, F> {
     places: OpenPlaces<'s, 'r, 'a, T, W, F>,
     time: &'r RoundTime,
+    controls: Controls<UnixStream>,
     past: Past,
     /// How many came.
     given: u64,
     has_stopped: bool,
 }
 
-/// What is known behind the last of them: what they have had, how many came, and whether the system
-/// couldn't be waited for.
+/// What is known behind the last of them: what they have had, how many came, what control
+/// connections have had, and whether the system couldn't be waited for.
 #[derive(Drop)]
 pub(crate) struct Departed {
     pub(crate) past: Past,
     pub(crate) given: Given,
+    pub(crate) controls: Controls<UnixStream>,
     pub(crate) has_failed: bool,
 }
 
@@ -53,14 +60,17 @@ impl<'s, 'r, 'a, T: time::Clock + Files, W: LogTarget + Drop, F: Sink> Arrivals<
         server: &'s mut TcpServer<'a, T, W>,
         faults: &'s mut F,
         time: &'r RoundTime,
+        controls: Controls<UnixStream>,
         count: u64,
     ) -> Arrivals<'s, 'r, 'a, T, W, F>
         ensures ended { ended_at result ≡ [] }
         ensures given { given_at result ≡ 0 }
+        ensures controls { controls_at result ≡ aside_of controls }
     {
         Arrivals {
             places: OpenPlaces::new(alloc, server, faults, time, count),
             time,
+            controls,
             past: Past::new(),
             given: 0,
             has_stopped: false,
@@ -71,18 +81,21 @@ impl<'s, 'r, 'a, T: time::Clock + Files, W: LogTarget + Drop, F: Sink> Arrivals<
     pub(crate) fn end(self) -> Departed
         ensures ended { result.past.list ≡ ended_at self.entry }
         ensures given { result.given.number ≡ given_at self.entry }
+        ensures controls { Stays (controls_at self.entry) (aside_of result.controls) }
     {
         let Arrivals {
             mut places,
             time: _,
+            mut controls,
             past,
             given,
             has_stopped: _,
         } = self;
-        places.end();
+        places.end(&mut controls);
         Departed {
             past,
             given: Given { number: given },
+            controls,
             has_failed: places.has_failed(),
         }
     }
@@ -97,6 +110,16 @@ impl<'s, 'r, 'a, T: time::Clock + Files, W: LogTarget + Drop, F: Sink> Gate<
     ghost given = { given_at };
 
     ghost has_stopped = { stopped_at };
+
+    ghost aside = { Aside };
+
+    ghost others = { controls_at };
+
+    ghost follow = { ControlsFollow };
+
+    ghost past_group = { past_group };
+
+    ghost past_untold = { past_untold };
 
     fn wait(&mut self, has_already: bool) -> bool {
         let goes_on = self.places.wait(has_already);
@@ -123,7 +146,7 @@ impl<'s, 'r, 'a, T: time::Clock + Files, W: LogTarget + Drop, F: Sink> Gate<
         host: &mut Host<B>,
         clock: &mut C,
     ) -> Result<(), BookFault> {
-        self.places.between(alloc, host, clock)
+        self.places.between(alloc, &mut self.controls, host, clock)
     }
 
     fn looks(&mut self) -> bool {
@@ -140,6 +163,7 @@ impl<'s, 'r, 'a, T: time::Clock + Files, W: LogTarget + Drop, F: Sink> Gate<
 
     fn part(&mut self, place: TerminalPlace<'r>)
         ensures given { given_at self.new ≡ given_at self.old }
+        ensures others { controls_at self.new ≡ controls_at self.old }
         ensures stopped { stopped_at self.new ≡ stopped_at self.old }
         ensures ended { ended_at self.new ≡ ended_at self.old ++ connection_of place.entry ∷ [] }
     {

@@ -1,26 +1,30 @@
 //! Control connections that are served beside those of terminals.
 
 ghost use Rattle.std.specs.Prelude.{◌≡◌, ℕ, IfErr, OnOk};
+ghost use Rattle.acq_controls.specs.Aside.{aside_of};
+ghost use Rattle.acq_controls.specs.Following.{ControlsFollow, Stays};
 ghost use Rattle.acq_faults.specs.Faults.{IsOfListening};
 ghost use Rattle.acq_front.specs.Stops.{left_of};
 ghost use Rattle.acq_rounds.specs.Reaching.{ReachesBy};
+ghost use Rattle.acq_rounds.specs.Runs.{OthersGoOn};
 ghost use Rattle.acq_rounds.specs.Taking.{TellsFault};
 ghost use Rattle.acq_tcp.specs.Rounds.{going_on};
 
+use crate::control_time::ControlTime;
 use crate::ending::Ending;
 use crate::journal::Journal;
 use crate::line_word::line_word;
 use crate::log_target::LogTarget;
 use crate::open_control::OpenControl;
-use crate::places::Places;
 use crate::tcp_connections::PAUSE;
 use crate::time_limits::{TimeLimits, left_of, shorter};
 use acq_book::{Book, BookFault};
+use acq_controls::Controls;
 use acq_faults::{Fault, end_connection};
 use acq_front::{Clock, FrontFault};
 use acq_host::Host;
 use acq_link::Sink;
-use mio::net::UnixListener;
+use mio::net::{UnixListener, UnixStream};
 use mio::{Interest, Registry, Token};
 use std::alloc::Global;
 use std::io::{self, ErrorKind};
@@ -30,7 +34,8 @@ use std::time::{Duration, Instant};
 /// How many control connections are served at once.
 pub(crate) const CONTROLS: usize = 8;
 
-/// Control connections that come in at a socket's file and are served at once, each in its turn.
+/// Control connections that come in at a socket's file and are served at once, each in its turn. What
+/// passes over them is in `Controls`, in the same places.
 #[derive(Drop)]
 pub(crate) struct ControlServer {
     listener: UnixListener,
@@ -88,10 +93,18 @@ impl ControlServer {
     }
 
     /// Whether one is about to ask for figures.
-    pub(crate) fn asks_figures(&self) -> bool {
-        self.places
-            .iter()
-            .any(|place| place.as_ref().is_some_and(asks_figures))
+    pub(crate) fn asks_figures(&self, controls: &Controls<UnixStream>) -> bool {
+        for (at, place) in self.places.iter().enumerate() {
+            if let Some(connection) = place {
+                if connection.is_ready()
+                    && !connection.is_answering()
+                    && matches!(next_word(controls, at), "status" | "metrics")
+                {
+                    return true;
+                }
+            }
+        }
+        false
     }
 
     /// How much is left of the pause behind a connection that couldn't be had: nothing, where one
@@ -106,17 +119,22 @@ impl ControlServer {
     /// Cuts off those that are there, since the host ends.
     pub(crate) fn cut_off<T: time::Clock, W: LogTarget, F: Sink>(
         &mut self,
+        controls: &mut Controls<UnixStream>,
         journal: &mut Journal<'_, T, W>,
         faults: &mut F,
-    ) {
+    )
+        ensures stays { Stays (aside_of controls.old) (aside_of controls.new) }
+    {
         for place in 0..self.places.len() {
-            if let Some(taken) = self.places.get_mut(place) {
-                if let Some(connection) = taken.take() {
-                    let ended = Err(connection.cut_off());
-                    journal.closed(connection.name(), &ended, Ending::Stopped);
-                    let _ = end_connection(ended, faults);
-                }
+            let Some(taken) = self.places.get_mut(place) else {
+                return;
+            };
+            if let Some(connection) = taken.take() {
+                let ended = Err(cut_off(controls, place));
+                journal.closed(connection.name(), &ended, Ending::Stopped);
+                let _ = end_connection(ended, faults);
             }
+            controls.part(place);
         }
     }
 
@@ -124,19 +142,22 @@ impl ControlServer {
     /// and tried again after a pause.
     pub(crate) fn admit<T: time::Clock, W: LogTarget, F: Sink>(
         &mut self,
-        alloc: Global,
+        controls: &mut Controls<UnixStream>,
         registry: &Registry,
         journal: &mut Journal<'_, T, W>,
         now: Option<Instant>,
         faults: &mut F,
-    ) {
+    )
+        ensures stays { Stays (aside_of controls.old) (aside_of controls.new) }
+    {
         for place in 0..self.places.len() {
             if !self.may_come || !self.pause_left(now).is_zero() {
                 return;
             }
             if let Some(None) = self.places.get(place) {
                 self.refused = None;
-                if self.fill(alloc, registry, journal, place, now).is_err() {
+                let filled = self.fill(controls, registry, journal, place, now);
+                if filled.is_err() {
                     self.refused = now;
                     let _ = end_connection(Err(FrontFault::Read), faults);
                 }
@@ -147,12 +168,14 @@ impl ControlServer {
     /// Gives a place to the next connection that came, if one did.
     fn fill<T: time::Clock, W: LogTarget>(
         &mut self,
-        alloc: Global,
+        controls: &mut Controls<UnixStream>,
         registry: &Registry,
         journal: &mut Journal<'_, T, W>,
         place: usize,
         now: Option<Instant>,
-    ) -> io::Result<()> {
+    ) -> io::Result<()>
+        ensures stays { Stays (aside_of controls.old) (aside_of controls.new) }
+    {
         let mut stream = match self.listener.accept() {
             Ok((stream, _)) => stream,
             Err(fault) if fault.kind() == ErrorKind::WouldBlock => {
@@ -166,8 +189,10 @@ impl ControlServer {
             Token(self.first.saturating_add(place)),
             Interest::READABLE | Interest::WRITABLE,
         )?;
-        if let Some(empty) = self.places.get_mut(place) {
-            *empty = Some(OpenControl::new(alloc, journal.control(), stream, now));
+        if controls.admit(place, stream) {
+            if let Some(empty) = self.places.get_mut(place) {
+                *empty = Some(OpenControl::new(journal.control(), now));
+            }
         }
         Ok(())
     }
@@ -197,20 +222,20 @@ impl ControlServer {
         longest
     }
 
-    /// Gives each connection that is ready a round, while so many places of terminals are free.
+    /// Gives each connection that is ready a round.
     pub(crate) fn give_rounds<B: Book + Drop, C: Clock, T: time::Clock, W: LogTarget, F: Sink>(
         &mut self,
-        alloc: Global,
+        controls: &mut Controls<UnixStream>,
         host: &mut Host<B>,
         clock: &mut C,
         journal: &mut Journal<'_, T, W>,
-        places: Places,
-        now: Option<Instant>,
-        limits: TimeLimits,
+        time: ControlTime,
         faults: &mut F,
     ) -> Result<(), BookFault>
         ensures reaches { B.is_honest host.new → B.is_open host.old
-            → ReachesBy (B.tables host.old) (left_of B.Book host.new) result }
+            → ReachesBy (B.tables host.old) (left_of B.Book host.new)
+            (OthersGoOn ControlsFollow (B.tables host.old)
+            (aside_of controls.old) (aside_of controls.new)) result }
         ensures stays_open { B.is_honest host.new → B.is_open host.old
             → OnOk result (B.is_open host.new) }
         ensures was_honest { B.is_honest host.new → B.is_honest host.old }
@@ -219,55 +244,58 @@ impl ControlServer {
             (B.is_honest host.new → B.is_open host.old → ⊥) }
     {
         for place in 0..self.places.len() {
-            let (place, stopped) = (&mut self.places[place], &mut self.has_stopped);
-            give_round(
-                place, stopped, alloc, host, clock, journal, places, now, limits, faults,
-            )?;
+            self.give_round(controls, place, host, clock, journal, time, faults)?;
         }
         Ok(())
     }
-}
 
-/// Gives the connection in a place a round, notes whether it asked that the host ends, and frees
-/// the place at its end.
-fn give_round<B: Book + Drop, C: Clock, T: time::Clock, W: LogTarget, F: Sink>(
-    place: &mut Option<OpenControl>,
-    stopped: &mut bool,
-    alloc: Global,
-    host: &mut Host<B>,
-    clock: &mut C,
-    journal: &mut Journal<'_, T, W>,
-    places: Places,
-    now: Option<Instant>,
-    limits: TimeLimits,
-    faults: &mut F,
-) -> Result<(), BookFault>
-    ensures reaches { B.is_honest host.new → B.is_open host.old
-        → ReachesBy (B.tables host.old) (left_of B.Book host.new) result }
-    ensures stays_open { B.is_honest host.new → B.is_open host.old
-        → OnOk result (B.is_open host.new) }
-    ensures was_honest { B.is_honest host.new → B.is_honest host.old }
-    ensures given_later { (m : ℕ) → C.may_give clock.new m → C.may_give clock.old m }
-    ensures store { TellsFault result (B.failures host.old) (B.failures host.new)
-        (B.is_honest host.new → B.is_open host.old → ⊥) }
-{
-    let Some(connection) = place else {
-        return Ok(());
-    };
-    let next = NextLine::of(connection, journal);
-    let serving = journal.serving(places, now);
-    let ended = connection.give_round(alloc, host, clock, serving, now, limits);
-    next.note(connection, journal);
-    *stopped = *stopped || connection.has_stopped();
-    if connection.take_reopening() && !journal.reopen() {
-        let _ = end_connection(Err(FrontFault::Read), faults);
+    /// Gives the connection in a place a round, notes whether it asked that the host ends, and frees
+    /// the place at its end.
+    fn give_round<B: Book + Drop, C: Clock, T: time::Clock, W: LogTarget, F: Sink>(
+        &mut self,
+        controls: &mut Controls<UnixStream>,
+        place: usize,
+        host: &mut Host<B>,
+        clock: &mut C,
+        journal: &mut Journal<'_, T, W>,
+        time: ControlTime,
+        faults: &mut F,
+    ) -> Result<(), BookFault>
+        ensures reaches { B.is_honest host.new → B.is_open host.old
+            → ReachesBy (B.tables host.old) (left_of B.Book host.new)
+            (OthersGoOn ControlsFollow (B.tables host.old)
+            (aside_of controls.old) (aside_of controls.new)) result }
+        ensures stays_open { B.is_honest host.new → B.is_open host.old
+            → OnOk result (B.is_open host.new) }
+        ensures was_honest { B.is_honest host.new → B.is_honest host.old }
+        ensures given_later { (m : ℕ) → C.may_give clock.new m → C.may_give clock.old m }
+        ensures store { TellsFault result (B.failures host.old) (B.failures host.new)
+            (B.is_honest host.new → B.is_open host.old → ⊥) }
+    {
+        let Some(Some(connection)) = self.places.get_mut(place) else {
+            return Ok(());
+        };
+        let next = NextLine::of(connection, controls, place, journal);
+        let serving = journal.serving(time.places, time.now);
+        let ended = connection.give_round(controls, place, host, clock, serving, time);
+        next.note(connection, controls, place, journal);
+        self.has_stopped = self.has_stopped || connection.has_stopped();
+        if connection.take_reopening() && !journal.reopen() {
+            let _ = end_connection(Err(FrontFault::Read), faults);
+        }
+        let Some(ended) = ended else {
+            return Ok(());
+        };
+        journal.closed(connection.name(), &ended, ending_of(connection));
+        controls.part(place);
+        self.free(place);
+        end_control(ended, faults)
     }
-    match ended {
-        None => Ok(()),
-        Some(ended) => {
-            journal.closed(connection.name(), &ended, ending_of(connection));
-            *place = None;
-            end_control(ended, faults)
+
+    /// The connection in a place ended.
+    fn free(&mut self, place: usize) {
+        if let Some(taken) = self.places.get_mut(place) {
+            *taken = None;
         }
     }
 }
@@ -296,11 +324,21 @@ fn ending_of(connection: &OpenControl) -> Ending {
     }
 }
 
-/// Whether a connection is about to ask for figures.
-fn asks_figures(connection: &OpenControl) -> bool {
-    connection.is_ready()
-        && !connection.is_answering()
-        && matches!(line_word(connection.front()), "status" | "metrics")
+/// The word that the line begins with which the connection in a place may take next.
+fn next_word(controls: &Controls<UnixStream>, place: usize) -> &'static str {
+    match controls.in_place(place) {
+        Some(exchange) => line_word(exchange.front()),
+        None => line_word(&[]),
+    }
+}
+
+/// What it is that the host cuts off the connection in a place: an answer wasn't written whole, or
+/// it was read in vain.
+fn cut_off(controls: &Controls<UnixStream>, place: usize) -> FrontFault {
+    match controls.in_place(place) {
+        Some(exchange) if exchange.is_answering() => FrontFault::Write(exchange.gone() as u64),
+        _ => FrontFault::Read,
+    }
 }
 
 /// The line that a connection may take in a round.
@@ -315,10 +353,17 @@ impl NextLine {
     /// That of a round that begins now.
     fn of<T: time::Clock, W: LogTarget>(
         connection: &OpenControl,
+        controls: &Controls<UnixStream>,
+        place: usize,
         journal: &Journal<'_, T, W>,
     ) -> NextLine {
+        let word = if connection.is_answering() {
+            None
+        } else {
+            Some(next_word(controls, place))
+        };
         NextLine {
-            word: (!connection.is_answering()).then(|| line_word(connection.front())),
+            word,
             began: journal.time_for_log(),
         }
     }
@@ -327,12 +372,13 @@ impl NextLine {
     fn note<T: time::Clock, W: LogTarget>(
         &self,
         connection: &OpenControl,
+        controls: &Controls<UnixStream>,
+        place: usize,
         journal: &mut Journal<'_, T, W>,
     ) {
-        if let Some(word) = self.word {
-            if connection.is_answering() {
-                let answer = connection.unsent();
-                journal.answered(connection.name(), word, answer, self.began);
+        if let (Some(word), Some(exchange)) = (self.word, controls.in_place(place)) {
+            if exchange.is_answering() {
+                journal.answered(connection.name(), word, exchange.unsent(), self.began);
             }
         }
     }

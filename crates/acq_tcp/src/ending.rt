@@ -7,6 +7,8 @@ pub(crate) enum Ending {
     Own,
     /// It took too long.
     Late,
+    /// It made room for another one.
+    MadeRoom,
     /// The host ended.
     Stopped,
 }

@@ -9,6 +9,7 @@ use crate::line_rate::LineRate;
 use crate::log_line::LogLine;
 use crate::log_target::LogTarget;
 use crate::log_time::{LogTime, second_of};
+use crate::refusal::Refusal;
 use acq_front::{FrontFault, Silence, Unanswered};
 use card_no::CardNumber;
 use day_totals::Day;
@@ -124,13 +125,41 @@ impl<W: LogTarget> HostLog<W> {
         fault: Option<FrontFault>,
         ending: Ending,
     ) {
-        if fault.is_some_and(is_of_frame) && !self.refused.admits(second_of(clock)) {
+        let made_room = ending == Ending::MadeRoom;
+        let is_bounded = made_room || fault.is_some_and(is_of_frame);
+        if is_bounded && !self.refused.admits(second_of(clock)) {
             return;
         }
         self.begin_line(clock, "closed");
         self.put_connection(name);
         if let Some(fault) = fault {
             self.put_fault(fault, name, ending);
+        } else if made_room {
+            self.line.put("reason", b"it made room for another one");
+        }
+        self.end_line();
+    }
+
+    /// A connection that came from there isn't served, for this reason; where it has no header this
+    /// is how it begins.
+    pub(crate) fn refused<T: time::Clock>(
+        &mut self,
+        clock: &T,
+        address: SocketAddr,
+        refusal: Refusal,
+        first: FirstBytes,
+    ) {
+        if !self.refused.admits(second_of(clock)) {
+            return;
+        }
+        self.begin_line(clock, "refused");
+        self.put_address("peer", address);
+        if let Some(number) = refusal.number() {
+            self.line.put_number("fault", number);
+        }
+        self.line.put("reason", refusal.words().as_bytes());
+        if refusal == Refusal::NoHeader && !first.text().is_empty() {
+            self.line.put("first", first.text());
         }
         self.end_line();
     }

@@ -6,12 +6,14 @@ ghost use Rattle.acq_reports.specs.Faults.{CountsStore, is_settled};
 use crate::book_files::BookSizes;
 use crate::connection_name::ConnectionName;
 use crate::ending::Ending;
+use crate::first_bytes::FirstBytes;
 use crate::first_seen::FirstSeen;
 use crate::frame_head::FrameHead;
 use crate::held_reply::HeldReply;
 use crate::host_log::HostLog;
 use crate::log_target::LogTarget;
 use crate::places::Places;
+use crate::refusal::Refusal;
 use crate::serving_counts::ServingCounts;
 use acq_book::Book;
 use acq_control::FirstWaiting;
@@ -169,6 +171,14 @@ impl<'a, T: time::Clock, W: LogTarget> Journal<'a, T, W> {
             log.opened(self.time, name);
         }
         name
+    }
+
+    /// A connection that came from there isn't served, for this reason; where it has no header this
+    /// is how it begins.
+    pub(crate) fn refused(&mut self, address: SocketAddr, refusal: Refusal, first: FirstBytes) {
+        if let Some(log) = &mut self.log {
+            log.refused(self.time, address, refusal, first);
+        }
     }
 
     /// A connection ended so.

@@ -1,14 +1,17 @@
 //! Connections to a host over TCP: [`TcpConnections`] come one after the other, each waiting for
 //! its bytes; the connections of a [`TcpServer`] are served at once, none of them waiting, in the
 //! rounds of the crate `acq_rounds`. How long one may be silent, and take for a frame, is bounded
-//! in both. Beside those of a server control connections may come over a Unix socket. What it
-//! serves it counts, and tells a [`HostLog`].
+//! in both; where all places of a server are taken, those that sold nothing make room first, and
+//! each of its connections may begin with the header of a proxy. Beside them control connections
+//! may come over a Unix socket. What it serves it counts, and tells a [`HostLog`].
 #![tactic(auto)]
 
+mod addresses;
 mod arrivals;
 mod book_files;
 mod connection_name;
 mod control_server;
+mod control_time;
 mod ending;
 mod first_bytes;
 mod first_seen;
@@ -26,14 +29,18 @@ mod log_line;
 mod log_target;
 mod log_time;
 mod look;
+mod newcomer;
+mod newcomers;
 mod open_control;
 mod open_places;
 mod parted;
 mod parting;
 mod patient_stream;
 mod places;
+mod refusal;
 mod round_time;
 mod serving_counts;
+mod standing;
 mod tcp_connections;
 mod tcp_server;
 mod terminal_talk;

@@ -1,12 +1,15 @@
 //! What listens for connections that are served at once.
 
-ghost use Rattle.std.specs.Prelude.{IfErr};
+ghost use Rattle.std.specs.Prelude.{IfErr, IfOk};
+ghost use Rattle.acq_controls.specs.Aside.{aside_of};
+ghost use Rattle.acq_controls.specs.Following.{HadNone};
 ghost use Rattle.acq_faults.specs.Faults.{IsOfListening};
 
 use crate::book_files::BookFiles;
 use crate::control_server::{CONTROLS, ControlServer};
+use acq_controls::Controls;
 use acq_faults::{Fault, ListenOptions};
-use mio::net::{TcpListener, UnixListener};
+use mio::net::{TcpListener, UnixListener, UnixStream};
 use mio::{Events, Interest, Poll, Token};
 use std::alloc::Global;
 use std::fs::Files;
@@ -34,6 +37,7 @@ pub(crate) struct Listening {
     /// Room for the numbers of the connections that one wait may wake.
     pub(crate) woken: Vec<u64>,
     pub(crate) control: Option<ControlServer>,
+    pub(crate) controls: Controls<UnixStream>,
     pub(crate) book_files: BookFiles,
 }
 
@@ -46,12 +50,16 @@ impl Listening {
         asked: &ListenOptions,
         control: Option<UnixListener>,
     ) -> Result<Listening, Fault>
-        ensures { IfErr result IsOfListening }
+        ensures fault { IfErr result IsOfListening }
+        ensures none_came { IfOk result (λ it. HadNone (aside_of it.controls)) }
     {
         let at_once = asked.together.saturating_add(FIRST_TERMINAL);
         let book_files = BookFiles::at(files, alloc, asked.path.as_str())?;
         let events = Events::with_capacity(alloc, at_once)?;
         let woken = Vec::with_capacity(alloc, at_once)?;
+        let Ok(controls) = Controls::new(alloc, CONTROLS) else {
+            return Err(Fault::Memory);
+        };
         let Ok((listener, poll)) = listener_at(net, asked.endpoint) else {
             return Err(Fault::Read);
         };
@@ -62,6 +70,7 @@ impl Listening {
                 events,
                 woken,
                 control,
+                controls,
                 book_files,
             }),
             Err(fault) => Err(fault),

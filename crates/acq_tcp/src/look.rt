@@ -1,5 +1,7 @@
 //! When the open connections are looked at.
 
+use crate::ending::Ending;
+use crate::standing::Standing;
 use crate::terminal_talk::TerminalPlace;
 use crate::time_limits::{TimeLimits, between, deadline, earlier, has_come};
 use std::time::{Duration, Instant};
@@ -10,10 +12,12 @@ pub(crate) struct Look {
     limits: TimeLimits,
     /// Before then none of them can have taken too long.
     next: Option<Instant>,
-    /// The one that has been silent the longest, and since when.
-    longest_silent: Option<(u64, Instant)>,
-    /// The one that makes room in this look, unless it was silent no longer.
-    leaves: Option<(u64, Instant)>,
+    /// Since when others have waited for a place without a break, if one waits.
+    wanted: Option<Instant>,
+    /// The one that makes room before the others, and how it stood.
+    first: Option<(u64, Standing)>,
+    /// The one that makes room in this look, unless it stands otherwise by now.
+    leaves: Option<(u64, Standing)>,
 }
 
 impl Look {
@@ -22,9 +26,28 @@ impl Look {
         Look {
             limits,
             next: None,
-            longest_silent: None,
+            wanted: None,
+            first: None,
             leaves: None,
         }
+    }
+
+    /// One waits for a place now.
+    pub(crate) fn one_waits(&mut self, now: Option<Instant>) {
+        if self.wanted.is_none() {
+            self.wanted = now;
+        }
+    }
+
+    /// Nobody waits.
+    pub(crate) fn nobody_waits(&mut self) {
+        self.wanted = None;
+        self.first = None;
+    }
+
+    /// Since when others have waited without a break.
+    pub(crate) fn wanted(&self) -> Option<Instant> {
+        self.wanted
     }
 
     /// Whether one of them may have taken too long by now.
@@ -43,24 +66,24 @@ impl Look {
         }
     }
 
-    /// How long it is until one has to make room, where one is silent.
+    /// How long it is until one has to make room, where one may.
     pub(crate) fn room_left(&self, now: Option<Instant>) -> Option<Duration> {
         between(now, self.room_at())
     }
 
-    /// When the one that has been silent the longest has to make room for one that waits.
+    /// When the first one has to make room for one that waits.
     fn room_at(&self) -> Option<Instant> {
-        let (_, since) = self.longest_silent?;
-        deadline(self.limits.idle_when_full, Some(since))
+        let (_, standing) = self.first?;
+        standing.room_at(self.limits.idle, self.wanted)
     }
 
     /// Begins a look, in which one of them makes room if one waits and no place is free.
     pub(crate) fn begin(&mut self, now: Option<Instant>, wants_room: bool) {
         self.leaves = None;
         if wants_room && has_come(self.room_at(), now) {
-            self.leaves = self.longest_silent;
+            self.leaves = self.first;
         }
-        self.longest_silent = None;
+        self.first = None;
         // Whatever begins from now on can't take too long before then.
         self.next = deadline(self.limits.shortest(), now);
     }
@@ -70,34 +93,36 @@ impl Look {
         self.leaves = None;
     }
 
-    /// Looks at a connection that is open: whether it has taken too long, or makes room.
-    pub(crate) fn is_late(&mut self, place: &TerminalPlace<'_>, now: Option<Instant>) -> bool {
-        let since = place.talk().last_moved();
+    /// Looks at a connection that is open, and returns what ends it, if something does: it has
+    /// taken too long, or makes room.
+    pub(crate) fn ends(
+        &mut self,
+        place: &TerminalPlace<'_>,
+        now: Option<Instant>,
+    ) -> Option<Ending> {
         let by = place.talk().deadline(self.limits);
-        if !place.is_awake() {
-            if has_come(by, now) {
-                self.leaves = None;
-                return true;
-            }
-            if let Some(since) = since {
-                if self.leaves == Some((place.number(), since)) {
-                    self.leaves = None;
-                    return true;
-                }
-                self.saw_silent(place.number(), since);
-            }
+        if !place.is_awake() && has_come(by, now) {
+            self.leaves = None;
+            return Some(Ending::Late);
         }
+        let seen = (place.number(), place.talk().standing());
+        if self.leaves == Some(seen) {
+            self.leaves = None;
+            return Some(Ending::MadeRoom);
+        }
+        self.saw(seen);
         self.next = earlier(self.next, by);
-        false
+        None
     }
 
-    /// One has been silent since then.
-    fn saw_silent(&mut self, number: u64, since: Instant) {
-        let is_longest = self
-            .longest_silent
-            .is_none_or(|(_, longest)| since < longest);
-        if is_longest {
-            self.longest_silent = Some((number, since));
+    /// One stands so.
+    fn saw(&mut self, seen: (u64, Standing)) {
+        let is_first = match &self.first {
+            Some((_, first)) => seen.1.is_before(first),
+            None => true,
+        };
+        if is_first {
+            self.first = Some(seen);
         }
     }
 }

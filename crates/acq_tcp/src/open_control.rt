@@ -1,30 +1,36 @@
 //! A control connection among others.
 
 ghost use Rattle.std.specs.Prelude.{ℕ};
+ghost use Rattle.acq_controls.specs.Aside.{aside_of};
+ghost use Rattle.acq_controls.specs.Following.{ControlsFollow};
+ghost use Rattle.acq_controls.specs.Going.{ReachesIf, TellsIf, UnlessRefused};
 ghost use Rattle.acq_front.specs.Stops.{left_of};
-ghost use Rattle.acq_tcp.specs.Rounds.{IsNotStores, RoundReaches, RoundTells, UnlessRefused};
+ghost use Rattle.acq_rounds.specs.Runs.{OthersGoOn};
+ghost use Rattle.acq_tcp.specs.Rounds.{IsNotStores};
 
 use crate::connection_name::ConnectionName;
+use crate::control_time::ControlTime;
 use crate::time_limits::{TimeLimits, left_of};
 use acq_book::Book;
-use acq_control::{ControlExchange, ControlRound, Wish};
-use acq_front::{Clock, FrontFault, StreamLine};
+use acq_control::{ControlRound, Wish};
+use acq_controls::Controls;
+use acq_front::{Clock, FrontFault};
 use acq_host::Host;
 use acq_status::Serving;
 use mio::net::UnixStream;
-use std::alloc::Global;
 use std::mem;
 use std::time::{Duration, Instant};
 
-/// A control connection among others.
+/// A control connection among others: what is known of it beside what passes over it.
 #[derive(Drop)]
 pub(crate) struct OpenControl {
     name: ConnectionName,
-    exchange: ControlExchange<StreamLine<UnixStream>>,
     /// Whether a round may find something to do.
     is_ready: bool,
     /// When something last happened.
     last_moved: Option<Instant>,
+    /// Whether something that was said is still to be written.
+    is_answering: bool,
     /// Whether it asked that the host ends.
     has_stopped: bool,
     /// Whether it asked that the log is opened anew, which wasn't done yet.
@@ -33,17 +39,12 @@ pub(crate) struct OpenControl {
 
 impl OpenControl {
     /// A connection of this name that came at this time, where the time is known.
-    pub(crate) fn new(
-        alloc: Global,
-        name: ConnectionName,
-        stream: UnixStream,
-        now: Option<Instant>,
-    ) -> OpenControl {
+    pub(crate) fn new(name: ConnectionName, now: Option<Instant>) -> OpenControl {
         OpenControl {
             name,
-            exchange: ControlExchange::new(alloc, StreamLine::new(stream)),
             is_ready: true,
             last_moved: now,
+            is_answering: false,
             has_stopped: false,
             reopens: false,
         }
@@ -54,17 +55,6 @@ impl OpenControl {
         self.name
     }
 
-    /// What it keeps of the line that is taken next, from its beginning on: nothing where the line
-    /// is too long.
-    pub(crate) fn front(&self) -> &[u8] {
-        self.exchange.front()
-    }
-
-    /// What of an answer is still to be written.
-    pub(crate) fn unsent(&self) -> &[u8] {
-        self.exchange.unsent()
-    }
-
     /// Whether it asked that the host ends.
     pub(crate) fn has_stopped(&self) -> bool {
         self.has_stopped
@@ -73,16 +63,6 @@ impl OpenControl {
     /// Whether it asked that the log is opened anew; from now on that was done.
     pub(crate) fn take_reopening(&mut self) -> bool {
         mem::take(&mut self.reopens)
-    }
-
-    /// What it is that the host cuts it off: an answer wasn't written whole, or it was read in
-    /// vain.
-    pub(crate) fn cut_off(&self) -> FrontFault {
-        if self.is_answering() {
-            FrontFault::Write(self.exchange.gone() as u64)
-        } else {
-            FrontFault::Read
-        }
     }
 
     /// Whether a round may find something to do.
@@ -97,7 +77,7 @@ impl OpenControl {
 
     /// Whether something that was said is still to be written.
     pub(crate) fn is_answering(&self) -> bool {
-        self.exchange.is_answering()
+        self.is_answering
     }
 
     /// For how long it may stay as it is; `None` is for ever.
@@ -105,44 +85,51 @@ impl OpenControl {
         limits.idle.map(|idle| left_of(idle, self.last_moved, now))
     }
 
-    /// Gives it a round, if it is ready, while so much is served, and returns how it ended, if it
-    /// did. One that is silent too long ended with a failed read.
+    /// Gives it a round in its place, if it is ready, while so much is served, and returns how it
+    /// ended, if it did. One that is silent too long ended with a failed read.
     pub(crate) fn give_round<B: Book + Drop, C: Clock>(
         &mut self,
-        alloc: Global,
+        controls: &mut Controls<UnixStream>,
+        place: usize,
         host: &mut Host<B>,
         clock: &mut C,
         serving: Serving,
-        now: Option<Instant>,
-        limits: TimeLimits,
+        time: ControlTime,
     ) -> Option<Result<(), FrontFault>>
         ensures reaches { B.is_honest host.new → B.is_open host.old
-            → RoundReaches (B.tables host.old) (left_of B.Book host.new) result }
+            → ReachesIf (B.tables host.old) (left_of B.Book host.new)
+            (OthersGoOn ControlsFollow (B.tables host.old)
+            (aside_of controls.old) (aside_of controls.new)) result }
         ensures stays_open { B.is_honest host.new → B.is_open host.old
             → UnlessRefused result (B.is_open host.new) }
         ensures was_honest { B.is_honest host.new → B.is_honest host.old }
         ensures given_later { (m : ℕ) → C.may_give clock.new m → C.may_give clock.old m }
-        ensures store { RoundTells result (B.failures host.old) (B.failures host.new)
+        ensures store { TellsIf result (B.failures host.old) (B.failures host.new)
             (B.is_honest host.new → B.is_open host.old → ⊥) }
     {
         if !self.is_ready {
-            return self.end_late(now, limits);
+            return self.end_late(time);
         }
-        match self.exchange.round(alloc, host, clock, serving) {
-            Ok(ControlRound::GoesOn) => {
-                self.last_moved = now;
+        let went = controls.round(place, host, clock, serving);
+        self.is_answering = match controls.in_place(place) {
+            Some(exchange) => exchange.is_answering(),
+            None => false,
+        };
+        match went {
+            Some(Ok(ControlRound::GoesOn)) => {
+                self.last_moved = time.now;
                 None
             }
-            Ok(ControlRound::Took(wish)) => {
-                self.took(wish, now);
+            Some(Ok(ControlRound::Took(wish))) => {
+                self.took(wish, time.now);
                 None
             }
-            Ok(ControlRound::Waits) => {
+            Some(Ok(ControlRound::Waits)) => {
                 self.is_ready = false;
-                self.end_late(now, limits)
+                self.end_late(time)
             }
-            Ok(ControlRound::Ended) => Some(Ok(())),
-            Err(fault) => Some(Err(fault)),
+            Some(Ok(ControlRound::Ended)) | None => Some(Ok(())),
+            Some(Err(fault)) => Some(Err(fault)),
         }
     }
 
@@ -157,11 +144,11 @@ impl OpenControl {
     }
 
     /// How it ended, if it was silent too long.
-    fn end_late(&self, now: Option<Instant>, limits: TimeLimits) -> Option<Result<(), FrontFault>>
+    fn end_late(&self, time: ControlTime) -> Option<Result<(), FrontFault>>
         ensures { IsNotStores result }
     {
         let is_late = self
-            .time_left(now, limits)
+            .time_left(time.now, time.limits)
             .is_some_and(|left| left.is_zero());
         if is_late {
             Some(Err(FrontFault::Read))

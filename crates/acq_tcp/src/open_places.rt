@@ -1,31 +1,41 @@
 //! The places of terminals, while they are served.
 
 ghost use Rattle.std.specs.Prelude.{ℕ, OnOk};
+ghost use Rattle.acq_controls.specs.Aside.{aside_of};
+ghost use Rattle.acq_controls.specs.Following.{ControlsFollow, Stays};
 ghost use Rattle.acq_front.specs.Stops.{left_of};
 ghost use Rattle.acq_rounds.specs.Reaching.{ReachesBy};
+ghost use Rattle.acq_rounds.specs.Runs.{OthersGoOn};
 ghost use Rattle.acq_rounds.specs.Taking.{TellsFault};
 
 use crate::connection_name::ConnectionName;
+use crate::control_time::ControlTime;
 use crate::ending::Ending;
+use crate::first_bytes::FirstBytes;
 use crate::held_reply::HeldReply;
 use crate::log_target::LogTarget;
 use crate::look::Look;
+use crate::newcomer::{Heading, Newcomer};
 use crate::parted::Parted;
 use crate::parting::ends_in_bad_frame;
 use crate::places::Places;
+use crate::refusal::Refusal;
 use crate::round_time::RoundTime;
+use crate::standing::answers_terminal;
 use crate::tcp_server::TcpServer;
 use crate::terminal_talk::TerminalPlace;
 use crate::time_limits::{between, shorter};
 use acq_book::{Book, BookFault};
-use acq_faults::end_connection;
+use acq_controls::Controls;
+use acq_faults::{end_connection, write_fault_line};
 use acq_front::{Clock, FrontFault};
 use acq_host::Host;
 use acq_link::Sink;
 use acq_rounds::Talk;
-use mio::net::TcpStream;
+use mio::net::{TcpStream, UnixStream};
 use std::alloc::Global;
 use std::fs::Files;
+use std::net::SocketAddr;
 use std::time;
 use std::time::{Duration, Instant};
 
@@ -90,9 +100,11 @@ impl<'s, 'r, 'a, T: time::Clock + Files, W: LogTarget + Drop, F: Sink> OpenPlace
     }
 
     /// Cuts off the control connections, where the host ends since its time is over.
-    pub(crate) fn end(&mut self) {
+    pub(crate) fn end(&mut self, controls: &mut Controls<UnixStream>)
+        ensures stays { Stays (aside_of controls.old) (aside_of controls.new) }
+    {
         if self.is_over {
-            self.server.cut_off_controls(self.faults);
+            self.server.cut_off_controls(controls, self.faults);
         }
     }
 
@@ -103,7 +115,7 @@ impl<'s, 'r, 'a, T: time::Clock + Files, W: LogTarget + Drop, F: Sink> OpenPlace
         if self.is_over || self.is_done() {
             return false;
         }
-        let longest = if has_already || begins_to_stop {
+        let longest = if has_already || begins_to_stop || self.server.newcomers.has_ready() {
             Some(Duration::ZERO)
         } else {
             self.longest_wait()
@@ -116,6 +128,7 @@ impl<'s, 'r, 'a, T: time::Clock + Files, W: LogTarget + Drop, F: Sink> OpenPlace
         self.time.set(now);
         self.said = None;
         self.read_away(now);
+        self.end_late_newcomers(now);
         true
     }
 
@@ -136,12 +149,13 @@ impl<'s, 'r, 'a, T: time::Clock + Files, W: LogTarget + Drop, F: Sink> OpenPlace
         let begins = !self.is_stopping;
         self.is_stopping = true;
         self.left = 0;
+        self.end_newcomers();
         begins
     }
 
     /// Whether nothing is left to do.
     fn is_done(&self) -> bool {
-        self.left == 0 && self.open == 0 && self.parted.is_empty() && !self.server.is_answering()
+        self.left == 0 && self.taken() == 0 && !self.server.is_answering()
     }
 
     /// How long it may wait where no connection has something to do: until the first one may have
@@ -160,7 +174,10 @@ impl<'s, 'r, 'a, T: time::Clock + Files, W: LogTarget + Drop, F: Sink> OpenPlace
         if self.open > 0 {
             longest = shorter(longest, self.look.time_left(now));
         }
+        let newcomers = &self.server.newcomers;
+        longest = shorter(longest, newcomers.time_left(self.server.limits, now));
         if self.wants_room() {
+            longest = shorter(longest, newcomers.room_left(self.look.wanted(), now));
             longest = shorter(longest, self.look.room_left(now));
         }
         longest
@@ -168,7 +185,7 @@ impl<'s, 'r, 'a, T: time::Clock + Files, W: LogTarget + Drop, F: Sink> OpenPlace
 
     /// How long it is until a connection may be had, where more are taken and one may be there.
     fn arrival_left(&self, now: Option<Instant>) -> Option<Duration> {
-        if self.left == 0 {
+        if !self.takes_more() {
             None
         } else if self.server.waiting.is_some() {
             self.has_room().then_some(Duration::ZERO)
@@ -179,9 +196,16 @@ impl<'s, 'r, 'a, T: time::Clock + Files, W: LogTarget + Drop, F: Sink> OpenPlace
         }
     }
 
+    /// Whether one more is to be served than are there.
+    fn takes_more(&self) -> bool {
+        self.left > self.server.newcomers.len() as u64
+    }
+
     /// How many places are taken.
     fn taken(&self) -> usize {
-        self.open.saturating_add(self.parted.len())
+        self.open
+            .saturating_add(self.parted.len())
+            .saturating_add(self.server.newcomers.len())
     }
 
     /// Whether a place is free.
@@ -189,9 +213,9 @@ impl<'s, 'r, 'a, T: time::Clock + Files, W: LogTarget + Drop, F: Sink> OpenPlace
         self.taken() < self.server.places
     }
 
-    /// Whether a connection waits for a place, and none is free.
+    /// Whether a connection waits for a place that it is to have, and none is free.
     fn wants_room(&self) -> bool {
-        self.server.waiting.is_some() && !self.has_room()
+        self.left > 0 && self.server.waiting.is_some() && !self.has_room()
     }
 
     /// How many places there are, and how many are free.
@@ -225,29 +249,151 @@ impl<'s, 'r, 'a, T: time::Clock + Files, W: LogTarget + Drop, F: Sink> OpenPlace
     }
 
     /// The next connection that came, if one did: it gets this number. Where no place is free it
-    /// waits, and doesn't count yet. One that can't be had counts, and is told.
+    /// waits, and doesn't count yet; so does one whose proxy's header is to come. One that can't be
+    /// had counts, and is told.
     pub(crate) fn next(&mut self, number: u64) -> Option<(ConnectionName, TcpStream)> {
-        if self.left == 0 {
-            return None;
-        }
         let now = self.time.get();
-        let came = if self.has_room() {
-            self.server.take_in(number, now)
+        if self.takes_more() {
+            self.let_wait(now);
+            self.let_in(now);
+        }
+        let (stream, peer) = if self.server.is_proxied {
+            self.next_headed()?
         } else {
-            self.server.let_wait(now).map(|_| None)
+            self.next_waiting()?
         };
-        match came {
-            Ok(None) => None,
-            Ok(Some(next)) => {
-                self.left -= 1;
+        match self.server.take_in(number, stream, peer) {
+            Ok(next) => {
+                self.left = self.left.saturating_sub(1);
                 self.open = self.open.saturating_add(1);
+                // So the next one has room made for it in the same round.
+                if self.takes_more() {
+                    self.let_wait(now);
+                }
                 Some(next)
             }
             Err(_) => {
-                self.left -= 1;
-                let _ = end_connection(Err(FrontFault::Read), self.faults);
+                self.tell_lost();
                 None
             }
+        }
+    }
+
+    /// Has the next one that came wait, if none waits. One of an address that has as many as it may
+    /// isn't served.
+    fn let_wait(&mut self, now: Option<Instant>) {
+        if self.server.let_wait(now).is_err() {
+            self.tell_lost();
+        }
+        if self.server.is_proxied {
+            return;
+        }
+        let server = &*self.server;
+        let refused = match &server.waiting {
+            Some((_, peer)) if !server.addresses.admits(*peer) => Some(*peer),
+            _ => None,
+        };
+        if let Some(peer) = refused {
+            self.server.waiting = None;
+            self.tell_refused(peer, Refusal::TooMany, FirstBytes::of(&[]));
+        }
+    }
+
+    /// Gives a place to the one that waits, if one is free and its proxy's header is to come.
+    fn let_in(&mut self, now: Option<Instant>) {
+        if self.server.is_proxied && self.has_room() && self.server.let_in(now).is_err() {
+            self.tell_lost();
+        }
+    }
+
+    /// The one that waits, if one does, a place is free, and one more is to be served.
+    fn next_waiting(&mut self) -> Option<(TcpStream, SocketAddr)> {
+        if self.left > 0 && self.has_room() {
+            self.server.waiting.take()
+        } else {
+            None
+        }
+    }
+
+    /// The next one whose proxy's header is whole, and who is behind the proxy.
+    fn next_headed(&mut self) -> Option<(TcpStream, SocketAddr)> {
+        for _ in 0..self.server.newcomers.len() {
+            let (newcomer, heading) = self.server.newcomers.next()?;
+            match heading {
+                Heading::Peer(peer) if self.server.addresses.admits(peer) => {
+                    return Some((Box::into_inner(newcomer).into_stream(), peer));
+                }
+                Heading::Peer(peer) => {
+                    self.tell_refused(peer, Refusal::TooMany, FirstBytes::of(&[]));
+                }
+                Heading::Refused(refusal) => self.refuse(&newcomer, refusal),
+                Heading::Waits => {}
+            }
+        }
+        None
+    }
+
+    /// A connection couldn't be had: it counts, and is told.
+    fn tell_lost(&mut self) {
+        self.left = self.left.saturating_sub(1);
+        let _ = end_connection(Err(FrontFault::Read), self.faults);
+    }
+
+    /// A newcomer isn't served: it is told.
+    fn refuse(&mut self, newcomer: &Newcomer, refusal: Refusal) {
+        self.tell_refused(newcomer.address(), refusal, newcomer.first_bytes());
+    }
+
+    /// Tells of one that isn't served.
+    fn tell_refused(&mut self, peer: SocketAddr, refusal: Refusal, first: FirstBytes) {
+        self.server.journal.refused(peer, refusal, first);
+        if let Some(fault) = refusal.fault() {
+            let _ = write_fault_line(&fault, self.faults);
+        }
+    }
+
+    /// Ends the newcomers whose headers have taken too long.
+    fn end_late_newcomers(&mut self, now: Option<Instant>) {
+        for _ in 0..self.server.newcomers.len() {
+            let limits = self.server.limits;
+            let Some(newcomer) = self.server.newcomers.late(limits, now) else {
+                return;
+            };
+            self.refuse(&newcomer, Refusal::Late);
+        }
+    }
+
+    /// Ends all newcomers, since the host ends.
+    fn end_newcomers(&mut self) {
+        for _ in 0..self.server.newcomers.len() {
+            if let Some(newcomer) = self.server.newcomers.pop() {
+                self.refuse(&newcomer, Refusal::Stopped);
+            }
+        }
+    }
+
+    /// Makes room for one that waits, where no place is free, without one that is served: of one
+    /// that is parted with, or else of the first newcomer, once it may have to.
+    fn make_room(&mut self, now: Option<Instant>) {
+        if !self.wants_room() {
+            return;
+        }
+        if !self.parted.is_empty() {
+            drop(self.parted.swap_remove(0));
+            return;
+        }
+        let wanted = self.look.wanted();
+        if let Some(newcomer) = self.server.newcomers.leaves(wanted, now) {
+            self.refuse(&newcomer, Refusal::MadeRoom);
+        }
+    }
+
+    /// Notes whether others wait for a place.
+    fn note_waiting(&mut self, now: Option<Instant>) {
+        if self.wants_room() {
+            self.look.one_waits(now);
+        } else if self.server.waiting.is_none() && !self.server.may_come {
+            self.look.nobody_waits();
         }
     }
 
@@ -255,11 +401,14 @@ impl<'s, 'r, 'a, T: time::Clock + Files, W: LogTarget + Drop, F: Sink> OpenPlace
     pub(crate) fn between<B: Book + Drop, C: Clock>(
         &mut self,
         alloc: Global,
+        controls: &mut Controls<UnixStream>,
         host: &mut Host<B>,
         clock: &mut C,
     ) -> Result<(), BookFault>
         ensures reaches { B.is_honest host.new → B.is_open host.old
-            → ReachesBy (B.tables host.old) (left_of B.Book host.new) result }
+            → ReachesBy (B.tables host.old) (left_of B.Book host.new)
+            (OthersGoOn ControlsFollow (B.tables host.old)
+            (aside_of controls.old) (aside_of controls.new)) result }
         ensures stays_open { B.is_honest host.new → B.is_open host.old
             → OnOk result (B.is_open host.new) }
         ensures was_honest { B.is_honest host.new → B.is_honest host.old }
@@ -267,15 +416,22 @@ impl<'s, 'r, 'a, T: time::Clock + Files, W: LogTarget + Drop, F: Sink> OpenPlace
         ensures store { TellsFault result (B.failures host.old) (B.failures host.new)
             (B.is_honest host.new → B.is_open host.old → ⊥) }
     {
-        let (now, places) = (self.time.get(), self.places());
-        self.server.look_at_book(alloc, host, now)?;
+        let time = ControlTime {
+            places: self.places(),
+            now: self.time.get(),
+            limits: self.server.limits,
+        };
+        self.server.look_at_book(alloc, controls, host, time.now)?;
         self.server
-            .give_control_rounds(alloc, host, clock, places, now, self.faults)
+            .give_control_rounds(controls, host, clock, time, self.faults)
     }
 
     /// Whether the open connections are looked at in this round.
     pub(crate) fn looks(&mut self) -> bool {
-        let (now, wants_room) = (self.time.get(), self.wants_room());
+        let now = self.time.get();
+        self.note_waiting(now);
+        self.make_room(now);
+        let wants_room = self.wants_room();
         let looks = self.is_stopping || wants_room || self.look.is_due(now);
         if looks {
             self.look.begin(now, wants_room);
@@ -294,11 +450,13 @@ impl<'s, 'r, 'a, T: time::Clock + Files, W: LogTarget + Drop, F: Sink> OpenPlace
         if self.is_stopping && !place.is_ready() && talk.unsent().is_empty() {
             return Some(Ok(()));
         }
-        if self.look.is_late(place, self.time.get()) {
-            talk.end_late();
-            return Some(Err(talk.late_fault()));
+        let ending = self.look.ends(place, self.time.get())?;
+        talk.end_by(ending);
+        if ending == Ending::MadeRoom {
+            Some(Ok(()))
+        } else {
+            Some(Err(talk.late_fault()))
         }
-        None
     }
 
     /// A message of this connection was taken: its reply is about to be written, or it gets none.
@@ -314,6 +472,9 @@ impl<'s, 'r, 'a, T: time::Clock + Files, W: LogTarget + Drop, F: Sink> OpenPlace
                 total: between(talk.came(), self.said),
                 reason: talk.reason(),
             };
+            if answers_terminal(frame, held.reason) {
+                talk.sold(now);
+            }
             self.server.journal.replied(talk.name(), frame, held, now);
         } else if let Some(message) = talk.unanswered() {
             self.server.journal.unanswered(talk.name(), message, now);
@@ -324,6 +485,9 @@ impl<'s, 'r, 'a, T: time::Clock + Files, W: LogTarget + Drop, F: Sink> OpenPlace
     /// ran out or the store failed nothing is told of it.
     pub(crate) fn part(&mut self, place: TerminalPlace<'r>) {
         self.open = self.open.saturating_sub(1);
+        if let ConnectionName::Terminal(_, peer) = place.talk().name() {
+            self.server.addresses.went(peer);
+        }
         match place.ended() {
             Some(ended) => self.part_with(place, ended),
             None if self.is_over => {

@@ -1,33 +1,40 @@
 //! Connections over TCP that are served at once.
 
-ghost use Rattle.std.specs.Prelude.{◌≡◌, ℕ, IfErr, OnOk};
+ghost use Rattle.std.specs.Prelude.{◌≡◌, ℕ, IfErr, IfOk, OnOk};
+ghost use Rattle.acq_controls.specs.Aside.{aside_of};
+ghost use Rattle.acq_controls.specs.Following.{ControlsFollow, HadNone, Stays};
 ghost use Rattle.acq_faults.specs.Faults.{IsOfListening, TellsStore};
 ghost use Rattle.acq_front.specs.Stops.{left_of};
 ghost use Rattle.acq_rounds.specs.Reaching.{ReachesBy};
+ghost use Rattle.acq_rounds.specs.Runs.{OthersGoOn};
 ghost use Rattle.acq_rounds.specs.Taking.{TellsFault};
 ghost use Rattle.acq_tcp.specs.Rounds.{Looked, of_looked};
+ghost use Rattle.acq_tcp.specs.Terminals.{controls_by};
 
+use crate::addresses::Addresses;
 use crate::arrivals::Arrivals;
 use crate::book_files::BookFiles;
 use crate::connection_name::ConnectionName;
 use crate::control_server::ControlServer;
+use crate::control_time::ControlTime;
 use crate::had::Had;
 use crate::host_log::HostLog;
 use crate::journal::Journal;
 use crate::listening::{FIRST_TERMINAL, LISTENER, Listening};
 use crate::log_target::LogTarget;
-use crate::places::Places;
+use crate::newcomers::Newcomers;
 use crate::round_time::RoundTime;
 use crate::tcp_connections::PAUSE;
 use crate::time_limits::{TimeLimits, left_of};
 use acq_book::{Book, BookFault};
+use acq_controls::Controls;
 use acq_faults::{Fault, ListenOptions, Server};
 use acq_front::{Clock, Issuer};
 use acq_host::Host;
 use acq_link::Sink;
 use acq_reports::ReportFault;
 use acq_rounds::{Past, serve};
-use mio::net::{TcpListener, TcpStream, UnixListener};
+use mio::net::{TcpListener, TcpStream, UnixListener, UnixStream};
 use mio::{Events, Interest, Poll, Token};
 use std::alloc::Global;
 use std::fs::Files;
@@ -53,10 +60,17 @@ pub struct TcpServer<'a, T, W> {
     pub(crate) may_come: bool,
     /// When one last couldn't be had.
     refused: Option<Instant>,
-    /// One that came when all places were taken.
+    /// One that came, and has no place yet.
     pub(crate) waiting: Option<(TcpStream, SocketAddr)>,
-    /// Control connections, where they can come.
+    /// Whether each begins with the header of a proxy.
+    pub(crate) is_proxied: bool,
+    /// Those whose header is still to come.
+    pub(crate) newcomers: Newcomers,
+    /// How many connections each address has.
+    pub(crate) addresses: Addresses,
+    /// Control connections, where they can come, and what passes over them.
     pub(crate) control: Option<ControlServer>,
+    pub(crate) controls: Controls<UnixStream>,
     /// When the host was asked to end, where that time is known.
     pub(crate) stopping: Option<Instant>,
     book_files: BookFiles,
@@ -80,14 +94,15 @@ impl<'a, T: time::Clock + Files, W: LogTarget + Drop> TcpServer<'a, T, W> {
         control: Option<UnixListener>,
         log: Option<HostLog<W>>,
     ) -> Result<TcpServer<'a, T, W>, Fault>
-        ensures { IfErr result IsOfListening }
+        ensures fault { IfErr result IsOfListening }
+        ensures none_came { IfOk result (λ server. HadNone (controls_by server)) }
     {
         match Listening::begin(net, time, alloc, asked, control) {
             Ok(listening) => Ok(TcpServer::new(
+                alloc,
                 listening,
-                asked.together,
+                asked,
                 time,
-                TimeLimits::new(asked.patience),
                 Journal::new(alloc, time, log),
             )),
             Err(fault) => Err(fault),
@@ -96,24 +111,30 @@ impl<'a, T: time::Clock + Files, W: LogTarget + Drop> TcpServer<'a, T, W> {
 
     /// Nothing has come yet.
     fn new(
+        alloc: Global,
         listening: Listening,
-        places: usize,
+        asked: &ListenOptions,
         time: &'a T,
-        limits: TimeLimits,
         journal: Journal<'a, T, W>,
-    ) -> TcpServer<'a, T, W> {
+    ) -> TcpServer<'a, T, W>
+        ensures { controls_by result ≡ aside_of listening.controls }
+    {
         TcpServer {
             listener: listening.listener,
             poll: listening.poll,
             events: listening.events,
             woken: listening.woken,
             time,
-            limits,
-            places,
+            limits: TimeLimits::new(asked.patience),
+            places: asked.together,
             may_come: true,
             refused: None,
             waiting: None,
+            is_proxied: asked.proxy_protocol,
+            newcomers: Newcomers::new(alloc),
+            addresses: Addresses::new(alloc, asked.from_one_address),
             control: listening.control,
+            controls: listening.controls,
             stopping: None,
             book_files: listening.book_files,
             has_looked: false,
@@ -138,27 +159,36 @@ impl<'a, T: time::Clock + Files, W: LogTarget + Drop> TcpServer<'a, T, W> {
         Instant::now(self.time).ok()
     }
 
-    /// Takes in the connection that waits, or the next one that came, under this number, and
-    /// returns what it is called, if there is one.
+    /// Takes in this connection under this number, and returns what it is called.
     pub(crate) fn take_in(
         &mut self,
         number: u64,
-        now: Option<Instant>,
-    ) -> io::Result<Option<(ConnectionName, TcpStream)>> {
-        let next = match self.waiting.take() {
-            Some(next) => Some(next),
-            None => self.accept(now)?,
-        };
-        let Some((mut stream, peer)) = next else {
-            return Ok(None);
-        };
+        mut stream: TcpStream,
+        peer: SocketAddr,
+    ) -> io::Result<(ConnectionName, TcpStream)> {
         stream.set_nodelay(true)?;
-        self.poll.registry().register(
-            &mut stream,
-            Token((number as usize).saturating_add(FIRST_TERMINAL)),
-            Interest::READABLE | Interest::WRITABLE,
-        )?;
-        Ok(Some((self.journal.terminal(peer), stream)))
+        let token = Token((number as usize).saturating_add(FIRST_TERMINAL));
+        let interest = Interest::READABLE | Interest::WRITABLE;
+        let registry = self.poll.registry();
+        if self.is_proxied {
+            // It was registered as a newcomer.
+            registry.reregister(&mut stream, token, interest)?;
+        } else {
+            registry.register(&mut stream, token, interest)?;
+        }
+        self.addresses.came(peer);
+        Ok((self.journal.terminal(peer), stream))
+    }
+
+    /// Takes in the one that waits as one whose proxy's header is to come, if one waits.
+    pub(crate) fn let_in(&mut self, now: Option<Instant>) -> io::Result<()> {
+        match self.waiting.take() {
+            Some((stream, address)) => {
+                self.newcomers
+                    .take_in(self.poll.registry(), stream, address, now)
+            }
+            None => Ok(()),
+        }
     }
 
     /// Has the next connection that came wait, if there is one and none waits.
@@ -206,6 +236,8 @@ impl<'a, T: time::Clock + Files, W: LogTarget + Drop> TcpServer<'a, T, W> {
             let Token(token) = event.token();
             if token == LISTENER {
                 self.may_come = true;
+            } else if self.newcomers.wake(token) {
+                continue;
             } else if let Some(number) = token.checked_sub(FIRST_TERMINAL) {
                 // There is room for as many as there are events.
                 let _ = self.woken.push(number as u64);
@@ -242,9 +274,15 @@ impl<'a, T: time::Clock + Files, W: LogTarget + Drop> TcpServer<'a, T, W> {
     }
 
     /// Cuts off the control connections, since the host ends.
-    pub(crate) fn cut_off_controls<F: Sink>(&mut self, faults: &mut F) {
+    pub(crate) fn cut_off_controls<F: Sink>(
+        &mut self,
+        controls: &mut Controls<UnixStream>,
+        faults: &mut F,
+    )
+        ensures stays { Stays (aside_of controls.old) (aside_of controls.new) }
+    {
         if let Some(control) = &mut self.control {
-            control.cut_off(&mut self.journal, faults);
+            control.cut_off(controls, &mut self.journal, faults);
         }
     }
 
@@ -253,11 +291,12 @@ impl<'a, T: time::Clock + Files, W: LogTarget + Drop> TcpServer<'a, T, W> {
     pub(crate) fn look_at_book<B: Book + Drop>(
         &mut self,
         alloc: Global,
+        controls: &Controls<UnixStream>,
         host: &mut Host<B>,
         now: Option<Instant>,
     ) -> Result<(), BookFault>
-        ensures reaches { B.is_honest host.new → B.is_open host.old
-            → ReachesBy (B.tables host.old) (left_of B.Book host.new) result }
+        ensures looked { B.is_honest host.new → B.is_open host.old
+            → Looked (B.tables host.old) (left_of B.Book host.new) }
         ensures stays_open { B.is_honest host.new → B.is_open host.old
             → OnOk result (B.is_open host.new) }
         ensures was_honest { B.is_honest host.new → B.is_honest host.old }
@@ -267,7 +306,7 @@ impl<'a, T: time::Clock + Files, W: LogTarget + Drop> TcpServer<'a, T, W> {
         let Some(control) = &self.control else {
             return Ok(());
         };
-        if self.has_looked && !control.asks_figures() {
+        if self.has_looked && !control.asks_figures(controls) {
             return Ok(());
         }
         self.has_looked = true;
@@ -278,19 +317,19 @@ impl<'a, T: time::Clock + Files, W: LogTarget + Drop> TcpServer<'a, T, W> {
         }
     }
 
-    /// Takes in the control connections that came, and gives each that is ready a round, while so
-    /// many places of terminals are free.
+    /// Takes in the control connections that came, and gives each that is ready a round.
     pub(crate) fn give_control_rounds<B: Book + Drop, C: Clock, F: Sink>(
         &mut self,
-        alloc: Global,
+        controls: &mut Controls<UnixStream>,
         host: &mut Host<B>,
         clock: &mut C,
-        places: Places,
-        now: Option<Instant>,
+        time: ControlTime,
         faults: &mut F,
     ) -> Result<(), BookFault>
         ensures reaches { B.is_honest host.new → B.is_open host.old
-            → ReachesBy (B.tables host.old) (left_of B.Book host.new) result }
+            → ReachesBy (B.tables host.old) (left_of B.Book host.new)
+            (OthersGoOn ControlsFollow (B.tables host.old)
+            (aside_of controls.old) (aside_of controls.new)) result }
         ensures stays_open { B.is_honest host.new → B.is_open host.old
             → OnOk result (B.is_open host.new) }
         ensures was_honest { B.is_honest host.new → B.is_honest host.old }
@@ -298,13 +337,12 @@ impl<'a, T: time::Clock + Files, W: LogTarget + Drop> TcpServer<'a, T, W> {
         ensures store { TellsFault result (B.failures host.old) (B.failures host.new)
             (B.is_honest host.new → B.is_open host.old → ⊥) }
     {
-        let limits = self.limits;
         let Some(control) = &mut self.control else {
             return Ok(());
         };
         let journal = &mut self.journal;
-        control.admit(alloc, self.poll.registry(), journal, now, faults);
-        control.give_rounds(alloc, host, clock, journal, places, now, limits, faults)
+        control.admit(controls, self.poll.registry(), journal, time.now, faults);
+        control.give_rounds(controls, host, clock, journal, time, faults)
     }
 
     /// Tells the log, where there is one, that it listens, and on which business day.
@@ -318,6 +356,7 @@ impl<'a, T: time::Clock + Files, W: LogTarget + Drop> TcpServer<'a, T, W> {
             (B.is_honest host.new → B.is_open host.old → ⊥) }
         ensures past { self.new.past ≡ self.old.past }
         ensures had { self.new.had ≡ self.old.had }
+        ensures controls { self.new.controls ≡ self.old.controls }
     {
         if !self.journal.has_log() {
             return Ok(());
@@ -330,11 +369,18 @@ impl<'a, T: time::Clock + Files, W: LogTarget + Drop> TcpServer<'a, T, W> {
 }
 
 impl<T: time::Clock + Files, W: LogTarget + Drop> Server for TcpServer<'_, T, W> {
+    ghost use Rattle.acq_controls.specs.Aside.{Aside};
     ghost use Rattle.acq_tcp.specs.Terminals.{had_by, many_by};
 
     ghost had = { had_by };
 
     ghost many = { many_by };
+
+    ghost aside = { Aside };
+
+    ghost others = { controls_by };
+
+    ghost follow = { ControlsFollow };
 
     fn serve_all<B: Book + Drop, C: Clock, I: Issuer, F: Sink>(
         &mut self,
@@ -350,12 +396,14 @@ impl<T: time::Clock + Files, W: LogTarget + Drop> Server for TcpServer<'_, T, W>
         }
         let past = mem::replace(&mut self.past, Past::new());
         let had = mem::replace(&mut self.had, Had::none());
+        let controls = mem::replace(&mut self.controls, Controls::without_places(alloc));
         let time = RoundTime::new();
-        let mut arrivals = Arrivals::new(alloc, self, faults, &time, count);
+        let mut arrivals = Arrivals::new(alloc, self, faults, &time, controls, count);
         let served = serve(alloc, host, clock, issuer, &mut arrivals, u64::MAX);
         let last = arrivals.end();
         self.past = past.then(&last.past);
         self.had = had.plus(&last.given);
+        self.controls = last.controls;
         match served {
             Ok(()) if last.has_failed => Err(Fault::Read),
             Ok(()) => Ok(()),

@@ -7,6 +7,7 @@ use crate::connection_name::ConnectionName;
 use crate::ending::Ending;
 use crate::frame_head::FrameHead;
 use crate::round_time::RoundTime;
+use crate::standing::Standing;
 use crate::time_limits::{TimeLimits, deadline, earlier};
 use acq_core::Output;
 use acq_front::{Conversation, FrontFault, StreamLine, Unanswered};
@@ -34,8 +35,10 @@ pub(crate) struct TerminalTalk<'r> {
     began: Option<Instant>,
     /// How the frame begins that spelled no message.
     refused: Option<FrameHead>,
-    /// Whether it ends since it took too long.
-    is_late: Cell<bool>,
+    /// How it stands where another one waits for its place.
+    standing: Cell<Standing>,
+    /// What ends it, where it ends.
+    ending: Cell<Ending>,
 }
 
 impl<'r> TerminalTalk<'r> {
@@ -52,7 +55,8 @@ impl<'r> TerminalTalk<'r> {
             came: None,
             began: None,
             refused: None,
-            is_late: Cell::new(false),
+            standing: Cell::new(Standing::new(time.get())),
+            ending: Cell::new(Ending::Own),
         }
     }
 
@@ -61,9 +65,14 @@ impl<'r> TerminalTalk<'r> {
         self.name
     }
 
-    /// When something last happened.
-    pub(crate) fn last_moved(&self) -> Option<Instant> {
-        self.last_moved
+    /// How it stands where another one waits for its place.
+    pub(crate) fn standing(&self) -> Standing {
+        self.standing.get()
+    }
+
+    /// A message of an enrolled terminal is answered over it now.
+    pub(crate) fn sold(&self, now: Option<Instant>) {
+        self.standing.set(Standing::sold(now));
     }
 
     /// When the last piece came.
@@ -116,18 +125,14 @@ impl<'r> TerminalTalk<'r> {
         }
     }
 
-    /// It ends since it took too long.
-    pub(crate) fn end_late(&self) {
-        self.is_late.set(true);
+    /// It ends by this.
+    pub(crate) fn end_by(&self, ending: Ending) {
+        self.ending.set(ending);
     }
 
     /// What ends it, where it ended.
     pub(crate) fn ending(&self) -> Ending {
-        if self.is_late.get() {
-            Ending::Late
-        } else {
-            Ending::Own
-        }
+        self.ending.get()
     }
 }
 

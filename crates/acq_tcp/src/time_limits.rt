@@ -10,8 +10,6 @@ pub(crate) struct TimeLimits {
     pub(crate) idle: Option<Duration>,
     /// How long a frame may take, from its first byte to its last.
     pub(crate) frame: Option<Duration>,
-    /// How long one may send or take nothing while another one waits for its place.
-    pub(crate) idle_when_full: Option<Duration>,
     /// How long one may be there once the host was asked to end.
     pub(crate) stop: Option<Duration>,
 }
@@ -22,7 +20,6 @@ impl TimeLimits {
         TimeLimits {
             idle: limit_of(patience.idle),
             frame: limit_of(patience.frame_within),
-            idle_when_full: limit_of(patience.idle_when_full),
             stop: limit_of(patience.stop_within),
         }
     }

@@ -134,6 +134,8 @@ returns c =
       endpoint = c.in_ok-endpoint.endpoint;
       count = c.in_ok-count.count;
       together = c.in_ok-bounds.bounds.together;
+      from_one_address = c.in_ok-bounds.bounds.from_one_address;
+      proxy_protocol = c.is_set.result;
       patience = c.in_ok-patience.patience;
       issuers = c.in_ok-issuers.issuers;
       moment = c.in_ok-moment.moment;
@@ -164,6 +166,8 @@ returns c =
       refl,
       refl,
       refl,
+      refl,
+      c.is_set.ensures,
       c.in_ok-control.ensures.given,
       c.in_ok-log.ensures.given,
       refl,

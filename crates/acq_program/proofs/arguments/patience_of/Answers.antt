@@ -4,8 +4,8 @@ use Rattle.std.specs.Prelude.{Err, Ok, Result}
 use Rattle.clap.specs.Words.{found_of}
 use Rattle.acq_faults.specs.declared.patience.Patience.{Patience}
 use Rattle.acq_program.specs.declared.usage_fault.UsageFault.{UsageFault}
-use Rattle.acq_program.specs.Arguments.{FrameWithinIs, IdleIs, IdleWhenFullIs, IsPatience}
-use Rattle.acq_program.specs.Arguments.{PatienceFor, PatienceUpTo, PatienceWith, StopWithinIs}
+use Rattle.acq_program.specs.Arguments.{FrameWithinIs, IdleIs, IsPatience}
+use Rattle.acq_program.specs.Arguments.{PatienceFor, PatienceWith, StopWithinIs}
 use Rattle.acq_program.specs.Arguments.{found_texts}
 use Rattle.acq_program.proofs.OptionsRead.{first_fails, then_rest}
 use Rattle.acq_program.proofs.arguments.patience_of.Goals as goal
@@ -28,21 +28,6 @@ returns-in_err-frame_within c =
     (first_fails (FrameWithinIs texts) (PatienceWith texts c.in_ok-idle.idle)
     c.in_err-frame_within.field-0.0 c.in_err-frame_within.ensures))
 
-pub returns-in_err-idle_when_full : goal.returns-in_err-idle_when_full
-returns-in_err-idle_when_full c =
-    let texts = found_texts (found_of c.args.options.now) in
-    let p = err_from_is_err_and c.from_residual-in_err-idle_when_full.result
-    c.from_residual-in_err-idle_when_full.ensures.1 in
-    rw (p.1, p.2)
-    (then_rest (IdleIs texts) (PatienceFor texts) c.in_ok-idle.idle
-    (Err c.in_err-idle_when_full.field-0.0) c.in_ok-idle.ensures
-    (then_rest (FrameWithinIs texts) (PatienceWith texts c.in_ok-idle.idle)
-    c.in_ok-frame_within.frame_within (Err c.in_err-idle_when_full.field-0.0)
-    c.in_ok-frame_within.ensures
-    (first_fails (IdleWhenFullIs texts)
-    (PatienceUpTo texts c.in_ok-idle.idle c.in_ok-frame_within.frame_within)
-    c.in_err-idle_when_full.field-0.0 c.in_err-idle_when_full.ensures)))
-
 pub returns-in_err-stop_within : goal.returns-in_err-stop_within
 returns-in_err-stop_within c =
     let texts = found_texts (found_of c.args.options.now) in
@@ -54,14 +39,9 @@ returns-in_err-stop_within c =
     (then_rest (FrameWithinIs texts) (PatienceWith texts c.in_ok-idle.idle)
     c.in_ok-frame_within.frame_within (Err c.in_err-stop_within.field-0.0)
     c.in_ok-frame_within.ensures
-    (then_rest (IdleWhenFullIs texts)
-    (PatienceUpTo texts c.in_ok-idle.idle c.in_ok-frame_within.frame_within)
-    c.in_ok-idle_when_full.idle_when_full (Err c.in_err-stop_within.field-0.0)
-    c.in_ok-idle_when_full.ensures
     (first_fails (StopWithinIs texts)
-    (IsPatience c.in_ok-idle.idle c.in_ok-frame_within.frame_within
-    c.in_ok-idle_when_full.idle_when_full)
-    c.in_err-stop_within.field-0.0 c.in_err-stop_within.ensures))))
+    (IsPatience c.in_ok-idle.idle c.in_ok-frame_within.frame_within)
+    c.in_err-stop_within.field-0.0 c.in_err-stop_within.ensures)))
 
 pub returns : goal.returns
 returns c =
@@ -69,17 +49,12 @@ returns c =
     let read : Result Patience UsageFault = Ok (record {
       idle = c.in_ok-idle.idle;
       frame_within = c.in_ok-frame_within.frame_within;
-      idle_when_full = c.in_ok-idle_when_full.idle_when_full;
       stop_within = c.in_ok-stop_within.stop_within;
     }) in
     then_rest (IdleIs texts) (PatienceFor texts) c.in_ok-idle.idle read c.in_ok-idle.ensures
     (then_rest (FrameWithinIs texts) (PatienceWith texts c.in_ok-idle.idle)
     c.in_ok-frame_within.frame_within read c.in_ok-frame_within.ensures
-    (then_rest (IdleWhenFullIs texts)
-    (PatienceUpTo texts c.in_ok-idle.idle c.in_ok-frame_within.frame_within)
-    c.in_ok-idle_when_full.idle_when_full read c.in_ok-idle_when_full.ensures
     (then_rest (StopWithinIs texts)
-    (IsPatience c.in_ok-idle.idle c.in_ok-frame_within.frame_within
-    c.in_ok-idle_when_full.idle_when_full)
+    (IsPatience c.in_ok-idle.idle c.in_ok-frame_within.frame_within)
     c.in_ok-stop_within.stop_within read c.in_ok-stop_within.ensures
-    refl)))
+    refl))

@@ -1,6 +1,8 @@
 -- the look, and then the rounds of control connections
+use Rattle.std.proofs.lemmas.Result.{err_from_is_err_and}
 use Rattle.acq_front.specs.Stops.{left_of}
-use Rattle.acq_tcp.proofs.Reaching.{reached_then, tells_then}
+use Rattle.acq_controls.specs.Aside.{aside_of}
+use Rattle.acq_tcp.proofs.Reaching.{looked_some, looked_then, tells_then}
 use Rattle.acq_tcp.proofs.open_places.OpenPlaces.between.Goals as goal
 
 pub returns-clause-reaches : goal.returns-clause-reaches
@@ -8,9 +10,11 @@ returns-clause-reaches g c = λ h o.
     let one = c.in_ok-look_at_book.ensures in
     let two = c.give_control_rounds.ensures in
     let was = two.was_honest h in
-    reached_then (g.B.Book.tables c.args.host.now) (left_of g.B.Book c.look_at_book.new.host)
-    (left_of g.B.Book c.give_control_rounds.new.host) c.give_control_rounds.result
-    (one.reaches was o) (two.reaches h (one.stays_open was o))
+    let still = one.stays_open was o in
+    looked_then (g.B.Book.tables c.args.host.now) (g.B.Book.tables c.look_at_book.new.host)
+    (left_of g.B.Book c.give_control_rounds.new.host) (aside_of c.args.controls.now)
+    (aside_of c.give_control_rounds.new.controls) c.give_control_rounds.result
+    ((one.looked was o).tables still) (two.reaches h still)
 
 pub returns-clause-store : goal.returns-clause-store
 returns-clause-store g c =
@@ -20,3 +24,10 @@ returns-clause-store g c =
     (λ no h o.
     let was = two.was_honest h in
     no h (one.stays_open was o)) two.store
+
+pub returns-in_err-look_at_book-clause-reaches : goal.returns-in_err-look_at_book-clause-reaches
+returns-in_err-look_at_book-clause-reaches g c h o =
+    let p = err_from_is_err_and c.from_residual.result c.from_residual.ensures.1 in
+    rw p.1
+    (looked_some (g.B.Book.tables c.args.host.now) (left_of g.B.Book c.look_at_book.new.host)
+    (aside_of c.args.controls.now) (c.in_err-look_at_book.ensures.looked h o))
