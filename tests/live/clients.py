@@ -26,7 +26,7 @@ def drips(program, mode):
                     pass
             time.sleep(0.2)
         wanted("a terminal beside two that drip", third.reply(0.5), REPLY)
-        wanted("faults", READ in host.faults(), True)
+        host.fault_within(READ, 9)
 
 
 def a_slow_frame_in_time(program, words):
@@ -43,19 +43,18 @@ def a_slow_frame_in_time(program, words):
 
 
 def room_for_one(program):
-    """Where all places are taken, the one that is silent the longest makes room, and it alone."""
-    words = ["--together", "2", "--idle", "0", "--idle-when-full", "1"]
-    with Book(program) as book, Host(book, *words) as host:
+    """Where all places are taken, the one that came first makes room, and it alone."""
+    with Book(program) as book, Host(book, "--together", "2", "--idle", "0") as host:
         first = host.terminal()
         time.sleep(0.3)
         second = host.terminal()
         time.sleep(1.5)
-        wanted("faults while nobody waits", host.faults(), [])
+        wanted("whether the first is served", first.is_served(), True)
         third = host.terminal()
         wanted("who waits", third.is_served(), True)
-        wanted("who was silent for less long", second.is_served(), True)
-        wanted("who was silent the longest", first.rest(), b"")
-        wanted("faults", host.faults(), [READ])
+        wanted("who came later", second.is_served(), True)
+        wanted("who came first", first.rest(), b"")
+        wanted("faults", host.faults(), [])
 
 
 def no_descriptors(program, mode):

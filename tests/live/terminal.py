@@ -444,6 +444,13 @@ def connect(family, address, room=None):
             time.sleep(0.02)
 
 
+def is_readable(end, within):
+    """Whether something comes over a connection within so many seconds, or its end."""
+    there = select.poll()
+    there.register(end, select.POLLIN)
+    return bool(there.poll(max(within, 0) * 1000))
+
+
 class Terminal:
     """A connection of a terminal, what came over it and wasn't asked for yet."""
 
@@ -479,8 +486,7 @@ class Terminal:
     def more(self, within=PATIENCE):
         """Whether more came, and no end."""
         try:
-            is_there = select.select([self.end], [], [], max(within, 0))[0]
-            came = self.end.recv(65536) if is_there else b""
+            came = self.end.recv(65536) if is_readable(self.end, within) else b""
         except ConnectionResetError:
             came = b""
         self.held += came
@@ -510,7 +516,7 @@ class Terminal:
     def rest(self, within=PATIENCE):
         """All that comes until the end, which has to come in this time."""
         until = time.monotonic() + within
-        while select.select([self.end], [], [], max(until - time.monotonic(), 0))[0]:
+        while is_readable(self.end, until - time.monotonic()):
             if not self.more(0):
                 came, self.held = bytes(self.held), bytearray()
                 return came

@@ -32,6 +32,11 @@ SCRIPTS = [
     ("limits who_talks_stays", [("reply 3", "who talks"), ("lost 3", "who talks")]),
     ("limits silence", [("open", "is there after")]),
     ("limits a_place_each 12", [("reply 2", "reply 2 to terminal 0")]),
+    ("places who_has_sold who_sold_long_ago", [
+        ("reply 1", "the reply to one that sold"),
+        ("lost 2", "those that sold"),
+        ("open", "is there after"),
+    ]),
     ("logs masks", [
         ("reply 5", "the reply to 0420"),
         ("log card=411111[*]{6}1111", "cards in the log"),
