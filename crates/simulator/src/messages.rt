@@ -45,8 +45,12 @@ pub fn completion_text(alloc: Global, sale: &Sale, reference: u64) -> Result<Str
 pub fn reversal_text(alloc: Global, sale: &Sale, trace: u64) -> Result<String, AllocError> {
     let (terminal, merchant) = (sale.terminal_name(), sale.merchant_name());
     let (amount, original) = (sale.amount, sale.trace);
+    let (head, nobody) = (
+        "04209220000000C000000000004000000000000000",
+        "0000000000000000000000",
+    );
     format!(in alloc;
-        "04209220000000C000000000004000000000000000{amount:012}{SENT}{trace:06}{terminal}{merchant}0200{original:06}{SENT}0000000000000000000000"
+        "{head}{amount:012}{SENT}{trace:06}{terminal}{merchant}0200{original:06}{SENT}{nobody}"
     )
 }
 
@@ -58,10 +62,14 @@ pub fn echo_text(alloc: Global, trace: u64) -> Result<String, AllocError> {
 /// A reconciliation of a day on which nothing was sold.
 pub fn reconciliation_text(alloc: Global, sale: &Sale) -> Result<String, AllocError> {
     let (terminal, merchant, trace) = (sale.terminal_name(), sale.merchant_name(), sale.trace);
-    let (counts, amounts) = ("0000000000", "0000000000000000");
-    format!(in alloc;
-        "05008220000000C000000078078080000000{SENT}{trace:06}{terminal}{merchant}{counts}{counts}{counts}{counts}{amounts}{amounts}{amounts}{amounts}D{amounts}"
-    )
+    let (head, count, sum) = (
+        "05008220000000C000000078078080000000",
+        "0000000000",
+        "0000000000000000",
+    );
+    let counts = format!(in alloc; "{count}{count}{count}{count}")?;
+    let sums = format!(in alloc; "{sum}{sum}{sum}{sum}D{sum}")?;
+    format!(in alloc; "{head}{SENT}{trace:06}{terminal}{merchant}{counts}{sums}")
 }
 
 /// A message of a type that isn't served.
