@@ -94,6 +94,19 @@ is_posting_before a b =
 abbrev pub postings_at : Tables → ℕ → List (ℕ × Posting)
 postings_at t day = in_order is_posting_before (filter (λ row. row.1.day == day) t.postings)
 
+-- those of a merchant and day with numbers above one, in order of number
+abbrev pub postings_above_at : Tables → List ℕ → (day number : ℕ) → List (ℕ × Posting)
+postings_above_at t m day number =
+    in_order is_posting_before
+    (filter (λ row. bytes_eq row.1.merchant m && (row.1.day == day) && nat_lt number row.0)
+    t.postings)
+
+-- those of a day of the merchants behind one, in order of merchant and number
+abbrev pub postings_behind_at : Tables → List ℕ → ℕ → List (ℕ × Posting)
+postings_behind_at t m day =
+    in_order is_posting_before
+    (filter (λ row. (row.1.day == day) && is_lt (slice_cmp nat_cmp m row.1.merchant)) t.postings)
+
 -- the merchants, in order of their names
 abbrev pub merchants_at : Tables → List Merchant
 merchants_at t = in_order (λ a b. is_lt (slice_cmp nat_cmp a.id b.id)) t.merchants

@@ -9,7 +9,8 @@ ghost use Rattle.acq_book.specs.Lookups.{range_at, overlapping_at, range_count_a
 ghost use Rattle.acq_book.specs.Lookups.{request_at, referred_at, admitted_at, used_at, totals_at};
 ghost use Rattle.acq_book.specs.Lookups.{pending_at, used_on_at, waiting_count_at};
 ghost use Rattle.acq_book.specs.Lookups.{last_reconciliation_at};
-ghost use Rattle.acq_book.specs.Lookups.{postings_at, merchants_at, holds_at, waiting_at};
+ghost use Rattle.acq_book.specs.Lookups.{postings_at, postings_above_at, postings_behind_at};
+ghost use Rattle.acq_book.specs.Lookups.{merchants_at, holds_at, waiting_at};
 ghost use Rattle.acq_book.specs.Looked.{IsLooked};
 ghost use Rattle.acq_book.specs.Groups.{BeginsBy, GivesWithinBy, IsLive, KeepsBy, MakesWithinBy};
 ghost use Rattle.acq_book.specs.Groups.{ReturnsBy};
@@ -124,6 +125,31 @@ pub trait Book {
         ensures { WalksBy tables is_honest is_open may_leave leaves_books failures store_faults
             has_room self.old self.new result
             V.sees (postings_at (tables self.old) day) visitor.old visitor.new };
+
+    /// Hands over those of a merchant and day with numbers above one, in order of number.
+    fn walk_postings_above<V: Visit<(u64, Posting)>>(
+        &mut self,
+        merchant: MerchantId,
+        day: Day,
+        number: u64,
+        visitor: &mut V,
+    ) -> Result<(), BookFault>
+        ensures { WalksBy tables is_honest is_open may_leave leaves_books failures store_faults
+            has_room self.old self.new result
+            V.sees (postings_above_at (tables self.old) merchant day number)
+            visitor.old visitor.new };
+
+    /// Hands over those of a day of the merchants whose names are behind one, in order of merchant
+    /// and number.
+    fn walk_postings_behind<V: Visit<(u64, Posting)>>(
+        &mut self,
+        merchant: MerchantId,
+        day: Day,
+        visitor: &mut V,
+    ) -> Result<(), BookFault>
+        ensures { WalksBy tables is_honest is_open may_leave leaves_books failures store_faults
+            has_room self.old self.new result
+            V.sees (postings_behind_at (tables self.old) merchant day) visitor.old visitor.new };
 
     /// Hands over the merchants, in order of their names.
     fn walk_merchants<V: Visit<Merchant>>(&mut self, visitor: &mut V) -> Result<(), BookFault>

@@ -1,8 +1,11 @@
 //! Postings, with the sums of each merchant's days.
 
 ghost use Rattle.std.specs.Prelude.{◌≡◌, ◌+◌, ◌<◌, ◌≤◌, ◌^◌, [], Some, ◌==◌, if◌then◌else◌};
-ghost use Rattle.std.specs.Prelude.{filter, map, IfSome, IfOk, OnOk};
+ghost use Rattle.std.specs.Prelude.{filter, map, nat_lt, ◌&&◌, IfSome, IfOk, OnOk};
+ghost use Rattle.std.specs.Cmp.Lexicographic.{slice_cmp};
 ghost use Rattle.std.specs.Map.Iter.{deref};
+ghost use Rattle.std.specs.Ordering.{nat_cmp, is_lt};
+ghost use Rattle.std.specs.Str.{bytes_eq};
 ghost use Rattle.indexmap.specs.IndexMap.{get, spare};
 ghost use Rattle.day_totals.specs.Totals.{IsWithinLimits, with_leg_amount};
 ghost use Rattle.acq_core.specs.Tables.{postings_of, totals_on, with_next_posting};
@@ -71,6 +74,41 @@ impl Postings {
             .collect(alloc)
     }
 
+    /// Those of a merchant and day with numbers above one, in the order in which they came.
+    pub fn above(
+        &self,
+        alloc: Global,
+        merchant: MerchantId,
+        day: Day,
+        number: u64,
+    ) -> Result<Vec<&(u64, Posting)>, AllocError>
+        ensures { IfOk result (λ rows. map deref rows.items
+            ≡ filter (λ row. bytes_eq row.1.merchant merchant && (row.1.day == day)
+            && nat_lt number row.0) self.now.rows) }
+    {
+        self.rows
+            .iter()
+            .filter(|row| row.1.merchant == merchant && row.1.day == day && number < row.0)
+            .collect(alloc)
+    }
+
+    /// Those of a day of the merchants whose names are behind one, in the order in which they came.
+    pub fn behind(
+        &self,
+        alloc: Global,
+        merchant: MerchantId,
+        day: Day,
+    ) -> Result<Vec<&(u64, Posting)>, AllocError>
+        ensures { IfOk result (λ rows. map deref rows.items
+            ≡ filter (λ row. (row.1.day == day)
+            && is_lt (slice_cmp nat_cmp merchant row.1.merchant)) self.now.rows) }
+    {
+        self.rows
+            .iter()
+            .filter(|row| row.1.day == day && is_behind(row.1.merchant, merchant))
+            .collect(alloc)
+    }
+
     /// Makes room for one more, and a copy of it, where there is one.
     pub fn reserve_for(
         &mut self,
@@ -117,6 +155,13 @@ impl Postings {
         self.rows.push((number, posting)).unwrap();
         self.room -= 1;
     }
+}
+
+/// Whether a merchant's name is behind another one.
+fn is_behind(merchant: MerchantId, other: MerchantId) -> bool
+    ensures { result ≡ is_lt (slice_cmp nat_cmp other merchant) }
+{
+    other.to_bytes().cmp(&merchant.to_bytes()).is_lt()
 }
 
 fn sums_of(sums: &IndexMap<MerchantDay, DaySums, RandomState>, day: &MerchantDay) -> DaySums

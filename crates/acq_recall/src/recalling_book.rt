@@ -136,6 +136,26 @@ impl<B: Lenient + Drop> Book for RecallingBook<B> {
         self.book.walk_postings(day, visitor)
     }
 
+    fn walk_postings_above<V: Visit<(u64, Posting)>>(
+        &mut self,
+        merchant: MerchantId,
+        day: Day,
+        number: u64,
+        visitor: &mut V,
+    ) -> Result<(), BookFault> {
+        self.book
+            .walk_postings_above(merchant, day, number, visitor)
+    }
+
+    fn walk_postings_behind<V: Visit<(u64, Posting)>>(
+        &mut self,
+        merchant: MerchantId,
+        day: Day,
+        visitor: &mut V,
+    ) -> Result<(), BookFault> {
+        self.book.walk_postings_behind(merchant, day, visitor)
+    }
+
     fn walk_merchants<V: Visit<Merchant>>(&mut self, visitor: &mut V) -> Result<(), BookFault> {
         self.book.walk_merchants(visitor)
     }

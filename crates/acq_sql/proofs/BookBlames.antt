@@ -1,6 +1,6 @@
 -- A book blames its store only since the store failed.
 use Rattle.std.proofs.Common.{◌≡◌, inl, inr, ⊎_elim, ℕ, suc, ◌==◌, Bool, true, false, ◌&&◌, cond}
-use Rattle.std.proofs.Common.{List, [], ◌∷◌, length, filter, is_lt, nat_cmp}
+use Rattle.std.proofs.Common.{List, [], ◌∷◌, length, filter, is_lt, nat_cmp, nat_lt}
 use Rattle.std.proofs.Common.{Result, Ok, Err, IfOk, IfErr, IsErr, refl, sym, ap, subst, ◌∙◌, arith}
 use Rattle.std.specs.Result.{IsErrAnd}
 use Rattle.std.specs.Cmp.Lexicographic.{slice_cmp}
@@ -22,7 +22,7 @@ use Rattle.acq_book.specs.Fits.{Fits, HasItsRequest}
 use Rattle.acq_book.specs.Lookups.{terminal_count_at, range_count_at, pending_at, postings_at}
 use Rattle.acq_book.specs.Lookups.{merchants_at, holds_at, waiting_at, is_posting_before}
 use Rattle.acq_book.specs.Lookups.{is_reference_before, is_authorization, used_on_at}
-use Rattle.acq_book.specs.Lookups.{waiting_count_at}
+use Rattle.acq_book.specs.Lookups.{postings_above_at, postings_behind_at, waiting_count_at}
 use Rattle.acq_book.specs.Order.{put_in_order, in_order}
 use Rattle.acq_book.specs.Groups.{IsLive}
 use Rattle.acq_book.specs.Promise.{BlamesStore, HasRisen}
@@ -219,15 +219,33 @@ module _ (day : ℕ) (s : State) (t : Tables) (o : IsOpenAt s t) (left : HasNumb
       let some = count-le (λ row. row.admitted && (row.day == day)) t.requests in
       (o.past, omega (arith, few, some))
 
-  pub postings_walked : HasPast t × CanBeWalked (postings_at t day)
-  postings_walked =
+-- what it holds of postings
+module _ (s : State) (t : Tables) (o : IsOpenAt s t) (left : HasNumbersLeft s.now) where
+  some_walked : (passes : ℕ × Posting → Bool)
+      → HasPast t × CanBeWalked (in_order is_posting_before (filter passes t.postings))
+  some_walked passes =
       let few =
       number_left posting_row (s.now.trees postings_tree) t.postings o.at.holds.rows.postings
       left.postings in
-      let on_day : ℕ × Posting → Bool = λ row. row.1.day == day in
-      let some = length-filter on_day t.postings in
-      let same = order_length is_posting_before (filter on_day t.postings) in
+      let some = length-filter passes t.postings in
+      let same = order_length is_posting_before (filter passes t.postings) in
       (o.past, omega (arith, few, some, same))
+
+pub postings_walked : (day : ℕ) (s : State) (t : Tables) → IsOpenAt s t → HasNumbersLeft s.now
+    → HasPast t × CanBeWalked (postings_at t day)
+postings_walked day s t o left = some_walked s t o left (λ row. row.1.day == day)
+
+pub above_walked : (m : List ℕ) (day number : ℕ) (s : State) (t : Tables) → IsOpenAt s t
+    → HasNumbersLeft s.now → HasPast t × CanBeWalked (postings_above_at t m day number)
+above_walked m day number s t o left =
+    some_walked s t o left
+    (λ row. bytes_eq row.1.merchant m && (row.1.day == day) && nat_lt number row.0)
+
+pub behind_walked : (m : List ℕ) (day : ℕ) (s : State) (t : Tables) → IsOpenAt s t
+    → HasNumbersLeft s.now → HasPast t × CanBeWalked (postings_behind_at t m day)
+behind_walked m day s t o left =
+    some_walked s t o left
+    (λ row. (row.1.day == day) && is_lt (slice_cmp nat_cmp m row.1.merchant))
 
 -- what it holds of a merchant
 pub holds_walked : (m : List ℕ) (s : State) (t : Tables) → IsOpenAt s t → HasNumbersLeft s.now

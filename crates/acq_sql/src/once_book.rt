@@ -151,6 +151,26 @@ impl<S: Alter> Book for OnceBook<S> {
         self.book.walk_postings(day, visitor)
     }
 
+    fn walk_postings_above<V: Visit<(u64, Posting)>>(
+        &mut self,
+        merchant: MerchantId,
+        day: Day,
+        number: u64,
+        visitor: &mut V,
+    ) -> Result<(), BookFault> {
+        self.book
+            .walk_postings_above(merchant, day, number, visitor)
+    }
+
+    fn walk_postings_behind<V: Visit<(u64, Posting)>>(
+        &mut self,
+        merchant: MerchantId,
+        day: Day,
+        visitor: &mut V,
+    ) -> Result<(), BookFault> {
+        self.book.walk_postings_behind(merchant, day, visitor)
+    }
+
     fn walk_merchants<V: Visit<Merchant>>(&mut self, visitor: &mut V) -> Result<(), BookFault> {
         self.book.walk_merchants(visitor)
     }

@@ -383,6 +383,42 @@ impl<S: Alter> Book for SqlBook<S> {
         counted(&mut self.failures, walked)
     }
 
+    fn walk_postings_above<V: Visit<(u64, Posting)>>(
+        &mut self,
+        merchant: MerchantId,
+        day: Day,
+        number: u64,
+        visitor: &mut V,
+    ) -> Result<(), BookFault> {
+        self.settled();
+        let walked = acq_sql_reads::walk_postings_above(
+            &mut self.connection,
+            self.alloc,
+            merchant,
+            day,
+            number,
+            visitor,
+        );
+        counted(&mut self.failures, walked)
+    }
+
+    fn walk_postings_behind<V: Visit<(u64, Posting)>>(
+        &mut self,
+        merchant: MerchantId,
+        day: Day,
+        visitor: &mut V,
+    ) -> Result<(), BookFault> {
+        self.settled();
+        let walked = acq_sql_reads::walk_postings_behind(
+            &mut self.connection,
+            self.alloc,
+            merchant,
+            day,
+            visitor,
+        );
+        counted(&mut self.failures, walked)
+    }
+
     fn walk_merchants<V: Visit<Merchant>>(&mut self, visitor: &mut V) -> Result<(), BookFault> {
         self.settled();
         let walked = acq_sql_reads::walk_merchants(&mut self.connection, visitor);

@@ -1,14 +1,13 @@
 -- When a walk fails.
 use Rattle.std.proofs.Common.{◌≡◌, ◌++◌, inl, inr, ℕ, true, List, [], ◌∷◌}
 use Rattle.std.proofs.Common.{length, map, None, Result, IfErr, refl, sym, ap, subst}
-use Rattle.std.proofs.Common.{arith}
-use Rattle.std.specs.Prelude.{All}
+use Rattle.std.proofs.Common.{arith, min}
 use Rattle.std.specs.List.{AllByRecursion}
 use Rattle.std.proofs.lemmas.List.{length-append, length-map}
-use Rattle.std.proofs.lemmas.List.Elements.{All-contains}
 use Rattle.sqlite_value.specs.declared.value.Value.TheVariants.{Text}
 use Rattle.sqlite_value.specs.Order.{Row}
 use Rattle.sqlite_sql.specs.Query.{Query}
+use Rattle.sqlite_sql.specs.Term.{Term}
 use Rattle.sqlite_typing.specs.Types.{accepts_program}
 use Rattle.sqlite_tied.specs.Compute.{everything}
 use Rattle.sqlite_rules.specs.Lists.{Has}
@@ -24,9 +23,9 @@ use Rattle.acq_core.specs.declared.posting.Posting.{Posting}
 use Rattle.acq_core.specs.declared.request.Request.{Request}
 use Rattle.acq_core.specs.Pasts.{HasPast}
 use Rattle.acq_core.specs.Tables.{Tables}
-use Rattle.acq_book.specs.Lookups.{holds_at, merchants_at, postings_at, waiting_at}
+use Rattle.acq_book.specs.Lookups.{holds_at, merchants_at, waiting_at}
+use Rattle.acq_book.specs.Lookups.{postings_at, postings_above_at, postings_behind_at}
 use Rattle.acq_soundness.specs.Rows.{FitsMerchant, FitsPosting}
-use Rattle.acq_soundness.proofs.Members.{In, from_In}
 use Rattle.acq_sql_rows.specs.Rows.{version, merchant_row, posting_row, request_row}
 use Rattle.acq_sql_rows.specs.declared.form.Form.{Form}
 use Rattle.acq_sql_rows.specs.Schema.{book_schema}
@@ -38,10 +37,13 @@ use Rattle.acq_sql_reads.specs.WalkQueries as query
 use Rattle.acq_sql_reads.proofs.CardsOfPostings.{cards_valid}
 use Rattle.acq_sql_reads.proofs.Failing.{IsAlone, IsNeverRefused, query_fails, request_fits}
 use Rattle.acq_sql_reads.proofs.Failing.{request_is_read, rows_fit}
+use Rattle.acq_sql_reads.proofs.FittingMembers.{fits_each, in_from}
 use Rattle.acq_sql_reads.proofs.HoldWalk.{holds_among, holds_list}
 use Rattle.acq_sql_reads.proofs.MerchantWalk.{merchants_among, merchants_list}
 use Rattle.acq_sql_reads.proofs.PendingWalk.{waiting_among, waiting_list}
 use Rattle.acq_sql_reads.proofs.PostingWalk.{postings_among, postings_list}
+use Rattle.acq_sql_reads.proofs.PostingWalk.{above_among, above_list, behind_among, behind_list}
+use Rattle.acq_sql_reads.proofs.PostingsAbove.{greatest_number}
 use Rattle.acq_sql_reads.proofs.Walking.{ShowsList, front}
 
 -- ---- its query
@@ -49,6 +51,14 @@ use Rattle.acq_sql_reads.proofs.Walking.{ShowsList, front}
 postings_alone : IsAlone text.postings_text 1
 unfolding understood everything book_schema
 postings_alone = record { whole = λ form. refl; given = λ form. refl }
+
+above_alone : IsAlone text.above_text 3
+unfolding understood everything book_schema
+above_alone = record { whole = λ form. refl; given = λ form. refl }
+
+behind_alone : IsAlone text.behind_text 2
+unfolding understood everything book_schema
+behind_alone = record { whole = λ form. refl; given = λ form. refl }
 
 merchants_alone : IsAlone text.merchants_text 0
 unfolding understood everything book_schema
@@ -67,6 +77,18 @@ typed_postings : (form : Form) (day : ℕ)
 unfolding book_schema
 typed_postings form day = refl
 
+typed_above : (form : Form) (day : ℕ) (m : List ℕ) (n : ℕ)
+    → accepts_program (book_schema form) [] query.above_query
+    (number day ∷ Text m ∷ number n ∷ []) ≡ true
+unfolding book_schema
+typed_above form day m n = refl
+
+typed_behind : (form : Form) (day : ℕ) (m : List ℕ)
+    → accepts_program (book_schema form) [] query.behind_query
+    (number day ∷ Text (m ++ 0 ∷ []) ∷ []) ≡ true
+unfolding book_schema
+typed_behind form day m = refl
+
 typed_merchants : (form : Form) → accepts_program (book_schema form) [] query.merchants_query []
     ≡ true
 unfolding book_schema
@@ -83,15 +105,6 @@ typed_waiting form = refl
 
 -- ---- its rows
 
--- a member of a list is one of it
-in_from : {X : Type 0} (xs : List X) (x : X) → Has xs x → In x xs
-in_from [] x here = absurd here
-in_from (y ∷ xs) x (inl is) = inl (sym is)
-in_from (y ∷ xs) x (inr there) = inr (in_from xs x there)
-
-fits_each : {X : Type 0} (P : X → Type 0) (xs : List X) (x : X) → All P xs → Has xs x → P x
-fits_each P xs x all here = All-contains P xs x all (from_In x xs (in_from xs x here))
-
 merchant_fits_row : (t : Tables) → HasPast t → (y : Merchant) → Has (merchants_at t) y
     → IsMerchantRow (merchant_row y)
 merchant_fits_row t past y here = (
@@ -101,16 +114,15 @@ merchant_fits_row t past y here = (
       (merchants_among t y here),
 )
 
-posting_fits_row : (t : Tables) → HasPast t → (day : ℕ) (y : ℕ × Posting)
-    → Has (postings_at t day) y → IsPostingRow (posting_row y)
-posting_fits_row t past day y here =
-    let listed = postings_among day t y here in (
-      t.limit,
-      y,
-      refl,
-      fits_each (FitsPosting t.limit) t.postings y (rows_fit t past).postings listed,
-      fits_each (λ p. is_valid_card p.1.card ≡ true) t.postings y (cards_valid t past) listed,
-    )
+posting_fits_row : (t : Tables) → HasPast t → (y : ℕ × Posting) → Has t.postings y
+    → IsPostingRow (posting_row y)
+posting_fits_row t past y listed = (
+  t.limit,
+  y,
+  refl,
+  fits_each (FitsPosting t.limit) t.postings y (rows_fit t past).postings listed,
+  fits_each (λ p. is_valid_card p.1.card ≡ true) t.postings y (cards_valid t past) listed,
+)
 
 request_fits_row : (t : Tables) → HasPast t → (y : Request) → Has t.requests y
     → IsRequestRow (request_row y)
@@ -159,16 +171,46 @@ module _ {V : Type 0} (old new : State) (res : Result V Error) (t : Tables)
       query_fails old new res t at free sql params q list.names list.ask lone succeeds
       (failed (shows_only list fits each few))
 
+  -- it hands over postings that pass a test
+  walked_postings : (sql : List ℕ) (params : Row) (test : List Term)
+      {shows : Row → ℕ × Posting → Type 0} {ys : List (ℕ × Posting)}
+      → ShowsList sql params old shows (query.query_of_postings test) posting_row ys
+      → IsAlone sql (length params)
+      → ((form : Form)
+      → accepts_program (book_schema form) [] (query.query_of_postings test) params ≡ true)
+      → ((y : ℕ × Posting) → Has ys y → Has t.postings y) → CanBeWalked ys
+      → Walked sql params IsPostingRow → IfErr res (IsExcused old new)
+  walked_postings sql params test list lone typed among =
+      let it = query.query_of_postings test in
+      walked sql params list IsPostingRow lone
+      (λ db e has. query_succeeds 8 test it.project it.order it.limit (book_schema has.0) params
+      (typed has.0) db e has.1)
+      (λ y here. posting_fits_row t past y (among y here))
+
   pub postings_excused : (day : ℕ) → CanBeWalked (postings_at t day)
       → Walked text.postings_text (number day ∷ []) IsPostingRow → IfErr res (IsExcused old new)
   postings_excused day =
-      walked text.postings_text (number day ∷ []) (postings_list old t day at.holds past)
-      IsPostingRow
-      postings_alone (λ db e has. query_succeeds 8 query.postings_query.filter
-      query.postings_query.project query.postings_query.order
-      query.postings_query.limit (book_schema has.0) (number day ∷ []) (typed_postings has.0 day) db
-      e has.1)
-      (posting_fits_row t past day)
+      walked_postings text.postings_text (number day ∷ []) query.postings_query.filter
+      (postings_list old t day at.holds past) postings_alone (λ form. typed_postings form day)
+      (postings_among day t)
+
+  pub above_excused : (m : List ℕ) (day n : ℕ) → CanBeWalked (postings_above_at t m day n)
+      → Walked text.above_text (number day ∷ Text m ∷ number (min n greatest_number) ∷ [])
+      IsPostingRow → IfErr res (IsExcused old new)
+  above_excused m day n =
+      let top = min n greatest_number in
+      walked_postings text.above_text (number day ∷ Text m ∷ number top ∷ [])
+      query.above_query.filter (above_list old t m day n at.holds past) above_alone
+      (λ form. typed_above form day m top) (above_among m day n t)
+
+  pub behind_excused : (m : List ℕ) (day : ℕ) → CanBeWalked (postings_behind_at t m day)
+      → Walked text.behind_text (number day ∷ Text (m ++ 0 ∷ []) ∷ []) IsPostingRow
+      → IfErr res (IsExcused old new)
+  behind_excused m day =
+      walked_postings text.behind_text (number day ∷ Text (m ++ 0 ∷ []) ∷ [])
+      query.behind_query.filter
+      (behind_list m day old t at.holds past) behind_alone (λ form. typed_behind form day m)
+      (behind_among m day t)
 
   pub merchants_excused : CanBeWalked (merchants_at t)
       → Walked text.merchants_text [] IsMerchantRow → IfErr res (IsExcused old new)

@@ -1,5 +1,6 @@
 -- What the walk over a merchant's holds answers.
-use Rattle.std.proofs.Common.{◌≡◌, ◌&&◌, ◌||◌, ◌==◌, ◌≤◌, Bool, true, false, true≢false, inl, inr, ℕ, pos}
+use Rattle.std.proofs.Common.{◌≡◌, ◌&&◌, ◌||◌, ◌==◌, ◌≤◌, Bool, true, false, true≢false, inl, inr}
+use Rattle.std.proofs.Common.{ℕ, pos}
 use Rattle.std.proofs.Common.{Ordering, Less}
 use Rattle.std.proofs.Common.{Equal}
 use Rattle.std.proofs.Common.{cond, codes, Option, None, Some, List, [], ◌∷◌, map, filter, length}
@@ -49,8 +50,7 @@ use Rattle.acq_sql_reads.proofs.WalkTextLemmas as asks
 use Rattle.acq_sql_reads.proofs.Visiting.{AreOwn}
 use Rattle.acq_sql_reads.proofs.Walking.{ShowsList}
 use Rattle.acq_sql_reads.proofs.Ordering.{sorted_total, ordered_is, in_order_has, filter_both}
-use Rattle.acq_sql_reads.proofs.Ordering.{numbers_compare}
-use Rattle.acq_sql_reads.proofs.Ordering.{numbers_tied}
+use Rattle.acq_sql_reads.proofs.Ordering.{fewer, numbers_compare, numbers_tied}
 use Rattle.acq_sql_reads.proofs.HoldReferences.{holds_referred, in_from_has}
 
 -- ---- by reference: none comes before each
@@ -117,19 +117,6 @@ kind_is NetworkManagement = refl
 
 status_is : (s : Status) → ((status_number s == 3) || (status_number s == 8)) ≡ is_approved s
 status_is = alike (λ s. (status_number s == 3) || (status_number s == 8)) is_approved refl
-
-fewer : {X : Type 0} (p q : X → Bool) → ((x : X) → p x ≡ true → q x ≡ true) → (xs : List X)
-    → length (filter p xs) ≤ length (filter q xs)
-fewer p q narrower [] = omega arith
-fewer p q narrower (x ∷ xs) = go (p x) (q x) (narrower x) (fewer p q narrower xs)
-  where
-    go : (b c : Bool) → (b ≡ true → c ≡ true) → length (filter p xs) ≤ length (filter q xs)
-        → length (cond b (x ∷ filter p xs) (filter p xs))
-        ≤ length (cond c (x ∷ filter q xs) (filter q xs))
-    go true true over rest = omega (arith, rest)
-    go true false over rest = absurd (true≢false (sym (over refl)))
-    go false true over rest = omega (arith, rest)
-    go false false over rest = rest
 
 none_pass : {X : Type 0} (p : X → Bool) (xs : List X) → ((x : X) → Has xs x → p x ≡ true → ⊥)
     → length (filter p xs) ≤ 1

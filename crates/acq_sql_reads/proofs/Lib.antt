@@ -16,6 +16,9 @@ pub mod Showing
 pub mod Walking
 pub mod Ordering
 pub mod MerchantWalk
+pub mod FittingMembers
+pub mod AboveTests
+pub mod PostingsAbove
 pub mod PostingWalk
 pub mod HoldReferences
 pub mod HoldWalk

@@ -83,6 +83,20 @@ filter_both p q (x ∷ xs) =
     ≡ cond (b && q x) (x ∷ filter (λ y. p y && q y) xs) (filter (λ y. p y && q y) xs))
     [ true ↦ ap (λ l. cond (q x) (x ∷ l) l) rest | false ↦ rest ]
 
+-- fewer pass a narrower test
+pub fewer : {X : Type 0} (p q : X → Bool) → ((x : X) → p x ≡ true → q x ≡ true) → (xs : List X)
+    → length (filter p xs) ≤ length (filter q xs)
+fewer p q narrower [] = omega arith
+fewer p q narrower (x ∷ xs) = go (p x) (q x) (narrower x) (fewer p q narrower xs)
+  where
+    go : (b c : Bool) → (b ≡ true → c ≡ true) → length (filter p xs) ≤ length (filter q xs)
+        → length (cond b (x ∷ filter p xs) (filter p xs))
+        ≤ length (cond c (x ∷ filter q xs) (filter q xs))
+    go true true over rest = omega (arith, rest)
+    go true false over rest = absurd (true≢false (sym (over refl)))
+    go false true over rest = omega (arith, rest)
+    go false false over rest = rest
+
 some_there : {X : Type 0} (xs : List X) (x : X) → Has xs x → 1 ≤ length xs
 some_there [] x h = absurd h
 some_there (y ∷ xs) x h = omega arith

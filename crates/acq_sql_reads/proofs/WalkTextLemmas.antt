@@ -1,5 +1,5 @@
 -- What the texts of the walks mean, computed.
-use Rattle.std.proofs.Common.{refl, [], ◌∷◌, codes}
+use Rattle.std.proofs.Common.{ℕ, List, refl, [], ◌∷◌, codes}
 use Rattle.sqlite_tied.specs.Compute.{everything}
 use Rattle.sqlite.specs.Listing.{understood}
 use Rattle.acq_sql_rows.specs.Schema.{book_schema}
@@ -7,12 +7,32 @@ use Rattle.acq_sql_reads.proofs.TextLemmas.{Asks}
 use Rattle.acq_sql_reads.specs.WalkTexts as text
 use Rattle.acq_sql_reads.specs.WalkQueries as query
 
-pub postings_asks : Asks text.postings_text query.postings_query
-    (codes "merchant" ∷ codes "day" ∷ codes "number" ∷ codes "leg" ∷ codes "amount"
-    ∷ codes "reference" ∷ codes "card"
-    ∷ codes "terminal" ∷ codes "trace" ∷ [])
+abbrev pub columns_of_postings : List (List ℕ)
+columns_of_postings =
+    codes "merchant" ∷ codes "day" ∷ codes "number" ∷ codes "leg" ∷ codes "amount"
+    ∷ codes "reference" ∷ codes "card" ∷ codes "terminal" ∷ codes "trace" ∷ []
+
+pub postings_asks : Asks text.postings_text query.postings_query columns_of_postings
 unfolding understood everything book_schema
 postings_asks = record {
+  is = λ form. refl;
+  plain = λ form. (refl, refl);
+  unlisted = λ form. refl;
+  begins = refl;
+}
+
+pub above_asks : Asks text.above_text query.above_query columns_of_postings
+unfolding understood everything book_schema
+above_asks = record {
+  is = λ form. refl;
+  plain = λ form. (refl, refl);
+  unlisted = λ form. refl;
+  begins = refl;
+}
+
+pub behind_asks : Asks text.behind_text query.behind_query columns_of_postings
+unfolding understood everything book_schema
+behind_asks = record {
   is = λ form. refl;
   plain = λ form. (refl, refl);
   unlisted = λ form. refl;

@@ -3,17 +3,34 @@ use Rattle.std.specs.Prelude.{ℕ, List, [], ◌∷◌, codes}
 use Rattle.sqlite_value.specs.declared.keys.Collation.TheVariants.{Binary}
 use Rattle.sqlite_value.specs.declared.value.Value.TheVariants.{Text}
 use Rattle.sqlite_sql.specs.declared.ops.BinaryOp.TheVariants.{Compare, Or}
-use Rattle.sqlite_sql.specs.declared.ops.CompareOp.TheVariants.{Eq}
+use Rattle.sqlite_sql.specs.declared.ops.CompareOp.TheVariants.{Eq, Ge, Gt}
 use Rattle.sqlite_sql.specs.Term.{Term, lit, op2}
 use Rattle.sqlite_sql.specs.Query.{Query}
 use Rattle.row_lemmas.specs.Values.{number}
-use Rattle.row_lemmas.specs.Queries.{plain_query, column, is_param, rising}
+use Rattle.row_lemmas.specs.Queries.{plain_query, column, param, is_param, rising}
 use Rattle.acq_sql_rows.specs.Queries.{columns}
 
+-- postings that pass, by merchant, and of one merchant by number
+abbrev pub query_of_postings : List Term → Query
+query_of_postings passing =
+    plain_query 8 passing (columns 1 9) ((column 1, rising) ∷ (column 3, rising) ∷ [])
+
+-- a column is above a parameter
+abbrev pub is_above : ℕ → ℕ → Term
+is_above at given = op2 (Compare Gt Binary) (column at) (param given)
+
+-- one that is this or above it
+abbrev pub is_from : ℕ → ℕ → Term
+is_from at given = op2 (Compare Ge Binary) (column at) (param given)
+
 abbrev pub postings_query : Query
-postings_query =
-    plain_query 8 (is_param 2 0 ∷ []) (columns 1 9)
-    ((column 1, rising) ∷ (column 3, rising) ∷ [])
+postings_query = query_of_postings (is_param 2 0 ∷ [])
+
+abbrev pub above_query : Query
+above_query = query_of_postings (is_param 2 0 ∷ is_param 1 1 ∷ is_above 3 2 ∷ [])
+
+abbrev pub behind_query : Query
+behind_query = query_of_postings (is_param 2 0 ∷ is_from 1 1 ∷ [])
 
 abbrev pub merchants_query : Query
 merchants_query = plain_query 1 [] (columns 1 3) ((column 1, rising) ∷ [])

@@ -1,9 +1,16 @@
 -- The texts of the walks.
 use Rattle.std.specs.Prelude.{List, ℕ}
-use Rattle.acq_sql_reads.specs.declared.walks.TheConstants.{POSTINGS, MERCHANTS, HOLDS, WAITING}
+use Rattle.acq_sql_reads.specs.declared.walks.TheConstants.{POSTINGS, ABOVE, BEHIND}
+use Rattle.acq_sql_reads.specs.declared.walks.TheConstants.{MERCHANTS, HOLDS, WAITING}
 
 abbrev pub postings_text : List ℕ
 postings_text = POSTINGS.now
+
+abbrev pub above_text : List ℕ
+above_text = ABOVE.now
+
+abbrev pub behind_text : List ℕ
+behind_text = BEHIND.now
 
 abbrev pub merchants_text : List ℕ
 merchants_text = MERCHANTS.now

@@ -33,4 +33,7 @@ pub use reconciliations::last_reconciliation;
 pub use request_row::read_request;
 pub use requests::{by_reference, request};
 pub use running::{totals, used};
-pub use walks::{walk_holds, walk_merchants, walk_pending, walk_postings};
+pub use walks::{
+    walk_holds, walk_merchants, walk_pending, walk_postings, walk_postings_above,
+    walk_postings_behind,
+};

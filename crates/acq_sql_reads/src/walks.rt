@@ -1,9 +1,12 @@
 //! Walks over postings, merchants, holds and the requests that wait for an answer.
 
-ghost use Rattle.std.specs.Prelude.{is_ok};
+ghost use Rattle.std.specs.Prelude.{◌≡◌, ◌-◌, ◌^◌, ◌++◌, ◌∷◌, [], is_ok, min};
 ghost use Rattle.sqlite.specs.Held.{state};
+ghost use Rattle.sqlite_value.specs.Value.{owned};
+ghost use Rattle.row_lemmas.specs.Values.{number};
 ghost use Rattle.acq_core.specs.Pasts.{HasPast};
-ghost use Rattle.acq_book.specs.Lookups.{holds_at, merchants_at, postings_at, waiting_at};
+ghost use Rattle.acq_book.specs.Lookups.{holds_at, merchants_at, waiting_at};
+ghost use Rattle.acq_book.specs.Lookups.{postings_at, postings_above_at, postings_behind_at};
 ghost use Rattle.acq_book.specs.Visits.{SawRows};
 ghost use Rattle.acq_sql_reads.specs.Failing.{CanBeWalked, FailsOnlyExcusedWhere};
 ghost use Rattle.acq_sql_reads.specs.Looked.{LooksOnly};
@@ -14,7 +17,7 @@ use crate::show_rows::show_rows;
 use acq_book::Visit;
 use acq_core::{Merchant, Posting, Request};
 use acq_message::MerchantId;
-use acq_sql_rows::day_value;
+use acq_sql_rows::{day_value, number_value};
 use day_totals::Day;
 use sqlite::types::ValueRef;
 use sqlite::{Alter, Connection, Error};
@@ -22,6 +25,13 @@ use std::alloc::Global;
 
 const POSTINGS: &str = "SELECT merchant, day, number, leg, amount, reference, card, terminal, \
     trace FROM postings WHERE day = ?1 ORDER BY merchant, number";
+
+const ABOVE: &str = "SELECT merchant, day, number, leg, amount, reference, card, terminal, \
+    trace FROM postings WHERE day = ?1 AND merchant = ?2 AND number > ?3 \
+    ORDER BY merchant, number";
+
+const BEHIND: &str = "SELECT merchant, day, number, leg, amount, reference, card, terminal, \
+    trace FROM postings WHERE day = ?1 AND merchant >= ?2 ORDER BY merchant, number";
 
 const MERCHANTS: &str = "SELECT merchant, currency, first FROM merchants ORDER BY merchant";
 
@@ -57,6 +67,84 @@ pub fn walk_postings<S: Alter, V: Visit<(u64, Posting)>>(
         &PostingRows { alloc },
         visitor,
     )
+}
+
+/// Hands over those of a merchant and day with numbers above one, in order of number.
+pub fn walk_postings_above<S: Alter, V: Visit<(u64, Posting)>>(
+    conn: &mut Connection<S>,
+    alloc: Global,
+    merchant: MerchantId,
+    day: Day,
+    number: u64,
+    visitor: &mut V,
+) -> Result<(), Error>
+    ensures seen { WalksAllWhere (state S.Store conn.old) (state S.Store conn.new) result
+        V.sees HasPast (λ t. postings_above_at t merchant day number) visitor.old visitor.new }
+    ensures begun { WalksSomeWhere (state S.Store conn.old) (state S.Store conn.new) result
+        V.sees HasPast (λ t. postings_above_at t merchant day number) visitor.old visitor.new }
+    ensures shown { SawRows V.sees visitor.old visitor.new (is_ok result) }
+    ensures looks { LooksOnly (state S.Store conn.old) (state S.Store conn.new) (is_ok result) }
+    ensures fails { FailsOnlyExcusedWhere (state S.Store conn.old) (state S.Store conn.new) result
+        (λ t. CanBeWalked (postings_above_at t merchant day number)) }
+{
+    let merchant = merchant.to_bytes();
+    show_rows(
+        conn,
+        ABOVE,
+        &[
+            day_value(day),
+            ValueRef::Text(&merchant),
+            number_or_greatest(number),
+        ],
+        &PostingRows { alloc },
+        visitor,
+    )
+}
+
+/// A number, or the greatest that a column can keep, which no posting's number is above.
+fn number_or_greatest(n: u64) -> ValueRef<'static>
+    ensures { owned result ≡ number (min n (2 ^ 63 - 1)) }
+{
+    number_value(n.min(i64::MAX as u64))
+}
+
+/// Hands over those of a day of the merchants whose names are behind one, in order of merchant and
+/// number.
+pub fn walk_postings_behind<S: Alter, V: Visit<(u64, Posting)>>(
+    conn: &mut Connection<S>,
+    alloc: Global,
+    merchant: MerchantId,
+    day: Day,
+    visitor: &mut V,
+) -> Result<(), Error>
+    ensures seen { WalksAllWhere (state S.Store conn.old) (state S.Store conn.new) result
+        V.sees HasPast (λ t. postings_behind_at t merchant day) visitor.old visitor.new }
+    ensures begun { WalksSomeWhere (state S.Store conn.old) (state S.Store conn.new) result
+        V.sees HasPast (λ t. postings_behind_at t merchant day) visitor.old visitor.new }
+    ensures shown { SawRows V.sees visitor.old visitor.new (is_ok result) }
+    ensures looks { LooksOnly (state S.Store conn.old) (state S.Store conn.new) (is_ok result) }
+    ensures fails { FailsOnlyExcusedWhere (state S.Store conn.old) (state S.Store conn.new) result
+        (λ t. CanBeWalked (postings_behind_at t merchant day)) }
+{
+    let next = next_text(merchant);
+    show_rows(
+        conn,
+        BEHIND,
+        &[day_value(day), ValueRef::Text(&next)],
+        &PostingRows { alloc },
+        visitor,
+    )
+}
+
+/// The first of all texts behind a merchant's name. A scan begins there, where one behind the name
+/// itself would pass over all the postings that the merchant has.
+fn next_text(merchant: MerchantId) -> [u8; 16]
+    ensures { result ≡ merchant ++ 0 ∷ [] }
+{
+    let name = merchant.to_bytes();
+    let mut next = [0; 16];
+    next[..15].copy_from_slice(&name);
+    next
 }
 
 /// Hands over the merchants, in order of their names.

@@ -162,6 +162,25 @@ impl Book for AskedBook {
         Ok(())
     }
 
+    fn walk_postings_above<V: Visit<(u64, Posting)>>(
+        &mut self,
+        _merchant: MerchantId,
+        _day: Day,
+        _number: u64,
+        _visitor: &mut V,
+    ) -> Result<(), BookFault> {
+        Ok(())
+    }
+
+    fn walk_postings_behind<V: Visit<(u64, Posting)>>(
+        &mut self,
+        _merchant: MerchantId,
+        _day: Day,
+        _visitor: &mut V,
+    ) -> Result<(), BookFault> {
+        Ok(())
+    }
+
     fn walk_merchants<V: Visit<Merchant>>(&mut self, _visitor: &mut V) -> Result<(), BookFault> {
         Ok(())
     }

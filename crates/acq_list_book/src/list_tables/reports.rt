@@ -4,7 +4,8 @@ ghost use Rattle.std.specs.Prelude.{◌≡◌, map, IfOk};
 ghost use Rattle.std.specs.Map.Iter.{deref};
 ghost use Rattle.acq_book.specs.Lookups.{terminal_count_at, range_count_at, used_on_at, pending_at};
 ghost use Rattle.acq_book.specs.Lookups.{waiting_count_at, last_reconciliation_at};
-ghost use Rattle.acq_book.specs.Lookups.{postings_at, merchants_at, holds_at, waiting_at};
+ghost use Rattle.acq_book.specs.Lookups.{postings_at, postings_above_at, postings_behind_at};
+ghost use Rattle.acq_book.specs.Lookups.{merchants_at, holds_at, waiting_at};
 
 use crate::list_tables::ListTables;
 use crate::walks::{in_order_of_names, in_order_of_numbers, in_order_of_references};
@@ -64,6 +65,31 @@ impl ListTables {
         ensures { IfOk result (λ rows. map deref rows.items ≡ postings_at self.now day) }
     {
         in_order_of_numbers(self.postings.of_day(self.alloc, day))
+    }
+
+    /// Those of a merchant and day with numbers above one, in order of number.
+    pub(crate) fn postings_above(
+        &self,
+        merchant: MerchantId,
+        day: Day,
+        number: u64,
+    ) -> Result<Vec<&(u64, Posting)>, AllocError>
+        ensures { IfOk result (λ rows.
+            map deref rows.items ≡ postings_above_at self.now merchant day number) }
+    {
+        in_order_of_numbers(self.postings.above(self.alloc, merchant, day, number))
+    }
+
+    /// Those of a day of the merchants whose names are behind one, in order of merchant and number.
+    pub(crate) fn postings_behind(
+        &self,
+        merchant: MerchantId,
+        day: Day,
+    ) -> Result<Vec<&(u64, Posting)>, AllocError>
+        ensures { IfOk result (λ rows.
+            map deref rows.items ≡ postings_behind_at self.now merchant day) }
+    {
+        in_order_of_numbers(self.postings.behind(self.alloc, merchant, day))
     }
 
     /// The merchants, in order of their names.
