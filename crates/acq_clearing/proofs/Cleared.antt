@@ -66,7 +66,7 @@ read_of m (row ∷ rows) fit =
 -- ---- what holds of all rows, holds of those of a day in order
 
 module _ {X : Type 0} (P : X → Type 0) where
-  all-filter : (p : X → Bool) (xs : List X) → AllByRecursion P xs → AllByRecursion P (filter p xs)
+  pub all-filter : (p : X → Bool) (xs : List X) → AllByRecursion P xs → AllByRecursion P (filter p xs)
   all-filter p [] all = tt
   all-filter p (x ∷ xs) all =
       elim (p x) as (λ b. AllByRecursion P (cond b (x ∷ filter p xs) (filter p xs))) [
@@ -74,7 +74,7 @@ module _ {X : Type 0} (P : X → Type 0) where
         | false ↦ all-filter p xs all.1
       ]
 
-  all-put : (before : X → X → Bool) (x : X) (ys : List X) → P x → AllByRecursion P ys →
+  pub all-put : (before : X → X → Bool) (x : X) (ys : List X) → P x → AllByRecursion P ys →
       AllByRecursion P (put_in_order before x ys)
   all-put before x [] one all = (one, tt)
   all-put before x (y ∷ ys) one all =
@@ -84,7 +84,7 @@ module _ {X : Type 0} (P : X → Type 0) where
         | false ↦ (one, all)
       ]
 
-  all-in_order : (before : X → X → Bool) (xs : List X) → AllByRecursion P xs →
+  pub all-in_order : (before : X → X → Bool) (xs : List X) → AllByRecursion P xs →
       AllByRecursion P (in_order before xs)
   all-in_order before [] all = tt
   all-in_order before (x ∷ xs) all = all-put before x (in_order before xs) all.0

@@ -1,2 +1,5 @@
 pub mod ReadBack
 pub mod Cleared
+mod Numbers
+mod Rows
+mod Slices

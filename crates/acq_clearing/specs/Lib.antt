@@ -1,3 +1,5 @@
 pub mod ClearingFile
 pub mod ClearedSums
+pub mod Gathering
+pub mod Slices
 pub mod Worked

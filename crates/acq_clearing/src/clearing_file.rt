@@ -17,7 +17,7 @@ use itoa::Buffer;
 use std::alloc::{AllocError, Global};
 
 /// The names of a record's fields.
-const HEADER: &[u8] = b"day,merchant,number,leg,amount,reference,card,terminal,trace\n";
+pub(crate) const HEADER: &[u8] = b"day,merchant,number,leg,amount,reference,card,terminal,trace\n";
 
 /// Writes the clearing file of a day that is over (own profile; `specs/ClearingFile.antt`): CSV, a
 /// header and a record for each posting of the day, in order of the merchants' bytes and the
@@ -93,7 +93,7 @@ impl<K: Sink> Visit<(u64, Posting)> for Postings<'_, K> {
 }
 
 /// A posting's record.
-fn posting_text(alloc: Global, row: &(u64, Posting)) -> Result<Vec<u8>, AllocError>
+pub(crate) fn posting_text(alloc: Global, row: &(u64, Posting)) -> Result<Vec<u8>, AllocError>
     ensures { IfOk result (λ text. text.items ≡ posting_line row.now) }
 {
     let posting = &row.1;

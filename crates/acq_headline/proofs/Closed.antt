@@ -18,59 +18,9 @@ use Rattle.acq_reports.specs.Refusals.{day_refusal, pending_refusal}
 use Rattle.acq_clearing.specs.ClearedSums.{HasAmounts, cleared_totals}
 use Rattle.acq_clearing.specs.ClearingFile.{clearing_header, clearing_text, posting_line}
 use Rattle.acq_clearing.proofs.Cleared.{clears}
+use Rattle.acq_closed_days.proofs.Closed.{given_again, same_postings}
 use Rattle.acq_headline.specs.Clearing.{GivesAgain, KeptItsClearing}
 use Rattle.acq_core.specs.Pasts.{HasPast}
-
--- ---- when a day is given
-
--- none is found exactly where none is counted
-none_passes : {X : Type 0} (p : X → Bool) (xs : List X) → count p xs ≡ 0 → list_any p xs ≡ false
-none_passes p [] e = refl
-none_passes {X} p (x ∷ xs) e = step (p x) (none_passes p xs) e
-  where
-    step : (b : Bool) → (count p xs ≡ 0 → list_any p xs ≡ false) →
-        cond b (1 + count p xs) (count p xs) ≡ 0 →
-        (b || list_any p xs) ≡ false
-    step true rest e = absurd (omega arith)
-    step false rest e = rest e
-
-none_counted : {X : Type 0} (p : X → Bool) (xs : List X) → list_any p xs ≡ false → count p xs ≡ 0
-none_counted p [] e = refl
-none_counted {X} p (x ∷ xs) e = step (p x) (none_counted p xs) e
-  where
-    step : (b : Bool) → (list_any p xs ≡ false → count p xs ≡ 0) → (b || list_any p xs) ≡ false →
-        cond b (1 + count p xs) (count p xs) ≡ 0
-    step true rest e = absurd (cc)
-    step false rest e = rest e
-
--- a day that is given is over
-record IsGiven (t : Tables) (day : ℕ) : Type 0 where
-  over : day < t.day
-  none : has_pending day t.requests ≡ false
-
-given_parts : (over : Bool) (n : ℕ) → cond over (pending_refusal n) (Some DayNotOver) ≡ None →
-    (over ≡ true) × (n ≡ 0)
-given_parts false n e = absurd (cc)
-given_parts true n e = (refl, none_left (n == 0) refl e)
-  where
-    none_left : (b : Bool) → (n == 0) ≡ b → cond b None (Some (StillPending n)) ≡ None → n ≡ 0
-    none_left true is e = grind (arith, nat_tests)
-    none_left false is e = absurd (cc)
-
-is_given : (t : Tables) (day : ℕ) → day_refusal t day ≡ None → IsGiven t day
-is_given t day e =
-    let parts = given_parts (nat_lt day t.day) (pending_at t day) e in
-    record {
-      over = let before = parts.0 in grind (arith, nat_tests);
-      none = none_passes (λ row. is_pending row.status && (row.day == day)) t.requests parts.1;
-    }
-
-not_refused : (t : Tables) (day : ℕ) → day < t.day → has_pending day t.requests ≡ false →
-    day_refusal t day ≡ None
-not_refused t day over none =
-    let before : nat_lt day t.day ≡ true = grind (arith, nat_tests) in
-    let counted = none_counted (λ row. is_pending row.status && (row.day == day)) t.requests none in
-    λ i. cond (before i) (pending_refusal (counted i)) (Some DayNotOver)
 
 -- ---- the sums
 
@@ -81,22 +31,16 @@ has_amounts t past =
 
 -- ---- after a run
 
-text_of_same : (day : ℕ) (t u : Tables) → postings_on day u.postings ≡ postings_on day t.postings →
-    clearing_text u day ≡ clearing_text t day
-text_of_same day t u same =
-    ap (λ rows. clearing_header ++ flat_map posting_line (in_order is_posting_before rows)) same
-
 gives_again : (t : Tables) (further : List Event) (day : ℕ) → HasPast t →
     HasPast (tables_after t further) →
     day_refusal t day ≡ None → GivesAgain t (tables_after t further) day
 gives_again t further day past then refused =
     let now = tables_after t further in
-    let given = is_given t day refused in
-    let closed = closed_day_stays t day further given.over given.none in
-    let same = text_of_same day t now
-    (postings_of_closed_day t day [] further given.over given.none) in
+    let same : clearing_text now day ≡ clearing_text t day =
+    ap (λ rows. clearing_header ++ flat_map posting_line rows)
+    (same_postings t further day refused) in
     record {
-      given = not_refused now day closed.0 closed.1;
+      given = given_again t further day refused;
       same_text = same;
       same_totals = λ m.
           sym (clears now day m (has_amounts now then)).sums

@@ -1,21 +1,23 @@
 //! Reports on the book of a host, while it takes events.
 
-ghost use Rattle.std.specs.Prelude.{◌≡◌, ◌+◌, None};
+ghost use Rattle.std.specs.Prelude.{◌≡◌, ◌+◌, ◌++◌, None, IfOk, is_ok};
 ghost use Rattle.acq_book.specs.Calls.{Looks};
+ghost use Rattle.acq_book.specs.Promise.{CountsFault};
 ghost use Rattle.acq_reports.specs.Faults.{CountsStore, TellsStore, failed_writes, is_settled};
 ghost use Rattle.acq_reports.specs.OpenHolds.{holds_text};
 ghost use Rattle.acq_reports.specs.Refusals.{day_refusal, merchant_refusal};
 ghost use Rattle.acq_reports.specs.SettlementReport.{settlement_text};
-ghost use Rattle.acq_reports.specs.Writing.{Reports};
+ghost use Rattle.acq_reports.specs.Writing.{Allows, Reports};
 ghost use Rattle.acq_clearing.specs.ClearingFile.{clearing_text};
+ghost use Rattle.acq_clearing.specs.Slices.{file_from};
 
 use crate::book_text::BookText;
 use crate::host::Host;
-use acq_book::Book;
-use acq_clearing::clearing;
+use acq_book::{Book, BookFault};
+use acq_clearing::{Bookmark, Slice, clearing, clearing_slice};
 use acq_core::{MerchantId, Moment};
 use acq_link::Sink;
-use acq_reports::{ReportFault, open_holds, settlement};
+use acq_reports::{ReportFault, check_day, open_holds, settlement};
 use day_totals::Day;
 
 impl<B: Book + Drop> Host<B> {
@@ -30,6 +32,26 @@ impl<B: Book + Drop> Host<B> {
         ensures store { TellsStore B.Book self.old self.new result }
     {
         clearing(self.alloc, &mut self.book, day, writer)
+    }
+
+    /// Refuses a day that isn't over, or some of whose requests are pending, as `clearing` does.
+    pub fn check_day(&mut self, day: Day) -> Result<(), ReportFault>
+        ensures refuses { B.is_open self.new → Allows (day_refusal (B.tables self.old) day) result }
+        ensures looks { Looks B.Book self.old self.new (is_settled result) }
+        ensures store { CountsStore result (B.failures self.old) (B.failures self.new) }
+    {
+        check_day(&mut self.book, day)
+    }
+
+    /// A day's clearing file from a bookmark on, in slices, as `clearing_slice` gives it.
+    pub fn clearing_slice(&mut self, day: Day, from: Bookmark) -> Result<Slice, BookFault>
+        ensures text { B.is_honest self.new → B.is_open self.old → IfOk result (λ slice.
+            slice.text.items ++ file_from (B.tables self.old) day slice.next
+            ≡ file_from (B.tables self.old) day from) }
+        ensures looks { Looks B.Book self.old self.new (is_ok result) }
+        ensures store { CountsFault result (B.failures self.old) (B.failures self.new) }
+    {
+        clearing_slice(self.alloc, &mut self.book, day, from)
     }
 
     /// Writes the settlement report of a day that is over, as `settlement` does.
