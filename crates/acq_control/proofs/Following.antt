@@ -22,7 +22,7 @@ own_same k a xs is =
     let same : (a.connection == k) ≡ true = grind (arith, nat_tests) in
     ap (λ (b : Bool). cond b xs []) same
 
-own_other : {X : Type 0} (k : ℕ) (a : Act) (xs : List X) → a.connection ≢ k → own k a xs ≡ []
+pub own_other : {X : Type 0} (k : ℕ) (a : Act) (xs : List X) → a.connection ≢ k → own k a xs ≡ []
 own_other k a xs other =
     let differs : (a.connection == k) ≡ false = grind (arith, nat_tests) in
     ap (λ (b : Bool). cond b xs []) differs
@@ -81,15 +81,16 @@ follows_fed k t acts input output held unsent piece taken f = record {
 }
 
 pub follows_written : (k : ℕ) (t : Tables) (acts : List Act)
-    (input output held unsent : List ℕ) (taken n : ℕ) →
-    FollowsActs k t acts input output held unsent taken →
-    FollowsActs k t acts input (output ++ take n unsent) held (drop n unsent) taken
-follows_written k t acts input output held unsent taken n f = record {
+    (input output held unsent rest : List ℕ) (taken n : ℕ) →
+    FollowsActs k t acts input output held (unsent ++ rest) taken →
+    FollowsActs k t acts input (output ++ take n unsent) held (drop n unsent ++ rest) taken
+follows_written k t acts input output held unsent rest taken n f = record {
   came = f.came;
   count = f.count;
   asked = f.asked;
-  written = append_assoc output (take n unsent) (drop n unsent)
-      ∙ ap (λ (l : List ℕ). output ++ l) (take-append-drop n unsent) ∙ f.written;
+  written = append_assoc output (take n unsent) (drop n unsent ++ rest)
+      ∙ ap (λ (l : List ℕ). output ++ l) (sym (append_assoc (take n unsent) (drop n unsent) rest))
+      ∙ ap (λ (l : List ℕ). output ++ (l ++ rest)) (take-append-drop n unsent) ∙ f.written;
 }
 
 -- an act that has nothing for the connection
@@ -127,7 +128,7 @@ follows_other k t acts a input output held unsent taken f other =
     (λ now number. own_other k a (said_to now number a.deed) other)
     (λ is. absurd (other is))
 
-own_none : {X : Type 0} (k : ℕ) (a : Act) → own {X = X} k a [] ≡ []
+pub own_none : {X : Type 0} (k : ℕ) (a : Act) → own {X = X} k a [] ≡ []
 own_none k a = cond_none (a.connection == k)
   where
     cond_none : {X : Type 0} (b : Bool) → cond {A = List X} b [] [] ≡ []

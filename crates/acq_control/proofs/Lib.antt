@@ -4,6 +4,7 @@ pub mod Following
 mod Doing
 mod Ending
 mod Turning
+pub mod Unmade
 mod Rounds
 mod AnswersRead
 mod Told

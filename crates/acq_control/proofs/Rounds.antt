@@ -1,24 +1,29 @@
 -- How one round goes.
 use Rattle.std.proofs.Common.{◌≡◌, ◌≢◌, ◌==◌, ℕ, Bool, true, false, List, [], ◌∷◌, Option, Result}
 use Rattle.std.proofs.Common.{Ok, Err, ap, arith, length, sym, ◌∙◌, ◌++◌, take, drop, refl, subst}
-use Rattle.std.proofs.Common.{true≢false}
+use Rattle.std.proofs.Common.{None, Some, is_some, true≢false}
 use Rattle.std.proofs.lemmas.Bool.Decides.{nat_tests}
 use Rattle.acq_core.specs.Tables.{Tables}
 use Rattle.acq_front.specs.Stops.{Left, LeavesAll}
 use Rattle.acq_status.specs.declared.serving.Serving.{Serving}
 use Rattle.acq_control.specs.declared.question.Question.{Question}
-use Rattle.acq_control.specs.Answers.{answer_of}
-use Rattle.acq_control.specs.Ends.{End, TakesLine, WaitsOn}
+use Rattle.acq_control.specs.Answers.{answer_of, tables_behind}
+use Rattle.acq_control.specs.Ends.{End, MakesSlice, TakesLine, WaitsOn}
+use Rattle.acq_control.specs.Log.{FollowsActs, asked_by, behind_acts}
+use Rattle.acq_control.specs.Unmade.{MayBeUnmade, unmade_at}
+use Rattle.acq_control.specs.declared.clearing_answer.ClearingAnswer.{ClearingAnswer}
 use Rattle.acq_front.specs.Faults.{UnlessRefused}
 use Rattle.acq_front.specs.declared.front_fault.FrontFault as fault
 use Rattle.acq_control.specs.Exchanges.{AsksOne, Goes, MovesOn, Passed}
 use Rattle.acq_control.specs.declared.control_round.ControlRound.{ControlRound}
-use Rattle.acq_control.specs.declared.control_round.ControlRound.TheVariants.{Ended, GoesOn, Took}
+use Rattle.acq_control.specs.declared.control_round.ControlRound.TheVariants.{Ended, GoesOn, Made}
+use Rattle.acq_control.specs.declared.control_round.ControlRound.TheVariants.{Took}
 use Rattle.acq_control.specs.declared.control_round.ControlRound.TheVariants.{Waits}
 use Rattle.acq_control.specs.Questions.{wish_of}
 use Rattle.acq_control.specs.Held.{Held, HoldsMore}
 use Rattle.acq_control.specs.declared.wish.Wish.{Wish}
-use Rattle.acq_control.proofs.Following.{follows_asked, follows_fed, follows_written}
+use Rattle.acq_control.proofs.Following.{behind-append, follows_asked, follows_fed}
+use Rattle.acq_control.proofs.Following.{follows_written}
 
 module _ (may_give : ℕ → Type 0) (serving : Serving) (old : Tables) (left : Left) where
   -- a line was taken
@@ -30,6 +35,7 @@ module _ (may_give : ℕ → Type 0) (serving : Serving) (old : Tables) (left : 
         held = before.held;
         went = went;
         unsent = [];
+        unmade = None;
         taken = before.taken;
       })
       (record {
@@ -37,6 +43,7 @@ module _ (may_give : ℕ → Type 0) (serving : Serving) (old : Tables) (left : 
         held = after.held;
         went = went;
         unsent = after.unsent;
+        unmade = after.unmade;
         taken = after.taken;
       })
   takes_on came went before after asked wish took is_so = record {
@@ -48,58 +55,118 @@ module _ (may_give : ℕ → Type 0) (serving : Serving) (old : Tables) (left : 
     tables = took.tables;
     stop = took.stop;
     follows = λ k t acts is f.
-        let front = took.takes f.held f.holds in (
+        let front = took.takes f.held f.holds in
+        let act = asked_by k took.moment front.line asked in
+        let behind : left.tables ≡ behind_acts t (acts ++ act ∷ []) =
+        took.tables ∙ ap (λ (x : Tables). tables_behind x asked) is
+        ∙ sym (behind-append t acts (act ∷ [])) in (
           front.line,
           record {
             held = front.rest;
             holds = front.holds;
-            follows = follows_asked k t acts came went f.held front.rest after.unsent front.line
+            follows = subst (λ (x : Tables). FollowsActs k t (acts ++ act ∷ []) came went front.rest
+                (after.unsent ++ unmade_at x after.unmade) after.taken) behind
+                (follows_asked k t acts came went f.held front.rest
+                (after.unsent ++ unmade_at left.tables after.unmade) front.line
                 before.taken after.taken took.moment asked f.follows front.begins front.asks
-                took.count (took.answers ∙ ap (λ (t : Tables). answer_of t after.taken asked) is);
+                took.count (took.answers ∙ ap (λ (t : Tables). answer_of t after.taken asked) is));
+            may = subst (λ (x : Tables). MayBeUnmade x after.unmade) behind took.unmade;
           },
         );
   }
 
   -- some of an answer was written
-  pub writes_on : (came went : List ℕ) (held : Held) (unsent : List ℕ) (taken n : ℕ) →
+  pub writes_on : (came went : List ℕ) (held : Held) (unsent : List ℕ)
+      (unmade : Option ClearingAnswer) (taken n : ℕ) →
       left.tables ≡ old →
       LeavesAll left old [] →
       MovesOn may_give serving old left
-      (record { came = came; held = held; went = went; unsent = unsent; taken = taken })
+      (record {
+        came = came;
+        held = held;
+        went = went;
+        unsent = unsent;
+        unmade = unmade;
+        taken = taken;
+      })
       (record {
         came = came;
         held = held;
         went = went ++ take n unsent;
         unsent = drop n unsent;
+        unmade = unmade;
         taken = taken;
       })
-  writes_on came went held unsent taken n same stop = record {
+  writes_on came went held unsent unmade taken n same stop = record {
     tables = same;
     stop = stop;
     follows = λ k t acts is f. record {
       held = f.held;
       holds = f.holds;
-      follows = follows_written k t acts came went f.held unsent taken n f.follows;
+      follows = follows_written k t acts came went f.held unsent
+          (unmade_at (behind_acts t acts) unmade) taken n f.follows;
+      may = f.may;
     };
   }
 
-  -- no line was whole, and a piece was read
-  pub reads_on : (came went : List ℕ) (before mid : End) (after : Passed) (piece : List ℕ) →
-      WaitsOn may_give serving old left before mid → after.came ≡ came ++ piece →
-      HoldsMore mid.held after.held piece → after.went ≡ went → after.unsent ≡ mid.unsent →
-      after.taken ≡ mid.taken →
+  -- a slice was made
+  pub makes_on : (came went : List ℕ) (before after : End) →
+      MakesSlice old left before after → before.unsent ≡ [] →
       MovesOn may_give serving old left
       (record {
         came = came;
         held = before.held;
         went = went;
         unsent = before.unsent;
+        unmade = before.unmade;
+        taken = before.taken;
+      })
+      (record {
+        came = came;
+        held = after.held;
+        went = went;
+        unsent = after.unsent;
+        unmade = after.unmade;
+        taken = after.taken;
+      })
+  makes_on came went before after made none = record {
+    tables = made.tables;
+    stop = made.stop;
+    follows = λ k t acts is f.
+        let may = subst (λ (x : Tables). MayBeUnmade x before.unmade) (sym is) f.may in
+        let same : after.unsent ++ unmade_at (behind_acts t acts) after.unmade
+        ≡ before.unsent ++ unmade_at (behind_acts t acts) before.unmade =
+        subst (λ (x : Tables). after.unsent ++ unmade_at x after.unmade
+        ≡ before.unsent ++ unmade_at x before.unmade) is
+        (made.rest may ∙ ap (λ (l : List ℕ). l ++ unmade_at old before.unmade) (sym none)) in
+        record {
+          held = f.held;
+          holds = rw made.held f.holds;
+          follows = rw (same, made.taken) f.follows;
+          may = subst (λ (x : Tables). MayBeUnmade x after.unmade) is (made.unmade may);
+        };
+  }
+
+  -- no line was whole, and a piece was read
+  pub reads_on : (came went : List ℕ) (before mid : End) (after : Passed) (piece : List ℕ) →
+      WaitsOn may_give serving old left before mid → after.came ≡ came ++ piece →
+      HoldsMore mid.held after.held piece → after.went ≡ went → after.unsent ≡ mid.unsent →
+      after.unmade ≡ mid.unmade → after.taken ≡ mid.taken →
+      MovesOn may_give serving old left
+      (record {
+        came = came;
+        held = before.held;
+        went = went;
+        unsent = before.unsent;
+        unmade = before.unmade;
         taken = before.taken;
       })
       after
-  reads_on came went before mid after piece waits comes more wrote unsent taken =
+  reads_on came went before mid after piece waits comes more wrote unsent unmade taken =
       let then_unsent : after.unsent ≡ before.unsent =
       unsent ∙ ap (λ (e : End). e.unsent) waits.same in
+      let then_unmade : after.unmade ≡ before.unmade =
+      unmade ∙ ap (λ (e : End). e.unmade) waits.same in
       let then_taken : after.taken ≡ before.taken =
       taken ∙ ap (λ (e : End). e.taken) waits.same in
       record {
@@ -109,8 +176,11 @@ module _ (may_give : ℕ → Type 0) (serving : Serving) (old : Tables) (left : 
           held = f.held ++ piece;
           holds = subst (λ (e : End). HoldsMore e.held after.held piece) waits.same more f.held
               f.holds;
-          follows = rw (comes, wrote, then_unsent, then_taken)
-              (follows_fed k t acts came went f.held before.unsent piece before.taken f.follows);
+          follows = rw (comes, wrote, then_unsent, then_unmade, then_taken)
+              (follows_fed k t acts came went f.held
+              (before.unsent ++ unmade_at (behind_acts t acts) before.unmade) piece before.taken
+              f.follows);
+          may = rw then_unmade f.may;
         };
       }
 
@@ -120,6 +190,7 @@ module _ (may_give : ℕ → Type 0) (serving : Serving) (old : Tables) (left : 
       MovesOn may_give serving old left before after →
       UnlessRefused r (Goes may_give serving old left before after r)
   moved_on before after (Ok GoesOn) not on = on
+  moved_on before after (Ok Made) not on = on
   moved_on before after (Ok (Took wish)) not on = absurd (not wish refl)
   moved_on before after (Ok Waits) not on = on
   moved_on before after (Ok Ended) not on = on
@@ -138,3 +209,8 @@ none_left [] left b is on same = sym same
 none_left (x ∷ seen) left b is on same =
     let some : (length (x ∷ seen) == 0) ≡ false = grind (arith, nat_tests) in
     absurd (true≢false (sym on ∙ is ∙ some))
+
+-- nothing is still to be made, where that was seen
+pub unmade_none : (o : Option ClearingAnswer) (b : Bool) → b ≡ is_some o → b ≡ false → o ≡ None
+unmade_none None b is unmade = refl
+unmade_none (Some c) b is unmade = absurd (true≢false (sym is ∙ unmade))

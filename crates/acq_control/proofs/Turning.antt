@@ -1,5 +1,5 @@
 -- How a turn goes that takes a line.
-use Rattle.std.proofs.Common.{◌≡◌, ◌+◌, ℕ, true, List, Option, Ok, sym}
+use Rattle.std.proofs.Common.{◌≡◌, ◌+◌, ◌++◌, ℕ, true, List, Option, Ok, sym}
 use Rattle.acq_book.specs.declared.book.Book.{Ghosts}
 use Rattle.acq_host.proofs.Runs.{LeavesTables}
 use Rattle.acq_front.specs.Stops.{left_of}
@@ -10,6 +10,7 @@ use Rattle.acq_control.specs.Doing.{Does}
 use Rattle.acq_control.specs.Ends.{BeginsWithAsked, End, Steps}
 use Rattle.acq_control.specs.Held.{Held, Holds, IsTaken, TakesFront}
 use Rattle.acq_control.specs.Questions.{Asks, Shows, wish_of}
+use Rattle.acq_control.specs.Unmade.{MayBeUnmade, unmade_at}
 use Rattle.acq_control.specs.declared.control_turn.ControlTurn.TheVariants.{Took}
 use Rattle.acq_control.specs.declared.taken_line.TakenLine.{TakenLine}
 use Rattle.acq_control.specs.declared.wish.Wish.{Wish}
@@ -37,10 +38,13 @@ module _ {S : Type 0} (may_give : ℕ → Type 0) (serving : Serving) (book : Gh
       ((bytes : List ℕ) → Holds before.held bytes →
       BeginsWithAsked after.held moment asked bytes) →
       may_give moment → Shows serving asked →
-      Does book a c asked true → after.unsent ≡ answer_of (book.tables a) after.taken asked →
+      Does book a c asked true →
+      after.unsent ++ unmade_at (book.tables c) after.unmade
+      ≡ answer_of (book.tables a) after.taken asked →
+      MayBeUnmade (book.tables c) after.unmade →
       after.taken ≡ before.taken + 1 → wish ≡ wish_of asked →
       Steps may_give serving (book.tables a) (left_of book c) before after (Ok (Took wish))
-  line_taken moment asked wish takes given shows does answers count is = (
+  line_taken moment asked wish takes given shows does answers unmade count is = (
     asked,
     record {
       moment = moment;
@@ -50,6 +54,7 @@ module _ {S : Type 0} (may_give : ℕ → Type 0) (serving : Serving) (book : Gh
       tables = done_tables book a c honest opened asked does;
       stop = done_stop book a c honest opened settled stored asked does;
       answers = answers;
+      unmade = unmade;
       count = count;
     },
     sym is,

@@ -20,6 +20,10 @@ use Rattle.acq_faults.specs.declared.fault.Fault.TheVariants.{BadLine, OtherDay}
 use Rattle.acq_control.specs.declared.question.Question.{Question}
 use Rattle.acq_control.specs.declared.question.Question.TheVariants as question
 
+-- how many bytes a text has that follows
+abbrev pub heading_of : ℕ → List ℕ
+heading_of bytes = codes "text " ++ decimal bytes ++ codes "\n"
+
 -- a text: how many bytes it has, and then these
 abbrev pub text_answer : List ℕ → List ℕ
 text_answer text = codes "text " ++ decimal (length text) ++ codes "\n" ++ text

@@ -42,6 +42,13 @@ Does book old new other done = Looks book old new done
 abbrev pub DoesSome : {S : Type 0} → Ghosts S → S → S → Option Question → Type 0
 DoesSome book old new asked = (done : Bool) × Does book old new asked done
 
+-- the text was refused for what was asked, and neither for memory nor by the store
+abbrev pub IsRefusal : report.ReportFault → Type 0
+IsRefusal report.TheVariants.Memory = ⊥
+IsRefusal report.TheVariants.Store = ⊥
+IsRefusal (report.TheVariants.Write n) = ⊥
+IsRefusal other = Unit {0}
+
 -- neither memory nor the store refused a text
 abbrev pub IsSettled : Result (Unit {0}) report.ReportFault → Type 0
 IsSettled made = is_settled made ≡ true

@@ -11,6 +11,8 @@ use Rattle.acq_control.specs.Held.{Held, Holds}
 use Rattle.acq_status.specs.declared.serving.Serving.{Serving}
 use Rattle.acq_control.specs.Questions.{Asks, Shows, wish_of}
 use Rattle.acq_control.specs.Answers.{answer_of, events_asked, tables_behind}
+use Rattle.acq_control.specs.Unmade.{MayBeUnmade, unmade_at}
+use Rattle.acq_control.specs.declared.clearing_answer.ClearingAnswer.{ClearingAnswer}
 use Rattle.acq_control.specs.declared.control_conversation.ControlConversation.{ControlConversation}
 use Rattle.acq_control.specs.declared.control_turn.ControlTurn.{ControlTurn}
 use Rattle.acq_control.specs.declared.control_turn.ControlTurn.TheVariants.{Waits, Took}
@@ -20,13 +22,17 @@ use Rattle.acq_control.specs.declared.question.Question.{Question}
 abbrev pub held_of : ControlConversation → Held
 held_of c = c.input
 
--- what of the answer in hand is still to be written
+-- what of the answer is made and still to be written
 abbrev pub unsent_of : ControlConversation → List ℕ
 unsent_of c = drop c.gone (sent_of c.answer)
 
--- how many bytes of it were written
+-- how many bytes of that were written
 abbrev pub gone_of : ControlConversation → ℕ
 gone_of c = c.gone
+
+-- what of it is still to be made, before more is to be written
+abbrev pub unmade_of : ControlConversation → Option ClearingAnswer
+unmade_of c = c.unmade
 
 -- how many lines were taken
 abbrev pub taken_of : ControlConversation → ℕ
@@ -36,10 +42,16 @@ taken_of c = c.taken
 pub record End : Type 0 where
   pub held : Held
   pub unsent : List ℕ
+  pub unmade : Option ClearingAnswer
   pub taken : ℕ
 
 abbrev pub end_of : ControlConversation → End
-end_of c = record { held = held_of c; unsent = unsent_of c; taken = taken_of c }
+end_of c = record {
+  held = held_of c;
+  unsent = unsent_of c;
+  unmade = unmade_of c;
+  taken = taken_of c;
+}
 
 -- What came begins with a line, which asks this at this moment, and behind it stands what is held.
 pub record BeginsWithAsked (after : Held) (moment : ℕ) (asked : Option Question) (bytes : List ℕ)
@@ -59,6 +71,17 @@ pub record RefusesLine (old : Tables) (left : Left) : Type 0 where
   pub tables : left.is_open → left.tables ≡ tables_after old taken
   pub stop : LeavesSome left old taken in_hand
 
+-- A slice was made: what is to be written now, and behind it what is then still to be made, is
+-- what was still to be made.
+pub record MakesSlice (old : Tables) (left : Left) (before after : End) : Type 0 where
+  pub tables : left.tables ≡ old
+  pub stop : LeavesAll left old []
+  pub held : after.held ≡ before.held
+  pub taken : after.taken ≡ before.taken
+  pub rest : MayBeUnmade old before.unmade →
+      after.unsent ++ unmade_at old after.unmade ≡ unmade_at old before.unmade
+  pub unmade : MayBeUnmade old before.unmade → MayBeUnmade old after.unmade
+
 module _ (may_give : ℕ → Type 0) (serving : Serving) (old : Tables) (left : Left) where
   -- nothing was taken, and a stop leaves the tables as they are
   pub record WaitsOn (before after : End) : Type 0 where
@@ -76,7 +99,9 @@ module _ (may_give : ℕ → Type 0) (serving : Serving) (old : Tables) (left : 
     pub shows : Shows serving asked
     pub tables : left.tables ≡ tables_behind old asked
     pub stop : LeavesAll left old (events_asked old asked)
-    pub answers : after.unsent ≡ answer_of old after.taken asked
+    pub answers : after.unsent ++ unmade_at left.tables after.unmade
+        ≡ answer_of old after.taken asked
+    pub unmade : MayBeUnmade left.tables after.unmade
     pub count : after.taken ≡ before.taken + 1
 
   -- one turn

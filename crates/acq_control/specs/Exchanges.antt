@@ -1,6 +1,6 @@
 -- One control connection to a host that has many, a round at a time.
 use Rattle.std.specs.Prelude.{◌≡◌, ◌+◌, ◌<◌, ℕ, Bool, true, false, List, [], ◌∷◌, ◌++◌}
-use Rattle.std.specs.Prelude.{length, Option, Result, Ok, Err}
+use Rattle.std.specs.Prelude.{length, Option, None, Result, Ok, Err}
 use Rattle.acq_core.specs.Tables.{Tables}
 use Rattle.acq_front.specs.Stops.{Left, LeavesAll}
 use Rattle.acq_front.specs.declared.front_fault.FrontFault.{FrontFault}
@@ -13,6 +13,8 @@ use Rattle.acq_control.specs.Questions.{Shows, wish_of}
 use Rattle.acq_control.specs.Answers.{events_asked, tables_behind}
 use Rattle.acq_control.specs.Log.{Act, FollowsActs, asked_by, behind_acts}
 use Rattle.acq_control.specs.Ends as turns
+use Rattle.acq_control.specs.Unmade.{MayBeUnmade, unmade_at}
+use Rattle.acq_control.specs.declared.clearing_answer.ClearingAnswer.{ClearingAnswer}
 use Rattle.acq_control.specs.declared.control_exchange.ControlExchange.{ControlExchange}
 use Rattle.acq_control.specs.declared.control_round.ControlRound.{ControlRound}
 use Rattle.acq_control.specs.declared.control_round.ControlRound.TheVariants.{Ended, GoesOn, Took}
@@ -25,9 +27,11 @@ pub record Passed : Type 0 where
   -- what came, and what of it belongs to no line yet
   pub came : List ℕ
   pub held : Held
-  -- what went out, and what of an answer is still to be written
+  -- what went out, what of an answer is made and still to be written, and what of it is still to
+  -- be made
   pub went : List ℕ
   pub unsent : List ℕ
+  pub unmade : Option ClearingAnswer
   -- how many lines were taken
   pub taken : ℕ
 
@@ -41,6 +45,9 @@ module _ {L : Type 0} where
   abbrev pub unsent_of : ControlExchange L → List ℕ
   unsent_of e = turns.unsent_of e.conversation
 
+  abbrev pub unmade_of : ControlExchange L → Option ClearingAnswer
+  unmade_of e = turns.unmade_of e.conversation
+
   abbrev pub taken_of : ControlExchange L → ℕ
   taken_of e = turns.taken_of e.conversation
 
@@ -51,6 +58,7 @@ module _ {L : Type 0} where
     held = held_of e;
     went = sent (line_of e);
     unsent = unsent_of e;
+    unmade = unmade_of e;
     taken = taken_of e;
   }
 
@@ -59,13 +67,16 @@ module _ {L : Type 0} where
 pub record FollowsLog (k : ℕ) (t : Tables) (acts : List Act) (p : Passed) : Type 0 where
   pub held : List ℕ
   pub holds : Holds p.held held
-  pub follows : FollowsActs k t acts p.came p.went held p.unsent p.taken
+  pub follows : FollowsActs k t acts p.came p.went held
+      (p.unsent ++ unmade_at (behind_acts t acts) p.unmade) p.taken
+  pub may : MayBeUnmade (behind_acts t acts) p.unmade
 
 -- Nothing came, nothing went out, and nothing more is said.
 pub record IsSilent (before after : Passed) : Type 0 where
   pub came : after.came ≡ before.came
   pub went : after.went ≡ before.went
   pub unsent : after.unsent ≡ before.unsent
+  pub unmade : after.unmade ≡ before.unmade
   pub taken : after.taken ≡ before.taken
 
 -- whether a round tells that the input ended
@@ -74,20 +85,24 @@ tells_end (Ok Ended) = true
 tells_end (Err fault.Ended) = true
 tells_end other = false
 
--- Where the connection ended: at its own end nothing is held, and nothing is still to be written;
--- else the beginning of a line is held, behind which the input ended. No line is too long for it.
-abbrev pub EndsWith : Held → List ℕ → Result ControlRound FrontFault → Type 0
-EndsWith held unsent (Ok Ended) = (is_nothing held ≡ true) × (unsent ≡ [])
-EndsWith held unsent (Err fault.BadLength) = ⊥
-EndsWith held unsent (Err fault.Ended) = IsInLine held.kept × (is_nothing held ≡ false)
-EndsWith held unsent (Err (fault.Undecodable f)) = ⊥
-EndsWith held unsent other = Unit {0}
+-- Where the connection ended: at its own end nothing is held, and nothing is still to be written
+-- or made; else the beginning of a line is held, behind which the input ended. No line is too long
+-- for it.
+abbrev pub EndsWith : Held → List ℕ → Option ClearingAnswer → Result ControlRound FrontFault
+    → Type 0
+EndsWith held unsent unmade (Ok Ended) =
+    (is_nothing held ≡ true) × (unsent ≡ []) × (unmade ≡ None)
+EndsWith held unsent unmade (Err fault.BadLength) = ⊥
+EndsWith held unsent unmade (Err fault.Ended) = IsInLine held.kept × (is_nothing held ≡ false)
+EndsWith held unsent unmade (Err (fault.Undecodable f)) = ⊥
+EndsWith held unsent unmade other = Unit {0}
 
 -- how much passed: bytes in, bytes out, and lines
 abbrev pub amount_passed : Passed → ℕ
 amount_passed p = length p.came + length p.went + p.taken
 
--- a round that goes on did something, and one that waits did nothing
+-- A round that goes on did something, and one that waits did nothing. A slice that was made may be
+-- one that nothing is written of yet.
 abbrev pub Moves : Passed → Passed → Result ControlRound FrontFault → Type 0
 Moves before after (Ok GoesOn) = amount_passed before < amount_passed after
 Moves before after (Ok (Took wish)) = amount_passed before < amount_passed after

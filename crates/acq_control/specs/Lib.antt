@@ -2,6 +2,7 @@ pub mod Lines
 pub mod Held
 pub mod Questions
 pub mod Answers
+pub mod Unmade
 pub mod Doing
 pub mod Log
 pub mod Ends

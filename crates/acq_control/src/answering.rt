@@ -1,7 +1,7 @@
 //! What a host says to questions.
 
 ghost use Rattle.std.specs.Prelude.{◌≡◌, ◌++◌, [], Bool, IfErr, IfOk, List, OnErr, OnOk};
-ghost use Rattle.std.specs.Prelude.{Option, Some, codes, true, ℕ};
+ghost use Rattle.std.specs.Prelude.{Err, Option, Some, codes, true, ℕ};
 ghost use Rattle.acq_link.specs.MemorySink.{sent_of};
 ghost use Rattle.acq_core.specs.Arrivals.{arrival_of};
 ghost use Rattle.acq_core.specs.Tables.{step_output};
@@ -10,18 +10,24 @@ ghost use Rattle.acq_book.specs.declared.book_fault.BookFault.TheVariants.{Memor
 ghost use Rattle.acq_out.specs.OutputLines.{line_of};
 ghost use Rattle.acq_reports.specs.OpenHolds.{holds_text};
 ghost use Rattle.acq_reports.specs.Refusals.{day_refusal, merchant_refusal};
+ghost use Rattle.acq_reports.specs.SettlementReport.{settlement_text};
 ghost use Rattle.acq_reports.specs.Writing.{Reports};
 ghost use Rattle.acq_reports.specs.declared.report_fault.ReportFault as report_fault;
+ghost use Rattle.acq_clearing.specs.ClearingFile.{clearing_text};
 ghost use Rattle.acq_faults.specs.DayReport.{report_text};
-ghost use Rattle.acq_faults.specs.Faults.{fault_line};
+ghost use Rattle.acq_faults.specs.Faults.{fault_line, of_report};
 ghost use Rattle.acq_stand_in.specs.Pending.{pending_text};
-ghost use Rattle.acq_control.specs.Answers.{answer_of, answer_to_end, text_answer};
+ghost use Rattle.acq_control.specs.Answers.{answer_of, answer_to_end, heading_of, text_answer};
 ghost use Rattle.acq_control.specs.Answers.{text_unless_refused};
-ghost use Rattle.acq_control.specs.Doing.{Does, DoesSome, IsSettled, TellsAs, TellsStore};
+ghost use Rattle.acq_control.specs.Doing.{Does, DoesSome, IsRefusal, IsSettled, TellsAs};
+ghost use Rattle.acq_control.specs.Doing.{TellsStore};
+ghost use Rattle.acq_control.specs.Unmade.{Puts, Says};
 ghost use Rattle.acq_control.specs.declared.question.Question.TheVariants as question;
 
+use crate::clearing_answer::ClearingAnswer;
 use crate::pending_text::PendingText;
 use crate::question::Question;
+use crate::said::Said;
 use crate::status_text::StatusText;
 use acq_book::{Book, BookFault};
 use acq_core::{Event, MerchantId, Moment};
@@ -42,56 +48,80 @@ pub(crate) fn answer_to<B: Book + Drop>(
     host: &mut Host<B>,
     number: u64,
     asked: Option<Question>,
-) -> Result<MemorySink, BookFault>
-    ensures answers { B.is_honest host.new → B.is_open host.old → IfOk result (λ answer.
-        sent_of answer ≡ answer_of (B.tables host.old) number asked) }
+) -> Result<Said, BookFault>
+    ensures answers { B.is_honest host.new → B.is_open host.old → IfOk result
+        (Says (B.tables host.old) (B.tables host.new) number asked) }
     ensures does { OnOk result (Does B.Book host.old host.new asked true) }
     ensures refused { OnErr result (DoesSome B.Book host.old host.new asked) }
     ensures store { TellsStore B.Book host.old host.new result }
 {
-    let mut answer = MemorySink::new(alloc);
-    let said = put_answer(alloc, host, number, &asked, &mut answer);
+    let mut text = MemorySink::new(alloc);
+    let put = put_answer(alloc, host, number, &asked, &mut text);
     drop(asked);
-    match said {
-        Ok(()) => Ok(answer),
+    match put {
+        Ok(unmade) => Ok(Said { text, unmade }),
         Err(fault) => Err(fault),
     }
 }
 
-/// Does what the line of this number asks, and puts what is said to it behind other bytes.
+/// Does what the line of this number asks, puts what is said to it behind other bytes, and returns
+/// what is still to be made of that.
 fn put_answer<B: Book + Drop>(
     alloc: Global,
     host: &mut Host<B>,
     number: u64,
     asked: &Option<Question>,
     answer: &mut MemorySink,
-) -> Result<(), BookFault>
-    ensures answers { B.is_honest host.new → B.is_open host.old → OnOk result (sent_of answer.new
-        ≡ sent_of answer.old ++ answer_of (B.tables host.old) number asked.now) }
+) -> Result<Option<ClearingAnswer>, BookFault>
+    ensures answers { B.is_honest host.new → B.is_open host.old → IfOk result
+        (Puts (B.tables host.new) (sent_of answer.old) (sent_of answer.new)
+        (answer_of (B.tables host.old) number asked.now)) }
     ensures does { OnOk result (Does B.Book host.old host.new asked.now true) }
     ensures refused { OnErr result (DoesSome B.Book host.old host.new asked.now) }
     ensures store { TellsStore B.Book host.old host.new result }
 {
     match asked {
-        None => put_fault(&Fault::BadLine(number), answer),
-        Some(Question::Event(event)) => put_event(alloc, host, event, answer),
-        Some(Question::Report(report)) => put_report(alloc, host, *report, answer),
-        Some(Question::Holds(merchant, moment)) => {
-            put_holds(alloc, host, *merchant, *moment, answer)
+        Some(question) => put_question(alloc, host, question, answer),
+        None => {
+            put_fault(&Fault::BadLine(number), answer)?;
+            Ok(None)
         }
-        Some(Question::Pending(day, moment)) => put_pending(alloc, host, *day, *moment, answer),
-        Some(Question::Explain(event)) => put_asked(alloc, host, &Explained { event }, answer),
-        Some(Question::Status(form, serving)) => {
+    }
+}
+
+/// Does what a question asks, puts what is said to it behind other bytes, and returns what is still
+/// to be made of that.
+fn put_question<B: Book + Drop>(
+    alloc: Global,
+    host: &mut Host<B>,
+    question: &Question,
+    answer: &mut MemorySink,
+) -> Result<Option<ClearingAnswer>, BookFault>
+    ensures answers { (number : ℕ) → B.is_honest host.new → B.is_open host.old → IfOk result
+        (Puts (B.tables host.new) (sent_of answer.old) (sent_of answer.new)
+        (answer_of (B.tables host.old) number (Some question.now))) }
+    ensures does { OnOk result (Does B.Book host.old host.new (Some question.now) true) }
+    ensures refused { OnErr result (DoesSome B.Book host.old host.new (Some question.now)) }
+    ensures store { TellsStore B.Book host.old host.new result }
+{
+    match question {
+        Question::Report(report) => return put_report(alloc, host, *report, answer),
+        Question::Event(event) => put_event(alloc, host, event, answer)?,
+        Question::Holds(merchant, moment) => put_holds(alloc, host, *merchant, *moment, answer)?,
+        Question::Pending(day, moment) => put_pending(alloc, host, *day, *moment, answer)?,
+        Question::Explain(event) => put_asked(alloc, host, &Explained { event }, answer)?,
+        Question::Status(form, serving) => {
             let asked = StatusText {
                 form: *form,
                 serving: *serving,
             };
-            put_asked(alloc, host, &asked, answer)
+            put_asked(alloc, host, &asked, answer)?
         }
-        Some(Question::End(day, moment)) => put_end(alloc, host, *day, *moment, answer),
-        Some(Question::Reopen) => put(b"reopening\n", answer),
-        Some(Question::Stop) => put(b"stopping\n", answer),
+        Question::End(day, moment) => put_end(alloc, host, *day, *moment, answer)?,
+        Question::Reopen => put(b"reopening\n", answer)?,
+        Question::Stop => put(b"stopping\n", answer)?,
     }
+    Ok(None)
 }
 
 /// Takes an event, and puts the line of what the host says to it.
@@ -140,25 +170,69 @@ fn put_end<B: Book + Drop>(
     put_event(alloc, host, &Event::Cutover(moment), answer)
 }
 
-/// Puts a report on a day, or why it is refused.
+/// Puts a report on a day, or why it is refused; a clearing file is still to be made.
 fn put_report<B: Book + Drop>(
     alloc: Global,
     host: &mut Host<B>,
     asked: DayReport,
     answer: &mut MemorySink,
+) -> Result<Option<ClearingAnswer>, BookFault>
+    ensures answers { B.is_honest host.new → B.is_open host.old → IfOk result
+        (Puts (B.tables host.new) (sent_of answer.old) (sent_of answer.new)
+        (text_unless_refused (day_refusal (B.tables host.old) asked.day)
+        (report_text (B.tables host.old) asked))) }
+    ensures does { OnOk result (Looks B.Book host.old host.new true) }
+    ensures refused { OnErr result ((done : Bool) × Looks B.Book host.old host.new done) }
+    ensures store { TellsStore B.Book host.old host.new result }
+{
+    match asked.kind {
+        ReportKind::Clearing => begin_clearing(host, asked.day, answer),
+        ReportKind::Settlement => {
+            put_settlement(alloc, host, asked.day, answer)?;
+            Ok(None)
+        }
+    }
+}
+
+/// Puts why a clearing file is refused, or else nothing yet.
+fn begin_clearing<B: Book + Drop>(
+    host: &mut Host<B>,
+    day: Day,
+    answer: &mut MemorySink,
+) -> Result<Option<ClearingAnswer>, BookFault>
+    ensures answers { B.is_honest host.new → B.is_open host.old → IfOk result
+        (Puts (B.tables host.new) (sent_of answer.old) (sent_of answer.new)
+        (text_unless_refused (day_refusal (B.tables host.old) day)
+        (clearing_text (B.tables host.old) day))) }
+    ensures does { OnOk result (Looks B.Book host.old host.new true) }
+    ensures refused { OnErr result ((done : Bool) × Looks B.Book host.old host.new done) }
+    ensures store { TellsStore B.Book host.old host.new result }
+{
+    match host.check_day(day) {
+        Ok(()) => Ok(Some(ClearingAnswer::of(day))),
+        Err(fault) => {
+            put_refusal(fault, answer)?;
+            Ok(None)
+        }
+    }
+}
+
+/// Puts the settlement report of a day, or why it is refused.
+fn put_settlement<B: Book + Drop>(
+    alloc: Global,
+    host: &mut Host<B>,
+    day: Day,
+    answer: &mut MemorySink,
 ) -> Result<(), BookFault>
     ensures answers { B.is_honest host.new → B.is_open host.old → OnOk result (sent_of answer.new
-        ≡ sent_of answer.old ++ text_unless_refused (day_refusal (B.tables host.old) asked.day)
-        (report_text (B.tables host.old) asked)) }
+        ≡ sent_of answer.old ++ text_unless_refused (day_refusal (B.tables host.old) day)
+        (settlement_text (B.tables host.old) day)) }
     ensures does { OnOk result (Looks B.Book host.old host.new true) }
     ensures refused { OnErr result ((done : Bool) × Looks B.Book host.old host.new done) }
     ensures store { TellsStore B.Book host.old host.new result }
 {
     let mut text = MemorySink::new(alloc);
-    let made = match asked.kind {
-        ReportKind::Clearing => host.write_clearing(asked.day, &mut text),
-        ReportKind::Settlement => host.write_settlement(asked.day, &mut text),
-    };
+    let made = host.write_settlement(day, &mut text);
     put_text(made, text.as_bytes(), answer)
 }
 
@@ -239,9 +313,20 @@ fn put_text(
 {
     match made {
         Ok(()) => put_whole(text, answer),
-        Err(ReportFault::Store) => Err(BookFault::Store),
-        Err(ReportFault::Memory | ReportFault::Write(_)) => Err(BookFault::Memory),
-        Err(fault) => put_fault(&Fault::from(fault), answer),
+        Err(fault) => put_refusal(fault, answer),
+    }
+}
+
+/// Puts why a text is refused, unless memory or the store failed.
+fn put_refusal(fault: ReportFault, answer: &mut MemorySink) -> Result<(), BookFault>
+    ensures refuses { OnOk result (IsRefusal fault
+        × (sent_of answer.new ≡ sent_of answer.old ++ fault_line (of_report fault))) }
+    ensures store { TellsAs result (Err fault) }
+{
+    match fault {
+        ReportFault::Store => Err(BookFault::Store),
+        ReportFault::Memory | ReportFault::Write(_) => Err(BookFault::Memory),
+        fault => put_fault(&Fault::from(fault), answer),
     }
 }
 
@@ -251,10 +336,19 @@ fn put_whole(text: &[u8], answer: &mut MemorySink) -> Result<(), BookFault>
         (sent_of answer.new ≡ sent_of answer.old ++ text_answer text.now) }
     ensures memory { IfErr result (λ fault. fault ≡ Memory) }
 {
-    put(b"text ", answer)?;
-    put(Buffer::new().format(text.len() as u64).as_bytes(), answer)?;
-    put(b"\n", answer)?;
+    put_heading(text.len() as u64, answer)?;
     put(text, answer)
+}
+
+/// Puts how many bytes a text has.
+pub(crate) fn put_heading(bytes: u64, answer: &mut MemorySink) -> Result<(), BookFault>
+    ensures answers { OnOk result
+        (sent_of answer.new ≡ sent_of answer.old ++ heading_of bytes) }
+    ensures memory { IfErr result (λ fault. fault ≡ Memory) }
+{
+    put(b"text ", answer)?;
+    put(Buffer::new().format(bytes).as_bytes(), answer)?;
+    put(b"\n", answer)
 }
 
 /// Puts the line of a fault.
@@ -270,7 +364,7 @@ fn put_fault(fault: &Fault, answer: &mut MemorySink) -> Result<(), BookFault>
 }
 
 /// Puts these bytes.
-fn put(bytes: &[u8], answer: &mut MemorySink) -> Result<(), BookFault>
+pub(crate) fn put(bytes: &[u8], answer: &mut MemorySink) -> Result<(), BookFault>
     ensures answers { OnOk result (sent_of answer.new ≡ sent_of answer.old ++ bytes.now) }
     ensures memory { IfErr result (λ fault. fault ≡ Memory) }
 {

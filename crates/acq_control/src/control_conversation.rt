@@ -1,6 +1,7 @@
 //! One end of a control connection, without its reads and writes.
 
-ghost use Rattle.std.specs.Prelude.{◌≡◌, ◌+◌, ◌<◌, ◌≤◌, ℕ, [], length, drop, Ok, OnErr, OnOk};
+ghost use Rattle.std.specs.Prelude.{◌≡◌, ◌+◌, ◌<◌, ◌≤◌, ℕ, [], length, drop, None, Ok, OnErr, OnOk};
+ghost use Rattle.std.specs.Prelude.{is_some};
 ghost use Rattle.acq_front.specs.Stops.{left_of};
 ghost use Rattle.acq_control.specs.Doing.{TellsStore};
 ghost use Rattle.acq_control.specs.Lines.{IsInLine, longest_line};
@@ -9,6 +10,7 @@ ghost use Rattle.acq_control.specs.Questions.{wish_of};
 ghost use Rattle.acq_control.specs.declared.control_turn.ControlTurn.TheVariants.{Waits};
 
 use crate::answering::answer_to;
+use crate::clearing_answer::ClearingAnswer;
 use crate::control_input::ControlInput;
 use crate::control_turn::ControlTurn;
 use crate::question::Question;
@@ -22,14 +24,20 @@ use acq_status::Serving;
 use std::alloc::Global;
 
 /// One end of a control connection: what came and belongs to no line yet, and what of an answer is
-/// still to be written. It takes memory for one line and what is said to it; of a line that is too
-/// long it keeps no more than that, and takes it where it ends.
+/// still to be written, or to be made. It takes memory for one line and what is said to it, of a
+/// clearing file for a slice; of a line that is too long it keeps no more than that, and takes it
+/// where it ends.
 #[derive(Drop)]
 pub struct ControlConversation {
     input: ControlInput,
+    /// What of the answer was made last.
     answer: MemorySink,
-    /// How many bytes of the answer were written.
+    /// How many bytes of that were written.
     gone: usize,
+    /// How many bytes of the answer were written in front of that.
+    gone_before: u64,
+    /// What of the answer is still to be made.
+    unmade: Option<ClearingAnswer>,
     /// How many lines were taken.
     taken: u64,
     ghost within: { gone ≤ length answer.bytes.items },
@@ -37,18 +45,21 @@ pub struct ControlConversation {
 
 impl ControlConversation {
     ghost use Rattle.acq_control.specs.Ends.{Steps, end_of, gone_of, held_of, taken_of};
-    ghost use Rattle.acq_control.specs.Ends.{unsent_of};
+    ghost use Rattle.acq_control.specs.Ends.{MakesSlice, RefusesLine, unmade_of, unsent_of};
 
     /// Nothing came yet, and nothing is to be written.
     pub fn new(alloc: Global) -> ControlConversation
         ensures held { held_of result ≡ nothing }
         ensures unsent { unsent_of result ≡ [] }
+        ensures unmade { unmade_of result ≡ None }
         ensures taken { taken_of result ≡ 0 }
     {
         ControlConversation {
             input: ControlInput::new(),
             answer: MemorySink::new(alloc),
             gone: 0,
+            gone_before: 0,
+            unmade: None,
             taken: 0,
         }
     }
@@ -66,6 +77,7 @@ impl ControlConversation {
         requires { length (held_of self.old).kept + length piece.now ≤ longest_line }
         ensures held { HoldsMore (held_of self.old) (held_of self.new) piece.now }
         ensures unsent { unsent_of self.new ≡ unsent_of self.old }
+        ensures unmade { unmade_of self.new ≡ unmade_of self.old }
         ensures taken { taken_of self.new ≡ taken_of self.old }
     {
         self.input.feed(piece);
@@ -93,7 +105,7 @@ impl ControlConversation {
         self.taken
     }
 
-    /// What is to be written before the next turn.
+    /// What is to be written before the next slice is made, or the next turn.
     pub fn unsent(&self) -> &[u8]
         ensures { result.now ≡ unsent_of self.now }
     {
@@ -107,14 +119,59 @@ impl ControlConversation {
         self.gone
     }
 
+    /// How many bytes of the answer were written, with those in front of it.
+    pub fn gone_of_all(&self) -> u64 {
+        self.gone_before.saturating_add(self.gone as u64)
+    }
+
+    /// Whether more of the answer is still to be made.
+    pub fn is_making(&self) -> bool
+        ensures { result ≡ is_some (unmade_of self.now) }
+    {
+        self.unmade.is_some()
+    }
+
     /// So many bytes of it were written.
     pub fn advance(&mut self, n: usize)
         requires { n ≤ length (unsent_of self.old) }
         ensures held { held_of self.new ≡ held_of self.old }
         ensures unsent { unsent_of self.new ≡ drop n (unsent_of self.old) }
+        ensures unmade { unmade_of self.new ≡ unmade_of self.old }
         ensures taken { taken_of self.new ≡ taken_of self.old }
     {
         self.gone += n;
+    }
+
+    /// Makes a slice of what is still to be made of an answer, if something is; it is then to be
+    /// written.
+    pub fn make_slice<B: Book + Drop>(
+        &mut self,
+        alloc: Global,
+        host: &mut Host<B>,
+    ) -> Result<(), BookFault>
+        requires { unsent_of self.old ≡ [] }
+        ensures makes { B.is_honest host.new → B.is_open host.old → OnOk result
+            (MakesSlice (B.tables host.old) (left_of B.Book host.new)
+            (end_of self.old) (end_of self.new)) }
+        // Where memory or the store refused a call, nothing is made,
+        ensures silent { OnErr result (end_of self.new ≡ end_of self.old) }
+        // and nothing was taken.
+        ensures refused { B.is_honest host.new → B.is_open host.old → OnErr result
+            (RefusesLine (B.tables host.old) (left_of B.Book host.new)) }
+        ensures was_honest { B.is_honest host.new → B.is_honest host.old }
+        ensures stays_open { B.is_honest host.new → B.is_open host.old
+            → OnOk result (B.is_open host.new) }
+        ensures store { TellsStore B.Book host.old host.new result }
+    {
+        let Some(unmade) = self.unmade else {
+            return Ok(());
+        };
+        let said = unmade.go_on(alloc, host)?;
+        self.gone_before = self.gone_of_all();
+        self.gone = 0;
+        self.answer = said.text;
+        self.unmade = said.unmade;
+        Ok(())
     }
 
     /// Has the host do what the next line asks, if one is whole, while so much is served; what is
@@ -126,7 +183,8 @@ impl ControlConversation {
         clock: &mut C,
         serving: Serving,
     ) -> Result<ControlTurn, BookFault>
-        requires { unsent_of self.old ≡ [] }
+        requires written { unsent_of self.old ≡ [] }
+        requires made { unmade_of self.old ≡ None }
         ensures steps { B.is_honest host.new → B.is_open host.old
             → Steps (C.may_give clock.old) serving (B.tables host.old) (left_of B.Book host.new)
             (end_of self.old) (end_of self.new) result }
@@ -135,6 +193,7 @@ impl ControlConversation {
             → IsInLine (held_of self.old).kept × (end_of self.new ≡ end_of self.old) }
         // Where memory or the store refused a call, nothing is said.
         ensures silent { OnErr result ((unsent_of self.new ≡ unsent_of self.old)
+            × (unmade_of self.new ≡ unmade_of self.old)
             × (taken_of self.new ≡ taken_of self.old)) }
         ensures was_honest { B.is_honest host.new → B.is_honest host.old }
         ensures stays_open { B.is_honest host.new → B.is_open host.old
@@ -150,10 +209,12 @@ impl ControlConversation {
         };
         let asked = question_in(alloc, &line, clock.now(), serving)?;
         let wish = wish_of(&asked);
-        let answer = answer_to(alloc, host, number, asked)?;
+        let said = answer_to(alloc, host, number, asked)?;
         self.taken = number;
         self.gone = 0;
-        self.answer = answer;
+        self.gone_before = 0;
+        self.answer = said.text;
+        self.unmade = said.unmade;
         Ok(ControlTurn::Took(wish))
     }
 }

@@ -1,7 +1,7 @@
 //! Control connections whose lines don't wait.
 
 ghost use Rattle.std.specs.Prelude.{◌≡◌, ◌≢◌, ◌==◌, ◌+◌, ◌++◌, ℕ, List, [], false, length, not};
-ghost use Rattle.std.specs.Prelude.{take, drop, Ok};
+ghost use Rattle.std.specs.Prelude.{◌||◌, None, Ok, drop, is_some, take};
 ghost use Rattle.acq_front.specs.Faults.{IfStore, TellsStore, UnlessRefused};
 ghost use Rattle.acq_front.specs.Faults.{failed_reads, failed_writes};
 ghost use Rattle.acq_front.specs.Stops.{left_of};
@@ -9,7 +9,7 @@ ghost use Rattle.acq_control.specs.Lines.{IsInLine};
 ghost use Rattle.acq_control.specs.Held.{HoldsMore, front_of, nothing};
 ghost use Rattle.acq_control.specs.Exchanges.{EndsWith, Goes, IfRefused, Moves, line_of, passed};
 ghost use Rattle.acq_control.specs.Exchanges.{IsSilent, tells_end};
-ghost use Rattle.acq_control.specs.Exchanges.{held_of, taken_of, unsent_of};
+ghost use Rattle.acq_control.specs.Exchanges.{held_of, taken_of, unmade_of, unsent_of};
 ghost use Rattle.acq_control.specs.Ends.{RefusesLine};
 ghost use Rattle.acq_control.specs.declared.control_round.ControlRound.TheVariants.{Took};
 ghost use Rattle.acq_control.specs.declared.wish.Wish.{Wish};
@@ -40,6 +40,7 @@ impl<L: Line> ControlExchange<L> {
         ensures line { line_of result ≡ line }
         ensures held { held_of result ≡ nothing }
         ensures unsent { unsent_of result ≡ [] }
+        ensures unmade { unmade_of result ≡ None }
         ensures taken { taken_of result ≡ 0 }
     {
         ControlExchange {
@@ -63,7 +64,7 @@ impl<L: Line> ControlExchange<L> {
         self.conversation.front()
     }
 
-    /// What of an answer is still to be written.
+    /// What of an answer is made and still to be written.
     pub fn unsent(&self) -> &[u8]
         ensures { result.now ≡ unsent_of self.now }
     {
@@ -71,20 +72,21 @@ impl<L: Line> ControlExchange<L> {
     }
 
     /// How many bytes of the answer were written.
-    pub fn gone(&self) -> usize {
-        self.conversation.gone()
+    pub fn gone(&self) -> u64 {
+        self.conversation.gone_of_all()
     }
 
-    /// Whether something is still to be written.
+    /// Whether something is still to be written, or to be made.
     pub fn is_answering(&self) -> bool
-        ensures { result ≡ not (length (unsent_of self.now) == 0) }
+        ensures { result
+            ≡ (not (length (unsent_of self.now) == 0) || is_some (unmade_of self.now)) }
     {
-        !self.conversation.unsent().is_empty()
+        !self.conversation.unsent().is_empty() || self.conversation.is_making()
     }
 
-    /// One round: writes on what is to be written; or else has the host do what the next line asks;
-    /// or, where none is whole, reads on. A line that is too long asks nothing, and is answered as
-    /// any other bad line is, once it ended.
+    /// One round: writes on what is to be written; or else makes a slice of what is still to be
+    /// made; or has the host do what the next line asks; or, where none is whole, reads on. A line
+    /// that is too long asks nothing, and is answered as any other bad line is, once it ended.
     pub fn round<B: Book + Drop, C: Clock>(
         &mut self,
         alloc: Global,
@@ -99,7 +101,8 @@ impl<L: Line> ControlExchange<L> {
         ensures moves { B.is_honest host.new → B.is_open host.old
             → Moves (passed L.received L.sent self.old) (passed L.received L.sent self.new) result }
         // The end is told exactly where the line ended, and with it what was left.
-        ensures ends { EndsWith (held_of self.new) (unsent_of self.new) result }
+        ensures ends { EndsWith (held_of self.new) (unsent_of self.new) (unmade_of self.new)
+            result }
         ensures line_ends { L.has_ended (line_of self.old) ≡ false
             → L.has_ended (line_of self.new) ≡ tells_end result }
         // Where memory or the store refused a call, an event was in hand or none,
@@ -125,6 +128,10 @@ impl<L: Line> ControlExchange<L> {
         if !self.conversation.unsent().is_empty() {
             return self.send();
         }
+        if self.conversation.is_making() {
+            self.conversation.make_slice(alloc, host)?;
+            return Ok(ControlRound::Made);
+        }
         match self.conversation.turn(alloc, host, clock, serving)? {
             ControlTurn::Took(wish) => Ok(ControlRound::Took(wish)),
             ControlTurn::Waits => self.receive(),
@@ -136,13 +143,15 @@ impl<L: Line> ControlExchange<L> {
         requires { unsent_of self.old ≢ [] }
         ensures received { L.received (line_of self.new) ≡ L.received (line_of self.old) }
         ensures held { held_of self.new ≡ held_of self.old }
+        ensures unmade { unmade_of self.new ≡ unmade_of self.old }
         ensures taken { taken_of self.new ≡ taken_of self.old }
         ensures sent { (n : ℕ) × (unsent_of self.new ≡ drop n (unsent_of self.old))
             × (L.sent (line_of self.new) ≡ L.sent (line_of self.old)
             ++ take n (unsent_of self.old)) }
         ensures moves { Moves (passed L.received L.sent self.old)
             (passed L.received L.sent self.new) result }
-        ensures ends { EndsWith (held_of self.new) (unsent_of self.new) result }
+        ensures ends { EndsWith (held_of self.new) (unsent_of self.new) (unmade_of self.new)
+            result }
         ensures line_ends { L.has_ended (line_of self.new) ≡ L.has_ended (line_of self.old) }
         ensures no_end { tells_end result ≡ false }
         ensures untaken { (wish : Wish) → result ≢ Ok (Took wish) }
@@ -159,7 +168,7 @@ impl<L: Line> ControlExchange<L> {
                 self.conversation.advance(n);
                 Ok(ControlRound::GoesOn)
             }
-            Err(_) => Err(FrontFault::Write(self.conversation.gone() as u64)),
+            Err(_) => Err(FrontFault::Write(self.conversation.gone_of_all())),
         }
     }
 
@@ -167,15 +176,18 @@ impl<L: Line> ControlExchange<L> {
     fn receive(&mut self) -> Result<ControlRound, FrontFault>
         requires within { IsInLine (held_of self.old).kept }
         requires written { unsent_of self.old ≡ [] }
+        requires made { unmade_of self.old ≡ None }
         ensures received { (piece : List ℕ)
             × (L.received (line_of self.new) ≡ L.received (line_of self.old) ++ piece)
             × HoldsMore (held_of self.old) (held_of self.new) piece }
         ensures unsent { unsent_of self.new ≡ unsent_of self.old }
+        ensures unmade { unmade_of self.new ≡ unmade_of self.old }
         ensures taken { taken_of self.new ≡ taken_of self.old }
         ensures sent { L.sent (line_of self.new) ≡ L.sent (line_of self.old) }
         ensures moves { Moves (passed L.received L.sent self.old)
             (passed L.received L.sent self.new) result }
-        ensures ends { EndsWith (held_of self.new) (unsent_of self.new) result }
+        ensures ends { EndsWith (held_of self.new) (unsent_of self.new) (unmade_of self.new)
+            result }
         ensures line_ends { L.has_ended (line_of self.old) ≡ false
             → L.has_ended (line_of self.new) ≡ tells_end result }
         ensures untaken { (wish : Wish) → result ≢ Ok (Took wish) }

@@ -7,6 +7,8 @@ use crate::wish::Wish;
 pub enum ControlRound {
     /// It wrote, or read: there may be more to do.
     GoesOn,
+    /// It made a slice of an answer: there is more to do.
+    Made,
     /// It did what a line asks, which has this wish.
     Took(Wish),
     /// Nothing can be written or read yet.

@@ -3,7 +3,8 @@
 //!
 //! A [`ControlConversation`] is one end of such a connection without its reads and writes, as
 //! `Conversation` is one of a terminal's: it is fed with what comes, has the host do what the lines
-//! ask turn by turn, and holds what is to be written. A [`ControlExchange`] is one over a line whose
+//! ask turn by turn, and holds what is to be written. A clearing file is made slice by slice, so
+//! that others are served between two of them. A [`ControlExchange`] is one over a line whose
 //! reads and writes don't wait. What they have to do with one host, among terminals, stands in
 //! `specs/Log.antt` and [`laws`].
 //!
@@ -13,6 +14,8 @@
 
 mod answer_kind;
 mod answering;
+mod clearing_answer;
+mod clearing_stage;
 mod control_conversation;
 mod control_exchange;
 mod control_input;
@@ -28,6 +31,7 @@ mod pending_text;
 mod question;
 mod question_word;
 mod reading;
+mod said;
 mod status_text;
 mod taken_line;
 mod telling;

@@ -1,10 +1,9 @@
 -- One of the control connections has a round, comes or leaves.
 use Rattle.std.proofs.Common.{◌≡◌, ◌≢◌, ◌<◌, ◌+◌, ℕ, zero, suc, List, [], ◌∷◌, ◌++◌, Option, Some}
 use Rattle.std.proofs.Common.{None, refl, sym, ap, subst, ◌∙◌, append-nil, arith, get_or, set}
-use Rattle.std.proofs.Common.{◌==◌, ◌≤◌, Bool, true, false, cond, length, map, true≢false, Ok, Err}
+use Rattle.std.proofs.Common.{◌≤◌, length, map, true≢false, Ok, Err}
 use Rattle.std.proofs.Common.{◌⊎◌, inl, inr, ⊎_elim}
 use Rattle.std.specs.List.{All, AllByRecursion}
-use Rattle.std.proofs.lemmas.Bool.Decides.{nat_tests}
 use Rattle.std.proofs.lemmas.List.Elements.{All-cons, All-nil}
 use Rattle.std.proofs.lemmas.List.{map-append, get_or-map, get_or-set_same, map-set, set-get_or}
 use Rattle.acq_core.specs.declared.event.Event.{Event}
@@ -26,7 +25,9 @@ use Rattle.acq_control.specs.Log.{Act, Asked, Deed, FollowsActs, IsAskedBy, Serv
 use Rattle.acq_control.specs.Log.{asked_by, behind_act, behind_acts, lines_by, lines_in, own}
 use Rattle.acq_control.specs.Log.{said_to}
 use Rattle.acq_control.specs.declared.wish.Wish.{Wish}
-use Rattle.acq_control.proofs.Following.{follows_other}
+use Rattle.acq_control.specs.Unmade.{unmade_at}
+use Rattle.acq_control.proofs.Following.{follows_other, own_none, own_other}
+use Rattle.acq_control.proofs.Unmade.{log_past}
 use Rattle.acq_rounds.specs.Acts.{Connection, IsAmong, numbers}
 use Rattle.acq_rounds.specs.Runs.{Between, Step}
 use Rattle.acq_rounds.specs.Runs as runs
@@ -127,19 +128,18 @@ module _ (a : Aside) (i : ℕ) (o : Open) (at : get_or a.here i None ≡ Some o)
                 (HasAnswers t (f.acts ++ act ∷ [])) a.ended
                 (λ c h k. record {
                   rest = h.rest;
+                  unmade = h.unmade;
                   taken = h.taken;
-                  follows = follows_other c.number t f.acts act c.came c.went h.rest c.unsent
-                      h.taken h.follows k;
+                  follows = follows_other c.number t f.acts act c.came c.went h.rest
+                      (c.unsent ++ h.unmade) h.taken h.follows k;
                 })
                 f.ended (apart_from f.numbered);
             here = does (λ x. FollowsLog x.number t f.acts x.passed)
                 (λ x. FollowsLog x.number t (f.acts ++ act ∷ []) x.passed) o
-                (λ x k h. record {
-                  held = h.held;
-                  holds = h.holds;
-                  follows = follows_other x.number t f.acts act x.passed.came x.passed.went h.held
-                      x.passed.unsent x.passed.taken h.follows (λ e. k (sym e));
-                })
+                (λ x k h. log_past x.number t f.acts act x.passed h
+                (follows_other x.number t f.acts act x.passed.came x.passed.went h.held
+                (x.passed.unsent ++ unmade_at (behind_acts t f.acts) x.passed.unmade)
+                x.passed.taken h.follows (λ e. k (sym e))))
                 a.here i (Some y) at f.numbered.distinct f.here
                 (rw same next.1);
             numbered = numbered_put y same f.numbered;
@@ -196,8 +196,15 @@ module _ (a : Aside) (i : ℕ) (o : Open) (at : get_or a.here i None ≡ Some o)
         acts = f.acts;
         are = f.are;
         known = f.known;
-        ended = each-append (HasAnswers t f.acts) a.ended (last_of l.held o ∷ []) f.ended
-            (record { rest = was.held; taken = o.passed.taken; follows = was.follows }, tt);
+        ended = each-append (HasAnswers t f.acts) a.ended (last_of l.held o ∷ []) f.ended (
+          record {
+            rest = was.held;
+            unmade = unmade_at (behind_acts t f.acts) o.passed.unmade;
+            taken = o.passed.taken;
+            follows = was.follows;
+          },
+          tt,
+        );
         here = put_in (λ x. FollowsLog x.number t f.acts x.passed) a.here i None f.here tt;
         numbered = left_numbered l.held f.numbered;
       })
@@ -251,6 +258,7 @@ module _ (may_give : ℕ → Type 0) (serving : Serving) (old : Tables) (left : 
     tables = one.tables;
     stop = one.stop;
   }
+  went_well control_round.Made on = moved_on on
   went_well control_round.Waits on = moved_on on
   went_well control_round.Ended on = moved_on on
 
@@ -299,18 +307,6 @@ emptied xs i d x y is none now =
 
 -- ---- one comes
 
-own_none : {X : Type 0} (k : ℕ) (a : Act) → own {X = X} k a [] ≡ []
-own_none k a = cond_none (a.connection == k)
-  where
-    cond_none : {X : Type 0} (b : Bool) → cond {A = List X} b [] [] ≡ []
-    cond_none true = refl
-    cond_none false = refl
-
-own_past : {X : Type 0} (k : ℕ) (a : Act) (xs : List X) → a.connection < k → own k a xs ≡ []
-own_past k a xs l =
-    let differs : (a.connection == k) ≡ false = grind (arith, nat_tests) in
-    ap (λ (b : Bool). cond b xs []) differs
-
 -- nothing was done for a number that none had
 module _ (k : ℕ) where
   record Nothing (a : Act) : Type 0 where
@@ -327,8 +323,8 @@ module _ (k : ℕ) where
   nothing_by c (Asked moment line asked) h =
       let a : Act = record { connection = c; deed = Asked moment line asked } in
       record {
-        lines = own_past k a (line ∷ []) h;
-        said = λ t n. own_past k a (said_to t n a.deed) h;
+        lines = own_other k a (line ∷ []) (λ is. omega (arith, h, is));
+        said = λ t n. own_other k a (said_to t n a.deed) (λ is. omega (arith, h, is));
         asked = λ is. absurd (omega (arith, h, is));
       }
 
@@ -373,9 +369,10 @@ later n c l = omega (arith, l)
 
 pub comes : (a : Aside) (i : ℕ) (y : Open) → i < length a.here → get_or a.here i None ≡ None →
     y.number ≡ a.count → y.passed.came ≡ [] →
-    y.passed.held ≡ nothing → y.passed.went ≡ [] → y.passed.unsent ≡ [] → y.passed.taken ≡ 0 →
+    y.passed.held ≡ nothing → y.passed.went ≡ [] → y.passed.unsent ≡ [] →
+    y.passed.unmade ≡ None → y.passed.taken ≡ 0 →
     Stays a (record { count = a.count + 1; ended = a.ended; here = set a.here i (Some y) })
-comes a i y within free number came held went unsent taken t steps f = record {
+comes a i y within free number came held went unsent unmade taken t steps f = record {
   acts = f.acts;
   are = f.are;
   known = each_weaker (λ x. IsKnown a.count x.connection x.deed)
@@ -386,7 +383,8 @@ comes a i y within free number came held went unsent taken t steps f = record {
       (rw number (record {
         held = [];
         holds = rw held holds_nothing;
-        follows = rw (came, went, unsent, taken) (follows_fresh a.count t f.acts f.known);
+        follows = rw (came, went, unsent, unmade, taken) (follows_fresh a.count t f.acts f.known);
+        may = rw unmade tt;
       }));
   numbered = record {
     ended_below = each_weaker (λ c. c.number < a.count) (λ c. c.number < a.count + 1) a.ended

@@ -6,8 +6,10 @@ use Rattle.acq_core.specs.declared.event.Event.{Event}
 use Rattle.acq_core.specs.Tables.{Tables, tables_after}
 use Rattle.acq_soundness.proofs.Runs.{tables_after-append}
 use Rattle.acq_control.specs.Exchanges.{FollowsLog}
-use Rattle.acq_control.specs.Log.{Act, served_by}
+use Rattle.acq_control.specs.Log.{Act, behind_acts, served_by}
+use Rattle.acq_control.specs.Unmade.{unmade_at}
 use Rattle.acq_control.proofs.Following.{follows_served}
+use Rattle.acq_control.proofs.Unmade.{log_past}
 use Rattle.acq_rounds.specs.Acts.{Connection}
 use Rattle.acq_rounds.specs.Runs.{Between, Group, Grouped, OthersGoOn, Step, Untold}
 use Rattle.acq_rounds.specs.Runs as runs
@@ -65,18 +67,17 @@ module _ (t : Tables) (acts : List Act) (events : List Event) where
       HasAnswers t (acts ++ served_by 0 events ∷ []) c
   answers_past c h = record {
     rest = h.rest;
+    unmade = h.unmade;
     taken = h.taken;
-    follows = follows_served c.number 0 t acts events c.came c.went h.rest c.unsent h.taken h.follows;
+    follows = follows_served c.number 0 t acts events c.came c.went h.rest (c.unsent ++ h.unmade)
+        h.taken h.follows;
   }
 
   follows_past : (o : Open) → FollowsLog o.number t acts o.passed →
       FollowsLog o.number t (acts ++ served_by 0 events ∷ []) o.passed
-  follows_past o h = record {
-    held = h.held;
-    holds = h.holds;
-    follows = follows_served o.number 0 t acts events o.passed.came o.passed.went h.held
-        o.passed.unsent o.passed.taken h.follows;
-  }
+  follows_past o h = log_past o.number t acts (served_by 0 events) o.passed h
+      (follows_served o.number 0 t acts events o.passed.came o.passed.went h.held
+      (o.passed.unsent ++ unmade_at (behind_acts t acts) o.passed.unmade) o.passed.taken h.follows)
 
 served_past : (t : Tables) (steps : List Step) (step : Step) (events : List Event) (a : Aside) →
     ((x : Tables) → AreActsOf x (step ∷ []) (served_by 0 events ∷ [])) →

@@ -41,11 +41,13 @@ AreActsOf t (Untold events ∷ steps) acts =
     × AreActsOf (tables_after t events) steps rest
 
 -- What came by a control connection are the lines that it asked by, and behind them some rest; and
--- what went out, with what was still to be written, is what is said to them.
+-- what went out, with what was still to be written and what was still to be made, is what is said to
+-- them.
 pub record HasAnswers (t : Tables) (acts : List Act) (c : Connection) : Type 0 where
   pub rest : List ℕ
+  pub unmade : List ℕ
   pub taken : ℕ
-  pub follows : FollowsActs c.number t acts c.came c.went rest c.unsent taken
+  pub follows : FollowsActs c.number t acts c.came c.went rest (c.unsent ++ unmade) taken
 
 -- no two that are open have one number
 abbrev pub AreDistinct : List (Option Open) → Type 0

@@ -59,11 +59,6 @@ impl<S: Read + Write + Drop> Controls<S> {
         }
     }
 
-    /// How many places there are.
-    pub fn places(&self) -> usize {
-        self.places.len()
-    }
-
     /// The connection in a place, if one is there.
     pub fn in_place(&self, place: usize) -> Option<&ControlExchange<StreamLine<S>>> {
         match self.places.get(place) {

@@ -87,7 +87,7 @@ impl ControlServer {
         self.has_stopped
     }
 
-    /// Whether something that was said to one is still to be written.
+    /// Whether something that is said to one is still to be written, or to be made.
     pub(crate) fn is_answering(&self) -> bool {
         self.places.iter().any(|place| place.as_ref().is_some_and(|one| one.is_answering()))
     }
@@ -336,7 +336,7 @@ fn next_word(controls: &Controls<UnixStream>, place: usize) -> &'static str {
 /// it was read in vain.
 fn cut_off(controls: &Controls<UnixStream>, place: usize) -> FrontFault {
     match controls.in_place(place) {
-        Some(exchange) if exchange.is_answering() => FrontFault::Write(exchange.gone() as u64),
+        Some(exchange) if exchange.is_answering() => FrontFault::Write(exchange.gone()),
         _ => FrontFault::Read,
     }
 }

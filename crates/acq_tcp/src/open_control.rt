@@ -29,7 +29,7 @@ pub(crate) struct OpenControl {
     is_ready: bool,
     /// When something last happened.
     last_moved: Option<Instant>,
-    /// Whether something that was said is still to be written.
+    /// Whether something that is said is still to be written, or to be made.
     is_answering: bool,
     /// Whether it asked that the host ends.
     has_stopped: bool,
@@ -75,7 +75,7 @@ impl OpenControl {
         self.is_ready = true;
     }
 
-    /// Whether something that was said is still to be written.
+    /// Whether something that is said is still to be written, or to be made.
     pub(crate) fn is_answering(&self) -> bool {
         self.is_answering
     }
@@ -116,7 +116,7 @@ impl OpenControl {
             None => false,
         };
         match went {
-            Some(Ok(ControlRound::GoesOn)) => {
+            Some(Ok(ControlRound::GoesOn | ControlRound::Made)) => {
                 self.last_moved = time.now;
                 None
             }

@@ -265,7 +265,7 @@ impl<'a, T: time::Clock + Files, W: LogTarget + Drop> TcpServer<'a, T, W> {
         }
     }
 
-    /// Whether something that was said to a control connection is still to be written.
+    /// Whether something that is said to a control connection is still to be written, or to be made.
     pub(crate) fn is_answering(&self) -> bool {
         match &self.control {
             Some(control) => control.is_answering(),

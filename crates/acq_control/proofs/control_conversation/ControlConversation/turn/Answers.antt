@@ -19,13 +19,13 @@ returns-in_err-asked-clause-steps g c = λ h o.
     c.from_residual-in_err-asked.ensures.1 in
     rw p.1 (none_refused g.B.Book c.args.host.now o g.met.B.Book.settled g.met.B.Book.stored)
 
-pub returns-in_err-answer-clause-steps : goal.returns-in_err-answer-clause-steps
-returns-in_err-answer-clause-steps g c = λ h o.
-    let p = err_from_is_err_and c.from_residual-in_err-answer.result
-    c.from_residual-in_err-answer.ensures.1 in
+pub returns-in_err-said-clause-steps : goal.returns-in_err-said-clause-steps
+returns-in_err-said-clause-steps g c = λ h o.
+    let p = err_from_is_err_and c.from_residual-in_err-said.result
+    c.from_residual-in_err-said.ensures.1 in
     rw p.1
     (some_done g.B.Book c.args.host.now c.answer_to.new.host h o g.met.B.Book.settled
-    g.met.B.Book.stored c.in_ok-asked.asked c.in_err-answer.ensures.refused)
+    g.met.B.Book.stored c.in_ok-asked.asked c.in_err-said.ensures.refused)
 
 pub returns-clause-steps : goal.returns-clause-steps
 returns-clause-steps g c = λ h o.
@@ -35,5 +35,6 @@ returns-clause-steps g c = λ h o.
     line_taken (g.C.Clock.may_give c.args.clock.now) c.args.serving g.B.Book c.args.host.now
     c.answer_to.new.host h o g.met.B.Book.settled g.met.B.Book.stored _ _
     c.now.result c.in_ok-asked.asked c.wish_of-wish.result takes c.now.ensures.given
-    c.in_ok-asked.ensures.shows c.in_ok-answer.ensures.does (c.in_ok-answer.ensures.answers h o)
+    c.in_ok-asked.ensures.shows c.in_ok-said.ensures.does (c.in_ok-said.ensures.answers h o).whole
+    (c.in_ok-said.ensures.answers h o).unmade
     (omega (arith, c.in-Some-checked_add.ensures)) c.wish_of-wish.ensures

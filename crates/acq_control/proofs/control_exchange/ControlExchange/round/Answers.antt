@@ -7,8 +7,9 @@ use Rattle.acq_control.specs.declared.control_turn.ControlTurn.{ControlTurn}
 use Rattle.acq_control.specs.declared.control_turn.ControlTurn.TheVariants.{Took, Waits}
 use Rattle.acq_control.specs.Ends.{End, Steps, end_of}
 use Rattle.acq_control.specs.Lines.{IsInLine}
-use Rattle.acq_control.specs.Exchanges.{held_of, passed, taken_of, unsent_of}
-use Rattle.acq_control.proofs.Rounds.{moved_on, none_left, reads_on, takes_on, writes_on}
+use Rattle.acq_control.specs.Exchanges.{held_of, passed, taken_of, unmade_of, unsent_of}
+use Rattle.acq_control.proofs.Rounds.{moved_on, none_left, reads_on, takes_on, unmade_none}
+use Rattle.acq_control.proofs.Rounds.{writes_on}
 use Rattle.acq_control.proofs.control_exchange.ControlExchange.round.Goals as goal
 
 pub returns-in-Took-clause-goes : goal.returns-in-Took-clause-goes
@@ -22,7 +23,9 @@ returns-in-Took-clause-goes g c = λ h o.
     let took : c.turn.result ≡ Ok (Took c.in-Took.wish) = search rules in
     let steps = subst (λ (r : Result ControlTurn BookFault). Steps give c.args.serving tables left
     (end_of it.conversation) (end_of c.turn.new.self) r) took (c.turn.ensures.steps h o) in
-    rw none (takes_on give c.args.serving tables left (g.L.Line.received it.line)
+    let unmade = unmade_none (unmade_of it) c.is_making.result c.is_making.ensures
+    c.if-is_making.false in
+    rw (none, unmade) (takes_on give c.args.serving tables left (g.L.Line.received it.line)
     (g.L.Line.sent it.line) (end_of it.conversation) (end_of c.turn.new.self) steps.0
     c.in-Took.wish steps.1 steps.2)
 
@@ -56,7 +59,8 @@ returns-in-Waits-clause-goes g c = λ h o.
     (reads_on give c.args.serving tables left (g.L.Line.received it.line) (g.L.Line.sent it.line)
     (end_of it.conversation) (end_of c.turn.new.self)
     (passed g.L.Line.received g.L.Line.sent c.receive.new.self) came.0 steps.0 came.1 came.2
-    c.receive.ensures.sent c.receive.ensures.unsent c.receive.ensures.taken)
+    c.receive.ensures.sent c.receive.ensures.unsent c.receive.ensures.unmade
+    c.receive.ensures.taken)
 
 pub returns-then-not-is_empty-clause-goes : goal.returns-then-not-is_empty-clause-goes
 returns-then-not-is_empty-clause-goes g c = λ h o.
@@ -67,7 +71,14 @@ returns-then-not-is_empty-clause-goes g c = λ h o.
     let sent = c.send.ensures.sent in
     moved_on give c.args.serving tables left (passed g.L.Line.received g.L.Line.sent it)
     (passed g.L.Line.received g.L.Line.sent c.send.new.self) c.send.result c.send.ensures.untaken
-    (rw (c.send.ensures.received, c.send.ensures.held, c.send.ensures.taken, sent.1, sent.2)
+    (rw (
+      c.send.ensures.received,
+      c.send.ensures.held,
+      c.send.ensures.unmade,
+      c.send.ensures.taken,
+      sent.1,
+      sent.2,
+    )
     (writes_on give c.args.serving tables left (g.L.Line.received it.line) (g.L.Line.sent it.line)
-    (held_of it) (unsent_of it) (taken_of it) sent.0 refl
+    (held_of it) (unsent_of it) (unmade_of it) (taken_of it) sent.0 refl
     (none_stop g.B.Book g.met.B.Book.settled g.met.B.Book.stored c.args.host.now o)))

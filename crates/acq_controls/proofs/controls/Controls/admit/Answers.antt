@@ -32,7 +32,7 @@ returns g c =
     (omega (arith, within, length-map items seen_in)) free refl
     (ap received_of c.new-2.ensures.line ∙ c.new.ensures.received) c.new-2.ensures.held
     (ap sent_of c.new-2.ensures.line ∙ c.new.ensures.sent) c.new-2.ensures.unsent
-    c.new-2.ensures.taken in
+    c.new-2.ensures.unmade c.new-2.ensures.taken in
     record {
       stays = subst (λ places. Stays (aside_of was)
           (record { count = was.count + 1; ended = was.past.list; here = places }))

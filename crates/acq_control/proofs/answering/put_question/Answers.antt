@@ -1,0 +1,45 @@
+use Rattle.std.proofs.Common.{◌≡◌, ◌++◌, ◌∙◌, ℕ, List, None, append-nil}
+use Rattle.acq_core.specs.Tables.{Tables}
+use Rattle.acq_control.specs.Unmade.{Puts}
+use Rattle.acq_control.proofs.answering.put_question.Goals as goal
+use Rattle.acq_control.proofs.answering.put_question.Goals.{in-Event+in_ok-put_event-in-Event, in-Holds+in_ok-put_holds-in-Holds, in-Pending+in_ok-put_pending-in-Pending, in-Explain+in_ok-put_asked-in-Explain, in-Status+in_ok-put_asked-in-Status, in-End+in_ok-put_end-in-End, in-Reopen+in_ok-put-in-Reopen, in-Stop+in_ok-put-in-Stop}
+
+-- all of it was put
+all_put : (now : Tables) (old new text : List ℕ) → new ≡ old ++ text → Puts now old new text None
+all_put now old new text is = record { whole = append-nil new ∙ is; may = tt }
+
+pub returns-clause-answers : goal.returns-clause-answers
+returns-clause-answers g c = λ number h o. elim c.match-question.branch [
+  | in-Event+in_ok-put_event-in-Event w ↦
+      rw (w.host-is, w.answer-is, w.in-Event.is)
+      (all_put _ _ _ _
+      (w.in_ok-put_event-in-Event.ensures.answers (rw (w.host-is) at h) o))
+  | in-Holds+in_ok-put_holds-in-Holds w ↦
+      rw (w.host-is, w.answer-is, w.in-Holds.is)
+      (all_put _ _ _ _
+      (w.in_ok-put_holds-in-Holds.ensures.answers (rw (w.host-is) at h) o))
+  | in-Pending+in_ok-put_pending-in-Pending w ↦
+      rw (w.host-is, w.answer-is, w.in-Pending.is)
+      (all_put _ _ _ _
+      (w.in_ok-put_pending-in-Pending.ensures.answers (rw (w.host-is) at h) o))
+  | in-Explain+in_ok-put_asked-in-Explain w ↦
+      rw (w.host-is, w.answer-is, w.in-Explain.is)
+      (all_put _ _ _ _
+      (w.in_ok-put_asked-in-Explain.ensures.answers (rw (w.host-is) at h) o))
+  | in-Status+in_ok-put_asked-in-Status w ↦
+      rw (w.host-is, w.answer-is, w.in-Status.is)
+      (all_put _ _ _ _
+      (w.in_ok-put_asked-in-Status.ensures.answers (rw (w.host-is) at h) o))
+  | in-End+in_ok-put_end-in-End w ↦
+      rw (w.host-is, w.answer-is, w.in-End.is)
+      (all_put _ _ _ _
+      (w.in_ok-put_end-in-End.ensures.answers (rw (w.host-is) at h) o))
+  | in-Reopen+in_ok-put-in-Reopen w ↦
+      rw (w.host-is, w.answer-is, w.in-Reopen.is)
+      (all_put _ _ _ _
+      (w.in_ok-put-in-Reopen.ensures.answers))
+  | in-Stop+in_ok-put-in-Stop w ↦
+      rw (w.host-is, w.answer-is, w.in-Stop.is)
+      (all_put _ _ _ _
+      (w.in_ok-put-in-Stop.ensures.answers))
+]

@@ -1,0 +1,59 @@
+-- What of an answer is still to be made. That is so of a clearing file, which is said in slices.
+use Rattle.std.specs.Prelude.{◌≡◌, ◌+◌, ℕ, List, [], ◌++◌, length, Option, Some, None}
+use Rattle.acq_link.specs.MemorySink.{sent_of}
+use Rattle.acq_core.specs.Tables.{Tables}
+use Rattle.acq_reports.specs.Refusals.{day_refusal}
+use Rattle.acq_clearing.specs.ClearingFile.{clearing_text}
+use Rattle.acq_clearing.specs.Slices.{file_from}
+use Rattle.acq_clearing.specs.declared.bookmark.Bookmark.TheVariants.{Beginning}
+use Rattle.acq_control.specs.Answers.{answer_of, text_answer}
+use Rattle.acq_control.specs.declared.clearing_answer.ClearingAnswer.{ClearingAnswer}
+use Rattle.acq_control.specs.declared.clearing_stage.ClearingStage.{ClearingStage}
+use Rattle.acq_control.specs.declared.clearing_stage.ClearingStage.TheVariants.{Counting, Saying}
+use Rattle.acq_control.specs.declared.question.Question.{Question}
+use Rattle.acq_control.specs.declared.said.Said.{Said}
+
+-- the file of a day, of which nothing is made yet
+abbrev pub at_first : ℕ → ClearingAnswer
+at_first day = record { day = day; stage = Counting Beginning 0 }
+
+-- while its bytes are counted, all of the answer is still to be made; then the rest of the file
+abbrev pub rest_of : Tables → ℕ → ClearingStage → List ℕ
+rest_of t day (Counting from bytes) = text_answer (clearing_text t day)
+rest_of t day (Saying from) = file_from t day from
+
+abbrev pub unmade_at : Tables → Option ClearingAnswer → List ℕ
+unmade_at t None = []
+unmade_at t (Some c) = rest_of t c.day c.stage
+
+-- so many bytes are those in front of the bookmark
+abbrev pub IsCounted : Tables → ℕ → ClearingStage → Type 0
+IsCounted t day (Counting from bytes) =
+    bytes + length (file_from t day from) ≡ length (clearing_text t day)
+IsCounted t day (Saying from) = Unit {0}
+
+-- the day may be reported on, and the bytes are counted
+pub record IsUnmade (t : Tables) (c : ClearingAnswer) : Type 0 where
+  pub given : day_refusal t c.day ≡ None
+  pub counted : IsCounted t c.day c.stage
+
+abbrev pub MayBeUnmade : Tables → Option ClearingAnswer → Type 0
+MayBeUnmade t None = Unit {0}
+MayBeUnmade t (Some c) = IsUnmade t c
+
+-- what is said next, and behind it what is then still to be made, is what was still to be made
+pub record GoesOn (t : Tables) (c : ClearingAnswer) (said : Said) : Type 0 where
+  pub whole : sent_of said.text ++ unmade_at t said.unmade ≡ rest_of t c.day c.stage
+  pub unmade : MayBeUnmade t said.unmade
+
+-- a text was put behind others, whose rest is still to be made over the tables now
+pub record Puts (now : Tables) (old new text : List ℕ) (unmade : Option ClearingAnswer) : Type 0
+  where
+    pub whole : new ++ unmade_at now unmade ≡ old ++ text
+    pub may : MayBeUnmade now unmade
+
+-- what is said to a line, and behind it what is still to be made over the tables now, is its answer
+pub record Says (old now : Tables) (number : ℕ) (asked : Option Question) (said : Said) : Type 0
+  where
+    pub whole : sent_of said.text ++ unmade_at now said.unmade ≡ answer_of old number asked
+    pub unmade : MayBeUnmade now said.unmade
