@@ -13,8 +13,9 @@ use Rattle.acq_program.specs.declared.action.Action.{Action}
 use Rattle.acq_program.specs.declared.option_name.OptionName.{OptionName}
 use Rattle.acq_program.specs.declared.usage_fault.UsageFault.{UsageFault}
 use Rattle.acq_program.specs.declared.usage_fault.UsageFault.TheVariants.{BadValue, Words}
-use Rattle.acq_program.specs.Arguments.{Asks, Names, OptionTexts, Reads, ReadsArguments}
-use Rattle.acq_program.specs.Arguments.{found_texts}
+use Rattle.acq_program.specs.Arguments.{Asks, Names, Reads, ReadsArguments}
+use Rattle.acq_program.specs.Options.{OptionTexts}
+use Rattle.acq_program.specs.Options.{found_texts}
 use Rattle.acq_program.specs.Program.{program}
 use Rattle.acq_program.proofs.OptionsRead.{found_texts-rows}
 use Rattle.acq_program.proofs.ProgramIsSimple.{is_simple-program}

@@ -8,8 +8,9 @@ use Rattle.clap.proofs.WalkLemmas.{first_value-rows, raw_values-rows}
 use Rattle.acq_program.specs.declared.option_name.OptionName.{OptionName}
 use Rattle.acq_program.specs.declared.usage_fault.UsageFault.{UsageFault}
 use Rattle.acq_program.specs.declared.usage_fault.UsageFault.TheVariants.{BadValue, Words}
-use Rattle.acq_program.specs.Arguments.{IsNoMemory, Reads, Then, found_texts, option_texts}
-use Rattle.acq_program.specs.Arguments.{values_found, values_of}
+use Rattle.acq_program.specs.Arguments.{IsNoMemory, Reads, Then}
+use Rattle.acq_program.specs.Options.{found_texts, option_texts}
+use Rattle.acq_program.specs.Options.{values_found, values_of}
 use Rattle.acq_program.specs.WantedReports.{texts_in}
 
 values_found-rows : (f : Found) (id : Text) → values_found f id ≡ values_of id (rows_of f)

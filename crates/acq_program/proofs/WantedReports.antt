@@ -10,7 +10,7 @@ use Rattle.clap.specs.Words.{Text}
 use Rattle.day_totals.specs.Day.{date_text_of}
 use Rattle.acq_faults.specs.declared.day_report.DayReport.{DayReport}
 use Rattle.acq_faults.specs.declared.report_kind.ReportKind.{ReportKind}
-use Rattle.acq_program.specs.Arguments.{report_on}
+use Rattle.acq_program.specs.Options.{report_on}
 use Rattle.acq_program.specs.WantedReports.{each_text}
 
 pub was_none : {T E : Type 0} (o : Option T) (e name : E) → Err name ≡ ok_or o e →

@@ -3,6 +3,7 @@ pub mod Telling
 pub mod Asking
 pub mod Runs
 pub mod Apart
+pub mod Options
 pub mod Arguments
 pub mod Program
 pub mod WantedReports

@@ -4,7 +4,8 @@ use Rattle.std.specs.Borrow.{Bor}
 use Rattle.clap.specs.Words.{Text}
 use Rattle.acq_faults.specs.declared.report_kind.ReportKind.{ReportKind}
 use Rattle.acq_program.specs.declared.usage_fault.UsageFault.{UsageFault}
-use Rattle.acq_program.specs.Arguments.{Reads, ReportsAre}
+use Rattle.acq_program.specs.Arguments.{Reads}
+use Rattle.acq_program.specs.Options.{ReportsAre}
 
 -- why an option's values give no reports: one is no day's date, or there was no memory
 abbrev pub MayRefuse : ReportKind → List Text → UsageFault → Type 0

@@ -60,7 +60,7 @@ pub enum OptionName {
 
 impl fmt::Display for OptionName {
     ghost use Rattle.std.specs.Prelude.{Some};
-    ghost use Rattle.acq_program.specs.Arguments.{name_of_option};
+    ghost use Rattle.acq_program.specs.Options.{name_of_option};
 
     ghost output = { λ option. Some (name_of_option option) };
 

@@ -2,10 +2,11 @@
 //! of times.
 
 ghost use Rattle.std.specs.Prelude.{◌≡◌, ◌≤◌, IfSome};
-ghost use Rattle.acq_program.specs.Arguments.{bytes_of_text, count_of_text, group_of_text};
-ghost use Rattle.acq_program.specs.Arguments.{limit_of_text};
-ghost use Rattle.acq_program.specs.Arguments.{number_of_text, port_of_text, repeat_of_text, seconds_of_text};
-ghost use Rattle.acq_program.specs.Arguments.{together_of_text};
+ghost use Rattle.acq_program.specs.Options.{bytes_of_text, count_of_text, group_of_text};
+ghost use Rattle.acq_program.specs.Options.{limit_of_text};
+ghost use Rattle.acq_program.specs.Options.{number_of_text, port_of_text, repeat_of_text};
+ghost use Rattle.acq_program.specs.Options.{seconds_of_text};
+ghost use Rattle.acq_program.specs.Options.{together_of_text};
 
 use acq_commands::GroupSize;
 use acq_core::Limit;

@@ -1,7 +1,7 @@
 //! The reports that the options of `replay` ask for.
 
 ghost use Rattle.std.specs.Prelude.{◌≡◌, ◌++◌, List, IfErr, OnOk};
-ghost use Rattle.acq_program.specs.Arguments.{GivesReports};
+ghost use Rattle.acq_program.specs.Options.{GivesReports};
 ghost use Rattle.acq_program.specs.WantedReports.{MayRefuse, each_text, texts_in};
 
 use crate::option_name::OptionName;

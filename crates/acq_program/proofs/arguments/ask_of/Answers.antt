@@ -5,8 +5,9 @@ use Rattle.clap.specs.Words.{found_of}
 use Rattle.acq_program.specs.declared.action.Action.{Action}
 use Rattle.acq_program.specs.declared.action.Action.TheVariants.{Ask}
 use Rattle.acq_program.specs.declared.usage_fault.UsageFault.{UsageFault}
-use Rattle.acq_program.specs.Arguments.{AskAt, AskWithin, EndpointIs, IsAsk, RepeatIfThere}
-use Rattle.acq_program.specs.Arguments.{ReplyWithinIs, found_texts}
+use Rattle.acq_program.specs.Arguments.{AskAt, AskWithin, EndpointIs, IsAsk}
+use Rattle.acq_program.specs.Options.{RepeatIfThere}
+use Rattle.acq_program.specs.Options.{ReplyWithinIs, found_texts}
 use Rattle.acq_program.proofs.OptionsRead.{first_fails, then_rest}
 use Rattle.acq_program.proofs.arguments.ask_of.Goals as goal
 

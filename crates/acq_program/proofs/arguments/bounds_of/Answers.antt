@@ -4,8 +4,9 @@ use Rattle.std.specs.Prelude.{Err, Ok, Result}
 use Rattle.clap.specs.Words.{found_of}
 use Rattle.acq_program.specs.declared.bounds.Bounds.{Bounds}
 use Rattle.acq_program.specs.declared.usage_fault.UsageFault.{UsageFault}
-use Rattle.acq_program.specs.Arguments.{AreBounds, BoundsUpTo, BoundsWith, FromOneAddressIs}
-use Rattle.acq_program.specs.Arguments.{LogBytesIs, TogetherIs, found_texts}
+use Rattle.acq_program.specs.Arguments.{AreBounds, BoundsUpTo, BoundsWith}
+use Rattle.acq_program.specs.Options.{FromOneAddressIs}
+use Rattle.acq_program.specs.Options.{LogBytesIs, TogetherIs, found_texts}
 use Rattle.acq_program.proofs.OptionsRead.{first_fails, then_rest}
 use Rattle.acq_program.proofs.arguments.bounds_of.Goals as goal
 

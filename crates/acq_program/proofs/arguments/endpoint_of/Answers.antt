@@ -3,7 +3,8 @@ use Rattle.std.specs.Prelude.{Err, Ok, Result}
 use Rattle.std.specs.declared.net.socket_addr.SocketAddrV4.{SocketAddrV4}
 use Rattle.clap.specs.Words.{found_of}
 use Rattle.acq_program.specs.declared.usage_fault.UsageFault.{UsageFault}
-use Rattle.acq_program.specs.Arguments.{AddressIs, EndpointAt, IsEndpoint, PortIs, found_texts}
+use Rattle.acq_program.specs.Arguments.{EndpointAt, IsEndpoint}
+use Rattle.acq_program.specs.Options.{AddressIs, PortIs, found_texts}
 use Rattle.acq_program.proofs.OptionsRead.{first_fails, then_rest}
 use Rattle.acq_program.proofs.arguments.endpoint_of.Goals as goal
 

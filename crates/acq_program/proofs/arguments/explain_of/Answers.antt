@@ -1,6 +1,7 @@
 use Rattle.std.proofs.lemmas.Result.{err_from_is_err_and}
 use Rattle.clap.specs.Words.{found_of}
-use Rattle.acq_program.specs.Arguments.{ExplainedIs, IsExplain, found_texts}
+use Rattle.acq_program.specs.Arguments.{ExplainedIs, IsExplain}
+use Rattle.acq_program.specs.Options.{found_texts}
 use Rattle.acq_program.proofs.OptionsRead.{first_fails}
 use Rattle.acq_program.proofs.arguments.explain_of.Goals as goal
 

@@ -4,8 +4,9 @@ use Rattle.std.specs.Prelude.{Err, Ok, Result}
 use Rattle.clap.specs.Words.{found_of}
 use Rattle.acq_commands.specs.declared.explain_options.ExplainOptions.{ExplainOptions}
 use Rattle.acq_program.specs.declared.usage_fault.UsageFault.{UsageFault}
-use Rattle.acq_program.specs.Arguments.{DayIs, ExplainOn, ExplainUpTo, ExplainedIs, IsExplained}
-use Rattle.acq_program.specs.Arguments.{LimitIs, MomentIfThere, found_texts}
+use Rattle.acq_program.specs.Arguments.{ExplainOn, ExplainUpTo, ExplainedIs, IsExplained}
+use Rattle.acq_program.specs.Options.{DayIs}
+use Rattle.acq_program.specs.Options.{LimitIs, MomentIfThere, found_texts}
 use Rattle.acq_program.proofs.OptionsRead.{first_fails, no_memory, then_rest}
 use Rattle.acq_program.proofs.arguments.explain_options.Goals as goal
 

@@ -3,8 +3,9 @@ use Rattle.std.proofs.Common.{refl}
 use Rattle.std.specs.Prelude.{Err, Ok}
 use Rattle.acq_program.specs.declared.action.Action.TheVariants.{Holds}
 use Rattle.clap.specs.Words.{found_of}
-use Rattle.acq_program.specs.Arguments.{FileIs, HoldsIn, HoldsOf, IsHolds, MerchantIs, MomentIs}
-use Rattle.acq_program.specs.Arguments.{found_texts}
+use Rattle.acq_program.specs.Arguments.{HoldsIn, HoldsOf, IsHolds}
+use Rattle.acq_program.specs.Options.{FileIs, MerchantIs, MomentIs}
+use Rattle.acq_program.specs.Options.{found_texts}
 use Rattle.acq_program.proofs.OptionsRead.{first_fails, then_rest}
 use Rattle.acq_program.proofs.arguments.holds_of.Goals as goal
 

@@ -3,8 +3,9 @@ use Rattle.std.proofs.Common.{refl}
 use Rattle.std.specs.Prelude.{Err, Ok}
 use Rattle.acq_program.specs.declared.action.Action.TheVariants.{Init}
 use Rattle.clap.specs.Words.{found_of}
-use Rattle.acq_program.specs.Arguments.{DayIs, FileIs, InitIn, InitWith, IsInit, LimitIs}
-use Rattle.acq_program.specs.Arguments.{found_texts}
+use Rattle.acq_program.specs.Arguments.{InitIn, InitWith, IsInit}
+use Rattle.acq_program.specs.Options.{DayIs, FileIs, LimitIs}
+use Rattle.acq_program.specs.Options.{found_texts}
 use Rattle.acq_program.proofs.OptionsRead.{first_fails, then_rest}
 use Rattle.acq_program.proofs.arguments.init_of.Goals as goal
 

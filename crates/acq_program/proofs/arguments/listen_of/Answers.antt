@@ -4,7 +4,8 @@ use Rattle.std.specs.Prelude.{Err, Ok}
 use Rattle.clap.specs.Words.{found_of}
 use Rattle.acq_program.specs.declared.action.Action.TheVariants.{Listen}
 use Rattle.acq_program.specs.declared.usage_fault.UsageFault.TheVariants.{BadValue}
-use Rattle.acq_program.specs.Arguments.{IsListen, ListenedIs, found_texts, unless_clash}
+use Rattle.acq_program.specs.Arguments.{IsListen, ListenedIs, unless_clash}
+use Rattle.acq_program.specs.Options.{found_texts}
 use Rattle.acq_program.proofs.OptionsRead.{first_fails, then_rest}
 use Rattle.acq_program.proofs.arguments.listen_of.Goals as goal
 

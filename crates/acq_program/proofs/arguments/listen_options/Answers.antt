@@ -4,10 +4,12 @@ use Rattle.std.specs.Prelude.{Err, Ok, Result}
 use Rattle.clap.specs.Words.{found_of}
 use Rattle.acq_faults.specs.declared.listen_options.ListenOptions.{ListenOptions}
 use Rattle.acq_program.specs.declared.usage_fault.UsageFault.{UsageFault}
-use Rattle.acq_program.specs.Arguments.{BoundsAre, CountIs, FileIs, IsListened, ListenAt}
+use Rattle.acq_program.specs.Arguments.{BoundsAre, IsListened, ListenAt}
+use Rattle.acq_program.specs.Options.{CountIs, FileIs}
 use Rattle.acq_program.specs.Arguments.{ListenBeside, ListenFor, ListenIn, ListenOn, ListenedIs}
-use Rattle.acq_program.specs.Arguments.{EndpointIs, MomentIfThere, PatienceIs}
-use Rattle.acq_program.specs.Arguments.{found_texts}
+use Rattle.acq_program.specs.Arguments.{EndpointIs, PatienceIs}
+use Rattle.acq_program.specs.Options.{MomentIfThere}
+use Rattle.acq_program.specs.Options.{found_texts}
 use Rattle.acq_program.proofs.OptionsRead.{first_fails, no_memory, then_rest}
 use Rattle.acq_program.proofs.arguments.listen_options.Goals as goal
 

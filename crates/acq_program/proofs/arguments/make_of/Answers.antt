@@ -3,7 +3,8 @@ use Rattle.std.proofs.Common.{ap}
 use Rattle.std.specs.Prelude.{Ok}
 use Rattle.clap.specs.Words.{found_of}
 use Rattle.acq_program.specs.declared.action.Action.TheVariants.{Make}
-use Rattle.acq_program.specs.Arguments.{IsMake, MadeFormIs, found_texts, said_by}
+use Rattle.acq_program.specs.Arguments.{IsMake}
+use Rattle.acq_program.specs.Options.{MadeFormIs, found_texts, said_by}
 use Rattle.acq_commands.specs.declared.said_form.SaidForm.{SaidForm}
 use Rattle.acq_program.proofs.OptionsRead.{first_fails, then_rest}
 use Rattle.acq_program.proofs.arguments.make_of.Goals as goal

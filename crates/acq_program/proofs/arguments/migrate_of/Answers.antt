@@ -3,7 +3,8 @@ use Rattle.std.proofs.Common.{refl}
 use Rattle.std.specs.Prelude.{Ok}
 use Rattle.acq_program.specs.declared.action.Action.TheVariants.{Migrate}
 use Rattle.clap.specs.Words.{found_of}
-use Rattle.acq_program.specs.Arguments.{FileIs, IsMigrate, found_texts}
+use Rattle.acq_program.specs.Arguments.{IsMigrate}
+use Rattle.acq_program.specs.Options.{FileIs, found_texts}
 use Rattle.acq_program.proofs.OptionsRead.{first_fails, then_rest}
 use Rattle.acq_program.proofs.arguments.migrate_of.Goals as goal
 

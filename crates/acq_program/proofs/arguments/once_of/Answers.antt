@@ -5,7 +5,8 @@ use Rattle.clap.specs.Words.{found_of}
 use Rattle.acq_program.specs.declared.action.Action.{Action}
 use Rattle.acq_program.specs.declared.action.Action.TheVariants.{Once}
 use Rattle.acq_program.specs.declared.usage_fault.UsageFault.{UsageFault}
-use Rattle.acq_program.specs.Arguments.{AsksOnce, IsOnce, MomentIfThere, found_texts}
+use Rattle.acq_program.specs.Arguments.{AsksOnce, IsOnce}
+use Rattle.acq_program.specs.Options.{MomentIfThere, found_texts}
 use Rattle.acq_program.proofs.OptionsRead.{first_fails, no_memory, then_rest}
 use Rattle.acq_program.proofs.arguments.once_of.Goals as goal
 

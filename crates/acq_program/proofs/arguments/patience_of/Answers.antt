@@ -4,9 +4,11 @@ use Rattle.std.specs.Prelude.{Err, Ok, Result}
 use Rattle.clap.specs.Words.{found_of}
 use Rattle.acq_faults.specs.declared.patience.Patience.{Patience}
 use Rattle.acq_program.specs.declared.usage_fault.UsageFault.{UsageFault}
-use Rattle.acq_program.specs.Arguments.{FrameWithinIs, IdleIs, IsPatience}
-use Rattle.acq_program.specs.Arguments.{PatienceFor, PatienceWith, StopWithinIs}
-use Rattle.acq_program.specs.Arguments.{found_texts}
+use Rattle.acq_program.specs.Arguments.{IsPatience}
+use Rattle.acq_program.specs.Options.{FrameWithinIs, IdleIs}
+use Rattle.acq_program.specs.Arguments.{PatienceFor, PatienceWith}
+use Rattle.acq_program.specs.Options.{StopWithinIs}
+use Rattle.acq_program.specs.Options.{found_texts}
 use Rattle.acq_program.proofs.OptionsRead.{first_fails, then_rest}
 use Rattle.acq_program.proofs.arguments.patience_of.Goals as goal
 

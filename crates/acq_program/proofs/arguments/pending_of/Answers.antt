@@ -5,8 +5,10 @@ use Rattle.clap.specs.Words.{found_of}
 use Rattle.acq_program.specs.declared.action.Action.{Action}
 use Rattle.acq_program.specs.declared.action.Action.TheVariants.{Pending}
 use Rattle.acq_program.specs.declared.usage_fault.UsageFault.{UsageFault}
-use Rattle.acq_program.specs.Arguments.{AsksPending, DayIfThere, FileIs, IsPending}
-use Rattle.acq_program.specs.Arguments.{MomentIfThere, PendingIn, PendingOn, found_texts}
+use Rattle.acq_program.specs.Arguments.{AsksPending, IsPending}
+use Rattle.acq_program.specs.Options.{DayIfThere, FileIs}
+use Rattle.acq_program.specs.Arguments.{PendingIn, PendingOn}
+use Rattle.acq_program.specs.Options.{MomentIfThere, found_texts}
 use Rattle.acq_program.proofs.OptionsRead.{first_fails, no_memory, then_rest}
 use Rattle.acq_program.proofs.arguments.pending_of.Goals as goal
 

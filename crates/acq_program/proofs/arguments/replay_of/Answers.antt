@@ -6,9 +6,11 @@ use Rattle.acq_program.specs.declared.action.Action.{Action}
 use Rattle.acq_program.specs.declared.action.Action.TheVariants.{Replay}
 use Rattle.acq_faults.specs.declared.report_kind.ReportKind.TheVariants as kinds
 use Rattle.acq_program.specs.declared.usage_fault.UsageFault.{UsageFault}
-use Rattle.acq_program.specs.Arguments.{AsksReplay, DayIs, GivesReports, GroupIs, LimitIs, Reads}
+use Rattle.acq_program.specs.Arguments.{AsksReplay, Reads}
+use Rattle.acq_program.specs.Options.{DayIs, GivesReports, GroupIs, LimitIs}
 use Rattle.acq_program.specs.Arguments.{ReplayBehind, ReplayBy, ReplayOn}
-use Rattle.acq_program.specs.Arguments.{ReplayUpTo, ReplayWith, ReportsAre, found_texts}
+use Rattle.acq_program.specs.Arguments.{ReplayUpTo, ReplayWith}
+use Rattle.acq_program.specs.Options.{ReportsAre, found_texts}
 use Rattle.acq_program.proofs.OptionsRead.{first_fails, no_memory, texts_found, then_rest}
 use Rattle.acq_program.proofs.arguments.replay_of.Goals as goal
 

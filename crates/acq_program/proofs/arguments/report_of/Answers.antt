@@ -3,7 +3,8 @@ use Rattle.std.proofs.Common.{refl}
 use Rattle.std.specs.Prelude.{Err, Ok}
 use Rattle.acq_program.specs.declared.action.Action.TheVariants.{Report}
 use Rattle.clap.specs.Words.{found_of}
-use Rattle.acq_program.specs.Arguments.{DayIs, FileIs, IsReport, ReportIn, report_on, found_texts}
+use Rattle.acq_program.specs.Arguments.{IsReport, ReportIn}
+use Rattle.acq_program.specs.Options.{DayIs, FileIs, report_on, found_texts}
 use Rattle.acq_program.proofs.OptionsRead.{first_fails, then_rest}
 use Rattle.acq_program.proofs.arguments.report_of.Goals as goal
 

@@ -4,7 +4,8 @@ use Rattle.std.specs.Prelude.{Ok}
 use Rattle.clap.specs.Words.{found_of}
 use Rattle.acq_commands.specs.declared.input_form.InputForm.{InputForm}
 use Rattle.acq_program.specs.declared.action.Action.TheVariants.{Show}
-use Rattle.acq_program.specs.Arguments.{IsShow, ShownFormIs, form_of_flag, found_texts}
+use Rattle.acq_program.specs.Arguments.{IsShow}
+use Rattle.acq_program.specs.Options.{ShownFormIs, form_of_flag, found_texts}
 use Rattle.acq_program.proofs.OptionsRead.{first_fails, then_rest}
 use Rattle.acq_program.proofs.arguments.show_of.Goals as goal
 

@@ -3,7 +3,8 @@ use Rattle.std.proofs.Common.{refl}
 use Rattle.std.specs.Prelude.{Ok}
 use Rattle.clap.specs.Words.{found_of}
 use Rattle.acq_program.specs.declared.action.Action.TheVariants.{Status}
-use Rattle.acq_program.specs.Arguments.{FileIs, IsStatus, found_texts}
+use Rattle.acq_program.specs.Arguments.{IsStatus}
+use Rattle.acq_program.specs.Options.{FileIs, found_texts}
 use Rattle.acq_program.proofs.OptionsRead.{first_fails, then_rest}
 use Rattle.acq_program.proofs.arguments.status_of.Goals as goal
 

@@ -5,7 +5,8 @@ use Rattle.clap.specs.Words.{found_of}
 use Rattle.acq_program.specs.declared.action.Action.{Action}
 use Rattle.acq_program.specs.declared.action.Action.TheVariants.{Tell}
 use Rattle.acq_program.specs.declared.usage_fault.UsageFault.{UsageFault}
-use Rattle.acq_program.specs.Arguments.{IsTell, PathIs, TellAt, WithinIs, found_texts}
+use Rattle.acq_program.specs.Arguments.{IsTell, PathIs, TellAt}
+use Rattle.acq_program.specs.Options.{WithinIs, found_texts}
 use Rattle.acq_program.proofs.OptionsRead.{first_fails, then_rest}
 use Rattle.acq_program.proofs.arguments.tell_of.Goals as goal
 

@@ -4,7 +4,7 @@ use Rattle.std.specs.Prelude.{IfNone, IfSome, Option}
 use Rattle.std.proofs.Common.{Bor, slice_index_or}
 use Rattle.clap.specs.Words.{Text}
 use Rattle.day_totals.specs.Day.{IsNoDateText, date_text_of}
-use Rattle.acq_program.specs.Arguments.{report_on}
+use Rattle.acq_program.specs.Options.{report_on}
 use Rattle.acq_program.specs.declared.option_name.OptionName.TheVariants.{Report}
 use Rattle.acq_program.proofs.WantedReports.{was_none, was_some, text_at, texts_next}
 use Rattle.acq_program.proofs.WantedReports.{reports_next}

@@ -1,7 +1,7 @@
 -- the reports on the days that the texts so far spell stand behind those that were there
 use Rattle.std.proofs.Common.{◌≡◌, ◌++◌, List, ℕ, map, take}
 use Rattle.day_totals.specs.Day.{date_text_of}
-use Rattle.acq_program.specs.Arguments.{report_on}
+use Rattle.acq_program.specs.Options.{report_on}
 use Rattle.acq_program.specs.WantedReports.{each_text}
 use Rattle.acq_program.proofs.wanted_reports.add_each.Given as goal
 
