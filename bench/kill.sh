@@ -3,16 +3,17 @@
 # SIGKILL, on a real file, and looks each time at a copy of the book: that each event whose line was
 # written is in it, the group in hand (of N events, 1 unless said otherwise) whole or not at all, and none
 # in part. It goes on from there each time. At the end the book's clearing file has to be that of a run
-# that nobody killed. It needs python3.
+# that nobody killed. ACQD may name another program than the built one. It needs python3.
 set -eu
 unset CDPATH
-cd "$(dirname "$0")/.."
-./acqd build
-python3 - "${1:-20}" "${2:-1}" <<'PY'
+top=$(cd "$(dirname "$0")/.." && pwd)
+program=${ACQD:-$top/crates/acqd/out/acqd}
+[ -x "$program" ] || "$top/acqd" build
+python3 - "$program" "${1:-20}" "${2:-1}" <<'PY'
 import os, random, shutil, signal, sqlite3, subprocess, sys, tempfile, time
 
-PROGRAM = os.path.abspath('crates/acqd/out/acqd')
-KILLS, GROUP = int(sys.argv[1]), int(sys.argv[2])
+PROGRAM = os.path.abspath(sys.argv[1])
+KILLS, GROUP = int(sys.argv[2]), int(sys.argv[3])
 MERCHANTS = 50
 MOMENT = 1714555800
 DAY = '2024-05-01'

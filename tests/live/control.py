@@ -12,7 +12,11 @@ each connection, reply and line of a control connection, and no card number; it 
 alone, too, and one that can't be opened is told; if it is standard error, nothing waits for who
 reads that. `acqd tell` gets the answers as they come, of a text its bytes alone, and fails with 53
 or 51 if nobody listens, or a host ends inside an answer. Then the rows of `control.lines` are
-played, each line cut anywhere, beside a connection that ends inside a line that is too long."""
+played, each line cut anywhere, beside a connection that ends inside a line that is too long.
+
+A clearing file is made in slices: while it is asked for, a terminal's echoes and sales of the next
+day are answered one by one, another control connection gets its answers, and one that asked and
+went away leaves the host well. The file is that of `clearing` over a copy of the book."""
 import os
 import random
 import re
@@ -26,11 +30,17 @@ import threading
 from collections import Counter
 
 from terminal import (
-    APPROVING, DAY, MOMENT, PATIENCE, Book, Host, free_port, log_lines, main, merchant, output,
-    run, sale, size, split_frames, wanted,
+    APPROVING, DAY, ECHO, MOMENT, PATIENCE, REPLY, Book, Host, Wrong, code_of, free_port,
+    is_readable, log_lines, main, merchant, output, run, sale, size, split_frames, wanted, when,
 )
 
 TERMINALS = size(64)
+# Merchants whose day is cleared, with names between theirs, and how many sales they have in all.
+SHOPS, SALES = range(10, 70, 10), 3000
+# A host that makes a clearing file in one piece answers four messages of a terminal at most before
+# the file: one in each round in which it reads the line, takes it and writes, and one before them.
+# One that makes it in slices answers some two dozen.
+IN_SLICES, TURNS = 6, 30
 HERE = os.path.dirname(os.path.abspath(__file__))
 
 
@@ -338,5 +348,111 @@ def a_day(program):
             wanted(word, book.output(word, "--day", DAY).encode(), text)
 
 
+def end_day(book):
+    """A day of sales of each shop in its turn, with their answers, that is over: its clearing file,
+    of a copy of the book."""
+    lines = []
+    for it in range(SALES):
+        number, k = divmod(it, len(SHOPS))
+        lines.append(f"frame,{MOMENT},{sale(SHOPS[k], number + 1)[2:].hex()},,,\n")
+        lines.append(f"answer,{MOMENT},{merchant(SHOPS[k])},{number + 1},approved,A1B2C3\n")
+    lines.append(f"cutover,{MOMENT},,,,\n")
+    book.output("replay", "--group", "1000", given="".join(lines))
+    copy = book.copy(f"{book.folder}/copy.db")
+    file = output([book.program, "clearing", "--db", copy, "--day", DAY])
+    wanted("lines of the file", file.count(b"\n"), SALES + 1)
+    return file
+
+
+class Seller:
+    """A terminal of each shop in turn: echoes, and sales of the day that goes on."""
+
+    def __init__(self, host):
+        self.end, self.trace = host.terminal(), 1000
+
+    def turn(self):
+        """An echo and a sale are answered, each before the next is sent."""
+        self.trace += 1
+        wanted("the reply to an echo", self.end.ask(ECHO), REPLY)
+        sold = self.end.ask(sale(SHOPS[self.trace % len(SHOPS)], self.trace))
+        wanted("the code of a sale beside a clearing file", code_of(sold), "00")
+
+
+def ask_beside(one, other, seller, line, file):
+    """Asks for a clearing file, and for the line's answer over another connection: how many
+    messages were answered before the first byte of the file was there, and that answer, if it came
+    before it, too. The rest of the file is read while the terminal goes on."""
+    one.end.sendall(f"clearing,{DAY}\n".encode())
+    other.end.sendall(f"{line}\n".encode())
+    answered, answer, early = 0, None, None
+    while True:
+        seller.turn()
+        if answer is None and is_readable(other.end, 0):
+            answer = other.answer()
+        if is_readable(one.end, 0):
+            break
+        # Nothing of the file is there, so all this was before it.
+        answered, early = answered + 2, answer
+    whole, got = b"text %d\n" % len(file) + file, b""
+    while len(got) < len(whole):
+        got += one.taken(min(9000, len(whole) - len(got)))
+        seller.turn()
+    wanted("the file beside terminals", got, whole)
+    return answered, early, answer or other.answer()
+
+
+def a_file_in_slices(program):
+    """Terminals and other control connections go on while a clearing file is made, and what they
+    do changes nothing in it."""
+    with Book(program, SHOPS) as book:
+        file = end_day(book)
+        with Host(book, "--together", "8", control=True) as host:
+            one, other, seller = host.control(), host.control(), Seller(host)
+            # Each has its place, in this order.
+            for it in (one, other):
+                wanted("an answer", it.ask("enrol,NEW"), "acqd: 62 BadLine 1")
+            beside = {
+                "status": lambda turn: "status",
+                "enrol": lambda turn: f"enrol,{merchant(SHOPS[0] + turn + 1)},978,1,,",
+                "cutover": lambda turn: "cutover,now,,,,",
+            }
+            for word, line in beside.items():
+                # On a slow machine the terminal may be late, and the host makes slices meanwhile.
+                seen = []
+                while not any(count >= IN_SLICES and early for count, early in seen):
+                    if len(seen) == TURNS:
+                        raise Wrong(f"answers before a file, with and without {word}: {seen}")
+                    *before, answer = ask_beside(one, other, seller, line(len(seen)), file)
+                    well = b"merchants " in answer if word == "status" else answer == "done"
+                    wanted(f"whether {word} is answered well", well, True)
+                    seen.append((before[0], before[1] is not None))
+            go_away(host, seller)
+            wanted("the file once others went away", one.ask(f"clearing,{DAY}"), file)
+            one.end.sendall(f"clearing,{DAY}\n".encode())
+            wanted("stop beside a file", other.ask("stop"), "stopping")
+            wanted("the file beside stop", one.answer(), file)
+            wanted("the end", host.ends()[0], 0)
+        wanted("the file afterwards", book.output("clearing", "--day", DAY).encode(), file)
+
+
+def go_away(host, seller):
+    """More connections than there are places ask for a clearing file and go away, at once or in the
+    midst of it: the terminal goes on, and all they had is given back."""
+    before = host.descriptors()
+    for turn in range(10):
+        gone = host.control()
+        gone.end.sendall(f"clearing,{DAY}\n".encode())
+        if turn % 2:
+            gone.taken(20000)
+        gone.end.close()
+        seller.turn()
+    when("places of those that went away", lambda: host.descriptors() == before)
+    others = [it for it in host.faults() if not re.match("acqd: 5[34] ", it)]
+    wanted("other faults than of their ends", others, [])
+
+
 if __name__ == "__main__":
-    sys.exit(main([tell_answers, a_socket_that_is_taken, log_to_standard_error, a_day, play_rows]))
+    sys.exit(main([
+        tell_answers, a_socket_that_is_taken, log_to_standard_error, a_day, a_file_in_slices,
+        play_rows,
+    ]))

@@ -47,6 +47,10 @@ SCRIPTS = [
     ("together 6", [("reply 4", "replies to terminal"), ("lost 5", "replies to terminal")]),
     ("clients a_reset another_address", [("reply 1", "terminals"), ("lost 1", "terminals")]),
     ("control tell_answers", [("text enrol,TOLD", "lines that are told")]),
+    ("control a_file_in_slices", [
+        ("reply 3", "the reply to an echo"),
+        ("text clearing", "the file beside"),
+    ]),
     ("control a_day 5", [
         ("reply 4", "replies to terminal"),
         # A day of few terminals may be cleared before its first sale.
