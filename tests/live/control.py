@@ -432,7 +432,24 @@ def a_file_in_slices(program):
             wanted("stop beside a file", other.ask("stop"), "stopping")
             wanted("the file beside stop", one.answer(), file)
             wanted("the end", host.ends()[0], 0)
+        cut_off_in_a_file(book)
         wanted("the file afterwards", book.output("clearing", "--day", DAY).encode(), file)
+
+
+def cut_off_in_a_file(book):
+    """A connection that reads nothing is cut off in the midst of a clearing file: 54 counts all
+    bytes that went out, and not those of the last slice alone."""
+    with Host(book, "--together", "8", "--stop-within", "1", control=True) as host:
+        one, other = host.control(), host.control()
+        for it in (one, other):
+            wanted("an answer", it.ask("enrol,NEW"), "acqd: 62 BadLine 1")
+        one.end.sendall(f"clearing,{DAY}\n".encode())
+        wanted("stop beside one that reads nothing", other.ask("stop"), "stopping")
+        faults, gone = host.ends()[1], 0
+        while came := one.end.recv(65536):
+            gone += len(came)
+        told = [it for it in faults if it.startswith("acqd: 54 ")]
+        wanted("the fault of one that is cut off in a file", told, [f"acqd: 54 Write {gone}"])
 
 
 def go_away(host, seller):
