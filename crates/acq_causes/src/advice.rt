@@ -1,7 +1,7 @@
 //! What may be said of a fault without a look at the machine.
 
 /// What an option's value has to be.
-const VALUES: [(&str, &str); 21] = [
+const VALUES: [(&str, &str); 22] = [
     ("--db", "a path"),
     ("--limit", "1 to 999999, as in --limit 999999"),
     ("--day", DAY),
@@ -27,6 +27,7 @@ const VALUES: [(&str, &str); 21] = [
     ("--idle", SECONDS),
     ("--frame-within", SECONDS),
     ("--stop-within", SECONDS),
+    ("--answer-within", SECONDS),
     ("--within", SECONDS),
     ("--repeat", "1 to 1000000, as in --repeat 1000"),
     ("--events", "a file for a new book, without --db"),

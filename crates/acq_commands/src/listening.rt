@@ -3,6 +3,7 @@
 ghost use Rattle.std.specs.Prelude.{◌≡◌, ℕ, OnOk};
 ghost use Rattle.acq_core.specs.Pasts.{HasPast};
 ghost use Rattle.acq_front.specs.Stops.{left_of};
+ghost use Rattle.acq_front.specs.Talk.{in_time};
 ghost use Rattle.acq_faults.specs.Faults.{TellsStore};
 ghost use Rattle.acq_faults.specs.Serving.{Serves};
 ghost use Rattle.acq_commands.specs.Listening.{Served, ServesConnections};
@@ -65,7 +66,7 @@ pub fn listen_together_on<B: Book + Drop, N: Server, C: Clock, I: Issuer, F: Sin
     // One list of steps is what the book that is left has in addition, what all connections had,
     // and what others follow.
     ensures serves { B.is_honest result.0 → B.is_open book
-        → Serves (C.may_give clock.old) (I.may_say issuer.old) N.follow (B.tables book)
+        → Serves (C.may_give clock.old) (in_time (I.may_say issuer.old)) N.follow (B.tables book)
         (left_of B.Book result.0) (N.others server.old) (N.others server.new)
         (N.had server.old) (N.had server.new) (N.many server.old) (N.many server.new) result.1 }
     ensures store { TellsStore result.1 (B.failures book) (B.failures result.0)

@@ -1,6 +1,7 @@
 -- A control connection that ended.
 use Rattle.std.specs.Prelude.{◌≡◌, ℕ, List, [], ◌∷◌, ◌++◌}
 use Rattle.acq_rounds.specs.Acts.{Connection}
+use Rattle.acq_rounds.specs.declared.stage.Stage.TheVariants.{Listening}
 use Rattle.acq_controls.specs.Aside.{Aside, Open}
 
 -- as it ended: what it held of a line that was begun
@@ -11,6 +12,7 @@ last_of held o = record {
   held = held;
   went = o.passed.went;
   unsent = o.passed.unsent;
+  stage = Listening;
 }
 
 -- it is among those that ended now

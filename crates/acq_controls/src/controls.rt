@@ -13,7 +13,7 @@ use acq_book::{Book, BookFault};
 use acq_control::{ControlExchange, ControlRound};
 use acq_front::{Clock, FrontFault, StreamLine};
 use acq_host::Host;
-use acq_rounds::{Last, Past};
+use acq_rounds::{Last, Past, Stage};
 use acq_status::Serving;
 use std::alloc::Global;
 use std::io::{Read, Write};
@@ -146,12 +146,14 @@ impl<S: Read + Write + Drop> Controls<S> {
         ensures { EndsAs (seen control) (aside_of self.old) (aside_of self.new) }
     {
         let line = control.exchange.line();
+        let stage = Stage::Listening;
         self.past = self.past.after(&Last {
             number: control.number,
             came: line.received(),
             held: control.exchange.front(),
             went: line.sent(),
             unsent: control.exchange.unsent(),
+            stage: &stage,
         });
         drop(control);
     }

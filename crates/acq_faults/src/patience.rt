@@ -1,6 +1,7 @@
 //! How long connections may take.
 
-/// For how many seconds a connection may be as it is before it is closed; 0 is for ever.
+/// For how many seconds a connection may be as it is; 0 is for ever. Behind that it is closed, or
+/// where its issuer doesn't answer, goes on without an answer.
 #[derive(Clone, Copy, Debug, Drop)]
 pub struct Patience {
     /// For how many seconds it may send nothing, or take nothing of a reply.
@@ -9,4 +10,6 @@ pub struct Patience {
     pub frame_within: u64,
     /// For how many seconds it may be there once the host was asked to end.
     pub stop_within: u64,
+    /// For how many seconds it may wait for its issuer's answer.
+    pub answer_within: u64,
 }

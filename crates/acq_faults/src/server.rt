@@ -4,6 +4,7 @@ ghost use Rattle.std.specs.Prelude.{ℕ, List};
 ghost use Rattle.acq_faults.specs.Faults.{TellsStore};
 ghost use Rattle.acq_faults.specs.Serving.{Serves};
 ghost use Rattle.acq_front.specs.Stops.{left_of};
+ghost use Rattle.acq_front.specs.Talk.{in_time};
 ghost use Rattle.acq_rounds.specs.Acts.{Connection};
 ghost use Rattle.acq_rounds.specs.Runs.{Following};
 
@@ -32,7 +33,8 @@ pub trait Server {
     ghost follow: { Following aside };
 
     /// Serves so many connections over a host, many at once, in rounds: the messages that are ready
-    /// are taken in one group. A connection's fault is a line of `faults`, and the others go on;
+    /// are taken in one group. A connection whose issuer answers later waits for that alone, and may
+    /// get no answer in time. A connection's fault is a line of `faults`, and the others go on;
     /// want of memory and a fault of the store end it.
     fn serve_all<B: Book + Drop, C: Clock, I: Issuer, F: Sink>(
         &mut self,
@@ -45,8 +47,8 @@ pub trait Server {
     ) -> Result<(), Fault>
         // One list of steps is what the host did, what all connections had, and what others follow.
         ensures serves { B.is_honest host.new → B.is_open host.old
-            → Serves (C.may_give clock.old) (I.may_say issuer.old) follow (B.tables host.old)
-            (left_of B.Book host.new) (others self.old) (others self.new)
+            → Serves (C.may_give clock.old) (in_time (I.may_say issuer.old)) follow
+            (B.tables host.old) (left_of B.Book host.new) (others self.old) (others self.new)
             (had self.old) (had self.new) (many self.old) (many self.new) result }
         // The store's fault comes only where a call of it failed, or gave what no host wrote; and
         // with any other end none failed.

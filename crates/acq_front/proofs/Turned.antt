@@ -4,14 +4,14 @@ use Rattle.std.proofs.Common.{refl, sym, ap, ◌∙◌, arith, inl, inr}
 use Rattle.std.proofs.lemmas.Bool.{and_from, le-leb, lt-ltb}
 use Rattle.std.proofs.lemmas.Bool.Decides.{nat_tests}
 use Rattle.std.specs.Prelude.{length}
-use Rattle.acq_link.specs.Frames.{Frames, fits_frame}
+use Rattle.acq_link.specs.Frames.{fits_frame}
 use Rattle.acq_message.specs.declared.verdict.Verdict.{Verdict}
 use Rattle.iso_codec.specs.declared.decode_fault.DecodeFault.{DecodeFault}
 use Rattle.acq_core.specs.declared.event.Event.{Event}
 use Rattle.acq_core.specs.declared.event.Event.TheVariants.{Frame, Answer}
 use Rattle.acq_core.specs.declared.query.Query.{Query}
 use Rattle.acq_core.specs.declared.output.Output.{Output}
-use Rattle.acq_core.specs.declared.output.Output.TheVariants.{Reply, Ask, Undecodable}
+use Rattle.acq_core.specs.declared.output.Output.TheVariants.{Ask, Undecodable}
 use Rattle.acq_core.specs.Arrivals.{arrival_of}
 use Rattle.acq_core.specs.Tables.{Tables, step_output, step_tables}
 use Rattle.acq_book.specs.Promise.{CountsFault, HasRisen}
@@ -20,13 +20,12 @@ use Rattle.acq_host.specs.Runs.{IsWellSaid}
 use Rattle.acq_front.specs.declared.front_fault.FrontFault as fault
 use Rattle.acq_front.specs.Faults.{of_book, CountsStore, IfStore, TellsStore}
 use Rattle.acq_front.specs.Stops.{Left, LeavesAll, LeavesSome}
-use Rattle.acq_front.specs.Talk.{Saying, reply_in, replies}
+use Rattle.acq_front.specs.Talk.{Saying}
 use Rattle.acq_front.specs.Turns.{Incoming, TookNone, TookAllButAnswer}
 use Rattle.acq_front.specs.Turns.{Answered, Refused, Said, Takes, Turns, ReplyFits}
-use Rattle.acq_front.specs.Outgoing.{frame_said}
 use Rattle.acq_front.proofs.Reading.{undecodable_is, reads}
 use Rattle.acq_front.proofs.MessagesTaken.{AsksNothing, makes_asking, replies_one, replies_two}
-use Rattle.acq_front.proofs.MessagesTaken.{frames_none, frames_one, said_one, took_alone}
+use Rattle.acq_front.proofs.MessagesTaken.{frames_none, said_one, took_alone}
 use Rattle.acq_front.proofs.MessagesTaken.{took_answer}
 
 -- the text of a reply fits a frame

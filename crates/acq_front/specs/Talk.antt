@@ -1,6 +1,6 @@
 -- The events of one connection: each frame that comes, and behind it, where its issuer is to be
 -- asked, the issuer's answer. And what is replied to them.
-use Rattle.std.specs.Prelude.{◌≡◌, ℕ, List, [], ◌∷◌, ◌++◌}
+use Rattle.std.specs.Prelude.{◌≡◌, ◌⊎◌, ℕ, List, [], ◌∷◌, ◌++◌}
 use Rattle.std.specs.List.{flat_map}
 use Rattle.acq_message.specs.declared.verdict.Verdict.{Verdict}
 use Rattle.acq_message.specs.declared.verdict.Verdict.TheVariants.{NoAnswer}
@@ -87,6 +87,10 @@ Saying = Query → Verdict → Type 0
 -- no answer to any
 abbrev pub says_nothing : Saying
 says_nothing query verdict = verdict ≡ NoAnswer
+
+-- what it may say in time: this, or no answer
+abbrev pub in_time : Saying → Saying
+in_time may_say query verdict = may_say query verdict ⊎ (verdict ≡ NoAnswer)
 
 -- to each query one of these verdicts was said, in order, and might be
 abbrev pub AreSaid : Saying → List Query → List Verdict → Type 0

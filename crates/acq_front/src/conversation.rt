@@ -1,7 +1,7 @@
 //! One end of a connection, without its reads and writes.
 
 ghost use Rattle.std.specs.Prelude.{◌≡◌, ◌+◌, ◌≤◌, ◌<◌, ◌++◌, [], length, drop};
-ghost use Rattle.std.specs.Prelude.{IfErr, IfNone, IfOk, IfSome, true};
+ghost use Rattle.std.specs.Prelude.{IfErr, IfNone, IfOk, IfSome, None, Ok, true};
 ghost use Rattle.acq_link.specs.Deframing.{longest_frame};
 ghost use Rattle.acq_link.specs.FirstMessage.{begins_with_message, behind_message, first_message};
 ghost use Rattle.acq_link.specs.FramesAt.{MayBecomeFrame};
@@ -25,6 +25,8 @@ use std::alloc::Global;
 pub struct Conversation {
     input: Deframer,
     output: Outgoing,
+    /// The type of the message that was taken last.
+    kind: [u8; 4],
     /// The message that was taken last, if it gets no reply.
     unanswered: Option<Unanswered>,
     /// Why its reply has another code than 00, if it has.
@@ -41,6 +43,7 @@ impl Conversation {
         Conversation {
             input: Deframer::new(),
             output: Outgoing::new(),
+            kind: [0; 4],
             unanswered: None,
             reason: None,
         }
@@ -150,14 +153,44 @@ impl Conversation {
         ensures gone { gone_of self.new ≡ 0 }
         ensures store { IfStore result (ReplyFits said.now → ⊥) }
     {
-        let kind = self.kind_in_front();
+        self.kind = self.kind_in_front();
         self.input.discard();
-        self.output.clear();
-        self.unanswered = Unanswered::of(kind, said);
-        self.reason = reason;
+        let held = self.reply(said, reason);
         if let Output::Undecodable(fault) = said {
             return Err(FrontFault::Undecodable(*fault));
         }
+        held
+    }
+
+    /// The next message was taken, and its issuer answers later: nothing is to be written yet.
+    pub fn defer(&mut self)
+        requires { is_ready (held_of self.old) (unsent_of self.old) ≡ true }
+        ensures held { held_of self.new ≡ behind_message (held_of self.old) }
+        ensures unsent { unsent_of self.new ≡ [] }
+        ensures none { unanswered_of self.new ≡ None }
+        ensures gone { gone_of self.new ≡ 0 }
+    {
+        self.kind = self.kind_in_front();
+        self.input.discard();
+        self.output.clear();
+        self.unanswered = None;
+        self.reason = None;
+    }
+
+    /// The host said this to the message that was taken last, or to its issuer's answer; the reply
+    /// is then to be written.
+    pub fn reply(&mut self, said: &Output, reason: Option<Reason>) -> Result<(), FrontFault>
+        ensures held { held_of self.new ≡ held_of self.old }
+        ensures unsent { ReplyFits said.now → unsent_of self.new ≡ frame_said said.now }
+        ensures well { ReplyFits said.now → result ≡ Ok tt }
+        // Of a message that gets no reply, nothing is to be written.
+        ensures silent { IfSome (unanswered_of self.new) (λ message. unsent_of self.new ≡ []) }
+        ensures gone { gone_of self.new ≡ 0 }
+        ensures store { IfStore result (ReplyFits said.now → ⊥) }
+    {
+        self.output.clear();
+        self.unanswered = Unanswered::of(self.kind, said);
+        self.reason = reason;
         self.output.hold(said)
     }
 

@@ -1,11 +1,14 @@
 //! Who answers for cards.
 
-ghost use Rattle.std.specs.Prelude.{List, Option, None};
+ghost use Rattle.std.specs.Prelude.{◌≡◌, List, Option, None};
 ghost use Rattle.acq_front.specs.Coming.{GivesNext};
 
 use acq_core::{Query, Verdict};
+use std::time::Duration;
 
-/// Who is asked about a card's requests.
+/// Who is asked about a card's requests. It may answer later: whoever serves many terminals asks
+/// whether the answer is there, and lets the others go on until it is; whoever serves one waits for
+/// it.
 pub trait Issuer {
     ghost use Rattle.acq_core.specs.declared.query.Query.{Query};
     ghost use Rattle.acq_message.specs.declared.verdict.Verdict.{Verdict};
@@ -22,4 +25,23 @@ pub trait Issuer {
         ensures coming { GivesNext NoAnswer (coming self.old) (coming self.new) result }
         ensures said { may_say self.old query.now result }
         ensures later { (q : Query) (v : Verdict) → may_say self.new q v → may_say self.old q v };
+
+    /// How long its answer to a query takes, as far as that is known before it is asked.
+    fn takes(&self, _query: &Query) -> Duration {
+        Duration::ZERO
+    }
+
+    /// Whether its answer to a query is there.
+    fn has_answer(&mut self, _query: &Query) -> bool
+        ensures coming { coming self.new ≡ coming self.old }
+        ensures later { (q : Query) (v : Verdict) → may_say self.new q v → may_say self.old q v }
+    {
+        true
+    }
+
+    /// How long to wait at most for the next answer to what it was asked and didn't answer yet: no
+    /// time, if one may be there, and `None` if nothing of that kind is waited for.
+    fn next_answer_within(&self) -> Option<Duration> {
+        None
+    }
 }

@@ -1,10 +1,9 @@
 -- One event that is taken between two groups.
-use Rattle.std.proofs.Common.{◌≡◌, true, false, List, [], ◌∷◌, Result, Ok, Err, is_ok, refl, lit≤}
+use Rattle.std.proofs.Common.{true, false, [], ◌∷◌, refl, lit≤}
 use Rattle.acq_core.specs.declared.event.Event.{Event}
 use Rattle.acq_core.specs.Arrivals.{arrival_of}
-use Rattle.acq_core.specs.Tables.{Tables, step_tables, tables_after}
+use Rattle.acq_core.specs.Tables.{step_tables}
 use Rattle.acq_book.specs.declared.book.Book.{Ghosts}
-use Rattle.acq_book.specs.declared.book_fault.BookFault.{BookFault}
 use Rattle.acq_book.specs.Calls.{Makes}
 use Rattle.acq_host.proofs.Runs.{LeavesTables}
 use Rattle.acq_front.specs.Stops.{left_of}

@@ -35,4 +35,5 @@ connection_of p = record {
   held = conversation.held_of p.talk;
   went = sent_of p.line;
   unsent = conversation.unsent_of p.talk;
+  stage = p.stage;
 }

@@ -15,6 +15,7 @@ use acq_front::{Clock, Conversation, FrontFault, StreamLine};
 use acq_host::Host;
 use acq_rounds::{Gate, Last, Past, Place};
 use std::alloc::Global;
+use std::time::Duration;
 
 /// The most waits at which nothing was to be woken and none came: one that sleeps then, and never
 /// said that it would wait, was forgotten.
@@ -120,10 +121,11 @@ impl MemoryGate {
         let number = place.number();
         let waits = place.line().stream().waits();
         let is_writing = !place.talk().unsent().is_empty();
+        let is_heard = place.is_heard();
         let Some(watch) = self.watches.get_mut(number as usize) else {
             return;
         };
-        if watch.see(waits, place.is_ready(), is_writing) {
+        if watch.see(waits, place.is_ready(), is_writing, is_heard) {
             self.note(Noted::LeftOut(number));
         }
     }
@@ -157,10 +159,10 @@ impl Gate<StreamLine<MemoryStream>, Conversation> for MemoryGate {
 
     ghost past_untold = { λ t steps events others is. tt };
 
-    fn wait(&mut self, has_already: bool) -> bool {
+    fn wait(&mut self, has_already: bool, at_most: Option<Duration>) -> bool {
         self.note(Noted::Waited);
         let waits = self.draw_woken();
-        if has_already || waits || !self.coming.is_empty() {
+        if has_already || waits || at_most.is_some() || !self.coming.is_empty() {
             self.idle = 0;
         } else {
             self.idle = self.idle.saturating_add(1);
@@ -225,10 +227,15 @@ impl Gate<StreamLine<MemoryStream>, Conversation> for MemoryGate {
 
     fn said(&mut self, place: &Place<StreamLine<MemoryStream>, Conversation>) {
         let number = place.number();
-        if let Some(watch) = self.watches.get_mut(number as usize) {
-            watch.serve();
-        }
-        self.note(Noted::Taken(number));
+        let is_answer = match self.watches.get_mut(number as usize) {
+            Some(watch) => watch.serve(),
+            None => false,
+        };
+        self.note(if is_answer {
+            Noted::Answered(number)
+        } else {
+            Noted::Taken(number)
+        });
     }
 
     fn part(&mut self, place: Place<StreamLine<MemoryStream>, Conversation>)
@@ -243,6 +250,7 @@ impl Gate<StreamLine<MemoryStream>, Conversation> for MemoryGate {
             held: talk.held(),
             went: line.sent(),
             unsent: talk.unsent(),
+            stage: place.stage(),
         });
         let Ok(went) = Vec::from_slice(self.alloc, line.stream().went()) else {
             return;

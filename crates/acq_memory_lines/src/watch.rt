@@ -12,8 +12,10 @@ pub(crate) struct Watch {
     woken: u64,
     /// How many waits of the gate it was left alone meanwhile.
     left: u32,
-    /// Whether there was a reason that the last group took no message of it, or took one.
+    /// Whether there was a reason that the last group took no turn of it, or took one.
     was_busy: bool,
+    /// Whether its issuer's answer was there, and was to be taken by the last group.
+    was_heard: bool,
 }
 
 impl Watch {
@@ -24,23 +26,39 @@ impl Watch {
             woken: 0,
             left: 0,
             was_busy: true,
+            was_heard: false,
         }
     }
 
-    /// Sees how often its stream said that it would wait, whether a message is ready, and whether
-    /// something is to be written, before a round reads; and returns whether the last group left it
-    /// out. Since nothing is read between that group and now, a message that is ready now was so
-    /// then, unless it waited for a reply to be written.
-    pub(crate) fn see(&mut self, waits: u64, is_ready: bool, is_writing: bool) -> bool {
-        let was_left_out = is_ready && !self.was_busy;
+    /// Sees how often its stream said that it would wait, whether a turn is ready, whether something
+    /// is to be written, and whether the turn is its issuer's answer, before a round reads; and
+    /// returns whether the last group left it out. Since nothing is read between that group and now,
+    /// a message that is ready now was so then, unless it waited for a reply to be written. An answer
+    /// may have come in between.
+    pub(crate) fn see(
+        &mut self,
+        waits: u64,
+        is_ready: bool,
+        is_writing: bool,
+        is_heard: bool,
+    ) -> bool {
+        let was_left_out = if is_heard {
+            self.was_heard
+        } else {
+            is_ready && !self.was_busy
+        };
         self.waits = waits;
         self.was_busy = is_writing;
+        self.was_heard = is_heard;
         was_left_out
     }
 
-    /// A message of it was taken.
-    pub(crate) fn serve(&mut self) {
+    /// A turn of it was taken. Returns whether that was its issuer's answer.
+    pub(crate) fn serve(&mut self) -> bool {
+        let is_answer = self.was_heard;
         self.was_busy = true;
+        self.was_heard = false;
+        is_answer
     }
 
     /// Whether its stream waits.

@@ -36,6 +36,7 @@ found_texts-rows f =
       first_value-rows f (codes "idle"),
       first_value-rows f (codes "frame-within"),
       first_value-rows f (codes "stop-within"),
+      first_value-rows f (codes "answer-within"),
       first_value-rows f (codes "together"),
       first_value-rows f (codes "from-one-address"),
       first_value-rows f (codes "proxy-protocol"),

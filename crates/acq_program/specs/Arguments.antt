@@ -1,5 +1,5 @@
 -- What the arguments ask for, by the values of their options.
-use Rattle.std.specs.Prelude.{◌≡◌, ◌⊎◌, ◌-◌, ℕ, Bool, ◌&&◌, List, [], ◌++◌}
+use Rattle.std.specs.Prelude.{◌≡◌, ◌⊎◌, ℕ, Bool, ◌&&◌, List, [], ◌++◌}
 use Rattle.std.specs.Prelude.{codes}
 use Rattle.std.specs.Prelude.{Option, Some, None, option_map}
 use Rattle.std.specs.Prelude.{is_some, true, false}
@@ -33,9 +33,9 @@ use Rattle.acq_faults.specs.declared.report_kind.ReportKind.{ReportKind}
 use Rattle.acq_faults.specs.declared.report_kind.ReportKind.TheVariants as kinds
 use Rattle.acq_program.specs.declared.usage_fault.UsageFault.{UsageFault}
 use Rattle.acq_program.specs.declared.usage_fault.UsageFault.TheVariants.{Words, BadValue}
-use Rattle.acq_program.specs.Options.{AddressIs, CountIs, DayIfThere, DayIs, FileIs}
-use Rattle.acq_program.specs.Options.{FrameWithinIs, FromOneAddressIs, GroupIs, IdleIs, LimitIs}
-use Rattle.acq_program.specs.Options.{LogBytesIs, MadeFormIs, MerchantIs, MomentIfThere}
+use Rattle.acq_program.specs.Options.{AddressIs, AnswerWithinIs, CountIs, DayIfThere, DayIs}
+use Rattle.acq_program.specs.Options.{FileIs, FrameWithinIs, FromOneAddressIs, GroupIs, IdleIs}
+use Rattle.acq_program.specs.Options.{LimitIs, LogBytesIs, MadeFormIs, MerchantIs, MomentIfThere}
 use Rattle.acq_program.specs.Options.{MomentIs, OptionTexts, PortIs, RepeatIfThere}
 use Rattle.acq_program.specs.Options.{ReplyWithinIs, ReportsAre, ShownFormIs, StopWithinIs}
 use Rattle.acq_program.specs.Options.{TogetherIs, WithinIs, form_of_flag, is_set, option_texts}
@@ -85,25 +85,30 @@ IsOnce book issuers moment other = ⊥
 abbrev pub AsksOnce : OptionTexts → Result Action OptionName → Type 0
 AsksOnce texts = Then (MomentIfThere texts) (IsOnce texts.db texts.issuers)
 
--- a connection may be idle so long, its frames may take so long, and it may be there so long once
--- the host was asked to end
-abbrev pub IsPatience : ℕ → ℕ → ℕ → Result Patience OptionName → Type 0
-IsPatience idle frame_within stop_within read =
+-- a connection may be idle so long, its frames may take so long, it may be there so long once the
+-- host was asked to end, and it may wait so long for its issuer's answer
+abbrev pub IsPatience : ℕ → ℕ → ℕ → ℕ → Result Patience OptionName → Type 0
+IsPatience idle frame_within stop_within answer_within read =
     read ≡ Ok (record {
       idle = idle;
       frame_within = frame_within;
       stop_within = stop_within;
+      answer_within = answer_within;
     })
+
+abbrev pub PatienceUpTo : OptionTexts → ℕ → ℕ → ℕ → Result Patience OptionName → Type 0
+PatienceUpTo texts idle frame_within stop_within =
+    Then (AnswerWithinIs texts) (IsPatience idle frame_within stop_within)
 
 abbrev pub PatienceWith : OptionTexts → ℕ → ℕ → Result Patience OptionName → Type 0
 PatienceWith texts idle frame_within =
-    Then (StopWithinIs texts) (IsPatience idle frame_within)
+    Then (StopWithinIs texts) (PatienceUpTo texts idle frame_within)
 
 abbrev pub PatienceFor : OptionTexts → ℕ → Result Patience OptionName → Type 0
 PatienceFor texts idle = Then (FrameWithinIs texts) (PatienceWith texts idle)
 
 -- how long a connection may take: in silence first, then with a frame, then once the host was asked
--- to end
+-- to end, then for its issuer's answer
 abbrev pub PatienceIs : OptionTexts → Result Patience OptionName → Type 0
 PatienceIs texts = Then (IdleIs texts) (PatienceFor texts)
 

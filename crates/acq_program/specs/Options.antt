@@ -50,6 +50,7 @@ name_of_option option.Count = codes "--count"
 name_of_option option.Idle = codes "--idle"
 name_of_option option.FrameWithin = codes "--frame-within"
 name_of_option option.StopWithin = codes "--stop-within"
+name_of_option option.AnswerWithin = codes "--answer-within"
 name_of_option option.Together = codes "--together"
 name_of_option option.FromOneAddress = codes "--from-one-address"
 name_of_option option.Issuers = codes "--issuers"
@@ -85,6 +86,7 @@ pub record OptionTexts : Type 0 where
   pub idle : Option Text
   pub frame_within : Option Text
   pub stop_within : Option Text
+  pub answer_within : Option Text
   pub together : Option Text
   pub from_one_address : Option Text
   pub proxy_protocol : Option Text
@@ -122,6 +124,7 @@ option_texts rows = record {
   idle = first_of (codes "idle") rows;
   frame_within = first_of (codes "frame-within") rows;
   stop_within = first_of (codes "stop-within") rows;
+  answer_within = first_of (codes "answer-within") rows;
   together = first_of (codes "together") rows;
   from_one_address = first_of (codes "from-one-address") rows;
   proxy_protocol = first_of (codes "proxy-protocol") rows;
@@ -160,6 +163,7 @@ found_texts found = record {
   idle = first_value found (codes "idle");
   frame_within = first_value found (codes "frame-within");
   stop_within = first_value found (codes "stop-within");
+  answer_within = first_value found (codes "answer-within");
   together = first_value found (codes "together");
   from_one_address = first_value found (codes "from-one-address");
   proxy_protocol = first_value found (codes "proxy-protocol");
@@ -322,6 +326,10 @@ FrameWithinIs texts read = read ≡ seconds_if_there 30 option.FrameWithin texts
 -- so many seconds once the host was asked to end: without the option 10
 abbrev pub StopWithinIs : OptionTexts → Result ℕ OptionName → Type 0
 StopWithinIs texts read = read ≡ seconds_if_there 10 option.StopWithin texts.stop_within
+
+-- so many seconds for an issuer's answer: without the option 30
+abbrev pub AnswerWithinIs : OptionTexts → Result ℕ OptionName → Type 0
+AnswerWithinIs texts read = read ≡ seconds_if_there 30 option.AnswerWithin texts.answer_within
 
 -- so many seconds for an answer of a host: without the option 60
 abbrev pub WithinIs : OptionTexts → Result ℕ OptionName → Type 0

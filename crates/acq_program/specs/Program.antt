@@ -43,18 +43,20 @@ once =
     (option (codes "db"))) (option (codes "issuers"))) (option (codes "at"))
 
 -- `listen --db FILE --port P [--address ADDRESS] [--count N] [--issuers FILE] [--at MOMENT]
--- [--idle SECONDS] [--frame-within SECONDS] [--stop-within SECONDS] [--together M]
--- [--from-one-address N] [--proxy-protocol] [--control PATH] [--log FILE] [--log-bytes N]`
+-- [--idle SECONDS] [--frame-within SECONDS] [--stop-within SECONDS] [--answer-within SECONDS]
+-- [--together M] [--from-one-address N] [--proxy-protocol] [--control PATH] [--log FILE]
+-- [--log-bytes N]`
 abbrev pub listen : App
 listen =
-    with_rule (with_rule (with_rule (with_rule (with_rule (with_rule (with_rule (with_rule (with_rule
-    (with_rule (with_rule (with_rule (with_rule (with_rule (with_rule (new_app (codes "listen"))
+    with_rule (with_rule (with_rule (with_rule (with_rule (with_rule (with_rule (with_rule
+    (with_rule (with_rule (with_rule (with_rule (with_rule (with_rule (with_rule (with_rule
+    (new_app (codes "listen"))
     (required (codes "db"))) (required (codes "port"))) (option (codes "address")))
     (option (codes "count"))) (option (codes "issuers"))) (option (codes "at")))
     (option (codes "idle"))) (option (codes "frame-within"))) (option (codes "stop-within")))
-    (option (codes "together"))) (option (codes "from-one-address")))
-    (flag (codes "proxy-protocol"))) (option (codes "control")))
-    (option (codes "log"))) (option (codes "log-bytes"))
+    (option (codes "answer-within"))) (option (codes "together")))
+    (option (codes "from-one-address"))) (flag (codes "proxy-protocol")))
+    (option (codes "control"))) (option (codes "log"))) (option (codes "log-bytes"))
 
 -- `replay [--db FILE] [--limit N] [--day DAY] [--group N] [--clearing DAY].. [--report DAY]..`
 abbrev pub replay : App

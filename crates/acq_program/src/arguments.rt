@@ -8,7 +8,7 @@ ghost use Rattle.acq_program.specs.Arguments.{AsksExplain, ExplainedIs, takes_bo
 ghost use Rattle.acq_program.specs.Arguments.{AsksAsk, AsksHolds, AsksInit, AsksListen};
 ghost use Rattle.acq_program.specs.Arguments.{AsksMigrate, AsksOnce};
 ghost use Rattle.acq_program.specs.Arguments.{AsksPending, EndpointIs};
-ghost use Rattle.acq_program.specs.Options.{AddressIs, DayIfThere};
+ghost use Rattle.acq_program.specs.Options.{AddressIs, AnswerWithinIs, DayIfThere};
 ghost use Rattle.acq_program.specs.Arguments.{AsksReplay, AsksReport, AsksStatus, AsksTell};
 ghost use Rattle.acq_program.specs.Arguments.{BoundsAre, ListenedIs};
 ghost use Rattle.acq_program.specs.Options.{CountIs, DayIs, LogBytesIs};
@@ -64,6 +64,9 @@ const USUAL_FRAME_WITHIN: u64 = 30;
 /// How many seconds one may be there once the host was asked to end, where nothing else is asked
 /// for.
 const USUAL_STOP_WITHIN: u64 = 10;
+
+/// How many seconds a terminal may wait for its issuer's answer, where nothing else is asked for.
+const USUAL_ANSWER_WITHIN: u64 = 30;
 
 /// How many seconds an answer of a host may take, where nothing else is asked for.
 const USUAL_WITHIN: u64 = 60;
@@ -550,10 +553,12 @@ fn patience_of(options: &ArgMatches) -> Result<Patience, UsageFault>
     let idle = idle_option(options)?;
     let frame_within = frame_within_option(options)?;
     let stop_within = stop_within_option(options)?;
+    let answer_within = answer_within_option(options)?;
     Ok(Patience {
         idle,
         frame_within,
         stop_within,
+        answer_within,
     })
 }
 
@@ -585,6 +590,16 @@ fn stop_within_option(options: &ArgMatches) -> Result<u64, UsageFault>
     match options.get_str("stop-within") {
         Some(text) => seconds_of(text).ok_or(UsageFault::BadValue(OptionName::StopWithin)),
         None => Ok(USUAL_STOP_WITHIN),
+    }
+}
+
+/// How many seconds a terminal may wait for its issuer's answer: without the option 30.
+fn answer_within_option(options: &ArgMatches) -> Result<u64, UsageFault>
+    ensures { Reads (AnswerWithinIs (found_texts (found_of options.now))) result }
+{
+    match options.get_str("answer-within") {
+        Some(text) => seconds_of(text).ok_or(UsageFault::BadValue(OptionName::AnswerWithin)),
+        None => Ok(USUAL_ANSWER_WITHIN),
     }
 }
 

@@ -53,10 +53,10 @@ out. Without it nobody is enrolled: network management (0800 and 0801: echo test
 sign-offs) is answered, a merchant's request gets code 03, or 30 where it is malformed, and any
 other type gets no reply. MOMENT counts seconds since 1970-01-01 00:00:00 UTC.
 
-With --issuers this file stands in for the cards' issuers: a record of three fields of CSV for each
-card, `CARD,approved,ID`, `CARD,declined,CODE` or `CARD,none,`, of which the first with a card
-decides. Without it, and for a card that isn't there, no issuer can be reached, so what one is asked
-for gets code 91.
+With --issuers this file stands in for the cards' issuers: a record of CSV for each card,
+`CARD,approved,ID`, `CARD,declined,CODE` or `CARD,none,`, and behind it, if wanted, one more field,
+the milliseconds that the answer takes. The first with a card decides. Without it, and for a card
+that isn't there, no issuer can be reached, so what one is asked for gets code 91.
 
 The status is 0 where all is well, 1 for a fault, 2 for wrong usage, 3 where memory ran out or the
 file failed. A fault is one line on standard error, and what was written before it stands:
@@ -100,9 +100,10 @@ the lines go to standard error. A line that would wait, or has no room, is lost 
 
 A connection that is silent for the SECONDS of --idle, or takes nothing of a reply for so long, is
 closed as one whose read or write failed. So is one whose frame takes longer than --frame-within,
-from its first byte to its last. While all M places are taken and another connection waits, one over
-which no message of an enrolled terminal was answered makes room, the one that has been without the
-longest first; another one keeps its place for --idle behind the last such message. With
+from its first byte to its last. A request whose issuer takes longer than --answer-within gets code
+91, as where no issuer can be reached. While all M places are taken and another connection waits,
+one over which no message of an enrolled terminal was answered makes room, the one that has been
+without the longest first; another one keeps its place for --idle behind the last such message. With
 --from-one-address N, no more than N connections of one address are served at once, and others are
 closed. With --proxy-protocol each connection begins with the header that HAProxy sends with
 `send-proxy` or `send-proxy-v2`; the log and that bound go by the address that it names.

@@ -30,6 +30,8 @@ pub enum OptionName {
     FrameWithin,
     /// For how many seconds a connection may be there once the host was asked to end.
     StopWithin,
+    /// For how many seconds a terminal may wait for its issuer's answer.
+    AnswerWithin,
     /// How many connections are served at once.
     Together,
     /// How many of them may come from one address.
@@ -78,6 +80,7 @@ impl fmt::Display for OptionName {
             OptionName::Idle => "--idle",
             OptionName::FrameWithin => "--frame-within",
             OptionName::StopWithin => "--stop-within",
+            OptionName::AnswerWithin => "--answer-within",
             OptionName::Together => "--together",
             OptionName::FromOneAddress => "--from-one-address",
             OptionName::Issuers => "--issuers",

@@ -88,7 +88,7 @@ const ONCE: [Parameter<'static>; 3] = [
 ];
 
 /// What `listen` takes: its file, its port, how many connections come, and what is said of each.
-const LISTEN: [Parameter<'static>; 15] = [
+const LISTEN: [Parameter<'static>; 16] = [
     BOOK,
     Parameter {
         name: "port",
@@ -129,6 +129,11 @@ const LISTEN: [Parameter<'static>; 15] = [
         name: "stop-within",
         kind: Optional("SECONDS"),
         help: "How long one may be there once `stop` came, as --idle [default: 10]",
+    },
+    Parameter {
+        name: "answer-within",
+        kind: Optional("SECONDS"),
+        help: "How long a terminal may wait for its issuer's answer, as --idle [default: 30]",
     },
     Parameter {
         name: "together",

@@ -1,15 +1,15 @@
 -- What all connections have had, as more happens.
 use Rattle.std.proofs.Common.{◌≡◌, ◌≢◌, ◌⊎◌, inl, inr, ◌<◌, ◌+◌, ℕ, List, [], ◌∷◌, ◌++◌}
-use Rattle.std.proofs.Common.{sym, ap, subst, append-nil, arith}
+use Rattle.std.proofs.Common.{refl, sym, subst, append-nil, arith}
 use Rattle.std.proofs.lemmas.List.{map-append}
 use Rattle.std.specs.List.{AllByRecursion}
-use Rattle.acq_link.specs.Frames.{FramesThen, framed}
 use Rattle.acq_link.proofs.FramesInOrder.{taken_none}
-use Rattle.acq_rounds.specs.Acts.{Act, Connection, Distinct, Follows, IsAmong, IsOther, Serves}
-use Rattle.acq_rounds.specs.Acts.{Taken, messages_of, numbers, said_of}
+use Rattle.acq_rounds.specs.Acts.{Act, Connection, Distinct, Follows, HasOf, IsAmong, IsOther}
+use Rattle.acq_rounds.specs.Acts.{Serves, Taken, numbers, told_of, turns_of}
 use Rattle.acq_rounds.specs.Groups.{acts_in, asked, handed}
 use Rattle.acq_rounds.specs.Moves.{AllGoOn}
-use Rattle.acq_rounds.proofs.Acting.{Others, follows_others, messages_other, said_other}
+use Rattle.acq_rounds.specs.declared.stage.Stage.TheVariants.{Listening}
+use Rattle.acq_rounds.proofs.Acting.{Others, follows_others, taken_other}
 use Rattle.acq_rounds.proofs.Grouping.{acts_among, follow_group, handed_numbers}
 use Rattle.acq_rounds.proofs.Lists.{all-append, all_both, all_right, all_weaker}
 use Rattle.acq_rounds.proofs.Lists.{all_without, among_left, among_right, among_without, below_or}
@@ -18,11 +18,11 @@ use Rattle.acq_rounds.proofs.Lists.{distinct_without, either_more, not_below}
 
 -- a group was taken
 pub serves_group : (acts : List Act) (ended here : List Connection) (count : ℕ)
-    (taken : List Taken) → messages_of taken ≡ asked here → Serves acts ended here count →
-    Serves (acts ++ acts_in here taken) ended (handed here (said_of taken)) count
+    (taken : List Taken) → turns_of taken ≡ asked here → Serves acts ended here count →
+    Serves (acts ++ acts_in here taken) ended (handed here (told_of taken)) count
 serves_group acts ended here count taken is s =
-    let now = handed here (said_of taken) in
-    let same = sym (handed_numbers here (said_of taken)) in
+    let now = handed here (told_of taken) in
+    let same = sym (handed_numbers here (told_of taken)) in
     let more = acts_in here taken in
     record {
       ended_follow = all_both (Follows acts) (λ e. IsOther e.number (numbers here))
@@ -121,7 +121,8 @@ serves_less acts ended xs x ys count s =
 -- ---- a connection comes
 
 abbrev pub fresh : ℕ → Connection
-fresh count = record { number = count; came = []; held = []; went = []; unsent = [] }
+fresh count =
+    record { number = count; came = []; held = []; went = []; unsent = []; stage = Listening }
 
 below_others : (count : ℕ) (acts : List Act) → AllByRecursion (λ a. a.connection < count) acts →
     Others count acts
@@ -139,11 +140,9 @@ more_among k count ended here (inr e) h = inr (among_right k here (fresh count �
 
 -- nothing has passed over it, and no act is its own
 follows_fresh : (count : ℕ) (acts : List Act) → Others count acts → Follows acts (fresh count)
-follows_fresh count acts others = record {
-  came = subst (λ (l : List (List ℕ)). FramesThen [] l [])
-      (sym (messages_other count acts others)) (taken_none []);
-  written = ap framed (sym (said_other count acts others));
-}
+follows_fresh count acts others = subst (λ (l : List Taken). HasOf l (fresh count))
+    (sym (taken_other count acts others))
+    (record { came = taken_none []; written = refl; turns = refl })
 
 pub serves_more : (acts : List Act) (ended here : List Connection) (count : ℕ) →
     Serves acts ended here count → Serves acts ended (here ++ fresh count ∷ []) (count + 1)

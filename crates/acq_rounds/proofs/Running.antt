@@ -11,15 +11,15 @@ use Rattle.acq_core.specs.Tables.{Tables, tables_after}
 use Rattle.acq_soundness.proofs.Runs.{tables_after-append}
 use Rattle.acq_front.specs.Stops.{Left}
 use Rattle.acq_front.specs.Talk.{AreSaid, Saying, queries}
-use Rattle.acq_rounds.specs.Acts.{Act, Connection, IsTaken, Serves, Taken, Took, messages_of}
-use Rattle.acq_rounds.specs.Acts.{events_of, said_of, taken_of}
+use Rattle.acq_rounds.specs.Acts.{Act, AnswerTo, Connection, IsTaken, MakesOf, Message, Serves}
+use Rattle.acq_rounds.specs.Acts.{Taken, Took, Turn, events_of, taken_of, told_of, turns_of}
 use Rattle.acq_rounds.specs.Groups.{acts_in, asked, handed}
 use Rattle.acq_rounds.specs.Moves.{AllGoOn}
 use Rattle.acq_rounds.specs.Reaching.{ReachesSome}
 use Rattle.acq_rounds.specs.Runs.{AreFair, AreTold, Begins, Between, Did, Following, Group, Grouped}
 use Rattle.acq_rounds.specs.Runs.{LeavesInHand, OthersGoOn, Ran, RanUntil, ServesAll, Step, Untold, Whole}
 use Rattle.acq_rounds.specs.Runs.{acts_of, all_acts, events_in, groups_in, whole}
-use Rattle.acq_rounds.specs.Taking.{TookNone}
+use Rattle.acq_rounds.specs.Taking.{LeavesGroup, TookNone}
 use Rattle.acq_rounds.proofs.Grouping.{each_has_its, taken_group}
 use Rattle.acq_rounds.proofs.Lasting.{serves_group, serves_on}
 use Rattle.acq_rounds.proofs.Together.{took_tables}
@@ -107,12 +107,28 @@ are_said may_say might_say (q ∷ qs) (v ∷ vs) f h =
 module _ (may_give might_give : ℕ → Type 0) (may_say might_say : Saying)
     (given : (m : ℕ) → may_give m → might_give m)
     (said : (q : Query) (v : Verdict) → may_say q v → might_say q v) where
+  makes_earlier : (t : Tables) (turn : Turn) (x : Taken) → MakesOf may_say t turn x →
+      MakesOf might_say t turn x
+  makes_earlier t (Message message) x (inl once) = inl (record {
+    makes = once.makes;
+    asked = are_said may_say might_say (queries t x.events) x.verdicts said once.asked;
+  })
+  makes_earlier t (Message message) x (inr later) = inr later
+  makes_earlier t (AnswerTo query) x h = record {
+    moment = h.moment;
+    verdict = h.verdict;
+    given = h.given;
+    event = h.event;
+    answers = h.answers;
+    may = said query h.verdict h.may;
+  }
+
   pub taken_earlier : (t : Tables) (x : Taken) → IsTaken may_give may_say t x →
       IsTaken might_give might_say t x
   taken_earlier t x h = record {
-    makes = h.makes;
+    makes = makes_earlier t x.turn x h.makes;
     given = All-weaker may_give might_give given x.moments h.given;
-    asked = are_said may_say might_say (queries t x.events) x.verdicts said h.asked;
+    waits = h.waits;
     said = h.said;
     fit = h.fit;
   }
@@ -242,7 +258,7 @@ module _ {O : Type 0} (may_give : ℕ → Type 0) (may_say : Saying) (follow : F
       (taken : List Taken) →
       ((t : Tables) (steps : List Step) (g : Group) → follow t steps others →
       follow t (steps ++ Grouped g ∷ []) others) →
-      messages_of taken ≡ asked here → now ≡ handed here (said_of taken) →
+      turns_of taken ≡ asked here → now ≡ handed here (told_of taken) →
       Took may_give may_say old new taken →
       Ran may_give may_say follow (whole ended here count old others)
       (whole ended now count new others)
@@ -346,7 +362,7 @@ module _ {O : Type 0} (may_give : ℕ → Type 0) (may_say : Saying) (follow : F
       (taken : List Taken) →
       ((t : Tables) (steps : List Step) (g : Group) → follow t steps others →
       follow t (steps ++ Grouped g ∷ []) others) →
-      messages_of taken ≡ asked here → now ≡ handed here (said_of taken) →
+      turns_of taken ≡ asked here → now ≡ handed here (told_of taken) →
       Took may_give may_say old new taken →
       RanIn 1 (whole ended here count old others) (whole ended now count new others)
   unfolding ran_group
@@ -388,25 +404,40 @@ in_earlier may_give might_give may_say might_say given said follow n old new r =
 
 -- ---- where it was stopped
 
+group_earlier : (may_give might_give : ℕ → Type 0) (may_say might_say : Saying)
+    (given : (m : ℕ) → may_give m → might_give m)
+    (said : (q : Query) (v : Verdict) → may_say q v → might_say q v)
+    (left : Left) (old : Tables) (turns : List Turn) →
+    LeavesGroup may_give may_say left old turns → LeavesGroup might_give might_say left old turns
+group_earlier may_give might_give may_say might_say given said left old turns (inl same) = inl same
+group_earlier may_give might_give may_say might_say given said left old turns (inr l) = inr (
+  l.0,
+  l.1,
+  l.2,
+  took_earlier may_give might_give may_say might_say given said old l.1 l.0 l.3,
+  l.4,
+)
+
 pub leaves_earlier : (may_give might_give : ℕ → Type 0) (may_say might_say : Saying)
     (given : (m : ℕ) → may_give m → might_give m)
     (said : (q : Query) (v : Verdict) → may_say q v → might_say q v)
-    (left : Left) (old : Tables) (messages : List (List ℕ)) →
-    LeavesInHand may_give may_say left old messages →
-    LeavesInHand might_give might_say left old messages
-leaves_earlier may_give might_give may_say might_say given said left old messages
-    (inl (inl same)) = inl (inl same)
-leaves_earlier may_give might_give may_say might_say given said left old messages
-    (inl (inr l)) =
-    inl (inr (
-      l.0,
-      l.1,
-      l.2,
-      took_earlier may_give might_give may_say might_say given said old l.1 l.0 l.3,
-      l.4,
-    ))
-leaves_earlier may_give might_give may_say might_say given said left old messages (inr one) =
+    (left : Left) (old : Tables) (turns : List Turn) →
+    LeavesInHand may_give may_say left old turns →
+    LeavesInHand might_give might_say left old turns
+leaves_earlier may_give might_give may_say might_say given said left old turns (inl group) =
+    inl (group_earlier may_give might_give may_say might_say given said left old turns group)
+leaves_earlier may_give might_give may_say might_say given said left old turns (inr one) =
     inr one
+
+pub none_earlier : (may_give might_give : ℕ → Type 0) (may_say might_say : Saying)
+    (given : (m : ℕ) → may_give m → might_give m)
+    (said : (q : Query) (v : Verdict) → may_say q v → might_say q v)
+    (old : Tables) (left : Left) (turns : List Turn) →
+    TookNone may_give may_say old left turns → TookNone might_give might_say old left turns
+none_earlier may_give might_give may_say might_say given said old left turns none = record {
+  tables = none.tables;
+  stop = group_earlier may_give might_give may_say might_say given said left old turns none.stop;
+}
 
 module _ {O : Type 0} (may_give : ℕ → Type 0) (may_say : Saying) (follow : Following O) where
   pub ran_until : (old : Whole O) (ended here : List Connection) (others : O) (count : ℕ) (left : Left)

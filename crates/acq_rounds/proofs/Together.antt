@@ -1,4 +1,4 @@
--- A group of messages, kept or not.
+-- A group of turns, kept or not.
 use Rattle.std.proofs.Common.{◌≡◌, Bool, true, false, true≢false, ℕ, List, [], ◌∷◌, refl}
 use Rattle.std.proofs.Common.{sym, ap, subst, ◌∙◌, inl, inr, ⊎_elim}
 use Rattle.std.specs.Prelude.{Result, Ok, Err, OnErr}
@@ -15,7 +15,7 @@ use Rattle.acq_host.proofs.Groups.{Laws, group_given_up, group_kept, group_unbeg
 use Rattle.acq_front.specs.Stops.{Left, left_of}
 use Rattle.acq_front.specs.Talk.{Saying}
 use Rattle.acq_front.proofs.StopsLeave.{none_stop}
-use Rattle.acq_rounds.specs.Acts.{Connection, Taken, Took, events_of}
+use Rattle.acq_rounds.specs.Acts.{Connection, Taken, Told, Took, Turn, events_of}
 use Rattle.acq_rounds.specs.Groups.{asked, handed}
 use Rattle.acq_rounds.specs.Taking.{TellsFault, TookAll, TookGroup, TookNone}
 use Rattle.acq_rounds.specs.Within.{IfWithin, StaysWithin, TookWithin}
@@ -56,10 +56,10 @@ module _ {S : Type 0} (book : Ghosts S) (laws : Laws book) (may_give : ℕ → T
   }
 
   -- nothing was taken
-  refused_all : (a d : S) (messages : List (List ℕ)) → Makes book a d false (book.tables a) →
+  refused_all : (a d : S) (turns : List Turn) → Makes book a d false (book.tables a) →
       book.is_honest d → book.is_open a →
-      TookNone may_give may_say (book.tables a) (left_of book d) messages
-  refused_all a d messages makes h o = record {
+      TookNone may_give may_say (book.tables a) (left_of book d) turns
+  refused_all a d turns makes h o = record {
     tables = λ still. makes.unmade refl o still;
     stop = inl (record {
       tables = λ t l. ⊎_elim (λ was. laws.settled a o t was) (λ is. is) (makes.leaves o h t l);
@@ -67,18 +67,18 @@ module _ {S : Type 0} (book : Ghosts S) (laws : Laws book) (may_give : ℕ → T
     });
   }
 
-  pub unbegun : (a b : S) (messages : List (List ℕ)) → Begins book a b false →
+  pub unbegun : (a b : S) (turns : List Turn) → Begins book a b false →
       book.is_honest b → book.is_open a →
-      TookNone may_give may_say (book.tables a) (left_of book b) messages
-  unbegun a b messages begun =
-      refused_all a b messages (group_unbegun book laws a b (book.tables a) begun)
+      TookNone may_give may_say (book.tables a) (left_of book b) turns
+  unbegun a b turns begun =
+      refused_all a b turns (group_unbegun book laws a b (book.tables a) begun)
 
   module _ (a b c : S) (begun : Begins book a b true) where
     -- a fault broke it off, and it was given up
-    pub given_up : (d : S) (messages : List (List ℕ)) → StaysWithin book b c false →
+    pub given_up : (d : S) (turns : List Turn) → StaysWithin book b c false →
         Returns book c d → book.is_honest d → book.is_open a →
-        TookNone may_give may_say (book.tables a) (left_of book d) messages
-    given_up d messages stays back =
+        TookNone may_give may_say (book.tables a) (left_of book d) turns
+    given_up d turns stays back =
         let within : MakesWithin book b c false (tables_after (book.tables b) []) = record {
           stays = stays.stays;
           made = λ began n ok h w. absurd (true≢false (sym ok));
@@ -86,13 +86,13 @@ module _ {S : Type 0} (book : Ghosts S) (laws : Laws book) (may_give : ℕ → T
           leaves = stays.leaves;
           books = stays.books;
         } in
-        refused_all a d messages
+        refused_all a d turns
         (group_given_up book laws a b c [] false begun within stays.was_honest stays.rise
         stays.counts d (book.tables a) refl back)
 
-    module _ (stays : StaysWithin book b c true) (messages : List (List ℕ))
-        (said : List (List (List ℕ)))
-        (took : IfWithin book b c (TookWithin book may_give may_say b c messages said)) (d : S)
+    module _ (stays : StaysWithin book b c true) (turns : List Turn)
+        (told : List Told)
+        (took : IfWithin book b c (TookWithin book may_give may_say b c turns told)) (d : S)
       where
         module _ (done : Bool) (kept : Keeps book c d done) (h : book.is_honest d)
             (o : book.is_open a) where
@@ -102,7 +102,7 @@ module _ {S : Type 0} (book : Ghosts S) (laws : Laws book) (may_give : ℕ → T
           abbrev within : book.is_within b (book.tables a) (book.store_faults a)
           within = begun.begins refl was o
 
-          abbrev all : TookWithin book may_give may_say b c messages said
+          abbrev all : TookWithin book may_give may_say b c turns told
           all = took (book.tables a) (book.store_faults a) (kept.was_honest h) within
 
           abbrev events : List Event
@@ -127,7 +127,7 @@ module _ {S : Type 0} (book : Ghosts S) (laws : Laws book) (may_give : ℕ → T
               (begun.same refl was o) all.took
 
         pub was_kept : Keeps book c d true → book.is_honest d → book.is_open a →
-            TookAll may_give may_say (book.tables a) (left_of book d) messages said
+            TookAll may_give may_say (book.tables a) (left_of book d) turns told
         was_kept kept h o =
             let made = makes true kept h o in
             let inside = stays.stays (book.tables a) (book.store_faults a) refl (kept.was_honest h)
@@ -144,7 +144,7 @@ module _ {S : Type 0} (book : Ghosts S) (laws : Laws book) (may_give : ℕ → T
             }
 
         pub was_not_kept : Keeps book c d false → book.is_honest d → book.is_open a →
-            TookNone may_give may_say (book.tables a) (left_of book d) messages
+            TookNone may_give may_say (book.tables a) (left_of book d) turns
         was_not_kept kept h o =
             let made = makes false kept h o in
             record {
@@ -165,11 +165,11 @@ module _ {S : Type 0} (book : Ghosts S) (laws : Laws book) (may_give : ℕ → T
         pub opens : Keeps book c d true → book.is_honest d → book.is_open a → book.is_open d
         opens kept h o = (makes true kept h o).stays_open refl h o
 
-  -- ---- a group of connections' messages
+  -- ---- a group of connections' turns
 
-  pub untouched : (a : S) (messages : List (List ℕ)) → book.is_open a →
-      TookNone may_give may_say (book.tables a) (left_of book a) messages
-  untouched a messages o = record {
+  pub untouched : (a : S) (turns : List Turn) → book.is_open a →
+      TookNone may_give may_say (book.tables a) (left_of book a) turns
+  untouched a turns o = record {
     tables = λ still. refl;
     stop = inl (none_stop book laws.settled laws.stored a o);
   }
@@ -179,10 +179,10 @@ on_err (Ok x) P p = tt
 on_err (Err e) P p = p
 
 pub group_taken : (may_give : ℕ → Type 0) (may_say : Saying) (old : Tables) (left : Left)
-    (messages : List (List ℕ)) (said : List (List (List ℕ))) (before after : List Connection) →
-    TookAll may_give may_say old left messages said → messages ≡ asked before →
-    after ≡ handed before said → TookGroup may_give may_say old left before after
-group_taken may_give may_say old left messages said before after all brought held = record {
+    (turns : List Turn) (told : List Told) (before after : List Connection) →
+    TookAll may_give may_say old left turns told → turns ≡ asked before →
+    after ≡ handed before told → TookGroup may_give may_say old left before after
+group_taken may_give may_say old left turns told before after all brought held = record {
   taken = all.taken;
   brought = all.brought ∙ brought;
   held = held ∙ ap (handed before) (sym all.replied);

@@ -4,12 +4,12 @@ use Rattle.std.proofs.Common.{Bool, true, false, cond, map, take, drop, length, 
 use Rattle.std.proofs.Common.{◌∙◌, append_assoc, append-nil, take-append-drop, arith}
 use Rattle.std.proofs.lemmas.List.{drop_more, map-append}
 use Rattle.std.specs.List.{AllByRecursion, remove}
-use Rattle.acq_link.specs.FirstMessage.{first_message}
 use Rattle.acq_rounds.specs.Acts.{Connection, Distinct, Follows, IsAmong, IsOther, Serves}
-use Rattle.acq_rounds.specs.Acts.{numbers}
-use Rattle.acq_rounds.specs.Groups.{answered, asked, handed, is_ready}
-use Rattle.acq_rounds.specs.Moves.{AllGoOn, Turned}
+use Rattle.acq_rounds.specs.Acts.{Told, Turn, numbers}
+use Rattle.acq_rounds.specs.Groups.{answered, asked, handed, is_ready, turn_of}
+use Rattle.acq_rounds.specs.Moves.{AllGoOn, GoesOn, Turned}
 use Rattle.acq_rounds.specs.Places.{AreQuiet}
+use Rattle.acq_rounds.proofs.Lasting.{serves_on}
 use Rattle.acq_rounds.proofs.Lists.{all-append, all_left, all_right, all_weaker, all_without}
 use Rattle.acq_rounds.proofs.Lists.{among_without, distinct_apart, distinct_without, either_more}
 
@@ -101,6 +101,19 @@ module _ (xs : List Connection) (x : Connection) (ys ws zs : List Connection)
     };
   }
 
+goes_on_among : (front : List Connection) (x y : Connection) (behind : List Connection) →
+    GoesOn x y → AllGoOn (front ++ x ∷ behind) (front ++ y ∷ behind)
+goes_on_among [] x y behind on = record {
+  same = ap (λ k. k ∷ numbers behind) on.same;
+  follow = λ acts f. (on.follows acts f.0, f.1);
+}
+goes_on_among (z ∷ front) x y behind on =
+    let rest = goes_on_among front x y behind on in
+    record {
+      same = ap (λ (l : List ℕ). z.number ∷ l) rest.same;
+      follow = λ acts f. (f.0, rest.follow acts f.1);
+    }
+
 pub turned_same : (cs ds : List Connection) → ds ≡ cs → Turned cs ds
 turned_same cs ds is = record {
   serves = λ acts ended count s.
@@ -110,6 +123,14 @@ turned_same cs ds is = record {
 pub turned_both : (cs ds es : List Connection) → Turned cs ds → Turned ds es → Turned cs es
 turned_both cs ds es f h = record {
   serves = λ acts ended count s. h.serves acts ended count (f.serves acts ended count s);
+}
+
+-- one among others goes on
+pub turned_on : (front : List Connection) (x y : Connection) (behind : List Connection) →
+    GoesOn x y → Turned (front ++ x ∷ behind) (front ++ y ∷ behind)
+turned_on front x y behind on = record {
+  serves = λ acts ended count s. serves_on acts ended (front ++ x ∷ behind) (front ++ y ∷ behind)
+      count (goes_on_among front x y behind on) s;
 }
 
 -- ---- one of some
@@ -160,6 +181,28 @@ module _ {X : Type 0} (view : X → Connection) (ps : List X) (i : ℕ) (d : X) 
         (append_assoc front before behind))
         (turned_same (front ++ (x ∷ (before ++ behind))) now last))
 
+    moved_up : (us : List X) (z : X) → map view (us ++ z ∷ []) ++ map view (remove ps i)
+        ≡ map view us ++ view z ∷ map view (remove ps i)
+    moved_up us z =
+        ap (λ (l : List Connection). l ++ map view (remove ps i)) (map-append view us (z ∷ []))
+        ∙ append_assoc (map view us) (view z ∷ []) (map view (remove ps i))
+
+    -- so it goes, and goes on
+    pub turned_up_on : (us : List X) (y : X) → GoesOn (view (get_or ps i d)) (view y) →
+        Turned (map view us ++ map view ps) (map view (us ++ y ∷ []) ++ map view (remove ps i))
+    turned_up_on us y on =
+        let front = map view us in
+        let rest = map view (remove ps i) in
+        let x = get_or ps i d in
+        let up = map view (us ++ x ∷ []) ++ rest in
+        let now = map view (us ++ y ∷ []) ++ rest in
+        turned_both (front ++ map view ps) up now (turned_up us x refl)
+        (turned_both up (front ++ view x ∷ rest) now
+        (turned_same up (front ++ view x ∷ rest) (sym (moved_up us x)))
+        (turned_both (front ++ view x ∷ rest) (front ++ view y ∷ rest) now
+        (turned_on front (view x) (view y) rest on)
+        (turned_same (front ++ view y ∷ rest) now (moved_up us y))))
+
     -- it goes from these to among those behind them
     pub turned_down : (zs now before behind : List Connection) → zs ≡ before ++ behind →
         now ≡ before ++ (view (get_or ps i d) ∷ behind) →
@@ -182,20 +225,20 @@ module _ {X : Type 0} (view : X → Connection) (ps : List X) (i : ℕ) (d : X) 
         (turned front x (more ++ zs) (left ++ before) behind others)
         (turned_same ((left ++ before) ++ (x ∷ behind)) (left ++ now) last))
 
--- ---- those behind have no message ready
+-- ---- those behind have no turn ready
 
 asked_quiet : (zs : List Connection) → AreQuiet zs → asked zs ≡ []
 asked_quiet [] q = refl
 asked_quiet (z ∷ zs) q =
-    ap (λ b. cond b (first_message z.held ∷ asked zs) (asked zs)) q.0 ∙ asked_quiet zs q.1
+    ap (λ b. cond b (turn_of z ∷ asked zs) (asked zs)) q.0 ∙ asked_quiet zs q.1
 
 pub asked_awake : (cs zs : List Connection) → AreQuiet zs → asked (cs ++ zs) ≡ asked cs
 asked_awake [] zs q = asked_quiet zs q
 asked_awake (c ∷ cs) zs q =
-    ap (λ (l : List (List ℕ)). cond (is_ready c) (first_message c.held ∷ l) l)
+    ap (λ (l : List Turn). cond (is_ready c) (turn_of c ∷ l) l)
     (asked_awake cs zs q)
 
-handed_quiet : (zs : List Connection) (said : List (List (List ℕ))) → AreQuiet zs →
+handed_quiet : (zs : List Connection) (said : List Told) → AreQuiet zs →
     handed zs said ≡ zs
 handed_quiet [] said q = refl
 handed_quiet (z ∷ zs) [] q = refl
@@ -203,7 +246,7 @@ handed_quiet (z ∷ zs) (r ∷ said) q =
     ap (λ b. cond b (answered z r ∷ handed zs said) (z ∷ handed zs (r ∷ said))) q.0
     ∙ ap (λ (l : List Connection). z ∷ l) (handed_quiet zs (r ∷ said) q.1)
 
-pub handed_awake : (cs zs : List Connection) (said : List (List (List ℕ))) → AreQuiet zs →
+pub handed_awake : (cs zs : List Connection) (said : List Told) → AreQuiet zs →
     handed (cs ++ zs) said ≡ handed cs said ++ zs
 handed_awake [] zs said q = handed_quiet zs said q
 handed_awake (c ∷ cs) zs [] q = refl

@@ -1,11 +1,12 @@
--- What is taken within a group, one message after another.
-use Rattle.std.proofs.Common.{◌≡◌, ◌&&◌, inr, ℕ, Bool, true, false, true≢false}
+-- What is taken within a group, one turn after another.
+use Rattle.std.proofs.Common.{◌≡◌, ◌&&◌, inl, inr, ℕ, Bool, true, false, true≢false}
 use Rattle.std.proofs.Common.{List, [], ◌∷◌, ◌++◌, refl, sym, ap, subst, ◌∙◌, arith}
 use Rattle.std.specs.Prelude.{IfErr, IfOk, Result, Ok, Err, is_ok}
 use Rattle.std.proofs.lemmas.List.{map-append}
 use Rattle.std.proofs.lemmas.List.Elements.{All-cons, All-nil}
 use Rattle.acq_link.specs.Frames.{fit_frames}
 use Rattle.acq_message.specs.declared.verdict.Verdict.{Verdict}
+use Rattle.acq_core.specs.declared.event.Event.{Event}
 use Rattle.acq_core.specs.declared.event.Event.TheVariants.{Answer, Frame}
 use Rattle.acq_core.specs.declared.output.Output.{Output}
 use Rattle.acq_core.specs.declared.output.Output.TheVariants.{Ask, Reply}
@@ -21,10 +22,10 @@ use Rattle.acq_front.specs.Turns.{ReplyFits}
 use Rattle.acq_front.proofs.GivenInOrder.{two_moments}
 use Rattle.acq_front.proofs.MessagesTaken.{AsksNothing, makes_alone, makes_asking, replies_one}
 use Rattle.acq_front.proofs.MessagesTaken.{replies_two, said_nothing, said_two}
-use Rattle.acq_rounds.specs.Acts.{IsTaken, Taken}
-use Rattle.acq_rounds.specs.Said.{replies_of, reply_of}
+use Rattle.acq_rounds.specs.Acts.{AnswerTo, IsTaken, Message, Taken, Told, Turn, query_in, told_in}
+use Rattle.acq_rounds.specs.Said.{told_at, told_by, told_by_all}
 use Rattle.acq_rounds.specs.Taking.{TellsFault}
-use Rattle.acq_rounds.specs.Within.{StaysWithin, TookNext, TookWithin}
+use Rattle.acq_rounds.specs.Within.{StaysWithin, TookAnswer, TookNext, TookWithin}
 use Rattle.acq_rounds.specs.declared.said.Said.{Said}
 use Rattle.acq_rounds.proofs.Running.{took-append, took_earlier}
 
@@ -35,11 +36,17 @@ pub reply_fits : (o : Output) → ReplyFits o → fit_frames (reply_in o) ≡ tr
 reply_fits (Reply party text) fits = ap (λ (b : Bool). b && true) (fits party text refl)
 reply_fits o fits = refl
 
--- what holds of what was said last, holds of the result, if there is one
+-- what holds of whatever is told so, holds of the result, if there is one
 pub if_said : (P : Said → Type 0) (r : Result Said BookFault) (o : Output) →
-    IfOk r (λ said. said.output ≡ o) → ((s : Said) → s.output ≡ o → P s) → IfOk r P
-if_said P (Ok s) o is f = f s is
-if_said P (Err fault) o is f = tt
+    IfOk r (λ said. told_by said ≡ told_at o) → IfOk r (λ said. ReplyFits o) →
+    ((s : Said) → told_by s ≡ told_at o → ReplyFits o → P s) → IfOk r P
+if_said P (Ok s) o is fits f = f s is fits
+if_said P (Err fault) o is fits f = tt
+
+pub if_both : (P Q : Said → Type 0) (r : Result Said BookFault) → ((s : Said) → P s → Q s) →
+    IfOk r P → IfOk r Q
+if_both P Q (Ok s) f h = f s h
+if_both P Q (Err fault) f h = tt
 
 -- where it isn't a fault of a call of the store, it is told so
 pub tells_said : (r : Result Said BookFault) (Q : Type 0) {a b : ℕ} → b ≡ a →
@@ -50,64 +57,113 @@ tells_said (Err Store) Q same fault q = inr (q refl)
 
 module _ (may_give : ℕ → Type 0) (may_say : Saying) (t : Tables) (moment : ℕ)
     (text message : List ℕ) (same : text ≡ message) (given : may_give moment) where
+  abbrev came : Event
+  came = Frame moment text
+
+  abbrev taken_so : List ℕ → List ℕ → List Verdict → List Event → Output → Taken
+  taken_so message moments verdicts events o = record {
+    turn = Message message;
+    moments = moments;
+    verdicts = verdicts;
+    events = events;
+    waits = query_in o;
+    said = reply_in o;
+  }
+
   -- nobody was asked
-  pub taken_alone : (o : Output) → step_output t (arrival_of (Frame moment text)) ≡ o →
-      AsksNothing o → ReplyFits o →
-      IsTaken may_give may_say t (record {
-        message = message;
-        moments = moment ∷ [];
-        verdicts = [];
-        events = Frame moment text ∷ [];
-        said = reply_in o;
-      })
+  pub taken_alone : (o : Output) → step_output t (arrival_of came) ≡ o → AsksNothing o →
+      ReplyFits o →
+      IsTaken may_give may_say t (taken_so message (moment ∷ []) [] (came ∷ []) o)
   taken_alone o is nothing fits =
-      let made : (m : List ℕ) → Taken = λ m. record {
-        message = m;
-        moments = moment ∷ [];
-        verdicts = [];
-        events = Frame moment text ∷ [];
-        said = reply_in o;
-      } in
-      let this : IsTaken may_give may_say t (made text) = record {
-        makes = makes_alone t moment text o is nothing;
+      let this : IsTaken may_give may_say t (taken_so text (moment ∷ []) [] (came ∷ []) o) =
+      record {
+        makes = inl (record {
+          makes = makes_alone t moment text o is nothing;
+          asked = said_nothing may_say t came o is nothing;
+        });
         given = All-cons may_give moment [] given (All-nil may_give);
-        asked = said_nothing may_say t (Frame moment text) o is nothing;
-        said = sym (replies_one t (Frame moment text) o is);
+        waits = ap query_in (sym is);
+        said = sym (replies_one t came o is);
+        fit = reply_fits o fits;
+      } in
+      subst (λ (m : List ℕ). IsTaken may_give may_say t
+      (taken_so m (moment ∷ []) [] (came ∷ []) o)) same this
+
+  -- the issuer was asked, and answers later
+  pub taken_waiting : (query : Query) (o : Output) → o ≡ Ask query →
+      step_output t (arrival_of came) ≡ o →
+      IsTaken may_give may_say t (taken_so message (moment ∷ []) [] (came ∷ []) o)
+  taken_waiting query o asks is =
+      let this : IsTaken may_give may_say t (taken_so text (moment ∷ []) [] (came ∷ []) o) =
+      record {
+        makes = inr (record {
+          moment = moment;
+          given = refl;
+          event = refl;
+          query = query;
+          asks = is ∙ asks;
+          unanswered = refl;
+        });
+        given = All-cons may_give moment [] given (All-nil may_give);
+        waits = ap query_in (sym is);
+        said = sym (replies_one t came o is);
+        fit = ap (λ (p : Output). fit_frames (reply_in p)) asks;
+      } in
+      subst (λ (m : List ℕ). IsTaken may_give may_say t
+      (taken_so m (moment ∷ []) [] (came ∷ []) o)) same this
+
+  -- the issuer was asked, and said this at once
+  pub taken_asking : (next : ℕ) (query : Query) (verdict : Verdict) (o : Output) →
+      step_output t (arrival_of came) ≡ Ask query → may_give next →
+      may_say query verdict →
+      step_output (step_tables t (arrival_of came))
+      (arrival_of (Answer next query.merchant query.reference verdict)) ≡ o → ReplyFits o →
+      IsTaken may_give may_say t (taken_so message (moment ∷ next ∷ []) (verdict ∷ [])
+      (came ∷ Answer next query.merchant query.reference verdict ∷ []) o)
+  taken_asking next query verdict o is later said last fits =
+      let answer = Answer next query.merchant query.reference verdict in
+      let made : (m : List ℕ) → Taken =
+      λ m. taken_so m (moment ∷ next ∷ []) (verdict ∷ []) (came ∷ answer ∷ []) o in
+      let this : IsTaken may_give may_say t (made text) = record {
+        makes = inl (record {
+          makes = makes_asking t moment next text query verdict is;
+          asked = said_two may_say t moment next text query.merchant query.reference query verdict
+              is said;
+        });
+        given = two_moments may_give moment next given later;
+        waits = ap query_in (sym last);
+        said = sym (replies_two t came answer query o is last);
         fit = reply_fits o fits;
       } in
       subst (λ (m : List ℕ). IsTaken may_give may_say t (made m)) same this
 
-  -- the issuer was asked, and said this
-  pub taken_asking : (next : ℕ) (query : Query) (verdict : Verdict) (o : Output) →
-      step_output t (arrival_of (Frame moment text)) ≡ Ask query → may_give next →
-      may_say query verdict →
-      step_output (step_tables t (arrival_of (Frame moment text)))
-      (arrival_of (Answer next query.merchant query.reference verdict)) ≡ o → ReplyFits o →
-      IsTaken may_give may_say t (record {
-        message = message;
-        moments = moment ∷ next ∷ [];
-        verdicts = verdict ∷ [];
-        events = Frame moment text ∷ Answer next query.merchant query.reference verdict ∷ [];
-        said = reply_in o;
-      })
-  taken_asking next query verdict o is later said last fits =
-      let answer = Answer next query.merchant query.reference verdict in
-      let made : (m : List ℕ) → Taken = λ m. record {
-        message = m;
-        moments = moment ∷ next ∷ [];
-        verdicts = verdict ∷ [];
-        events = Frame moment text ∷ answer ∷ [];
-        said = reply_in o;
-      } in
-      let this : IsTaken may_give may_say t (made text) = record {
-        makes = makes_asking t moment next text query verdict is;
-        given = two_moments may_give moment next given later;
-        asked = said_two may_say t moment next text query.merchant query.reference query verdict is
-            said;
-        said = sym (replies_two t (Frame moment text) answer query o is last);
-        fit = reply_fits o fits;
-      } in
-      subst (λ (m : List ℕ). IsTaken may_give may_say t (made m)) same this
+-- an issuer's answer to what was asked before
+pub taken_answer : (may_give : ℕ → Type 0) (may_say : Saying) (t : Tables) (moment : ℕ)
+    (query : Query) (verdict : Verdict) (o : Output) → may_give moment → may_say query verdict →
+    step_output t (arrival_of (Answer moment query.merchant query.reference verdict)) ≡ o →
+    ReplyFits o →
+    IsTaken may_give may_say t (record {
+      turn = AnswerTo query;
+      moments = moment ∷ [];
+      verdicts = verdict ∷ [];
+      events = Answer moment query.merchant query.reference verdict ∷ [];
+      waits = query_in o;
+      said = reply_in o;
+    })
+taken_answer may_give may_say t moment query verdict o given may is fits = record {
+  makes = record {
+    moment = moment;
+    verdict = verdict;
+    given = refl;
+    event = refl;
+    answers = refl;
+    may = may;
+  };
+  given = All-cons may_give moment [] given (All-nil may_give);
+  waits = ap query_in (sym is);
+  said = sym (replies_one t (Answer moment query.merchant query.reference verdict) o is);
+  fit = reply_fits o fits;
+}
 
 module _ {S : Type 0} (book : Ghosts S) where
   -- ---- how the book goes on within its group
@@ -175,15 +231,15 @@ module _ {S : Type 0} (book : Ghosts S) where
     pub took_none : (a : S) → TookWithin book may_give may_say a a [] []
     took_none a = record { taken = []; brought = refl; replied = refl; took = refl }
 
-    pub took_both : (a b c : S) (messages more : List (List ℕ))
-        (said now : List (List (List ℕ))) → TookWithin book may_give may_say a b messages said →
+    pub took_both : (a b c : S) (turns more : List Turn)
+        (told now : List Told) → TookWithin book may_give may_say a b turns told →
         TookWithin book may_give may_say b c more now →
-        TookWithin book may_give may_say a c (messages ++ more) (said ++ now)
-    took_both a b c messages more said now first next = record {
+        TookWithin book may_give may_say a c (turns ++ more) (told ++ now)
+    took_both a b c turns more told now first next = record {
       taken = first.taken ++ next.taken;
-      brought = map-append (λ (x : Taken). x.message) first.taken next.taken
+      brought = map-append (λ (x : Taken). x.turn) first.taken next.taken
           ∙ (λ i. first.brought i ++ next.brought i);
-      replied = map-append (λ (x : Taken). x.said) first.taken next.taken
+      replied = map-append told_in first.taken next.taken
           ∙ (λ i. first.replied i ++ next.replied i);
       took = took-append may_give may_say (book.tables a) (book.tables b) (book.tables c)
           first.taken next.taken first.took next.took;
@@ -192,30 +248,49 @@ module _ {S : Type 0} (book : Ghosts S) where
     -- one was
     pub took_one : (a b : S) (x : Taken) → IsTaken may_give may_say (book.tables a) x →
         book.tables b ≡ tables_after (book.tables a) x.events →
-        TookWithin book may_give may_say a b (x.message ∷ []) (x.said ∷ [])
+        TookWithin book may_give may_say a b (x.turn ∷ []) (told_in x ∷ [])
     took_one a b x is tables =
         record { taken = x ∷ []; brought = refl; replied = refl; took = (is, tables) }
 
+    -- one was, to which this was told
+    pub took_told : (a b : S) (x : Taken) (s : Said) (o : Output) → told_by s ≡ told_at o →
+        told_in x ≡ told_at o → IsTaken may_give may_say (book.tables a) x →
+        book.tables b ≡ tables_after (book.tables a) x.events →
+        TookWithin book may_give may_say a b (x.turn ∷ []) (told_by s ∷ [])
+    took_told a b x s o is so taken tables =
+        subst (λ (w : Told). TookWithin book may_give may_say a b (x.turn ∷ []) (w ∷ []))
+        (so ∙ sym is) (took_one a b x taken tables)
+
+    -- an issuer's answer was
+    pub took_answered : (a b : S) (query : Query) (s : Said) →
+        TookAnswer may_give may_say (book.tables a) (book.tables b) query s →
+        TookWithin book may_give may_say a b (AnswerTo query ∷ []) (told_by s ∷ [])
+    took_answered a b query s took =
+        let answer = Answer took.moment query.merchant query.reference took.verdict in
+        let o = step_output (book.tables a) (arrival_of answer) in
+        took_told a b _ s o took.told refl
+        (taken_answer may_give may_say (book.tables a) took.moment query took.verdict o took.given
+        took.may refl took.fits) took.tables
+
     -- one more was, and its reply stands behind the others
-    pub took_next : (a b c : S) (messages : List (List ℕ)) (message : List ℕ)
-        (said now : List Said) →
-        TookWithin book may_give may_say a b messages (replies_of said) →
-        TookNext book may_give may_say b c message said now →
-        TookWithin book may_give may_say a c (messages ++ message ∷ []) (replies_of now)
-    took_next a b c messages message said now first next =
-        subst (TookWithin book may_give may_say a c (messages ++ message ∷ []))
-        (sym (ap replies_of next.behind ∙ map-append reply_of said (next.last ∷ [])))
-        (took_both a b c messages (message ∷ []) (replies_of said) (replies_of (next.last ∷ []))
+    pub took_next : (a b c : S) (turns : List Turn) (turn : Turn) (said now : List Said) →
+        TookWithin book may_give may_say a b turns (told_by_all said) →
+        TookNext book may_give may_say b c turn said now →
+        TookWithin book may_give may_say a c (turns ++ turn ∷ []) (told_by_all now)
+    took_next a b c turns turn said now first next =
+        subst (TookWithin book may_give may_say a c (turns ++ turn ∷ []))
+        (sym (ap told_by_all next.behind ∙ map-append told_by said (next.last ∷ [])))
+        (took_both a b c turns (turn ∷ []) (told_by_all said) (told_by_all (next.last ∷ []))
         first next.took)
 
   -- what might be given and said later, might before
   pub took_before : (may_give might_give : ℕ → Type 0) (may_say might_say : Saying)
       (given : (m : ℕ) → may_give m → might_give m)
       (said : (q : Query) (v : Verdict) → may_say q v → might_say q v)
-      (a b : S) (messages : List (List ℕ)) (now : List (List (List ℕ))) →
-      TookWithin book may_give may_say a b messages now →
-      TookWithin book might_give might_say a b messages now
-  took_before may_give might_give may_say might_say given said a b messages now t = record {
+      (a b : S) (turns : List Turn) (now : List Told) →
+      TookWithin book may_give may_say a b turns now →
+      TookWithin book might_give might_say a b turns now
+  took_before may_give might_give may_say might_say given said a b turns now t = record {
     taken = t.taken;
     brought = t.brought;
     replied = t.replied;
@@ -226,12 +301,12 @@ module _ {S : Type 0} (book : Ghosts S) where
   pub next_before : (may_give might_give : ℕ → Type 0) (may_say might_say : Saying)
       (given : (m : ℕ) → may_give m → might_give m)
       (said : (q : Query) (v : Verdict) → may_say q v → might_say q v)
-      (a b : S) (message : List ℕ) (before now : List Said) →
-      TookNext book may_give may_say a b message before now →
-      TookNext book might_give might_say a b message before now
-  next_before may_give might_give may_say might_say given said a b message before now t = record {
+      (a b : S) (turn : Turn) (before now : List Said) →
+      TookNext book may_give may_say a b turn before now →
+      TookNext book might_give might_say a b turn before now
+  next_before may_give might_give may_say might_say given said a b turn before now t = record {
     last = t.last;
     behind = t.behind;
-    took = took_before may_give might_give may_say might_say given said a b (message ∷ [])
-        (replies_of (t.last ∷ [])) t.took;
+    took = took_before may_give might_give may_say might_say given said a b (turn ∷ [])
+        (told_by_all (t.last ∷ [])) t.took;
   }

@@ -1,4 +1,4 @@
--- What bytes that come or go leave.
+-- What bytes that come or go leave, and answers that come.
 use Rattle.std.specs.Prelude.{◌≡◌, ℕ, List}
 use Rattle.std.specs.List.{AllByRecursion}
 use Rattle.acq_rounds.specs.Acts.{Act, Connection, Follows, Serves, numbers}
@@ -14,7 +14,7 @@ pub record AllGoOn (old new : List Connection) : Type 0 where
   pub follow : (acts : List Act) → AllByRecursion (Follows acts) old
       → AllByRecursion (Follows acts) new
 
--- they stand in another order
+-- they stand in another order, or have gone on
 pub record Turned (old new : List Connection) : Type 0 where
   pub serves : (acts : List Act) (ended : List Connection) (count : ℕ)
       → Serves acts ended old count → Serves acts ended new count

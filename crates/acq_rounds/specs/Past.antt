@@ -12,6 +12,7 @@ connection_in l = record {
   held = l.held.now;
   went = l.went.now.bytes;
   unsent = l.unsent.now;
+  stage = l.stage.now;
 }
 
 pub record IsFresh (past : Past) : Type 0 where

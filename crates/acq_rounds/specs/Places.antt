@@ -10,7 +10,8 @@ use Rattle.acq_rounds.specs.Acts.{Connection}
 use Rattle.acq_rounds.specs.Groups.{is_ready}
 
 module _ {L T : Type 0} (lines : line.Ghosts L) (talks : talk.Ghosts T) where
-  -- a connection, by what its line received and sent, and what its conversation holds
+  -- a connection, by what its line received and sent, what its conversation holds, and what is
+  -- waited for
   abbrev pub seen : Place L T → Connection
   seen p = record {
     number = p.number;
@@ -18,6 +19,7 @@ module _ {L T : Type 0} (lines : line.Ghosts L) (talks : talk.Ghosts T) where
     held = talks.held p.talk;
     went = lines.sent p.line;
     unsent = talks.unsent p.talk;
+    stage = p.stage;
   }
 
   abbrev pub boxed : Box (Place L T) → Connection
@@ -37,6 +39,6 @@ module _ {L T : Type 0} (lines : line.Ghosts L) (talks : talk.Ghosts T) where
   abbrev pub count_of : Rounds L T → ℕ
   count_of r = r.count
 
--- none of these has a message ready
+-- none of these has a turn ready
 abbrev pub AreQuiet : List Connection → Type 0
 AreQuiet cs = AllByRecursion (λ c. is_ready c ≡ false) cs

@@ -7,8 +7,8 @@ use Rattle.acq_core.specs.Tables.{Tables, tables_after}
 use Rattle.acq_front.specs.Stops.{Left, LeavesAll, LeavesSome}
 use Rattle.acq_front.specs.Talk.{Saying}
 use Rattle.acq_rounds.specs.Acts.{Act, Connection, Distinct, Follows, IsAmong, Serves, Taken, Took}
-use Rattle.acq_rounds.specs.Acts.{events_of, messages_by, numbers, taken_of}
-use Rattle.acq_rounds.specs.Groups.{acts_in, asked, ready_message}
+use Rattle.acq_rounds.specs.Acts.{Turn, events_of, numbers, taken_by, taken_of, turns_of}
+use Rattle.acq_rounds.specs.Groups.{acts_in, asked, ready_turn}
 use Rattle.acq_rounds.specs.Taking.{LeavesGroup}
 
 -- the connections that ended and those that are open, how many were had, the host's tables, and
@@ -92,11 +92,11 @@ Begins first all = (rest : List Connection) × (all ≡ first ++ rest)
 abbrev pub Ends : List Connection → List Connection → Type 0
 Ends last all = (rest : List Connection) × (all ≡ rest ++ last)
 
--- In this group each connection that was open and had a message ready has one act, with that
--- message, and no other has one. What was open then is all that was had and hadn't ended.
+-- In this group each connection that was open and had a turn ready has one act, with that turn, and
+-- no other has one. What was open then is all that was had and hadn't ended.
 pub record IsFair (before : List Act) (final : List Connection) (g : Group) : Type 0 where
   pub serves : Serves before g.ended g.here g.count
-  pub each : AllByRecursion (λ c. messages_by c.number (acts_of g) ≡ ready_message c) g.here
+  pub each : AllByRecursion (λ c. turns_of (taken_by c.number (acts_of g)) ≡ ready_turn c) g.here
   pub gone : Begins g.ended final
 
 abbrev pub AreFair : List Act → List Connection → List Step → Type 0
@@ -120,8 +120,8 @@ module _ (may_give : ℕ → Type 0) (may_say : Saying) where
   Did old new (Untold events ∷ steps) = Did (tables_after old events) new steps
 
   -- a stop leaves these tables, or those with the group or the one event that was in hand
-  abbrev pub LeavesInHand : Left → Tables → List (List ℕ) → Type 0
-  LeavesInHand left kept messages = LeavesGroup may_give may_say left kept messages
+  abbrev pub LeavesInHand : Left → Tables → List Turn → Type 0
+  LeavesInHand left kept turns = LeavesGroup may_give may_say left kept turns
       ⊎ ((in_hand : List Event) × (length in_hand ≤ 1) × LeavesSome left kept [] in_hand)
 
 module _ {O : Type 0} (may_give : ℕ → Type 0) (may_say : Saying) (follow : Following O) where
@@ -157,10 +157,11 @@ module _ {O : Type 0} (may_give : ℕ → Type 0) (may_say : Saying) (follow : F
     pub stop : LeavesInHand may_give may_say left kept (asked here)
 
   -- The theorem. There is one list of steps, and of acts in their groups. The host's tables are
-  -- those behind them, and what it said to each act's message is what it says to the events that
-  -- the message makes, over the tables behind what was before it. Of each connection that was had,
-  -- the messages of its own acts are what came over it, but for what was held, and what went out
-  -- over it are the frames of what was said to them, but for what was still to be written. No two
+  -- those behind them, and what it said to each act's turn is what it says to the events that the
+  -- turn makes, over the tables behind what was before it. Of each connection that was had, the
+  -- messages among its own acts are what came over it, but for what was held; where an issuer
+  -- answers later, its answer to what a message asked is the act behind that; and what went out over
+  -- it are the frames of what was said to its acts, but for what was still to be written. No two
   -- have one number, and each that came is among them. Others that had nothing before follow the
   -- same steps.
   pub record HasServed (old new : Tables) (had : List Connection) (given : ℕ)

@@ -17,6 +17,7 @@ use acq_book::{Book, BookFault};
 use acq_front::{Clock, FrontFault, Line};
 use acq_host::Host;
 use std::alloc::Global;
+use std::time::Duration;
 
 /// Where connections come from, and where they go.
 pub trait Gate<L: Line, T: Talk> {
@@ -46,9 +47,9 @@ pub trait Gate<L: Line, T: Talk> {
     ghost past_untold: { (t : Tables) (steps : List Step) (events : List Event)
         (had : aside) → follow t steps had → follow t (steps ++ Untold events ∷ []) had };
 
-    /// Waits until a line has something to do, or a connection comes; not at all, where one has
-    /// already. Whether a round is to follow.
-    fn wait(&mut self, has_already: bool) -> bool
+    /// Waits until a line has something to do, or a connection comes, and for this time at most, if
+    /// one is given; not at all, where one has already. Whether a round is to follow.
+    fn wait(&mut self, has_already: bool, at_most: Option<Duration>) -> bool
         ensures given { given self.new ≡ given self.old }
         ensures others { others self.new ≡ others self.old }
         ensures ended { ended self.new ≡ ended self.old }
@@ -101,8 +102,8 @@ pub trait Gate<L: Line, T: Talk> {
         ensures others { others self.new ≡ others self.old }
         ensures ended { ended self.new ≡ ended self.old };
 
-    /// A message of this connection was taken, its group is kept, and what was said to it is about
-    /// to be written.
+    /// A turn of this connection was taken, its group is kept, and what was said to it is about to be
+    /// written, or its issuer's answer is waited for.
     fn said(&mut self, place: &Place<L, T>)
         ensures given { given self.new ≡ given self.old }
         ensures others { others self.new ≡ others self.old }

@@ -5,6 +5,7 @@ ghost use Rattle.std.specs.Prelude.{◌≡◌, ◌++◌, [], ◌∷◌, List};
 ghost use Rattle.std.specs.Borrow.{ftrue};
 ghost use Rattle.acq_rounds.specs.Acts.{Connection};
 
+use crate::stage::Stage;
 use acq_link::Transcript;
 use std::marker::Model;
 
@@ -16,6 +17,7 @@ pub struct Last<'a> {
     pub held: &'a [u8],
     pub went: &'a Transcript,
     pub unsent: &'a [u8],
+    pub stage: &'a Stage,
 }
 
 /// What connections that ended have had.

@@ -8,7 +8,7 @@ ghost use Rattle.acq_rounds.specs.Groups.{asked, handed};
 ghost use Rattle.acq_rounds.specs.Moves.{AllGoOn, Turned};
 ghost use Rattle.acq_rounds.specs.Places.{AreQuiet, asleep_in, boxed, count_of, seen, seen_in};
 ghost use Rattle.acq_rounds.specs.Runs.{Begins, IsLast, RanOn, RanUntil, whole};
-ghost use Rattle.acq_rounds.specs.Said.{replies_of};
+ghost use Rattle.acq_rounds.specs.Said.{told_by_all, turns_in};
 ghost use Rattle.acq_rounds.specs.Taking.{OfMemory, TellsFault, TookGroup, TookNone};
 
 use crate::gate::Gate;
@@ -16,6 +16,7 @@ use crate::place::Place;
 use crate::said::Said;
 use crate::taking::take_together;
 use crate::talk::Talk;
+use crate::turn::Turn;
 use acq_book::{Book, BookFault};
 use acq_core::{Query, Verdict};
 use acq_front::{Clock, Issuer, Line};
@@ -111,8 +112,8 @@ impl<L: Line + Drop, T: Talk + Drop> Rounds<L, T> {
         }
     }
 
-    /// One round: each connection reads, the host takes one message of each that has one ready, in
-    /// one group, and only then is anything written.
+    /// One round: each connection reads, the host takes the turn of each that has one ready, in one
+    /// group, and only then is anything written.
     pub fn round<B: Book + Drop, C: Clock, I: Issuer, G: Gate<L, T>>(
         &mut self,
         host: &mut Host<B>,
@@ -150,7 +151,7 @@ impl<L: Line + Drop, T: Talk + Drop> Rounds<L, T> {
         ensures store { TellsFault result (B.failures host.old) (B.failures host.new)
             (B.is_honest host.new → B.is_open host.old → ⊥) }
     {
-        self.take_in(gate)?;
+        self.take_in(gate, issuer)?;
         let awake = self.awake.as_mut_slice();
         take_group(self.alloc, awake, host, clock, issuer, gate)?;
         self.send_out(gate);
@@ -158,7 +159,11 @@ impl<L: Line + Drop, T: Talk + Drop> Rounds<L, T> {
     }
 
     /// What is done in a round before its group: connections wake, come, end and read.
-    fn take_in<G: Gate<L, T>>(&mut self, gate: &mut G) -> Result<(), BookFault>
+    fn take_in<I: Issuer, G: Gate<L, T>>(
+        &mut self,
+        gate: &mut G,
+        issuer: &mut I,
+    ) -> Result<(), BookFault>
         ensures serves { (acts : List Act) → Serves acts (G.ended gate.old)
             (seen_in L.Line T.Talk self.old) (count_of L.Line T.Talk self.old)
             → Serves acts (G.ended gate.new)
@@ -169,14 +174,35 @@ impl<L: Line + Drop, T: Talk + Drop> Rounds<L, T> {
             ≡ count_of L.Line T.Talk self.old + G.given gate.new }
         ensures others { G.others gate.new ≡ G.others gate.old }
         ensures gone { Begins (G.ended gate.old) (G.ended gate.new) }
+        ensures said_later { (q : Query) (v : Verdict) → I.may_say issuer.new q v
+            → I.may_say issuer.old q v }
         ensures fault { OfMemory result }
     {
         self.wake_all(gate)?;
+        self.hear(issuer)?;
         self.admit(gate)?;
         self.look(gate);
         read_all(self.awake.as_mut_slice());
         clear(&mut self.awake, gate);
         Ok(())
+    }
+
+    /// Wakes the connections whose issuers' answers are there now.
+    fn hear<I: Issuer>(&mut self, issuer: &mut I) -> Result<(), BookFault>
+        ensures turned { Turned (seen_in L.Line T.Talk self.old) (seen_in L.Line T.Talk self.new) }
+        ensures quiet { AreQuiet (asleep_in L.Line T.Talk self.old)
+            → AreQuiet (asleep_in L.Line T.Talk self.new) }
+        ensures count { count_of L.Line T.Talk self.new ≡ count_of L.Line T.Talk self.old }
+        ensures said_later { (q : Query) (v : Verdict) → I.may_say issuer.new q v
+            → I.may_say issuer.old q v }
+        ensures fault { OfMemory result }
+    {
+        match issuer.next_answer_within() {
+            Some(within) if within.is_zero() => {
+                wake_answered(&mut self.awake, &mut self.asleep, issuer)
+            }
+            _ => Ok(()),
+        }
     }
 
     /// What is done behind its group: connections write, end and fall asleep.
@@ -254,7 +280,7 @@ impl<L: Line + Drop, T: Talk + Drop> Rounds<L, T> {
             (B.is_honest host.new → B.is_open host.old → ⊥) }
     {
         for _ in 0..rounds {
-            if !gate.wait(self.is_awake()) {
+            if !gate.wait(self.is_awake(), issuer.next_answer_within()) {
                 return Ok(());
             }
             gate.between(self.alloc, host, clock)?;
@@ -341,6 +367,36 @@ fn wake<L: Line, T: Talk>(
     Ok(())
 }
 
+/// Wakes those whose issuers' answers are there.
+fn wake_answered<L: Line, T: Talk, I: Issuer>(
+    awake: &mut Vec<Box<Place<L, T>>>,
+    asleep: &mut Vec<Box<Place<L, T>>>,
+    issuer: &mut I,
+) -> Result<(), BookFault>
+    ensures turned { Turned
+        (map (boxed L.Line T.Talk) awake.old.items ++ map (boxed L.Line T.Talk) asleep.old.items)
+        (map (boxed L.Line T.Talk) awake.new.items
+        ++ map (boxed L.Line T.Talk) asleep.new.items) }
+    ensures quiet { AreQuiet (map (boxed L.Line T.Talk) asleep.old.items)
+        → AreQuiet (map (boxed L.Line T.Talk) asleep.new.items) }
+    ensures said_later { (q : Query) (v : Verdict) → I.may_say issuer.new q v
+        → I.may_say issuer.old q v }
+    ensures fault { OfMemory result }
+{
+    let mut at = 0;
+    while at < asleep.len() {
+        awake.reserve(1)?;
+        if asleep[at].is_answered(issuer) {
+            let mut place = asleep.remove(at);
+            place.hear();
+            awake.push(place).unwrap();
+        } else {
+            at += 1;
+        }
+    }
+    Ok(())
+}
+
 /// Puts those to sleep that have nothing to do before their lines are waited for.
 fn put_to_sleep<L: Line, T: Talk>(
     awake: &mut Vec<Box<Place<L, T>>>,
@@ -417,42 +473,42 @@ fn write_all<L: Line, T: Talk>(places: &mut [Box<Place<L, T>>])
     }
 }
 
-/// The messages that are ready.
-fn messages_of<L: Line, T: Talk>(
+/// The turns that are ready.
+fn turns_of<L: Line, T: Talk>(
     alloc: Global,
     places: &[Box<Place<L, T>>],
-) -> Result<Vec<Vec<u8>>, BookFault>
-    ensures messages { IfOk result (λ messages. map (λ m. m.items) messages.items
+) -> Result<Vec<Turn<'_>>, BookFault>
+    ensures turns { IfOk result (λ turns. turns_in turns.items
         ≡ asked (map (boxed L.Line T.Talk) places.now)) }
     ensures fault { OfMemory result }
 {
-    let mut messages = Vec::new(alloc);
+    let mut turns = Vec::new(alloc);
     for place in places {
         if place.is_ready() {
-            let Ok(message) = place.message(alloc) else {
+            let Ok(turn) = place.turn(alloc) else {
                 return Err(BookFault::Memory);
             };
-            if messages.push(message).is_err() {
+            if turns.push(turn).is_err() {
                 return Err(BookFault::Memory);
             }
         }
     }
-    Ok(messages)
+    Ok(turns)
 }
 
 /// Hands out what was said, each to the next connection that was ready.
 fn hand_out<L: Line, T: Talk, G: Gate<L, T>>(
     places: &mut [Box<Place<L, T>>],
-    said: &[Said],
+    said: Vec<Said>,
     gate: &mut G,
 )
     ensures out { map (boxed L.Line T.Talk) places.new
-        ≡ handed (map (boxed L.Line T.Talk) places.old) (replies_of said.now) }
+        ≡ handed (map (boxed L.Line T.Talk) places.old) (told_by_all said.items) }
     ensures given { G.given gate.new ≡ G.given gate.old }
     ensures others { G.others gate.new ≡ G.others gate.old }
     ensures ended { G.ended gate.new ≡ G.ended gate.old }
 {
-    let mut said = said.iter();
+    let mut said = said.into_iter();
     for place in places.iter_mut() {
         let place = &mut **place;
         if place.is_ready() {
@@ -465,7 +521,7 @@ fn hand_out<L: Line, T: Talk, G: Gate<L, T>>(
     }
 }
 
-/// Has the host take the messages that are ready, and hands out what it says.
+/// Has the host take the turns that are ready, and hands out what it says.
 fn take_group<L: Line, T: Talk, B: Book + Drop, C: Clock, I: Issuer, G: Gate<L, T>>(
     alloc: Global,
     places: &mut [Box<Place<L, T>>],
@@ -495,9 +551,9 @@ fn take_group<L: Line, T: Talk, B: Book + Drop, C: Clock, I: Issuer, G: Gate<L, 
     ensures store { TellsFault result (B.failures host.old) (B.failures host.new)
         (B.is_honest host.new → B.is_open host.old → ⊥) }
 {
-    let messages = messages_of(alloc, places)?;
-    let said = take_together(alloc, messages, host, clock, issuer)?;
-    hand_out(places, said.as_slice(), gate);
+    let turns = turns_of(alloc, places)?;
+    let said = take_together(alloc, turns, host, clock, issuer)?;
+    hand_out(places, said, gate);
     Ok(())
 }
 

@@ -76,6 +76,19 @@ pub trait Talk {
         ensures held { held self.new ≡ behind_message (held self.old) }
         ensures unsent { unsent self.new ≡ frame_said said.now }
         ensures ends { result ≡ ends_after said.now };
+
+    /// The next message was taken, and its issuer answers later: nothing is to be written yet.
+    fn defer(&mut self)
+        requires ready { is_ready (held self.old) (unsent self.old) ≡ true }
+        ensures held { held self.new ≡ behind_message (held self.old) }
+        ensures unsent { unsent self.new ≡ [] };
+
+    /// The issuer's answer to what the last message asked was taken, and the host said this to it;
+    /// the reply is then to be written.
+    fn reply(&mut self, said: &Output, reason: Option<Reason>)
+        requires fits { ReplyFits said.now }
+        ensures held { held self.new ≡ held self.old }
+        ensures unsent { unsent self.new ≡ frame_said said.now };
 }
 
 impl Talk for Conversation {
@@ -126,5 +139,13 @@ impl Talk for Conversation {
 
     fn hold(&mut self, said: &Output, reason: Option<Reason>) -> Result<(), FrontFault> {
         self.hold(said, reason)
+    }
+
+    fn defer(&mut self) {
+        self.defer();
+    }
+
+    fn reply(&mut self, said: &Output, reason: Option<Reason>) {
+        let _ = self.reply(said, reason);
     }
 }

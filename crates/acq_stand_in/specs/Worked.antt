@@ -10,17 +10,27 @@ use Rattle.acq_core.specs.Tables.{Tables}
 use Rattle.acq_stand_in.specs.declared.card_answer.CardAnswer.{CardAnswer}
 
 abbrev pub approving : CardAnswer
-approving = record { card = Some (codes "4111111111111111"); verdict = Approved (codes "A1B2C3") }
+approving =
+    record {
+      card = Some (codes "4111111111111111");
+      verdict = Approved (codes "A1B2C3");
+      takes = 0;
+    }
+
+-- the same answer, a quarter of a second later
+abbrev pub approving_later : CardAnswer
+approving_later = record approving { takes = 250 }
 
 abbrev pub declining : CardAnswer
-declining = record { card = Some (codes "5500005555555559"); verdict = Declined (codes "51") }
+declining =
+    record { card = Some (codes "5500005555555559"); verdict = Declined (codes "51"); takes = 0 }
 
 abbrev pub silent : CardAnswer
-silent = record { card = Some (codes "5500005555555559"); verdict = NoAnswer }
+silent = record { card = Some (codes "5500005555555559"); verdict = NoAnswer; takes = 0 }
 
 -- its last digit is not the check digit
 abbrev pub of_no_card : CardAnswer
-of_no_card = record { card = None; verdict = Declined (codes "51") }
+of_no_card = record { card = None; verdict = Declined (codes "51"); takes = 0 }
 
 -- ---- tables with requests that wait
 

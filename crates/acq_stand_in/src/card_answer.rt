@@ -12,6 +12,8 @@ pub struct CardAnswer {
     /// The card. Where the record's text is no valid card number, it is no request's card.
     pub card: Option<CardNumber>,
     pub verdict: Verdict,
+    /// How many milliseconds the answer takes.
+    pub takes: u32,
 }
 
 impl CardAnswer {

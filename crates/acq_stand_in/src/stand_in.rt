@@ -1,13 +1,14 @@
 //! The stand-in itself.
 
-ghost use Rattle.std.specs.Prelude.{◌≡◌, ◌+◌, ◌++◌, ℕ, List, Ok, Err, IsErrOf, MatchResult, OnOk};
-ghost use Rattle.std.specs.Prelude.{[], find};
+ghost use Rattle.std.specs.Prelude.{◌≡◌, ◌+◌, ◌*◌, ◌++◌, ℕ, List, [], find};
+ghost use Rattle.std.specs.Prelude.{Ok, Err, IsErrOf, MatchResult, OnOk};
+ghost use Rattle.std.specs.Duration.{as_nanos};
 ghost use Rattle.std.specs.Option.{option_copied};
 ghost use Rattle.acq_link.specs.Moves.{TakesAll};
 ghost use Rattle.acq_out.specs.RecordFaults.{failed_reads};
 ghost use Rattle.acq_out.specs.RecordReads.{ReadsValues};
 ghost use Rattle.acq_out.specs.declared.records.record_fault.RecordFault.TheVariants.{BadRecord};
-ghost use Rattle.acq_stand_in.specs.Answers.{answer_of_fields, is_for, verdict_for};
+ghost use Rattle.acq_stand_in.specs.Answers.{answer_of_fields, is_for, takes_for, verdict_for};
 
 use crate::answer_form::AnswerForm;
 use crate::card_answer::CardAnswer;
@@ -18,9 +19,10 @@ use acq_out::records::{RecordFault, read_records};
 use card_no::CardNumber;
 use std::alloc::Global;
 use std::marker::Model;
+use std::time::Duration;
 
 /// The stand-in for issuers: it answers each query by the first record of its file that names the
-/// card, and gives no answer where none does.
+/// card, and gives no answer where none does, which takes no time.
 #[derive(Drop)]
 pub struct StandIn {
     answers: Vec<CardAnswer>,
@@ -36,9 +38,9 @@ impl Model for StandIn {
 }
 
 impl StandIn {
-    /// Reads the whole file: CSV with no header line, a record `card,verdict,text` for each card
-    /// (own profile; `specs/Answers.antt`). `BadRecord` names the first record out of its form,
-    /// counted from 1.
+    /// Reads the whole file: CSV with no header line, a record `card,verdict,text` for each card,
+    /// or `card,verdict,text,milliseconds` where the answer takes its time (own profile;
+    /// `specs/Answers.antt`). `BadRecord` names the first record out of its form, counted from 1.
     pub fn read<S: Source>(alloc: Global, file: &mut S) -> Result<StandIn, RecordFault>
         // What was read, and what it gave.
         ensures read { (bytes : List ℕ)
@@ -84,6 +86,16 @@ impl StandIn {
         }
     }
 
+    /// How long the answer for a card takes, which is no time where there is none.
+    pub fn takes_for(&self, card: &CardNumber) -> Duration
+        ensures { as_nanos result ≡ takes_for self.now card.now * 1_000_000 }
+    {
+        match self.first_for(card.digits()) {
+            Some(answer) => Duration::from_millis(u64::from(answer.takes)),
+            None => Duration::ZERO,
+        }
+    }
+
     /// The first answer for a card, if there is one.
     fn first_for(&self, card: &[u8]) -> Option<&CardAnswer>
         ensures { option_copied result ≡ find (is_for card.now) self.now }
@@ -99,5 +111,11 @@ impl Issuer for StandIn {
 
     fn answer(&mut self, query: &Query) -> Verdict {
         self.verdict_for(&query.card)
+    }
+
+    fn takes(&self, query: &Query) -> Duration
+        ensures { as_nanos result ≡ takes_for self.now query.now.card * 1_000_000 }
+    {
+        self.takes_for(&query.card)
     }
 }

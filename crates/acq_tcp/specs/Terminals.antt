@@ -27,6 +27,7 @@ connection_of p = record {
   held = held_in p.talk;
   went = sent_of p.line;
   unsent = unsent_in p.talk;
+  stage = p.stage;
 }
 
 module _ {T W F : Type 0} where

@@ -23,6 +23,7 @@ use mio::net::{TcpStream, UnixStream};
 use std::alloc::Global;
 use std::fs::Files;
 use std::time;
+use std::time::Duration;
 
 /// Where terminals' connections come from, and where they go.
 #[derive(Drop)]
@@ -121,8 +122,8 @@ impl<'s, 'r, 'a, T: time::Clock + Files, W: LogTarget + Drop, F: Sink> Gate<
 
     ghost past_untold = { past_untold };
 
-    fn wait(&mut self, has_already: bool) -> bool {
-        let goes_on = self.places.wait(has_already);
+    fn wait(&mut self, has_already: bool, at_most: Option<Duration>) -> bool {
+        let goes_on = self.places.wait(has_already, at_most);
         self.has_stopped = !goes_on;
         goes_on
     }
@@ -174,6 +175,7 @@ impl<'s, 'r, 'a, T: time::Clock + Files, W: LogTarget + Drop, F: Sink> Gate<
             held: talk.held(),
             went: line.sent(),
             unsent: talk.unsent(),
+            stage: place.stage(),
         });
         self.places.part(place);
     }

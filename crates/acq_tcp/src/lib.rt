@@ -45,6 +45,7 @@ mod tcp_connections;
 mod tcp_server;
 mod terminal_talk;
 mod time_limits;
+mod timed_issuer;
 
 pub use host_log::HostLog;
 pub use log_target::LogTarget;

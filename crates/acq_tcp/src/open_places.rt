@@ -108,9 +108,9 @@ impl<'s, 'r, 'a, T: time::Clock + Files, W: LogTarget + Drop, F: Sink> OpenPlace
         }
     }
 
-    /// Waits until there is something to do, not at all where there is already, and begins the next
-    /// round. Returns whether there is one.
-    pub(crate) fn wait(&mut self, has_already: bool) -> bool {
+    /// Waits until there is something to do, for this time at most, if one is given, and not at all
+    /// where there is already; and begins the next round. Returns whether there is one.
+    pub(crate) fn wait(&mut self, has_already: bool, at_most: Option<Duration>) -> bool {
         let begins_to_stop = self.note_stop();
         if self.is_over || self.is_done() {
             return false;
@@ -118,7 +118,7 @@ impl<'s, 'r, 'a, T: time::Clock + Files, W: LogTarget + Drop, F: Sink> OpenPlace
         let longest = if has_already || begins_to_stop || self.server.newcomers.has_ready() {
             Some(Duration::ZERO)
         } else {
-            self.longest_wait()
+            shorter(self.longest_wait(), at_most)
         };
         if self.server.wait(longest).is_err() {
             self.has_failed = true;
@@ -446,6 +446,10 @@ impl<'s, 'r, 'a, T: time::Clock + Files, W: LogTarget + Drop, F: Sink> OpenPlace
             self.look.has_room();
             return None;
         }
+        // Whoever asks for an issuer bounds how long that takes, also where the host ends.
+        if !place.is_listening() {
+            return None;
+        }
         let talk = place.talk();
         if self.is_stopping && !place.is_ready() && talk.unsent().is_empty() {
             return Some(Ok(()));
@@ -459,7 +463,8 @@ impl<'s, 'r, 'a, T: time::Clock + Files, W: LogTarget + Drop, F: Sink> OpenPlace
         }
     }
 
-    /// A message of this connection was taken: its reply is about to be written, or it gets none.
+    /// A turn of this connection was taken: its reply is about to be written, or it gets none, or
+    /// its issuer answers later.
     pub(crate) fn said(&mut self, place: &TerminalPlace<'r>) {
         let (talk, now) = (place.talk(), self.time.get());
         let frame = talk.unsent();

@@ -108,6 +108,15 @@ impl<'r> TerminalTalk<'r> {
         }
     }
 
+    /// The message in front is taken. No piece was read since its frame was whole: what is behind
+    /// it came with the last one.
+    fn passes_on(&mut self)
+        ensures { self.new.conversation ≡ self.old.conversation }
+    {
+        self.began = self.came;
+        self.last_moved = self.time.get();
+    }
+
     /// Whether a frame is begun whose rest is waited for.
     fn waits_for_frame(&self) -> bool {
         self.conversation.unsent().is_empty()
@@ -189,13 +198,22 @@ impl Talk for TerminalTalk<'_> {
     }
 
     fn hold(&mut self, said: &Output, reason: Option<Reason>) -> Result<(), FrontFault> {
-        // No piece was read since the frame in front was whole: what is behind it came with the
-        // last one.
-        self.began = self.came;
-        self.last_moved = self.time.get();
+        self.passes_on();
         if let Output::Undecodable(_) = said {
             self.refused = Some(FrameHead::of(self.conversation.held()));
         }
         self.conversation.hold(said, reason)
+    }
+
+    fn defer(&mut self) {
+        self.passes_on();
+        self.conversation.defer();
+    }
+
+    fn reply(&mut self, said: &Output, reason: Option<Reason>) {
+        // What is there of the next frame couldn't go on before.
+        self.began = self.time.get();
+        self.last_moved = self.time.get();
+        let _ = self.conversation.reply(said, reason);
     }
 }

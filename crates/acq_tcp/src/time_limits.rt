@@ -12,6 +12,8 @@ pub(crate) struct TimeLimits {
     pub(crate) frame: Option<Duration>,
     /// How long one may be there once the host was asked to end.
     pub(crate) stop: Option<Duration>,
+    /// How long one may wait for its issuer's answer.
+    pub(crate) answer: Option<Duration>,
 }
 
 impl TimeLimits {
@@ -21,6 +23,7 @@ impl TimeLimits {
             idle: limit_of(patience.idle),
             frame: limit_of(patience.frame_within),
             stop: limit_of(patience.stop_within),
+            answer: limit_of(patience.answer_within),
         }
     }
 

@@ -10,9 +10,9 @@ pub enum Difference {
     NoMemory,
     /// The run ended by a fault without the book's refusing a call, or the other way round.
     Stopped,
-    /// Of this connection a group took two messages.
+    /// Of this connection a group took two turns.
     Twice(u64),
-    /// A group left this connection out, though it had a message ready.
+    /// A group left this connection out, though it had a turn ready.
     LeftOut(u64),
     /// Other groups were answered than the book kept.
     Kept,
@@ -24,6 +24,8 @@ pub enum Difference {
     Written(u64),
     /// A connection had more or fewer messages taken than it sent.
     Messages(u64),
+    /// A connection was given an answer that it didn't wait for.
+    Answered(u64),
     /// A connection ended otherwise than by this: how, and the number of its fault, or 0.
     Ending(u64, Ending, u8),
     /// The books differ.
@@ -35,13 +37,14 @@ impl fmt::Display for Difference {
         match self {
             Difference::NoMemory => f.write_str("no memory"),
             Difference::Stopped => f.write_str("it stopped otherwise than the book refused"),
-            Difference::Twice(n) => write!(f, "a group took two messages of connection {n}"),
+            Difference::Twice(n) => write!(f, "a group took two turns of connection {n}"),
             Difference::LeftOut(n) => write!(f, "a group left out connection {n}"),
             Difference::Kept => f.write_str("a group was answered that the book didn't keep"),
             Difference::Parting(n) => write!(f, "connection {n} wasn't parted with once"),
             Difference::Forgotten(n) => write!(f, "connection {n} was forgotten"),
             Difference::Written(n) => write!(f, "connection {n} got other bytes"),
             Difference::Messages(n) => write!(f, "connection {n} had other messages taken"),
+            Difference::Answered(n) => write!(f, "connection {n} got another one's answer"),
             Difference::Ending(n, ending, fault) => {
                 let ending = ending.word();
                 write!(f, "connection {n}, which ends {ending}, ended with {fault}")

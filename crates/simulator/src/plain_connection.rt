@@ -1,7 +1,7 @@
 //! What a connection is to have.
 
 use crate::script::put_frame;
-use acq_core::Output;
+use acq_core::{Output, Query};
 use std::alloc::Global;
 
 /// What a connection is to have, by the plain run.
@@ -15,6 +15,8 @@ pub struct PlainConnection {
     pub last: usize,
     /// Whether the last message spelled none.
     pub is_unread: bool,
+    /// What its last message asked, where its issuer answers later and didn't yet.
+    pub asked: Option<Query>,
 }
 
 impl PlainConnection {
@@ -25,12 +27,13 @@ impl PlainConnection {
             replies: Vec::new(alloc),
             last: 0,
             is_unread: false,
+            asked: None,
         }
     }
 
-    /// Its next message was taken, and this was said to it. `None` where memory runs out.
+    /// Its next message was taken, or the answer to it, and this was said. `None` where memory runs
+    /// out.
     pub fn hold(&mut self, said: &Output) -> Option<()> {
-        self.taken = self.taken.saturating_add(1);
         match said {
             Output::Reply(_, text) => {
                 self.last = self.replies.len();

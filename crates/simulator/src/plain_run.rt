@@ -7,8 +7,8 @@ use crate::rule_issuer::RuleIssuer;
 use crate::scene::Scene;
 use crate::script::Script;
 use acq_book::Book;
-use acq_core::{Event, MessageText, Output};
-use acq_front::{Clock, Issuer};
+use acq_core::{Event, MessageText, Output, Query};
+use acq_front::Clock;
 use acq_host::Host;
 use acq_memory_lines::{Noted, take_one_event};
 use std::alloc::Global;
@@ -37,6 +37,13 @@ pub fn run_plainly<B: Book + Drop>(
                 let message = message.ok_or(Difference::Messages(*number))?;
                 take_plainly(host, &mut clock, message, connection).ok_or(Difference::Stopped)?;
             }
+            Noted::Answered(number) => {
+                let connection = connections.get_mut(*number as usize);
+                let connection = connection.ok_or(Difference::Messages(*number))?;
+                let query = connection.asked.take();
+                let query = query.ok_or(Difference::Answered(*number))?;
+                answer_plainly(host, &mut clock, query, connection).ok_or(Difference::Stopped)?;
+            }
             Noted::Asked => ask_plainly(host, scene).ok_or(Difference::Stopped)?,
             Noted::Waited | Noted::Ended(_) | Noted::LeftOut(_) => {}
         }
@@ -61,35 +68,42 @@ fn next_message(alloc: Global, script: &Script, taken: usize) -> Option<Vec<u8>>
     }
 }
 
-/// Has the host take a message, and its issuer's answer where it is asked, and holds what it said
-/// last.
+/// Has the host take a message, and its issuer's answer where it is asked and answers at once, and
+/// holds what it said last.
 fn take_plainly<B: Book + Drop>(
     host: &mut Host<B>,
     clock: &mut CountingClock,
     message: Vec<u8>,
     connection: &mut PlainConnection,
 ) -> Option<()> {
-    let said = said_last(host, clock, message)?;
-    let held = connection.hold(&said);
-    drop(said);
-    held
-}
-
-/// What the host says last to a message.
-fn said_last<B: Book + Drop>(
-    host: &mut Host<B>,
-    clock: &mut CountingClock,
-    message: Vec<u8>,
-) -> Option<Output> {
     let came = Event::Frame(clock.now(), MessageText::from_vec(message));
     let said = host.take(&came).ok()?;
     drop(came);
-    let Output::Ask(query) = said else {
-        return Some(said);
-    };
-    let verdict = RuleIssuer {}.answer(&query);
+    connection.taken = connection.taken.saturating_add(1);
+    match said {
+        Output::Ask(query) => {
+            if !RuleIssuer::is_late(&query) {
+                return answer_plainly(host, clock, query, connection);
+            }
+            connection.asked = Some(query);
+            Some(())
+        }
+        said => connection.hold(&said),
+    }
+}
+
+/// Has the host take the issuer's answer to a query, and holds what it said.
+fn answer_plainly<B: Book + Drop>(
+    host: &mut Host<B>,
+    clock: &mut CountingClock,
+    query: Query,
+    connection: &mut PlainConnection,
+) -> Option<()> {
+    let verdict = RuleIssuer::verdict_for(&query);
     let answer = Event::Answer(clock.now(), query.merchant, query.reference, verdict);
-    host.take(&answer).ok()
+    let said = host.take(&answer).ok()?;
+    drop(query);
+    connection.hold(&said)
 }
 
 /// Has the host take the scene's next event.

@@ -79,7 +79,7 @@ fn serve_at_gate<B: Book + Drop>(
     let coming = streams(alloc, scene, seed)?;
     let events = mem::replace(&mut scene.events, Vec::new(alloc));
     let mut gate = MemoryGate::new(alloc, coming, events, scene.manner, Chance::new(seed, 1));
-    let (mut clock, mut issuer) = (CountingClock::new(), RuleIssuer {});
+    let (mut clock, mut issuer) = (CountingClock::new(), RuleIssuer::new(alloc));
     let served = serve(alloc, host, &mut clock, &mut issuer, &mut gate, ROUNDS);
     Some((gate, served.is_err()))
 }

@@ -89,11 +89,16 @@ fn compare_books<B: Book + Drop>(
 
 /// What a run did, in so many groups.
 fn tried_in(run: &ServedRun, groups: u64) -> Tried {
-    let noted = run.gate.noted().iter();
-    let acts = noted.filter(|next| matches!(next, Noted::Taken(_))).count();
+    let noted = run.gate.noted();
+    let messages = noted.iter().filter(|next| matches!(next, Noted::Taken(_)));
+    let answers = noted
+        .iter()
+        .filter(|next| matches!(next, Noted::Answered(_)));
+    let (messages, answers) = (messages.count() as u64, answers.count() as u64);
     Tried {
         connections: run.gate.parted().len() as u64,
-        acts: acts as u64,
+        acts: messages.wrapping_add(answers),
+        answers,
         groups,
         stopped: u64::from(run.is_stopped),
     }

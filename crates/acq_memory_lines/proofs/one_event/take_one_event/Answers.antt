@@ -1,7 +1,3 @@
-use Rattle.std.proofs.Common.{is_ok, subst}
-use Rattle.acq_core.specs.Arrivals.{arrival_of}
-use Rattle.acq_core.specs.Tables.{step_tables}
-use Rattle.acq_book.specs.Calls.{Makes}
 use Rattle.acq_memory_lines.proofs.Reached.{reached, reached_none}
 use Rattle.acq_memory_lines.proofs.one_event.take_one_event.Goals as goal
 

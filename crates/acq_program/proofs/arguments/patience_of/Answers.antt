@@ -5,8 +5,8 @@ use Rattle.clap.specs.Words.{found_of}
 use Rattle.acq_faults.specs.declared.patience.Patience.{Patience}
 use Rattle.acq_program.specs.declared.usage_fault.UsageFault.{UsageFault}
 use Rattle.acq_program.specs.Arguments.{IsPatience}
-use Rattle.acq_program.specs.Options.{FrameWithinIs, IdleIs}
-use Rattle.acq_program.specs.Arguments.{PatienceFor, PatienceWith}
+use Rattle.acq_program.specs.Options.{AnswerWithinIs, FrameWithinIs, IdleIs}
+use Rattle.acq_program.specs.Arguments.{PatienceFor, PatienceUpTo, PatienceWith}
 use Rattle.acq_program.specs.Options.{StopWithinIs}
 use Rattle.acq_program.specs.Options.{found_texts}
 use Rattle.acq_program.proofs.OptionsRead.{first_fails, then_rest}
@@ -42,8 +42,28 @@ returns-in_err-stop_within c =
     c.in_ok-frame_within.frame_within (Err c.in_err-stop_within.field-0.0)
     c.in_ok-frame_within.ensures
     (first_fails (StopWithinIs texts)
-    (IsPatience c.in_ok-idle.idle c.in_ok-frame_within.frame_within)
+    (PatienceUpTo texts c.in_ok-idle.idle c.in_ok-frame_within.frame_within)
     c.in_err-stop_within.field-0.0 c.in_err-stop_within.ensures)))
+
+pub returns-in_err-answer_within : goal.returns-in_err-answer_within
+returns-in_err-answer_within c =
+    let texts = found_texts (found_of c.args.options.now) in
+    let p = err_from_is_err_and c.from_residual-in_err-answer_within.result
+    c.from_residual-in_err-answer_within.ensures.1 in
+    rw (p.1, p.2)
+    (then_rest (IdleIs texts) (PatienceFor texts) c.in_ok-idle.idle
+    (Err c.in_err-answer_within.field-0.0) c.in_ok-idle.ensures
+    (then_rest (FrameWithinIs texts) (PatienceWith texts c.in_ok-idle.idle)
+    c.in_ok-frame_within.frame_within (Err c.in_err-answer_within.field-0.0)
+    c.in_ok-frame_within.ensures
+    (then_rest (StopWithinIs texts)
+    (PatienceUpTo texts c.in_ok-idle.idle c.in_ok-frame_within.frame_within)
+    c.in_ok-stop_within.stop_within (Err c.in_err-answer_within.field-0.0)
+    c.in_ok-stop_within.ensures
+    (first_fails (AnswerWithinIs texts)
+    (IsPatience c.in_ok-idle.idle c.in_ok-frame_within.frame_within
+    c.in_ok-stop_within.stop_within)
+    c.in_err-answer_within.field-0.0 c.in_err-answer_within.ensures))))
 
 pub returns : goal.returns
 returns c =
@@ -52,11 +72,16 @@ returns c =
       idle = c.in_ok-idle.idle;
       frame_within = c.in_ok-frame_within.frame_within;
       stop_within = c.in_ok-stop_within.stop_within;
+      answer_within = c.in_ok-answer_within.answer_within;
     }) in
     then_rest (IdleIs texts) (PatienceFor texts) c.in_ok-idle.idle read c.in_ok-idle.ensures
     (then_rest (FrameWithinIs texts) (PatienceWith texts c.in_ok-idle.idle)
     c.in_ok-frame_within.frame_within read c.in_ok-frame_within.ensures
     (then_rest (StopWithinIs texts)
-    (IsPatience c.in_ok-idle.idle c.in_ok-frame_within.frame_within)
+    (PatienceUpTo texts c.in_ok-idle.idle c.in_ok-frame_within.frame_within)
     c.in_ok-stop_within.stop_within read c.in_ok-stop_within.ensures
-    refl))
+    (then_rest (AnswerWithinIs texts)
+    (IsPatience c.in_ok-idle.idle c.in_ok-frame_within.frame_within
+    c.in_ok-stop_within.stop_within)
+    c.in_ok-answer_within.answer_within read c.in_ok-answer_within.ensures
+    refl)))

@@ -1,11 +1,11 @@
-use Rattle.std.proofs.Common.{◌<◌, ◌++◌, ◌+◌, ◌∙◌, ap, arith, drop, get_or, length, map, refl, set}
+use Rattle.std.proofs.Common.{◌≡◌, [], ◌<◌, ◌++◌, ◌+◌, ◌∙◌, ap, arith, drop, get_or, length, map, refl, set}
 use Rattle.std.proofs.Common.{sym, take}
+use Rattle.std.proofs.lemmas.Grind.{common_steps}
 use Rattle.std.specs.Box.{with_value}
-use Rattle.std.specs.Slice.Iter.{iter_rest}
+use Rattle.std.specs.Vec.Iter.{into_iter_items}
 use Rattle.acq_rounds.specs.Groups.{answered, handed, is_ready}
 use Rattle.acq_rounds.specs.Places.{boxed, seen}
-use Rattle.acq_rounds.specs.Said.{replies_of, reply_of}
-use Rattle.acq_rounds.proofs.Lists.{empty}
+use Rattle.acq_rounds.specs.Said.{told_by_all, told_by}
 use Rattle.acq_rounds.proofs.Moving.{handed_out, handed_pass, handed_some, same_at}
 use Rattle.acq_rounds.proofs.rounds.hand_out.Goals as goal
 use Rattle.acq_rounds.proofs.rounds.hand_out.Goals.{else-is_ready, then-is_ready+in-Some}
@@ -16,11 +16,12 @@ returns-in_default-clause-out g c =
     let ps = c.loop-place.places in
     let i = c.loop-place.place-index in
     let d = c.place-item.result in
+    let none : into_iter_items c.loop-place.said ≡ [] = grind (arith, common_steps) in
     same_at view (map view ps) ps i d (with_value (get_or ps i d) c.deref_mut-place.result.now)
     (ap (seen g.L.Line g.T.Talk) c.deref_mut-place.ensures.value) refl
     ∙ sym (handed_out view ps i)
-    ∙ ap (λ l. map view (take i ps) ++ handed (map view (drop i ps)) (replies_of l))
-    (sym (empty (iter_rest c.loop-place.said) c.in_default.ensures.steps.0))
+    ∙ ap (λ l. map view (take i ps) ++ handed (map view (drop i ps)) (told_by_all l))
+    (sym none)
     ∙ c.loop-place.invariant.out
 
 pub loop-place-preserved : goal.loop-place-preserved
@@ -37,16 +38,16 @@ loop-place-preserved g c =
           let y = with_value (get_or ps i d) w.hold.new.self in
           record {
             out = ap (λ l. map view (take (i + 1) l) ++ handed (map view (drop (i + 1) l))
-                (replies_of (iter_rest c.if-is_ready.said))) w.places-is
+                (told_by_all (into_iter_items c.if-is_ready.said))) w.places-is
                 ∙ ap (λ r. map view (take (i + 1) (set ps i y))
                 ++ handed (map view (drop (i + 1) (set ps i y)))
-                (replies_of (iter_rest r))) w.said-is
+                (told_by_all (into_iter_items r))) w.said-is
                 ∙ handed_some view ps i d lt y
-                (reply_of w.in-Some.next.now) (replies_of (iter_rest w.next.new.self))
+                (told_by w.in-Some.next) (told_by_all (into_iter_items w.next.new.self))
                 (sym (w.if-is_ready.ensures ∙ ap (λ p. is_ready (see p)) is))
-                (w.hold.ensures ∙ ap (λ p. answered (see p) (reply_of w.in-Some.next.now)) is)
-                ∙ ap (λ l. map view (take i ps) ++ handed (map view (drop i ps)) (replies_of l))
-                (sym w.in-Some.ensures.steps)
+                (w.hold.ensures ∙ ap (λ p. answered (see p) (told_by w.in-Some.next)) is)
+                ∙ ap (λ l. map view (take i ps) ++ handed (map view (drop i ps)) (told_by_all l))
+                (sym w.in-Some.ensures.items)
                 ∙ c.loop-place.invariant.out;
             given = ap g.G.Gate.given w.gate-is ∙ w.said.ensures.given
                 ∙ c.loop-place.invariant.given;
@@ -59,11 +60,11 @@ loop-place-preserved g c =
           let y = with_value (get_or ps i d) c.deref_mut-place.result.now in
           record {
             out = ap (λ l. map view (take (i + 1) l) ++ handed (map view (drop (i + 1) l))
-                (replies_of (iter_rest c.if-is_ready.said))) w.places-is
+                (told_by_all (into_iter_items c.if-is_ready.said))) w.places-is
                 ∙ ap (λ r. map view (take (i + 1) (set ps i y))
                 ++ handed (map view (drop (i + 1) (set ps i y)))
-                (replies_of (iter_rest r))) w.said-is
-                ∙ handed_pass view ps i d lt y (replies_of (iter_rest c.loop-place.said))
+                (told_by_all (into_iter_items r))) w.said-is
+                ∙ handed_pass view ps i d lt y (told_by_all (into_iter_items c.loop-place.said))
                 (sym (w.if-is_ready.ensures ∙ ap (λ p. is_ready (see p)) is)) (ap see is)
                 ∙ c.loop-place.invariant.out;
             given = ap g.G.Gate.given w.gate-is ∙ c.loop-place.invariant.given;

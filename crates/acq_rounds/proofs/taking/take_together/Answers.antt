@@ -1,8 +1,7 @@
 -- a group that was kept, or not, or given up
-use Rattle.std.proofs.Common.{map}
 use Rattle.acq_host.proofs.Groups.{Laws}
 use Rattle.acq_front.specs.Stops.{left_of}
-use Rattle.acq_rounds.specs.Said.{replies_of}
+use Rattle.acq_rounds.specs.Said.{told_by_all, turns_in}
 use Rattle.acq_rounds.specs.Taking.{TookNone}
 use Rattle.acq_rounds.proofs.Together.{given_up, on_err, was_kept, was_not_kept}
 use Rattle.acq_rounds.proofs.taking.take_together.Goals as goal
@@ -12,7 +11,7 @@ returns-in_err-keep-in-Ok-clause-refused g c h o =
     let book = g.B.Book in
     let may_give = g.C.Clock.may_give c.args.clock.now in
     let may_say = g.I.Issuer.may_say c.args.issuer.now in
-    let messages = map (λ m. m.items) c.args.messages.items in
+    let turns = turns_in c.args.turns.items in
     let laws : Laws book = record {
       honest = g.met.B.Book.honest;
       settled = g.met.B.Book.settled;
@@ -21,10 +20,10 @@ returns-in_err-keep-in-Ok-clause-refused g c h o =
     } in
     on_err c.from_residual-in_err-keep-in-Ok.result
     (TookNone may_give may_say (book.tables c.args.host.now) (left_of book c.keep.new.self)
-    messages)
+    turns)
     (was_not_kept book laws may_give may_say c.args.host.now c.begin.new.self
-    c.take_each.new.host c.in_ok-begin.ensures.begins c.in-Ok.ensures.stays messages
-    (replies_of c.in-Ok.said.items) c.in-Ok.ensures.took c.keep.new.self
+    c.take_each.new.host c.in_ok-begin.ensures.begins c.in-Ok.ensures.stays turns
+    (told_by_all c.in-Ok.said.items) c.in-Ok.ensures.took c.keep.new.self
     c.in_err-keep-in-Ok.ensures.keeps h o)
 
 pub returns-in_ok-keep-in-Ok-clause-took : goal.returns-in_ok-keep-in-Ok-clause-took
@@ -32,7 +31,7 @@ returns-in_ok-keep-in-Ok-clause-took g c h o =
     let book = g.B.Book in
     let may_give = g.C.Clock.may_give c.args.clock.now in
     let may_say = g.I.Issuer.may_say c.args.issuer.now in
-    let messages = map (λ m. m.items) c.args.messages.items in
+    let turns = turns_in c.args.turns.items in
     let laws : Laws book = record {
       honest = g.met.B.Book.honest;
       settled = g.met.B.Book.settled;
@@ -40,7 +39,7 @@ returns-in_ok-keep-in-Ok-clause-took g c h o =
       past = g.met.B.Book.past;
     } in
     was_kept book laws may_give may_say c.args.host.now c.begin.new.self c.take_each.new.host
-    c.in_ok-begin.ensures.begins c.in-Ok.ensures.stays messages (replies_of c.in-Ok.said.items)
+    c.in_ok-begin.ensures.begins c.in-Ok.ensures.stays turns (told_by_all c.in-Ok.said.items)
     c.in-Ok.ensures.took c.keep.new.self c.in_ok-keep-in-Ok.ensures.keeps h o
 
 pub returns-in-Err-clause-refused : goal.returns-in-Err-clause-refused
@@ -48,7 +47,7 @@ returns-in-Err-clause-refused g c h o =
     let book = g.B.Book in
     let may_give = g.C.Clock.may_give c.args.clock.now in
     let may_say = g.I.Issuer.may_say c.args.issuer.now in
-    let messages = map (λ m. m.items) c.args.messages.items in
+    let turns = turns_in c.args.turns.items in
     let laws : Laws book = record {
       honest = g.met.B.Book.honest;
       settled = g.met.B.Book.settled;
@@ -56,5 +55,5 @@ returns-in-Err-clause-refused g c h o =
       past = g.met.B.Book.past;
     } in
     given_up book laws may_give may_say c.args.host.now c.begin.new.self c.take_each.new.host
-    c.in_ok-begin.ensures.begins c.give_up.new.self messages c.in-Err.ensures.stays
+    c.in_ok-begin.ensures.begins c.give_up.new.self turns c.in-Err.ensures.stays
     c.give_up.ensures h o

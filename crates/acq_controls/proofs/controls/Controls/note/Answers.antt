@@ -1,6 +1,7 @@
 use Rattle.std.proofs.Common.{◌≡◌, ◌∙◌, ◌++◌, ◌∷◌, [], ℕ, List, ap, refl}
 use Rattle.acq_front.specs.Lines.{received_of, sent_of}
 use Rattle.acq_rounds.specs.Acts.{Connection}
+use Rattle.acq_rounds.specs.declared.stage.Stage.TheVariants.{Listening}
 use Rattle.acq_controls.proofs.controls.Controls.note.Goals as goal
 
 -- a connection by its parts
@@ -11,6 +12,7 @@ connection number came held went unsent = record {
   held = held;
   went = went;
   unsent = unsent;
+  stage = Listening;
 }
 
 same_parts : (number : ℕ) (held : List ℕ) {came came_too went went_too unsent unsent_too : List ℕ} →

@@ -3,14 +3,14 @@ use Rattle.std.specs.Vec.{with_items}
 use Rattle.acq_host.proofs.Groups.{Laws}
 use Rattle.acq_front.specs.Stops.{left_of}
 use Rattle.acq_front.proofs.StopsLeave.{none_stop}
-use Rattle.acq_rounds.specs.Acts.{said_of}
+use Rattle.acq_rounds.specs.Acts.{told_of}
 use Rattle.acq_rounds.specs.Groups.{asked, handed}
 use Rattle.acq_rounds.specs.Places.{boxed, count_of, seen_in}
 use Rattle.acq_rounds.specs.Runs.{RanUntil, whole}
 use Rattle.acq_rounds.specs.Taking.{TookNone}
 use Rattle.acq_rounds.proofs.Lasting.{serves_counted}
-use Rattle.acq_rounds.proofs.Running.{in_both, in_group, in_quietly, in_same, put_back, ran_both}
-use Rattle.acq_rounds.proofs.Running.{ran_quietly, ran_same, ran_until}
+use Rattle.acq_rounds.proofs.Running.{in_both, in_group, in_quietly, in_same, none_earlier, put_back}
+use Rattle.acq_rounds.proofs.Running.{ran_both, ran_quietly, ran_same, ran_until, took_earlier}
 use Rattle.acq_rounds.proofs.Together.{on_err, untouched}
 use Rattle.acq_rounds.proofs.Turning.{asked_awake, handed_awake}
 use Rattle.acq_rounds.proofs.rounds.Rounds.round.Goals as goal
@@ -86,7 +86,9 @@ returns-in_err-take_group-clause-stopped g c h o =
     (ap (λ l. asked (map view l)) same ∙ ap asked (sym is)
     ∙ sym (asked_awake (map view items) asleep
     (c.in_ok-take_in.ensures.quiet c.requires.quiet)))
-    (c.in_err-take_group.ensures.refused h o)))
+    (none_earlier may_give may_give (g.I.Issuer.may_say c.take_in.new.issuer) may_say (λ m q. q)
+    c.in_ok-take_in.ensures.said_later t left (asked (map view c.as_mut_slice-awake.result.now))
+    (c.in_err-take_group.ensures.refused h o))))
 
 pub returns-clause-ran : goal.returns-clause-ran
 returns-clause-ran g c h o =
@@ -129,8 +131,10 @@ returns-clause-ran g c h o =
     (λ t steps next. g.G.Gate.past_group t steps next came)
     (group.brought ∙ ap (λ l. asked (map view l)) same ∙ sym (asked_awake awake asleep quiet))
     (ap (λ l. l ++ asleep) (ap (map view) back ∙ group.held
-    ∙ ap (λ l. handed (map view l) (said_of group.taken)) same)
-    ∙ sym (handed_awake awake asleep (said_of group.taken) quiet)) group.took)
+    ∙ ap (λ l. handed (map view l) (told_of group.taken)) same)
+    ∙ sym (handed_awake awake asleep (told_of group.taken) quiet))
+    (took_earlier may_give may_give (g.I.Issuer.may_say c.take_in.new.issuer) may_say (λ m q. q)
+    c.in_ok-take_in.ensures.said_later t now group.taken group.took))
     (in_both may_give may_say follow 0 0 wg w2 w3
     (in_same may_give may_say follow wg w2 refl c.in_ok-take_group.ensures.ended refl refl
     c.in_ok-take_group.ensures.others)

@@ -25,9 +25,12 @@ returns-clause-serves g c acts s =
     (here c.wake_all.new.self) (here c.wake_all.new.self) c.args.self.now.count
     c.in_ok-wake_all.ensures.ended refl
     (c.in_ok-wake_all.ensures.turned.serves acts (ended c.args.gate.now) c.args.self.now.count s) in
+    let heard = c.in_ok-hear.ensures.turned.serves acts (ended c.wake_all.new.gate)
+    c.args.self.now.count woken in
     let admitted = c.in_ok-admit.ensures.serves acts
-    (serves_counted acts (ended c.wake_all.new.gate) (here c.wake_all.new.self)
-    c.args.self.now.count c.wake_all.new.self.count c.in_ok-wake_all.ensures.count woken) in
+    (serves_counted acts (ended c.wake_all.new.gate) (here c.hear.new.self)
+    c.args.self.now.count c.hear.new.self.count
+    (c.in_ok-hear.ensures.count ∙ c.in_ok-wake_all.ensures.count) heard) in
     let count = c.admit.new.self.count in
     let looked = c.look.ensures.serves acts count admitted in
     let read = serves_on acts (ended c.look.new.gate) (map view self.awake.items ++ asleep)

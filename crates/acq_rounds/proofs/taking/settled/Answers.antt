@@ -1,6 +1,6 @@
 use Rattle.std.proofs.Common.{◌<◌, ◌==◌, ◌∙◌, ℕ, List, ap, inl, inr, length, subst, sym}
 use Rattle.acq_front.proofs.Turned.{empty_unfit, long_unfit}
-use Rattle.acq_rounds.proofs.taking.said_last.Goals as goal
+use Rattle.acq_rounds.proofs.taking.settled.Goals as goal
 
 pub returns-then-is_empty-clause-fits : goal.returns-then-is_empty-clause-fits
 returns-then-is_empty-clause-fits c fits =
