@@ -74,6 +74,7 @@ def values(program):
         ([*begun, "--from-one-address", ""], "--from-one-address",
          "1 to 1024, as in --from-one-address 8"),
         ([*begun, "--stop-within", "1234567"], "--stop-within", seconds),
+        ([*begun, "--answer-within", "1.5"], "--answer-within", seconds),
         (["tell", "--within", "-", "c"], "--within", seconds),
         (["ask", "--port", "1", "--within", "-"], "--within", seconds),
         (["ask", "--port", "1", "--repeat", "0"], "--repeat", "1 to 1000000, as in --repeat 1000"),

@@ -23,6 +23,11 @@ SCRIPTS = [
     ]),
     ("answers the_moment", [("reply 1", "a hold"), ("text holds", "a hold of")]),
     ("answers a_full_day", [("reply 3", "replies within the limit and past it")]),
+    ("issuers others_go_on one_that_goes", [
+        ("reply 2", "a reply to another"),
+        ("lost 2", "a reply to another"),
+        ("text clearing", "the clearing file"),
+    ]),
     ("ask sales", [
         ("reply 3", "what is shown of sales"),
         ("lost 1", "what is shown of sales"),
